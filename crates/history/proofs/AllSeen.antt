@@ -1,16 +1,11 @@
 -- Who has seen all of the history, and that the seats have made all of it together.
-use Rattle.std.proofs.Common.{◌≡◌, ◌≢◌, inl, inr, ⊎_elim, ℕ, zero, suc, ◌<◌, Option, Some, None, List, [], ◌∷◌}
-use Rattle.std.proofs.Common.{◌++◌, length, set, refl, sym, ap, subst, ◌∙◌, arith, sum_by, ◌==◌, true, ◌≤◌}
-use Rattle.std.proofs.lemmas.Bool.{cases_eq}
-use Rattle.std.proofs.lemmas.Bool.Decides.{nat_tests}
+use Rattle.history.proofs.Names.{◌≡◌, ◌≢◌, inl, inr, ⊎_elim, ℕ, zero, suc, ◌<◌, Option, Some, None, List, [], ◌∷◌}
+use Rattle.history.proofs.Names.{◌++◌, length, set, refl, sym, ap, subst, ◌∙◌, arith, sum_by, ◌==◌, true, ◌≤◌}
+use Rattle.history.proofs.Names.{cases_eq, nat_tests, at_longer, set_here, set_else, Shares, IsAll, all_shares, Event}
+use Rattle.history.proofs.Names.{whose, Trace}
 use mathlib.Core.Option.{some, some-injective, some-ne-none}
 use lib.ListN.{get_elem?}
-use Rattle.atomic_table.proofs.Lists.{at_longer, set_here, set_else}
-use Rattle.threaded.specs.Shares.{Shares, IsAll, all_shares}
 use Rattle.threaded.proofs.Shares.{shares_alone, shares_stay, shares_split, shares_join, others_none, positive}
-use Rattle.model.specs.declared.event.Event.{Event}
-use Rattle.model.specs.Reading.{whose}
-use Rattle.model.specs.World.{Trace}
 use Rattle.history.specs.declared.view.View.{View}
 use Rattle.history.specs.Views.{right_view, left_view, joined_view, spent_view}
 use Rattle.history.specs.History.{IsBeginning, Fits, IsLate}

@@ -1,31 +1,16 @@
 -- A machine that one party has to itself, of any kind: what it is after the calls of that party, from its opening on.
-use Rattle.std.proofs.Common.{◌≡◌, ◌≢◌, ℕ, zero, suc, ◌+◌, ◌<◌, Option, Some, None, List, [], ◌∷◌, ◌++◌, slice_index}
-use Rattle.std.proofs.Common.{slice_set, refl, sym, ap, subst, ◌∙◌, append-nil, arith, sum_by}
+use Rattle.history.proofs.Names.{◌≡◌, ◌≢◌, ℕ, zero, suc, ◌+◌, ◌<◌, Option, Some, None, List, [], ◌∷◌, ◌++◌}
+use Rattle.history.proofs.Names.{slice_index, slice_set, refl, sym, ap, subst, ◌∙◌, append-nil, arith, sum_by}
+use Rattle.history.proofs.Names.{written, Ask, After, GoOn, Answer, Event, Begun, Start, Flight, Kind, Begin, Next}
+use Rattle.history.proofs.Names.{Coding, IsCoding, opening_of, want_of, after_of, goes_of, first_row, answer_in}
+use Rattle.history.proofs.Names.{after_turn, events_of, ending_of, state_in, World, Trace, capacity_error}
+use Rattle.history.proofs.Names.{IsFreshCall, all_shares}
 use mathlib.Core.Option.{some, some-injective, some-ne-none}
 use lib.ListN.{get_elem?}
 use Rattle.atomic_table.specs.Table.{State, opening}
-use Rattle.steps.specs.Ask.{written}
-use Rattle.steps.specs.declared.ask.Ask.{Ask}
-use Rattle.steps.specs.declared.ask.After.{After}
-use Rattle.steps.specs.declared.ask.After.TheVariants.{GoOn, Done}
+use Rattle.steps.specs.declared.ask.After.TheVariants.{Done}
 use Rattle.steps.specs.declared.ask.Want.TheVariants as wants
-use Rattle.model.specs.declared.event.Answer.{Answer}
-use Rattle.model.specs.declared.event.Event.{Event}
-use Rattle.model.specs.declared.event.Event.TheVariants.{Begun}
-use Rattle.model.specs.declared.event.Start.{Start}
-use Rattle.model.specs.declared.families.Flight.{Flight}
-use Rattle.model.specs.declared.turn.Kind.{Kind}
-use Rattle.model.specs.declared.turn.Turn.TheVariants.{Begin, Next}
-use Rattle.model.specs.Coding.{Coding, IsCoding}
-use Rattle.model.specs.Families.{opening_of, want_of, after_of, goes_of}
-use Rattle.model.specs.Rows.{first_row}
-use Rattle.model.specs.Step.{answer_in}
-use Rattle.model.specs.Turns.{after_turn, events_of, ending_of}
-use Rattle.model.specs.Families.Container.Looks.{state_in}
-use Rattle.model.specs.World.{World, Trace, capacity_error}
 use Rattle.model.specs.World as worlds
-use Rattle.laws_queues.proofs.Queues.Knows.{IsFreshCall}
-use Rattle.threaded.specs.Shares.{all_shares}
 use Rattle.history.specs.declared.view.View.{View}
 use Rattle.history.specs.History.{IsMachine, call_in}
 use Rattle.history.specs.Known.{owned, events_by}

@@ -1,23 +1,11 @@
 -- How the calls on the roles and the lengths of a queue begin, of any kind of queue.
-use Rattle.std.proofs.Common.{inl, ◌≡◌, ℕ, ◌<◌, ◌≤◌, false, Option, Some, None, List, [], refl, subst, arith}
-use Rattle.steps.specs.declared.ask.After.{After}
-use Rattle.steps.specs.declared.ask.Want.{Want}
+use Rattle.history.proofs.Names.{inl, ◌≡◌, ℕ, ◌<◌, ◌≤◌, false, Option, Some, None, List, [], refl, subst, arith}
+use Rattle.history.proofs.Names.{After, Want, Producer, Consumer, first_len, Event, Queues, Flight, Registry}
+use Rattle.history.proofs.Names.{QueueKind, Roles, LengthOf, Coding, first_of, opening_of, machine_kind}
 use Rattle.steps.specs.declared.queues.roles.Role.{Role}
-use Rattle.steps.specs.declared.queues.roles.Role.TheVariants.{Producer, Consumer}
-use Rattle.steps.specs.Queues.Lengths.{first_len}
-use Rattle.model.specs.declared.event.Event.{Event}
-use Rattle.model.specs.declared.event.Start.TheVariants.{Queues}
-use Rattle.model.specs.declared.families.Flight.{Flight}
-use Rattle.model.specs.declared.families.Registry.{Registry}
-use Rattle.model.specs.declared.families.queues.QueueKind.{QueueKind}
 use Rattle.model.specs.declared.families.queues.QueueKind.TheVariants.{IndexQueue, Overflow, Queue}
-use Rattle.model.specs.declared.families.queues.Roles.{Roles}
-use Rattle.model.specs.declared.families.queues.calls.LengthOf.{LengthOf}
 use Rattle.model.specs.declared.families.queues.calls.LengthOf.TheVariants.{Len, IsEmpty, IsFull}
-use Rattle.model.specs.Coding.{Coding}
-use Rattle.model.specs.Families.{first_of, opening_of}
 use Rattle.model.specs.Families.Queues.Opening.{lacks_role}
-use Rattle.laws_queues.proofs.Queues.Invariant.{machine_kind}
 use Rattle.history.specs.declared.view.View.{View}
 use Rattle.history.specs.Queues.{takes_role, gives_role, length_start, counts_waiting}
 use Rattle.history.specs.Roles.{role_word, holder, acquire_start, release_start, HasRole}

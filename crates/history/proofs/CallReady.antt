@@ -1,23 +1,11 @@
 -- The machine before a step of a call: what the view says there, as which party the call goes on, and what is written.
-use Rattle.std.proofs.Common.{◌≡◌, inl, inr, ⊎_elim, ℕ, ◌<◌, Option, Some, None, IfSome, List, [], ◌∷◌, ◌++◌, refl}
-use Rattle.std.proofs.Common.{sym, ap, subst, ◌∙◌, append_assoc, append-nil, arith, sum_by}
+use Rattle.history.proofs.Names.{◌≡◌, inl, inr, ⊎_elim, ℕ, ◌<◌, Option, Some, None, IfSome, List, [], ◌∷◌, ◌++◌, refl}
+use Rattle.history.proofs.Names.{sym, ap, subst, ◌∙◌, append_assoc, append-nil, arith, sum_by, Event, Begun, Start}
+use Rattle.history.proofs.Names.{Flight, Registry, Kind, Begin, Coding, first_of, kept_after_begin, state_in}
+use Rattle.history.proofs.Names.{first_row, after_turn, World, Trace, IsAll}
 use mathlib.Core.Option.{some, some-injective}
 use lib.ListN.{get_elem?}
 use Rattle.atomic_table.specs.Table.{State}
-use Rattle.model.specs.declared.event.Event.{Event}
-use Rattle.model.specs.declared.event.Event.TheVariants.{Begun}
-use Rattle.model.specs.declared.event.Start.{Start}
-use Rattle.model.specs.declared.families.Flight.{Flight}
-use Rattle.model.specs.declared.families.Registry.{Registry}
-use Rattle.model.specs.declared.turn.Kind.{Kind}
-use Rattle.model.specs.declared.turn.Turn.TheVariants.{Begin}
-use Rattle.model.specs.Coding.{Coding}
-use Rattle.model.specs.Families.{first_of, kept_after_begin}
-use Rattle.model.specs.Families.Container.Looks.{state_in}
-use Rattle.model.specs.Rows.{first_row}
-use Rattle.model.specs.Turns.{after_turn}
-use Rattle.model.specs.World.{World, Trace}
-use Rattle.threaded.specs.Shares.{IsAll}
 use Rattle.history.specs.declared.view.View.{View}
 use Rattle.history.specs.Known.{events_by, by_party, owned}
 use Rattle.history.specs.History.{IsRun, IsMachine, Fits, IsLate, call_in}

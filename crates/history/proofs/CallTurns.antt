@@ -1,32 +1,17 @@
 -- A step of a call as a turn of the machine: what the view says then.
-use Rattle.std.proofs.Common.{false, ◌≡◌, inl, inr, ℕ, ◌<◌, Option, Some, None, IfSome, List, [], ◌∷◌, ◌++◌, refl, sym, ap}
-use Rattle.std.proofs.Common.{subst, ◌∙◌, append_assoc, sum_by, fold}
-use Rattle.std.proofs.lemmas.List.Sums.{sum_by-append}
+use Rattle.history.proofs.Names.{false, ◌≡◌, inl, inr, ℕ, ◌<◌, Option, Some, None, IfSome, List, [], ◌∷◌, ◌++◌, refl}
+use Rattle.history.proofs.Names.{sym, ap, subst, ◌∙◌, append_assoc, sum_by, fold, sum_by-append, Ask, After, GoOn}
+use Rattle.history.proofs.Names.{Answer, Event, Finished, Flight, Kind, Turn, Next, Coding, want_of, goes_of, ask_of}
+use Rattle.history.proofs.Names.{answer_in, span_of, own_after, Open, after_turn, events_of, ending_of, words_after}
+use Rattle.history.proofs.Names.{old_of, step_in, World, Trace, IsAll, IsFreshCall}
 use mathlib.Core.Option.{some}
 use lib.ListN.{get_elem?}
 use Rattle.atomic_table.specs.Table.{State}
-use Rattle.steps.specs.declared.ask.Ask.{Ask}
-use Rattle.steps.specs.declared.ask.After.{After}
-use Rattle.steps.specs.declared.ask.After.TheVariants.{GoOn, Done}
-use Rattle.model.specs.declared.event.Answer.{Answer}
-use Rattle.model.specs.declared.event.Event.{Event}
-use Rattle.model.specs.declared.event.Event.TheVariants.{Finished}
-use Rattle.model.specs.declared.families.Flight.{Flight}
-use Rattle.model.specs.declared.turn.Kind.{Kind}
-use Rattle.model.specs.declared.turn.Turn.{Turn}
-use Rattle.model.specs.declared.turn.Turn.TheVariants.{Next}
-use Rattle.model.specs.Coding.{Coding}
-use Rattle.model.specs.Families.{want_of, goes_of, ask_of}
-use Rattle.model.specs.Step.{answer_in}
-use Rattle.model.specs.Reading.{span_of, own_after, Open}
-use Rattle.model.specs.Turns.{after_turn, events_of, ending_of, words_after, old_of, step_in}
-use Rattle.model.specs.World.{World, Trace}
-use Rattle.threaded.specs.Shares.{IsAll}
+use Rattle.steps.specs.declared.ask.After.TheVariants.{Done}
 use Rattle.history.specs.declared.view.View.{View}
 use Rattle.history.specs.Known.{events_by}
 use Rattle.history.specs.History.{IsRun, IsLate, IsOfParties, LastStep, call_in, refusal_as}
 use Rattle.history.specs.Stages.{Calling, LeavesState, Since, opened, IsUnderWay, At, Ends}
-use Rattle.laws_queues.proofs.Queues.Knows.{IsFreshCall}
 use Rattle.history.proofs.Known.{by_more}
 use Rattle.history.proofs.Calls.{stands, call_then, next_no_look}
 use Rattle.history.proofs.Reached.{next_as}

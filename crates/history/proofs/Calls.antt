@@ -1,37 +1,20 @@
 -- Where the calls of a machine stand after a turn.
-use Rattle.std.proofs.Common.{◌≡◌, ◌≢◌, ℕ, zero, suc, ◌<◌, ◌==◌, ◌&&◌, Bool, true, false, Option, Some, None, List, []}
-use Rattle.std.proofs.Common.{◌∷◌, ◌++◌, length, get_or, set, refl, ap, ◌∙◌, arith}
-use Rattle.std.proofs.lemmas.Bool.Decides.{nat_tests}
-use Rattle.steps.specs.declared.ask.Ask.{Ask}
-use Rattle.steps.specs.declared.ask.After.{After}
-use Rattle.steps.specs.declared.ask.After.TheVariants.{GoOn, Done}
-use Rattle.model.specs.declared.event.Answer.{Answer}
-use Rattle.model.specs.declared.event.Event.{Event}
-use Rattle.model.specs.declared.event.Start.{Start}
-use Rattle.model.specs.declared.event.Start.TheVariants.{Container}
-use Rattle.model.specs.declared.families.container.ContainerStart.TheVariants.{GetState, UpdateState}
-use Rattle.model.specs.declared.families.Flight.{Flight}
+use Rattle.history.proofs.Names.{◌≡◌, ◌≢◌, ℕ, zero, suc, ◌<◌, ◌==◌, ◌&&◌, Bool, true, false, Option, Some, None, List}
+use Rattle.history.proofs.Names.{[], ◌∷◌, ◌++◌, length, get_or, set, refl, ap, ◌∙◌, arith, nat_tests, Ask, After}
+use Rattle.history.proofs.Names.{GoOn, Answer, Event, Start, Container, GetState, UpdateState, Flight, Registry}
+use Rattle.history.proofs.Names.{Doing, Going, Over, Party, Kind, Begin, Next, Coding, opening_of, kept_after_begin}
+use Rattle.history.proofs.Names.{want_of, after_of, goes_of, ask_of, is_look_of, state_in, is_looking, party_of}
+use Rattle.history.proofs.Names.{doing_of, flight_of, Step, answer_in, after_begin, after_next, after_answer}
+use Rattle.history.proofs.Names.{after_decision, after_step, party_after, party_at_begin, step_count, change_of}
+use Rattle.history.proofs.Names.{number_of, step_in, events_of_next, events_of_decision, events_of_step}
+use Rattle.history.proofs.Names.{events_of_answer, ending_of, old_of, ask_of_doing, World, flight_in, party_put_same}
+use Rattle.history.proofs.Names.{party_put_other}
+use Rattle.steps.specs.declared.ask.After.TheVariants.{Done}
 use Rattle.model.specs.declared.families.Flight as flights
-use Rattle.model.specs.declared.families.Registry.{Registry}
 use Rattle.model.specs.declared.families.Registry as registries
-use Rattle.model.specs.declared.party.Doing.{Doing}
-use Rattle.model.specs.declared.party.Doing.TheVariants.{Going, Over}
-use Rattle.model.specs.declared.party.Party.{Party}
-use Rattle.model.specs.declared.turn.Kind.{Kind}
 use Rattle.model.specs.declared.turn.Kind as kinds
-use Rattle.model.specs.declared.turn.Kind.TheVariants.{IndexQueue, Overflow, Queue, Atomic, Bits, Counts, Indices, Robust, Loan}
-use Rattle.model.specs.declared.turn.Turn.TheVariants.{Begin, Next}
-use Rattle.model.specs.Coding.{Coding}
-use Rattle.model.specs.Families.{opening_of, kept_after_begin, want_of, after_of, goes_of, ask_of}
-use Rattle.model.specs.Families.Container.Keeping.{is_look_of}
-use Rattle.model.specs.Families.Container.Looks.{state_in, is_looking}
-use Rattle.model.specs.Parties.{party_of, doing_of, flight_of}
-use Rattle.model.specs.Step.{Step, answer_in}
-use Rattle.model.specs.Turns.{after_begin, after_next, after_answer, after_decision, after_step, party_after}
-use Rattle.model.specs.Turns.{party_at_begin, step_count, change_of, number_of, step_in, events_of_next}
-use Rattle.model.specs.Turns.{events_of_decision, events_of_step, events_of_answer, ending_of, old_of, ask_of_doing}
-use Rattle.model.specs.World.{World, flight_in}
-use Rattle.model.proofs.Parties.{party_put_same, party_put_other}
+use Rattle.model.specs.declared.turn.Kind.TheVariants.{IndexQueue, Overflow, Queue, Atomic, Bits, Counts, Indices}
+use Rattle.model.specs.declared.turn.Kind.TheVariants.{Robust, Loan}
 use Rattle.history.specs.History.{call_at, call_of, call_in}
 use Rattle.history.specs.Stages.{is_state_look}
 

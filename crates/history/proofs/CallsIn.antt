@@ -1,32 +1,16 @@
 -- What a call of the driver is as a call of a machine, and what is so as it takes a step.
-use Rattle.std.proofs.Common.{◌^◌, Bool, true, false, ◌≡◌, ℕ, ◌<◌, Option, Some, None, List, [], ◌∷◌, ◌++◌, refl, sym}
-use Rattle.std.proofs.Common.{ap, subst, ◌∙◌, append_assoc, append-nil, arith, fold, ◌==◌}
-use Rattle.std.proofs.lemmas.Bool.Decides.{nat_tests}
-use Rattle.std.proofs.lemmas.List.Sums.{fold-append}
-use Rattle.steps.specs.Ask.{written}
-use Rattle.steps.specs.declared.ask.Ask.{Ask}
-use Rattle.steps.specs.declared.ask.After.{After}
-use Rattle.steps.specs.declared.ask.After.TheVariants.{GoOn, Done}
-use Rattle.steps.specs.declared.ask.Want.{Want}
+use Rattle.history.proofs.Names.{◌^◌, Bool, true, false, ◌≡◌, ℕ, ◌<◌, Option, Some, None, List, [], ◌∷◌, ◌++◌, refl}
+use Rattle.history.proofs.Names.{sym, ap, subst, ◌∙◌, append_assoc, append-nil, arith, fold, ◌==◌, nat_tests}
+use Rattle.history.proofs.Names.{fold-append, written, Ask, After, GoOn, Want, Answer, Event, Begun, Start, Flight}
+use Rattle.history.proofs.Names.{Kind, Coding, want_of, after_of, goes_of, ask_of, is_question, whose, is_party}
+use Rattle.history.proofs.Names.{span_of, span_after, own_after, Span, Never, Open, old_of, World, Trace, answered}
+use Rattle.history.proofs.Names.{IsAll, IsFreshCall}
+use Rattle.steps.specs.declared.ask.After.TheVariants.{Done}
 use Rattle.steps.specs.declared.ask.Want.TheVariants as wants
-use Rattle.model.specs.declared.event.Answer.{Answer}
-use Rattle.model.specs.declared.event.Event.{Event}
-use Rattle.model.specs.declared.event.Event.TheVariants.{Begun}
-use Rattle.model.specs.declared.event.Start.{Start}
-use Rattle.model.specs.declared.families.Flight.{Flight}
-use Rattle.model.specs.declared.turn.Kind.{Kind}
-use Rattle.model.specs.Coding.{Coding}
-use Rattle.model.specs.Families.{want_of, after_of, goes_of, ask_of, is_question}
-use Rattle.model.specs.Reading.{whose, is_party, span_of, span_after, own_after, Span, Never, Open}
-use Rattle.model.specs.Turns.{old_of}
-use Rattle.model.specs.World.{World, Trace}
-use Rattle.threaded.specs.Driver.{answered}
-use Rattle.threaded.specs.Shares.{IsAll}
 use Rattle.history.specs.declared.view.View.{View}
 use Rattle.history.specs.Known.{events_by}
 use Rattle.history.specs.History.{IsRun, IsLate, call_in}
 use Rattle.history.specs.Stages.{Calling, opened}
-use Rattle.laws_queues.proofs.Queues.Knows.{IsFreshCall}
 use Rattle.history.proofs.Known.{AreOf, by_mine}
 
 pub by_bool : {A : Type 0} → (b : Bool) → (b ≡ true → A) → (b ≡ false → A) → A

@@ -1,45 +1,28 @@
 -- That an add and a replace of the container are calls of the model.
-use Rattle.std.proofs.Common.{◌≡◌, inl, ℕ, ◌+◌, ◌<◌, ◌==◌, nat_lt, true, false, None, Ok, Err, List, [], ◌++◌}
-use Rattle.std.proofs.Common.{append_assoc, append-nil, refl, sym, ap, subst, ◌∙◌, arith}
-use Rattle.std.proofs.lemmas.Bool.Decides.{nat_tests}
-use Rattle.steps.specs.Container.Add.{Added, first_add, inner_acquire, add_asks, add_want, add_acquired, add_takes, add_after}
-use Rattle.steps.specs.Container.Layout.{is_even, total_words}
-use Rattle.steps.specs.Container.Replace.{Replaced, first_replace, replace_asks, replace_want, replace_takes, replace_after}
+use Rattle.history.proofs.Names.{◌≡◌, inl, ℕ, ◌+◌, ◌<◌, ◌==◌, nat_lt, true, false, None, Ok, Err, List, [], ◌++◌}
+use Rattle.history.proofs.Names.{append_assoc, append-nil, refl, sym, ap, subst, ◌∙◌, arith, nat_tests, is_even}
+use Rattle.history.proofs.Names.{total_words, Replaced, first_replace, replace_asks, replace_want, replace_takes}
+use Rattle.history.proofs.Names.{replace_after, empty, by_test, went_on, Ask, After, GoOn, ReplaceStage, AcquireStage}
+use Rattle.history.proofs.Names.{Answer, Event, Hidden, Add, Replace, Coding, IsCoding, opening_of, replace_of, added}
+use Rattle.history.proofs.Names.{replaced, hidden, placed, add_effects, replace_effects, acquire_effects, as_it_is}
+use Rattle.history.proofs.Names.{as_call, data_within, answered, KeepsRule}
+use Rattle.steps.specs.Container.Add.{Added, first_add, inner_acquire, add_asks, add_want, add_acquired, add_takes}
+use Rattle.steps.specs.Container.Add.{add_after}
 use Rattle.steps.specs.Indices.Robust.Acquire.{Acquired, acquire_takes}
-use Rattle.steps.specs.Indices.Robust.Parts.{empty}
-use Rattle.steps.specs.Picks.{by_test}
-use Rattle.steps.specs.Routine.{went_on}
-use Rattle.steps.specs.declared.ask.Ask.{Ask}
-use Rattle.steps.specs.declared.ask.After.{After}
-use Rattle.steps.specs.declared.ask.After.TheVariants.{GoOn, Done}
+use Rattle.steps.specs.declared.ask.After.TheVariants.{Done}
 use Rattle.steps.specs.declared.ask.Want.TheVariants as wants
 use Rattle.steps.specs.declared.container.add.Add.{Add as Adding}
 use Rattle.steps.specs.declared.container.add.AddStage.{AddStage}
 use Rattle.steps.specs.declared.container.add.AddStage.TheVariants as adds
 use Rattle.steps.specs.declared.container.add.Owned.{Owned}
 use Rattle.steps.specs.declared.container.replace.Replace.{Replace as Replacing}
-use Rattle.steps.specs.declared.container.replace.ReplaceStage.{ReplaceStage}
 use Rattle.steps.specs.declared.container.replace.ReplaceStage.TheVariants as replaces
 use Rattle.steps.specs.declared.container.replace.Replacement.{Replacement}
 use Rattle.steps.specs.declared.indices.enums.UniqueIndexSetAcquireFailure.TheVariants as failures
 use Rattle.steps.specs.declared.indices.robust.acquire.Acquire.{Acquire as Acquiring}
-use Rattle.steps.specs.declared.indices.robust.acquire.AcquireStage.{AcquireStage}
-use Rattle.model.specs.declared.event.Answer.{Answer}
-use Rattle.model.specs.declared.event.Event.{Event}
-use Rattle.model.specs.declared.event.Event.TheVariants.{Hidden}
 use Rattle.model.specs.declared.families.Flight.TheVariants as flights
-use Rattle.model.specs.declared.families.container.ContainerStart.TheVariants.{Add, Replace}
 use Rattle.model.specs.declared.families.container.calls.ContainerFlight.TheVariants as calls
 use Rattle.model.specs.declared.turn.Kind.TheVariants as kinds
-use Rattle.model.specs.Coding.{Coding, IsCoding}
-use Rattle.model.specs.Families.{opening_of}
-use Rattle.model.specs.Families.Container.Calls.{replace_of, added, replaced}
-use Rattle.model.specs.Families.Container.Steps.{hidden, placed, add_effects, replace_effects}
-use Rattle.model.specs.Families.Indices.Robust.Steps.{acquire_effects}
-use Rattle.model.specs.Families.Queues.Calls.{as_it_is}
-use Rattle.model.specs.Step.{as_call}
-use Rattle.laws_container.proofs.Core.{data_within}
-use Rattle.threaded.specs.Driver.{answered, KeepsRule}
 use Rattle.history.specs.declared.view.View.{View}
 use Rattle.history.specs.Container.{when, HasCleared, HasPut, AddIn, taken, AddedAt, HasAdded, adds_value, ReplaceIn, ReplacedAt, HasReplaced, replaces_value}
 use Rattle.history.specs.History.{IsMachine}

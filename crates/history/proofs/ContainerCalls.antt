@@ -1,43 +1,28 @@
 -- That a remove of the container, and its looks at its set, are calls of the model.
-use Rattle.std.proofs.Common.{◌≡◌, inl, ℕ, ◌+◌, ◌<◌, ◌≤◌, ◌==◌, nat_lt, true, false, None, Ok, Err, List, [], ◌++◌, append-nil, refl, sym, ap, subst, arith}
-use Rattle.std.proofs.lemmas.Bool.Decides.{nat_tests}
-use Rattle.steps.specs.Container.Layout.{is_even, change_word, count_word, total_words}
-use Rattle.steps.specs.Container.Remove.{Removed, first_remove, inner_release, remove_asks, remove_want, remove_released, remove_takes, remove_after}
-use Rattle.steps.specs.Indices.Robust.Looks.{first_borrowed, borrowed_want, borrowed_after, locked_after}
-use Rattle.steps.specs.Indices.Robust.Parts.{empty, count_after}
-use Rattle.steps.specs.Indices.Robust.Release.{Released, release_takes}
-use Rattle.steps.specs.Picks.{by_test}
-use Rattle.steps.specs.Queues.Ring.{load}
-use Rattle.steps.specs.Routine.{went_on}
-use Rattle.steps.specs.declared.ask.Ask.{Ask}
-use Rattle.steps.specs.declared.ask.After.{After}
-use Rattle.steps.specs.declared.ask.After.TheVariants.{GoOn, Done}
+use Rattle.history.proofs.Names.{◌≡◌, inl, ℕ, ◌+◌, ◌<◌, ◌≤◌, ◌==◌, nat_lt, true, false, None, Ok, Err, List, [], ◌++◌}
+use Rattle.history.proofs.Names.{append-nil, refl, sym, ap, subst, arith, nat_tests, is_even, change_word, count_word}
+use Rattle.history.proofs.Names.{total_words, first_borrowed, borrowed_want, empty, count_after, Released, by_test}
+use Rattle.history.proofs.Names.{load, went_on, Ask, After, GoOn, GiveBack, ReleaseStage, Answer, Event, Remove}
+use Rattle.history.proofs.Names.{Coding, first_call, place_of, remove_of, removed, counted, opening_of, names_owner}
+use Rattle.history.proofs.Names.{remove_effects, release_effects, as_it_is, as_call, answered, KeepsRule}
+use Rattle.steps.specs.Container.Remove.{Removed, first_remove, inner_release, remove_asks, remove_want}
+use Rattle.steps.specs.Container.Remove.{remove_released, remove_takes, remove_after}
+use Rattle.steps.specs.Indices.Robust.Looks.{borrowed_after, locked_after}
+use Rattle.steps.specs.Indices.Robust.Release.{release_takes}
+use Rattle.steps.specs.declared.ask.After.TheVariants.{Done}
 use Rattle.steps.specs.declared.ask.Want.TheVariants as wants
 use Rattle.steps.specs.declared.container.remove.Remove.{Remove as Removing}
 use Rattle.steps.specs.declared.container.remove.RemoveStage.{RemoveStage}
 use Rattle.steps.specs.declared.container.remove.RemoveStage.TheVariants as removes
 use Rattle.steps.specs.declared.indices.robust.looks.BorrowedIndices.{BorrowedIndices as Counting}
 use Rattle.steps.specs.declared.indices.robust.looks.IsLocked.{IsLocked as Looking}
-use Rattle.steps.specs.declared.indices.robust.release.GiveBack.{GiveBack}
 use Rattle.steps.specs.declared.indices.robust.release.Release.{Release as Releasing}
-use Rattle.steps.specs.declared.indices.robust.release.ReleaseStage.{ReleaseStage}
-use Rattle.model.specs.declared.event.Answer.{Answer}
-use Rattle.model.specs.declared.event.Event.{Event}
 use Rattle.model.specs.declared.families.Flight.TheVariants as flights
-use Rattle.model.specs.declared.families.container.ContainerStart.TheVariants.{Remove, IsLocked}
+use Rattle.model.specs.declared.families.container.ContainerStart.TheVariants.{IsLocked}
 use Rattle.model.specs.declared.families.container.calls.ContainerFlight.TheVariants as calls
 use Rattle.model.specs.declared.families.container.calls.CountOf.{CountOf}
 use Rattle.model.specs.declared.families.container.calls.CountOf.TheVariants as counts
 use Rattle.model.specs.declared.turn.Kind.TheVariants as kinds
-use Rattle.model.specs.Coding.{Coding}
-use Rattle.model.specs.Families.Container.Calls.{first as first_call, place_of, remove_of, removed, counted}
-use Rattle.model.specs.Families.{opening_of}
-use Rattle.model.specs.Families.Container.Opening.{names_owner}
-use Rattle.model.specs.Families.Container.Steps.{remove_effects}
-use Rattle.model.specs.Families.Indices.Robust.Steps.{release_effects}
-use Rattle.model.specs.Families.Queues.Calls.{as_it_is}
-use Rattle.model.specs.Step.{as_call}
-use Rattle.threaded.specs.Driver.{answered, KeepsRule}
 use Rattle.history.specs.declared.view.View.{View}
 use Rattle.history.specs.Container.{RemoveIn, HasRemovedIt, RemovedAt, HasRemoved, removes_value, count_start, counts_values, sees_lock}
 use Rattle.history.specs.History.{IsMachine}

@@ -1,46 +1,24 @@
 -- That a find on a container is a call of the model, which may rest at its question.
-use Rattle.std.proofs.Common.{Bool, true, false, if◌then◌else◌, option_map, ◌≡◌, ◌⊎◌, inl, inr, ℕ, ◌+◌, ◌*◌, ◌<◌, ◌≤◌}
-use Rattle.std.proofs.Common.{◌==◌, nat_lt, Option, Some, None, List, [], ◌∷◌, ◌++◌, slice_set, append-nil}
-use Rattle.std.proofs.Common.{append_assoc, fold, refl, sym, ap, subst, ◌∙◌, arith}
-use Rattle.std.proofs.Math.Nat.{mul-le-mul_left}
-use Rattle.std.proofs.lemmas.Bool.Decides.{nat_tests}
-use Rattle.std.proofs.lemmas.List.{map-append}
-use Rattle.steps.specs.Container.Find.{find_asks, find_keeps, first_find, find_want, find_comes_to, find_takes, find_after}
-use Rattle.steps.specs.Container.Layout.{is_even, total_words}
-use Rattle.steps.specs.Indices.Robust.Parts.{empty}
-use Rattle.steps.specs.Picks.{by_test}
-use Rattle.steps.specs.Routine.{went_on}
-use Rattle.steps.specs.declared.ask.Ask.{Ask}
-use Rattle.steps.specs.declared.ask.After.{After}
-use Rattle.steps.specs.declared.ask.After.TheVariants.{GoOn, Done}
-use Rattle.steps.specs.declared.ask.Want.{Want}
+use Rattle.history.proofs.Names.{Bool, true, false, if◌then◌else◌, option_map, ◌≡◌, ◌⊎◌, inl, inr, ℕ, ◌+◌, ◌*◌, ◌<◌}
+use Rattle.history.proofs.Names.{◌≤◌, ◌==◌, nat_lt, Option, Some, None, List, [], ◌∷◌, ◌++◌, slice_set, append-nil}
+use Rattle.history.proofs.Names.{append_assoc, fold, refl, sym, ap, subst, ◌∙◌, arith, mul-le-mul_left, nat_tests}
+use Rattle.history.proofs.Names.{map-append, find_asks, find_keeps, first_find, find_want, find_comes_to, find_takes}
+use Rattle.history.proofs.Names.{find_after, is_even, total_words, empty, by_test, went_on, Ask, After, GoOn, Want}
+use Rattle.history.proofs.Names.{FindStage, Answer, Event, Start, Container, Flight, Registry, Find, Coding, IsCoding}
+use Rattle.history.proofs.Names.{opening_of, goes_of, is_question, find_of, is_owner, find_effects, as_it_is}
+use Rattle.history.proofs.Names.{fresh_cell, kept_at, read_in, own_after, Open, as_call, number_of, KeepsRule, Owes}
+use Rattle.history.proofs.Names.{answered}
+use Rattle.steps.specs.declared.ask.After.TheVariants.{Done}
 use Rattle.steps.specs.declared.ask.Want.TheVariants as wants
 use Rattle.steps.specs.declared.container.find.Find.{Find as Finding}
-use Rattle.steps.specs.declared.container.find.FindStage.{FindStage}
 use Rattle.steps.specs.declared.container.find.FindStage.TheVariants as finds
 use Rattle.steps.specs.declared.copied.Buffer as buffers
-use Rattle.model.specs.declared.event.Answer.{Answer}
 use Rattle.model.specs.declared.event.Answer.TheVariants as answers
-use Rattle.model.specs.declared.event.Event.{Event}
 use Rattle.model.specs.declared.event.Event as events
-use Rattle.model.specs.declared.event.Start.{Start}
-use Rattle.model.specs.declared.event.Start.TheVariants.{Container}
-use Rattle.model.specs.declared.families.Flight.{Flight}
 use Rattle.model.specs.declared.families.Flight.TheVariants as flights
-use Rattle.model.specs.declared.families.Registry.{Registry}
-use Rattle.model.specs.declared.families.container.ContainerStart.TheVariants.{Find}
 use Rattle.model.specs.declared.families.container.calls.ContainerFlight.TheVariants as calls
 use Rattle.model.specs.declared.turn.Kind.TheVariants as kinds
-use Rattle.model.specs.Coding.{Coding, IsCoding}
-use Rattle.model.specs.Families.{opening_of, goes_of, is_question}
-use Rattle.model.specs.Families.Container.Calls.{find_of}
-use Rattle.model.specs.Families.Indices.Robust.Opening.{is_owner}
-use Rattle.model.specs.Families.Container.Steps.{find_effects}
-use Rattle.model.specs.Families.Queues.Calls.{as_it_is, fresh_cell, kept_at, read_in}
-use Rattle.model.specs.Reading.{own_after, Open}
-use Rattle.model.specs.Step.{as_call}
-use Rattle.model.specs.Turns.{number_of}
-use Rattle.threaded.specs.Driver.{KeepsRule, Owes, Told, answered}
+use Rattle.threaded.specs.Driver.{Told}
 use Rattle.history.specs.declared.view.View.{View}
 use Rattle.history.specs.ContainerFind.{FindIn, copies_of, copies_after, find_copies, finds_values}
 use Rattle.history.specs.History.{IsMachine}

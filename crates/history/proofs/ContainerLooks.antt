@@ -1,39 +1,20 @@
 -- What a look of a state comes to, where the machine has the state for its party that its drive has.
-use Rattle.std.proofs.Common.{◌≡◌, inl, inr, ℕ, suc, ◌+◌, ◌<◌, ◌≤◌, ◌==◌, nat_lt, Bool, true, false, Option, List, []}
-use Rattle.std.proofs.Common.{◌∷◌, ◌++◌, slice_index_or, append-nil, refl, sym, ap, subst, ◌∙◌, arith}
-use Rattle.std.proofs.lemmas.Bool.Decides.{nat_tests}
-use Rattle.steps.specs.Container.Layout.{is_even, total_words}
-use Rattle.steps.specs.Container.Look.{look_asks, look_comes_to, look_finds, look_takes, look_after, look_kept}
-use Rattle.steps.specs.Container.State.{Numbers, Showing}
+use Rattle.history.proofs.Names.{◌≡◌, inl, inr, ℕ, suc, ◌+◌, ◌<◌, ◌≤◌, ◌==◌, nat_lt, Bool, true, false, Option, List}
+use Rattle.history.proofs.Names.{[], ◌∷◌, ◌++◌, slice_index_or, append-nil, refl, sym, ap, subst, ◌∙◌, arith}
+use Rattle.history.proofs.Names.{nat_tests, is_even, total_words, look_asks, look_comes_to, look_finds, look_takes}
+use Rattle.history.proofs.Names.{look_after, look_kept, Numbers, Showing, by_test, Ask, After, GoOn, LookStage}
+use Rattle.history.proofs.Names.{ContainerState, Answer, Event, Copied, Container, Registry, ContainerStart, LookOf}
+use Rattle.history.proofs.Names.{Coding, goes_of, step_of, look_came, settled_if, look_effects, look_effects_of}
+use Rattle.history.proofs.Names.{as_call, World, data_within, answered}
 use Rattle.steps.specs.Copied.{value_in}
-use Rattle.steps.specs.Picks.{by_test}
-use Rattle.steps.specs.declared.ask.Ask.{Ask}
-use Rattle.steps.specs.declared.ask.After.{After}
-use Rattle.steps.specs.declared.ask.After.TheVariants.{GoOn, Done}
+use Rattle.steps.specs.declared.ask.After.TheVariants.{Done}
 use Rattle.steps.specs.declared.ask.Want.TheVariants as wants
 use Rattle.steps.specs.declared.container.look.Look.{Look as Looking}
-use Rattle.steps.specs.declared.container.look.LookStage.{LookStage}
 use Rattle.steps.specs.declared.container.look.LookStage.TheVariants as looks
-use Rattle.steps.specs.declared.container.state.ContainerState.{ContainerState}
-use Rattle.model.specs.declared.event.Answer.{Answer}
-use Rattle.model.specs.declared.event.Event.{Event}
-use Rattle.model.specs.declared.event.Event.TheVariants.{Copied}
-use Rattle.model.specs.declared.event.Start.TheVariants.{Container}
 use Rattle.model.specs.declared.families.Flight.TheVariants as flights
-use Rattle.model.specs.declared.families.Registry.{Registry}
 use Rattle.model.specs.declared.families.Registry.TheVariants as registries
-use Rattle.model.specs.declared.families.container.ContainerStart.{ContainerStart}
 use Rattle.model.specs.declared.families.container.calls.ContainerFlight.TheVariants as calls
-use Rattle.model.specs.declared.families.container.calls.LookOf.{LookOf}
-use Rattle.model.specs.Coding.{Coding}
-use Rattle.model.specs.Families.{goes_of, step_of}
-use Rattle.model.specs.Families.Container.Calls.{look_came, settled_if}
-use Rattle.model.specs.Families.Container.Steps.{look_effects, look_effects_of}
-use Rattle.model.specs.Step.{as_call}
-use Rattle.model.specs.World.{World}
-use Rattle.laws_container.proofs.Core.{data_within}
 use Rattle.laws_container.proofs.Looks.{written_same}
-use Rattle.threaded.specs.Driver.{answered}
 use Rattle.history.specs.ContainerFind.{HasCopied}
 use Rattle.history.specs.ContainerLooks.{LookIn, state_of_look, HasState, LookedAt, HasLookedAll, looks_at}
 use Rattle.history.specs.Stages.{Calling}

@@ -1,48 +1,26 @@
 -- That a recovery of the container is a call of the model, which puts questions.
-use Rattle.std.proofs.Common.{◌≡◌, ◌⊎◌, inl, inr, ℕ, ◌+◌, ◌<◌, ◌==◌, nat_lt, Bool, true, false, Option, Some, None}
-use Rattle.std.proofs.Common.{option_map, List, [], ◌∷◌, ◌++◌, slice_set, if◌then◌else◌, fold, refl, sym, ap, subst}
-use Rattle.std.proofs.Common.{◌∙◌, arith}
-use Rattle.std.proofs.lemmas.Bool.Decides.{nat_tests}
-use Rattle.std.proofs.lemmas.List.{append_cancel_right}
-use Rattle.steps.specs.Container.Layout.{is_even}
-use Rattle.steps.specs.Container.Recover.{first_recover, recover_asks, recover_want, recover_keeps, recover_raised}
+use Rattle.history.proofs.Names.{◌≡◌, ◌⊎◌, inl, inr, ℕ, ◌+◌, ◌<◌, ◌==◌, nat_lt, Bool, true, false, Option, Some, None}
+use Rattle.history.proofs.Names.{option_map, List, [], ◌∷◌, ◌++◌, slice_set, if◌then◌else◌, fold, refl, sym, ap}
+use Rattle.history.proofs.Names.{subst, ◌∙◌, arith, nat_tests, append_cancel_right, is_even, recover_keeps, empty}
+use Rattle.history.proofs.Names.{locked, raise_want, raise_after, lock_want, lock_after, went_on, After, GoOn, Want}
+use Rattle.history.proofs.Names.{DeadOwner, ReleaseMode, LockIfLastIndex, Default, ReleaseState, Lock, Raise, Answer}
+use Rattle.history.proofs.Names.{Event, Start, Flight, Coding, IsCoding, opening_of, after_of, is_question}
+use Rattle.history.proofs.Names.{recover_of, is_owner, question_of, as_it_is, fresh_cell, kept_at, read_in, own_after}
+use Rattle.history.proofs.Names.{Open, as_call, number_of, raise_asks_none, lock_asks_none, KeepsRule}
+use Rattle.steps.specs.Container.Recover.{first_recover, recover_asks, recover_want, recover_raised}
 use Rattle.steps.specs.Container.Recover.{recover_locked, recover_takes, recover_after}
-use Rattle.steps.specs.Indices.Robust.Parts.{empty, locked, raise_want, raise_after, lock_want, lock_after}
-use Rattle.steps.specs.Routine.{went_on}
-use Rattle.steps.specs.declared.ask.After.{After}
-use Rattle.steps.specs.declared.ask.After.TheVariants.{GoOn, Done}
-use Rattle.steps.specs.declared.ask.Want.{Want}
-use Rattle.steps.specs.declared.container.recover.DeadOwner.{DeadOwner}
+use Rattle.steps.specs.declared.ask.After.TheVariants.{Done}
 use Rattle.steps.specs.declared.container.recover.Recover.{Recover as Recovering}
 use Rattle.steps.specs.declared.container.recover.RecoverStage.{RecoverStage}
 use Rattle.steps.specs.declared.container.recover.RecoverStage.TheVariants as recovers
 use Rattle.steps.specs.declared.copied.Buffer as buffers
-use Rattle.steps.specs.declared.indices.enums.ReleaseMode.{ReleaseMode}
-use Rattle.steps.specs.declared.indices.enums.ReleaseMode.TheVariants.{LockIfLastIndex, Default}
-use Rattle.steps.specs.declared.indices.enums.ReleaseState.{ReleaseState}
 use Rattle.steps.specs.declared.indices.enums.ReleaseState.TheVariants as states
-use Rattle.steps.specs.declared.indices.robust.parts.Lock.{Lock}
-use Rattle.steps.specs.declared.indices.robust.parts.Raise.{Raise}
-use Rattle.model.specs.declared.event.Answer.{Answer}
 use Rattle.model.specs.declared.event.Answer.TheVariants.{State}
-use Rattle.model.specs.declared.event.Event.{Event}
-use Rattle.model.specs.declared.event.Start.{Start}
-use Rattle.model.specs.declared.families.Flight.{Flight}
 use Rattle.model.specs.declared.families.Flight.TheVariants as flights
 use Rattle.model.specs.declared.families.container.ContainerStart.TheVariants.{Recover}
 use Rattle.model.specs.declared.families.container.calls.ContainerFlight.TheVariants as calls
 use Rattle.model.specs.declared.turn.Kind.TheVariants as kinds
-use Rattle.model.specs.Coding.{Coding, IsCoding}
-use Rattle.model.specs.Families.{opening_of, after_of, is_question}
-use Rattle.model.specs.Families.Container.Calls.{recover_of}
-use Rattle.model.specs.Families.Indices.Robust.Opening.{is_owner}
-use Rattle.model.specs.Families.Container.Steps.{recover_effects, question_of}
-use Rattle.model.specs.Families.Queues.Calls.{as_it_is, fresh_cell, kept_at, read_in}
-use Rattle.model.specs.Reading.{own_after, Open}
-use Rattle.model.specs.Step.{as_call}
-use Rattle.model.specs.Turns.{number_of}
-use Rattle.laws_robust.proofs.Sound.{raise_asks_none, lock_asks_none}
-use Rattle.threaded.specs.Driver.{KeepsRule}
+use Rattle.model.specs.Families.Container.Steps.{recover_effects}
 use Rattle.history.specs.declared.view.View.{View}
 use Rattle.history.specs.ContainerRecovery.{RecoverIn, Came, wrote_visits, visits_after, VisitsAt, told_yet, recover_visits, recovers_values}
 use Rattle.history.specs.History.{IsMachine}

@@ -1,34 +1,19 @@
 -- Each call of a container on a pass whose last call may rest at a find's question.
-use Rattle.std.proofs.Common.{Bool, true, false, ◌≡◌, inl, inr, ℕ, ◌+◌, ◌<◌, Option, Some, None, List, [], refl, sym, ap, ◌∙◌}
-use Rattle.atomic_table.specs.Table.{Allows}
-use Rattle.steps.specs.Container.Find.{find_asks}
+use Rattle.history.proofs.Names.{Bool, true, false, ◌≡◌, inl, inr, ℕ, ◌+◌, ◌<◌, Option, Some, None, List, [], refl}
+use Rattle.history.proofs.Names.{sym, ap, ◌∙◌, Allows, find_asks, replace_asks, After, GoOn, Want, FindStage}
+use Rattle.history.proofs.Names.{ReplaceStage, Answer, Event, Start, Flight, ContainerFlight, Coding, want_of}
+use Rattle.history.proofs.Names.{goes_of, is_question, number_of, World, count_asks_none, raise_asks_none}
+use Rattle.history.proofs.Names.{lock_asks_none, look_asks_none, KeepsRule}
 use Rattle.steps.specs.Container.Recover.{recover_asks}
-use Rattle.steps.specs.Container.Replace.{replace_asks}
-use Rattle.steps.specs.declared.ask.After.{After}
-use Rattle.steps.specs.declared.ask.After.TheVariants.{GoOn, Done}
-use Rattle.steps.specs.declared.ask.Want.{Want}
-use Rattle.steps.specs.declared.container.find.FindStage.{FindStage}
+use Rattle.steps.specs.declared.ask.After.TheVariants.{Done}
 use Rattle.steps.specs.declared.container.find.FindStage.TheVariants as finds
 use Rattle.steps.specs.declared.container.recover.RecoverStage.{RecoverStage}
 use Rattle.steps.specs.declared.container.recover.RecoverStage.TheVariants as recovers
-use Rattle.steps.specs.declared.container.replace.ReplaceStage.{ReplaceStage}
 use Rattle.steps.specs.declared.container.replace.ReplaceStage.TheVariants as replaces
-use Rattle.model.specs.declared.event.Answer.{Answer}
-use Rattle.model.specs.declared.event.Event.{Event}
-use Rattle.model.specs.declared.event.Start.{Start}
-use Rattle.model.specs.declared.families.Flight.{Flight}
 use Rattle.model.specs.declared.families.Flight as flights
-use Rattle.model.specs.declared.families.container.calls.ContainerFlight.{ContainerFlight}
 use Rattle.model.specs.declared.families.container.calls.ContainerFlight.TheVariants as calls
 use Rattle.model.specs.declared.turn.Kind.TheVariants as kinds
-use Rattle.model.specs.Coding.{Coding}
-use Rattle.model.specs.Families.{want_of, goes_of, is_question}
-use Rattle.model.specs.Turns.{number_of}
-use Rattle.model.specs.World.{World}
-use Rattle.laws_robust.proofs.Sound.{count_asks_none, raise_asks_none, lock_asks_none}
-use Rattle.laws_container.proofs.LooksTell.{look_asks_none}
 use Rattle.laws_container.proofs.Moves.{add_asks_none, remove_asks_none}
-use Rattle.threaded.specs.Driver.{KeepsRule}
 use Rattle.history.specs.declared.view.View.{View}
 use Rattle.history.specs.History.{IsMachine, IsLate}
 use Rattle.history.specs.Settled.{IsResting, Settles, AtRested, EndsRested}

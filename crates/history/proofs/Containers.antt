@@ -1,53 +1,30 @@
 -- What the container owes, from the laws of its open runs, which party may begin a call on it, and that a call which is no
 -- look of a state goes on by itself.
-use Rattle.std.proofs.Common.{◌≡◌, ℕ, ◌+◌, ◌≤◌, true, false, Option, Some, None, IfSome, List, [], ◌++◌, length, sum_by, refl, sym, ap, subst, ◌∙◌, arith}
-use Rattle.steps.specs.declared.ask.After.{After}
-use Rattle.steps.specs.declared.ask.Want.{Want}
-use Rattle.steps.specs.declared.container.state.ContainerState.{ContainerState}
-use Rattle.steps.specs.Container.Layout.{total_words}
-use Rattle.model.specs.declared.event.Event.{Event}
-use Rattle.model.specs.declared.event.Start.{Start}
-use Rattle.model.specs.declared.event.Start.TheVariants.{Container}
-use Rattle.model.specs.declared.families.Flight.{Flight}
+use Rattle.history.proofs.Names.{◌≡◌, ℕ, ◌+◌, ◌≤◌, true, false, Option, Some, None, IfSome, List, [], ◌++◌, length}
+use Rattle.history.proofs.Names.{sum_by, refl, sym, ap, subst, ◌∙◌, arith, After, Want, ContainerState, total_words}
+use Rattle.history.proofs.Names.{Event, Start, Container, Flight, Registry, ContainerStart, Add, Remove, Replace}
+use Rattle.history.proofs.Names.{Find, GetState, UpdateState, ContainerFlight, Party, Turn, Next, Coding, first_of}
+use Rattle.history.proofs.Names.{step_of, beside_of, goes_of, after_of, going_rows, first, is_look_of, state_in}
+use Rattle.history.proofs.Names.{names_owner, questions, has_died, SetAct, set_acts_of, first_row, step_in}
+use Rattle.history.proofs.Names.{after_turn, World, Trace, stands_there, Word, open_refusal, AllLive, KeepsRule}
 use Rattle.model.specs.declared.families.Flight as flights
-use Rattle.model.specs.declared.families.Registry.{Registry}
 use Rattle.model.specs.declared.families.Registry as registries
-use Rattle.model.specs.declared.families.container.ContainerStart.{ContainerStart}
-use Rattle.model.specs.declared.families.container.ContainerStart.TheVariants.{Add, Remove, Replace, Find, Recover}
-use Rattle.model.specs.declared.families.container.ContainerStart.TheVariants.{GetState, UpdateState, Len, IsEmpty}
+use Rattle.model.specs.declared.families.container.ContainerStart.TheVariants.{Recover}
+use Rattle.model.specs.declared.families.container.ContainerStart.TheVariants.{Len, IsEmpty}
 use Rattle.model.specs.declared.families.container.ContainerStart.TheVariants.{IsLocked}
-use Rattle.model.specs.declared.families.container.calls.ContainerFlight.{ContainerFlight}
 use Rattle.model.specs.declared.families.container.calls.ContainerFlight.TheVariants as calls
-use Rattle.model.specs.declared.party.Party.{Party}
 use Rattle.model.specs.declared.turn.Kind.TheVariants as kinds
-use Rattle.model.specs.declared.turn.Turn.{Turn}
-use Rattle.model.specs.declared.turn.Turn.TheVariants.{Next}
-use Rattle.model.specs.Coding.{Coding}
-use Rattle.model.specs.Families.{first_of, step_of, beside_of, goes_of, after_of, going_rows}
-use Rattle.model.specs.Families.Container.Calls.{first}
-use Rattle.model.specs.Families.Container.Keeping.{is_look_of}
-use Rattle.model.specs.Families.Container.Looks.{state_in}
-use Rattle.model.specs.Families.Container.Opening.{names_owner}
 use Rattle.model.specs.Families.Container.Reading.{Act, acts_of}
-use Rattle.model.specs.Families.Container.Steps.{effects, questions}
-use Rattle.model.specs.Families.Indices.Robust.Dead.{has_died}
-use Rattle.model.specs.Families.Indices.Robust.Reading.{SetAct, set_acts_of}
-use Rattle.model.specs.Rows.{first_row}
-use Rattle.model.specs.Turns.{step_in, after_turn}
-use Rattle.model.specs.World.{World, Trace}
+use Rattle.model.specs.Families.Container.Steps.{effects}
 use Rattle.model.proofs.Frame as frame
-use Rattle.model.proofs.Scenes.{stands_there}
-use Rattle.laws_robust.specs.Gone.{Word}
-use Rattle.laws_robust.specs.Open.{open_refusal}
-use Rattle.laws_robust.proofs.Alive.{AllLive}
 use Rattle.laws_container.specs.Open.{IsOpenContainer}
 use Rattle.laws_container.proofs.Invariant.{ContainerNow, Represents, FlightAt, family_by}
 use Rattle.laws_container.proofs.Living.{has_not_died, step_is_free}
-use Rattle.laws_container.proofs.OpenRuns.{reached_open_sound, reached_open_lives, reached_open_wide, reached_open_kept, reached_open_tells}
+use Rattle.laws_container.proofs.OpenRuns.{reached_open_sound, reached_open_lives, reached_open_wide}
+use Rattle.laws_container.proofs.OpenRuns.{reached_open_kept, reached_open_tells}
 use Rattle.laws_container.proofs.Sound.{kept_is}
 use Rattle.laws_container.proofs.Terms.{Terms}
 use Rattle.laws_container.proofs.Written.{all_effects}
-use Rattle.threaded.specs.Driver.{KeepsRule}
 use Rattle.history.specs.declared.view.View.{View}
 use Rattle.history.specs.History.{IsRun, IsMachine, call_in}
 use Rattle.history.specs.Known.{owned}

@@ -1,29 +1,16 @@
 -- Calls that put questions: the machine is handed an answer with the call's next step, as it is told of a begin with the first.
-use Rattle.std.proofs.Common.{Bool, true, false, ◌≡◌, inl, inr, ℕ, ◌+◌, ◌<◌, Option, Some, None, List, [], ◌++◌}
-use Rattle.std.proofs.Common.{slice_index, slice_set, set-set, refl, sym, ap, subst, ◌∙◌, append-nil, arith}
-use Rattle.std.proofs.lemmas.List.Sums.{sum_by-append}
+use Rattle.history.proofs.Names.{Bool, true, false, ◌≡◌, inl, inr, ℕ, ◌+◌, ◌<◌, Option, Some, None, List, [], ◌++◌}
+use Rattle.history.proofs.Names.{slice_index, slice_set, set-set, refl, sym, ap, subst, ◌∙◌, append-nil, arith}
+use Rattle.history.proofs.Names.{sum_by-append, set_here, written, Ask, After, GoOn, Want, Event, Start, Flight, Kind}
+use Rattle.history.proofs.Names.{Decide, Coding, opening_of, first_of, want_of, goes_of, is_question, after_turn}
+use Rattle.history.proofs.Names.{events_of, number_of, World, Trace, IsAll, Owes, OwesAsk, NextKnown, KeepsRule}
 use mathlib.Core.Option.{some}
 use lib.ListN.{get_elem?}
 use Rattle.atomic_table.specs.Table.{State}
 use Rattle.atomic_table.specs.Table as table
-use Rattle.atomic_table.proofs.Lists.{set_here}
-use Rattle.steps.specs.Ask.{written}
-use Rattle.steps.specs.declared.ask.Ask.{Ask}
-use Rattle.steps.specs.declared.ask.After.{After}
-use Rattle.steps.specs.declared.ask.After.TheVariants.{GoOn, Done}
-use Rattle.steps.specs.declared.ask.Want.{Want}
+use Rattle.steps.specs.declared.ask.After.TheVariants.{Done}
 use Rattle.steps.specs.declared.ask.Want.TheVariants as wants
-use Rattle.model.specs.declared.event.Event.{Event}
-use Rattle.model.specs.declared.event.Start.{Start}
-use Rattle.model.specs.declared.families.Flight.{Flight}
-use Rattle.model.specs.declared.turn.Kind.{Kind}
-use Rattle.model.specs.declared.turn.Turn.TheVariants.{Decide}
-use Rattle.model.specs.Coding.{Coding}
-use Rattle.model.specs.Families.{opening_of, first_of, want_of, goes_of, is_question}
-use Rattle.model.specs.Turns.{after_turn, events_of, number_of}
-use Rattle.model.specs.World.{World, Trace}
-use Rattle.threaded.specs.Shares.{IsAll}
-use Rattle.threaded.specs.Driver.{Owes, OwesAsk, Next as NextKnown, Told, KeepsRule}
+use Rattle.threaded.specs.Driver.{Told}
 use Rattle.history.specs.declared.view.View.{View}
 use Rattle.history.specs.Known.{events_by}
 use Rattle.history.specs.History.{IsRun, IsMachine, HasStood, call_in, refusal_as}

@@ -1,31 +1,21 @@
 -- The driver over the rule of a machine: what it asks of the steps of a call, shown once for all calls of all kinds.
-use Rattle.std.proofs.Common.{◌^◌, true, false, ◌≡◌, inl, inr, ℕ, ◌+◌, ◌<◌, Some, None, List, [], ◌∷◌, ◌++◌, length}
-use Rattle.std.proofs.Common.{slice_index, slice_set, refl, sym, ap, subst, ◌∙◌, arith}
+use Rattle.history.proofs.Names.{◌^◌, true, false, ◌≡◌, inl, inr, ℕ, ◌+◌, ◌<◌, Some, None, List, [], ◌∷◌, ◌++◌}
+use Rattle.history.proofs.Names.{length, slice_index, slice_set, refl, sym, ap, subst, ◌∙◌, arith, Allows, written}
+use Rattle.history.proofs.Names.{Ask, After, GoOn, Want, Event, Flight, Kind, Next, Coding, want_of, after_of}
+use Rattle.history.proofs.Names.{goes_of, is_question, after_turn, World, Trace, answered, Owes, NextKnown, KeepsRule}
+use Rattle.history.proofs.Names.{IsFreshCall}
 use mathlib.Core.Option.{some}
 use lib.ListN.{get_elem?}
-use Rattle.atomic_table.specs.Table.{State, Allows}
+use Rattle.atomic_table.specs.Table.{State}
 use Rattle.atomic_table.specs.Table as table
-use Rattle.steps.specs.Ask.{written}
-use Rattle.steps.specs.declared.ask.Ask.{Ask}
-use Rattle.steps.specs.declared.ask.After.{After}
-use Rattle.steps.specs.declared.ask.After.TheVariants.{GoOn, Done}
-use Rattle.steps.specs.declared.ask.Want.{Want}
+use Rattle.steps.specs.declared.ask.After.TheVariants.{Done}
 use Rattle.steps.specs.declared.ask.Want.TheVariants as wants
-use Rattle.model.specs.declared.event.Event.{Event}
-use Rattle.model.specs.declared.families.Flight.{Flight}
-use Rattle.model.specs.declared.turn.Kind.{Kind}
-use Rattle.model.specs.declared.turn.Turn.TheVariants.{Next}
-use Rattle.model.specs.Coding.{Coding}
-use Rattle.model.specs.Families.{want_of, after_of, goes_of, is_question}
-use Rattle.model.specs.Turns.{after_turn}
-use Rattle.model.specs.World.{World, Trace}
-use Rattle.threaded.specs.Driver.{answered, Owes, Next as NextKnown, Told, KeepsRule}
+use Rattle.threaded.specs.Driver.{Told}
 use Rattle.history.specs.declared.view.View.{View}
 use Rattle.history.specs.Known.{events_by}
 use Rattle.history.specs.History.{IsRun, IsMachine, IsLate, call_in}
 use Rattle.history.specs.Stages.{Calling, IsFirst, At, Ends, LeftOut, Over}
 use Rattle.history.specs.Views.{Looks}
-use Rattle.laws_queues.proofs.Queues.Knows.{IsFreshCall}
 use Rattle.history.proofs.Known.{by_mine, late_none, AreOf}
 use Rattle.history.proofs.Calls.{get_left}
 use Rattle.history.proofs.Turns.{KindLaws, KeptLaws, MachineLaws, kept_laws, goes_on_alike, machine_laws, Between}

@@ -1,29 +1,12 @@
 -- What holds of each event of a run, where it holds of what each step of a call writes, and of every begin and end.
-use Rattle.std.proofs.Common.{◌≡◌, ◌⊎◌, inl, inr, ℕ, Bool, true, not, is_none, Option, Some, None, List, [], ◌∷◌, ◌++◌, refl}
-use Rattle.model.specs.declared.event.Answer.{Answer}
-use Rattle.model.specs.declared.event.Event.{Event}
-use Rattle.model.specs.declared.event.Event.TheVariants.{Begun, Finished, Died}
-use Rattle.model.specs.declared.event.Start.{Start}
-use Rattle.model.specs.declared.families.Flight.{Flight}
-use Rattle.model.specs.declared.party.Doing.{Doing}
-use Rattle.model.specs.declared.party.Doing.TheVariants.{Going, Over}
-use Rattle.model.specs.declared.party.Party.{Party}
-use Rattle.model.specs.declared.turn.Refusal.{Refusal}
-use Rattle.model.specs.declared.turn.Turn.{Turn}
-use Rattle.model.specs.declared.turn.Turn.TheVariants.{Begin, Next, Decide, Die}
-use Rattle.model.specs.declared.turn.Refusal.TheVariants.{Idle, Undecided}
-use Rattle.model.specs.Families.{want_of, ask_of}
-use Rattle.model.specs.Parties.{party_of, doing_of, flight_of}
-use Rattle.model.specs.Reading.{Each}
-use Rattle.model.specs.Refusals.{call_refusal, is_due}
-use Rattle.model.specs.Step.{answer_in}
-use Rattle.model.specs.Turns.{after_turn, events_of, events_of_next, events_of_decision, events_of_answer, ending_of}
-use Rattle.model.specs.Turns.{old_of, ask_of_doing, number_of, unless_refused, attempt_on, run_on, step_in}
-use Rattle.model.specs.World.{Trace, flight_in}
-use Rattle.model.proofs.Frame.{Family, Sound, is_true}
-use Rattle.model.proofs.Rows.{row_passed}
-use Rattle.model.proofs.Readings.{AreRight, Each-append}
-use Rattle.laws_queues.proofs.Queues.Runs.{LawsAt, AllMay, attempt_sound}
+use Rattle.history.proofs.Names.{◌≡◌, ◌⊎◌, inl, inr, ℕ, Bool, true, not, is_none, Option, Some, None, List, [], ◌∷◌}
+use Rattle.history.proofs.Names.{◌++◌, refl, Answer, Event, Begun, Finished, Died, Start, Flight, Doing, Going, Over}
+use Rattle.history.proofs.Names.{Party, Refusal, Turn, Begin, Next, Decide, Die, Idle, Undecided, want_of, ask_of}
+use Rattle.history.proofs.Names.{party_of, doing_of, flight_of, Each, call_refusal, is_due, answer_in, after_turn}
+use Rattle.history.proofs.Names.{events_of, events_of_next, events_of_decision, events_of_answer, ending_of, old_of}
+use Rattle.history.proofs.Names.{ask_of_doing, number_of, unless_refused, attempt_on, run_on, step_in, Trace}
+use Rattle.history.proofs.Names.{flight_in, Family, Sound, is_true, row_passed, AreRight, Each-append, LawsAt, AllMay}
+use Rattle.history.proofs.Names.{attempt_sound}
 
 -- what a call is handed as it goes on: what stands in its word, or a decision
 abbrev pub IsHanded : {T : Type 0} → Trace T → Flight T → ℕ → Type 0

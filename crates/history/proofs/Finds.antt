@@ -1,14 +1,10 @@
 -- A look at the cell of an index says whether the index has an owner just then, so a find tells of one index after another.
-use Rattle.std.proofs.Common.{◌≡◌, ◌≢◌, ⊎_elim, ℕ, ◌+◌, ◌<◌, Option, Some, None, List, [], ◌∷◌, ◌++◌, sym, ap, subst, ◌∙◌, append_assoc, append-nil, arith}
-use Rattle.std.specs.List.{Contains}
-use Rattle.std.proofs.lemmas.Bool.{cases_eq}
-use Rattle.std.proofs.lemmas.List.Elements.{All-nil, All-push, All-weaker, Contains-push, Contains-append_left}
-use Rattle.steps.specs.Indices.Robust.Parts.{cell_word, empty}
-use Rattle.model.specs.declared.event.Event.{Event}
+use Rattle.history.proofs.Names.{◌≡◌, ◌≢◌, ⊎_elim, ℕ, ◌+◌, ◌<◌, Option, Some, None, List, [], ◌∷◌, ◌++◌, sym, ap}
+use Rattle.history.proofs.Names.{subst, ◌∙◌, append_assoc, append-nil, arith, Contains, cases_eq, All-nil, All-push}
+use Rattle.history.proofs.Names.{All-weaker, Contains-push, Contains-append_left, empty, Event, Coding, filled_of}
+use Rattle.steps.specs.Indices.Robust.Parts.{cell_word}
 use Rattle.model.specs.declared.turn.Kind.TheVariants as kinds
-use Rattle.model.specs.Coding.{Coding}
 use Rattle.model.specs.Families.Indices.Robust.Promises.{cell_of}
-use Rattle.model.specs.Families.Indices.Robust.Reading.{filled_of}
 use Rattle.history.specs.declared.view.View.{View}
 use Rattle.history.specs.Finds.{HeldBetween, WereOwned}
 use Rattle.history.specs.History.{IsBeginning}

@@ -1,12 +1,7 @@
 -- Which party holds an index that a pass holds: one of its own.
-use Rattle.std.proofs.Common.{◌≡◌, ◌≢◌, ◌≤◌, ⊎_elim, ℕ, ◌+◌, ◌==◌, true, false, Some, None, List, refl, subst, arith, sum_by}
-use Rattle.std.proofs.lemmas.Bool.{cases_eq}
-use Rattle.std.proofs.lemmas.Bool.Decides.{nat_tests}
-use Rattle.model.specs.declared.event.Event.{Event}
-use Rattle.model.specs.declared.event.Event.TheVariants.{Claimed, Freed}
-use Rattle.model.specs.Families.Indices.Promises.{HoldsRight}
+use Rattle.history.proofs.Names.{◌≡◌, ◌≢◌, ◌≤◌, ⊎_elim, ℕ, ◌+◌, ◌==◌, true, false, Some, None, List, refl, subst}
+use Rattle.history.proofs.Names.{arith, sum_by, cases_eq, nat_tests, Event, Claimed, Freed, HoldsRight, Each}
 use Rattle.model.specs.Families.Indices.Reading.{holder_after, holder_of}
-use Rattle.model.specs.Reading.{Each}
 use Rattle.history.specs.declared.view.View.{View}
 use Rattle.history.specs.Held.{claims, frees, Holds}
 use Rattle.history.specs.History.{IsOfParties}

@@ -1,67 +1,40 @@
 -- In a bounded queue only the holder of a role publishes, or takes out; there is room for what is published, and what is
 -- taken out waited first.
-use Rattle.std.proofs.Common.{◌≡◌, ◌<◌, ◌≤◌, ℕ, Bool, true, false, Option, Some, None, is_none, List, [], ◌∷◌, ◌++◌}
-use Rattle.std.proofs.Common.{◌==◌, length, map, fold, refl, sym, ap, subst, ◌∙◌, append-nil, append_assoc}
-use Rattle.std.proofs.Common.{length-append, arith}
-use Rattle.std.proofs.lemmas.List.{length-map}
+use Rattle.history.proofs.Names.{◌≡◌, ◌<◌, ◌≤◌, ℕ, Bool, true, false, Option, Some, None, is_none, List, [], ◌∷◌}
+use Rattle.history.proofs.Names.{◌++◌, ◌==◌, length, map, fold, refl, sym, ap, subst, ◌∙◌, append-nil, append_assoc}
+use Rattle.history.proofs.Names.{arith, length-map, nat_tests, fold-append, flat_map, Producer, Consumer, Answer}
+use Rattle.history.proofs.Names.{Event, Published, HandedOut, Finished, Item, Start, Queues, Flight, Registry}
+use Rattle.history.proofs.Names.{QueueStart, AcquireConsumer, ReleaseConsumer, PushIndex, Pop, Roles, QueueFlight}
+use Rattle.history.proofs.Names.{Values, Length, Doing, Going, Over, Party, Refusal, Turn, Begin, Next, Decide, Die}
+use Rattle.history.proofs.Names.{Coding, one_word, step_of, producer_after, consumer_after, producer_of, consumer_of}
+use Rattle.history.proofs.Names.{publishes, hands_out, published, handed_out, waiting, push_effect, pop_effect}
+use Rattle.history.proofs.Names.{acts_if_done, party_of, Each, whose, is_party, Truth, call_refusal, answer_in}
+use Rattle.history.proofs.Names.{after_turn, events_of, events_of_answer, ending_of, old_of, ask_of_doing, number_of}
+use Rattle.history.proofs.Names.{unless_refused, attempt_on, run_on, step_in, Trace, capacity_error, AreRight}
+use Rattle.history.proofs.Names.{Each-append, Each-nil, stands_there, machine_kind, waiting_is, Val, Ring, of_indices}
+use Rattle.history.proofs.Names.{of_values, kind_of, KnowsPush, KnowsPop, AllMay, attempt_sound, admitted_fits}
+use Rattle.std.proofs.Common.{length-append}
 use Rattle.std.proofs.lemmas.Grind.{flat_map-append}
-use Rattle.std.proofs.lemmas.Bool.Decides.{nat_tests}
-use Rattle.std.proofs.lemmas.List.Sums.{fold-append}
-use Rattle.std.specs.List.{flat_map}
 use Rattle.steps.specs.declared.queues.roles.Role.{Role as Side}
-use Rattle.steps.specs.declared.queues.roles.Role.TheVariants.{Producer, Consumer}
 use Rattle.steps.specs.declared.queues.ring.PushStage as pushes
 use Rattle.steps.specs.declared.queues.ring.PopStage as pops
-use Rattle.model.specs.declared.event.Answer.{Answer}
-use Rattle.model.specs.declared.event.Event.{Event}
-use Rattle.model.specs.declared.event.Event.TheVariants.{Published, HandedOut, Finished}
-use Rattle.model.specs.declared.event.Item.{Item}
-use Rattle.model.specs.declared.event.Start.{Start}
-use Rattle.model.specs.declared.event.Start.TheVariants.{Queues}
-use Rattle.model.specs.declared.families.Flight.{Flight}
 use Rattle.model.specs.declared.families.Flight as flights
-use Rattle.model.specs.declared.families.Registry.{Registry}
 use Rattle.model.specs.declared.families.Registry as registries
 use Rattle.model.specs.declared.families.queues.QueueKind.TheVariants.{IndexQueue, Queue}
-use Rattle.model.specs.declared.families.queues.QueueStart.{QueueStart}
 use Rattle.model.specs.declared.families.queues.QueueStart.TheVariants.{AcquireProducer, ReleaseProducer}
-use Rattle.model.specs.declared.families.queues.QueueStart.TheVariants.{AcquireConsumer, ReleaseConsumer, PushIndex}
-use Rattle.model.specs.declared.families.queues.QueueStart.TheVariants.{Push, Pop}
-use Rattle.model.specs.declared.families.queues.Roles.{Roles}
+use Rattle.model.specs.declared.families.queues.QueueStart.TheVariants.{Push}
 use Rattle.model.specs.declared.families.queues.calls.RingCall as rings
-use Rattle.model.specs.declared.families.queues.calls.QueueFlight.{QueueFlight}
-use Rattle.model.specs.declared.families.queues.calls.QueueFlight.TheVariants.{Role, Indices, Values, Overflow, Length}
-use Rattle.model.specs.declared.party.Doing.{Doing}
-use Rattle.model.specs.declared.party.Doing.TheVariants.{Going, Over}
-use Rattle.model.specs.declared.party.Party.{Party}
-use Rattle.model.specs.declared.turn.Refusal.{Refusal}
-use Rattle.model.specs.declared.turn.Turn.{Turn}
-use Rattle.model.specs.declared.turn.Turn.TheVariants.{Begin, Next, Decide, Die}
-use Rattle.model.specs.Coding.{Coding, one_word}
-use Rattle.model.specs.Families.{step_of}
-use Rattle.model.specs.Families.Queues.Reading.{producer_after, consumer_after, producer_of, consumer_of, publishes, hands_out, published, handed_out, waiting}
+use Rattle.model.specs.declared.families.queues.calls.QueueFlight.TheVariants.{Role, Indices, Overflow}
 use Rattle.model.specs.Families.Queues.Roles.{GrantsRight}
-use Rattle.model.specs.Families.Queues.Steps.{effects_of, push_effect, pop_effect, acts_if_done}
-use Rattle.model.specs.Parties.{party_of}
-use Rattle.model.specs.Reading.{Each, whose, is_party}
-use Rattle.model.specs.declared.event.Answer.TheVariants.{Truth}
-use Rattle.model.specs.Refusals.{call_refusal}
-use Rattle.model.specs.Step.{answer_in}
-use Rattle.model.specs.Turns.{after_turn, events_of, events_of_answer, ending_of, old_of, ask_of_doing, number_of, unless_refused, attempt_on, run_on, step_in}
-use Rattle.model.specs.World.{Trace, opening, capacity_error}
+use Rattle.model.specs.Families.Queues.Steps.{effects_of}
+use Rattle.model.specs.World.{opening}
 use Rattle.model.proofs.Frame as frame
-use Rattle.model.proofs.Readings.{AreRight, Each-append, Each-nil}
-use Rattle.model.proofs.Scenes.{stands_there}
 use Rattle.laws_queues.proofs.Queues.Core.{Core}
-use Rattle.laws_queues.proofs.Queues.Invariant.{family, machine_kind, waiting_is}
+use Rattle.laws_queues.proofs.Queues.Invariant.{family}
 use Rattle.laws_queues.proofs.Queues.Values as values
-use Rattle.laws_queues.proofs.Queues.Values.{Val}
-use Rattle.laws_queues.proofs.Ring.Kinds.{Ring, of_indices, of_values, kind_of}
 use Rattle.steps.specs.Copied.{value_in}
-use Rattle.laws_queues.proofs.Ring.Knows.{KnowsPush, KnowsPop}
 use Rattle.laws_queues.proofs.Queues.Knows.{At}
-use Rattle.laws_queues.proofs.Queues.Runs.{AllMay, attempt_sound}
-use Rattle.laws_queues.proofs.Queues.Sound.{kept_is, opening_sound, admitted_fits, fresh_laws, IsFreshTurn}
+use Rattle.laws_queues.proofs.Queues.Sound.{kept_is, opening_sound, fresh_laws, IsFreshTurn}
 use Rattle.history.specs.History.{IsRun, IsHistory}
 use Rattle.history.specs.Roles.{ByHolder, ByHolderOf, role_after, marks}
 use Rattle.history.specs.Known.{events_by}

@@ -1,20 +1,16 @@
 -- That an acquire and a release of the unique index set are calls of the model.
-use Rattle.std.proofs.Common.{◌≡◌, inl, ℕ, ◌+◌, ◌<◌, ◌==◌, nat_lt, Bool, true, false, None, Ok, Err, List, [], ◌∷◌, ◌++◌, refl, sym, ap, subst, ◌∙◌, arith}
-use Rattle.std.proofs.lemmas.Bool.Decides.{nat_tests}
+use Rattle.history.proofs.Names.{◌≡◌, inl, ℕ, ◌+◌, ◌<◌, ◌==◌, nat_lt, Bool, true, false, None, Ok, Err, List, [], ◌∷◌}
+use Rattle.history.proofs.Names.{◌++◌, refl, sym, ap, subst, ◌∙◌, arith, nat_tests, by_test, went_on, Ask, After}
+use Rattle.history.proofs.Names.{GoOn, Exchange, Want, ReleaseState, load, Answer, Event, Freed, Flight, Coding}
+use Rattle.history.proofs.Names.{as_it_is, as_call, answer_in, answered, KeepsRule}
 use Rattle.steps.specs.Indices.Head.{flag_word, has_flag, proposed, borrowed, says_locked}
 use Rattle.steps.specs.Indices.Unique.{borrowed_after, locked_after, Acquired, first_acquire, acquire_asks}
 use Rattle.steps.specs.Indices.Unique.{acquire_want, acquire_sees, acquire_takes, first_claim, scanned_next}
 use Rattle.steps.specs.Indices.Unique.{acquire_after, at_release, first_release, head_released, release_asks}
 use Rattle.steps.specs.Indices.Unique.{release_want, release_takes, release_after}
-use Rattle.steps.specs.Picks.{by_test}
-use Rattle.steps.specs.Routine.{went_on}
-use Rattle.steps.specs.declared.ask.Ask.{Ask}
-use Rattle.steps.specs.declared.ask.After.{After}
-use Rattle.steps.specs.declared.ask.After.TheVariants.{GoOn, Done}
-use Rattle.steps.specs.declared.ask.Op.TheVariants.{Load, Exchange}
-use Rattle.steps.specs.declared.ask.Want.{Want}
+use Rattle.steps.specs.declared.ask.After.TheVariants.{Done}
+use Rattle.steps.specs.declared.ask.Op.TheVariants.{Load}
 use Rattle.steps.specs.declared.ask.Want.TheVariants as wants
-use Rattle.steps.specs.declared.indices.enums.ReleaseState.{ReleaseState}
 use Rattle.steps.specs.declared.indices.unique.Acquire.{Acquire as Acquiring}
 use Rattle.steps.specs.declared.indices.unique.AcquireStage as acquires
 use Rattle.steps.specs.declared.indices.unique.Release.{Release as Releasing}
@@ -24,22 +20,13 @@ use Rattle.steps.specs.declared.indices.unique.LockMode.{LockMode}
 use Rattle.steps.specs.declared.indices.looks.BorrowedIndices.{BorrowedIndices as Counting}
 use Rattle.steps.specs.declared.indices.looks.IsLocked.{IsLocked as Looking}
 use Rattle.steps.specs.declared.indices.enums.ReleaseMode.TheVariants as modes
-use Rattle.steps.specs.Queues.Ring.{load}
-use Rattle.model.specs.declared.event.Answer.{Answer}
-use Rattle.model.specs.declared.event.Event.{Event}
-use Rattle.model.specs.declared.event.Event.TheVariants.{Freed}
-use Rattle.model.specs.declared.families.Flight.{Flight}
 use Rattle.model.specs.declared.families.Flight as flights
 use Rattle.model.specs.declared.families.indices.IndexStart.TheVariants.{Acquire, BorrowedIndices, IsLocked}
 use Rattle.model.specs.declared.families.indices.calls.IndexFlight as calls
 use Rattle.model.specs.declared.turn.Kind.TheVariants as kinds
-use Rattle.model.specs.Coding.{Coding}
 use Rattle.model.specs.Families.Indices.Calls.{acquire_answer}
 use Rattle.model.specs.Families.Indices.Steps.{ended}
-use Rattle.model.specs.Families.Queues.Calls.{as_it_is}
-use Rattle.model.specs.Step.{as_call, answer_in}
 use Rattle.laws_indices.proofs.Core as core
-use Rattle.threaded.specs.Driver.{answered, KeepsRule}
 use Rattle.history.specs.declared.view.View.{View}
 use Rattle.history.specs.Held.{Holds}
 use Rattle.history.specs.History.{IsMachine}

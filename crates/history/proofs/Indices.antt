@@ -1,36 +1,22 @@
 -- What the unique index set owes, from its laws.
-use Rattle.std.proofs.Common.{◌≡◌, ℕ, ◌<◌, ◌==◌, nat_le, true, false, Option, Some, None, is_none, IfSome, List, []}
-use Rattle.std.proofs.Common.{length, refl, sym, ap, subst, ◌∙◌, arith, sum_by, slice_index_or}
-use Rattle.std.proofs.lemmas.Bool.Decides.{nat_tests}
-use Rattle.steps.specs.declared.indices.enums.ReleaseMode.{ReleaseMode}
+use Rattle.history.proofs.Names.{◌≡◌, ℕ, ◌<◌, ◌==◌, nat_le, true, false, Option, Some, None, is_none, IfSome, List}
+use Rattle.history.proofs.Names.{[], length, refl, sym, ap, subst, ◌∙◌, arith, sum_by, slice_index_or, nat_tests}
+use Rattle.history.proofs.Names.{ReleaseMode, Answer, Event, Start, Flight, Registry, Party, Coding, first_of}
+use Rattle.history.proofs.Names.{begin_rows, step_of, beside_of, after_of, going_rows, IsIndexSet, IsKeptBy}
+use Rattle.history.proofs.Names.{promise_of, first_row, answer_in, step_in, Trace, stands_there}
 use Rattle.steps.specs.declared.indices.enums.ReleaseState.TheVariants.{Locked}
-use Rattle.model.specs.declared.event.Answer.{Answer}
 use Rattle.model.specs.declared.event.Answer.TheVariants.{Index, State}
-use Rattle.model.specs.declared.event.Event.{Event}
-use Rattle.model.specs.declared.event.Start.{Start}
 use Rattle.model.specs.declared.event.Start.TheVariants.{Indices}
-use Rattle.model.specs.declared.families.Flight.{Flight}
 use Rattle.model.specs.declared.families.Flight as flights
-use Rattle.model.specs.declared.families.Registry.{Registry}
 use Rattle.model.specs.declared.families.Registry as registries
 use Rattle.model.specs.declared.families.indices.IndexStart.{IndexStart}
 use Rattle.model.specs.declared.families.indices.IndexStart.TheVariants.{Release}
-use Rattle.model.specs.declared.party.Party.{Party}
 use Rattle.model.specs.declared.turn.Kind as kinds
-use Rattle.model.specs.Coding.{Coding}
-use Rattle.model.specs.Families.{first_of, begin_rows, step_of, beside_of, after_of, going_rows}
 use Rattle.model.specs.Families.Indices.Calls.{after}
 use Rattle.model.specs.Families.Indices.Opening.{call_rows, kept_rows}
-use Rattle.model.specs.Families.Indices.Promises.{KeepsHolders, IsIndexSet}
+use Rattle.model.specs.Families.Indices.Promises.{KeepsHolders}
 use Rattle.model.specs.Families.Indices.Steps.{ended, effects, frees, wrote}
-use Rattle.model.specs.Promises.{IsKeptBy}
-use Rattle.model.specs.Promises.Families.{promise_of}
-use Rattle.model.specs.Rows.{first_row}
-use Rattle.model.specs.Step.{answer_in}
-use Rattle.model.specs.Turns.{step_in}
-use Rattle.model.specs.World.{Trace}
 use Rattle.model.proofs.Frame as frame
-use Rattle.model.proofs.Scenes.{stands_there}
 use Rattle.laws_indices.proofs.Core as core
 use Rattle.laws_indices.proofs.Invariant.{IndexSet, Represents, FlightAt, family}
 use Rattle.laws_indices.proofs.Kept.{kept_on}

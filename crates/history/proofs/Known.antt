@@ -1,25 +1,15 @@
 -- Whose events they are: those of a party, those of the parties of a seat, and what may be late.
-use Rattle.std.proofs.Common.{◌≡◌, ◌≢◌, inl, inr, ⊎_elim, ℕ, zero, suc, ◌+◌, ◌<◌, Option, Some, None, List, [], ◌∷◌}
-use Rattle.std.proofs.Common.{◌++◌, length, refl, sym, ap, subst, ◌∙◌, arith, append_assoc, append-nil, sum_by, ◌==◌}
-use Rattle.std.proofs.Common.{true, false, if◌then◌else◌, ◌≤◌, ◌⊎◌}
-use Rattle.std.proofs.lemmas.Bool.{cases_eq}
-use Rattle.std.proofs.lemmas.Bool.Decides.{nat_tests}
-use Rattle.std.proofs.lemmas.List.Sums.{sum_by-append, sum_by-cons}
-use Rattle.std.specs.List.{AllByRecursion}
+use Rattle.history.proofs.Names.{◌≡◌, ◌≢◌, inl, inr, ⊎_elim, ℕ, zero, suc, ◌+◌, ◌<◌, Option, Some, None, List, []}
+use Rattle.history.proofs.Names.{◌∷◌, ◌++◌, length, refl, sym, ap, subst, ◌∙◌, arith, append_assoc, append-nil}
+use Rattle.history.proofs.Names.{sum_by, ◌==◌, true, false, if◌then◌else◌, ◌≤◌, ◌⊎◌, cases_eq, nat_tests}
+use Rattle.history.proofs.Names.{sum_by-append, sum_by-cons, AllByRecursion, PoppedNone, Event, Acted, whose, Trace}
+use Rattle.history.proofs.Names.{Start, Flight, Kind}
 use mathlib.Core.Option.{some, some-ne-none}
 use lib.ListN.{get_elem?}
-use Rattle.model.specs.declared.event.Answer.TheVariants.{PoppedNone}
-use Rattle.model.specs.declared.event.Event.{Event}
-use Rattle.model.specs.declared.event.Event.TheVariants.{Acted}
 use Rattle.model.specs.declared.families.Flight as flights
 use Rattle.model.specs.declared.families.queues.calls.OverflowCall as overflows
 use Rattle.model.specs.declared.families.queues.calls.QueueFlight.TheVariants.{Overflow}
-use Rattle.model.specs.Reading.{whose}
-use Rattle.model.specs.World.{Trace}
 use Rattle.history.specs.declared.view.View.{View}
-use Rattle.model.specs.declared.event.Start.{Start}
-use Rattle.model.specs.declared.families.Flight.{Flight}
-use Rattle.model.specs.declared.turn.Kind.{Kind}
 use Rattle.model.specs.declared.turn.Kind as kinds
 use Rattle.history.specs.History.{IsBeginning, Fits, call_in, IsLate, IsLateFor, MayBeLate}
 use Rattle.history.specs.Known.{own_of, events_by, by_party, owned, if_owned}

@@ -1,11 +1,7 @@
 -- Which party holds what a pass holds, where what it took and gave back is read from what it made: one of its own.
-use Rattle.std.proofs.Common.{◌≡◌, ◌≢◌, ◌≤◌, ⊎_elim, ℕ, ◌+◌, ◌==◌, true, false, Option, Some, None, List, [], ◌∷◌}
-use Rattle.std.proofs.Common.{◌++◌, fold, refl, sym, ap, subst, ◌∙◌, append_assoc, append-nil, arith, sum_by}
-use Rattle.std.proofs.lemmas.Bool.{cases_eq}
-use Rattle.std.proofs.lemmas.Bool.Decides.{nat_tests}
-use Rattle.std.proofs.lemmas.List.Sums.{fold-append}
-use Rattle.model.specs.declared.event.Event.{Event}
-use Rattle.model.specs.Reading.{Each, whose}
+use Rattle.history.proofs.Names.{◌≡◌, ◌≢◌, ◌≤◌, ⊎_elim, ℕ, ◌+◌, ◌==◌, true, false, Option, Some, None, List, [], ◌∷◌}
+use Rattle.history.proofs.Names.{◌++◌, fold, refl, sym, ap, subst, ◌∙◌, append_assoc, append-nil, arith, sum_by}
+use Rattle.history.proofs.Names.{cases_eq, nat_tests, fold-append, Event, Each, whose}
 use Rattle.history.specs.Known.{owned, if_owned}
 use Rattle.history.proofs.Known.{sum_first}
 

@@ -1,6 +1,7 @@
 -- The rule of a machine, for all kinds and calls.
 pub mod Known
 pub mod AllSeen
+mod Names
 pub mod Reached
 pub mod Calls
 pub mod StillFits

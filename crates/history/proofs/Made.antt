@@ -1,9 +1,6 @@
 -- What a call that is told of step by step has made from its begin on.
-use Rattle.std.proofs.Common.{◌≡◌, ◌⊎◌, inl, inr, ℕ, Option, Some, None, IfSome, List, [], ◌∷◌, ◌++◌, refl, sym, ap, subst, ◌∙◌, append_assoc, append-nil}
-use Rattle.model.specs.declared.event.Event.{Event}
-use Rattle.model.specs.declared.event.Event.TheVariants.{Begun}
-use Rattle.model.specs.declared.event.Start.{Start}
-use Rattle.model.specs.declared.families.Flight.{Flight}
+use Rattle.history.proofs.Names.{◌≡◌, ◌⊎◌, inl, inr, ℕ, Option, Some, None, IfSome, List, [], ◌∷◌, ◌++◌, refl, sym}
+use Rattle.history.proofs.Names.{ap, subst, ◌∙◌, append_assoc, append-nil, Event, Begun, Start, Flight}
 use Rattle.history.specs.declared.view.View.{View}
 use Rattle.history.specs.Stages.{Since, opened}
 

@@ -1,52 +1,30 @@
 -- The calls on the overflowing queue as calls of the model. What a push has written is read from the machine, since a pop
 -- may have written its act.
-use Rattle.std.proofs.Common.{inl, ◌≡◌, ◌≢◌, ℕ, ◌+◌, ◌-◌, ◌^◌, ◌%◌, ◌<◌, ◌==◌, Bool, true, false, cond, Option, Some}
-use Rattle.std.proofs.Common.{None, List, [], ◌∷◌, ◌++◌, get_or, slice_index, fold, refl, sym, ap, subst, ◌∙◌}
-use Rattle.std.proofs.Common.{append_assoc, append-nil, arith}
-use Rattle.std.proofs.lemmas.Bool.Decides.{nat_tests}
-use Rattle.std.specs.List.{AllByRecursion}
-use Rattle.steps.specs.Ask.{written}
-use Rattle.steps.specs.declared.ask.Ask.{Ask}
-use Rattle.steps.specs.declared.ask.Op.TheVariants.{Load, Store, Exchange}
-use Rattle.steps.specs.declared.ask.After.{After}
-use Rattle.steps.specs.declared.ask.After.TheVariants.{GoOn, Done}
+use Rattle.history.proofs.Names.{inl, ◌≡◌, ◌≢◌, ℕ, ◌+◌, ◌-◌, ◌^◌, ◌%◌, ◌<◌, ◌==◌, Bool, true, false, cond, Option}
+use Rattle.history.proofs.Names.{Some, None, List, [], ◌∷◌, ◌++◌, get_or, slice_index, fold, refl, sym, ap, subst}
+use Rattle.history.proofs.Names.{◌∙◌, append_assoc, append-nil, arith, nat_tests, AllByRecursion, written, Ask}
+use Rattle.history.proofs.Names.{Exchange, After, GoOn, OneWord, Producer, after_position, distance, Answer}
+use Rattle.history.proofs.Names.{PoppedNone, PoppedIndex, Event, Published, HandedOut, Acted, Start, Queues, Flight}
+use Rattle.history.proofs.Names.{QueueStart, PushIndex, Effect, Quiet, Acts, Publishes, PublishesAndActs, HandsOut}
+use Rattle.history.proofs.Names.{TakesOut, MakesRoom, Coding, after_of, ask_of, popped, overflow_push_effect}
+use Rattle.history.proofs.Names.{acts_if_done, Open, longer, own_after, old_of, World, Trace, stands_there}
+use Rattle.history.proofs.Names.{IsFreshOver, overflow_wrote, layout, free, answered, KeepsRule}
+use Rattle.steps.specs.declared.ask.Op.TheVariants.{Load, Store}
+use Rattle.steps.specs.declared.ask.After.TheVariants.{Done}
 use Rattle.steps.specs.declared.ask.Want.TheVariants as wants
-use Rattle.steps.specs.declared.copied.OneWord.{OneWord}
 use Rattle.steps.specs.declared.queues.overflow.Push.{Push as Pushing}
 use Rattle.steps.specs.declared.queues.overflow.PushEnd.{PushEnd}
 use Rattle.steps.specs.declared.queues.overflow.PushEnd.TheVariants.{Added, Own, Oldest}
 use Rattle.steps.specs.declared.queues.overflow.PushStage as pushes
-use Rattle.steps.specs.declared.queues.roles.Role.TheVariants.{Producer}
-use Rattle.steps.specs.Queues.Ring.{after_position, distance}
-use Rattle.steps.specs.Queues.Overflow.{cell_word, first_push, at_push, push_asks, push_want, push_takes, push_after, push_keeps, push_kept, push_answer}
-use Rattle.model.specs.declared.event.Answer.{Answer}
-use Rattle.model.specs.declared.event.Answer.TheVariants.{PoppedNone, PoppedIndex}
-use Rattle.model.specs.declared.event.Event.{Event}
-use Rattle.model.specs.declared.event.Event.TheVariants.{Published, HandedOut, Acted}
+use Rattle.steps.specs.Queues.Overflow.{cell_word, first_push, at_push, push_asks, push_want, push_takes, push_after}
+use Rattle.steps.specs.Queues.Overflow.{push_keeps, push_kept, push_answer}
 use Rattle.model.specs.declared.event.Item.TheVariants.{Index}
-use Rattle.model.specs.declared.event.Start.{Start}
-use Rattle.model.specs.declared.event.Start.TheVariants.{Queues}
-use Rattle.model.specs.declared.families.Flight.{Flight}
 use Rattle.model.specs.declared.families.queues.QueueKind as queues
-use Rattle.model.specs.declared.families.queues.QueueStart.{QueueStart}
-use Rattle.model.specs.declared.families.queues.QueueStart.TheVariants.{PushIndex}
-use Rattle.model.specs.declared.families.queues.effects.Effect.{Effect}
-use Rattle.model.specs.declared.families.queues.effects.Effect.TheVariants.{Quiet, Acts, Publishes, PublishesAndActs, HandsOut, TakesOut, MakesRoom}
 use Rattle.model.specs.declared.turn.Kind.TheVariants as kinds
-use Rattle.model.specs.Coding.{Coding}
-use Rattle.model.specs.Families.{after_of, ask_of}
-use Rattle.model.specs.Families.Queues.Calls.{popped}
-use Rattle.model.specs.Families.Queues.Steps.{effects_of, overflow_push_effect, acts_if_done}
-use Rattle.model.specs.Reading.{Open, longer, own_after}
-use Rattle.model.specs.Turns.{old_of}
-use Rattle.model.specs.World.{World, Trace}
-use Rattle.model.proofs.Scenes.{stands_there}
-use Rattle.laws_queues.proofs.Overflow.Knows.{IsFreshOver, overflow_wrote}
+use Rattle.model.specs.Families.Queues.Steps.{effects_of}
 use Rattle.laws_queues.proofs.Queues.Core.{Core, word_at}
 use Rattle.laws_queues.proofs.Queues.Invariant.{family}
-use Rattle.laws_queues.proofs.Queues.Knows.{layout, free}
 use Rattle.laws_queues.proofs.Queues.Sound.{kept_is}
-use Rattle.threaded.specs.Driver.{answered, KeepsRule}
 use Rattle.history.specs.declared.view.View.{View}
 use Rattle.history.specs.History.{IsMachine, IsRun}
 use Rattle.history.specs.Known.{events_by}

@@ -1,57 +1,35 @@
 -- Who writes what of the overflowing queue, and where: the producer alone publishes, where at most the capacity waits, and
 -- what is taken out is what waits first.
-use Rattle.std.proofs.Common.{◌≡◌, inl, inr, ℕ, ◌+◌, ◌%◌, ◌<◌, ◌==◌, Bool, true, false, cond, Option, Some, None, List}
-use Rattle.std.proofs.Common.{[], ◌∷◌, ◌++◌, get_or, length, map, slice_index, refl, sym, ap, subst, ◌∙◌, append_assoc}
-use Rattle.std.proofs.Common.{append-nil, arith}
-use Rattle.std.proofs.lemmas.Bool.Decides.{nat_tests}
-use Rattle.std.proofs.lemmas.List.{length-map}
-use Rattle.std.proofs.lemmas.List.Sums.{fold-append}
-use Rattle.steps.specs.declared.copied.OneWord.{OneWord}
+use Rattle.history.proofs.Names.{◌≡◌, inl, inr, ℕ, ◌+◌, ◌%◌, ◌<◌, ◌==◌, Bool, true, false, cond, Option, Some, None}
+use Rattle.history.proofs.Names.{List, [], ◌∷◌, ◌++◌, get_or, length, map, slice_index, refl, sym, ap, subst, ◌∙◌}
+use Rattle.history.proofs.Names.{append_assoc, append-nil, arith, nat_tests, length-map, fold-append, OneWord}
+use Rattle.history.proofs.Names.{Producer, Answer, PoppedNone, Event, Published, HandedOut, Acted, Item, Start}
+use Rattle.history.proofs.Names.{Queues, Flight, PushIndex, Pop, OnRole, Values, Length, Effect, Quiet, Acts}
+use Rattle.history.proofs.Names.{Publishes, PublishesAndActs, HandsOut, TakesOut, MakesRoom, Going, Party, Coding}
+use Rattle.history.proofs.Names.{ask_of, beside_of, is_question, words_of_index, answer_in, producer_after}
+use Rattle.history.proofs.Names.{consumer_after, producer_of, consumer_of, waiting, overflow_push_effect}
+use Rattle.history.proofs.Names.{overflow_pop_effect, takes_effect, acts_if_done, party_of, Each, step_in, old_of}
+use Rattle.history.proofs.Names.{Trace, capacity_error, AreRight, Each-nil, stands_there, oldest, KnowsOverflowPush}
+use Rattle.history.proofs.Names.{KnowsOverflowPop, waiting_is, layout, free, admitted_fits}
 use Rattle.steps.specs.declared.queues.overflow.Pop.{Pop as Popping}
 use Rattle.steps.specs.declared.queues.overflow.PushStage as pushes
 use Rattle.steps.specs.declared.routine.Running.{Running}
 use Rattle.steps.specs.Queues.Overflow.{cell_word, push_asks, pop_asks}
 use Rattle.steps.specs.declared.queues.overflow.PopStage as pops
-use Rattle.steps.specs.declared.queues.roles.Role.TheVariants.{Producer}
-use Rattle.model.specs.declared.event.Answer.{Answer}
-use Rattle.model.specs.declared.event.Answer.TheVariants.{PoppedNone}
-use Rattle.model.specs.declared.event.Event.{Event}
-use Rattle.model.specs.declared.event.Event.TheVariants.{Published, HandedOut, Acted}
-use Rattle.model.specs.declared.event.Item.{Item}
 use Rattle.model.specs.declared.event.Item.TheVariants.{Index}
-use Rattle.model.specs.declared.event.Start.{Start}
-use Rattle.model.specs.declared.event.Start.TheVariants.{Queues}
-use Rattle.model.specs.declared.families.Flight.{Flight}
 use Rattle.model.specs.declared.families.Flight as flights
 use Rattle.model.specs.declared.families.queues.QueueKind as queues
-use Rattle.model.specs.declared.families.queues.QueueStart.TheVariants.{PushIndex, Pop}
 use Rattle.model.specs.declared.families.queues.calls.OverflowCall as overflows
-use Rattle.model.specs.declared.families.queues.calls.QueueFlight.TheVariants.{Role as OnRole, Indices, Values, Overflow, Length}
-use Rattle.model.specs.declared.families.queues.effects.Effect.{Effect}
-use Rattle.model.specs.declared.families.queues.effects.Effect.TheVariants.{Quiet, Acts, Publishes, PublishesAndActs, HandsOut, TakesOut, MakesRoom}
-use Rattle.model.specs.declared.party.Doing.TheVariants.{Going}
-use Rattle.model.specs.declared.party.Party.{Party}
+use Rattle.model.specs.declared.families.queues.calls.QueueFlight.TheVariants.{Indices, Overflow}
 use Rattle.model.specs.declared.turn.Kind.TheVariants as kinds
-use Rattle.model.specs.Coding.{Coding}
-use Rattle.model.specs.Families.{ask_of, beside_of, is_question}
-use Rattle.model.specs.Families.Queues.Calls.{after, words_of_index}
-use Rattle.model.specs.Step.{answer_in}
-use Rattle.model.specs.Families.Queues.Reading.{producer_after, consumer_after, producer_of, consumer_of, waiting}
-use Rattle.model.specs.Families.Queues.Steps.{effects_of, overflow_push_effect, overflow_pop_effect, takes_effect, acts_if_done}
-use Rattle.model.specs.Parties.{party_of}
-use Rattle.model.specs.Reading.{Each}
-use Rattle.model.specs.Turns.{step_in, old_of}
-use Rattle.model.specs.World.{Trace, opening, capacity_error}
+use Rattle.model.specs.Families.Queues.Calls.{after}
+use Rattle.model.specs.Families.Queues.Steps.{effects_of}
+use Rattle.model.specs.World.{opening}
 use Rattle.model.proofs.Frame as frame
-use Rattle.model.proofs.Readings.{AreRight, Each-nil}
-use Rattle.model.proofs.Scenes.{stands_there}
-use Rattle.laws_queues.proofs.Overflow.Core.{oldest}
-use Rattle.laws_queues.proofs.Overflow.Knows.{KnowsOverflowPush, KnowsOverflowPop}
 use Rattle.laws_queues.proofs.Overflow.Waiting.{Pushing}
 use Rattle.laws_queues.proofs.Queues.Core.{Core, Good, word_at}
-use Rattle.laws_queues.proofs.Queues.Invariant.{family, waiting_is}
-use Rattle.laws_queues.proofs.Queues.Knows.{layout, free}
-use Rattle.laws_queues.proofs.Queues.Sound.{kept_is, opening_sound, admitted_fits, fresh_laws, IsFreshTurn}
+use Rattle.laws_queues.proofs.Queues.Invariant.{family}
+use Rattle.laws_queues.proofs.Queues.Sound.{kept_is, opening_sound, fresh_laws, IsFreshTurn}
 use Rattle.history.specs.History.{IsRun, IsHistory}
 use Rattle.history.specs.Overflow.{ByOverHolder}
 use Rattle.history.specs.Roles.{ByHolderOf}

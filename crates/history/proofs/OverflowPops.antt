@@ -1,46 +1,26 @@
 -- The pop of the overflowing queue as a call of the model. The value that it takes out is the one that it has read, for as
 -- long as the read position stays.
-use Rattle.std.proofs.Common.{inl, ◌≡◌, ◌≢◌, ℕ, ◌+◌, ◌^◌, ◌%◌, ◌<◌, ◌==◌, Bool, true, false, cond, Option, Some, None}
-use Rattle.std.proofs.Common.{List, [], ◌∷◌, ◌++◌, get_or, length, slice_index, refl, sym, ap, subst, ◌∙◌, arith}
-use Rattle.std.proofs.lemmas.Bool.Decides.{nat_tests}
-use Rattle.steps.specs.declared.ask.Ask.{Ask}
-use Rattle.steps.specs.declared.ask.Op.TheVariants.{Load, Exchange}
-use Rattle.steps.specs.declared.ask.After.{After}
-use Rattle.steps.specs.declared.ask.After.TheVariants.{GoOn, Done}
+use Rattle.history.proofs.Names.{inl, ◌≡◌, ◌≢◌, ℕ, ◌+◌, ◌^◌, ◌%◌, ◌<◌, ◌==◌, Bool, true, false, cond, Option, Some}
+use Rattle.history.proofs.Names.{None, List, [], ◌∷◌, ◌++◌, get_or, length, slice_index, refl, sym, ap, subst, ◌∙◌}
+use Rattle.history.proofs.Names.{arith, nat_tests, Ask, Exchange, After, GoOn, OneWord, Consumer, after_position}
+use Rattle.history.proofs.Names.{Answer, PoppedIndex, Event, HandedOut, Acted, Item, Start, Queues, Flight, PushIndex}
+use Rattle.history.proofs.Names.{Pop, Acts, HandsOut, Coding, after_of, ask_of, beside_of, popped}
+use Rattle.history.proofs.Names.{overflow_pop_effect, takes_effect, old_of, World, Trace, stands_there, oldest}
+use Rattle.history.proofs.Names.{KnowsOverflowPop, free, answered, KeepsRule}
+use Rattle.steps.specs.declared.ask.Op.TheVariants.{Load}
+use Rattle.steps.specs.declared.ask.After.TheVariants.{Done}
 use Rattle.steps.specs.declared.ask.Want.TheVariants as wants
-use Rattle.steps.specs.declared.copied.OneWord.{OneWord}
 use Rattle.steps.specs.declared.queues.overflow.Pop.{Pop as Popping}
 use Rattle.steps.specs.declared.queues.overflow.PopStage as pops
-use Rattle.steps.specs.declared.queues.roles.Role.TheVariants.{Consumer}
-use Rattle.steps.specs.Queues.Ring.{after_position}
-use Rattle.steps.specs.Queues.Overflow.{cell_word, first_pop, at_pop, pop_asks, pop_want, pop_takes, pop_after, pop_keeps, pop_kept, pop_answer}
-use Rattle.model.specs.declared.event.Answer.{Answer}
-use Rattle.model.specs.declared.event.Answer.TheVariants.{PoppedIndex}
-use Rattle.model.specs.declared.event.Event.{Event}
-use Rattle.model.specs.declared.event.Event.TheVariants.{HandedOut, Acted}
-use Rattle.model.specs.declared.event.Item.{Item}
+use Rattle.steps.specs.Queues.Overflow.{cell_word, first_pop, at_pop, pop_asks, pop_want, pop_takes, pop_after}
+use Rattle.steps.specs.Queues.Overflow.{pop_keeps, pop_kept, pop_answer}
 use Rattle.model.specs.declared.event.Item.TheVariants.{Index}
-use Rattle.model.specs.declared.event.Start.{Start}
-use Rattle.model.specs.declared.event.Start.TheVariants.{Queues}
-use Rattle.model.specs.declared.families.Flight.{Flight}
 use Rattle.model.specs.declared.families.queues.QueueKind as queues
-use Rattle.model.specs.declared.families.queues.QueueStart.TheVariants.{PushIndex, Pop}
-use Rattle.model.specs.declared.families.queues.effects.Effect.TheVariants.{Acts, HandsOut}
 use Rattle.model.specs.declared.turn.Kind.TheVariants as kinds
-use Rattle.model.specs.Coding.{Coding}
-use Rattle.model.specs.Families.{after_of, ask_of, beside_of}
-use Rattle.model.specs.Families.Queues.Calls.{popped}
-use Rattle.model.specs.Families.Queues.Steps.{effects_of, overflow_pop_effect, takes_effect}
-use Rattle.model.specs.Turns.{old_of}
-use Rattle.model.specs.World.{World, Trace}
-use Rattle.model.proofs.Scenes.{stands_there}
-use Rattle.laws_queues.proofs.Overflow.Core.{oldest}
-use Rattle.laws_queues.proofs.Overflow.Knows.{KnowsOverflowPop}
+use Rattle.model.specs.Families.Queues.Steps.{effects_of}
 use Rattle.laws_queues.proofs.Queues.Core.{word_at}
 use Rattle.laws_queues.proofs.Queues.Invariant.{family}
-use Rattle.laws_queues.proofs.Queues.Knows.{free}
 use Rattle.laws_queues.proofs.Queues.Sound.{kept_is}
-use Rattle.threaded.specs.Driver.{answered, KeepsRule}
 use Rattle.history.specs.declared.view.View.{View}
 use Rattle.history.specs.History.{IsMachine, call_in}
 use Rattle.history.specs.Known.{events_by}

@@ -1,44 +1,23 @@
 -- What the overflowing queue owes, from the laws of the queues: a pop may write, for a push that waits, that it acts.
-use Rattle.std.proofs.Common.{◌≡◌, ◌≢◌, ⊎_elim, ℕ, ◌+◌, ◌==◌, Bool, true, false, cond, Option, Some, None, List, []}
-use Rattle.std.proofs.Common.{◌∷◌, ◌++◌, length, slice_index, sum_by, refl, sym, ap, subst, ◌∙◌, append-nil, arith}
-use Rattle.std.proofs.lemmas.Bool.{cases_eq}
+use Rattle.history.proofs.Names.{◌≡◌, ◌≢◌, ⊎_elim, ℕ, ◌+◌, ◌==◌, Bool, true, false, cond, Option, Some, None, List}
+use Rattle.history.proofs.Names.{[], ◌∷◌, ◌++◌, length, slice_index, sum_by, refl, sym, ap, subst, ◌∙◌, append-nil}
+use Rattle.history.proofs.Names.{arith, cases_eq, Answer, PoppedNone, Event, Acted, Item, Start, Queues, Flight}
+use Rattle.history.proofs.Names.{Registry, QueueStart, PushIndex, Pop, Roles, QueueFlight, OnRole, Values, Length}
+use Rattle.history.proofs.Names.{Effect, Quiet, Acts, Publishes, PublishesAndActs, HandsOut, TakesOut, MakesRoom}
+use Rattle.history.proofs.Names.{Party, Coding, step_of, beside_of, after_of, going_rows, read_word, holds, effect_of}
+use Rattle.history.proofs.Names.{pending, overflow_push_effect, overflow_pop_effect, takes_effect, acts_if_done}
+use Rattle.history.proofs.Names.{party_of, producer_of, whose, first_row, answer_in, World, Trace, stands_there}
 use Rattle.steps.specs.declared.queues.overflow.PushStage as pushes
 use Rattle.steps.specs.declared.queues.overflow.PopStage as pops
-use Rattle.model.specs.declared.event.Answer.{Answer}
-use Rattle.model.specs.declared.event.Answer.TheVariants.{PoppedNone}
-use Rattle.model.specs.declared.event.Event.{Event}
-use Rattle.model.specs.declared.event.Event.TheVariants.{Acted}
-use Rattle.model.specs.declared.event.Item.{Item}
-use Rattle.model.specs.declared.event.Start.{Start}
-use Rattle.model.specs.declared.event.Start.TheVariants.{Queues}
-use Rattle.model.specs.declared.families.Flight.{Flight}
 use Rattle.model.specs.declared.families.Flight as flights
-use Rattle.model.specs.declared.families.Registry.{Registry}
 use Rattle.model.specs.declared.families.Registry as registries
 use Rattle.model.specs.declared.families.queues.QueueKind as queues
-use Rattle.model.specs.declared.families.queues.QueueStart.{QueueStart}
-use Rattle.model.specs.declared.families.queues.QueueStart.TheVariants.{PushIndex, Pop}
-use Rattle.model.specs.declared.families.queues.Roles.{Roles}
 use Rattle.model.specs.declared.families.queues.calls.OverflowCall as overflows
-use Rattle.model.specs.declared.families.queues.calls.QueueFlight.{QueueFlight}
-use Rattle.model.specs.declared.families.queues.calls.QueueFlight.TheVariants.{Role as OnRole, Indices, Values, Overflow, Length}
-use Rattle.model.specs.declared.families.queues.effects.Effect.{Effect}
-use Rattle.model.specs.declared.families.queues.effects.Effect.TheVariants.{Quiet, Acts, Publishes, PublishesAndActs, HandsOut, TakesOut, MakesRoom}
-use Rattle.model.specs.declared.party.Party.{Party}
+use Rattle.model.specs.declared.families.queues.calls.QueueFlight.TheVariants.{Indices, Overflow}
 use Rattle.model.specs.declared.turn.Kind.TheVariants as kinds
-use Rattle.model.specs.Coding.{Coding}
-use Rattle.model.specs.Families.{step_of, beside_of, after_of, going_rows}
-use Rattle.model.specs.Families.Queues.Calls.{after, read_word}
-use Rattle.model.specs.Families.Queues.Opening.{holds}
-use Rattle.model.specs.Families.Queues.Steps.{effects_of, effect_of, pending, overflow_push_effect, overflow_pop_effect, takes_effect, acts_if_done}
-use Rattle.model.specs.Parties.{party_of}
-use Rattle.model.specs.Families.Queues.Reading.{producer_of}
-use Rattle.model.specs.Reading.{whose}
-use Rattle.model.specs.Rows.{first_row}
-use Rattle.model.specs.Step.{answer_in}
-use Rattle.model.specs.World.{World, Trace}
+use Rattle.model.specs.Families.Queues.Calls.{after}
+use Rattle.model.specs.Families.Queues.Steps.{effects_of}
 use Rattle.model.proofs.Frame as frame
-use Rattle.model.proofs.Scenes.{stands_there}
 use Rattle.laws_queues.proofs.Queues.Core.{Core}
 use Rattle.laws_queues.proofs.Queues.Invariant.{family}
 use Rattle.laws_queues.proofs.Queues.Knows.{At}

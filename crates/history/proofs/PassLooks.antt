@@ -1,20 +1,14 @@
 -- A look of a pass at the whole history, under the rule of a machine.
-use Rattle.std.proofs.Common.{◌≡◌, ◌≢◌, ◌⊎◌, inl, inr, ⊎_elim, ℕ, zero, suc, ◌<◌, Option, Some, None, List, []}
-use Rattle.std.proofs.Common.{◌∷◌, ◌++◌, length, set, slice_index, slice_set, refl, sym, ap, subst, ◌∙◌, append-nil}
-use Rattle.std.proofs.Common.{arith, length-set, sum_by}
+use Rattle.history.proofs.Names.{◌≡◌, ◌≢◌, ◌⊎◌, inl, inr, ⊎_elim, ℕ, zero, suc, ◌<◌, Option, Some, None, List, []}
+use Rattle.history.proofs.Names.{◌∷◌, ◌++◌, length, set, slice_index, slice_set, refl, sym, ap, subst, ◌∙◌}
+use Rattle.history.proofs.Names.{append-nil, arith, length-set, sum_by, Allows, at_set, Event, Kind, Coding, Trace}
+use Rattle.history.proofs.Names.{Start, Flight}
 use mathlib.Core.Option.{some, some-injective}
 use lib.ListN.{get_elem?}
-use Rattle.atomic_table.specs.Table.{State, Allows}
+use Rattle.atomic_table.specs.Table.{State}
 use Rattle.atomic_table.specs.Table as table
-use Rattle.atomic_table.proofs.Lists.{at_set}
-use Rattle.model.specs.declared.event.Event.{Event}
-use Rattle.model.specs.declared.turn.Kind.{Kind}
 use Rattle.model.specs.declared.turn.Kind.TheVariants as kinds
-use Rattle.model.specs.Coding.{Coding}
-use Rattle.model.specs.World.{Trace}
 use Rattle.history.specs.declared.view.View.{View}
-use Rattle.model.specs.declared.event.Start.{Start}
-use Rattle.model.specs.declared.families.Flight.{Flight}
 use Rattle.history.specs.History.{IsBeginning, IsMachine, Fits, HasSeenOf, IsLate}
 use Rattle.history.specs.Views.{Looks, LooksAt, WhenIdle}
 use Rattle.history.specs.Known.{Known, owned, events_by}

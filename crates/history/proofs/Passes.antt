@@ -1,20 +1,13 @@
 -- How passes are made of one another, and the first, under the rule of a machine.
-use Rattle.std.proofs.Common.{◌≡◌, ◌≢◌, ◌⊎◌, inl, inr, ⊎_elim, ℕ, zero, suc, ◌+◌, ◌<◌, ◌≤◌, ◌==◌, true, false, Option}
-use Rattle.std.proofs.Common.{Some, None, IfSome, List, [], ◌∷◌, ◌++◌, length, replicate, get_or, set, refl, sym, ap}
-use Rattle.std.proofs.Common.{subst, ◌∙◌, append_assoc, append-nil, arith, length-set, sum_by}
+use Rattle.history.proofs.Names.{◌≡◌, ◌≢◌, ◌⊎◌, inl, inr, ⊎_elim, ℕ, zero, suc, ◌+◌, ◌<◌, ◌≤◌, ◌==◌, true, false}
+use Rattle.history.proofs.Names.{Option, Some, None, IfSome, List, [], ◌∷◌, ◌++◌, length, replicate, get_or, set}
+use Rattle.history.proofs.Names.{refl, sym, ap, subst, ◌∙◌, append_assoc, append-nil, arith, length-set, sum_by}
+use Rattle.history.proofs.Names.{Splits, Joins, at_set, Event, Kind, Coding, IsCoding, cases_eq, nat_tests}
+use Rattle.history.proofs.Names.{sum_by-append, opening_of, Trace, capacity_error}
 use mathlib.Core.Option.{some, some-injective, some-ne-none}
 use lib.ListN.{get_elem?}
-use Rattle.atomic_table.specs.Table.{State, Splits, Joins, opening}
-use Rattle.atomic_table.proofs.Lists.{at_set}
-use Rattle.model.specs.declared.event.Event.{Event}
-use Rattle.model.specs.declared.turn.Kind.{Kind}
-use Rattle.model.specs.Coding.{Coding, IsCoding}
-use Rattle.std.proofs.lemmas.Bool.{cases_eq}
-use Rattle.std.proofs.lemmas.Bool.Decides.{nat_tests}
-use Rattle.std.proofs.lemmas.List.Sums.{sum_by-append}
-use Rattle.model.specs.Families.{opening_of}
+use Rattle.atomic_table.specs.Table.{State, opening}
 use Rattle.model.specs.World as worlds
-use Rattle.model.specs.World.{Trace, capacity_error}
 use Rattle.history.specs.declared.view.View.{View}
 use Rattle.history.specs.History.{IsBeginning, IsMachine, Fits, HasSeenOf, IsLate, call_in}
 use Rattle.history.specs.Views.{first_view, left_view, right_view, joined_view, spent_view}

@@ -1,43 +1,28 @@
 -- The pushes and pops of the index queue as calls of the model.
-use Rattle.std.proofs.Common.{inl, not, ◌≡◌, ◌≢◌, nat_lt, ℕ, ◌+◌, ◌-◌, ◌^◌, ◌%◌, ◌*◌, ◌<◌, ◌==◌, ◌||◌, cond, Bool}
-use Rattle.std.proofs.Common.{true, false, Option, Some, None, List, [], ◌∷◌, ◌++◌, refl, sym, ap, subst, ◌∙◌, arith}
-use Rattle.std.proofs.lemmas.Bool.Decides.{nat_tests}
-use Rattle.steps.specs.Ask.{written}
-use Rattle.steps.specs.declared.ask.Ask.{Ask}
+use Rattle.history.proofs.Names.{inl, not, ◌≡◌, ◌≢◌, nat_lt, ℕ, ◌+◌, ◌-◌, ◌^◌, ◌%◌, ◌*◌, ◌<◌, ◌==◌, ◌||◌, cond, Bool}
+use Rattle.history.proofs.Names.{true, false, Option, Some, None, List, [], ◌∷◌, ◌++◌, refl, sym, ap, subst, ◌∙◌}
+use Rattle.history.proofs.Names.{arith, nat_tests, written, Ask, After, GoOn, OneWord, after_position, distance}
+use Rattle.history.proofs.Names.{Answer, Truth, Event, Published, HandedOut, Acted, Queues, Flight, PushIndex, Pop}
+use Rattle.history.proofs.Names.{Coding, after_of, words_of_index, popped, push_effect, pop_effect, answered}
+use Rattle.history.proofs.Names.{KeepsRule, IsFresh, Producer, Consumer, holds}
 use Rattle.steps.specs.declared.ask.Op.TheVariants.{Load, Store}
-use Rattle.steps.specs.declared.ask.After.{After}
-use Rattle.steps.specs.declared.ask.After.TheVariants.{GoOn, Done}
+use Rattle.steps.specs.declared.ask.After.TheVariants.{Done}
 use Rattle.steps.specs.declared.ask.Want.TheVariants as wants
-use Rattle.steps.specs.declared.copied.OneWord.{OneWord}
 use Rattle.steps.specs.declared.queues.ring.Push.{Push}
 use Rattle.steps.specs.declared.queues.ring.PushStage as pushes
 use Rattle.steps.specs.declared.queues.ring.PopStage as pops
 use Rattle.steps.specs.Copied.{kept_in_one}
 use Rattle.steps.specs.Queues.Ring.{first_push, first_pop, cell_word, word_at, at_push, push_asks, push_want}
-use Rattle.steps.specs.Queues.Ring.{push_takes, push_after, after_position, distance, at_pop, pop_asks, pop_want}
+use Rattle.steps.specs.Queues.Ring.{push_takes, push_after, at_pop, pop_asks, pop_want}
 use Rattle.steps.specs.Queues.Ring.{pop_takes, pop_after, pop_kept, pop_keeps, pop_answer}
-use Rattle.model.specs.declared.event.Answer.{Answer}
-use Rattle.model.specs.declared.event.Answer.TheVariants.{Truth}
-use Rattle.model.specs.declared.event.Event.{Event}
-use Rattle.model.specs.declared.event.Event.TheVariants.{Published, HandedOut, Acted}
 use Rattle.model.specs.declared.event.Item.TheVariants.{Index}
-use Rattle.model.specs.declared.event.Start.TheVariants.{Queues}
-use Rattle.model.specs.declared.families.Flight.{Flight}
-use Rattle.model.specs.declared.families.queues.QueueStart.TheVariants.{PushIndex, Pop}
-use Rattle.model.specs.Coding.{Coding}
-use Rattle.model.specs.Families.{after_of}
-use Rattle.model.specs.Families.Queues.Calls.{words_of_index, popped}
-use Rattle.model.specs.Families.Queues.Steps.{effects_of, push_effect, pop_effect}
-use Rattle.threaded.specs.Driver.{answered, KeepsRule}
-use Rattle.laws_queues.proofs.Ring.Knows.{IsFresh}
+use Rattle.model.specs.Families.Queues.Steps.{effects_of}
 use Rattle.history.specs.Stages.{Calling, At, Ends, Over}
 use Rattle.model.specs.declared.turn.Kind.TheVariants as kinds
 use Rattle.history.specs.declared.view.View.{View}
 use Rattle.history.specs.History.{IsMachine}
 use Rattle.history.specs.Roles.{HasRole}
-use Rattle.steps.specs.declared.queues.roles.Role.TheVariants.{Producer, Consumer}
 use Rattle.model.specs.declared.families.queues.QueueKind.TheVariants.{IndexQueue}
-use Rattle.model.specs.Families.Queues.Opening.{holds}
 use Rattle.history.specs.Queues.{push_skips, PushStage, push_wrote, pushes_index, Taking, PopStage, pop_wrote}
 use Rattle.history.specs.Queues.{pops_index}
 use Rattle.history.proofs.Drives.{IsCallOf, goes, keeps, keeps_all}

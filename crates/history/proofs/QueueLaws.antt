@@ -1,14 +1,7 @@
 -- A history of a queue is linearizable as its list: a bounded one, or the overflowing one.
-use Rattle.std.proofs.Common.{ℕ, List, sym, subst}
-use Rattle.model.specs.declared.event.Event.{Event}
-use Rattle.model.specs.declared.families.queues.QueueKind.{QueueKind}
+use Rattle.history.proofs.Names.{ℕ, List, sym, subst, Event, QueueKind, Coding, IsLinearizable, as_list, IsLinearized}
+use Rattle.history.proofs.Names.{run_linearizable, Trace, machine_kind}
 use Rattle.model.specs.declared.families.queues.QueueKind.TheVariants.{IndexQueue, Overflow, Queue}
-use Rattle.model.specs.Coding.{Coding}
-use Rattle.model.specs.Linearizable.{IsLinearizable}
-use Rattle.model.specs.Linearized.{as_list, IsLinearized}
-use Rattle.model.proofs.Linearizable.Kinds.{run_linearizable}
-use Rattle.model.specs.World.{Trace}
-use Rattle.laws_queues.proofs.Queues.Invariant.{machine_kind}
 use Rattle.laws_queues.proofs.Queues.Kept.{kept_on}
 use Rattle.history.specs.History.{IsHistory}
 use Rattle.history.proofs.Reached.{queue_run}

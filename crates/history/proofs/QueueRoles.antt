@@ -1,34 +1,24 @@
 -- The calls on the roles and the lengths of the index queue as calls of the model.
-use Rattle.std.proofs.Common.{inl, if◌then◌else◌, ◌≡◌, ℕ, ◌+◌, ◌<◌, ◌==◌, Bool, true, false, Option, Some, None, []}
-use Rattle.std.proofs.Common.{◌++◌, refl, sym, ap, subst, ◌∙◌, arith}
-use Rattle.steps.specs.declared.ask.Ask.{Ask}
-use Rattle.steps.specs.declared.ask.Op.TheVariants.{Load, Store, Exchange}
-use Rattle.steps.specs.declared.ask.After.{After}
-use Rattle.steps.specs.declared.ask.After.TheVariants.{GoOn, Done}
+use Rattle.history.proofs.Names.{inl, if◌then◌else◌, ◌≡◌, ℕ, ◌+◌, ◌<◌, ◌==◌, Bool, true, false, Option, Some, None}
+use Rattle.history.proofs.Names.{[], ◌++◌, refl, sym, ap, subst, ◌∙◌, arith, Ask, Exchange, After, GoOn, Queues}
+use Rattle.history.proofs.Names.{Flight, Coding, after_of, first_of, opening_of, length_answer, answered, KeepsRule}
+use Rattle.history.proofs.Names.{number_waiting, first_len, at_len, len_asks, len_want, len_takes, len_after}
+use Rattle.history.proofs.Names.{Producer, Consumer, Registry, Roles, LengthOf}
+use Rattle.steps.specs.declared.ask.Op.TheVariants.{Load, Store}
+use Rattle.steps.specs.declared.ask.After.TheVariants.{Done}
 use Rattle.steps.specs.declared.ask.Want.TheVariants as wants
-use Rattle.model.specs.declared.event.Start.TheVariants.{Queues}
-use Rattle.model.specs.declared.families.Flight.{Flight}
-use Rattle.model.specs.Coding.{Coding}
-use Rattle.model.specs.Families.{after_of, first_of, opening_of}
-use Rattle.model.specs.Families.Queues.Calls.{length_answer}
-use Rattle.threaded.specs.Driver.{answered, KeepsRule}
 use Rattle.history.specs.Stages.{Calling, At, Ends}
 use Rattle.model.specs.declared.turn.Kind.TheVariants as kinds
 use Rattle.history.specs.declared.view.View.{View}
 use Rattle.history.specs.History.{IsMachine}
 use Rattle.history.specs.Roles.{role_word, holder, acquire_start, release_start, HasRole}
-use Rattle.steps.specs.Queues.Lengths.{number_waiting, first_len, at_len, len_asks, len_want, len_takes, len_after}
 use Rattle.steps.specs.Queues.Roles.{acquire_want, acquire_after, release_want, release_after}
 use Rattle.steps.specs.declared.queues.lengths.Len.{Len}
 use Rattle.steps.specs.declared.queues.lengths.LenStage as lengths
 use Rattle.steps.specs.declared.queues.roles.AcquireRole.{AcquireRole}
 use Rattle.steps.specs.declared.queues.roles.ReleaseRole.{ReleaseRole}
 use Rattle.steps.specs.declared.queues.roles.Role.{Role}
-use Rattle.steps.specs.declared.queues.roles.Role.TheVariants.{Producer, Consumer}
-use Rattle.model.specs.declared.families.Registry.{Registry}
 use Rattle.model.specs.declared.families.queues.QueueKind.TheVariants.{IndexQueue}
-use Rattle.model.specs.declared.families.queues.Roles.{Roles}
-use Rattle.model.specs.declared.families.queues.calls.LengthOf.{LengthOf}
 use Rattle.model.specs.declared.families.queues.calls.LengthOf as measures
 use Rattle.model.specs.Families.Queues.Opening.{lacks_role}
 use Rattle.history.specs.Queues.{takes_role, gives_role, length_start, counts_waiting}

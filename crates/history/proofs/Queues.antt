@@ -1,51 +1,34 @@
 -- What the bounded queues owe, from the laws of the queues, and which party may begin a call on a queue.
-use Rattle.std.proofs.Common.{◌≡◌, ℕ, ◌+◌, ◌*◌, false, Option, Some, None, IfSome, List, [], length, sum_by, fold, refl, sym, ap, subst, ◌∙◌, arith}
+use Rattle.history.proofs.Names.{◌≡◌, ℕ, ◌+◌, ◌*◌, false, Option, Some, None, IfSome, List, [], length, sum_by, fold}
+use Rattle.history.proofs.Names.{refl, sym, ap, subst, ◌∙◌, arith, Answer, Event, Item, Start, Queues, Flight}
+use Rattle.history.proofs.Names.{Registry, QueueKind, QueueStart, PushIndex, Pop, Roles, QueueFlight, OnRole, Values}
+use Rattle.history.proofs.Names.{Length, Party, Coding, first_of, step_of, beside_of, after_of, going_rows, read_in}
+use Rattle.history.proofs.Names.{cells_of, words_of_cell, IsKeptBy, Producer, Consumer, push_effect, pop_effect}
+use Rattle.history.proofs.Names.{acts_if_done, party_of, first_row, answer_in, Step, Trace, stands_there}
+use Rattle.history.proofs.Names.{machine_kind, promised_by, free, Val, encoded, Ring, of_indices, of_values, kind_of}
 use Rattle.steps.specs.declared.queues.ring.PushStage as pushes
 use Rattle.steps.specs.declared.queues.ring.PopStage as pops
-use Rattle.model.specs.declared.event.Answer.{Answer}
-use Rattle.model.specs.declared.event.Event.{Event}
-use Rattle.model.specs.declared.event.Item.{Item}
 use Rattle.model.specs.declared.event.Item.TheVariants.{Index, Value}
-use Rattle.model.specs.declared.event.Start.{Start}
-use Rattle.model.specs.declared.event.Start.TheVariants.{Queues}
-use Rattle.model.specs.declared.families.Flight.{Flight}
 use Rattle.model.specs.declared.families.Flight as flights
-use Rattle.model.specs.declared.families.Registry.{Registry}
 use Rattle.model.specs.declared.families.Registry as registries
-use Rattle.model.specs.declared.families.queues.QueueKind.{QueueKind}
 use Rattle.model.specs.declared.families.queues.QueueKind as queues
 use Rattle.model.specs.declared.families.queues.QueueKind.TheVariants.{IndexQueue}
-use Rattle.model.specs.declared.families.queues.QueueStart.{QueueStart}
-use Rattle.model.specs.declared.families.queues.QueueStart.TheVariants.{PushIndex, Push, Pop}
-use Rattle.model.specs.declared.families.queues.Roles.{Roles}
+use Rattle.model.specs.declared.families.queues.QueueStart.TheVariants.{Push}
 use Rattle.model.specs.declared.families.queues.calls.RingCall as rings
-use Rattle.model.specs.declared.families.queues.calls.QueueFlight.{QueueFlight}
-use Rattle.model.specs.declared.families.queues.calls.QueueFlight.TheVariants.{Role as OnRole, Indices, Values, Overflow, Length}
-use Rattle.model.specs.declared.party.Party.{Party}
+use Rattle.model.specs.declared.families.queues.calls.QueueFlight.TheVariants.{Indices, Overflow}
 use Rattle.model.specs.declared.turn.Kind as kinds
-use Rattle.model.specs.Coding.{Coding}
-use Rattle.model.specs.Families.{first_of, step_of, beside_of, after_of, going_rows}
-use Rattle.model.specs.Families.Queues.Calls.{after, read_in}
-use Rattle.model.specs.Families.Queues.Opening.{lacks_role, kept_rows, cells_of, words_of_cell}
+use Rattle.model.specs.Families.Queues.Calls.{after}
+use Rattle.model.specs.Families.Queues.Opening.{lacks_role, kept_rows}
 use Rattle.model.specs.Families.Queues.Promises.{IsQueue}
 use Rattle.model.specs.Families.Queues.Roles.{KeepsHolders}
-use Rattle.model.specs.Promises.{IsKeptBy}
 use Rattle.steps.specs.declared.queues.roles.Role.{Role}
-use Rattle.steps.specs.declared.queues.roles.Role.TheVariants.{Producer, Consumer}
-use Rattle.model.specs.Families.Queues.Steps.{effects_of, push_effect, pop_effect, acts_if_done}
-use Rattle.model.specs.Parties.{party_of}
-use Rattle.model.specs.Rows.{first_row}
-use Rattle.model.specs.Step.{answer_in, Step}
-use Rattle.model.specs.World.{Trace}
+use Rattle.model.specs.Families.Queues.Steps.{effects_of}
 use Rattle.model.proofs.Frame as frame
-use Rattle.model.proofs.Scenes.{stands_there}
 use Rattle.laws_queues.proofs.Queues.Core.{Core}
-use Rattle.laws_queues.proofs.Queues.Invariant.{Queue, family, machine_kind}
-use Rattle.laws_queues.proofs.Queues.Kept.{kept_on, promised_by}
-use Rattle.laws_queues.proofs.Queues.Knows.{free, At}
+use Rattle.laws_queues.proofs.Queues.Invariant.{Queue, family}
+use Rattle.laws_queues.proofs.Queues.Kept.{kept_on}
+use Rattle.laws_queues.proofs.Queues.Knows.{At}
 use Rattle.laws_queues.proofs.Queues.Sound.{kept_is, sound_on}
-use Rattle.laws_queues.proofs.Queues.Values.{Val, encoded}
-use Rattle.laws_queues.proofs.Ring.Kinds.{Ring, of_indices, of_values, kind_of}
 use Rattle.history.specs.declared.view.View.{View}
 use Rattle.history.specs.Known.{owned}
 use Rattle.history.specs.Roles.{holder, role_after, HasRole}

@@ -1,28 +1,14 @@
 -- How machines are reached, by kind: one turn more, and what is so of each kind but the two on owners.
-use Rattle.std.proofs.Common.{Bool, true, is_none, ◌≡◌, ℕ, Some, None, [], ◌∷◌, refl, sym, subst}
-use Rattle.model.specs.declared.event.Start.{Start}
-use Rattle.model.specs.declared.event.Start.TheVariants.{Container}
+use Rattle.history.proofs.Names.{Bool, true, is_none, ◌≡◌, ℕ, Some, None, [], ◌∷◌, refl, sym, subst, Start, Container}
+use Rattle.history.proofs.Names.{Flight, Registry, QueueKind, Kind, WrongCall, Turn, Begin, Next, Decide, Coding}
+use Rattle.history.proofs.Names.{IsCoding, first_of, begin_rows, want_of, is_question, call_refusal, first_row}
+use Rattle.history.proofs.Names.{IsReachedOn, after_turn, World, Trace, capacity_error, flight_in, reached_on_more}
+use Rattle.history.proofs.Names.{reached_on_opening, row_passed, machine_kind, fresh_more, fresh_opening}
 use Rattle.model.specs.declared.families.container.ContainerStart.TheVariants.{Recover}
-use Rattle.model.specs.declared.families.Flight.{Flight}
-use Rattle.model.specs.declared.families.Registry.{Registry}
-use Rattle.model.specs.declared.families.queues.QueueKind.{QueueKind}
 use Rattle.model.specs.declared.families.queues.QueueKind as queues
-use Rattle.model.specs.declared.turn.Kind.{Kind}
 use Rattle.model.specs.declared.turn.Kind.TheVariants as kinds
-use Rattle.model.specs.declared.turn.Refusal.TheVariants.{WrongCall}
-use Rattle.model.specs.declared.turn.Turn.{Turn}
-use Rattle.model.specs.declared.turn.Turn.TheVariants.{Begin, Next, Decide}
-use Rattle.model.specs.Coding.{Coding, IsCoding}
-use Rattle.model.specs.Families.{first_of, begin_rows, want_of, is_question}
-use Rattle.model.specs.Refusals.{call_refusal}
-use Rattle.model.specs.Rows.{first_row}
-use Rattle.model.specs.Turns.{IsReachedOn, after_turn}
-use Rattle.model.specs.World.{World, Trace, opening, capacity_error, flight_in}
-use Rattle.model.proofs.Reached.{reached_on_more, reached_on_opening}
-use Rattle.model.proofs.Rows.{row_passed}
+use Rattle.model.specs.World.{opening}
 use Rattle.laws_queues.specs.Fresh.{IsFreshTurn, IsFreshRun}
-use Rattle.laws_queues.proofs.Queues.Invariant.{machine_kind}
-use Rattle.laws_queues.proofs.Queues.Sound.{fresh_more, fresh_opening}
 use Rattle.laws_robust.proofs.OpenRuns.{reached_open_more, reached_open_opening}
 use Rattle.history.specs.History.{IsReachedAs, IsFreshAs, IsRun, refusal_as}
 use Rattle.history.specs.Stages.{rows_as}

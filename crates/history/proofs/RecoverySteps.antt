@@ -1,35 +1,23 @@
 -- The stages of a container's recovery: what each asks for, where it goes on, and what it has written then.
-use Rattle.std.proofs.Common.{◌≡◌, ℕ, ◌+◌, ◌<◌, ◌≤◌, ◌==◌, nat_lt, Bool, true, false, Option, Some, None, List, []}
-use Rattle.std.proofs.Common.{◌∷◌, ◌++◌, if◌then◌else◌, append_assoc, append-nil, refl, sym, ap, subst, ◌∙◌, arith}
-use Rattle.std.proofs.lemmas.Bool.Decides.{nat_tests}
-use Rattle.steps.specs.Container.Layout.{is_even, total_words}
-use Rattle.steps.specs.Container.Recover.{goes_to, recover_asks, recover_want, recover_comes_to, recover_sees, recover_raised, recover_locked, recover_takes}
-use Rattle.steps.specs.Indices.Robust.Parts.{locked, raise_want, raise_after, first_lock, lock_want, lock_after}
-use Rattle.steps.specs.Picks.{by_test}
-use Rattle.steps.specs.declared.ask.Ask.{Ask}
-use Rattle.steps.specs.declared.ask.After.{After}
-use Rattle.steps.specs.declared.ask.After.TheVariants.{GoOn, Done}
+use Rattle.history.proofs.Names.{◌≡◌, ℕ, ◌+◌, ◌<◌, ◌≤◌, ◌==◌, nat_lt, Bool, true, false, Option, Some, None, List, []}
+use Rattle.history.proofs.Names.{◌∷◌, ◌++◌, if◌then◌else◌, append_assoc, append-nil, refl, sym, ap, subst, ◌∙◌, arith}
+use Rattle.history.proofs.Names.{nat_tests, is_even, total_words, goes_to, recover_sees, locked, raise_want}
+use Rattle.history.proofs.Names.{raise_after, first_lock, lock_want, lock_after, by_test, Ask, After, GoOn, DeadOwner}
+use Rattle.history.proofs.Names.{ReleaseMode, LockIfLastIndex, Default, ReleaseState, Lock, Raise, Event, FreedOf}
+use Rattle.history.proofs.Names.{Asked, Hidden, Copied, Shown, Coding, is_question, hidden, question_of}
+use Rattle.history.proofs.Names.{raise_asks_none, lock_asks_none, data_within, answered}
+use Rattle.steps.specs.Container.Recover.{recover_asks, recover_want, recover_comes_to, recover_raised}
+use Rattle.steps.specs.Container.Recover.{recover_locked, recover_takes}
+use Rattle.steps.specs.declared.ask.After.TheVariants.{Done}
 use Rattle.steps.specs.declared.ask.Want.TheVariants as wants
-use Rattle.steps.specs.declared.container.recover.DeadOwner.{DeadOwner}
 use Rattle.steps.specs.declared.container.recover.Recover.{Recover as Recovering}
 use Rattle.steps.specs.declared.container.recover.RecoverStage.{RecoverStage}
 use Rattle.steps.specs.declared.container.recover.RecoverStage.TheVariants as recovers
-use Rattle.steps.specs.declared.indices.enums.ReleaseMode.{ReleaseMode}
-use Rattle.steps.specs.declared.indices.enums.ReleaseMode.TheVariants.{LockIfLastIndex, Default}
-use Rattle.steps.specs.declared.indices.enums.ReleaseState.{ReleaseState}
 use Rattle.steps.specs.declared.indices.enums.ReleaseState.TheVariants as states
-use Rattle.steps.specs.declared.indices.robust.parts.Lock.{Lock}
 use Rattle.steps.specs.declared.indices.robust.parts.Lock.TheVariants as locks
-use Rattle.steps.specs.declared.indices.robust.parts.Raise.{Raise}
 use Rattle.steps.specs.declared.indices.robust.parts.Raise.TheVariants as raises
-use Rattle.model.specs.declared.event.Event.{Event}
-use Rattle.model.specs.declared.event.Event.TheVariants.{FreedOf, Asked, Told, Locked, Hidden, Copied, Shown}
-use Rattle.model.specs.Coding.{Coding}
-use Rattle.model.specs.Families.{is_question}
-use Rattle.model.specs.Families.Container.Steps.{hidden, recover_effects, question_of}
-use Rattle.laws_robust.proofs.Sound.{raise_asks_none, lock_asks_none}
-use Rattle.laws_container.proofs.Core.{data_within}
-use Rattle.threaded.specs.Driver.{answered}
+use Rattle.model.specs.declared.event.Event.TheVariants.{Told, Locked}
+use Rattle.model.specs.Families.Container.Steps.{recover_effects}
 use Rattle.history.specs.Container.{when}
 use Rattle.history.specs.ContainerRecovery.{RecoverIn, Came, HasAsked, HasFound, HasFreed, wrote_found, wrote_of}
 use Rattle.history.specs.ContainerRecovery.{wrote_visits, with_last, told, freed, hides, came_locked, seen_under}

@@ -1,15 +1,10 @@
 -- That what a container's recovery wrote tells its visits.
-use Rattle.std.proofs.Common.{◌≡◌, ℕ, Bool, true, false, Option, Some, None, List, [], ◌∷◌, ◌++◌, append_assoc, append-nil, fold, refl, sym, ap, ◌∙◌}
-use Rattle.std.proofs.lemmas.List.Sums.{fold-append}
-use Rattle.steps.specs.Container.Layout.{is_even}
-use Rattle.steps.specs.Indices.Robust.Parts.{locked}
-use Rattle.steps.specs.Picks.{by_test}
+use Rattle.history.proofs.Names.{◌≡◌, ℕ, Bool, true, false, Option, Some, None, List, [], ◌∷◌, ◌++◌, append_assoc}
+use Rattle.history.proofs.Names.{append-nil, fold, refl, sym, ap, ◌∙◌, fold-append, is_even, locked, by_test, Event}
+use Rattle.history.proofs.Names.{FreedOf, Asked, Hidden, Copied, Shown, Start, own_after, Open}
 use Rattle.steps.specs.declared.container.recover.RecoverStage.{RecoverStage}
 use Rattle.steps.specs.declared.container.recover.RecoverStage.TheVariants as recovers
-use Rattle.model.specs.declared.event.Event.{Event}
-use Rattle.model.specs.declared.event.Event.TheVariants.{FreedOf, Asked, Told, Locked, Hidden, Copied, Shown}
-use Rattle.model.specs.declared.event.Start.{Start}
-use Rattle.model.specs.Reading.{own_after, Open}
+use Rattle.model.specs.declared.event.Event.TheVariants.{Told, Locked}
 use Rattle.history.specs.Container.{when}
 use Rattle.history.specs.ContainerRecovery.{Came, HasAsked, HasFound, HasFreed, wrote_found, wrote_of, wrote_visits}
 use Rattle.history.specs.ContainerRecovery.{with_last, told, freed, hides, came_locked, told_yet}

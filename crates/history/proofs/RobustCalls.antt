@@ -1,53 +1,36 @@
 -- That an acquire and a release of the robust index set, and its looks, are calls of the model.
-use Rattle.std.proofs.Common.{◌≡◌, inl, inr, ℕ, ◌+◌, ◌<◌, ◌==◌, nat_lt, nat_le, Bool, true, false, None, List, [], ◌∷◌, ◌++◌, refl, sym, ap, subst, ◌∙◌, arith}
-use Rattle.std.proofs.lemmas.Bool.Decides.{nat_tests}
+use Rattle.history.proofs.Names.{◌≡◌, inl, inr, ℕ, ◌+◌, ◌<◌, ◌==◌, nat_lt, nat_le, Bool, true, false, None, List, []}
+use Rattle.history.proofs.Names.{◌∷◌, ◌++◌, refl, sym, ap, subst, ◌∙◌, arith, nat_tests, first_borrowed}
+use Rattle.history.proofs.Names.{borrowed_want, borrowed_counted, empty, locked, greatest, raise_after, count_after}
+use Rattle.history.proofs.Names.{lock_after, Released, release_raised, release_locked, by_test, load, went_on, Ask}
+use Rattle.history.proofs.Names.{After, GoOn, ReleaseMode, LockIfLastIndex, Default, ReleaseState, AcquireStage}
+use Rattle.history.proofs.Names.{Count, Lock, Raise, GiveBack, ReleaseStage, Answer, Number, Event, Filled, FreedOf}
+use Rattle.history.proofs.Names.{Coding, granted, acquire_effects, release_effects, as_it_is, as_call, answered}
+use Rattle.history.proofs.Names.{KeepsRule}
 use Rattle.steps.specs.Indices.Robust.Acquire.{Acquired, first_acquire, at_acquire, acquire_asks, acquire_want}
 use Rattle.steps.specs.Indices.Robust.Acquire.{acquire_tries, acquire_sees, acquire_raised, acquire_takes}
 use Rattle.steps.specs.Indices.Robust.Acquire.{acquire_after}
-use Rattle.steps.specs.Indices.Robust.Looks.{first_borrowed, borrowed_want, borrowed_counted, borrowed_after, locked_after}
-use Rattle.steps.specs.Indices.Robust.Parts.{empty, locked, greatest, raise_after, count_after, lock_after}
-use Rattle.steps.specs.Indices.Robust.Release.{Released, first_release, release_asks, release_want, release_raised}
-use Rattle.steps.specs.Indices.Robust.Release.{release_locked, release_takes, release_after}
-use Rattle.steps.specs.Picks.{by_test}
-use Rattle.steps.specs.Queues.Ring.{load}
-use Rattle.steps.specs.Routine.{went_on}
-use Rattle.steps.specs.declared.ask.Ask.{Ask}
-use Rattle.steps.specs.declared.ask.After.{After}
-use Rattle.steps.specs.declared.ask.After.TheVariants.{GoOn, Done}
+use Rattle.steps.specs.Indices.Robust.Looks.{borrowed_after, locked_after}
+use Rattle.steps.specs.Indices.Robust.Release.{first_release, release_asks, release_want}
+use Rattle.steps.specs.Indices.Robust.Release.{release_takes, release_after}
+use Rattle.steps.specs.declared.ask.After.TheVariants.{Done}
 use Rattle.steps.specs.declared.ask.Want.TheVariants as wants
-use Rattle.steps.specs.declared.indices.enums.ReleaseMode.{ReleaseMode}
-use Rattle.steps.specs.declared.indices.enums.ReleaseMode.TheVariants.{LockIfLastIndex, Default}
-use Rattle.steps.specs.declared.indices.enums.ReleaseState.{ReleaseState}
 use Rattle.steps.specs.declared.indices.enums.ReleaseState.TheVariants as states
 use Rattle.steps.specs.declared.indices.robust.acquire.Acquire.{Acquire as Acquiring}
-use Rattle.steps.specs.declared.indices.robust.acquire.AcquireStage.{AcquireStage}
 use Rattle.steps.specs.declared.indices.robust.acquire.AcquireStage.TheVariants as acquires
 use Rattle.steps.specs.declared.indices.robust.looks.BorrowedIndices.{BorrowedIndices as Counting}
 use Rattle.steps.specs.declared.indices.robust.looks.IsLocked.{IsLocked as Looking}
 use Rattle.steps.specs.declared.indices.robust.parts.Counted.{Counted}
 use Rattle.steps.specs.declared.indices.robust.parts.Counted.TheVariants as ends
-use Rattle.steps.specs.declared.indices.robust.parts.Count.{Count}
-use Rattle.steps.specs.declared.indices.robust.parts.Lock.{Lock}
 use Rattle.steps.specs.declared.indices.robust.parts.Lock.TheVariants as locks
-use Rattle.steps.specs.declared.indices.robust.parts.Raise.{Raise}
-use Rattle.steps.specs.declared.indices.robust.release.GiveBack.{GiveBack}
 use Rattle.steps.specs.declared.indices.robust.release.Release.{Release as Releasing}
-use Rattle.steps.specs.declared.indices.robust.release.ReleaseStage.{ReleaseStage}
 use Rattle.steps.specs.declared.indices.robust.release.ReleaseStage.TheVariants as releases
-use Rattle.model.specs.declared.event.Answer.{Answer}
-use Rattle.model.specs.declared.event.Answer.TheVariants.{Number}
-use Rattle.model.specs.declared.event.Event.{Event}
-use Rattle.model.specs.declared.event.Event.TheVariants.{Filled, FreedOf}
 use Rattle.model.specs.declared.families.Flight.TheVariants as flights
-use Rattle.model.specs.declared.families.indices.robust.RobustStart.TheVariants.{Acquire, Release, BorrowedIndices, IsLocked}
+use Rattle.model.specs.declared.families.indices.robust.RobustStart.TheVariants.{Acquire, Release, BorrowedIndices}
+use Rattle.model.specs.declared.families.indices.robust.RobustStart.TheVariants.{IsLocked}
 use Rattle.model.specs.declared.families.indices.robust.calls.RobustFlight.TheVariants as calls
 use Rattle.model.specs.declared.turn.Kind.TheVariants as kinds
-use Rattle.model.specs.Coding.{Coding}
 use Rattle.model.specs.Families.Indices.Robust.Calls.{acquire_answer, release_answer}
-use Rattle.model.specs.Families.Indices.Robust.Steps.{granted, acquire_effects, release_effects}
-use Rattle.model.specs.Families.Queues.Calls.{as_it_is}
-use Rattle.model.specs.Step.{as_call}
-use Rattle.threaded.specs.Driver.{answered, KeepsRule}
 use Rattle.history.specs.declared.view.View.{View}
 use Rattle.history.specs.History.{IsMachine}
 use Rattle.history.specs.Robust.{AcquireIn, ReleaseIn, filled_at, AcquireWrote, takes_owned, freed_at, ReleaseWrote, gives_owned, counts_owned, looks_owned}

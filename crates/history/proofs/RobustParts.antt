@@ -1,23 +1,15 @@
 -- The parts of the calls on robust index sets, raise, count and lock: the words that they ask for, and where they go on.
-use Rattle.std.proofs.Common.{◌≡◌, ℕ, ◌+◌, ◌<◌, ◌==◌, ◌&&◌, nat_lt, not, refl, sym, ap, ◌∙◌, arith}
-use Rattle.std.proofs.lemmas.Bool.Decides.{nat_tests}
-use Rattle.steps.specs.Indices.Robust.Parts.{locked, greatest, raise_want, count_want, count_comes_to, count_after, lock_want, lock_counted, lock_after}
-use Rattle.steps.specs.Picks.{by_test}
-use Rattle.steps.specs.declared.ask.Ask.{Ask}
-use Rattle.steps.specs.declared.ask.After.{After}
-use Rattle.steps.specs.declared.ask.After.TheVariants.{GoOn, Done}
-use Rattle.steps.specs.declared.ask.Want.{Want}
+use Rattle.history.proofs.Names.{◌≡◌, ℕ, ◌+◌, ◌<◌, ◌==◌, ◌&&◌, nat_lt, not, refl, sym, ap, ◌∙◌, arith, nat_tests}
+use Rattle.history.proofs.Names.{locked, greatest, raise_want, count_want, count_comes_to, count_after, lock_want}
+use Rattle.history.proofs.Names.{lock_counted, lock_after, by_test, Ask, After, GoOn, Want, ReleaseState, Count, Lock}
+use Rattle.history.proofs.Names.{Raise, answered}
+use Rattle.steps.specs.declared.ask.After.TheVariants.{Done}
 use Rattle.steps.specs.declared.ask.Want.TheVariants as wants
-use Rattle.steps.specs.declared.indices.enums.ReleaseState.{ReleaseState}
-use Rattle.steps.specs.declared.indices.robust.parts.Count.{Count}
 use Rattle.steps.specs.declared.indices.robust.parts.Count.TheVariants as counts
 use Rattle.steps.specs.declared.indices.robust.parts.Counted.{Counted}
 use Rattle.steps.specs.declared.indices.robust.parts.Counted.TheVariants as ends
-use Rattle.steps.specs.declared.indices.robust.parts.Lock.{Lock}
 use Rattle.steps.specs.declared.indices.robust.parts.Lock.TheVariants as locks
-use Rattle.steps.specs.declared.indices.robust.parts.Raise.{Raise}
 use Rattle.steps.specs.declared.indices.robust.parts.Raise.TheVariants as raises
-use Rattle.threaded.specs.Driver.{answered}
 use Rattle.history.specs.Robust.{CountIn, LockIn}
 use Rattle.history.proofs.CallsIn.{AsksFor}
 

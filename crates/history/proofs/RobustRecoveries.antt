@@ -1,46 +1,29 @@
 -- That a recovery of the robust index set is a call of the model, which puts questions.
-use Rattle.std.proofs.Common.{◌≡◌, inl, inr, ℕ, ◌+◌, ◌<◌, ◌≤◌, ◌==◌, nat_lt, Bool, true, false, Option, Some, None}
-use Rattle.std.proofs.Common.{List, [], ◌∷◌, ◌++◌, append_assoc, append-nil, refl, sym, ap, subst, ◌∙◌, arith}
-use Rattle.std.proofs.lemmas.Bool.Decides.{nat_tests}
-use Rattle.steps.specs.Indices.Robust.Parts.{empty, locked, raise_want, raise_after, lock_want, lock_after}
-use Rattle.steps.specs.Indices.Robust.Recover.{first_recover, at_recover, recover_asks, recover_want, recover_comes_to}
+use Rattle.history.proofs.Names.{◌≡◌, inl, inr, ℕ, ◌+◌, ◌<◌, ◌≤◌, ◌==◌, nat_lt, Bool, true, false, Option, Some, None}
+use Rattle.history.proofs.Names.{List, [], ◌∷◌, ◌++◌, append_assoc, append-nil, refl, sym, ap, subst, ◌∙◌, arith}
+use Rattle.history.proofs.Names.{nat_tests, empty, locked, raise_want, raise_after, lock_want, lock_after, by_test}
+use Rattle.history.proofs.Names.{went_on, Ask, After, GoOn, Want, ReleaseMode, LockIfLastIndex, Default, ReleaseState}
+use Rattle.history.proofs.Names.{Lock, Raise, Answer, Event, Begun, FreedOf, Asked, Start, Flight, Coding}
+use Rattle.history.proofs.Names.{is_question, as_it_is, as_call, number_of, raise_asks_none, lock_asks_none, answered}
+use Rattle.history.proofs.Names.{Owes, NextKnown, ToldOf, KeepsRule}
+use Rattle.steps.specs.Indices.Robust.Recover.{first_recover, at_recover, recover_asks, recover_want}
+use Rattle.steps.specs.Indices.Robust.Recover.{recover_comes_to}
 use Rattle.steps.specs.Indices.Robust.Recover.{recover_raised, recover_locked, recover_takes, recover_after}
-use Rattle.steps.specs.Picks.{by_test}
-use Rattle.steps.specs.Routine.{went_on}
-use Rattle.steps.specs.declared.ask.Ask.{Ask}
-use Rattle.steps.specs.declared.ask.After.{After}
-use Rattle.steps.specs.declared.ask.After.TheVariants.{GoOn, Done}
-use Rattle.steps.specs.declared.ask.Want.{Want}
+use Rattle.steps.specs.declared.ask.After.TheVariants.{Done}
 use Rattle.steps.specs.declared.ask.Want.TheVariants as wants
-use Rattle.steps.specs.declared.indices.enums.ReleaseMode.{ReleaseMode}
-use Rattle.steps.specs.declared.indices.enums.ReleaseMode.TheVariants.{LockIfLastIndex, Default}
-use Rattle.steps.specs.declared.indices.enums.ReleaseState.{ReleaseState}
 use Rattle.steps.specs.declared.indices.enums.ReleaseState.TheVariants as states
-use Rattle.steps.specs.declared.indices.robust.parts.Lock.{Lock}
 use Rattle.steps.specs.declared.indices.robust.parts.Lock.TheVariants as locks
-use Rattle.steps.specs.declared.indices.robust.parts.Raise.{Raise}
 use Rattle.steps.specs.declared.indices.robust.recover.Recover.{Recover as Recovering}
 use Rattle.steps.specs.declared.indices.robust.recover.RecoverStage.{RecoverStage}
 use Rattle.steps.specs.declared.indices.robust.recover.RecoverStage.TheVariants as recovers
-use Rattle.model.specs.declared.event.Answer.{Answer}
 use Rattle.model.specs.declared.event.Answer.TheVariants.{State}
-use Rattle.model.specs.declared.event.Event.{Event}
-use Rattle.model.specs.declared.event.Event.TheVariants.{Begun, FreedOf, Asked, Told, Locked}
-use Rattle.model.specs.declared.event.Start.{Start}
+use Rattle.model.specs.declared.event.Event.TheVariants.{Told, Locked}
 use Rattle.model.specs.declared.event.Start.TheVariants.{Robust}
-use Rattle.model.specs.declared.families.Flight.{Flight}
 use Rattle.model.specs.declared.families.Flight.TheVariants as flights
 use Rattle.model.specs.declared.families.indices.robust.RobustStart.TheVariants.{Recover}
 use Rattle.model.specs.declared.families.indices.robust.calls.RobustFlight.TheVariants as calls
 use Rattle.model.specs.declared.turn.Kind.TheVariants as kinds
-use Rattle.model.specs.Coding.{Coding}
-use Rattle.model.specs.Families.{is_question}
 use Rattle.model.specs.Families.Indices.Robust.Steps.{recover_effects}
-use Rattle.model.specs.Families.Queues.Calls.{as_it_is}
-use Rattle.model.specs.Step.{as_call}
-use Rattle.model.specs.Turns.{number_of}
-use Rattle.laws_robust.proofs.Sound.{raise_asks_none, lock_asks_none}
-use Rattle.threaded.specs.Driver.{answered, Owes, Next as NextKnown, Told as ToldOf, KeepsRule}
 use Rattle.history.specs.declared.view.View.{View}
 use Rattle.history.specs.History.{IsMachine}
 use Rattle.history.specs.Robust.{RecoverIn, Came, HasAsked, WasTold, HasFreed, HasLocked, Visit, visit, AreVisits}

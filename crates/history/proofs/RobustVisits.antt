@@ -1,15 +1,12 @@
 -- The lists of a recovery's visits: that they ascend, what was written of them, and that this tells what they are.
-use Rattle.std.proofs.Common.{◌≡◌, ℕ, ◌+◌, ◌<◌, ◌≤◌, List, [], ◌∷◌, ◌++◌, fold, append_assoc, append-nil, refl, sym, ap, subst, ◌∙◌, arith}
+use Rattle.history.proofs.Names.{◌≡◌, ℕ, ◌+◌, ◌<◌, ◌≤◌, List, [], ◌∷◌, ◌++◌, fold, append_assoc, append-nil, refl}
+use Rattle.history.proofs.Names.{sym, ap, subst, ◌∙◌, arith, All-nil, All-push, All-weaker, fold-append, ReleaseMode}
+use Rattle.history.proofs.Names.{Event, Begun, FreedOf, Asked, Start}
 use Rattle.std.proofs.lemmas.List.Concat.{flat_map-append}
-use Rattle.std.proofs.lemmas.List.Elements.{All-nil, All-push, All-weaker}
 use Rattle.std.proofs.lemmas.List.Quantifiers.{all_pairs_push}
-use Rattle.std.proofs.lemmas.List.Sums.{fold-append}
-use Rattle.steps.specs.declared.indices.enums.ReleaseMode.{ReleaseMode}
 use Rattle.steps.specs.declared.indices.robust.recover.RecoverStage.{RecoverStage}
 use Rattle.steps.specs.declared.indices.robust.recover.RecoverStage.TheVariants as recovers
-use Rattle.model.specs.declared.event.Event.{Event}
-use Rattle.model.specs.declared.event.Event.TheVariants.{Begun, FreedOf, Asked, Told, Locked}
-use Rattle.model.specs.declared.event.Start.{Start}
+use Rattle.model.specs.declared.event.Event.TheVariants.{Told, Locked}
 use Rattle.history.specs.Robust.{Came, HasAsked, WasTold, HasFreed, HasLocked, MayCome, Visit, visit, AreVisits}
 use Rattle.history.specs.Robust.{came_to, HasCome, VisitsAt, wrote_to, wrote_of, wrote_by, wrote_now}
 

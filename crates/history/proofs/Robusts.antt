@@ -1,30 +1,16 @@
 -- What the robust index set owes, from the laws of its open runs, and which party may begin a call on it.
-use Rattle.std.proofs.Common.{◌≡◌, ℕ, ◌+◌, false, Option, Some, None, is_none, IfSome, List, [], length, sum_by, refl, sym, ap, subst, ◌∙◌}
-use Rattle.model.specs.declared.event.Event.{Event}
-use Rattle.model.specs.declared.event.Start.{Start}
+use Rattle.history.proofs.Names.{◌≡◌, ℕ, ◌+◌, false, Option, Some, None, is_none, IfSome, List, [], length, sum_by}
+use Rattle.history.proofs.Names.{refl, sym, ap, subst, ◌∙◌, Event, Start, Flight, Registry, Party, Coding, first_of}
+use Rattle.history.proofs.Names.{begin_rows, step_of, beside_of, after_of, going_rows, has_died, SetAct, set_acts_of}
+use Rattle.history.proofs.Names.{whose, first_row, step_in, Trace, stands_there, Word, IsOpenSet, AllLive}
 use Rattle.model.specs.declared.event.Start.TheVariants.{Robust}
-use Rattle.model.specs.declared.families.Flight.{Flight}
 use Rattle.model.specs.declared.families.Flight as flights
-use Rattle.model.specs.declared.families.Registry.{Registry}
 use Rattle.model.specs.declared.families.Registry as registries
 use Rattle.model.specs.declared.families.indices.robust.RobustStart.{RobustStart}
-use Rattle.model.specs.declared.party.Party.{Party}
 use Rattle.model.specs.declared.turn.Kind.TheVariants as kinds
-use Rattle.model.specs.Coding.{Coding}
-use Rattle.model.specs.Families.{first_of, begin_rows, step_of, beside_of, after_of, going_rows}
-use Rattle.model.specs.Families.Indices.Robust.Dead.{has_died}
 use Rattle.model.specs.Families.Indices.Robust.Opening.{call_rows, kept_rows}
-use Rattle.model.specs.Families.Indices.Robust.Reading.{SetAct, set_acts_of}
 use Rattle.model.specs.Families.Indices.Robust.Steps.{effects}
-use Rattle.model.specs.Reading.{whose}
-use Rattle.model.specs.Rows.{first_row}
-use Rattle.model.specs.Turns.{step_in}
-use Rattle.model.specs.World.{Trace}
 use Rattle.model.proofs.Frame as frame
-use Rattle.model.proofs.Scenes.{stands_there}
-use Rattle.laws_robust.specs.Gone.{Word}
-use Rattle.laws_robust.specs.Open.{IsOpenSet}
-use Rattle.laws_robust.proofs.Alive.{AllLive}
 use Rattle.laws_robust.proofs.Invariant.{RobustSet, Represents, FlightAt, family_by}
 use Rattle.laws_robust.proofs.Living.{has_not_died, step_is_free}
 use Rattle.laws_robust.proofs.OpenRuns.{reached_open_sound, reached_open_lives, reached_open_kept}

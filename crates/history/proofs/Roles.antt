@@ -1,16 +1,10 @@
 -- Which party holds a role that a pass holds: one of its own.
-use Rattle.std.proofs.Common.{◌≡◌, ◌≤◌, ℕ, ◌+◌, true, Option, Some, None, is_none, List, refl, sym, sum_by, fold}
+use Rattle.history.proofs.Names.{◌≡◌, ◌≤◌, ℕ, ◌+◌, true, Option, Some, None, is_none, List, refl, sym, sum_by, fold}
+use Rattle.history.proofs.Names.{Producer, Consumer, Answer, Truth, Event, Finished, Queues, AcquireConsumer}
+use Rattle.history.proofs.Names.{ReleaseConsumer, producer_of, consumer_of, Each}
 use Rattle.steps.specs.declared.queues.roles.Role.{Role}
-use Rattle.steps.specs.declared.queues.roles.Role.TheVariants.{Producer, Consumer}
-use Rattle.model.specs.declared.event.Answer.{Answer}
-use Rattle.model.specs.declared.event.Answer.TheVariants.{Truth}
-use Rattle.model.specs.declared.event.Event.{Event}
-use Rattle.model.specs.declared.event.Event.TheVariants.{Finished}
-use Rattle.model.specs.declared.event.Start.TheVariants.{Queues}
-use Rattle.model.specs.declared.families.queues.QueueStart.TheVariants.{AcquireProducer, ReleaseProducer, AcquireConsumer, ReleaseConsumer}
-use Rattle.model.specs.Families.Queues.Reading.{producer_of, consumer_of}
+use Rattle.model.specs.declared.families.queues.QueueStart.TheVariants.{AcquireProducer, ReleaseProducer}
 use Rattle.model.specs.Families.Queues.Roles.{GrantsRight}
-use Rattle.model.specs.Reading.{Each}
 use Rattle.history.specs.declared.view.View.{View}
 use Rattle.history.specs.History.{IsOfParties}
 use Rattle.history.specs.Known.{owned}

@@ -1,41 +1,22 @@
 -- What bit sets and counting bit sets owe, from their laws.
-use Rattle.std.proofs.Common.{◌≡◌, ℕ, ◌+◌, ◌-◌, ◌^◌, ◌<◌, nat_lt, false, Option, Some, None, IfSome, List, [], ◌∷◌}
-use Rattle.std.proofs.Common.{length, replicate, refl, sym, ap, subst, ◌∙◌, arith, sum_by}
-use Rattle.std.specs.List.{AllByRecursion}
-use Rattle.std.proofs.lemmas.Bool.Decides.{nat_tests}
+use Rattle.history.proofs.Names.{◌≡◌, ℕ, ◌+◌, ◌-◌, ◌^◌, ◌<◌, nat_lt, false, Option, Some, None, IfSome, List, [], ◌∷◌}
+use Rattle.history.proofs.Names.{length, replicate, refl, sym, ap, subst, ◌∙◌, arith, sum_by, AllByRecursion}
+use Rattle.history.proofs.Names.{nat_tests, elements, Event, Start, Flight, Registry, BitsStart, BitsFlight, Party}
+use Rattle.history.proofs.Names.{Next, Coding, one_word, opening_of, first_of, begin_rows, step_of, beside_of}
+use Rattle.history.proofs.Names.{after_of, goes_of, going_rows, IsEffectOf, whose, span_of, first_row, step_in}
+use Rattle.history.proofs.Names.{IsReachedOn, Trace, stands_there, wrote_in, counting_set, counts_laws, bit_set}
+use Rattle.history.proofs.Names.{bits_laws}
 use Rattle.atomic_table.specs.Table.{opening}
-use Rattle.steps.specs.Bits.Words.{elements}
-use Rattle.model.specs.declared.event.Event.{Event}
 use Rattle.model.specs.declared.event.Event as events
-use Rattle.model.specs.declared.event.Start.{Start}
 use Rattle.model.specs.declared.event.Start.TheVariants.{Bits}
-use Rattle.model.specs.declared.families.Flight.{Flight}
 use Rattle.model.specs.declared.families.Flight as flights
-use Rattle.model.specs.declared.families.Registry.{Registry}
 use Rattle.model.specs.declared.families.Registry as registries
-use Rattle.model.specs.declared.families.bits.BitsStart.{BitsStart}
-use Rattle.model.specs.declared.families.bits.calls.BitsFlight.{BitsFlight}
-use Rattle.model.specs.declared.party.Party.{Party}
 use Rattle.model.specs.declared.turn.Kind as kinds
-use Rattle.model.specs.declared.turn.Turn.TheVariants.{Next}
-use Rattle.model.specs.Coding.{Coding, one_word}
-use Rattle.model.specs.Families.{opening_of, first_of, begin_rows, step_of, beside_of, after_of, goes_of, going_rows}
 use Rattle.model.specs.Families.Bits.Steps.{effects_of}
-use Rattle.model.specs.Promises.Turns.{IsEffectOf}
-use Rattle.model.specs.Reading.{whose, span_of}
-use Rattle.model.specs.Rows.{first_row}
-use Rattle.model.specs.Turns.{step_in, IsReachedOn}
-use Rattle.model.specs.World.{Trace}
 use Rattle.model.proofs.Frame as frame
-use Rattle.model.proofs.Scenes.{stands_there}
 use Rattle.laws_bits.proofs.Family.{SetKind, FlightAt, family}
 use Rattle.laws_bits.proofs.Laws.{SetLaws, sound_on}
 use Rattle.laws_bits.proofs.Laws as sets
-use Rattle.laws_bits.proofs.Spans.{wrote_in}
-use Rattle.laws_bits.proofs.Counts.Invariant.{counting_set}
-use Rattle.laws_bits.proofs.Counts.Justified.{laws as counts_laws}
-use Rattle.laws_bits.proofs.Bits.Invariant.{bit_set}
-use Rattle.laws_bits.proofs.Bits.Justified.{laws as bits_laws}
 use Rattle.history.specs.History.{IsRun, IsMachine, IsReachedAs, call_in, IsLate}
 use Rattle.history.specs.declared.view.View.{View}
 use Rattle.history.specs.Known.{owned}

@@ -1,31 +1,17 @@
 -- A pass whose last call rests at a question takes a step: the machine is handed the answer first.
-use Rattle.std.proofs.Common.{true, false, ◌≡◌, inl, inr, ⊎_elim, ℕ, ◌+◌, ◌<◌, Option, Some, None, IfSome, List, []}
-use Rattle.std.proofs.Common.{◌∷◌, ◌++◌, slice_index, slice_set, set-set, refl, sym, ap, subst, ◌∙◌, arith, sum_by}
-use Rattle.std.proofs.lemmas.List.Sums.{sum_by-append}
+use Rattle.history.proofs.Names.{true, false, ◌≡◌, inl, inr, ⊎_elim, ℕ, ◌+◌, ◌<◌, Option, Some, None, IfSome, List}
+use Rattle.history.proofs.Names.{[], ◌∷◌, ◌++◌, slice_index, slice_set, set-set, refl, sym, ap, subst, ◌∙◌, arith}
+use Rattle.history.proofs.Names.{sum_by, sum_by-append, Allows, set_here, written, Ask, After, GoOn, Want, Answer}
+use Rattle.history.proofs.Names.{Event, Finished, Start, Flight, Kind, Decide, Coding, want_of, goes_of, is_question}
+use Rattle.history.proofs.Names.{after_turn, events_of, number_of, World, Trace, Owes, OwesAsk, NextKnown, KeepsRule}
+use Rattle.history.proofs.Names.{IsAll}
 use mathlib.Core.Option.{some, some-injective}
 use lib.ListN.{get_elem?}
-use Rattle.atomic_table.specs.Table.{State, Allows}
+use Rattle.atomic_table.specs.Table.{State}
 use Rattle.atomic_table.specs.Table as table
-use Rattle.atomic_table.proofs.Lists.{set_here}
-use Rattle.steps.specs.Ask.{written}
-use Rattle.steps.specs.declared.ask.Ask.{Ask}
-use Rattle.steps.specs.declared.ask.After.{After}
-use Rattle.steps.specs.declared.ask.After.TheVariants.{GoOn, Done}
-use Rattle.steps.specs.declared.ask.Want.{Want}
+use Rattle.steps.specs.declared.ask.After.TheVariants.{Done}
 use Rattle.steps.specs.declared.ask.Want.TheVariants as wants
-use Rattle.model.specs.declared.event.Answer.{Answer}
-use Rattle.model.specs.declared.event.Event.{Event}
-use Rattle.model.specs.declared.event.Event.TheVariants.{Finished}
-use Rattle.model.specs.declared.event.Start.{Start}
-use Rattle.model.specs.declared.families.Flight.{Flight}
-use Rattle.model.specs.declared.turn.Kind.{Kind}
-use Rattle.model.specs.declared.turn.Turn.TheVariants.{Decide}
-use Rattle.model.specs.Coding.{Coding}
-use Rattle.model.specs.Families.{want_of, goes_of, is_question}
-use Rattle.model.specs.Turns.{after_turn, events_of, number_of}
-use Rattle.model.specs.World.{World, Trace}
-use Rattle.threaded.specs.Driver.{Owes, OwesAsk, Next as NextKnown, Told, KeepsRule}
-use Rattle.threaded.specs.Shares.{IsAll}
+use Rattle.threaded.specs.Driver.{Told}
 use Rattle.history.specs.declared.view.View.{View}
 use Rattle.history.specs.Known.{events_by}
 use Rattle.history.specs.History.{IsRun, IsMachine, Fits, IsLate, call_in, refusal_as}

@@ -1,12 +1,9 @@
 -- Calls whose answer names the capacity: one family of them for all capacities.
-use Rattle.std.proofs.Common.{◌≡◌, inl, inr, ℕ, ◌+◌, [], sym, ap, subst, ◌∙◌}
-use Rattle.steps.specs.declared.ask.After.{After}
-use Rattle.steps.specs.declared.ask.After.TheVariants.{GoOn, Done}
-use Rattle.steps.specs.declared.ask.Want.{Want}
+use Rattle.history.proofs.Names.{◌≡◌, inl, inr, ℕ, ◌+◌, [], sym, ap, subst, ◌∙◌, After, GoOn, Want, Kind, Coding}
+use Rattle.history.proofs.Names.{Owes, NextKnown, KeepsRule}
+use Rattle.steps.specs.declared.ask.After.TheVariants.{Done}
 use Rattle.steps.specs.declared.ask.Want.TheVariants as wants
-use Rattle.model.specs.declared.turn.Kind.{Kind}
-use Rattle.model.specs.Coding.{Coding}
-use Rattle.threaded.specs.Driver.{Owes, Next as NextKnown, Told, KeepsRule}
+use Rattle.threaded.specs.Driver.{Told}
 use Rattle.history.specs.declared.view.View.{View}
 use Rattle.history.specs.History.{IsMachine}
 use Rattle.history.specs.Stages.{Calling, At, Ends}

@@ -1,10 +1,6 @@
 -- A call that each party may begin, begins as the party that the pass was last.
-use Rattle.std.proofs.Common.{◌≡◌, ℕ, Option, Some, None, IfSome, sym, refl, subst}
-use Rattle.model.specs.declared.turn.Kind.{Kind}
-use Rattle.model.specs.Coding.{Coding}
-use Rattle.model.specs.Families.{first_of}
-use Rattle.model.specs.Rows.{first_row}
-use Rattle.model.specs.World.{Trace}
+use Rattle.history.proofs.Names.{◌≡◌, ℕ, Option, Some, None, IfSome, sym, refl, subst, Kind, Coding, first_of}
+use Rattle.history.proofs.Names.{first_row, Trace}
 use Rattle.history.specs.declared.view.View.{View}
 use Rattle.history.specs.Stages.{Calling, Starts, rows_as}
 

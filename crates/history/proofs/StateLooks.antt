@@ -1,44 +1,27 @@
 -- That a look of a state is a call of the model: a get_state, and an update_state of the state that the pass's party has.
-use Rattle.std.proofs.Common.{◌≡◌, inl, inr, ℕ, zero, suc, ◌+◌, ◌<◌, Bool, true, false, Option, Some, None, IfSome}
-use Rattle.std.proofs.Common.{List, [], ◌++◌, slice_index, slice_set, append-nil, refl, sym, ap, subst, ◌∙◌, arith}
+use Rattle.history.proofs.Names.{◌≡◌, inl, inr, ℕ, zero, suc, ◌+◌, ◌<◌, Bool, true, false, Option, Some, None, IfSome}
+use Rattle.history.proofs.Names.{List, [], ◌++◌, slice_index, slice_set, append-nil, refl, sym, ap, subst, ◌∙◌, arith}
+use Rattle.history.proofs.Names.{written, first_look, look_asks, look_want, look_after, look_kept, Numbers, Showing}
+use Rattle.history.proofs.Names.{shown_at, Ask, After, GoOn, Want, LookStage, ContainerState, Event, Container}
+use Rattle.history.proofs.Names.{Flight, Registry, LookOf, Next, Coding, IsCoding, opening_of, kept_after_begin}
+use Rattle.history.proofs.Names.{step_of, beside_of, first_call, settled_if, state_in, is_looking, WasCopied}
+use Rattle.history.proofs.Names.{names_owner, look_effects, after_turn, flight_in, found_put_same, answered, Owes}
+use Rattle.history.proofs.Names.{NextKnown, KeepsRule}
 use mathlib.Core.Option.{some}
 use lib.ListN.{get_elem?}
 use Rattle.atomic_table.specs.Table.{State}
 use Rattle.atomic_table.specs.Table as table
-use Rattle.steps.specs.Ask.{written}
-use Rattle.steps.specs.Container.Look.{first_look, look_asks, look_want, look_after, look_kept}
-use Rattle.steps.specs.Container.State.{Numbers, Showing, shown_at}
 use Rattle.steps.specs.Copied.{value_in}
-use Rattle.steps.specs.declared.ask.Ask.{Ask}
-use Rattle.steps.specs.declared.ask.After.{After}
-use Rattle.steps.specs.declared.ask.After.TheVariants.{GoOn, Done}
-use Rattle.steps.specs.declared.ask.Want.{Want}
+use Rattle.steps.specs.declared.ask.After.TheVariants.{Done}
 use Rattle.steps.specs.declared.ask.Want.TheVariants as wants
 use Rattle.steps.specs.declared.container.look.Look.{Look as Looking}
-use Rattle.steps.specs.declared.container.look.LookStage.{LookStage}
 use Rattle.steps.specs.declared.container.look.LookStage.TheVariants as looks
-use Rattle.steps.specs.declared.container.state.ContainerState.{ContainerState}
-use Rattle.model.specs.declared.event.Event.{Event}
-use Rattle.model.specs.declared.event.Start.TheVariants.{Container}
-use Rattle.model.specs.declared.families.Flight.{Flight}
 use Rattle.model.specs.declared.families.Flight.TheVariants as flights
-use Rattle.model.specs.declared.families.Registry.{Registry}
 use Rattle.model.specs.declared.families.Registry.TheVariants as registries
-use Rattle.model.specs.declared.families.container.calls.LookOf.{LookOf}
 use Rattle.model.specs.declared.families.container.calls.LookOf.TheVariants as which_looks
 use Rattle.model.specs.declared.turn.Kind.TheVariants as kinds
-use Rattle.model.specs.declared.turn.Turn.TheVariants.{Next}
-use Rattle.model.specs.Coding.{Coding, IsCoding}
-use Rattle.model.specs.Families.{opening_of, kept_after_begin, step_of, beside_of}
-use Rattle.model.specs.Families.Container.Calls.{first as first_call, settled_if}
-use Rattle.model.specs.Families.Container.Looks.{state_in, is_looking, WasCopied}
-use Rattle.model.specs.Families.Container.Opening.{names_owner}
 use Rattle.model.specs.Families.Container.States.{state_of, fresh}
-use Rattle.model.specs.Families.Container.Steps.{look_effects}
-use Rattle.model.specs.Turns.{after_turn}
-use Rattle.model.specs.World.{flight_in}
-use Rattle.model.proofs.Parties.{found_put_same}
-use Rattle.threaded.specs.Driver.{answered, Owes, Next as NextKnown, Told, KeepsRule}
+use Rattle.threaded.specs.Driver.{Told}
 use Rattle.history.specs.declared.view.View.{View}
 use Rattle.history.specs.ContainerFind.{HasCopied}
 use Rattle.history.specs.ContainerLooks.{look_start, state_of_look, HasState, LookedAt, ShowsCopied, looking, BeginsWith, StateLooks, StateLooked}

@@ -1,20 +1,11 @@
 -- A look of a state on a pass whose last call may rest at a find's question.
-use Rattle.std.proofs.Common.{◌≡◌, inl, inr, ℕ, ◌<◌, Bool, Option, Some, None, [], refl, sym, ap, subst, ◌∙◌}
-use Rattle.steps.specs.Container.Look.{first_look, look_want, look_after, look_kept}
-use Rattle.steps.specs.Container.State.{Numbers, Showing}
-use Rattle.steps.specs.declared.ask.After.{After}
-use Rattle.steps.specs.declared.ask.Want.{Want}
+use Rattle.history.proofs.Names.{◌≡◌, inl, inr, ℕ, ◌<◌, Bool, Option, Some, None, [], refl, sym, ap, subst, ◌∙◌}
+use Rattle.history.proofs.Names.{first_look, look_want, look_after, look_kept, Numbers, Showing, After, Want, Start}
+use Rattle.history.proofs.Names.{Container, Flight, LookOf, Coding, IsCoding, want_of, is_question, look_asks_none}
 use Rattle.steps.specs.declared.container.look.Look.{Look as Looking}
 use Rattle.steps.specs.declared.container.look.LookStage.TheVariants as looks
-use Rattle.model.specs.declared.event.Start.{Start}
-use Rattle.model.specs.declared.event.Start.TheVariants.{Container}
-use Rattle.model.specs.declared.families.Flight.{Flight}
-use Rattle.model.specs.declared.families.container.calls.LookOf.{LookOf}
 use Rattle.model.specs.declared.families.container.calls.LookOf.TheVariants as which_looks
 use Rattle.model.specs.declared.turn.Kind.TheVariants as kinds
-use Rattle.model.specs.Coding.{Coding, IsCoding}
-use Rattle.model.specs.Families.{want_of, is_question}
-use Rattle.laws_container.proofs.LooksTell.{look_asks_none}
 use Rattle.history.specs.declared.view.View.{View}
 use Rattle.history.specs.ContainerLooks.{look_start, looking, BeginsWith, StateLooks, StateLooked, BeginsLook, RestedLooks, RestedLooked}
 use Rattle.history.specs.Settled.{IsResting, Settles}

@@ -1,16 +1,10 @@
 -- A step of a seat's call, its begin with the first one, is allowed by the rule of a table that is a machine.
-use Rattle.std.proofs.Common.{◌≡◌, ◌≢◌, inl, ⊎_elim, ℕ, ◌<◌, ◌≤◌, List, [], ◌++◌, length, slice_set, refl, sym, ap}
-use Rattle.std.proofs.Common.{subst, append-nil, arith, length-set, Some, ◌∙◌}
-use Rattle.std.proofs.lemmas.List.Sums.{sum_by-append}
+use Rattle.history.proofs.Names.{◌≡◌, ◌≢◌, inl, ⊎_elim, ℕ, ◌<◌, ◌≤◌, List, [], ◌++◌, length, slice_set, refl, sym, ap}
+use Rattle.history.proofs.Names.{subst, append-nil, arith, length-set, Some, ◌∙◌, sum_by-append, at_set, Event, Kind}
+use Rattle.history.proofs.Names.{Coding, state_in, Trace}
 use mathlib.Core.Option.{some}
 use lib.ListN.{get_elem?}
 use Rattle.atomic_table.specs.Table.{State}
-use Rattle.atomic_table.proofs.Lists.{at_set}
-use Rattle.model.specs.declared.event.Event.{Event}
-use Rattle.model.specs.declared.turn.Kind.{Kind}
-use Rattle.model.specs.Coding.{Coding}
-use Rattle.model.specs.Families.Container.Looks.{state_in}
-use Rattle.model.specs.World.{Trace}
 use Rattle.history.specs.declared.view.View.{View}
 use Rattle.history.specs.History.{IsBeginning, IsMachine, Fits, call_in}
 use Rattle.history.specs.Known.{events_by}

@@ -1,12 +1,7 @@
 -- What a seat knows stays where another party takes a turn.
-use Rattle.std.proofs.Common.{◌≡◌, ◌≢◌, inl, inr, ℕ, ⊎_elim, Option, Some, None, IfSome, List, [], ◌++◌, refl, sym, ap}
-use Rattle.std.proofs.Common.{subst, ◌∙◌, append_assoc, append-nil, arith, sum_by}
-use Rattle.std.proofs.lemmas.Bool.{cases_eq}
-use Rattle.std.proofs.lemmas.List.Sums.{sum_by-append}
-use Rattle.model.specs.declared.event.Event.{Event}
-use Rattle.model.specs.declared.turn.Kind.{Kind}
-use Rattle.model.specs.Families.Container.Looks.{state_in}
-use Rattle.model.specs.World.{Trace}
+use Rattle.history.proofs.Names.{◌≡◌, ◌≢◌, inl, inr, ℕ, ⊎_elim, Option, Some, None, IfSome, List, [], ◌++◌, refl, sym}
+use Rattle.history.proofs.Names.{ap, subst, ◌∙◌, append_assoc, append-nil, arith, sum_by, cases_eq, sum_by-append}
+use Rattle.history.proofs.Names.{Event, Kind, state_in, Trace}
 use Rattle.history.specs.declared.view.View.{View}
 use Rattle.history.specs.Known.{events_by, by_party, owned}
 use Rattle.history.specs.History.{IsBeginning, Fits, HasSeenOf, call_in, IsLate}

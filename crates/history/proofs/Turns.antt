@@ -1,41 +1,18 @@
 -- What a begin and a step of a reached machine leave, where a table stands at its words.
-use Rattle.std.proofs.Common.{Bool, false, ◌≡◌, ◌≢◌, ℕ, ◌+◌, ◌<◌, ◌≤◌, Option, Some, None, IfSome, List, [], ◌∷◌, ◌++◌}
-use Rattle.std.proofs.Common.{length, slice_index, slice_set, refl, sym, ap, subst, ◌∙◌, arith, sum_by}
-use Rattle.std.proofs.lemmas.List.Sums.{sum_by-append}
+use Rattle.history.proofs.Names.{Bool, false, ◌≡◌, ◌≢◌, ℕ, ◌+◌, ◌<◌, ◌≤◌, Option, Some, None, IfSome, List, [], ◌∷◌}
+use Rattle.history.proofs.Names.{◌++◌, length, slice_index, slice_set, refl, sym, ap, subst, ◌∙◌, arith, sum_by}
+use Rattle.history.proofs.Names.{sum_by-append, written, Ask, After, Want, Answer, Event, Begun, Start, Flight, Party}
+use Rattle.history.proofs.Names.{Kind, Turn, Begin, Next, Decide, Coding, first_of, kept_after_begin, going_rows}
+use Rattle.history.proofs.Names.{want_of, after_of, goes_of, ask_of, is_look_of, state_in, party_of, ask_in}
+use Rattle.history.proofs.Names.{call_refusal, first_row, answer_in, after_turn, events_of, words_after, number_of}
+use Rattle.history.proofs.Names.{step_in, ending_of, old_of, World, Trace, flight_in, whose, turn_making, IsFreshCall}
+use Rattle.history.proofs.Names.{Shares, IsAll}
 use mathlib.Core.Option.{some}
 use lib.ListN.{get_elem?}
 use Rattle.atomic_table.specs.Table.{State}
-use Rattle.steps.specs.Ask.{written}
-use Rattle.steps.specs.declared.ask.Ask.{Ask}
-use Rattle.steps.specs.declared.ask.After.{After}
-use Rattle.steps.specs.declared.ask.Want.{Want}
 use Rattle.steps.specs.declared.ask.Want.TheVariants as wants
-use Rattle.model.specs.declared.event.Answer.{Answer}
-use Rattle.model.specs.declared.event.Event.{Event}
-use Rattle.model.specs.declared.event.Event.TheVariants.{Begun}
-use Rattle.model.specs.declared.event.Start.{Start}
-use Rattle.model.specs.declared.families.Flight.{Flight}
-use Rattle.model.specs.declared.party.Party.{Party}
-use Rattle.model.specs.declared.turn.Kind.{Kind}
-use Rattle.model.specs.declared.turn.Turn.{Turn}
-use Rattle.model.specs.declared.turn.Turn.TheVariants.{Begin, Next, Decide}
-use Rattle.model.specs.Coding.{Coding}
-use Rattle.model.specs.Families.{first_of, kept_after_begin, going_rows, want_of, after_of, goes_of, ask_of}
-use Rattle.model.specs.Families.Container.Keeping.{is_look_of}
-use Rattle.model.specs.Families.Container.Looks.{state_in}
-use Rattle.model.specs.Parties.{party_of}
-use Rattle.model.specs.Promises.Turns.{ask_in}
-use Rattle.model.specs.Refusals.{call_refusal}
-use Rattle.model.specs.Rows.{first_row}
-use Rattle.model.specs.Step.{answer_in}
-use Rattle.model.specs.Turns.{after_turn, events_of, words_after, number_of, step_in, ending_of, old_of}
-use Rattle.model.specs.World.{World, Trace, flight_in}
-use Rattle.model.specs.Reading.{whose}
-use Rattle.model.proofs.Reached.{turn_making}
 use Rattle.model.proofs.Turns.{writes_one_word}
-use Rattle.laws_queues.proofs.Queues.Knows.{IsFreshCall}
 use Rattle.laws_queues.proofs.Queues.Sound.{IsFreshTurn}
-use Rattle.threaded.specs.Shares.{Shares, IsAll}
 use Rattle.history.specs.declared.view.View.{View}
 use Rattle.history.specs.Known.{events_by, owned, of_none}
 use Rattle.history.specs.History.{IsRun, IsMachine, Fits, call_in, IsLate, refusal_as}

@@ -1,39 +1,30 @@
 -- The calls on the single value as calls of the model.
-use Rattle.std.proofs.Common.{inl, ◌≡◌, ◌≢◌, nat_lt, ℕ, ◌+◌, ◌-◌, ◌^◌, ◌*◌, ◌<◌, ◌==◌, cond, Bool, true, false, Option}
-use Rattle.std.proofs.Common.{Some, None, List, [], ◌∷◌, ◌++◌, slice_set, slice_index, refl, sym, ap, subst, ◌∙◌, arith}
-use Rattle.std.proofs.lemmas.Bool.Decides.{nat_tests}
-use Rattle.steps.specs.Ask.{written}
-use Rattle.steps.specs.declared.ask.Ask.{Ask}
+use Rattle.history.proofs.Names.{inl, ◌≡◌, ◌≢◌, nat_lt, ℕ, ◌+◌, ◌-◌, ◌^◌, ◌*◌, ◌<◌, ◌==◌, cond, Bool, true, false}
+use Rattle.history.proofs.Names.{Option, Some, None, List, [], ◌∷◌, ◌++◌, slice_set, slice_index, refl, sym, ap}
+use Rattle.history.proofs.Names.{subst, ◌∙◌, arith, nat_tests, written, Ask, After, GoOn, before_version, first_store}
+use Rattle.history.proofs.Names.{at_store, store_asks, store_want, store_takes, store_after, first_load, at_load}
+use Rattle.history.proofs.Names.{load_asks, load_begins, load_want, load_takes, load_after, load_keeps, load_kept}
+use Rattle.history.proofs.Names.{Truth, Acted, Flight, Coding, IsCoding, after_of, producer_word, kept_at, answered}
+use Rattle.history.proofs.Names.{KeepsRule, cell_within, IsFreshStore}
 use Rattle.steps.specs.declared.ask.Op.TheVariants as ops
-use Rattle.steps.specs.declared.ask.After.{After}
-use Rattle.steps.specs.declared.ask.After.TheVariants.{GoOn, Done}
+use Rattle.steps.specs.declared.ask.After.TheVariants.{Done}
 use Rattle.steps.specs.declared.ask.Want.TheVariants as wants
 use Rattle.steps.specs.declared.atomic.Load.{Load as Loading}
 use Rattle.steps.specs.declared.atomic.LoadStage as loads
 use Rattle.steps.specs.declared.atomic.Store.{Store as Storing}
 use Rattle.steps.specs.declared.atomic.StoreStage as stores
 use Rattle.steps.specs.declared.copied.Buffer as buffers
-use Rattle.steps.specs.Atomic.{cell_word, before_version, first_store, at_store, store_asks, store_want, store_takes}
-use Rattle.steps.specs.Atomic.{store_after, first_load, at_load, load_asks, load_begins, load_want, load_takes}
-use Rattle.steps.specs.Atomic.{load_after, load_keeps, load_kept}
+use Rattle.steps.specs.Atomic.{cell_word}
 use Rattle.steps.specs.Queues.Ring.{word_at}
 use Rattle.steps.specs.Queues.Roles.{acquire_want, acquire_after, release_want, release_after}
 use Rattle.model.specs.declared.event.Answer.TheVariants as answers
-use Rattle.model.specs.declared.event.Answer.TheVariants.{Truth}
-use Rattle.model.specs.declared.event.Event.TheVariants.{Acted}
 use Rattle.model.specs.declared.event.Start.TheVariants.{Atomic}
-use Rattle.model.specs.declared.families.Flight.{Flight}
 use Rattle.model.specs.declared.families.Flight as flights
-use Rattle.model.specs.declared.families.atomic.AtomicStart.TheVariants.{AcquireProducer, ReleaseProducer, Store, Load}
+use Rattle.model.specs.declared.families.atomic.AtomicStart.TheVariants.{AcquireProducer, ReleaseProducer, Store}
+use Rattle.model.specs.declared.families.atomic.AtomicStart.TheVariants.{Load}
 use Rattle.model.specs.declared.families.atomic.calls.AtomicFlight as calls
 use Rattle.model.specs.declared.turn.Kind.TheVariants as kinds
-use Rattle.model.specs.Coding.{Coding, IsCoding}
-use Rattle.model.specs.Families.{after_of}
-use Rattle.model.specs.Families.Atomic.Calls.{producer_word, fresh}
-use Rattle.model.specs.Families.Queues.Calls.{kept_at}
-use Rattle.threaded.specs.Driver.{answered, KeepsRule}
-use Rattle.laws_value.proofs.Core.{cell_within}
-use Rattle.laws_queues.proofs.Queues.Knows.{IsFreshStore}
+use Rattle.model.specs.Families.Atomic.Calls.{fresh}
 use Rattle.history.specs.declared.view.View.{View}
 use Rattle.history.specs.History.{IsMachine}
 use Rattle.history.specs.Rooms.{room_of}

@@ -1,40 +1,21 @@
 -- Only the holder of the producer's role stores, so while a pass has it the stores are its own.
-use Rattle.std.proofs.Common.{◌≡◌, ℕ, Bool, true, false, Option, Some, None, is_none, List, [], ◌∷◌, ◌++◌, ◌==◌, refl}
-use Rattle.std.proofs.Common.{sym, ap, subst, ◌∙◌, append-nil, append_assoc, arith}
-use Rattle.std.proofs.lemmas.Bool.Decides.{nat_tests}
-use Rattle.std.proofs.lemmas.List.Sums.{fold-append}
-use Rattle.std.specs.List.{flat_map}
-use Rattle.model.specs.declared.event.Answer.{Answer}
-use Rattle.model.specs.declared.event.Answer.TheVariants.{Truth}
-use Rattle.model.specs.declared.event.Event.{Event}
-use Rattle.model.specs.declared.event.Event.TheVariants.{Acted, Finished}
-use Rattle.model.specs.declared.event.Start.{Start}
+use Rattle.history.proofs.Names.{◌≡◌, ℕ, Bool, true, false, Option, Some, None, is_none, List, [], ◌∷◌, ◌++◌, ◌==◌}
+use Rattle.history.proofs.Names.{refl, sym, ap, subst, ◌∙◌, append-nil, append_assoc, arith, nat_tests, fold-append}
+use Rattle.history.proofs.Names.{flat_map, Answer, Truth, Event, Acted, Finished, Start, Flight, Registry}
+use Rattle.history.proofs.Names.{AtomicStart, AtomicFlight, Going, Party, Coding, step_of, acted, party_of, Each}
+use Rattle.history.proofs.Names.{whose, is_party, step_in, Trace, AreRight, Each-nil, stands_there, stores}
 use Rattle.model.specs.declared.event.Start.TheVariants.{Atomic}
-use Rattle.model.specs.declared.families.Flight.{Flight}
 use Rattle.model.specs.declared.families.Flight as flights
-use Rattle.model.specs.declared.families.Registry.{Registry}
 use Rattle.model.specs.declared.families.Registry as registries
-use Rattle.model.specs.declared.families.atomic.AtomicStart.{AtomicStart}
-use Rattle.model.specs.declared.families.atomic.AtomicStart.TheVariants.{AcquireProducer, ReleaseProducer, Store, Load}
-use Rattle.model.specs.declared.families.atomic.calls.AtomicFlight.{AtomicFlight}
+use Rattle.model.specs.declared.families.atomic.AtomicStart.TheVariants.{AcquireProducer, ReleaseProducer, Store}
+use Rattle.model.specs.declared.families.atomic.AtomicStart.TheVariants.{Load}
 use Rattle.model.specs.declared.families.atomic.calls.AtomicFlight as calls
-use Rattle.model.specs.declared.party.Doing.TheVariants.{Going}
-use Rattle.model.specs.declared.party.Party.{Party}
 use Rattle.model.specs.declared.turn.Kind.TheVariants as kinds
-use Rattle.model.specs.Coding.{Coding}
-use Rattle.model.specs.Families.{step_of}
 use Rattle.model.specs.Families.Atomic.Reading.{holder_after, holder_of}
 use Rattle.model.specs.Families.Atomic.Roles.{GrantsRight}
-use Rattle.model.specs.Families.Atomic.Steps.{acted}
-use Rattle.model.specs.Parties.{party_of}
-use Rattle.model.specs.Reading.{Each, whose, is_party}
-use Rattle.model.specs.Turns.{step_in}
-use Rattle.model.specs.World.{Trace, opening}
+use Rattle.model.specs.World.{opening}
 use Rattle.model.proofs.Frame as frame
-use Rattle.model.proofs.Readings.{AreRight, Each-nil}
-use Rattle.model.proofs.Scenes.{stands_there}
 use Rattle.laws_queues.proofs.Queues.Sound.{IsFreshTurn}
-use Rattle.laws_value.specs.Stored.{stores}
 use Rattle.laws_value.proofs.Core.{Core}
 use Rattle.laws_value.proofs.Invariant.{family}
 use Rattle.laws_value.proofs.Knows.{At}

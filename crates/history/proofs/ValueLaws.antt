@@ -1,25 +1,17 @@
 -- A history of the single value is linearizable as one value, and a load's value is that of the last store before it; one
 -- of a queue of values is linearizable as the bounded list.
-use Rattle.std.proofs.Common.{◌≡◌, ℕ, ◌+◌, ◌<◌, List, [], ◌∷◌, ◌++◌, fold, length, map, replicate, slice_index, refl, sym, ap, subst, ◌∙◌, arith}
-use Rattle.model.specs.declared.event.Answer.TheVariants.{Loaded}
-use Rattle.model.specs.declared.event.Event.{Event}
-use Rattle.model.specs.declared.event.Event.TheVariants.{Acted}
+use Rattle.history.proofs.Names.{◌≡◌, ℕ, ◌+◌, ◌<◌, List, [], ◌∷◌, ◌++◌, fold, length, map, replicate, slice_index}
+use Rattle.history.proofs.Names.{refl, sym, ap, subst, ◌∙◌, arith, Loaded, Event, Acted, Coding, AnswersRight}
+use Rattle.history.proofs.Names.{IsLinearizable, as_list, as_value, IsLinearized, Each, moments, Trace}
+use Rattle.history.proofs.Names.{run_linearizable, stored, queue_kept_on}
 use Rattle.model.specs.declared.event.Start.TheVariants.{Atomic}
 use Rattle.model.specs.declared.families.atomic.AtomicStart.TheVariants.{Store, Load}
 use Rattle.model.specs.declared.families.queues.QueueKind.TheVariants.{Queue}
 use Rattle.model.specs.declared.turn.Kind.TheVariants as kinds
-use Rattle.model.specs.Coding.{Coding}
 use Rattle.model.specs.Families.Atomic.Objects.{value_after}
-use Rattle.model.specs.Families.Atomic.Promises.{AnswersRight, value_in}
-use Rattle.model.specs.Linearizable.{IsLinearizable}
-use Rattle.model.specs.Linearized.{as_list, as_value, IsLinearized}
-use Rattle.model.specs.Reading.{Each, moments}
-use Rattle.model.specs.World.{Trace}
-use Rattle.model.proofs.Linearizable.Kinds.{run_linearizable}
-use Rattle.laws_value.specs.Stored.{stored}
+use Rattle.model.specs.Families.Atomic.Promises.{value_in}
 use Rattle.laws_value.proofs.Kept.{kept_on}
 use Rattle.laws_value.proofs.Sound.{version_counts}
-use Rattle.laws_queues.proofs.Queues.Kept.{kept_on as queue_kept_on}
 use Rattle.history.specs.History.{IsRun, IsHistory}
 use Rattle.history.specs.Value.{last_or, IsLast}
 use Rattle.history.proofs.Values.{value_sound, value_goes_on}

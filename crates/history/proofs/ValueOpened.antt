@@ -1,29 +1,21 @@
 -- How the table of a single value opens: one party has stored it so many times.
-use Rattle.std.proofs.Common.{◌≡◌, ℕ, zero, suc, ◌+◌, ◌-◌, ◌*◌, ◌%◌, ◌^◌, ◌<◌, ◌≤◌, ◌==◌, nat_lt, true, false, Option}
-use Rattle.std.proofs.Common.{Some, None, List, [], ◌∷◌, ◌++◌, length, take, drop, set, get_or, replicate, slice_set}
-use Rattle.std.proofs.Common.{refl, sym, ap, subst, ◌∙◌, append_assoc, length-append, arith, sum_by}
-use Rattle.std.proofs.lemmas.Bool.Decides.{nat_tests}
-use Rattle.std.proofs.lemmas.List.{length-replicate}
-use Rattle.std.proofs.lemmas.List.Sums.{sum_by-append}
+use Rattle.history.proofs.Names.{◌≡◌, ℕ, zero, suc, ◌+◌, ◌-◌, ◌*◌, ◌%◌, ◌^◌, ◌<◌, ◌≤◌, ◌==◌, nat_lt, true, false}
+use Rattle.history.proofs.Names.{Option, Some, None, List, [], ◌∷◌, ◌++◌, length, drop, set, get_or, replicate}
+use Rattle.history.proofs.Names.{slice_set, refl, sym, ap, subst, ◌∙◌, append_assoc, arith, sum_by, nat_tests}
+use Rattle.history.proofs.Names.{length-replicate, sum_by-append, first_store, at_store, Truth, Event, Begun, Acted}
+use Rattle.history.proofs.Names.{Finished, Start, Flight, Coding, IsCoding, producer_word, World, cell_within}
+use Rattle.std.proofs.Common.{take}
+use Rattle.std.proofs.Common.{length-append}
 use Rattle.atomic_table.specs.Table.{opening}
 use Rattle.steps.specs.declared.ask.Op.TheVariants as ops
 use Rattle.steps.specs.declared.atomic.StoreStage as stores
-use Rattle.steps.specs.Atomic.{cell_word, first_store, at_store}
+use Rattle.steps.specs.Atomic.{cell_word}
 use Rattle.steps.specs.Queues.Ring.{word_at}
 use Rattle.model.specs.declared.event.Answer.TheVariants as answers
-use Rattle.model.specs.declared.event.Answer.TheVariants.{Truth}
-use Rattle.model.specs.declared.event.Event.{Event}
-use Rattle.model.specs.declared.event.Event.TheVariants.{Begun, Acted, Finished}
-use Rattle.model.specs.declared.event.Start.{Start}
 use Rattle.model.specs.declared.event.Start.TheVariants.{Atomic}
-use Rattle.model.specs.declared.families.Flight.{Flight}
 use Rattle.model.specs.declared.families.atomic.AtomicStart.TheVariants.{AcquireProducer, ReleaseProducer, Store}
 use Rattle.model.specs.declared.turn.Kind.TheVariants as kinds
-use Rattle.model.specs.Coding.{Coding, IsCoding}
-use Rattle.model.specs.Families.Atomic.Calls.{producer_word}
-use Rattle.model.specs.World.{World}
 use Rattle.laws_value.proofs.Core as core
-use Rattle.laws_value.proofs.Core.{cell_within}
 use Rattle.laws_value.proofs.Stores.{asked_place}
 use Rattle.history.specs.declared.view.View.{View}
 use Rattle.history.specs.History.{IsMachine}

@@ -1,14 +1,12 @@
 -- The calls on a queue of values as calls of the model.
-use Rattle.std.proofs.Common.{inl, ◌≡◌, ◌≢◌, nat_lt, ℕ, ◌+◌, ◌-◌, ◌^◌, ◌%◌, ◌*◌, ◌<◌, ◌≤◌, ◌==◌, ◌||◌, cond, Bool}
-use Rattle.std.proofs.Common.{true, false, Option, Some, None, List, [], ◌∷◌, ◌++◌, slice_set, slice_index, refl, sym}
-use Rattle.std.proofs.Common.{ap, subst, ◌∙◌, arith}
-use Rattle.std.proofs.lemmas.Bool.Decides.{nat_tests}
-use Rattle.std.proofs.Math.Nat.{mul-le-mul_left}
-use Rattle.steps.specs.Ask.{written}
-use Rattle.steps.specs.declared.ask.Ask.{Ask}
+use Rattle.history.proofs.Names.{inl, ◌≡◌, ◌≢◌, nat_lt, ℕ, ◌+◌, ◌-◌, ◌^◌, ◌%◌, ◌*◌, ◌<◌, ◌≤◌, ◌==◌, ◌||◌, cond, Bool}
+use Rattle.history.proofs.Names.{true, false, Option, Some, None, List, [], ◌∷◌, ◌++◌, slice_set, slice_index, refl}
+use Rattle.history.proofs.Names.{sym, ap, subst, ◌∙◌, arith, nat_tests, mul-le-mul_left, written, Ask, After, GoOn}
+use Rattle.history.proofs.Names.{after_position, distance, Truth, PoppedNone, Event, Published, HandedOut, Acted}
+use Rattle.history.proofs.Names.{Queues, Flight, Pop, Values, Coding, IsCoding, after_of, fresh_cell, kept_at}
+use Rattle.history.proofs.Names.{push_effect, answered, KeepsRule, IsFresh, Producer, Consumer}
 use Rattle.steps.specs.declared.ask.Op.TheVariants.{Load, Store}
-use Rattle.steps.specs.declared.ask.After.{After}
-use Rattle.steps.specs.declared.ask.After.TheVariants.{GoOn, Done}
+use Rattle.steps.specs.declared.ask.After.TheVariants.{Done}
 use Rattle.steps.specs.declared.ask.Want.TheVariants as wants
 use Rattle.steps.specs.declared.copied.Buffer as buffers
 use Rattle.steps.specs.declared.queues.ring.Pop.{Pop as Popping}
@@ -16,27 +14,16 @@ use Rattle.steps.specs.declared.queues.ring.PopStage as pops
 use Rattle.steps.specs.declared.queues.ring.Push.{Push as Pushing}
 use Rattle.steps.specs.declared.queues.ring.PushStage as pushes
 use Rattle.steps.specs.Queues.Ring.{first_push, first_pop, cell_word, word_at, at_push, push_asks, push_want}
-use Rattle.steps.specs.Queues.Ring.{push_takes, push_after, after_position, distance, at_pop, pop_asks, pop_want}
+use Rattle.steps.specs.Queues.Ring.{push_takes, push_after, at_pop, pop_asks, pop_want}
 use Rattle.steps.specs.Queues.Ring.{pop_takes, pop_after, pop_kept, pop_keeps}
-use Rattle.model.specs.declared.event.Answer.TheVariants.{Truth, PoppedNone}
 use Rattle.model.specs.declared.event.Answer.TheVariants as answers
-use Rattle.model.specs.declared.event.Event.{Event}
-use Rattle.model.specs.declared.event.Event.TheVariants.{Published, HandedOut, Acted}
 use Rattle.model.specs.declared.event.Item.TheVariants.{Value}
-use Rattle.model.specs.declared.event.Start.TheVariants.{Queues}
-use Rattle.model.specs.declared.families.Flight.{Flight}
 use Rattle.model.specs.declared.families.Flight as flights
 use Rattle.model.specs.declared.families.queues.QueueKind as queues
-use Rattle.model.specs.declared.families.queues.QueueStart.TheVariants.{Push, Pop}
-use Rattle.model.specs.declared.families.queues.calls.QueueFlight.TheVariants.{Values}
+use Rattle.model.specs.declared.families.queues.QueueStart.TheVariants.{Push}
 use Rattle.model.specs.declared.families.queues.calls.RingCall as rings
 use Rattle.model.specs.declared.turn.Kind.TheVariants as kinds
-use Rattle.model.specs.Coding.{Coding, IsCoding}
-use Rattle.model.specs.Families.{after_of}
-use Rattle.model.specs.Families.Queues.Calls.{fresh_cell, kept_at}
-use Rattle.model.specs.Families.Queues.Steps.{effects_of, push_effect}
-use Rattle.threaded.specs.Driver.{answered, KeepsRule}
-use Rattle.laws_queues.proofs.Ring.Knows.{IsFresh}
+use Rattle.model.specs.Families.Queues.Steps.{effects_of}
 use Rattle.history.specs.declared.view.View.{View}
 use Rattle.history.specs.History.{IsMachine}
 use Rattle.history.specs.Queues.{push_skips}
@@ -48,7 +35,6 @@ use Rattle.history.proofs.Drives.{IsCallOf, goes, keeps, keeps_all}
 use Rattle.history.proofs.QueueCalls.{holds_it}
 use Rattle.history.proofs.Queues.{queue_effects, values_owe, role_starts}
 use Rattle.history.proofs.Rooms.{room_set, room_read}
-use Rattle.steps.specs.declared.queues.roles.Role.TheVariants.{Producer, Consumer}
 
 -- a word of a cell is one of the queue's words
 cell_low : (size capacity position cell at : ℕ) → IsWordOf size capacity position cell at → word_at cell at < 4 + size * capacity

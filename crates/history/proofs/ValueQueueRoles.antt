@@ -1,18 +1,12 @@
 -- The calls on the roles and the lengths of a queue of values: they are those of an index queue, over wider cells.
-use Rattle.std.proofs.Common.{◌≡◌, ℕ, ◌+◌, ◌-◌, ◌*◌, ◌^◌, ◌<◌, ◌≤◌, nat_lt, false, None, List, [], ◌∷◌, ◌++◌, replicate, refl, arith}
-use Rattle.std.proofs.lemmas.Bool.Decides.{nat_tests}
+use Rattle.history.proofs.Names.{◌≡◌, ℕ, ◌+◌, ◌-◌, ◌*◌, ◌^◌, ◌<◌, ◌≤◌, nat_lt, false, None, List, [], ◌∷◌, ◌++◌}
+use Rattle.history.proofs.Names.{replicate, refl, arith, nat_tests, mul-le-mul_left, After, Want, first_len, len_want}
+use Rattle.history.proofs.Names.{len_after, LengthOf, Coding, IsCoding, KeepsRule}
 use Rattle.atomic_table.specs.Table.{opening}
-use Rattle.std.proofs.Math.Nat.{mul-le-mul_left}
-use Rattle.steps.specs.declared.ask.After.{After}
-use Rattle.steps.specs.declared.ask.Want.{Want}
 use Rattle.steps.specs.declared.queues.roles.Role.{Role}
-use Rattle.steps.specs.Queues.Lengths.{first_len, len_want, len_after}
 use Rattle.steps.specs.Queues.Roles.{acquire_want, acquire_after, release_want, release_after}
 use Rattle.model.specs.declared.families.queues.QueueKind as queues
-use Rattle.model.specs.declared.families.queues.calls.LengthOf.{LengthOf}
 use Rattle.model.specs.declared.turn.Kind.TheVariants as kinds
-use Rattle.model.specs.Coding.{Coding, IsCoding}
-use Rattle.threaded.specs.Driver.{KeepsRule}
 use Rattle.history.specs.declared.view.View.{View}
 use Rattle.history.specs.History.{IsMachine}
 use Rattle.history.specs.Queues.{takes_role, gives_role, counts_waiting}

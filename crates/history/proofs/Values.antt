@@ -1,38 +1,21 @@
 -- What the single value owes, from its laws, and which party may begin a call on it.
-use Rattle.std.proofs.Common.{◌≡◌, ℕ, ◌+◌, ◌*◌, ◌≤◌, true, false, Option, Some, None, IfSome, List, [], length, sum_by, refl, sym, ap, subst, ◌∙◌, arith}
-use Rattle.model.specs.declared.event.Answer.{Answer}
-use Rattle.model.specs.declared.event.Answer.TheVariants.{Truth}
-use Rattle.model.specs.declared.event.Event.{Event}
-use Rattle.model.specs.declared.event.Event.TheVariants.{Finished}
-use Rattle.model.specs.declared.event.Start.{Start}
+use Rattle.history.proofs.Names.{◌≡◌, ℕ, ◌+◌, ◌*◌, ◌≤◌, true, false, Option, Some, None, IfSome, List, [], length}
+use Rattle.history.proofs.Names.{sum_by, refl, sym, ap, subst, ◌∙◌, arith, Answer, Truth, Event, Finished, Start}
+use Rattle.history.proofs.Names.{Flight, Registry, AtomicStart, AtomicFlight, Party, Coding, first_of, step_of}
+use Rattle.history.proofs.Names.{beside_of, after_of, going_rows, IsValue, acted, party_of, IsKeptBy, promise_of}
+use Rattle.history.proofs.Names.{Each, first_row, answer_in, Trace, stands_there}
 use Rattle.model.specs.declared.event.Start.TheVariants.{Atomic}
-use Rattle.model.specs.declared.families.Flight.{Flight}
 use Rattle.model.specs.declared.families.Flight as flights
-use Rattle.model.specs.declared.families.Registry.{Registry}
 use Rattle.model.specs.declared.families.Registry as registries
-use Rattle.model.specs.declared.families.atomic.AtomicStart.{AtomicStart}
-use Rattle.model.specs.declared.families.atomic.AtomicStart.TheVariants.{AcquireProducer, ReleaseProducer, Store, Load}
-use Rattle.model.specs.declared.families.atomic.calls.AtomicFlight.{AtomicFlight}
+use Rattle.model.specs.declared.families.atomic.AtomicStart.TheVariants.{AcquireProducer, ReleaseProducer, Store}
+use Rattle.model.specs.declared.families.atomic.AtomicStart.TheVariants.{Load}
 use Rattle.model.specs.declared.families.atomic.calls.AtomicFlight as calls
-use Rattle.model.specs.declared.party.Party.{Party}
 use Rattle.model.specs.declared.turn.Kind.TheVariants as kinds
-use Rattle.model.specs.Coding.{Coding}
-use Rattle.model.specs.Families.{first_of, step_of, beside_of, after_of, going_rows}
 use Rattle.model.specs.Families.Atomic.Calls.{after}
 use Rattle.model.specs.Families.Atomic.Opening.{lacks_role, kept_rows}
-use Rattle.model.specs.Families.Atomic.Promises.{IsValue}
 use Rattle.model.specs.Families.Atomic.Reading.{holder_after, holder_of}
 use Rattle.model.specs.Families.Atomic.Roles.{GrantsRight, KeepsHolder}
-use Rattle.model.specs.Families.Atomic.Steps.{acted}
-use Rattle.model.specs.Parties.{party_of}
-use Rattle.model.specs.Promises.{IsKeptBy}
-use Rattle.model.specs.Promises.Families.{promise_of}
-use Rattle.model.specs.Reading.{Each}
-use Rattle.model.specs.Rows.{first_row}
-use Rattle.model.specs.Step.{answer_in}
-use Rattle.model.specs.World.{Trace}
 use Rattle.model.proofs.Frame as frame
-use Rattle.model.proofs.Scenes.{stands_there}
 use Rattle.laws_value.proofs.Invariant.{Value, family}
 use Rattle.laws_value.proofs.Kept.{kept_on}
 use Rattle.laws_value.proofs.Knows.{At}

@@ -1,8 +1,6 @@
 -- What a call has written since it began is what its pass has seen of its party since.
-use Rattle.std.proofs.Common.{◌≡◌, ℕ, Option, Some, None, [], ◌++◌, sym, ap, ◌∙◌, append-nil, fold}
-use Rattle.model.specs.declared.turn.Kind.{Kind}
-use Rattle.model.specs.Coding.{Coding}
-use Rattle.model.specs.Reading.{Span, span_of, own_after, Open}
+use Rattle.history.proofs.Names.{◌≡◌, ℕ, Option, Some, None, [], ◌++◌, sym, ap, ◌∙◌, append-nil, fold, Kind, Coding}
+use Rattle.history.proofs.Names.{Span, span_of, own_after, Open}
 use Rattle.history.specs.declared.view.View.{View}
 use Rattle.history.specs.Known.{events_by}
 use Rattle.history.specs.Stages.{Calling, opened, IsUnderWay}

@@ -1,33 +1,16 @@
 -- The machines of bit sets and of counting bit sets as families: what is said of one of the two kinds, and what each turn of
 -- its machine has to show.
-use Rattle.std.proofs.Common.{◌≡◌, ℕ, ◌+◌, ◌≤◌, Bool, false, Option, Some, List, [], ◌++◌, fold}
-use Rattle.steps.specs.declared.ask.Ask.{Ask}
-use Rattle.steps.specs.declared.ask.After.{After}
-use Rattle.model.specs.declared.event.Answer.{Answer}
-use Rattle.model.specs.declared.event.Event.{Event}
-use Rattle.model.specs.declared.event.Start.{Start}
-use Rattle.model.specs.declared.event.Start.TheVariants.{Bits}
-use Rattle.model.specs.declared.families.Flight.{Flight}
+use Rattle.laws_bits.proofs.Names.{◌≡◌, ℕ, ◌+◌, ◌≤◌, Bool, false, Option, Some, List, [], ◌++◌, fold, Ask, After}
+use Rattle.laws_bits.proofs.Names.{Answer, Event, Start, Bits, Flight, Registry, BitsStart, BitsFlight, Party, Coding}
+use Rattle.laws_bits.proofs.Names.{ask_of, want, after, goes_back, effects_of, is_loan, Stands, Span, Open, own_after}
+use Rattle.laws_bits.proofs.Names.{span_of, answer_in, one_if, old_of, words_after, change_of, step_count}
+use Rattle.laws_bits.proofs.Names.{doing_after, ending_of, AreOwn, AllFollow}
 use Rattle.model.specs.declared.families.Flight as flights
-use Rattle.model.specs.declared.families.Registry.{Registry}
 use Rattle.model.specs.declared.families.Registry as registries
-use Rattle.model.specs.declared.families.bits.BitsStart.{BitsStart}
-use Rattle.model.specs.declared.families.bits.calls.BitsFlight.{BitsFlight}
-use Rattle.model.specs.declared.party.Party.{Party}
 use Rattle.model.specs.declared.turn.Kind.{Kind}
-use Rattle.model.specs.Coding.{Coding}
-use Rattle.model.specs.Families.{ask_of}
-use Rattle.model.specs.Families.Bits.Calls.{want, after, goes_back}
-use Rattle.model.specs.Families.Bits.Steps.{effects_of}
-use Rattle.model.specs.Families.Loan.Opening.{is_loan}
 use Rattle.model.specs.Promise.{Promise}
-use Rattle.model.specs.Promises.Spans.{Stands}
-use Rattle.model.specs.Reading.{Span, Open, own_after, span_of}
-use Rattle.model.specs.Step.{answer_in}
-use Rattle.model.specs.Turns.{one_if, old_of, words_after, change_of, step_count, doing_after, ending_of}
 use Rattle.model.proofs.Frame as frame
 use Rattle.model.proofs.Frame.{Family}
-use Rattle.model.proofs.Readings.{AreOwn, AllFollow}
 use Rattle.laws_bits.proofs.Spans.{any_call, wrote_in}
 
 -- the words, and the events of the run, in which a call under way has written its own

@@ -1,41 +1,24 @@
 -- That the machine of either kind of bit set keeps what its kind promises, from what the kind owes.
-use Rattle.std.proofs.Common.{◌≡◌, ◌≢◌, ℕ, ◌+◌, ◌-◌, ◌^◌, ◌≤◌, true, false, Some, None, List, [], ◌∷◌, ◌++◌, refl, sym, ap, subst, ◌∙◌, append-nil, arith}
-use Rattle.std.specs.List.{AllByRecursion}
-use Rattle.model.specs.declared.event.Event.{Event}
-use Rattle.model.specs.declared.event.Event.TheVariants.{Begun}
-use Rattle.model.specs.declared.event.Start.{Start}
-use Rattle.model.specs.declared.event.Start.TheVariants.{Bits}
-use Rattle.model.specs.declared.families.Flight.{Flight}
+use Rattle.laws_bits.proofs.Names.{◌≡◌, ◌≢◌, ℕ, ◌+◌, ◌-◌, ◌^◌, ◌≤◌, true, false, Some, None, List, [], ◌∷◌, ◌++◌}
+use Rattle.laws_bits.proofs.Names.{refl, sym, ap, subst, ◌∙◌, append-nil, AllByRecursion, Event, Begun, Start, Bits}
+use Rattle.laws_bits.proofs.Names.{Flight, Registry, BitsStart, BitsFlight, Party, Next, Coding, opening_of, first_of}
+use Rattle.laws_bits.proofs.Names.{want_of, ask_of, is_question, beside_of, step_of, kept_after_begin, goes_of, first}
+use Rattle.laws_bits.proofs.Names.{want, is_past, kept_rows, effects_of, is_loan, BeginsNone, IsEffectOf, Span, Open}
+use Rattle.laws_bits.proofs.Names.{span_of, old_of, party_at_begin, ending_of, after_turn, IsReached, IsReachedOn}
+use Rattle.laws_bits.proofs.Names.{Trace, opening, progress_in, others_begin_none, Orders, Keeps, ends_end, turn_is}
+use Rattle.laws_bits.proofs.Names.{Each-nil, span_of-own, span_of-other}
+use Rattle.std.proofs.Common.{arith}
 use Rattle.model.specs.declared.families.Flight as flights
-use Rattle.model.specs.declared.families.Registry.{Registry}
 use Rattle.model.specs.declared.families.Registry as registries
-use Rattle.model.specs.declared.families.bits.BitsStart.{BitsStart}
-use Rattle.model.specs.declared.families.bits.calls.BitsFlight.{BitsFlight}
 use Rattle.model.specs.declared.party.Doing.TheVariants.{Going}
-use Rattle.model.specs.declared.party.Party.{Party}
 use Rattle.model.specs.declared.turn.Refusal.TheVariants.{BadIndex}
 use Rattle.model.specs.declared.turn.Turn.{Turn}
-use Rattle.model.specs.declared.turn.Turn.TheVariants.{Next}
-use Rattle.model.specs.Coding.{Coding}
-use Rattle.model.specs.Families.{opening_of, first_of, want_of, ask_of, is_question, beside_of, step_of, kept_after_begin, goes_of}
-use Rattle.model.specs.Families.Bits.Calls.{first, want}
-use Rattle.model.specs.Families.Bits.Opening.{is_past, kept_rows}
-use Rattle.model.specs.Families.Bits.Steps.{effects_of}
-use Rattle.model.specs.Families.Loan.Opening.{is_loan}
-use Rattle.model.specs.Moments.{BeginsNone}
 use Rattle.model.specs.Parties.{party_of}
 use Rattle.model.specs.Promises.{IsTurnBy, IsKeptBy}
 use Rattle.model.specs.Promises.Bounds.{Progresses}
 use Rattle.model.specs.Promises.Families.{promise_of}
-use Rattle.model.specs.Promises.Turns.{IsEffectOf}
-use Rattle.model.specs.Reading.{Span, Open, span_of}
 use Rattle.model.specs.Rows.{first_row}
-use Rattle.model.specs.Turns.{old_of, party_at_begin, ending_of, after_turn, IsReached, IsReachedOn}
-use Rattle.model.specs.World.{Trace, opening, progress_in}
 use Rattle.model.proofs.Frame as frame
-use Rattle.model.proofs.Moments.{others_begin_none}
-use Rattle.model.proofs.Orders.{Orders, Keeps, ends_end, turn_is}
-use Rattle.model.proofs.Readings.{Each-nil, span_of-own, span_of-other}
 use Rattle.model.proofs.Rows.{row_passed, MayBegin}
 use Rattle.model.proofs.Small.{reached_small}
 use Rattle.model.proofs.Scenes.{asked, StandsThere, stands_there, ComesFrom, comes_from, InOrder, in_order_from}

@@ -1,11 +1,8 @@
 -- What an operation does to a word, and which words change by it. The flags of a word stand in `steps`.
-use Rattle.std.proofs.Common.{◌≡◌, ◌≢◌, ℕ, zero, suc, ◌==◌, Bool, true, false, cond, Option, Some, None, List, get_or}
-use Rattle.std.proofs.Common.{set, replicate, refl, ap, ◌∙◌, arith, get_or-set_other}
-use Rattle.std.proofs.lemmas.Bool.Decides.{nat_tests}
-use Rattle.std.proofs.lemmas.List.{set-get_or}
-use Rattle.steps.specs.declared.ask.Ask.{Ask}
-use Rattle.steps.specs.declared.ask.Op.TheVariants.{Load, Exchange}
-use Rattle.model.specs.Turns.{words_after, change_of}
+use Rattle.laws_bits.proofs.Names.{◌≡◌, ◌≢◌, ℕ, zero, suc, ◌==◌, Bool, true, false, cond, Option, Some, None, List}
+use Rattle.laws_bits.proofs.Names.{get_or, set, replicate, refl, ap, ◌∙◌, get_or-set_other, nat_tests, set-get_or}
+use Rattle.laws_bits.proofs.Names.{Ask, Load, Exchange, words_after, change_of}
+use Rattle.std.proofs.Common.{arith}
 
 -- the same number is read everywhere
 pub zeros : (n i d : ℕ) → get_or (replicate n d) i d ≡ d

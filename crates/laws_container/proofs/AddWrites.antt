@@ -1,40 +1,20 @@
 -- The steps of an add that was granted its index: it is the one who may write there, until it ends.
-use Rattle.std.proofs.Common.{◌≡◌, ◌≢◌, ◌⊎◌, ⊎_elim, inl, inr, ℕ, ◌+◌, ◌*◌, ◌%◌, ◌<◌, ◌≤◌, ◌==◌, if◌then◌else◌, nat_lt}
-use Rattle.std.proofs.Common.{Bool, false, true, Option, Some, None, is_some, List, [], ◌∷◌, ◌++◌, get_or, set, refl}
-use Rattle.std.proofs.Common.{sym, ap, subst, ◌∙◌, append-nil, arith}
-use Rattle.std.proofs.lemmas.Bool.{cases_eq}
-use Rattle.std.proofs.lemmas.Bool.Decides.{nat_tests}
-use Rattle.std.proofs.lemmas.List.Sums.{fold-append}
-use Rattle.steps.specs.declared.ask.Ask.{Ask}
-use Rattle.steps.specs.declared.ask.After.{After}
-use Rattle.steps.specs.declared.ask.After.TheVariants.{GoOn, Done}
+use Rattle.laws_container.proofs.Names.{◌≡◌, ◌≢◌, ◌⊎◌, ⊎_elim, inl, inr, ℕ, ◌+◌, ◌*◌, ◌%◌, ◌<◌, ◌≤◌, ◌==◌}
+use Rattle.laws_container.proofs.Names.{if◌then◌else◌, nat_lt, Bool, false, true, Option, Some, None, is_some, List}
+use Rattle.laws_container.proofs.Names.{[], ◌∷◌, ◌++◌, get_or, set, refl, sym, ap, subst, ◌∙◌, append-nil, arith}
+use Rattle.laws_container.proofs.Names.{cases_eq, nat_tests, fold-append, Ask, After, GoOn, AddStage, Added}
+use Rattle.laws_container.proofs.Names.{first_add, at_add, change_word, count_word, element_word, is_even, empty}
+use Rattle.laws_container.proofs.Names.{one_more, went_on, Answer, Index, Placed, Hidden, Finished, Container}
+use Rattle.laws_container.proofs.Names.{ContainerStart, ContainerFlight, Party, added, Act, Places, Hides, places}
+use Rattle.laws_container.proofs.Names.{contents_after, contents_of, announced_after, announced_of, SetAct}
+use Rattle.laws_container.proofs.Names.{filled_after, holder_after, as_it_is, put, as_call, words_after, step_count}
+use Rattle.laws_container.proofs.Names.{at_same, at_other, calm_less, gone_less, lives_settled, right_after}
+use Rattle.laws_container.proofs.Names.{loads_same, exchanges, fails_same}
+use Rattle.steps.specs.declared.ask.After.TheVariants.{Done}
 use Rattle.steps.specs.declared.container.add.Add as add_calls
-use Rattle.steps.specs.declared.container.add.AddStage.{AddStage}
 use Rattle.steps.specs.declared.container.add.AddStage as adds
-use Rattle.steps.specs.Container.Add.{Added, first_add, at_add}
-use Rattle.steps.specs.Container.Layout.{change_word, count_word, element_word, is_even}
-use Rattle.steps.specs.Indices.Robust.Parts.{empty, one_more}
-use Rattle.steps.specs.Routine.{went_on}
-use Rattle.model.specs.declared.event.Answer.{Answer}
-use Rattle.model.specs.declared.event.Answer.TheVariants.{Index}
-use Rattle.model.specs.declared.event.Event.TheVariants.{Placed, Hidden, Finished}
-use Rattle.model.specs.declared.event.Start.TheVariants.{Container}
-use Rattle.model.specs.declared.families.container.ContainerStart.{ContainerStart}
 use Rattle.model.specs.declared.families.container.ContainerStart.TheVariants.{Add}
-use Rattle.model.specs.declared.families.container.calls.ContainerFlight.{ContainerFlight}
 use Rattle.model.specs.declared.families.container.calls.ContainerFlight as calls
-use Rattle.model.specs.declared.party.Party.{Party}
-use Rattle.model.specs.Families.Container.Calls.{added}
-use Rattle.model.specs.Families.Container.Reading.{Act, Places, Hides, places, contents_after, contents_of, announced_after, announced_of}
-use Rattle.model.specs.Families.Indices.Robust.Reading.{SetAct, filled_after, holder_after}
-use Rattle.model.specs.Families.Queues.Calls.{as_it_is}
-use Rattle.model.specs.Parties.{put}
-use Rattle.model.specs.Step.{as_call}
-use Rattle.model.specs.Turns.{words_after, step_count}
-use Rattle.laws_robust.proofs.Effects.{at_same, at_other}
-use Rattle.laws_robust.proofs.Gone.{calm_less, gone_less, lives_settled}
-use Rattle.laws_robust.proofs.Rights.{right_after}
-use Rattle.laws_robust.proofs.Stages.{loads_same, exchanges, fails_same}
 use Rattle.laws_robust.proofs.Stages as set_stages
 use Rattle.laws_container.proofs.Adds.{acquire_step}
 use Rattle.laws_container.proofs.Contents.{store_writes}

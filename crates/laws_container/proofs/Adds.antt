@@ -1,10 +1,11 @@
 -- The steps of an add while it acquires its index: what the acquire of the set leads to, in a call that goes on after the grant.
-use Rattle.std.proofs.Common.{inl, inr, ◌∙◌, ⊎_elim, ◌≡◌, ℕ, ◌<◌, ◌≤◌, Bool, false, Option, List, [], ◌∷◌, ◌++◌, refl, ap, arith}
-use Rattle.std.specs.Prelude.{Err}
-use Rattle.steps.specs.declared.ask.Ask.{Ask}
-use Rattle.steps.specs.declared.ask.After.{After}
-use Rattle.steps.specs.declared.ask.After.TheVariants.{GoOn, Done}
-use Rattle.steps.specs.declared.container.add.AddStage.{AddStage}
+use Rattle.laws_container.proofs.Names.{inl, inr, ◌∙◌, ⊎_elim, ◌≡◌, ℕ, ◌<◌, ◌≤◌, Bool, false, Option, List, [], ◌∷◌}
+use Rattle.laws_container.proofs.Names.{◌++◌, refl, ap, arith, Err, Ask, After, GoOn, AddStage, first_add}
+use Rattle.laws_container.proofs.Names.{add_acquired, cell_word, empty, went_on, NoPlace, Event, Filled, Granted}
+use Rattle.laws_container.proofs.Names.{Finished, Container, ContainerStart, ContainerFlight, Party, added, Act}
+use Rattle.laws_container.proofs.Names.{Fills, Grants, as_it_is, as_call, words_after, quiet_end, grants_alone}
+use Rattle.laws_container.proofs.Names.{owns_then, acquire_at, acquire_number, AcquireAt}
+use Rattle.steps.specs.declared.ask.After.TheVariants.{Done}
 use Rattle.steps.specs.declared.container.add.AddStage as adds
 use Rattle.steps.specs.declared.container.enums.ContainerAddFailure as add_failures
 use Rattle.steps.specs.declared.indices.enums.UniqueIndexSetAcquireFailure as failures
@@ -12,34 +13,15 @@ use Rattle.steps.specs.declared.indices.robust.acquire.Acquire as set_calls
 use Rattle.steps.specs.declared.indices.robust.acquire.AcquireStage.{AcquireStage}
 use Rattle.steps.specs.declared.indices.robust.acquire.AcquireStage as acquires
 use Rattle.steps.specs.declared.indices.robust.parts.Raise as raises
-use Rattle.steps.specs.Container.Add.{first_add, add_acquired}
 use Rattle.steps.specs.Indices.Robust.Acquire.{Acquired}
-use Rattle.steps.specs.Indices.Robust.Parts.{cell_word, empty}
-use Rattle.steps.specs.Routine.{went_on}
-use Rattle.model.specs.declared.event.Answer.TheVariants.{NoPlace}
-use Rattle.model.specs.declared.event.Event.{Event}
-use Rattle.model.specs.declared.event.Event.TheVariants.{Filled, Granted, Finished}
-use Rattle.model.specs.declared.event.Start.TheVariants.{Container}
-use Rattle.model.specs.declared.families.container.ContainerStart.{ContainerStart}
 use Rattle.model.specs.declared.families.container.ContainerStart.TheVariants.{Add}
-use Rattle.model.specs.declared.families.container.calls.ContainerFlight.{ContainerFlight}
 use Rattle.model.specs.declared.families.container.calls.ContainerFlight as calls
-use Rattle.model.specs.declared.party.Party.{Party}
-use Rattle.model.specs.Families.Container.Calls.{added}
-use Rattle.model.specs.Families.Container.Reading.{Act}
-use Rattle.model.specs.Families.Indices.Robust.Reading.{Fills, Grants}
-use Rattle.model.specs.Families.Queues.Calls.{as_it_is}
-use Rattle.model.specs.Step.{as_call}
-use Rattle.model.specs.Turns.{words_after}
 use Rattle.laws_robust.proofs.Core as set_core
 use Rattle.laws_robust.proofs.Effects as set_effects
-use Rattle.laws_robust.proofs.Effects.{quiet_end}
-use Rattle.laws_robust.proofs.Grants.{grants_alone, owns_then}
 use Rattle.laws_robust.proofs.Held.{Caller, WhyNot, FewEnd, held_step}
 use Rattle.laws_robust.proofs.Invariant as set_invariant
 use Rattle.laws_robust.proofs.Knows as set_knows
 use Rattle.laws_robust.proofs.Stages as set_stages
-use Rattle.laws_robust.proofs.Standing.{acquire_at, acquire_number, AcquireAt}
 use Rattle.laws_container.proofs.Effects.{OwesStill}
 use Rattle.laws_container.proofs.Invariant.{Scene, Inv, ActsFor, before, after, of_set, inv_of_set}
 use Rattle.laws_container.proofs.SetSteps.{rest_set, wide_set, fills, grants}

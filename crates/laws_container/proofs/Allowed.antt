@@ -1,12 +1,7 @@
 -- What a turn that is taken has passed, on a machine whose owners die or in an open run.
-use Rattle.std.proofs.Common.{◌≡◌, true, None, arith}
-use Rattle.model.specs.declared.turn.Turn.{Turn}
-use Rattle.model.specs.declared.turn.Turn.TheVariants.{Next, Decide}
-use Rattle.model.specs.Refusals.{is_due, call_refusal}
-use Rattle.model.specs.World.{World, flight_in}
+use Rattle.laws_container.proofs.Names.{◌≡◌, true, None, arith, Turn, Next, Decide, is_due, call_refusal, World}
+use Rattle.laws_container.proofs.Names.{flight_in, must_be_due, open_refusal}
 use Rattle.model.proofs.Frame as frame
-use Rattle.model.proofs.Rows.{must_be_due}
-use Rattle.laws_robust.specs.Open.{open_refusal}
 
 module _ {T : Type 0} where
   abbrev pub IsAllowed : World T → Turn T → Type 0

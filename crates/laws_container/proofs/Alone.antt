@@ -1,17 +1,9 @@
 -- A call that was alone, by the events: it was so a turn ago, and no other party has a call under way.
-use Rattle.std.proofs.Common.{◌≡◌, ◌≢◌, ℕ, if◌then◌else◌, true, false, Option, Some, None, List, [], ◌∷◌, ◌++◌, fold}
-use Rattle.std.proofs.Common.{refl, sym, ap, subst, ◌∙◌, append_assoc, arith, eq-eqb, ne_eqb}
-use Rattle.std.proofs.lemmas.Bool.Decides.{nat_tests}
-use Rattle.std.proofs.lemmas.List.{append_cancel_left}
-use Rattle.std.proofs.lemmas.List.Sums.{fold-append}
-use Rattle.std.specs.List.{AllByRecursion}
-use Rattle.model.specs.declared.event.Event.{Event}
-use Rattle.model.specs.declared.event.Event.TheVariants.{Begun, Died}
-use Rattle.model.specs.Families.Container.Looks.{IsOwnOrDeath, WasAlone}
-use Rattle.model.specs.Moments.{BeginsNone}
-use Rattle.model.specs.Reading.{Span, Never, whose, is_party, own_after, span_after, span_of}
-use Rattle.model.specs.Shape.{IsShut}
-use Rattle.laws_robust.proofs.Past.{began_earlier}
+use Rattle.laws_container.proofs.Names.{◌≡◌, ◌≢◌, ℕ, if◌then◌else◌, true, false, Option, Some, None, List, [], ◌∷◌}
+use Rattle.laws_container.proofs.Names.{◌++◌, fold, refl, sym, ap, subst, ◌∙◌, append_assoc, arith, eq-eqb, ne_eqb}
+use Rattle.laws_container.proofs.Names.{nat_tests, append_cancel_left, fold-append, AllByRecursion, Event, Begun}
+use Rattle.laws_container.proofs.Names.{Died, IsOwnOrDeath, WasAlone, BeginsNone, Span, Never, whose, is_party}
+use Rattle.laws_container.proofs.Names.{own_after, span_after, span_of, IsShut, began_earlier}
 
 not_theirs : (p q : ℕ) (o : Option ℕ) → q ≢ p → is_party p o ≡ true → is_party q o ≡ false
 not_theirs p q None ne h = refl

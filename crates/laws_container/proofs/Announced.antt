@@ -1,11 +1,8 @@
 -- What was announced when a call began, and stood through it, is announced still.
-use Rattle.std.proofs.Common.{◌≡◌, ℕ, Bool, true, false, Option, Some, None, List, [], ◌∷◌, ◌++◌, refl, sym, ap, subst, ◌∙◌, append_assoc, append-nil, arith}
-use Rattle.std.proofs.lemmas.List.Sums.{fold-append}
-use Rattle.model.specs.declared.event.Event.{Event}
-use Rattle.model.specs.declared.event.Event.TheVariants.{Begun}
-use Rattle.model.specs.Families.Container.Looks.{WasAnnounced, StoodThrough}
-use Rattle.model.specs.Families.Container.Reading.{contents_after, contents_of, announced_after, announced_of}
-use Rattle.model.specs.Moments.{BeginsNone}
+use Rattle.laws_container.proofs.Names.{◌≡◌, ℕ, Bool, true, false, Option, Some, None, List, [], ◌∷◌, ◌++◌, refl, sym}
+use Rattle.laws_container.proofs.Names.{ap, subst, ◌∙◌, append_assoc, append-nil, arith, fold-append, Event, Begun}
+use Rattle.laws_container.proofs.Names.{WasAnnounced, StoodThrough, contents_after, contents_of, announced_after}
+use Rattle.laws_container.proofs.Names.{announced_of, BeginsNone}
 
 module _ {T : Type 0} where
   -- an event after which something stands hides nothing there

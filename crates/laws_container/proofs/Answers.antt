@@ -1,19 +1,11 @@
 -- What a container's answers say, once its counter may be worn; and in the words of a machine whose owners die.
-use Rattle.std.proofs.Common.{⊎_elim, inl, inr, ℕ, List, ◌∷◌, subst}
+use Rattle.laws_container.proofs.Names.{⊎_elim, inl, inr, ℕ, List, ◌∷◌, subst, ReleaseMode, LockIfLastIndex, Default}
+use Rattle.laws_container.proofs.Names.{State, NoPlace, Event, FreedOf, Asked, Told, Finished, Container, AsksRight}
+use Rattle.laws_container.proofs.Names.{FreedRight, RecoversRight, AnswersRight, FilledSinceEach, Each, Span, Open}
+use Rattle.laws_container.proofs.Names.{span_of, GoneBy, Death, IsHonestBy, honest_less}
 use Rattle.steps.specs.declared.container.enums.ContainerAddFailure.TheVariants as failures
-use Rattle.steps.specs.declared.indices.enums.ReleaseMode.{ReleaseMode}
-use Rattle.steps.specs.declared.indices.enums.ReleaseMode.TheVariants.{LockIfLastIndex, Default}
 use Rattle.steps.specs.declared.indices.enums.ReleaseState.TheVariants.{Unlocked}
-use Rattle.model.specs.declared.event.Answer.TheVariants.{State, NoPlace}
-use Rattle.model.specs.declared.event.Event.{Event}
-use Rattle.model.specs.declared.event.Event.TheVariants.{FreedOf, Asked, Told, Finished}
-use Rattle.model.specs.declared.event.Start.TheVariants.{Container}
 use Rattle.model.specs.declared.families.container.ContainerStart.TheVariants.{Add, Remove, Recover}
-use Rattle.model.specs.Families.Container.Promises.{AsksRight, FreedRight, RecoversRight, AnswersRight}
-use Rattle.model.specs.Families.Container.Recoveries.{FilledSinceEach}
-use Rattle.model.specs.Reading.{Each, Span, Open, span_of}
-use Rattle.laws_robust.specs.Gone.{GoneBy, Death, IsHonestBy}
-use Rattle.laws_robust.proofs.Gone.{honest_less}
 use Rattle.laws_container.specs.Gone.{AsksBy, FreedBy, RecoversBy, FilledSinceEachBy, AnswersBy}
 
 module _ {T : Type 0} where

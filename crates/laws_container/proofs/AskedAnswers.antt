@@ -1,48 +1,25 @@
 -- What becomes of the answer to a question: a no ends a find, a yes tells a recovery to free the index that it asked about, and
 -- no question is left.
-use Rattle.std.proofs.Common.{◌≡◌, ℕ, ⊎_elim, Bool, true, false, Option, Some, None, List, [], ◌∷◌, ◌++◌, refl, sym, ap, subst, ◌∙◌, append-nil, arith}
-use Rattle.std.proofs.lemmas.Bool.{cases_eq}
-use Rattle.steps.specs.declared.container.find.FindStage.{FindStage}
+use Rattle.laws_container.proofs.Names.{◌≡◌, ℕ, ⊎_elim, Bool, true, false, Option, Some, None, List, [], ◌∷◌, ◌++◌}
+use Rattle.laws_container.proofs.Names.{refl, sym, ap, subst, ◌∙◌, append-nil, arith, cases_eq, FindStage, DeadOwner}
+use Rattle.laws_container.proofs.Names.{RecoverStage, ContainerState, ReleaseMode, raise_want, lock_want, Number}
+use Rattle.laws_container.proofs.Names.{Event, Copied, Finished, Container, ContainerStart, ContainerFlight, Turn}
+use Rattle.laws_container.proofs.Names.{Decide, Coding, is_question, want, after, question_in, question_at, AllRight}
+use Rattle.laws_container.proofs.Names.{HasWritten, AsksOnce, IsAnswered, IsTold, YesTells, NoTells, QuestionsRight}
+use Rattle.laws_container.proofs.Names.{acts_of, state_of, effects, questions, IsIn, set_acts_of, read_in, answer_in}
+use Rattle.laws_container.proofs.Names.{number_of, ending_of, events_of, after_turn, Trace, both_ways}
+use Rattle.laws_container.proofs.Names.{raise_asks_none, lock_asks_none}
 use Rattle.steps.specs.declared.container.find.FindStage as finds
-use Rattle.steps.specs.declared.container.recover.DeadOwner.{DeadOwner}
-use Rattle.steps.specs.declared.container.recover.RecoverStage.{RecoverStage}
 use Rattle.steps.specs.declared.container.recover.RecoverStage as recovers
-use Rattle.steps.specs.declared.container.state.ContainerState.{ContainerState}
 use Rattle.steps.specs.declared.copied.Buffer as buffers
-use Rattle.steps.specs.declared.indices.enums.ReleaseMode.{ReleaseMode}
-use Rattle.steps.specs.Indices.Robust.Parts.{raise_want, lock_want}
-use Rattle.model.specs.declared.event.Answer.TheVariants.{Number}
-use Rattle.model.specs.declared.event.Event.{Event}
-use Rattle.model.specs.declared.event.Event.TheVariants.{Copied, Finished}
-use Rattle.model.specs.declared.event.Start.TheVariants.{Container}
 use Rattle.model.specs.declared.families.Flight as flights
-use Rattle.model.specs.declared.families.container.ContainerStart.{ContainerStart}
 use Rattle.model.specs.declared.families.container.ContainerStart as starts
-use Rattle.model.specs.declared.families.container.calls.ContainerFlight.{ContainerFlight}
 use Rattle.model.specs.declared.families.container.calls.ContainerFlight.TheVariants.{Find, Recover}
-use Rattle.model.specs.declared.turn.Turn.{Turn}
-use Rattle.model.specs.declared.turn.Turn.TheVariants.{Decide}
-use Rattle.model.specs.Coding.{Coding}
-use Rattle.model.specs.Families.{is_question}
-use Rattle.model.specs.Families.Container.Calls.{want, after}
-use Rattle.model.specs.Families.Container.Questions.{question_in, question_at, AllRight, HasWritten, AsksOnce}
-use Rattle.model.specs.Families.Container.Questions.{IsAnswered, IsTold, YesTells, NoTells, QuestionsRight}
-use Rattle.model.specs.Families.Container.Reading.{acts_of}
-use Rattle.model.specs.Families.Container.States.{state_of}
-use Rattle.model.specs.Families.Container.Steps.{effects, questions}
-use Rattle.model.specs.Families.Indices.Robust.Promises.{IsIn}
-use Rattle.model.specs.Families.Indices.Robust.Reading.{set_acts_of}
-use Rattle.model.specs.Families.Queues.Calls.{read_in}
-use Rattle.model.specs.Step.{answer_in}
-use Rattle.model.specs.Turns.{number_of, ending_of, events_of, after_turn}
-use Rattle.model.specs.World.{Trace}
 use Rattle.model.proofs.Frame as frame
-use Rattle.laws_robust.proofs.Effects.{both_ways}
 use Rattle.laws_container.proofs.AskedLeft.{made}
 use Rattle.laws_container.proofs.AskedTurn.{IsCalm, IsGoing, any_turn, decided}
 use Rattle.laws_container.proofs.AskedWrites.{goes_right}
 use Rattle.laws_container.proofs.Invariant.{family_by}
-use Rattle.laws_robust.proofs.Sound.{raise_asks_none, lock_asks_none}
 use Rattle.laws_container.proofs.Sound.{MayGoOn, Shown}
 use Rattle.laws_container.proofs.Stages.{any_call}
 use Rattle.laws_container.proofs.Standing.{find_at, recover_at, At}

@@ -1,29 +1,13 @@
 -- A find that ends writes nothing else in that turn, and where no no ends it, it has come to the indices of the whole container.
-use Rattle.std.proofs.Common.{◌≡◌, ℕ, ⊎_elim, Option, Some, List, [], ◌∷◌, ◌++◌, refl, sym, ap, subst, ◌∙◌, append-nil, arith}
-use Rattle.std.proofs.lemmas.List.{append_cancel_left}
-use Rattle.steps.specs.declared.container.find.FindStage.{FindStage}
-use Rattle.steps.specs.declared.container.state.ContainerState.{ContainerState}
+use Rattle.laws_container.proofs.Names.{◌≡◌, ℕ, ⊎_elim, Option, Some, List, [], ◌∷◌, ◌++◌, refl, sym, ap, subst, ◌∙◌}
+use Rattle.laws_container.proofs.Names.{append-nil, arith, append_cancel_left, FindStage, ContainerState, Answer}
+use Rattle.laws_container.proofs.Names.{Number, Event, Finished, Container, ContainerFlight, Turn, Coding, after}
+use Rattle.laws_container.proofs.Names.{acts_of, state_of, effects, questions, set_acts_of, answer_in, ending_of}
+use Rattle.laws_container.proofs.Names.{events_of, after_turn, Trace, no_more}
 use Rattle.steps.specs.declared.copied.Buffer as buffers
-use Rattle.model.specs.declared.event.Answer.{Answer}
-use Rattle.model.specs.declared.event.Answer.TheVariants.{Number}
-use Rattle.model.specs.declared.event.Event.{Event}
-use Rattle.model.specs.declared.event.Event.TheVariants.{Finished}
-use Rattle.model.specs.declared.event.Start.TheVariants.{Container}
 use Rattle.model.specs.declared.families.container.ContainerStart.TheVariants as starts
-use Rattle.model.specs.declared.families.container.calls.ContainerFlight.{ContainerFlight}
 use Rattle.model.specs.declared.families.container.calls.ContainerFlight.TheVariants.{Find}
-use Rattle.model.specs.declared.turn.Turn.{Turn}
-use Rattle.model.specs.Coding.{Coding}
-use Rattle.model.specs.Families.Container.Calls.{after}
-use Rattle.model.specs.Families.Container.Reading.{acts_of}
-use Rattle.model.specs.Families.Container.States.{state_of}
-use Rattle.model.specs.Families.Container.Steps.{effects, questions}
-use Rattle.model.specs.Families.Indices.Robust.Reading.{set_acts_of}
-use Rattle.model.specs.Step.{answer_in}
-use Rattle.model.specs.Turns.{ending_of, events_of, after_turn}
-use Rattle.model.specs.World.{Trace}
 use Rattle.model.proofs.Frame as frame
-use Rattle.model.proofs.Readings.{no_more}
 use Rattle.laws_container.proofs.AskedTurn.{GoesOn, IsCalm, IsGoing, any_turn}
 use Rattle.laws_container.proofs.Invariant.{family_by}
 use Rattle.laws_container.proofs.LooksTell.{container_is, ends_last}

@@ -1,23 +1,13 @@
 -- What a call of the container asks about once it has gone on: a find or a recovery about the value that it has just copied,
 -- and any other, or after any other step, about none.
-use Rattle.std.proofs.Common.{◌≡◌, ℕ, ◌==◌, if◌then◌else◌, Option, Some, None, arith}
-use Rattle.steps.specs.declared.ask.After.{After}
-use Rattle.steps.specs.declared.ask.After.TheVariants.{GoOn, Done}
-use Rattle.steps.specs.declared.container.find.FindStage.{FindStage}
+use Rattle.laws_container.proofs.Names.{◌≡◌, ℕ, ◌==◌, if◌then◌else◌, Option, Some, None, arith, After, GoOn}
+use Rattle.laws_container.proofs.Names.{FindStage, RecoverStage, ContainerState, Answer, Flight, ContainerStart}
+use Rattle.laws_container.proofs.Names.{ContainerFlight, Coding, first, after, question_in, read_in}
+use Rattle.steps.specs.declared.ask.After.TheVariants.{Done}
 use Rattle.steps.specs.declared.container.find.FindStage as finds
-use Rattle.steps.specs.declared.container.recover.RecoverStage.{RecoverStage}
 use Rattle.steps.specs.declared.container.recover.RecoverStage as recovers
-use Rattle.steps.specs.declared.container.state.ContainerState.{ContainerState}
-use Rattle.model.specs.declared.event.Answer.{Answer}
-use Rattle.model.specs.declared.families.Flight.{Flight}
 use Rattle.model.specs.declared.families.Flight as flights
-use Rattle.model.specs.declared.families.container.ContainerStart.{ContainerStart}
-use Rattle.model.specs.declared.families.container.calls.ContainerFlight.{ContainerFlight}
 use Rattle.model.specs.declared.families.container.calls.ContainerFlight.TheVariants.{Find, Recover}
-use Rattle.model.specs.Coding.{Coding}
-use Rattle.model.specs.Families.Container.Calls.{first, after}
-use Rattle.model.specs.Families.Container.Questions.{question_in}
-use Rattle.model.specs.Families.Queues.Calls.{read_in}
 use Rattle.laws_container.proofs.Stages.{any_call}
 
 module _ {T : Type 0} where

@@ -1,50 +1,23 @@
 -- A turn in which a call of the container goes on: what it writes, and what its party asks about then. Another party asks about
 -- what it did, and so does each party after a begin or a death.
-use Rattle.std.proofs.Common.{◌≡◌, ◌≢◌, ℕ, ◌+◌, ◌⊎◌, ⊎_elim, inl, inr, Bool, true, false, Option, Some, None, is_none}
-use Rattle.std.proofs.Common.{List, [], ◌∷◌, ◌++◌, refl, sym, ap, subst, ◌∙◌}
-use Rattle.std.specs.List.{AllByRecursion}
-use Rattle.std.proofs.lemmas.Bool.{cases_eq}
-use Rattle.steps.specs.declared.ask.After.{After}
-use Rattle.steps.specs.declared.ask.After.TheVariants.{GoOn, Done}
-use Rattle.model.specs.declared.event.Answer.{Answer}
-use Rattle.model.specs.declared.event.Event.{Event}
-use Rattle.model.specs.declared.event.Event.TheVariants.{Begun, Died, Finished}
-use Rattle.model.specs.declared.event.Start.{Start}
-use Rattle.model.specs.declared.event.Start.TheVariants.{Container}
-use Rattle.model.specs.declared.families.Flight.{Flight}
+use Rattle.laws_container.proofs.Names.{◌≡◌, ◌≢◌, ℕ, ◌+◌, ◌⊎◌, ⊎_elim, inl, inr, Bool, true, false, Option, Some}
+use Rattle.laws_container.proofs.Names.{None, is_none, List, [], ◌∷◌, ◌++◌, refl, sym, ap, subst, ◌∙◌, AllByRecursion}
+use Rattle.laws_container.proofs.Names.{cases_eq, After, GoOn, Answer, Event, Begun, Died, Finished, Start, Container}
+use Rattle.laws_container.proofs.Names.{Flight, Registry, ContainerStart, ContainerFlight, Doing, Going, Over, Party}
+use Rattle.laws_container.proofs.Names.{Idle, Undecided, Turn, Begin, Next, Decide, Die, Coding, first_of, want_of}
+use Rattle.laws_container.proofs.Names.{is_question, beside_of, step_of, want, after, question_in, question_at}
+use Rattle.laws_container.proofs.Names.{WritesRight, acts_of, state_of, effects, questions, set_acts_of, party_of}
+use Rattle.laws_container.proofs.Names.{doing_of, flight_of, IsParty, Open, span_of, is_due, call_refusal, Step}
+use Rattle.laws_container.proofs.Names.{answer_in, old_of, number_of, doing_after, party_after, party_at_begin}
+use Rattle.laws_container.proofs.Names.{after_begin, after_step, after_answer, after_next, after_decision, step_in}
+use Rattle.laws_container.proofs.Names.{step_count, change_of, events_of_step, events_of_answer, events_of_next}
+use Rattle.laws_container.proofs.Names.{events_of_decision, events_of, ending_of, ask_of_doing, after_turn, World}
+use Rattle.laws_container.proofs.Names.{Trace, flight_in, party_put_same, party_put_other, row_passed, StandsThere}
+use Rattle.laws_container.proofs.Names.{stands_there}
+use Rattle.steps.specs.declared.ask.After.TheVariants.{Done}
 use Rattle.model.specs.declared.families.Flight as flights
-use Rattle.model.specs.declared.families.Registry.{Registry}
-use Rattle.model.specs.declared.families.container.ContainerStart.{ContainerStart}
-use Rattle.model.specs.declared.families.container.calls.ContainerFlight.{ContainerFlight}
-use Rattle.model.specs.declared.party.Doing.{Doing}
-use Rattle.model.specs.declared.party.Doing.TheVariants.{Going, Over}
-use Rattle.model.specs.declared.party.Party.{Party}
 use Rattle.model.specs.declared.turn.Kind as kinds
-use Rattle.model.specs.declared.turn.Refusal.TheVariants.{Idle, Undecided}
-use Rattle.model.specs.declared.turn.Turn.{Turn}
-use Rattle.model.specs.declared.turn.Turn.TheVariants.{Begin, Next, Decide, Die}
-use Rattle.model.specs.Coding.{Coding}
-use Rattle.model.specs.Families.{first_of, want_of, is_question, beside_of, step_of}
-use Rattle.model.specs.Families.Container.Calls.{want, after}
-use Rattle.model.specs.Families.Container.Questions.{question_in, question_at, WritesRight}
-use Rattle.model.specs.Families.Container.Reading.{acts_of}
-use Rattle.model.specs.Families.Container.States.{state_of}
-use Rattle.model.specs.Families.Container.Steps.{effects, questions}
-use Rattle.model.specs.Families.Indices.Robust.Reading.{set_acts_of}
-use Rattle.model.specs.Parties.{party_of, doing_of, flight_of}
-use Rattle.model.specs.Promises.Turns.{IsParty}
-use Rattle.model.specs.Reading.{Open, span_of}
-use Rattle.model.specs.Refusals.{is_due, call_refusal}
-use Rattle.model.specs.Step.{Step, answer_in}
-use Rattle.model.specs.Turns.{old_of, number_of, doing_after, party_after, party_at_begin, after_begin, after_step}
-use Rattle.model.specs.Turns.{after_answer, after_next, after_decision, step_in, step_count, change_of, events_of_step}
-use Rattle.model.specs.Turns.{events_of_answer, events_of_next, events_of_decision, events_of, ending_of, ask_of_doing}
-use Rattle.model.specs.Turns.{after_turn}
-use Rattle.model.specs.World.{World, Trace, flight_in}
 use Rattle.model.proofs.Frame as frame
-use Rattle.model.proofs.Parties.{party_put_same, party_put_other}
-use Rattle.model.proofs.Rows.{row_passed}
-use Rattle.model.proofs.Scenes.{StandsThere, stands_there}
 use Rattle.laws_container.proofs.AskedLeft.{call_in, made, question_left, question_first}
 use Rattle.laws_container.proofs.Invariant.{family_by, view, wrote_of}
 use Rattle.laws_container.proofs.Knows.{Knows}

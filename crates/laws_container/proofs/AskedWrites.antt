@@ -1,26 +1,10 @@
 -- What a call of the container writes of a question as it goes on: a find and a recovery come to indices that were their owner's
 -- and ask at once about what they copy, and a recovery is told by a yes.
-use Rattle.std.proofs.Common.{◌≡◌, ◌≢◌, ℕ, true, Option, Some, None, List, [], ◌∷◌, ◌++◌, refl, sym, subst, arith}
-use Rattle.std.specs.List.{AllByRecursion}
-use Rattle.steps.specs.declared.container.state.ContainerState.{ContainerState}
-use Rattle.model.specs.declared.event.Answer.{Answer}
-use Rattle.model.specs.declared.event.Event.{Event}
-use Rattle.model.specs.declared.event.Start.TheVariants.{Container}
-use Rattle.model.specs.declared.families.container.ContainerStart.{ContainerStart}
-use Rattle.model.specs.declared.families.container.calls.ContainerFlight.{ContainerFlight}
-use Rattle.model.specs.declared.turn.Turn.{Turn}
-use Rattle.model.specs.declared.turn.Turn.TheVariants.{Decide}
-use Rattle.model.specs.Coding.{Coding}
-use Rattle.model.specs.Families.{is_question}
-use Rattle.model.specs.Families.Container.Calls.{want}
-use Rattle.model.specs.Families.Container.Questions.{question_at, WritesRight}
-use Rattle.model.specs.Families.Container.Reading.{acts_of}
-use Rattle.model.specs.Families.Container.States.{state_of}
-use Rattle.model.specs.Families.Container.Steps.{effects, questions}
-use Rattle.model.specs.Families.Indices.Robust.Reading.{set_acts_of}
-use Rattle.model.specs.Reading.{Open, span_of}
-use Rattle.model.specs.Turns.{ending_of, events_of, after_turn}
-use Rattle.model.specs.World.{Trace}
+use Rattle.laws_container.proofs.Names.{◌≡◌, ◌≢◌, ℕ, true, Option, Some, None, List, [], ◌∷◌, ◌++◌, refl, sym, subst}
+use Rattle.laws_container.proofs.Names.{arith, AllByRecursion, ContainerState, Answer, Event, Container}
+use Rattle.laws_container.proofs.Names.{ContainerStart, ContainerFlight, Turn, Decide, Coding, is_question, want}
+use Rattle.laws_container.proofs.Names.{question_at, WritesRight, acts_of, state_of, effects, questions, set_acts_of}
+use Rattle.laws_container.proofs.Names.{Open, span_of, ending_of, events_of, after_turn, Trace}
 use Rattle.model.proofs.Frame as frame
 use Rattle.laws_container.proofs.AskedLeft.{made}
 use Rattle.laws_container.proofs.AskedTurn.{GoesOn}

@@ -1,39 +1,20 @@
 -- What a call does as it begins, and what its first stage knows. The party's span was shut.
-use Rattle.std.proofs.Common.{◌≡◌, ◌≢◌, ℕ, ⊎_elim, if◌then◌else◌, nat_lt, Bool, true, false, Option, Some, None}
-use Rattle.std.proofs.Common.{is_some, List, [], ◌∷◌, ◌++◌, refl, sym, ap, subst, ◌∙◌, arith}
-use Rattle.std.proofs.lemmas.Bool.Decides.{nat_tests}
-use Rattle.std.proofs.lemmas.List.{length-replicate}
-use Rattle.std.proofs.lemmas.List.Sums.{fold-append}
+use Rattle.laws_container.proofs.Names.{◌≡◌, ◌≢◌, ℕ, ⊎_elim, if◌then◌else◌, nat_lt, Bool, true, false, Option, Some}
+use Rattle.laws_container.proofs.Names.{None, is_some, List, [], ◌∷◌, ◌++◌, refl, sym, ap, subst, ◌∙◌, arith}
+use Rattle.laws_container.proofs.Names.{nat_tests, length-replicate, fold-append, ContainerState, ReleaseMode, Event}
+use Rattle.laws_container.proofs.Names.{Begun, Container, ContainerStart, Party, first, is_looking, names_owner}
+use Rattle.laws_container.proofs.Names.{states_at_begin, StandsWellFormed, WasShown, Sees, contents_after}
+use Rattle.laws_container.proofs.Names.{contents_of, announced_after, announced_of, acts, acts_of, state_of}
+use Rattle.laws_container.proofs.Names.{with_state, fresh, IsFilledWith, Yes, set_acts, set_acts_of, dead_after}
+use Rattle.laws_container.proofs.Names.{settled_of, wrote_in, IsOneOf, party_of, put, doing_of, flight_of, Open}
+use Rattle.laws_container.proofs.Names.{span_of, IsShut, party_put_other, found_put_same, found_put_other, no_more}
+use Rattle.laws_container.proofs.Names.{span_of-own, count_none, GoneBy, Death, Word, is_gone, both_ways, calm_less}
+use Rattle.laws_container.proofs.Names.{gone_begun, since_begun}
 use Rattle.steps.specs.declared.container.remove.RemoveStage as removes
 use Rattle.steps.specs.declared.container.replace.ReplaceStage as replaces
-use Rattle.steps.specs.declared.container.state.ContainerState.{ContainerState}
-use Rattle.steps.specs.declared.indices.enums.ReleaseMode.{ReleaseMode}
-use Rattle.model.specs.declared.event.Event.{Event}
-use Rattle.model.specs.declared.event.Event.TheVariants.{Begun}
-use Rattle.model.specs.declared.event.Start.TheVariants.{Container}
-use Rattle.model.specs.declared.families.container.ContainerStart.{ContainerStart}
 use Rattle.model.specs.declared.families.container.ContainerStart as starts
-use Rattle.model.specs.declared.party.Party.{Party}
-use Rattle.model.specs.Families.Container.Calls.{first}
-use Rattle.model.specs.Families.Container.Looks.{is_looking}
-use Rattle.model.specs.Families.Container.Opening.{names_owner, states_at_begin}
-use Rattle.model.specs.Families.Container.Promises.{StandsWellFormed, WasShown}
-use Rattle.model.specs.Families.Container.Reading.{Sees, contents_after, contents_of, announced_after, announced_of, acts, acts_of}
-use Rattle.model.specs.Families.Container.States.{state_of, with_state, fresh}
-use Rattle.model.specs.Families.Indices.Robust.Promises.{IsFilledWith}
-use Rattle.model.specs.Families.Indices.Robust.Reading.{Yes, set_acts, set_acts_of, dead_after, settled_of, wrote_in, IsOneOf}
-use Rattle.model.specs.Parties.{party_of, put, doing_of, flight_of}
-use Rattle.model.specs.Reading.{Open, span_of}
-use Rattle.model.specs.Shape.{IsShut}
-use Rattle.model.proofs.Parties.{party_put_other, found_put_same, found_put_other}
-use Rattle.model.proofs.Readings.{no_more, span_of-own}
 use Rattle.laws_robust.proofs.Begins.{begins, taken}
-use Rattle.laws_robust.proofs.Counting.{count_none}
-use Rattle.laws_robust.specs.Gone.{GoneBy, Death, Word, is_gone}
-use Rattle.laws_robust.proofs.Effects.{both_ways}
-use Rattle.laws_robust.proofs.Gone.{calm_less, gone_begun}
 use Rattle.laws_robust.proofs.Invariant as set
-use Rattle.laws_robust.proofs.Past.{since_begun}
 use Rattle.laws_container.proofs.Invariant.{Scene, Elements, Changes, Does, before, after, of_set, view}
 use Rattle.laws_container.proofs.KeptCopies.{name_of}
 use Rattle.laws_container.proofs.Knows.{View, Knows, IsPaid, RemoveKnows, ReplacesKnow, LookRests}

@@ -1,36 +1,17 @@
 -- How many steps a call has taken at most, wherever it stands, and that each turn back is paid.
-use Rattle.std.proofs.Common.{◌≡◌, ℕ, ◌+◌, ◌-◌, ◌*◌, ◌≤◌, List, sym, subst, arith}
-use Rattle.steps.specs.declared.container.add.AddStage.{AddStage}
-use Rattle.steps.specs.declared.container.find.FindStage.{FindStage}
+use Rattle.laws_container.proofs.Names.{◌≡◌, ℕ, ◌+◌, ◌-◌, ◌*◌, ◌≤◌, List, sym, subst, arith, AddStage, FindStage}
+use Rattle.laws_container.proofs.Names.{LookStage, DeadOwner, RecoverStage, RemoveStage, ReplaceStage, ReleaseMode}
+use Rattle.laws_container.proofs.Names.{LockIfLastIndex, Default, Lock, GiveBack, Start, Container, Flight}
+use Rattle.laws_container.proofs.Names.{ContainerStart, ContainerFlight, Count, IsLocked, Coding, most_steps}
+use Rattle.laws_container.proofs.Names.{place_of, most, Act, SetAct, times_below, lock_number, LockAt}
 use Rattle.steps.specs.declared.container.find.FindStage as finds
-use Rattle.steps.specs.declared.container.look.LookStage.{LookStage}
 use Rattle.steps.specs.declared.container.look.LookStage as looks
-use Rattle.steps.specs.declared.container.recover.DeadOwner.{DeadOwner}
-use Rattle.steps.specs.declared.container.recover.RecoverStage.{RecoverStage}
-use Rattle.steps.specs.declared.container.remove.RemoveStage.{RemoveStage}
-use Rattle.steps.specs.declared.container.replace.ReplaceStage.{ReplaceStage}
-use Rattle.steps.specs.declared.indices.enums.ReleaseMode.{ReleaseMode}
-use Rattle.steps.specs.declared.indices.enums.ReleaseMode.TheVariants.{LockIfLastIndex, Default}
-use Rattle.steps.specs.declared.indices.robust.parts.Lock.{Lock}
-use Rattle.steps.specs.declared.indices.robust.release.GiveBack.{GiveBack}
-use Rattle.model.specs.declared.event.Start.{Start}
-use Rattle.model.specs.declared.event.Start.TheVariants.{Container}
-use Rattle.model.specs.declared.families.Flight.{Flight}
 use Rattle.model.specs.declared.families.Flight as flights
-use Rattle.model.specs.declared.families.container.ContainerStart.{ContainerStart}
 use Rattle.model.specs.declared.families.container.ContainerStart as starts
-use Rattle.model.specs.declared.families.container.calls.ContainerFlight.{ContainerFlight}
-use Rattle.model.specs.declared.families.container.calls.ContainerFlight.TheVariants.{Add, Remove, Replace, Find, Recover, Look, Count, IsLocked}
-use Rattle.model.specs.Coding.{Coding}
-use Rattle.model.specs.Families.Container.Bounds.{most_steps}
-use Rattle.model.specs.Families.Container.Calls.{place_of}
-use Rattle.model.specs.Families.Container.Promises.{most}
-use Rattle.model.specs.Families.Container.Reading.{Act}
-use Rattle.model.specs.Families.Indices.Robust.Reading.{SetAct}
+use Rattle.model.specs.declared.families.container.calls.ContainerFlight.TheVariants.{Add, Remove, Replace, Find}
+use Rattle.model.specs.declared.families.container.calls.ContainerFlight.TheVariants.{Recover, Look}
 use Rattle.model.proofs.Frame as frame
-use Rattle.laws_robust.proofs.Counting.{times_below}
 use Rattle.laws_robust.proofs.Kept.{count_most, lock_most}
-use Rattle.laws_robust.proofs.Standing.{lock_number, LockAt}
 use Rattle.laws_container.proofs.Invariant.{ContainerNow, family}
 use Rattle.laws_container.proofs.Knows.{View, Knows}
 use Rattle.laws_container.proofs.Standing.{add_number, remove_number, replace_number, find_number, for_back, for_index}

@@ -1,13 +1,9 @@
 -- Copies of elements. While the number of an element is still the one that was loaded, the words read so far are those that stand;
 -- and at the exchange of the number for itself the copy is the value that stands.
-use Rattle.std.proofs.Common.{◌≡◌, ℕ, ◌+◌, ◌%◌, ◌<◌, ◌≤◌, if◌then◌else◌, nat_lt, false, Option, Some}
-use Rattle.std.proofs.Common.{None, List, length, take, set, replicate, sym, ap, ◌∙◌, arith}
-use Rattle.std.proofs.Common.{get_or-set_same, get_or-set_other, get_or-take, length-take-le, ext_get_or}
-use Rattle.std.proofs.lemmas.Bool.Decides.{nat_tests}
-use Rattle.std.proofs.lemmas.List.{length-set}
-use Rattle.steps.specs.Copied.{value_in}
-use Rattle.model.specs.Coding.{Coding, IsCoding}
-use Rattle.model.specs.Families.Container.Reading.{contents_of}
+use Rattle.laws_container.proofs.Names.{◌≡◌, ℕ, ◌+◌, ◌%◌, ◌<◌, ◌≤◌, if◌then◌else◌, nat_lt, false, Option, Some, None}
+use Rattle.laws_container.proofs.Names.{List, length, take, set, replicate, sym, ap, ◌∙◌, arith, get_or-set_same}
+use Rattle.laws_container.proofs.Names.{get_or-set_other, get_or-take, length-take-le, ext_get_or, nat_tests}
+use Rattle.laws_container.proofs.Names.{length-set, value_in, Coding, IsCoding, contents_of}
 use Rattle.laws_container.proofs.Contents.{IsWhole, Stands}
 use Rattle.laws_container.proofs.Knows.{View, now, HasCome, Copying}
 use Rattle.laws_container.proofs.Terms.{Keeps}

@@ -1,9 +1,9 @@
 -- The words of a container behind its set's: the change counter, an element count an index, and the data words of each
 -- element, z words each. What a store to one of them leaves of the others. No event and no party is in it.
-use Rattle.std.proofs.Common.{◌≡◌, ◌≢◌, ℕ, ◌+◌, ◌*◌, ◌<◌, ◌≤◌, ⊎_elim, List, length, get_or, set, arith, get_or-set_same, get_or-set_other}
-use Rattle.std.proofs.lemmas.Bool.{cases_lt}
+use Rattle.laws_container.proofs.Names.{◌≡◌, ◌≢◌, ℕ, ◌+◌, ◌*◌, ◌<◌, ◌≤◌, ⊎_elim, List, length, get_or, set, arith}
+use Rattle.laws_container.proofs.Names.{get_or-set_same, get_or-set_other, cases_lt, change_word, count_word}
+use Rattle.laws_container.proofs.Names.{element_word}
 use Rattle.std.proofs.Math.Nat.{mul-le-mul_left}
-use Rattle.steps.specs.Container.Layout.{change_word, count_word, element_word}
 
 abbrev pub change_at : ℕ → List ℕ → ℕ
 change_at c words = get_or words (change_word c) 0

@@ -1,44 +1,23 @@
 -- The steps of the calls that look at the set of a container: how many indices are filled, and whether it is locked.
-use Rattle.std.proofs.Common.{◌≡◌, ℕ, ◌+◌, ◌*◌, ◌≤◌, ◌==◌, Bool, true, false, Option, Some, None, is_some, List, [], ◌∷◌, refl, ap, arith}
-use Rattle.steps.specs.declared.ask.Ask.{Ask}
-use Rattle.steps.specs.declared.ask.After.{After}
-use Rattle.steps.specs.declared.ask.After.TheVariants.{GoOn, Done}
-use Rattle.steps.specs.declared.indices.robust.parts.Count.{Count as Counting}
+use Rattle.laws_container.proofs.Names.{◌≡◌, ℕ, ◌+◌, ◌*◌, ◌≤◌, ◌==◌, Bool, true, false, Option, Some, None, is_some}
+use Rattle.laws_container.proofs.Names.{List, [], ◌∷◌, refl, ap, arith, Ask, After, GoOn, Counting, locked}
+use Rattle.laws_container.proofs.Names.{count_after, count_goes_back, went_on, Truth, Event, Finished, Container}
+use Rattle.laws_container.proofs.Names.{ContainerStart, CountOf, Party, most_steps, IsLength, Act, announced_after}
+use Rattle.laws_container.proofs.Names.{HasDone, IsFilled, SetAct, settled_after, filled_of, as_it_is, as_call}
+use Rattle.laws_container.proofs.Names.{old_of, words_after, step_count, counter_of, count_none, count_next, Stays}
+use Rattle.laws_container.proofs.Names.{both_ways, not_shut, unlocked, is_shut, stays_same, stays_raised, quiet_end}
+use Rattle.laws_container.proofs.Names.{count_ask, part_step, IsSaid, Right, right_after, count_number, CountAt}
+use Rattle.laws_container.proofs.Names.{GoneBy, IsWorn}
+use Rattle.steps.specs.declared.ask.After.TheVariants.{Done}
 use Rattle.steps.specs.declared.indices.robust.parts.Count as parts
 use Rattle.steps.specs.declared.indices.robust.parts.Counted.{Counted}
 use Rattle.steps.specs.Indices.Robust.Looks.{borrowed_counted}
-use Rattle.steps.specs.Indices.Robust.Parts.{locked, count_after, count_goes_back}
-use Rattle.steps.specs.Routine.{went_on}
-use Rattle.model.specs.declared.event.Answer.TheVariants.{Truth}
-use Rattle.model.specs.declared.event.Event.{Event}
-use Rattle.model.specs.declared.event.Event.TheVariants.{Finished}
-use Rattle.model.specs.declared.event.Start.TheVariants.{Container}
-use Rattle.model.specs.declared.families.container.ContainerStart.{ContainerStart}
 use Rattle.model.specs.declared.families.container.ContainerStart as starts
 use Rattle.model.specs.declared.families.container.calls.ContainerFlight as calls
-use Rattle.model.specs.declared.families.container.calls.CountOf.{CountOf}
 use Rattle.model.specs.declared.families.container.calls.CountOf as counts
-use Rattle.model.specs.declared.party.Party.{Party}
-use Rattle.model.specs.Families.Container.Bounds.{most_steps}
 use Rattle.model.specs.Families.Container.Calls.{counted}
-use Rattle.model.specs.Families.Container.Promises.{IsLength}
-use Rattle.model.specs.Families.Container.Reading.{Act, announced_after}
-use Rattle.model.specs.Families.Container.Spans.{HasDone}
-use Rattle.model.specs.Families.Indices.Robust.Promises.{IsFilled}
-use Rattle.model.specs.Families.Indices.Robust.Reading.{SetAct, settled_after, filled_of}
-use Rattle.model.specs.Families.Queues.Calls.{as_it_is}
-use Rattle.model.specs.Step.{as_call}
-use Rattle.model.specs.Turns.{old_of, words_after, step_count}
-use Rattle.laws_robust.proofs.Core.{counter_of}
-use Rattle.laws_robust.proofs.Counting.{count_none, count_next}
-use Rattle.laws_robust.proofs.Effects.{Stays, both_ways, not_shut, unlocked, is_shut, stays_same, stays_raised, quiet_end}
 use Rattle.laws_robust.proofs.Knows as set_knows
-use Rattle.laws_robust.proofs.Parts.{count_ask, count_step as part_step, IsSaid}
-use Rattle.laws_robust.proofs.Rights.{Right, right_after}
 use Rattle.laws_robust.proofs.Stages as set_stages
-use Rattle.laws_robust.proofs.Standing.{count_number, CountAt}
-use Rattle.laws_robust.specs.Gone.{GoneBy}
-use Rattle.laws_robust.proofs.Invariant.{IsWorn}
 use Rattle.laws_container.specs.Gone.{AnswersBy}
 use Rattle.laws_container.proofs.Effects.{OwesStill}
 use Rattle.laws_container.proofs.HiddenKnows.{EndsRight}

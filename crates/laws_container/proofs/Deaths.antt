@@ -1,17 +1,8 @@
 -- The death of an owner.
-use Rattle.std.proofs.Common.{◌≡◌, ℕ, ◌+◌, inl, true, false, None, is_some, List, [], ◌∷◌, ◌++◌, refl, sym, ap, ◌∙◌, arith}
-use Rattle.std.proofs.lemmas.List.Sums.{fold-append}
-use Rattle.steps.specs.declared.container.state.ContainerState.{ContainerState}
-use Rattle.model.specs.declared.event.Event.{Event}
-use Rattle.model.specs.declared.event.Event.TheVariants.{Died}
-use Rattle.model.specs.declared.party.Party.{Party}
-use Rattle.model.specs.Coding.{Coding}
-use Rattle.model.specs.Families.Container.Promises.{ContainsRight, ReplacesRight}
-use Rattle.model.specs.Families.Container.Reading.{contents_after, contents_of, announced_after, announced_of}
-use Rattle.model.specs.Families.Indices.Robust.Reading.{is_dead}
-use Rattle.model.specs.Parties.{party_of}
-use Rattle.model.proofs.Readings.{Each-append, span_of-death}
-use Rattle.laws_robust.proofs.Gone.{calm_less}
+use Rattle.laws_container.proofs.Names.{◌≡◌, ℕ, ◌+◌, inl, true, false, None, is_some, List, [], ◌∷◌, ◌++◌, refl, sym}
+use Rattle.laws_container.proofs.Names.{ap, ◌∙◌, arith, fold-append, ContainerState, Event, Died, Party, Coding}
+use Rattle.laws_container.proofs.Names.{ContainsRight, ReplacesRight, contents_after, contents_of, announced_after}
+use Rattle.laws_container.proofs.Names.{announced_of, is_dead, party_of, Each-append, span_of-death, calm_less}
 use Rattle.laws_robust.proofs.Deaths.{death_good, death_goes, death_spares}
 use Rattle.laws_robust.proofs.Invariant as set
 use Rattle.laws_container.specs.Gone.{AsksBy, RecoversBy, AnswersBy}

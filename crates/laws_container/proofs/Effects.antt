@@ -1,24 +1,12 @@
 -- What a turn does to the elements, by what it changes: nothing of them; the number of changes; a word of an element; or the
 -- number of an element, where a value is placed or hidden.
-use Rattle.std.proofs.Common.{◌≡◌, ◌≢◌, inl, ℕ, ◌+◌, ◌%◌, ◌<◌, ◌≤◌, Bool, true, false, Option, Some, None, is_some, List}
-use Rattle.std.proofs.Common.{◌++◌, length, get_or, set, fold, sym, ap, subst, ◌∙◌, arith, get_or-set_other}
-use Rattle.std.proofs.lemmas.List.{length-set}
-use Rattle.std.proofs.lemmas.List.Sums.{fold-append}
-use Rattle.steps.specs.Container.Layout.{change_word, count_word, element_word}
-use Rattle.steps.specs.Indices.Robust.Parts.{one_more}
-use Rattle.model.specs.declared.event.Event.{Event}
-use Rattle.model.specs.declared.event.Start.{Start}
-use Rattle.model.specs.declared.party.Party.{Party}
-use Rattle.model.specs.Families.Container.Looks.{WasAlone}
-use Rattle.model.specs.Families.Container.Reading.{contents_after, contents_of, announced_after, announced_of}
-use Rattle.model.specs.Families.Indices.Robust.Reading.{filled_of}
-use Rattle.model.specs.Parties.{party_of, put, doing_of, flight_of}
-use Rattle.model.specs.Reading.{Open, span_of}
-use Rattle.model.specs.Shape.{IsShut}
-use Rattle.model.proofs.Moments.{others_begin_none}
-use Rattle.model.proofs.Parties.{party_put_same, party_put_other}
-use Rattle.model.proofs.Readings.{AreOwn}
-use Rattle.laws_robust.specs.Gone.{is_gone}
+use Rattle.laws_container.proofs.Names.{◌≡◌, ◌≢◌, inl, ℕ, ◌+◌, ◌%◌, ◌<◌, ◌≤◌, Bool, true, false, Option, Some, None}
+use Rattle.laws_container.proofs.Names.{is_some, List, ◌++◌, length, get_or, set, fold, sym, ap, subst, ◌∙◌, arith}
+use Rattle.laws_container.proofs.Names.{get_or-set_other, length-set, fold-append, change_word, count_word}
+use Rattle.laws_container.proofs.Names.{element_word, one_more, Event, Start, Party, WasAlone, contents_after}
+use Rattle.laws_container.proofs.Names.{contents_of, announced_after, announced_of, filled_of, party_of, put}
+use Rattle.laws_container.proofs.Names.{doing_of, flight_of, Open, span_of, IsShut, others_begin_none, party_put_same}
+use Rattle.laws_container.proofs.Names.{party_put_other, AreOwn, is_gone}
 use Rattle.laws_container.proofs.Alone.{alone_less, others_shut}
 use Rattle.laws_container.proofs.Contents.{IsWhole, Writing, Stands, stands_on, store_whole}
 use Rattle.laws_container.proofs.Core.{count_at, datum_at, change_at, counts_stay, data_stay, count_set, count_stays}

@@ -1,6 +1,6 @@
 -- All that is shown of the turns of a container, call by call, and so what is proved of every run.
 use Rattle.model.specs.declared.turn.Kind as kinds
-use Rattle.model.proofs.Orders.{Keeps}
+use Rattle.laws_container.proofs.Names.{Keeps}
 use Rattle.laws_container.proofs.AddWrites.{add_step}
 use Rattle.laws_container.proofs.Begins.{begins_shown}
 use Rattle.laws_container.proofs.Counts.{count_step, lock_step}

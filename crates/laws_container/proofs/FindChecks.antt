@@ -1,39 +1,19 @@
 -- A find checks the number of what it has copied, and is told whether to go on; and any step of one.
-use Rattle.std.proofs.Common.{◌≡◌, ◌≢◌, ⊎_elim, ℕ, ◌+◌, ◌*◌, ◌<◌, ◌≤◌, ◌==◌, if◌then◌else◌, Bool, false}
-use Rattle.std.proofs.Common.{true, Option, Some, None, is_some, List, [], ◌∷◌, ◌++◌, set, refl, sym, ap, subst}
-use Rattle.std.proofs.Common.{◌∙◌, arith}
-use Rattle.std.proofs.lemmas.Bool.{cases_eq}
-use Rattle.std.proofs.lemmas.Bool.Decides.{nat_tests}
-use Rattle.std.proofs.lemmas.List.{set-get_or}
-use Rattle.steps.specs.declared.ask.Ask.{Ask}
-use Rattle.steps.specs.declared.ask.After.{After}
-use Rattle.steps.specs.declared.ask.After.TheVariants.{GoOn, Done}
+use Rattle.laws_container.proofs.Names.{◌≡◌, ◌≢◌, ⊎_elim, ℕ, ◌+◌, ◌*◌, ◌<◌, ◌≤◌, ◌==◌, if◌then◌else◌, Bool, false}
+use Rattle.laws_container.proofs.Names.{true, Option, Some, None, is_some, List, [], ◌∷◌, ◌++◌, set, refl, sym, ap}
+use Rattle.laws_container.proofs.Names.{subst, ◌∙◌, arith, cases_eq, nat_tests, set-get_or, Ask, After, GoOn}
+use Rattle.laws_container.proofs.Names.{FindStage, at_find, find_comes_to, count_word, empty, went_on, Answer, Event}
+use Rattle.laws_container.proofs.Names.{Copied, ContainerStart, ContainerFlight, Copies, acts_of, contents_of}
+use Rattle.laws_container.proofs.Names.{IsFilledWith, SetAct, IsOneOf, as_it_is, read_in, as_call, words_after}
+use Rattle.laws_container.proofs.Names.{held_later, times_below, count_later, through_less, exchanges, exchange_sets}
+use Rattle.laws_container.proofs.Names.{fails_same}
+use Rattle.steps.specs.declared.ask.After.TheVariants.{Done}
 use Rattle.steps.specs.declared.container.find.Find as find_calls
-use Rattle.steps.specs.declared.container.find.FindStage.{FindStage}
 use Rattle.steps.specs.declared.container.find.FindStage as finds
 use Rattle.steps.specs.declared.copied.Buffer as buffers
-use Rattle.steps.specs.Container.Find.{at_find, find_comes_to}
-use Rattle.steps.specs.Container.Layout.{count_word}
-use Rattle.steps.specs.Indices.Robust.Parts.{empty}
-use Rattle.steps.specs.Routine.{went_on}
-use Rattle.model.specs.declared.event.Answer.{Answer}
 use Rattle.model.specs.declared.event.Answer.TheVariants as answers
-use Rattle.model.specs.declared.event.Event.{Event}
-use Rattle.model.specs.declared.event.Event.TheVariants.{Copied}
-use Rattle.model.specs.declared.families.container.ContainerStart.{ContainerStart}
 use Rattle.model.specs.declared.families.container.ContainerStart.TheVariants.{Find}
-use Rattle.model.specs.declared.families.container.calls.ContainerFlight.{ContainerFlight}
 use Rattle.model.specs.declared.families.container.calls.ContainerFlight as calls
-use Rattle.model.specs.Families.Container.Reading.{Copies, acts_of, contents_of}
-use Rattle.model.specs.Families.Indices.Robust.Promises.{IsFilledWith}
-use Rattle.model.specs.Families.Indices.Robust.Reading.{SetAct, IsOneOf}
-use Rattle.model.specs.Families.Queues.Calls.{as_it_is, read_in}
-use Rattle.model.specs.Step.{as_call}
-use Rattle.model.specs.Turns.{words_after}
-use Rattle.model.proofs.Moments.{held_later}
-use Rattle.laws_robust.proofs.Counting.{times_below, count_later}
-use Rattle.laws_robust.proofs.Past.{through_less}
-use Rattle.laws_robust.proofs.Stages.{exchanges, exchange_sets, fails_same}
 use Rattle.laws_container.proofs.Copies.{copied_value}
 use Rattle.laws_container.proofs.Invariant.{Scene, Inv, before}
 use Rattle.laws_container.proofs.Knows.{View, FindKnows, Knows}

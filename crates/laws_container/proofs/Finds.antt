@@ -1,48 +1,23 @@
 -- The steps of a find.
-use Rattle.std.proofs.Common.{◌≡◌, ◌≢◌, ⊎_elim, ℕ, ◌+◌, ◌*◌, ◌%◌, ◌<◌, ◌≤◌, ◌==◌, if◌then◌else◌, nat_lt, Bool, false}
-use Rattle.std.proofs.Common.{true, Option, Some, None, is_some, List, [], ◌∷◌, ◌++◌, suc, refl, sym, ap, subst}
-use Rattle.std.proofs.Common.{◌∙◌, append-nil, append_assoc, arith}
-use Rattle.std.specs.List.{AllByRecursion}
-use Rattle.std.proofs.lemmas.Bool.{cases_eq}
-use Rattle.std.proofs.lemmas.Bool.Decides.{nat_tests}
-use Rattle.std.proofs.lemmas.List.{length-set}
-use Rattle.std.proofs.lemmas.List.Concat.{flat_map-append}
-use Rattle.steps.specs.declared.ask.Ask.{Ask}
-use Rattle.steps.specs.declared.ask.After.{After}
-use Rattle.steps.specs.declared.ask.After.TheVariants.{GoOn, Done}
+use Rattle.laws_container.proofs.Names.{◌≡◌, ◌≢◌, ⊎_elim, ℕ, ◌+◌, ◌*◌, ◌%◌, ◌<◌, ◌≤◌, ◌==◌, if◌then◌else◌, nat_lt}
+use Rattle.laws_container.proofs.Names.{Bool, false, true, Option, Some, None, is_some, List, [], ◌∷◌, ◌++◌, suc}
+use Rattle.laws_container.proofs.Names.{refl, sym, ap, subst, ◌∙◌, append-nil, append_assoc, arith, AllByRecursion}
+use Rattle.laws_container.proofs.Names.{cases_eq, nat_tests, length-set, flat_map-append, Ask, After, GoOn, FindStage}
+use Rattle.laws_container.proofs.Names.{at_find, find_comes_to, count_word, element_word, is_even, cell_word, empty}
+use Rattle.laws_container.proofs.Names.{one_more, went_on, Answer, Finished, Container, ContainerStart}
+use Rattle.laws_container.proofs.Names.{ContainerFlight, Party, Coding, IsOneOf, Act, index_seen, seen_in}
+use Rattle.laws_container.proofs.Names.{contents_of, cell_of, count_below, IsFilledWith, IsCount, as_it_is, kept_at}
+use Rattle.laws_container.proofs.Names.{put, as_call, words_after, step_count, held_now, cell, times_below}
+use Rattle.laws_container.proofs.Names.{count_next, count_within, chosen_with, with_here, with_there, count_with}
+use Rattle.laws_container.proofs.Names.{still_once, still_through, all_so, both_ways, filled_by, through_now}
+use Rattle.laws_container.proofs.Names.{loads_same}
+use Rattle.steps.specs.declared.ask.After.TheVariants.{Done}
 use Rattle.steps.specs.declared.container.find.Find as find_calls
-use Rattle.steps.specs.declared.container.find.FindStage.{FindStage}
 use Rattle.steps.specs.declared.container.find.FindStage as finds
 use Rattle.steps.specs.declared.copied.Buffer as buffers
-use Rattle.steps.specs.Container.Find.{at_find, find_comes_to}
-use Rattle.steps.specs.Container.Layout.{count_word, element_word, is_even}
-use Rattle.steps.specs.Indices.Robust.Parts.{cell_word, empty, one_more}
-use Rattle.steps.specs.Routine.{went_on}
-use Rattle.model.specs.declared.event.Answer.{Answer}
 use Rattle.model.specs.declared.event.Answer.TheVariants as answers
-use Rattle.model.specs.declared.event.Event.TheVariants.{Finished}
-use Rattle.model.specs.declared.event.Start.TheVariants.{Container}
-use Rattle.model.specs.declared.families.container.ContainerStart.{ContainerStart}
 use Rattle.model.specs.declared.families.container.ContainerStart.TheVariants.{Find}
-use Rattle.model.specs.declared.families.container.calls.ContainerFlight.{ContainerFlight}
 use Rattle.model.specs.declared.families.container.calls.ContainerFlight as calls
-use Rattle.model.specs.declared.party.Party.{Party}
-use Rattle.model.specs.Coding.{Coding}
-use Rattle.model.specs.Families.Indices.Robust.Reading.{IsOneOf}
-use Rattle.model.specs.Families.Container.Reading.{Act, index_seen, seen_in, contents_of}
-use Rattle.model.specs.Families.Indices.Robust.Promises.{cell_of, count_below, IsFilledWith, IsCount}
-use Rattle.model.specs.Families.Queues.Calls.{as_it_is, kept_at}
-use Rattle.model.specs.Parties.{put}
-use Rattle.model.specs.Step.{as_call}
-use Rattle.model.specs.Turns.{words_after, step_count}
-use Rattle.model.proofs.Moments.{held_now}
-use Rattle.laws_robust.proofs.Core.{cell}
-use Rattle.laws_robust.proofs.Counting.{times_below, count_next, count_within, chosen_with, with_here}
-use Rattle.laws_robust.proofs.Counting.{with_there, count_with, still_once, still_through}
-use Rattle.laws_robust.proofs.SetActs.{all_so}
-use Rattle.laws_robust.proofs.Effects.{both_ways, filled_by}
-use Rattle.laws_robust.proofs.Past.{through_now}
-use Rattle.laws_robust.proofs.Stages.{loads_same}
 use Rattle.laws_robust.proofs.Stages as set_stages
 use Rattle.laws_container.proofs.Contents.{Stands}
 use Rattle.laws_container.proofs.Core.{count_at}

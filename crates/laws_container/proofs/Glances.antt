@@ -1,22 +1,13 @@
 -- What a look makes of its party's state at an index, and what is so of the state then: it keeps the number that it finds, and a
 -- value once its copy is whole. Here the machine stands still.
-use Rattle.std.proofs.Common.{◌≡◌, ◌≢◌, ◌⊎◌, ⊎_elim, inl, inr, ℕ, zero, suc, ◌+◌, ◌<◌, ◌≤◌, if◌then◌else◌, true, false}
-use Rattle.std.proofs.Common.{Option, Some, None, List, [], ◌∷◌, length, get_or, set, slice_get, slice_index_or, refl}
-use Rattle.std.proofs.Common.{sym, ap, subst, ◌∙◌, arith, get_or-set_same, get_or-set_other}
-use Rattle.std.proofs.lemmas.Bool.{cases_eq, cases_lt}
-use Rattle.std.proofs.lemmas.List.{length-set}
-use Rattle.std.proofs.lemmas.Option.{slice_get-get_or, slice_get_past}
-use Rattle.steps.specs.Container.Layout.{is_even}
-use Rattle.steps.specs.Container.State.{value_if, counted, with_change, with_count, with_word, with_value, numbers_over}
-use Rattle.steps.specs.Copied.{value_in}
-use Rattle.steps.specs.declared.container.state.ContainerState.{ContainerState}
-use Rattle.steps.specs.declared.container.state.Element.{Element}
-use Rattle.model.specs.Coding.{Coding}
-use Rattle.model.specs.Families.Container.Looks.{shows, WasCopied}
-use Rattle.model.specs.Families.Container.Reading.{contents_of}
-use Rattle.model.specs.Families.Container.States.{settled}
-use Rattle.model.proofs.Moments.{held_now, held_so}
-use Rattle.laws_robust.proofs.Effects.{some_none}
+use Rattle.laws_container.proofs.Names.{◌≡◌, ◌≢◌, ◌⊎◌, ⊎_elim, inl, inr, ℕ, zero, suc, ◌+◌, ◌<◌, ◌≤◌, if◌then◌else◌}
+use Rattle.laws_container.proofs.Names.{true, false, Option, Some, None, List, [], ◌∷◌, length, get_or, set}
+use Rattle.laws_container.proofs.Names.{slice_get, slice_index_or, refl, sym, ap, subst, ◌∙◌, arith, get_or-set_same}
+use Rattle.laws_container.proofs.Names.{get_or-set_other, cases_eq, cases_lt, length-set, slice_get-get_or}
+use Rattle.laws_container.proofs.Names.{slice_get_past, is_even, value_if, with_change, with_count, with_word}
+use Rattle.laws_container.proofs.Names.{with_value, numbers_over, value_in, ContainerState, Element, Coding, shows}
+use Rattle.laws_container.proofs.Names.{WasCopied, contents_of, settled, held_now, held_so, some_none}
+use Rattle.steps.specs.Container.State.{counted}
 use Rattle.laws_container.proofs.KeptCopies.{IsGetting, HasCopied, ShowsOwn}
 use Rattle.laws_container.proofs.Sights.{number_in, number_at, Rests, Course}
 use Rattle.laws_container.proofs.Terms.{Keeps}

@@ -1,18 +1,11 @@
 -- What a call knows of an index that it will free, or has freed: that its number is the one that it has loaded, or is even; then,
 -- that what stands there stands under that number still, or that nothing has stood there since.
-use Rattle.std.proofs.Common.{◌≡◌, ◌⊎◌, ℕ, ◌%◌, false, true, Some, is_some, List}
-use Rattle.model.specs.declared.event.Event.{Event}
-use Rattle.model.specs.declared.event.Event.TheVariants.{Finished}
-use Rattle.model.specs.declared.event.Start.TheVariants.{Container}
-use Rattle.model.specs.declared.event.Answer.TheVariants.{Done, Index, State}
+use Rattle.laws_container.proofs.Names.{◌≡◌, ◌⊎◌, ℕ, ◌%◌, false, true, Some, is_some, List, Event, Finished}
+use Rattle.laws_container.proofs.Names.{Container, Index, State, Coding, contents_of, EmptySinceFreed, HidesRight}
+use Rattle.laws_container.proofs.Names.{PlacesRight, Frees, filled_of, settled_of, set_acts_of, IsOneOf, SinceBegin}
+use Rattle.laws_container.proofs.Names.{is_gone}
+use Rattle.model.specs.declared.event.Answer.TheVariants.{Done}
 use Rattle.model.specs.declared.families.container.ContainerStart.TheVariants.{Add, Remove, Replace, Recover}
-use Rattle.model.specs.Coding.{Coding}
-use Rattle.model.specs.Families.Container.Reading.{contents_of}
-use Rattle.model.specs.Families.Container.Removals.{EmptySinceFreed, HidesRight}
-use Rattle.model.specs.Families.Container.Promises.{PlacesRight}
-use Rattle.model.specs.Families.Indices.Robust.Reading.{Frees, filled_of, settled_of, set_acts_of, IsOneOf}
-use Rattle.model.specs.Moments.{SinceBegin}
-use Rattle.laws_robust.specs.Gone.{is_gone}
 use Rattle.laws_container.proofs.Turns.{Now, WellFormed, count_in}
 
 module _ {T : Type 0} (code : Coding T) (c : ℕ) where

@@ -1,18 +1,9 @@
 -- What a call knows of an index that it will free, or has freed, it knows still after any turn of another party.
-use Rattle.std.proofs.Common.{◌≡◌, ◌⊎◌, ⊎_elim, inl, inr, ℕ, ◌%◌, ◌<◌, Bool, false, true, Option, Some, None, is_some, List, ◌++◌, refl, ap, subst, ◌∙◌}
-use Rattle.model.specs.declared.event.Event.{Event}
-use Rattle.model.specs.declared.party.Party.{Party}
-use Rattle.model.specs.Coding.{Coding}
-use Rattle.model.specs.Families.Container.Reading.{contents_of}
-use Rattle.model.specs.Families.Container.Removals.{EmptySinceFreed}
-use Rattle.model.specs.Families.Indices.Robust.Reading.{Frees, settled_of, set_acts_of, IsOneOf}
-use Rattle.model.specs.Moments.{SinceBegin}
-use Rattle.model.proofs.Moments.{held_now, held_later}
-use Rattle.laws_robust.specs.Gone.{is_gone, IsCalm}
-use Rattle.laws_robust.proofs.Gone.{gone_less, stays_lost}
-use Rattle.laws_robust.proofs.Knows.{Goes, Spares}
-use Rattle.laws_robust.proofs.Past.{since_less}
-use Rattle.laws_robust.proofs.Rights.{IsBy}
+use Rattle.laws_container.proofs.Names.{◌≡◌, ◌⊎◌, ⊎_elim, inl, inr, ℕ, ◌%◌, ◌<◌, Bool, false, true, Option, Some}
+use Rattle.laws_container.proofs.Names.{None, is_some, List, ◌++◌, refl, ap, subst, ◌∙◌, Event, Party, Coding}
+use Rattle.laws_container.proofs.Names.{contents_of, EmptySinceFreed, Frees, settled_of, set_acts_of, IsOneOf}
+use Rattle.laws_container.proofs.Names.{SinceBegin, held_now, held_later, is_gone, IsCalm, gone_less, stays_lost}
+use Rattle.laws_container.proofs.Names.{Goes, Spares, since_less, IsBy}
 use Rattle.laws_container.proofs.HiddenKnows.{RemoveCovers, RecoverCovers, StillStands, HasHidden}
 use Rattle.laws_container.proofs.Turns.{Now, WellFormed, Passes, Leaves}
 

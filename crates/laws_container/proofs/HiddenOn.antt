@@ -1,23 +1,10 @@
 -- What a call knows of an index that it will free, or has freed, after a step of its own.
-use Rattle.std.proofs.Common.{◌≡◌, ◌≢◌, ◌⊎◌, ⊎_elim, inl, inr, ℕ, ◌%◌, ◌<◌, Option, Some, None, is_some, List, [], ◌∷◌}
-use Rattle.std.proofs.Common.{◌++◌, refl, sym, ap, subst, ◌∙◌, append-nil, arith}
-use Rattle.std.proofs.lemmas.List.Sums.{fold-append}
-use Rattle.model.specs.declared.event.Event.{Event}
-use Rattle.model.specs.declared.event.Event.TheVariants.{FreedOf, Hidden}
-use Rattle.model.specs.declared.event.Start.TheVariants.{Container}
-use Rattle.model.specs.declared.families.container.ContainerStart.{ContainerStart}
-use Rattle.model.specs.declared.party.Party.{Party}
-use Rattle.model.specs.Coding.{Coding}
-use Rattle.model.specs.Families.Container.Reading.{contents_after, contents_of}
-use Rattle.model.specs.Families.Container.Removals.{EmptySinceFreed}
-use Rattle.model.specs.Families.Indices.Robust.Reading.{Frees, filled_of, set_acts, set_acts_of, IsOneOf}
-use Rattle.model.specs.Moments.{BeginsNone}
-use Rattle.model.specs.Parties.{put}
-use Rattle.model.specs.Reading.{Open, span_of}
-use Rattle.model.proofs.Moments.{held_later}
-use Rattle.model.proofs.Readings.{AreOwn}
-use Rattle.laws_robust.proofs.SetActs.{was_one}
-use Rattle.laws_robust.proofs.Effects.{at_same}
+use Rattle.laws_container.proofs.Names.{◌≡◌, ◌≢◌, ◌⊎◌, ⊎_elim, inl, inr, ℕ, ◌%◌, ◌<◌, Option, Some, None, is_some}
+use Rattle.laws_container.proofs.Names.{List, [], ◌∷◌, ◌++◌, refl, sym, ap, subst, ◌∙◌, append-nil, arith}
+use Rattle.laws_container.proofs.Names.{fold-append, Event, FreedOf, Hidden, Container, ContainerStart, Party, Coding}
+use Rattle.laws_container.proofs.Names.{contents_after, contents_of, EmptySinceFreed, Frees, filled_of, set_acts}
+use Rattle.laws_container.proofs.Names.{set_acts_of, IsOneOf, BeginsNone, put, Open, span_of, held_later, AreOwn}
+use Rattle.laws_container.proofs.Names.{was_one, at_same}
 use Rattle.laws_container.proofs.Contents.{IsWhole, Stands}
 use Rattle.laws_container.proofs.Core.{count_at}
 use Rattle.laws_container.proofs.HiddenKnows.{Covered, RecoverCovers, StillStands, HasHidden, no_index}

@@ -1,40 +1,19 @@
 -- The end of a remove: it hides what stands there, unless that has changed, and counts its change.
-use Rattle.std.proofs.Common.{◌≡◌, ◌≢◌, ⊎_elim, inl, inr, ℕ, ◌+◌, ◌%◌, ◌<◌, ◌≤◌, ◌==◌, if◌then◌else◌, Bool, false}
-use Rattle.std.proofs.Common.{true, Option, Some, List, [], ◌∷◌, ◌++◌, refl, sym, ap, subst, ◌∙◌, append-nil, arith}
-use Rattle.std.proofs.lemmas.Bool.Decides.{nat_tests}
-use Rattle.steps.specs.declared.ask.Ask.{Ask}
-use Rattle.steps.specs.declared.ask.After.TheVariants.{GoOn, Done}
-use Rattle.steps.specs.declared.container.remove.RemoveStage.{RemoveStage}
+use Rattle.laws_container.proofs.Names.{◌≡◌, ◌≢◌, ⊎_elim, inl, inr, ℕ, ◌+◌, ◌%◌, ◌<◌, ◌≤◌, ◌==◌, if◌then◌else◌, Bool}
+use Rattle.laws_container.proofs.Names.{false, true, Option, Some, List, [], ◌∷◌, ◌++◌, refl, sym, ap, subst, ◌∙◌}
+use Rattle.laws_container.proofs.Names.{append-nil, arith, nat_tests, Ask, GoOn, RemoveStage, ReleaseMode}
+use Rattle.laws_container.proofs.Names.{LockIfLastIndex, Default, ReleaseState, GiveBack, change_word, count_word}
+use Rattle.laws_container.proofs.Names.{empty, greatest, one_more, Event, Hidden, Finished, Container, ContainerStart}
+use Rattle.laws_container.proofs.Names.{ContainerFlight, Party, most_steps, place_of, Act, HasDone, IsUnlocked}
+use Rattle.laws_container.proofs.Names.{FilledSinceFreed, SetAct, Frees, Locks, IsOneOf, BeginsNone, words_after}
+use Rattle.laws_container.proofs.Names.{held_later, counter_of, IsWorn, worn_on, both_ways, quiet_end, exchanges}
+use Rattle.laws_container.proofs.Names.{fails_same}
+use Rattle.steps.specs.declared.ask.After.TheVariants.{Done}
 use Rattle.steps.specs.declared.container.remove.RemoveStage as removes
-use Rattle.steps.specs.declared.indices.enums.ReleaseMode.{ReleaseMode}
-use Rattle.steps.specs.declared.indices.enums.ReleaseMode.TheVariants.{LockIfLastIndex, Default}
-use Rattle.steps.specs.declared.indices.enums.ReleaseState.{ReleaseState}
 use Rattle.steps.specs.declared.indices.enums.ReleaseState as states
-use Rattle.steps.specs.declared.indices.robust.release.GiveBack.{GiveBack}
-use Rattle.steps.specs.Container.Layout.{change_word, count_word}
-use Rattle.steps.specs.Indices.Robust.Parts.{empty, greatest, one_more}
 use Rattle.model.specs.declared.event.Answer.TheVariants as answers
-use Rattle.model.specs.declared.event.Event.{Event}
-use Rattle.model.specs.declared.event.Event.TheVariants.{Hidden, Finished}
-use Rattle.model.specs.declared.event.Start.TheVariants.{Container}
-use Rattle.model.specs.declared.families.container.ContainerStart.{ContainerStart}
 use Rattle.model.specs.declared.families.container.ContainerStart.TheVariants.{Remove}
-use Rattle.model.specs.declared.families.container.calls.ContainerFlight.{ContainerFlight}
-use Rattle.model.specs.declared.party.Party.{Party}
-use Rattle.model.specs.Families.Container.Bounds.{most_steps}
-use Rattle.model.specs.Families.Container.Calls.{place_of}
-use Rattle.model.specs.Families.Container.Reading.{Act}
-use Rattle.model.specs.Families.Container.Spans.{HasDone}
-use Rattle.model.specs.Families.Indices.Robust.Promises.{IsUnlocked, FilledSinceFreed}
-use Rattle.model.specs.Families.Indices.Robust.Reading.{SetAct, Frees, Locks, IsOneOf}
-use Rattle.model.specs.Moments.{BeginsNone}
-use Rattle.model.specs.Turns.{words_after}
-use Rattle.model.proofs.Moments.{held_later}
-use Rattle.laws_robust.proofs.Core.{counter_of}
-use Rattle.laws_robust.proofs.Invariant.{IsWorn, worn_on}
-use Rattle.laws_robust.proofs.Effects.{both_ways, quiet_end}
 use Rattle.laws_robust.proofs.Effects as set_effects
-use Rattle.laws_robust.proofs.Stages.{exchanges, fails_same}
 use Rattle.laws_container.specs.Gone.{AnswersBy}
 use Rattle.laws_container.proofs.HiddenOn.{hidden_other, hidden_on, hides_it}
 use Rattle.laws_container.proofs.Invariant.{Scene, Inv, ActsFor, before, of_set, inv_of_set}

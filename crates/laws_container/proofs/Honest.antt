@@ -1,49 +1,21 @@
 -- A faithful turn of an open run is honest: who takes no step for an owner who is gone fills, is granted and gives back nothing
 -- for one.
-use Rattle.std.proofs.Common.{◌≡◌, ◌⊎◌, ⊎_elim, inl, inr, ℕ, Bool, true, false, Option, Some, None, IfSome, List, []}
-use Rattle.std.proofs.Common.{◌∷◌, ◌++◌, refl, sym, ap, subst, ◌∙◌, append_assoc, append-nil, arith}
-use Rattle.std.specs.List.{AllByRecursion}
-use Rattle.std.proofs.lemmas.List.Sums.{fold-append}
-use Rattle.steps.specs.declared.indices.enums.ReleaseMode.{ReleaseMode}
-use Rattle.model.specs.declared.event.Answer.{Answer}
-use Rattle.model.specs.declared.event.Event.{Event}
-use Rattle.model.specs.declared.event.Event.TheVariants.{Begun}
-use Rattle.model.specs.declared.event.Start.{Start}
-use Rattle.model.specs.declared.event.Start.TheVariants.{Container}
-use Rattle.model.specs.declared.families.Flight.{Flight}
+use Rattle.laws_container.proofs.Names.{◌≡◌, ◌⊎◌, ⊎_elim, inl, inr, ℕ, Bool, true, false, Option, Some, None, IfSome}
+use Rattle.laws_container.proofs.Names.{List, [], ◌∷◌, ◌++◌, refl, sym, ap, subst, ◌∙◌, append_assoc, append-nil}
+use Rattle.laws_container.proofs.Names.{arith, AllByRecursion, fold-append, ReleaseMode, Answer, Event, Begun, Start}
+use Rattle.laws_container.proofs.Names.{Container, Flight, Registry, ContainerStart, ContainerFlight, Doing, Going}
+use Rattle.laws_container.proofs.Names.{Over, Party, Turn, Begin, Next, Decide, Die, Coding, want_of, is_question}
+use Rattle.laws_container.proofs.Names.{beside_of, step_of, want, after, promise, Act, may_stand, state_of, effects}
+use Rattle.laws_container.proofs.Names.{questions, SetAct, party_of, doing_of, flight_of, Stands, StandsRight}
+use Rattle.laws_container.proofs.Names.{IsEffectOf, Each, Span, Open, whose, own_after, span_of, is_due, answer_in}
+use Rattle.laws_container.proofs.Names.{old_of, number_of, ask_of_doing, ending_of, events_of_step, events_of_answer}
+use Rattle.laws_container.proofs.Names.{events_of_next, events_of_decision, after_turn, Trace, flight_in, AreRight}
+use Rattle.laws_container.proofs.Names.{Each-append, span_of-own, StandsThere, stands_there, Word, gone_after}
+use Rattle.laws_container.proofs.Names.{is_gone, ActsForRight, IsHonest, open_refusal}
 use Rattle.model.specs.declared.families.Flight as flights
-use Rattle.model.specs.declared.families.Registry.{Registry}
 use Rattle.model.specs.declared.families.Registry as registries
-use Rattle.model.specs.declared.families.container.ContainerStart.{ContainerStart}
 use Rattle.model.specs.declared.families.container.ContainerStart.TheVariants.{Add, Remove}
-use Rattle.model.specs.declared.families.container.calls.ContainerFlight.{ContainerFlight}
-use Rattle.model.specs.declared.party.Doing.{Doing}
-use Rattle.model.specs.declared.party.Doing.TheVariants.{Going, Over}
-use Rattle.model.specs.declared.party.Party.{Party}
-use Rattle.model.specs.declared.turn.Turn.{Turn}
-use Rattle.model.specs.declared.turn.Turn.TheVariants.{Begin, Next, Decide, Die}
-use Rattle.model.specs.Coding.{Coding}
-use Rattle.model.specs.Families.{want_of, is_question, beside_of, step_of}
-use Rattle.model.specs.Families.Container.Calls.{want, after}
-use Rattle.model.specs.Families.Container.Promises.{promise}
-use Rattle.model.specs.Families.Container.Reading.{Act}
-use Rattle.model.specs.Families.Container.Spans.{may_stand}
-use Rattle.model.specs.Families.Container.States.{state_of}
-use Rattle.model.specs.Families.Container.Steps.{effects, questions}
-use Rattle.model.specs.Families.Indices.Robust.Reading.{SetAct}
-use Rattle.model.specs.Parties.{party_of, doing_of, flight_of}
-use Rattle.model.specs.Promises.Spans.{Stands, StandsRight}
-use Rattle.model.specs.Promises.Turns.{IsEffectOf}
-use Rattle.model.specs.Reading.{Each, Span, Open, whose, own_after, span_of}
-use Rattle.model.specs.Refusals.{is_due}
-use Rattle.model.specs.Step.{answer_in}
-use Rattle.model.specs.Turns.{old_of, number_of, ask_of_doing, ending_of, events_of_step, events_of_answer, events_of_next, events_of_decision, after_turn}
-use Rattle.model.specs.World.{Trace, flight_in}
 use Rattle.model.proofs.Frame as frame
-use Rattle.model.proofs.Readings.{AreRight, Each-append, span_of-own}
-use Rattle.model.proofs.Scenes.{StandsThere, stands_there}
-use Rattle.laws_robust.specs.Gone.{Word, gone_after, is_gone, ActsForRight, IsHonest}
-use Rattle.laws_robust.specs.Open.{open_refusal}
 use Rattle.laws_container.specs.Gone.{acts_for_gone}
 use Rattle.laws_container.specs.Open.{is_for_gone, steps_for_gone}
 use Rattle.laws_container.proofs.Allowed.{allowed_open}

@@ -1,35 +1,20 @@
 -- What holds of the machine of a container between any two turns beside what the frame says of every machine, and what a turn
 -- must show to keep it.
-use Rattle.std.proofs.Common.{◌≡◌, ◌≢◌, ⊎_elim, ℕ, ◌+◌, ◌-◌, ◌^◌, ◌<◌, ◌≤◌, true, false, Some, is_some, List, ◌++◌}
-use Rattle.std.proofs.Common.{length, fold, refl, sym, ap, subst, ◌∙◌, arith}
-use Rattle.std.proofs.lemmas.Bool.{cases_eq}
-use Rattle.steps.specs.Container.Layout.{total_words}
-use Rattle.steps.specs.declared.container.state.ContainerState.{ContainerState}
-use Rattle.model.specs.declared.event.Event.{Event}
-use Rattle.model.specs.declared.event.Start.{Start}
+use Rattle.laws_container.proofs.Names.{◌≡◌, ◌≢◌, ⊎_elim, ℕ, ◌+◌, ◌-◌, ◌^◌, ◌<◌, ◌≤◌, true, false, Some, is_some}
+use Rattle.laws_container.proofs.Names.{List, ◌++◌, length, fold, refl, sym, ap, subst, ◌∙◌, arith, cases_eq}
+use Rattle.laws_container.proofs.Names.{total_words, ContainerState, Event, Start, Flight, Registry, Party, Coding}
+use Rattle.laws_container.proofs.Names.{IsCoding, is_looking, ContainsRight, promise, Act, acts, contents_of}
+use Rattle.laws_container.proofs.Names.{announced_of, acts_of, state_of, fresh, SetAct, is_dead, set_acts, wrote_in}
+use Rattle.laws_container.proofs.Names.{set_acts_of, party_of, put, doing_of, flight_of, Stands, Each, Span}
+use Rattle.laws_container.proofs.Names.{own_after, span_of, party_put_same, party_put_other, AllFollow, AreRight}
+use Rattle.laws_container.proofs.Names.{Each-append, span_of-other, is_gone, IsSeen}
 use Rattle.model.specs.declared.event.Start as any_starts
-use Rattle.model.specs.declared.families.Flight.{Flight}
 use Rattle.model.specs.declared.families.Flight as flights
-use Rattle.model.specs.declared.families.Registry.{Registry}
 use Rattle.model.specs.declared.families.Registry as registries
-use Rattle.model.specs.declared.party.Party.{Party}
 use Rattle.model.specs.declared.turn.Kind as kinds
-use Rattle.model.specs.Coding.{Coding, IsCoding}
-use Rattle.model.specs.Families.Container.Looks.{is_looking}
-use Rattle.model.specs.Families.Container.Promises.{ContainsRight, promise}
-use Rattle.model.specs.Families.Container.Reading.{Act, acts, contents_of, announced_of, acts_of}
-use Rattle.model.specs.Families.Container.States.{state_of, fresh}
-use Rattle.model.specs.Families.Indices.Robust.Reading.{SetAct, is_dead, set_acts, wrote_in, set_acts_of}
-use Rattle.model.specs.Parties.{party_of, put, doing_of, flight_of}
-use Rattle.model.specs.Promises.Spans.{Stands}
-use Rattle.model.specs.Reading.{Each, Span, own_after, span_of}
 use Rattle.model.proofs.Frame as frame
 use Rattle.model.proofs.Frame.{Family}
-use Rattle.model.proofs.Parties.{party_put_same, party_put_other}
-use Rattle.model.proofs.Readings.{AllFollow, AreRight, Each-append, span_of-other}
-use Rattle.laws_robust.specs.Gone.{is_gone}
 use Rattle.laws_robust.proofs.Invariant as set
-use Rattle.laws_robust.proofs.Knows.{IsSeen}
 use Rattle.laws_container.specs.Gone.{AsksBy, RecoversBy, AnswersBy}
 use Rattle.laws_container.proofs.Answers.{answers_on}
 use Rattle.laws_container.proofs.Contents.{IsWhole}

@@ -1,36 +1,15 @@
 -- What a turn writes down: what the step did to the container, then the end. No call of the container acts.
-use Rattle.std.proofs.Common.{◌≡◌, ℕ, Option, Some, None, List, [], ◌++◌, refl, sym, ap, subst, append-nil}
-use Rattle.model.specs.declared.event.Answer.{Answer}
-use Rattle.model.specs.declared.event.Event.{Event}
-use Rattle.model.specs.declared.event.Start.{Start}
-use Rattle.model.specs.declared.event.Start.TheVariants.{Container}
-use Rattle.model.specs.declared.families.Flight.{Flight}
+use Rattle.laws_container.proofs.Names.{◌≡◌, ℕ, Option, Some, None, List, [], ◌++◌, refl, sym, ap, subst, append-nil}
+use Rattle.laws_container.proofs.Names.{Answer, Event, Start, Container, Flight, Registry, Going, Party, Turn, Next}
+use Rattle.laws_container.proofs.Names.{Decide, Coding, want_of, ask_of, beside_of, step_of, goes_of, after}
+use Rattle.laws_container.proofs.Names.{IsWellFormedRun, promise, state_of, effects, questions, party_of, IsTurnBy}
+use Rattle.laws_container.proofs.Names.{promise_of, IsParty, WritesInOrder, refusal_of, answer_in, old_of, number_of}
+use Rattle.laws_container.proofs.Names.{step_in, events_of_step, ending_of, after_turn, Trace, passes, Orders, Keeps}
+use Rattle.laws_container.proofs.Names.{ends_end, turn_is, stands_there}
 use Rattle.model.specs.declared.families.Flight as flights
-use Rattle.model.specs.declared.families.Registry.{Registry}
 use Rattle.model.specs.declared.families.Registry as registries
-use Rattle.model.specs.declared.party.Doing.TheVariants.{Going}
-use Rattle.model.specs.declared.party.Party.{Party}
 use Rattle.model.specs.declared.turn.Kind as kinds
-use Rattle.model.specs.declared.turn.Turn.{Turn}
-use Rattle.model.specs.declared.turn.Turn.TheVariants.{Next, Decide}
-use Rattle.model.specs.Coding.{Coding}
-use Rattle.model.specs.Families.{want_of, ask_of, beside_of, step_of, goes_of}
-use Rattle.model.specs.Families.Container.Calls.{after}
-use Rattle.model.specs.Families.Container.Promises.{IsWellFormedRun, promise}
-use Rattle.model.specs.Families.Container.States.{state_of}
-use Rattle.model.specs.Families.Container.Steps.{effects, questions}
-use Rattle.model.specs.Parties.{party_of}
-use Rattle.model.specs.Promises.{IsTurnBy}
-use Rattle.model.specs.Promises.Families.{promise_of}
-use Rattle.model.specs.Promises.Turns.{IsParty, WritesInOrder}
-use Rattle.model.specs.Refusals.{refusal_of}
-use Rattle.model.specs.Step.{answer_in}
-use Rattle.model.specs.Turns.{old_of, number_of, step_in, events_of_step, ending_of, after_turn}
-use Rattle.model.specs.World.{Trace}
 use Rattle.model.proofs.Frame as frame
-use Rattle.model.proofs.Rows.{passes}
-use Rattle.model.proofs.Orders.{Orders, Keeps, ends_end, turn_is}
-use Rattle.model.proofs.Scenes.{stands_there}
 use Rattle.laws_container.proofs.Allowed.{allowed_by}
 use Rattle.laws_container.proofs.Invariant.{ContainerNow, Represents, family}
 use Rattle.laws_container.proofs.Kept.{kept}

@@ -1,45 +1,22 @@
 -- What a call of the container knows it knows still after any turn of another party.
-use Rattle.std.proofs.Common.{◌≡◌, ⊎_elim, inl, inr, ℕ, ◌+◌, ◌<◌, Bool, false, true, is_some, List}
-use Rattle.std.proofs.Common.{[], ◌∷◌, ◌++◌, fold, refl, sym, ap, subst, ◌∙◌, arith}
-use Rattle.std.proofs.lemmas.List.Sums.{fold-append}
-use Rattle.steps.specs.declared.container.add.AddStage.{AddStage}
+use Rattle.laws_container.proofs.Names.{◌≡◌, ⊎_elim, inl, inr, ℕ, ◌+◌, ◌<◌, Bool, false, true, is_some, List, [], ◌∷◌}
+use Rattle.laws_container.proofs.Names.{◌++◌, fold, refl, sym, ap, subst, ◌∙◌, arith, fold-append, AddStage}
+use Rattle.laws_container.proofs.Names.{FindStage, RemoveStage, ReplaceStage, ContainerState, ReleaseMode}
+use Rattle.laws_container.proofs.Names.{LockIfLastIndex, Default, ReleaseState, ReleaseStage, Event, Locked, Party}
+use Rattle.laws_container.proofs.Names.{Coding, StandsWellFormed, MayReplace, Copies, acts, acts_of, places}
+use Rattle.laws_container.proofs.Names.{contents_of, state_of, locked_after, is_locked, IsFilledWith, IsUnlocked}
+use Rattle.laws_container.proofs.Names.{FilledSinceFreed, set_acts_of, wrote_in, IsLatest, IsOneOf, read_in}
+use Rattle.laws_container.proofs.Names.{HeldSometime, party_of, span_of, held_later, gone_less, worn_on, count_later}
+use Rattle.laws_container.proofs.Names.{Goes, Spares, IsSeen, knows_later, through_less, through_now, acquire_at}
+use Rattle.laws_container.proofs.Names.{release_at}
 use Rattle.steps.specs.declared.container.add.AddStage as adds
-use Rattle.steps.specs.declared.container.find.FindStage.{FindStage}
 use Rattle.steps.specs.declared.container.find.FindStage as finds
-use Rattle.steps.specs.declared.container.remove.RemoveStage.{RemoveStage}
 use Rattle.steps.specs.declared.container.remove.RemoveStage as removes
-use Rattle.steps.specs.declared.container.replace.ReplaceStage.{ReplaceStage}
 use Rattle.steps.specs.declared.container.replace.ReplaceStage as replaces
-use Rattle.steps.specs.declared.container.state.ContainerState.{ContainerState}
 use Rattle.steps.specs.declared.copied.Buffer as buffers
-use Rattle.steps.specs.declared.indices.enums.ReleaseMode.{ReleaseMode}
-use Rattle.steps.specs.declared.indices.enums.ReleaseMode.TheVariants.{LockIfLastIndex, Default}
-use Rattle.steps.specs.declared.indices.enums.ReleaseState.{ReleaseState}
 use Rattle.steps.specs.declared.indices.enums.ReleaseState as states
-use Rattle.steps.specs.declared.indices.robust.release.ReleaseStage.{ReleaseStage}
 use Rattle.steps.specs.declared.indices.robust.release.ReleaseStage as releases
-use Rattle.model.specs.declared.event.Event.{Event}
-use Rattle.model.specs.declared.event.Event.TheVariants.{Locked}
-use Rattle.model.specs.declared.party.Party.{Party}
-use Rattle.model.specs.Coding.{Coding}
-use Rattle.model.specs.Families.Container.Promises.{StandsWellFormed}
-use Rattle.model.specs.Families.Container.Reading.{MayReplace, Copies, acts, acts_of, places, contents_of}
-use Rattle.model.specs.Families.Container.States.{state_of}
-use Rattle.model.specs.Families.Indices.Reading.{locked_after, is_locked}
-use Rattle.model.specs.Families.Indices.Robust.Promises.{IsFilledWith, IsUnlocked, FilledSinceFreed}
-use Rattle.model.specs.Families.Indices.Robust.Reading.{set_acts_of, wrote_in, IsLatest, IsOneOf}
-use Rattle.model.specs.Families.Queues.Calls.{read_in}
-use Rattle.model.specs.Moments.{HeldSometime}
-use Rattle.model.specs.Parties.{party_of}
-use Rattle.model.specs.Reading.{span_of}
-use Rattle.model.proofs.Moments.{held_later}
-use Rattle.laws_robust.proofs.Gone.{gone_less}
-use Rattle.laws_robust.proofs.Invariant.{worn_on}
-use Rattle.laws_robust.proofs.Counting.{count_later}
-use Rattle.laws_robust.proofs.Knows.{Goes, Spares, IsSeen, knows_later}
 use Rattle.laws_robust.proofs.Knows as set
-use Rattle.laws_robust.proofs.Past.{through_less, through_now}
-use Rattle.laws_robust.proofs.Standing.{acquire_at, release_at}
 use Rattle.laws_container.proofs.HiddenKnows.{no_index}
 use Rattle.laws_container.proofs.HiddenLater.{remove_covers, hidden_stands, hidden_later}
 use Rattle.laws_container.proofs.Knows.{View, of_set, now, IsPaid, Lives, Worn, WasFilled, AddOwns, HasFound}

@@ -1,28 +1,17 @@
 -- What a recovery and a look know stays known while others take turns; and so of any call.
-use Rattle.std.proofs.Common.{◌≡◌, ◌⊎◌, ⊎_elim, inl, inr, ℕ, ◌+◌, ◌<◌, Some, None, List}
-use Rattle.std.proofs.Common.{◌++◌, refl, sym, subst, ◌∙◌}
-use Rattle.steps.specs.declared.container.look.LookStage.{LookStage}
+use Rattle.laws_container.proofs.Names.{◌≡◌, ◌⊎◌, ⊎_elim, inl, inr, ℕ, ◌+◌, ◌<◌, Some, None, List, ◌++◌, refl, sym}
+use Rattle.laws_container.proofs.Names.{subst, ◌∙◌, LookStage, RecoverStage, ReleaseMode, ReleaseState, Event}
+use Rattle.laws_container.proofs.Names.{ContainerFlight, Count, IsLocked, Coding, WasShown, Sees, IsFilledWith}
+use Rattle.laws_container.proofs.Names.{IsUnlocked, StillToFree, filled_of, Frees, Asks, Yes, set_acts_of, IsOneOf}
+use Rattle.laws_container.proofs.Names.{IsHonestBy, gone_more, honest_less, stays_lost, held_paid, still_scanned}
+use Rattle.laws_container.proofs.Names.{through_less, borrowed_at, looking}
 use Rattle.steps.specs.declared.container.look.LookStage as looks
-use Rattle.steps.specs.declared.container.recover.RecoverStage.{RecoverStage}
 use Rattle.steps.specs.declared.container.recover.RecoverStage as recovers
 use Rattle.steps.specs.declared.copied.Buffer as buffers
-use Rattle.steps.specs.declared.indices.enums.ReleaseMode.{ReleaseMode}
-use Rattle.steps.specs.declared.indices.enums.ReleaseState.{ReleaseState}
 use Rattle.steps.specs.declared.indices.enums.ReleaseState as states
-use Rattle.model.specs.declared.event.Event.{Event}
-use Rattle.model.specs.declared.families.container.calls.ContainerFlight.{ContainerFlight}
-use Rattle.model.specs.declared.families.container.calls.ContainerFlight.TheVariants.{Add, Remove, Replace, Find, Recover, Look, Count, IsLocked}
-use Rattle.model.specs.Coding.{Coding}
-use Rattle.model.specs.Families.Container.Promises.{WasShown}
-use Rattle.model.specs.Families.Container.Reading.{Sees}
-use Rattle.model.specs.Families.Indices.Robust.Promises.{IsFilledWith, IsUnlocked, StillToFree}
-use Rattle.model.specs.Families.Indices.Robust.Reading.{filled_of, Frees, Asks, Yes, set_acts_of, IsOneOf}
-use Rattle.laws_robust.specs.Gone.{IsHonestBy}
-use Rattle.laws_robust.proofs.Gone.{gone_more, honest_less, stays_lost}
-use Rattle.laws_robust.proofs.Knows.{held_paid, still_scanned}
+use Rattle.model.specs.declared.families.container.calls.ContainerFlight.TheVariants.{Add, Remove, Replace, Find}
+use Rattle.model.specs.declared.families.container.calls.ContainerFlight.TheVariants.{Recover, Look}
 use Rattle.laws_robust.proofs.Knows as set
-use Rattle.laws_robust.proofs.Past.{through_less}
-use Rattle.laws_robust.proofs.Standing.{borrowed_at, looking}
 use Rattle.laws_container.specs.Gone.{HasRecoveredBy}
 use Rattle.laws_container.proofs.HiddenKnows.{RecoverCovers, StillStands, HasHidden, no_index}
 use Rattle.laws_container.proofs.HiddenLater.{recover_covers, hidden_stands, hidden_later}

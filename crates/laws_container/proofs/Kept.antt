@@ -1,32 +1,15 @@
 -- What the invariant says of the events, in the promise's words.
-use Rattle.std.proofs.Common.{◌≡◌, ℕ, ◌<◌, ◌≤◌, ◌==◌, ⊎_elim, Option, Some, None, length, slice_index, sym, ap, subst, ◌∙◌, arith}
-use Rattle.std.proofs.lemmas.Bool.{cases_lt}
-use Rattle.std.proofs.lemmas.Option.{slice_get_past}
-use Rattle.steps.specs.Container.State.{value_if}
-use Rattle.steps.specs.declared.container.state.ContainerState.{ContainerState}
-use Rattle.steps.specs.Indices.Robust.Parts.{cell_word, locked}
+use Rattle.laws_container.proofs.Names.{◌≡◌, ℕ, ◌<◌, ◌≤◌, ◌==◌, ⊎_elim, Option, Some, None, length, slice_index, sym}
+use Rattle.laws_container.proofs.Names.{ap, subst, ◌∙◌, arith, cases_lt, slice_get_past, value_if, ContainerState}
+use Rattle.laws_container.proofs.Names.{cell_word, locked, Party, Coding, state_in, shows, WasCopied, ShowsCopies}
+use Rattle.laws_container.proofs.Names.{HasElements, IsContained, IsContainer, KeepsDead, promise, AsksCopies}
+use Rattle.laws_container.proofs.Names.{question_in, Copies, acts_of, state_of, is_locked, cell_of, filled_of}
+use Rattle.laws_container.proofs.Names.{IsLatest, party_of, doing_of, flight_of, IsKeptBy, IsKept, promise_of}
+use Rattle.laws_container.proofs.Names.{span_of, IsReached, Trace, flight_in, progress_in, cell, Death}
 use Rattle.model.specs.declared.families.Registry as registries
-use Rattle.model.specs.declared.party.Party.{Party}
 use Rattle.model.specs.declared.turn.Kind as kinds
-use Rattle.model.specs.Coding.{Coding}
-use Rattle.model.specs.Families.Container.Looks.{state_in, shows, WasCopied, ShowsCopies}
-use Rattle.model.specs.Families.Container.Promises.{HasElements, IsContained, IsContainer, KeepsDead, promise}
-use Rattle.model.specs.Families.Container.Questions.{AsksCopies, question_in}
-use Rattle.model.specs.Families.Container.Reading.{Copies, acts_of}
-use Rattle.model.specs.Families.Container.States.{state_of}
-use Rattle.model.specs.Families.Indices.Reading.{is_locked}
-use Rattle.model.specs.Families.Indices.Robust.Promises.{cell_of}
-use Rattle.model.specs.Families.Indices.Robust.Reading.{filled_of, IsLatest}
-use Rattle.model.specs.Parties.{party_of, doing_of, flight_of}
-use Rattle.model.specs.Promises.{IsKeptBy, IsKept}
 use Rattle.model.specs.Promises.Bounds.{Progresses}
-use Rattle.model.specs.Promises.Families.{promise_of}
-use Rattle.model.specs.Reading.{span_of}
-use Rattle.model.specs.Turns.{IsReached}
-use Rattle.model.specs.World.{Trace, flight_in, progress_in}
 use Rattle.model.proofs.Frame as frame
-use Rattle.laws_robust.proofs.Core.{cell}
-use Rattle.laws_robust.specs.Gone.{Death}
 use Rattle.laws_container.proofs.Answers.{asks_right, recovers_right, answers_right}
 use Rattle.laws_container.proofs.Bounds.{bounds}
 use Rattle.laws_container.proofs.Invariant.{moment, family, family_by}

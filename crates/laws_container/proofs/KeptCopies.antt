@@ -1,22 +1,10 @@
 -- What a get_state shows, it has itself copied: how that is said, and that it stays so while the call goes on.
-use Rattle.std.proofs.Common.{◌≡◌, ◌≢◌, ℕ, Option, Some, None, List, [], ◌∷◌, ◌++◌, fold, length, refl, sym, ap, ◌∙◌, append-nil, append_assoc, arith}
-use Rattle.std.proofs.lemmas.List.Concat.{flat_map-append}
-use Rattle.std.proofs.lemmas.Option.{slice_get_past}
-use Rattle.steps.specs.Container.State.{value_if}
-use Rattle.steps.specs.declared.container.state.ContainerState.{ContainerState}
-use Rattle.model.specs.declared.event.Answer.{Answer}
-use Rattle.model.specs.declared.event.Event.{Event}
-use Rattle.model.specs.declared.event.Event.TheVariants.{Copied, Finished}
-use Rattle.model.specs.declared.event.Start.{Start}
-use Rattle.model.specs.declared.event.Start.TheVariants.{Container}
-use Rattle.model.specs.declared.families.container.ContainerStart.TheVariants.{GetState}
-use Rattle.model.specs.Families.Container.Looks.{shows}
-use Rattle.model.specs.Families.Container.Reading.{Act, Copies, act, acts, acts_of}
-use Rattle.model.specs.Families.Indices.Robust.Reading.{wrote_in, IsOneOf}
-use Rattle.model.specs.Reading.{Span, Never, Open, Ended, own_after, span_of}
-use Rattle.model.specs.Turns.{ending_of}
-use Rattle.model.proofs.Readings.{AreOwn, span_of-own}
-use Rattle.laws_robust.proofs.Effects.{some_none}
+use Rattle.laws_container.proofs.Names.{◌≡◌, ◌≢◌, ℕ, Option, Some, None, List, [], ◌∷◌, ◌++◌, fold, length, refl, sym}
+use Rattle.laws_container.proofs.Names.{ap, ◌∙◌, append-nil, append_assoc, arith, flat_map-append, slice_get_past}
+use Rattle.laws_container.proofs.Names.{value_if, ContainerState, Answer, Event, Copied, Finished, Start, Container}
+use Rattle.laws_container.proofs.Names.{GetState, shows, Act, Copies, act, acts, acts_of, wrote_in, IsOneOf, Span}
+use Rattle.laws_container.proofs.Names.{Never, Open, Ended, own_after, span_of, ending_of, AreOwn, span_of-own}
+use Rattle.laws_container.proofs.Names.{some_none}
 
 module _ {T : Type 0} where
   -- the name of a party's latest call

@@ -1,21 +1,13 @@
 -- In mode LockIfLastIndex a recovery finds some index filled after each that it frees, or the container locked, or its counter
 -- at its end.
-use Rattle.std.proofs.Common.{◌≡◌, ◌⊎◌, ⊎_elim, inl, inr, ℕ, ◌<◌, true, false, List, [], ◌++◌, sym, subst, ◌∙◌, append-nil, arith}
-use Rattle.steps.specs.declared.indices.enums.ReleaseMode.{ReleaseMode}
-use Rattle.steps.specs.declared.indices.enums.ReleaseMode.TheVariants.{LockIfLastIndex, Default}
+use Rattle.laws_container.proofs.Names.{◌≡◌, ◌⊎◌, ⊎_elim, inl, inr, ℕ, ◌<◌, true, false, List, [], ◌++◌, sym, subst}
+use Rattle.laws_container.proofs.Names.{◌∙◌, append-nil, arith, ReleaseMode, LockIfLastIndex, Default, Lock, Event}
+use Rattle.laws_container.proofs.Names.{UnlockedAtLast, is_locked, IsFilled, IsUnlocked, FilledSinceFreed, Frees}
+use Rattle.laws_container.proofs.Names.{set_acts_of, IsOneOf, BeginsNone, HeldSometime, held_later, held_so, no_more}
+use Rattle.laws_container.proofs.Names.{LockSays}
 use Rattle.steps.specs.declared.indices.robust.parts.Count as counts
-use Rattle.steps.specs.declared.indices.robust.parts.Lock.{Lock}
 use Rattle.steps.specs.declared.indices.robust.parts.Lock as locks
-use Rattle.model.specs.declared.event.Event.{Event}
-use Rattle.model.specs.Families.Container.Recoveries.{UnlockedAtLast}
-use Rattle.model.specs.Families.Indices.Reading.{is_locked}
-use Rattle.model.specs.Families.Indices.Robust.Promises.{IsFilled, IsUnlocked, FilledSinceFreed}
-use Rattle.model.specs.Families.Indices.Robust.Reading.{Frees, set_acts_of, IsOneOf}
-use Rattle.model.specs.Moments.{BeginsNone, HeldSometime}
-use Rattle.model.proofs.Moments.{held_later, held_so}
-use Rattle.model.proofs.Readings.{no_more}
 use Rattle.laws_container.specs.Gone.{FilledSinceEachBy}
-use Rattle.laws_robust.proofs.Knows.{LockSays}
 
 abbrev pub NoIndex : ℕ → Type 0
 NoIndex i = ⊥

@@ -1,46 +1,24 @@
 -- A turn moves a party's state in a look of its own alone, and an update that answers false has taken one step.
-use Rattle.std.proofs.Common.{◌≡◌, ◌≢◌, ◌⊎◌, ⊎_elim, inr, ℕ, ◌==◌, ◌&&◌, ◌≤◌, if◌then◌else◌, Bool, true, false, Option}
-use Rattle.std.proofs.Common.{Some, None, is_some, List, refl, sym, ap, subst, ◌∙◌, arith}
-use Rattle.std.proofs.lemmas.Bool.Decides.{nat_tests}
+use Rattle.laws_container.proofs.Names.{◌≡◌, ◌≢◌, ◌⊎◌, ⊎_elim, inr, ℕ, ◌==◌, ◌&&◌, ◌≤◌, if◌then◌else◌, Bool, true}
+use Rattle.laws_container.proofs.Names.{false, Option, Some, None, is_some, List, refl, sym, ap, subst, ◌∙◌, arith}
+use Rattle.laws_container.proofs.Names.{nat_tests, LookStage, ContainerState, Truth, Start, Container, Loan, Flight}
+use Rattle.laws_container.proofs.Names.{Registry, ContainerStart, GetState, UpdateState, ContainerFlight, LookOf}
+use Rattle.laws_container.proofs.Names.{Doing, Going, Over, Party, Turn, Begin, Coding, first_of, want_of}
+use Rattle.laws_container.proofs.Names.{is_question, beside_of, step_of, kept_after_begin, kept_after_death}
+use Rattle.laws_container.proofs.Names.{goes_after, states_after, writes_state, is_look_of, MovesInLooks}
+use Rattle.laws_container.proofs.Names.{BeginsWithState, KeepsStates, steps_of, state_in, is_looking, EndsLook, keeps}
+use Rattle.laws_container.proofs.Names.{state_of, with_state, fresh, loan_keeps, party_of, put, doing_of, flight_of}
+use Rattle.laws_container.proofs.Names.{progress_after, is_due, answer_in, old_of, number_of, after_begin, after_next}
+use Rattle.laws_container.proofs.Names.{after_decision, after_answer, ask_of_doing, after_turn, World, Trace}
+use Rattle.laws_container.proofs.Names.{flight_in, progress_in, party_put_same, found_put_other, StandsThere}
+use Rattle.laws_container.proofs.Names.{stands_there, both_ways}
 use Rattle.steps.specs.declared.container.look.Look.{Look}
-use Rattle.steps.specs.declared.container.look.LookStage.{LookStage}
 use Rattle.steps.specs.declared.container.look.LookStage as stages
-use Rattle.steps.specs.declared.container.state.ContainerState.{ContainerState}
-use Rattle.model.specs.declared.event.Answer.TheVariants.{Truth}
-use Rattle.model.specs.declared.event.Start.{Start}
-use Rattle.model.specs.declared.event.Start.TheVariants.{Container, Loan}
-use Rattle.model.specs.declared.families.Flight.{Flight}
 use Rattle.model.specs.declared.families.Flight as flights
-use Rattle.model.specs.declared.families.Registry.{Registry}
 use Rattle.model.specs.declared.families.Registry as registries
-use Rattle.model.specs.declared.families.container.ContainerStart.{ContainerStart}
-use Rattle.model.specs.declared.families.container.ContainerStart.TheVariants.{GetState, UpdateState}
-use Rattle.model.specs.declared.families.container.calls.ContainerFlight.{ContainerFlight}
 use Rattle.model.specs.declared.families.container.calls.ContainerFlight as calls
-use Rattle.model.specs.declared.families.container.calls.LookOf.{LookOf}
 use Rattle.model.specs.declared.families.loan.LoanStart.{LoanStart}
-use Rattle.model.specs.declared.party.Doing.{Doing}
-use Rattle.model.specs.declared.party.Doing.TheVariants.{Going, Over}
-use Rattle.model.specs.declared.party.Party.{Party}
-use Rattle.model.specs.declared.turn.Turn.{Turn}
-use Rattle.model.specs.declared.turn.Turn.TheVariants.{Begin}
-use Rattle.model.specs.Coding.{Coding}
-use Rattle.model.specs.Families.{first_of, want_of, is_question, beside_of, step_of, kept_after_begin, kept_after_death}
-use Rattle.model.specs.Families.Container.Calls.{after as goes_after, states_after, writes_state}
-use Rattle.model.specs.Families.Container.Keeping.{is_look_of, MovesInLooks, BeginsWithState, KeepsStates, steps_of}
-use Rattle.model.specs.Families.Container.Looks.{state_in, is_looking, EndsLook}
-use Rattle.model.specs.Families.Container.Opening.{keeps}
-use Rattle.model.specs.Families.Container.States.{state_of, with_state, fresh}
-use Rattle.model.specs.Families.Loan.Opening.{keeps as loan_keeps}
-use Rattle.model.specs.Parties.{party_of, put, doing_of, flight_of, progress_after}
-use Rattle.model.specs.Refusals.{is_due}
-use Rattle.model.specs.Step.{answer_in}
-use Rattle.model.specs.Turns.{old_of, number_of, after_begin, after_next, after_decision, after_answer, ask_of_doing, after_turn}
-use Rattle.model.specs.World.{World, Trace, flight_in, progress_in}
 use Rattle.model.proofs.Frame as frame
-use Rattle.model.proofs.Parties.{party_put_same, found_put_other}
-use Rattle.model.proofs.Scenes.{StandsThere, stands_there}
-use Rattle.laws_robust.proofs.Effects.{both_ways}
 use Rattle.laws_container.proofs.Invariant.{family_by}
 use Rattle.laws_container.proofs.Looks.{looks_as, written_other}
 use Rattle.laws_container.proofs.LooksTell.{LookEnd, ended, looks_right, looks_own, looks_leave}

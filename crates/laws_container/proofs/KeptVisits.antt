@@ -1,35 +1,14 @@
 -- A recovery that began after the lock comes to no index.
-use Rattle.std.proofs.Common.{◌≡◌, ◌⊎◌, ⊎_elim, ℕ, Bool, Option, Some, None, List, [], ◌∷◌, ◌++◌, refl, sym, subst, arith}
-use Rattle.std.proofs.lemmas.List.{append_cancel_left}
-use Rattle.std.specs.List.{AllByRecursion}
-use Rattle.model.specs.declared.event.Answer.{Answer}
-use Rattle.model.specs.declared.event.Event.{Event}
-use Rattle.model.specs.declared.event.Start.{Start}
-use Rattle.model.specs.declared.event.Start.TheVariants.{Container}
-use Rattle.model.specs.declared.families.Flight.{Flight}
+use Rattle.laws_container.proofs.Names.{◌≡◌, ◌⊎◌, ⊎_elim, ℕ, Bool, Option, Some, None, List, [], ◌∷◌, ◌++◌, refl, sym}
+use Rattle.laws_container.proofs.Names.{subst, arith, append_cancel_left, AllByRecursion, Answer, Event, Start}
+use Rattle.laws_container.proofs.Names.{Container, Flight, Registry, ContainerStart, ContainerFlight, Doing, Going}
+use Rattle.laws_container.proofs.Names.{Over, Party, Turn, Begin, Next, Decide, Die, Coding, beside_of, step_of}
+use Rattle.laws_container.proofs.Names.{after, BeganUnlocked, VisitsRight, VisitsUnlocked, state_of, effects}
+use Rattle.laws_container.proofs.Names.{questions, party_of, IsEffectOf, answer_in, old_of, number_of, ask_of_doing}
+use Rattle.laws_container.proofs.Names.{events_of_step, events_of_answer, events_of_next, events_of_decision}
+use Rattle.laws_container.proofs.Names.{events_of, ending_of, after_turn, Trace, StandsThere}
 use Rattle.model.specs.declared.families.Flight as flights
-use Rattle.model.specs.declared.families.Registry.{Registry}
-use Rattle.model.specs.declared.families.container.ContainerStart.{ContainerStart}
-use Rattle.model.specs.declared.families.container.calls.ContainerFlight.{ContainerFlight}
-use Rattle.model.specs.declared.party.Doing.{Doing}
-use Rattle.model.specs.declared.party.Doing.TheVariants.{Going, Over}
-use Rattle.model.specs.declared.party.Party.{Party}
-use Rattle.model.specs.declared.turn.Turn.{Turn}
-use Rattle.model.specs.declared.turn.Turn.TheVariants.{Begin, Next, Decide, Die}
-use Rattle.model.specs.Coding.{Coding}
-use Rattle.model.specs.Families.{beside_of, step_of}
-use Rattle.model.specs.Families.Container.Calls.{after}
-use Rattle.model.specs.Families.Container.Recoveries.{BeganUnlocked, VisitsRight, VisitsUnlocked}
-use Rattle.model.specs.Families.Container.States.{state_of}
-use Rattle.model.specs.Families.Container.Steps.{effects, questions}
-use Rattle.model.specs.Parties.{party_of}
-use Rattle.model.specs.Promises.Turns.{IsEffectOf}
-use Rattle.model.specs.Step.{answer_in}
-use Rattle.model.specs.Turns.{old_of, number_of, ask_of_doing, events_of_step, events_of_answer, events_of_next}
-use Rattle.model.specs.Turns.{events_of_decision, events_of, ending_of, after_turn}
-use Rattle.model.specs.World.{Trace}
 use Rattle.model.proofs.Frame as frame
-use Rattle.model.proofs.Scenes.{StandsThere}
 use Rattle.laws_container.proofs.Invariant.{family_by}
 use Rattle.laws_container.proofs.Sound.{MayGoOn, Shown as AllShown, kept_now, IsThere, is_there}
 use Rattle.laws_container.proofs.Stages.{any_call}

@@ -1,48 +1,28 @@
 -- What a call of the container knows where it stands: of its set, as the calls of a robust set know it; of the element at its
 -- index; of what it has found; and of its party's state.
-use Rattle.std.proofs.Common.{◌≡◌, ◌≢◌, ◌⊎◌, ℕ, ◌+◌, ◌%◌, ◌<◌, ◌≤◌, false, true, Some, is_some, List, [], ◌∷◌, length, get_or}
-use Rattle.steps.specs.declared.container.add.AddStage.{AddStage}
+use Rattle.laws_container.proofs.Names.{◌≡◌, ◌≢◌, ◌⊎◌, ℕ, ◌+◌, ◌%◌, ◌<◌, ◌≤◌, false, true, Some, is_some, List, []}
+use Rattle.laws_container.proofs.Names.{◌∷◌, length, get_or, AddStage, FindStage, LookStage, RecoverStage}
+use Rattle.laws_container.proofs.Names.{RemoveStage, ReplaceStage, ContainerState, ReleaseMode, LockIfLastIndex}
+use Rattle.laws_container.proofs.Names.{Default, ReleaseState, ReleaseStage, Event, Container, ContainerFlight, Count}
+use Rattle.laws_container.proofs.Names.{IsLocked, Party, Coding, WasShown, Copies, acts_of, places, contents_of}
+use Rattle.laws_container.proofs.Names.{UnlockedAtLast, state_of, is_locked, IsFilledWith, IsUnlocked, IsCount}
+use Rattle.laws_container.proofs.Names.{HeldThroughout, FilledSinceFreed, StillToFree, Asks, Yes, filled_of}
+use Rattle.laws_container.proofs.Names.{set_acts_of, IsOneOf, IsLatest, read_in, HeldSometime, party_of, Open}
+use Rattle.laws_container.proofs.Names.{span_of, is_gone, IsHonestBy, IsCalm, IsWorn, acquire_at, release_at}
+use Rattle.laws_container.proofs.Names.{borrowed_at, looking}
 use Rattle.steps.specs.declared.container.add.AddStage as adds
-use Rattle.steps.specs.declared.container.find.FindStage.{FindStage}
 use Rattle.steps.specs.declared.container.find.FindStage as finds
-use Rattle.steps.specs.declared.container.look.LookStage.{LookStage}
 use Rattle.steps.specs.declared.container.look.LookStage as looks
-use Rattle.steps.specs.declared.container.recover.RecoverStage.{RecoverStage}
 use Rattle.steps.specs.declared.container.recover.RecoverStage as recovers
-use Rattle.steps.specs.declared.container.remove.RemoveStage.{RemoveStage}
 use Rattle.steps.specs.declared.container.remove.RemoveStage as removes
-use Rattle.steps.specs.declared.container.replace.ReplaceStage.{ReplaceStage}
 use Rattle.steps.specs.declared.container.replace.ReplaceStage as replaces
-use Rattle.steps.specs.declared.container.state.ContainerState.{ContainerState}
 use Rattle.steps.specs.declared.copied.Buffer as buffers
-use Rattle.steps.specs.declared.indices.enums.ReleaseMode.{ReleaseMode}
-use Rattle.steps.specs.declared.indices.enums.ReleaseMode.TheVariants.{LockIfLastIndex, Default}
-use Rattle.steps.specs.declared.indices.enums.ReleaseState.{ReleaseState}
 use Rattle.steps.specs.declared.indices.enums.ReleaseState as states
-use Rattle.steps.specs.declared.indices.robust.release.ReleaseStage.{ReleaseStage}
 use Rattle.steps.specs.declared.indices.robust.release.ReleaseStage as releases
-use Rattle.model.specs.declared.event.Event.{Event}
-use Rattle.model.specs.declared.event.Start.TheVariants.{Container}
 use Rattle.model.specs.declared.families.container.ContainerStart as starts
-use Rattle.model.specs.declared.families.container.calls.ContainerFlight.{ContainerFlight}
-use Rattle.model.specs.declared.families.container.calls.ContainerFlight.TheVariants.{Add, Remove, Replace, Find, Recover, Look, Count, IsLocked}
-use Rattle.model.specs.declared.party.Party.{Party}
-use Rattle.model.specs.Coding.{Coding}
-use Rattle.model.specs.Families.Container.Promises.{WasShown}
-use Rattle.model.specs.Families.Container.Reading.{Copies, acts_of, places, contents_of}
-use Rattle.model.specs.Families.Container.Recoveries.{UnlockedAtLast}
-use Rattle.model.specs.Families.Container.States.{state_of}
-use Rattle.model.specs.Families.Indices.Reading.{is_locked}
-use Rattle.model.specs.Families.Indices.Robust.Promises.{IsFilledWith, IsUnlocked, IsCount, HeldThroughout, FilledSinceFreed, StillToFree}
-use Rattle.model.specs.Families.Indices.Robust.Reading.{Asks, Yes, filled_of, set_acts_of, IsOneOf, IsLatest}
-use Rattle.model.specs.Families.Queues.Calls.{read_in}
-use Rattle.model.specs.Moments.{HeldSometime}
-use Rattle.model.specs.Parties.{party_of}
-use Rattle.model.specs.Reading.{Open, span_of}
-use Rattle.laws_robust.specs.Gone.{is_gone, IsHonestBy, IsCalm}
-use Rattle.laws_robust.proofs.Invariant.{IsWorn}
+use Rattle.model.specs.declared.families.container.calls.ContainerFlight.TheVariants.{Add, Remove, Replace, Find}
+use Rattle.model.specs.declared.families.container.calls.ContainerFlight.TheVariants.{Recover, Look}
 use Rattle.laws_robust.proofs.Knows as set
-use Rattle.laws_robust.proofs.Standing.{acquire_at, release_at, borrowed_at, looking}
 use Rattle.laws_container.specs.Gone.{HasRecoveredBy, FilledSinceEachBy}
 use Rattle.laws_container.proofs.Contents.{Writing}
 use Rattle.laws_container.proofs.HiddenKnows.{RemoveCovers, RecoverCovers, StillStands, HasHidden, no_index}

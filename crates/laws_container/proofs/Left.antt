@@ -1,7 +1,5 @@
 -- Whether an index has been freed since a value was placed there: what stands there, if anything, was left by an earlier owner.
-use Rattle.std.proofs.Common.{ℕ, ◌==◌, if◌then◌else◌, Bool, true, false, List, fold}
-use Rattle.model.specs.declared.event.Event.{Event}
-use Rattle.model.specs.declared.event.Event.TheVariants.{FreedOf, Placed}
+use Rattle.laws_container.proofs.Names.{ℕ, ◌==◌, if◌then◌else◌, Bool, true, false, List, fold, Event, FreedOf, Placed}
 
 module _ {T : Type 0} where
   abbrev pub left_after : ℕ → Bool → Event T → Bool

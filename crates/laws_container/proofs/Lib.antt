@@ -43,6 +43,7 @@ pub mod Looks
 pub mod LooksEnd
 pub mod LooksTell
 pub mod Moves
+mod Names
 pub mod Opening
 pub mod OpenRuns
 pub mod WellFormed

@@ -1,34 +1,14 @@
 -- No owner dies in an open run, so none of the container's calls is refused for a dead owner.
-use Rattle.std.proofs.Common.{◌≡◌, ℕ, true, false, Some, None, List, [], ◌∷◌, ◌++◌, refl, sym, subst, ◌∙◌, arith}
-use Rattle.std.specs.List.{AllByRecursion}
-use Rattle.model.specs.declared.event.Event.{Event}
-use Rattle.model.specs.declared.event.Event.TheVariants.{Died}
-use Rattle.model.specs.declared.event.Start.{Start}
-use Rattle.model.specs.declared.event.Start.TheVariants.{Container}
-use Rattle.model.specs.declared.families.Flight.{Flight}
+use Rattle.laws_container.proofs.Names.{◌≡◌, ℕ, true, false, Some, None, List, [], ◌∷◌, ◌++◌, refl, sym, subst, ◌∙◌}
+use Rattle.laws_container.proofs.Names.{arith, AllByRecursion, Event, Died, Start, Container, Flight, Registry}
+use Rattle.laws_container.proofs.Names.{ContainerStart, ContainerFlight, Begin, Next, Coding, beside_of, step_of}
+use Rattle.laws_container.proofs.Names.{going_rows, after, names_owner, state_of, effects, questions, has_died}
+use Rattle.laws_container.proofs.Names.{IsEffectOf, is_due, first_row, answer_in, events_of_step, Trace, flight_in}
+use Rattle.laws_container.proofs.Names.{stands_there, open_refusal, AllLive, StepsLeave, end_leaves}
 use Rattle.model.specs.declared.families.Flight as flights
-use Rattle.model.specs.declared.families.Registry.{Registry}
 use Rattle.model.specs.declared.families.Registry as registries
-use Rattle.model.specs.declared.families.container.ContainerStart.{ContainerStart}
-use Rattle.model.specs.declared.families.container.calls.ContainerFlight.{ContainerFlight}
-use Rattle.model.specs.declared.turn.Turn.TheVariants.{Begin, Next}
-use Rattle.model.specs.Coding.{Coding}
-use Rattle.model.specs.Families.{beside_of, step_of, going_rows}
-use Rattle.model.specs.Families.Container.Calls.{after}
-use Rattle.model.specs.Families.Container.Opening.{names_owner}
-use Rattle.model.specs.Families.Container.States.{state_of}
-use Rattle.model.specs.Families.Container.Steps.{effects, questions}
-use Rattle.model.specs.Families.Indices.Robust.Dead.{has_died}
-use Rattle.model.specs.Promises.Turns.{IsEffectOf}
-use Rattle.model.specs.Refusals.{is_due}
-use Rattle.model.specs.Rows.{first_row}
-use Rattle.model.specs.Step.{answer_in}
-use Rattle.model.specs.Turns.{events_of_step}
-use Rattle.model.specs.World.{Trace, flight_in}
 use Rattle.model.proofs.Frame as frame
-use Rattle.model.proofs.Scenes.{stands_there}
-use Rattle.laws_robust.specs.Open.{open_refusal}
-use Rattle.laws_robust.proofs.Alive.{Leaves, AllLive, StepsLeave, end_leaves}
+use Rattle.laws_robust.proofs.Alive.{Leaves}
 use Rattle.laws_robust.proofs.Told.{joined}
 use Rattle.laws_container.proofs.Invariant.{family_by}
 use Rattle.laws_container.proofs.Sound.{kept_is}

@@ -1,36 +1,19 @@
 -- How a look goes over the indices, one step after another: what it makes of its party's state, and what is so then. What each
 -- step leads to is what the caller makes of it.
-use Rattle.std.proofs.Common.{◌≡◌, ◌≢◌, ⊎_elim, inl, inr, ℕ, ◌+◌, ◌*◌, ◌%◌, ◌<◌, ◌≤◌, ◌==◌, if◌then◌else◌, nat_lt}
-use Rattle.std.proofs.Common.{Bool, true, false, not, Option, Some, None, List, [], ◌∷◌, ◌++◌, length, set}
-use Rattle.std.proofs.Common.{slice_index_or, refl, sym, ap, subst, ◌∙◌, append-nil, arith, ne_eqb}
-use Rattle.std.proofs.lemmas.Bool.Decides.{nat_tests}
-use Rattle.std.proofs.lemmas.List.{set-get_or}
-use Rattle.std.proofs.lemmas.List.Concat.{flat_map-append}
-use Rattle.steps.specs.declared.ask.Ask.{Ask}
-use Rattle.steps.specs.declared.ask.After.{After}
-use Rattle.steps.specs.declared.ask.After.TheVariants.{GoOn, Done}
+use Rattle.laws_container.proofs.Names.{◌≡◌, ◌≢◌, ⊎_elim, inl, inr, ℕ, ◌+◌, ◌*◌, ◌%◌, ◌<◌, ◌≤◌, ◌==◌, if◌then◌else◌}
+use Rattle.laws_container.proofs.Names.{nat_lt, Bool, true, false, not, Option, Some, None, List, [], ◌∷◌, ◌++◌}
+use Rattle.laws_container.proofs.Names.{length, set, slice_index_or, refl, sym, ap, subst, ◌∙◌, append-nil, arith}
+use Rattle.laws_container.proofs.Names.{ne_eqb, nat_tests, set-get_or, flat_map-append, Ask, After, GoOn, LookStage}
+use Rattle.laws_container.proofs.Names.{ContainerState, change_word, count_word, element_word, is_even, look_asks}
+use Rattle.laws_container.proofs.Names.{look_goes_back, look_comes_to, look_finds, look_after, with_change, with_word}
+use Rattle.laws_container.proofs.Names.{Event, Copied, Party, Coding, ask_of, look_shows, shows, WasCopied, Act}
+use Rattle.laws_container.proofs.Names.{Copies, index_seen, seen_in, acts, contents_of, state_of, look_effects}
+use Rattle.laws_container.proofs.Names.{copy_in, set_acts, old_of, words_after, step_count, some_none, loads}
+use Rattle.laws_container.proofs.Names.{exchanges, loads_same, fails_same, exchange_sets}
+use Rattle.steps.specs.declared.ask.After.TheVariants.{Done}
 use Rattle.steps.specs.declared.container.look.Look.{Look}
-use Rattle.steps.specs.declared.container.look.LookStage.{LookStage}
 use Rattle.steps.specs.declared.container.look.LookStage as stages
-use Rattle.steps.specs.declared.container.state.ContainerState.{ContainerState}
-use Rattle.steps.specs.Container.Layout.{change_word, count_word, element_word, is_even}
-use Rattle.steps.specs.Container.Look.{look_asks, look_goes_back, look_comes_to, look_finds, look_after}
-use Rattle.steps.specs.Container.State.{with_change, with_word}
 use Rattle.steps.specs.Picks.{by_test, by_eq}
-use Rattle.model.specs.declared.event.Event.{Event}
-use Rattle.model.specs.declared.event.Event.TheVariants.{Copied}
-use Rattle.model.specs.declared.party.Party.{Party}
-use Rattle.model.specs.Coding.{Coding}
-use Rattle.model.specs.Families.{ask_of}
-use Rattle.model.specs.Families.Container.Calls.{look_shows}
-use Rattle.model.specs.Families.Container.Looks.{shows, WasCopied}
-use Rattle.model.specs.Families.Container.Reading.{Act, Copies, index_seen, seen_in, acts, contents_of}
-use Rattle.model.specs.Families.Container.States.{state_of}
-use Rattle.model.specs.Families.Container.Steps.{look_effects, copy_in}
-use Rattle.model.specs.Families.Indices.Robust.Reading.{set_acts}
-use Rattle.model.specs.Turns.{old_of, words_after, step_count}
-use Rattle.laws_robust.proofs.Effects.{some_none}
-use Rattle.laws_robust.proofs.Stages.{loads, exchanges, loads_same, fails_same, exchange_sets}
 use Rattle.laws_container.proofs.Contents.{Stands}
 use Rattle.laws_container.proofs.Copies.{copying_first, copying_more, copied_value}
 use Rattle.laws_container.proofs.Core.{count_at, change_at}

@@ -1,47 +1,22 @@
 -- The steps of the calls that bring a party's state up to date.
-use Rattle.std.proofs.Common.{◌≡◌, ◌≢◌, ⊎_elim, ℕ, ◌+◌, ◌*◌, ◌≤◌, cond, Bool, true, false, Option, Some, None, List}
-use Rattle.std.proofs.Common.{[], ◌∷◌, ◌++◌, refl, sym, ap, subst, ◌∙◌, arith}
+use Rattle.laws_container.proofs.Names.{◌≡◌, ◌≢◌, ⊎_elim, ℕ, ◌+◌, ◌*◌, ◌≤◌, cond, Bool, true, false, Option, Some}
+use Rattle.laws_container.proofs.Names.{None, List, [], ◌∷◌, ◌++◌, refl, sym, ap, subst, ◌∙◌, arith, AllByRecursion}
+use Rattle.laws_container.proofs.Names.{cases_eq, flat_map-append, fold-append, Ask, After, GoOn, LookStage}
+use Rattle.laws_container.proofs.Names.{ContainerState, look_asks, look_goes_back, Answer, Event, Copied, Finished}
+use Rattle.laws_container.proofs.Names.{Container, ContainerStart, LookOf, Party, ask_of, most_steps, looked}
+use Rattle.laws_container.proofs.Names.{look_came, look_goes, settled_if, writes_state, is_looking, WasCopied, Act}
+use Rattle.laws_container.proofs.Names.{acts, seen_in, contents_after, contents_of, may_stand, HasDone, state_of}
+use Rattle.laws_container.proofs.Names.{set_state, settled, look_effects_of, SetAct, set_act, set_acts, BeginsNone}
+use Rattle.laws_container.proofs.Names.{put, flight_of, Open, old_of, words_after, step_count, ending_of, apart}
+use Rattle.laws_container.proofs.Names.{itself, AreOwn, GoneBy, IsWorn}
 use Rattle.std.specs.BTreeMap.{is_at}
 use Rattle.std.specs.Ordering.{nat_cmp, is_eq}
 use Rattle.std.specs.Map.{lookup, set_value}
-use Rattle.std.specs.List.{AllByRecursion}
-use Rattle.std.proofs.lemmas.Bool.{cases_eq}
-use Rattle.std.proofs.lemmas.List.Concat.{flat_map-append}
-use Rattle.std.proofs.lemmas.List.Sums.{fold-append}
-use Rattle.steps.specs.declared.ask.Ask.{Ask}
-use Rattle.steps.specs.declared.ask.After.{After}
-use Rattle.steps.specs.declared.ask.After.TheVariants.{GoOn, Done}
+use Rattle.steps.specs.declared.ask.After.TheVariants.{Done}
 use Rattle.steps.specs.declared.container.look.Look.{Look}
-use Rattle.steps.specs.declared.container.look.LookStage.{LookStage}
 use Rattle.steps.specs.declared.container.look.LookStage as stages
-use Rattle.steps.specs.declared.container.state.ContainerState.{ContainerState}
-use Rattle.steps.specs.Container.Look.{look_asks, look_goes_back}
-use Rattle.model.specs.declared.event.Answer.{Answer}
-use Rattle.model.specs.declared.event.Event.{Event}
-use Rattle.model.specs.declared.event.Event.TheVariants.{Copied, Finished}
-use Rattle.model.specs.declared.event.Start.TheVariants.{Container}
-use Rattle.model.specs.declared.families.container.ContainerStart.{ContainerStart}
 use Rattle.model.specs.declared.families.container.ContainerStart as starts
-use Rattle.model.specs.declared.families.container.calls.LookOf.{LookOf}
 use Rattle.model.specs.declared.families.container.calls.LookOf as kinds
-use Rattle.model.specs.declared.party.Party.{Party}
-use Rattle.model.specs.Families.{ask_of}
-use Rattle.model.specs.Families.Container.Bounds.{most_steps}
-use Rattle.model.specs.Families.Container.Calls.{looked, look_came, look_goes, settled_if, writes_state}
-use Rattle.model.specs.Families.Container.Looks.{is_looking, WasCopied}
-use Rattle.model.specs.Families.Container.Reading.{Act, acts, seen_in, contents_after, contents_of}
-use Rattle.model.specs.Families.Container.Spans.{may_stand, HasDone}
-use Rattle.model.specs.Families.Container.States.{state_of, set_state, settled}
-use Rattle.model.specs.Families.Container.Steps.{look_effects_of}
-use Rattle.model.specs.Families.Indices.Robust.Reading.{SetAct, set_act, set_acts}
-use Rattle.model.specs.Moments.{BeginsNone}
-use Rattle.model.specs.Parties.{put, flight_of}
-use Rattle.model.specs.Reading.{Open}
-use Rattle.model.specs.Turns.{old_of, words_after, step_count, ending_of}
-use Rattle.model.proofs.Parties.{apart, itself}
-use Rattle.model.proofs.Readings.{AreOwn}
-use Rattle.laws_robust.specs.Gone.{GoneBy}
-use Rattle.laws_robust.proofs.Invariant.{IsWorn}
 use Rattle.laws_container.specs.Gone.{AnswersBy}
 use Rattle.laws_container.proofs.Core.{count_at}
 use Rattle.laws_container.proofs.Effects.{OwesStill}

@@ -1,36 +1,18 @@
 -- What a look has made of its party's state in the step in which it ends.
-use Rattle.std.proofs.Common.{◌≡◌, ◌≢◌, ⊎_elim, ℕ, ◌≤◌, Bool, true, false, Option, Some, None, is_some, List, [], ◌∷◌}
-use Rattle.std.proofs.Common.{◌++◌, refl, sym, ap, subst, ◌∙◌, append-nil, arith}
-use Rattle.std.proofs.lemmas.Bool.{cases_eq}
-use Rattle.std.proofs.lemmas.List.Sums.{fold-append}
-use Rattle.steps.specs.declared.ask.Ask.{Ask}
-use Rattle.steps.specs.declared.ask.After.{After}
-use Rattle.steps.specs.declared.ask.After.TheVariants.{GoOn, Done}
+use Rattle.laws_container.proofs.Names.{◌≡◌, ◌≢◌, ⊎_elim, ℕ, ◌≤◌, Bool, true, false, Option, Some, None, is_some}
+use Rattle.laws_container.proofs.Names.{List, [], ◌∷◌, ◌++◌, refl, sym, ap, subst, ◌∙◌, append-nil, arith, cases_eq}
+use Rattle.laws_container.proofs.Names.{fold-append, Ask, After, GoOn, LookStage, ContainerState, look_asks}
+use Rattle.laws_container.proofs.Names.{look_goes_back, look_after, Answer, Event, Copied, Finished, Container}
+use Rattle.laws_container.proofs.Names.{ContainerStart, LookOf, Party, ask_of, goes_after, looked, look_came}
+use Rattle.laws_container.proofs.Names.{look_goes, look_shows, settled_if, states_after, writes_state, WasAlone}
+use Rattle.laws_container.proofs.Names.{IsCurrent, ShowsMoments, AnswersOfState, MomentsOfState, contents_after}
+use Rattle.laws_container.proofs.Names.{contents_of, announced_of, state_of, set_state, settled, look_effects}
+use Rattle.laws_container.proofs.Names.{look_effects_of, copy_in, effects, questions, party_of, put, doing_of}
+use Rattle.laws_container.proofs.Names.{flight_of, span_of, IsShut, answer_in, old_of, words_after, both_ways}
+use Rattle.laws_container.proofs.Names.{through_less, through_now, through_so, since_less}
+use Rattle.steps.specs.declared.ask.After.TheVariants.{Done}
 use Rattle.steps.specs.declared.container.look.Look.{Look}
-use Rattle.steps.specs.declared.container.look.LookStage.{LookStage}
-use Rattle.steps.specs.declared.container.state.ContainerState.{ContainerState}
-use Rattle.steps.specs.Container.Look.{look_asks, look_goes_back, look_after}
-use Rattle.model.specs.declared.event.Answer.{Answer}
-use Rattle.model.specs.declared.event.Event.{Event}
-use Rattle.model.specs.declared.event.Event.TheVariants.{Copied, Finished}
-use Rattle.model.specs.declared.event.Start.TheVariants.{Container}
-use Rattle.model.specs.declared.families.container.ContainerStart.{ContainerStart}
-use Rattle.model.specs.declared.families.container.calls.LookOf.{LookOf}
 use Rattle.model.specs.declared.families.container.calls.LookOf as kinds
-use Rattle.model.specs.declared.party.Party.{Party}
-use Rattle.model.specs.Families.{ask_of}
-use Rattle.model.specs.Families.Container.Calls.{after as goes_after, looked, look_came, look_goes, look_shows, settled_if, states_after, writes_state}
-use Rattle.model.specs.Families.Container.Looks.{WasAlone, IsCurrent, ShowsMoments, AnswersOfState, MomentsOfState}
-use Rattle.model.specs.Families.Container.Reading.{contents_after, contents_of, announced_of}
-use Rattle.model.specs.Families.Container.States.{state_of, set_state, settled}
-use Rattle.model.specs.Families.Container.Steps.{look_effects, look_effects_of, copy_in, effects, questions}
-use Rattle.model.specs.Parties.{party_of, put, doing_of, flight_of}
-use Rattle.model.specs.Reading.{span_of}
-use Rattle.model.specs.Shape.{IsShut}
-use Rattle.model.specs.Step.{answer_in}
-use Rattle.model.specs.Turns.{old_of, words_after}
-use Rattle.laws_robust.proofs.Effects.{both_ways}
-use Rattle.laws_robust.proofs.Past.{through_less, through_now, through_so, since_less}
 use Rattle.laws_container.proofs.Alone.{alone_less, others_shut}
 use Rattle.laws_container.proofs.Announced.{announced_through}
 use Rattle.laws_container.proofs.Invariant.{Scene, Inv, before, after, wrote_of}

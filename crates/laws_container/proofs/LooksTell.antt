@@ -1,54 +1,23 @@
 -- A look that ends leaves a state, as its answer says; and in a well-formed run the state shows what stands.
-use Rattle.std.proofs.Common.{◌≡◌, ◌≢◌, ℕ, ◌+◌, Bool, true, false, Option, Some, None, is_some, List, [], ◌∷◌, ◌++◌, refl, sym, ap, subst, ◌∙◌, arith}
-use Rattle.std.proofs.lemmas.List.{append_cancel_left}
-use Rattle.std.specs.List.{AllByRecursion}
-use Rattle.steps.specs.declared.container.look.LookStage.{LookStage}
-use Rattle.steps.specs.declared.container.state.ContainerState.{ContainerState}
-use Rattle.steps.specs.Container.Look.{look_asks}
-use Rattle.model.specs.declared.event.Answer.{Answer}
-use Rattle.model.specs.declared.event.Event.{Event}
-use Rattle.model.specs.declared.event.Event.TheVariants.{Begun, Died, Finished}
-use Rattle.model.specs.declared.event.Start.{Start}
-use Rattle.model.specs.declared.event.Start.TheVariants.{Container}
-use Rattle.model.specs.declared.families.Flight.{Flight}
+use Rattle.laws_container.proofs.Names.{◌≡◌, ◌≢◌, ℕ, ◌+◌, Bool, true, false, Option, Some, None, is_some, List, []}
+use Rattle.laws_container.proofs.Names.{◌∷◌, ◌++◌, refl, sym, ap, subst, ◌∙◌, arith, append_cancel_left}
+use Rattle.laws_container.proofs.Names.{AllByRecursion, LookStage, ContainerState, look_asks, Answer, Event, Begun}
+use Rattle.laws_container.proofs.Names.{Died, Finished, Start, Container, Flight, Registry, ContainerStart}
+use Rattle.laws_container.proofs.Names.{ContainerFlight, LookOf, Doing, Going, Over, Party, Turn, Begin, Next, Decide}
+use Rattle.laws_container.proofs.Names.{Die, Coding, want_of, ask_of, is_question, beside_of, step_of, goes_after}
+use Rattle.laws_container.proofs.Names.{states_after, ShowsOwnCopies, state_in, shows, IsLook, EndsLook, IsCurrent}
+use Rattle.laws_container.proofs.Names.{AnswersOfState, MomentsOfState, LeavesState, Act, state_of, effects}
+use Rattle.laws_container.proofs.Names.{questions, SetAct, party_of, put, doing_of, flight_of, IsParty, IsEffectOf}
+use Rattle.laws_container.proofs.Names.{span_of, is_due, IsShut, Step, answer_in, old_of, number_of, step_count}
+use Rattle.laws_container.proofs.Names.{after_next, after_decision, after_answer, events_of_step, events_of_answer}
+use Rattle.laws_container.proofs.Names.{events_of_next, events_of_decision, events_of, ending_of, ask_of_doing}
+use Rattle.laws_container.proofs.Names.{after_turn, Trace, flight_in, no_more, StandsThere, stands_there, both_ways}
 use Rattle.model.specs.declared.families.Flight as flights
-use Rattle.model.specs.declared.families.Registry.{Registry}
 use Rattle.model.specs.declared.families.Registry as registries
-use Rattle.model.specs.declared.families.container.ContainerStart.{ContainerStart}
 use Rattle.model.specs.declared.families.container.ContainerStart as starts
-use Rattle.model.specs.declared.families.container.calls.ContainerFlight.{ContainerFlight}
 use Rattle.model.specs.declared.families.container.calls.ContainerFlight as calls
-use Rattle.model.specs.declared.families.container.calls.LookOf.{LookOf}
 use Rattle.model.specs.declared.families.container.calls.LookOf as kinds
-use Rattle.model.specs.declared.party.Doing.{Doing}
-use Rattle.model.specs.declared.party.Doing.TheVariants.{Going, Over}
-use Rattle.model.specs.declared.party.Party.{Party}
-use Rattle.model.specs.declared.turn.Turn.{Turn}
-use Rattle.model.specs.declared.turn.Turn.TheVariants.{Begin, Next, Decide, Die}
-use Rattle.model.specs.Coding.{Coding}
-use Rattle.model.specs.Families.{want_of, ask_of, is_question, beside_of, step_of}
-use Rattle.model.specs.Families.Container.Calls.{after as goes_after, states_after}
-use Rattle.model.specs.Families.Container.Keeping.{ShowsOwnCopies}
-use Rattle.model.specs.Families.Container.Looks.{state_in, shows, IsLook, EndsLook, IsCurrent, AnswersOfState, MomentsOfState}
-use Rattle.model.specs.Families.Container.Promises.{LeavesState}
-use Rattle.model.specs.Families.Container.Reading.{Act}
-use Rattle.model.specs.Families.Container.States.{state_of}
-use Rattle.model.specs.Families.Container.Steps.{effects, questions}
-use Rattle.model.specs.Families.Indices.Robust.Reading.{SetAct}
-use Rattle.model.specs.Parties.{party_of, put, doing_of, flight_of}
-use Rattle.model.specs.Promises.Turns.{IsParty, IsEffectOf}
-use Rattle.model.specs.Reading.{span_of}
-use Rattle.model.specs.Refusals.{is_due}
-use Rattle.model.specs.Shape.{IsShut}
-use Rattle.model.specs.Step.{Step, answer_in}
-use Rattle.model.specs.Turns.{old_of, number_of, step_count, after_next, after_decision, after_answer, events_of_step}
-use Rattle.model.specs.Turns.{events_of_answer, events_of_next, events_of_decision, events_of, ending_of, ask_of_doing}
-use Rattle.model.specs.Turns.{after_turn}
-use Rattle.model.specs.World.{Trace, flight_in}
 use Rattle.model.proofs.Frame as frame
-use Rattle.model.proofs.Readings.{no_more}
-use Rattle.model.proofs.Scenes.{StandsThere, stands_there}
-use Rattle.laws_robust.proofs.Effects.{both_ways}
 use Rattle.laws_container.proofs.Invariant.{Scene, Inv, family_by}
 use Rattle.laws_container.proofs.KeptCopies.{name_of, IsGetting, HasCopied}
 use Rattle.laws_container.proofs.Looks.{looks_as}

@@ -1,42 +1,19 @@
 -- Every step of a call under way, and every decision, keeps what holds: by its call.
-use Rattle.std.proofs.Common.{◌≡◌, ℕ, ◌+◌, ◌*◌, ◌<◌, ◌≤◌, Bool, true, false, None, [], sym, ap, subst, ◌∙◌, arith}
-use Rattle.steps.specs.declared.container.add.AddStage.{AddStage}
+use Rattle.laws_container.proofs.Names.{◌≡◌, ℕ, ◌+◌, ◌*◌, ◌<◌, ◌≤◌, Bool, true, false, None, [], sym, ap, subst, ◌∙◌}
+use Rattle.laws_container.proofs.Names.{arith, AddStage, FindStage, LookStage, DeadOwner, RecoverStage, RemoveStage}
+use Rattle.laws_container.proofs.Names.{ReplaceStage, Replacement, ReleaseMode, Counting, GiveBack, add_asks}
+use Rattle.laws_container.proofs.Names.{look_asks, remove_asks, replace_asks, empty, raise_want, lock_want}
+use Rattle.laws_container.proofs.Names.{ContainerStart, ContainerFlight, CountOf, LookOf, Coding, is_question}
+use Rattle.laws_container.proofs.Names.{place_of, want, acts_for_dead, has_died, is_dead, said_is, both_ways}
+use Rattle.laws_container.proofs.Names.{raise_asks_none, count_asks_none, lock_asks_none, count_number, CountAt}
 use Rattle.steps.specs.declared.container.add.Owned.{Owned}
-use Rattle.steps.specs.declared.container.find.FindStage.{FindStage}
 use Rattle.steps.specs.declared.container.find.FindStage as finds
-use Rattle.steps.specs.declared.container.look.LookStage.{LookStage}
-use Rattle.steps.specs.declared.container.recover.DeadOwner.{DeadOwner}
-use Rattle.steps.specs.declared.container.recover.RecoverStage.{RecoverStage}
 use Rattle.steps.specs.declared.container.recover.RecoverStage as recovers
-use Rattle.steps.specs.declared.container.remove.RemoveStage.{RemoveStage}
-use Rattle.steps.specs.declared.container.replace.ReplaceStage.{ReplaceStage}
-use Rattle.steps.specs.declared.container.replace.Replacement.{Replacement}
 use Rattle.steps.specs.declared.copied.Buffer as buffers
-use Rattle.steps.specs.declared.indices.enums.ReleaseMode.{ReleaseMode}
-use Rattle.steps.specs.declared.indices.robust.parts.Count.{Count as Counting}
-use Rattle.steps.specs.declared.indices.robust.release.GiveBack.{GiveBack}
-use Rattle.steps.specs.Container.Add.{add_asks}
-use Rattle.steps.specs.Container.Look.{look_asks}
-use Rattle.steps.specs.Container.Remove.{remove_asks}
-use Rattle.steps.specs.Container.Replace.{replace_asks}
-use Rattle.steps.specs.Indices.Robust.Parts.{empty, raise_want, lock_want}
-use Rattle.model.specs.declared.families.container.ContainerStart.{ContainerStart}
 use Rattle.model.specs.declared.families.container.ContainerStart as starts
-use Rattle.model.specs.declared.families.container.calls.ContainerFlight.{ContainerFlight}
 use Rattle.model.specs.declared.families.container.calls.ContainerFlight as calls
-use Rattle.model.specs.declared.families.container.calls.CountOf.{CountOf}
 use Rattle.model.specs.declared.families.container.calls.CountOf as counts
-use Rattle.model.specs.declared.families.container.calls.LookOf.{LookOf}
 use Rattle.model.specs.declared.families.container.calls.LookOf as kinds
-use Rattle.model.specs.Coding.{Coding}
-use Rattle.model.specs.Families.{is_question}
-use Rattle.model.specs.Families.Container.Calls.{place_of, want, acts_for_dead}
-use Rattle.model.specs.Families.Indices.Robust.Dead.{has_died}
-use Rattle.model.specs.Families.Indices.Robust.Reading.{is_dead}
-use Rattle.model.specs.Turns.{number_of as said_is}
-use Rattle.laws_robust.proofs.Effects.{both_ways}
-use Rattle.laws_robust.proofs.Sound.{raise_asks_none, count_asks_none, lock_asks_none}
-use Rattle.laws_robust.proofs.Standing.{count_number, CountAt}
 use Rattle.laws_container.proofs.Counts.{counts_as}
 use Rattle.laws_container.specs.Gone.{acts_for_gone}
 use Rattle.laws_container.proofs.Invariant.{Scene, Inv, ActsFor}

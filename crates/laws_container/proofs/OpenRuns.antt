@@ -1,45 +1,23 @@
 -- What holds of the machine of a container keeps to every turn of an open run, so it holds wherever such a run leads.
-use Rattle.std.proofs.Common.{◌≡◌, ℕ, ◌+◌, ◌-◌, ◌^◌, ◌<◌, ◌≤◌, ◌&&◌, nat_lt, Bool, true, false, not, Option, Some}
-use Rattle.std.proofs.Common.{None, is_some, is_none, List, [], ◌∷◌, ◌++◌, length, refl, sym, ap, subst, ◌∙◌}
-use Rattle.std.proofs.Common.{append-nil, arith}
-use Rattle.std.proofs.lemmas.Bool.Decides.{nat_tests}
-use Rattle.steps.specs.declared.ask.Ask.{Ask}
-use Rattle.steps.specs.Container.Layout.{total_words}
-use Rattle.steps.specs.Indices.Robust.Parts.{greatest}
-use Rattle.model.specs.declared.event.Event.TheVariants.{Begun}
-use Rattle.model.specs.declared.event.Start.{Start}
-use Rattle.model.specs.declared.event.Start.TheVariants.{Container}
-use Rattle.model.specs.declared.families.Flight.{Flight}
+use Rattle.laws_container.proofs.Names.{◌≡◌, ℕ, ◌+◌, ◌-◌, ◌^◌, ◌<◌, ◌≤◌, ◌&&◌, nat_lt, Bool, true, false, not, Option}
+use Rattle.laws_container.proofs.Names.{Some, None, is_some, is_none, List, [], ◌∷◌, ◌++◌, length, refl, sym, ap}
+use Rattle.laws_container.proofs.Names.{subst, ◌∙◌, append-nil, arith, nat_tests, Ask, total_words, greatest, Begun}
+use Rattle.laws_container.proofs.Names.{Start, Container, Flight, Doing, Going, Over, Party, WrongCall, Busy, Idle}
+use Rattle.laws_container.proofs.Names.{Undecided, Turn, Begin, Next, Decide, Die, Coding, IsWellFormedRun, first_of}
+use Rattle.laws_container.proofs.Names.{want_of, ask_of, is_question, going_rows, party_of, doing_of, flight_of, Each}
+use Rattle.laws_container.proofs.Names.{is_due, call_refusal, first_row, old_of, number_of, party_at_begin}
+use Rattle.laws_container.proofs.Names.{after_begin, after_step, step_in, party_after, change_of, step_count}
+use Rattle.laws_container.proofs.Names.{ask_of_doing, after_next, after_decision, after_answer, events_of_step}
+use Rattle.laws_container.proofs.Names.{events_of_answer, events_of_next, events_of_decision, after_turn}
+use Rattle.laws_container.proofs.Names.{unless_refused, Trace, opening, capacity_error, flight_in, Each-nil}
+use Rattle.laws_container.proofs.Names.{row_passed, may_begin, next_passes, Word, IsHonest, open_refusal}
+use Rattle.laws_container.proofs.Names.{attempt_open, run_open, IsReachedOpen, AllLive, all_live_on, counter_of}
+use Rattle.laws_container.proofs.Names.{admitted_is}
 use Rattle.model.specs.declared.families.Flight as flights
 use Rattle.model.specs.declared.families.container.ContainerStart.TheVariants.{Recover}
-use Rattle.model.specs.declared.party.Doing.{Doing}
-use Rattle.model.specs.declared.party.Doing.TheVariants.{Going, Over}
-use Rattle.model.specs.declared.party.Party.{Party}
 use Rattle.model.specs.declared.turn.Kind as kinds
 use Rattle.model.specs.declared.turn.Refusal.{Refusal}
-use Rattle.model.specs.declared.turn.Refusal.TheVariants.{WrongCall, Busy, Idle, Undecided}
-use Rattle.model.specs.declared.turn.Turn.{Turn}
-use Rattle.model.specs.declared.turn.Turn.TheVariants.{Begin, Next, Decide, Die}
-use Rattle.model.specs.Coding.{Coding}
-use Rattle.model.specs.Families.Container.Promises.{IsWellFormedRun}
-use Rattle.model.specs.Families.{first_of, want_of, ask_of, is_question, going_rows}
-use Rattle.model.specs.Parties.{party_of, doing_of, flight_of}
-use Rattle.model.specs.Reading.{Each}
-use Rattle.model.specs.Refusals.{is_due, call_refusal}
-use Rattle.model.specs.Rows.{first_row}
-use Rattle.model.specs.Turns.{old_of, number_of, party_at_begin, after_begin, after_step, step_in, party_after}
-use Rattle.model.specs.Turns.{change_of, step_count, ask_of_doing, after_next, after_decision, after_answer}
-use Rattle.model.specs.Turns.{events_of_step, events_of_answer, events_of_next, events_of_decision, after_turn}
-use Rattle.model.specs.Turns.{unless_refused}
-use Rattle.model.specs.World.{Trace, opening, capacity_error, flight_in}
 use Rattle.model.proofs.Frame as frame
-use Rattle.model.proofs.Readings.{Each-nil}
-use Rattle.model.proofs.Rows.{row_passed, may_begin, next_passes}
-use Rattle.laws_robust.specs.Gone.{Word, IsHonest}
-use Rattle.laws_robust.specs.Open.{open_refusal, attempt_open, run_open, IsReachedOpen}
-use Rattle.laws_robust.proofs.Alive.{AllLive, all_live_on}
-use Rattle.laws_robust.proofs.Core.{counter_of}
-use Rattle.laws_robust.proofs.Opening.{admitted_is}
 use Rattle.laws_robust.proofs.OpenTurns.{reached_keeps}
 use Rattle.laws_container.specs.Gone.{AnswersBy}
 use Rattle.laws_container.specs.Open.{is_for_gone, steps_for_gone, is_faithful, IsFaithful, IsFaithfulRun, IsOpenContainer}

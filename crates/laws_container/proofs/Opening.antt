@@ -1,22 +1,12 @@
 -- The container as it opens: nothing stands in it, and nobody has died.
-use Rattle.std.proofs.Common.{◌≡◌, ℕ, zero, suc, ◌+◌, ◌*◌, ◌%◌, ◌^◌, ◌<◌, ◌≤◌, inl, Some, None, List, [], length}
-use Rattle.std.proofs.Common.{replicate, get_or, slice_get, refl, sym, ap, ◌∙◌, length-append, arith}
+use Rattle.laws_container.proofs.Names.{◌≡◌, ℕ, zero, suc, ◌+◌, ◌*◌, ◌%◌, ◌^◌, ◌<◌, ◌≤◌, inl, Some, None, List, []}
+use Rattle.laws_container.proofs.Names.{length, replicate, get_or, slice_get, refl, sym, ap, ◌∙◌, length-append}
+use Rattle.laws_container.proofs.Names.{arith, length-replicate, get_or-replicate, get_or-append-add, change_word}
+use Rattle.laws_container.proofs.Names.{count_word, no_element, value_if, Element, empty, Coding, IsCoding, shows}
+use Rattle.laws_container.proofs.Names.{opening_words, fresh, Each-nil, GoneBy, cell, opening_cell}
 use Rattle.std.proofs.Math.ListN.{get_or-append}
-use Rattle.std.proofs.lemmas.List.{length-replicate, get_or-replicate, get_or-append-add}
-use Rattle.steps.specs.Container.Layout.{change_word, count_word}
-use Rattle.steps.specs.Container.State.{no_element, value_if}
-use Rattle.steps.specs.declared.container.state.Element.{Element}
-use Rattle.steps.specs.Indices.Robust.Parts.{empty}
-use Rattle.model.specs.Coding.{Coding, IsCoding}
-use Rattle.model.specs.Families.Container.Looks.{shows}
-use Rattle.model.specs.Families.Container.Opening.{opening_words}
-use Rattle.model.specs.Families.Container.States.{fresh}
 use Rattle.model.specs.Families.Indices.Robust.Opening as set_opening
-use Rattle.model.proofs.Readings.{Each-nil}
-use Rattle.laws_robust.specs.Gone.{GoneBy}
-use Rattle.laws_robust.proofs.Core.{cell}
 use Rattle.laws_robust.proofs.Invariant as set
-use Rattle.laws_robust.proofs.Opening.{opening_cell}
 use Rattle.laws_container.proofs.Core.{count_at, change_at}
 use Rattle.laws_container.proofs.Invariant.{moment}
 use Rattle.laws_container.proofs.Sights.{Sight, Rests, number_in, number_at}

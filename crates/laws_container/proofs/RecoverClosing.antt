@@ -1,43 +1,21 @@
 -- How a recovery of a container ends: the second look at the counter, and the count of the change.
-use Rattle.std.proofs.Common.{◌≡◌, ◌≢◌, ⊎_elim, ℕ, ◌+◌, ◌*◌, ◌<◌, ◌≤◌, ◌==◌, if◌then◌else◌, Bool, false}
-use Rattle.std.proofs.Common.{true, Option, Some, None, List, [], ◌∷◌, refl, sym, subst}
-use Rattle.std.proofs.Common.{append-nil, arith}
-use Rattle.std.proofs.lemmas.Bool.{cases_lt}
-use Rattle.std.proofs.lemmas.Bool.Decides.{nat_tests}
-use Rattle.steps.specs.declared.ask.Ask.{Ask}
+use Rattle.laws_container.proofs.Names.{◌≡◌, ◌≢◌, ⊎_elim, ℕ, ◌+◌, ◌*◌, ◌<◌, ◌≤◌, ◌==◌, if◌then◌else◌, Bool, false}
+use Rattle.laws_container.proofs.Names.{true, Option, Some, None, List, [], ◌∷◌, refl, sym, subst, append-nil, arith}
+use Rattle.laws_container.proofs.Names.{cases_lt, nat_tests, Ask, RecoverStage, ReleaseMode, ReleaseState, Lock}
+use Rattle.laws_container.proofs.Names.{Raise, change_word, recover_ends, empty, locked, greatest, Finished}
+use Rattle.laws_container.proofs.Names.{Container, UnlockedAtLast, is_locked, IsUnlocked, StillToFree, filled_of}
+use Rattle.laws_container.proofs.Names.{set_acts_of, words_after, held_now, is_gone, counter_of, some_none, is_shut}
+use Rattle.laws_container.proofs.Names.{unlocked, quiet_end, IsWorn, worn_on, none_beyond, through_now, loads_same}
 use Rattle.steps.specs.declared.ask.After.TheVariants.{Done}
-use Rattle.steps.specs.declared.container.recover.RecoverStage.{RecoverStage}
 use Rattle.steps.specs.declared.container.recover.RecoverStage as recovers
 use Rattle.steps.specs.declared.copied.Buffer as buffers
-use Rattle.steps.specs.declared.indices.enums.ReleaseMode.{ReleaseMode}
-use Rattle.steps.specs.declared.indices.enums.ReleaseState.{ReleaseState}
 use Rattle.steps.specs.declared.indices.enums.ReleaseState as states
 use Rattle.steps.specs.declared.indices.robust.parts.Count as counts
-use Rattle.steps.specs.declared.indices.robust.parts.Lock.{Lock}
 use Rattle.steps.specs.declared.indices.robust.parts.Lock as parts
-use Rattle.steps.specs.declared.indices.robust.parts.Raise.{Raise}
 use Rattle.steps.specs.declared.indices.robust.parts.Raise as raises
-use Rattle.steps.specs.Container.Layout.{change_word}
-use Rattle.steps.specs.Container.Recover.{recover_ends}
-use Rattle.steps.specs.Indices.Robust.Parts.{empty, locked, greatest}
 use Rattle.model.specs.declared.event.Answer.TheVariants as answers
-use Rattle.model.specs.declared.event.Event.TheVariants.{Finished}
-use Rattle.model.specs.declared.event.Start.TheVariants.{Container}
 use Rattle.model.specs.declared.families.container.ContainerStart.TheVariants.{Recover}
-use Rattle.model.specs.Families.Container.Recoveries.{UnlockedAtLast}
-use Rattle.model.specs.Families.Indices.Reading.{is_locked}
-use Rattle.model.specs.Families.Indices.Robust.Promises.{IsUnlocked, StillToFree}
-use Rattle.model.specs.Families.Indices.Robust.Reading.{filled_of, set_acts_of}
-use Rattle.model.specs.Turns.{words_after}
-use Rattle.model.proofs.Moments.{held_now}
-use Rattle.laws_robust.specs.Gone.{is_gone}
-use Rattle.laws_robust.proofs.Core.{counter_of}
-use Rattle.laws_robust.proofs.Effects.{some_none, is_shut, unlocked, quiet_end}
 use Rattle.laws_robust.proofs.Effects as set_effects
-use Rattle.laws_robust.proofs.Invariant.{IsWorn, worn_on}
-use Rattle.laws_robust.proofs.Parts.{none_beyond}
-use Rattle.laws_robust.proofs.Past.{through_now}
-use Rattle.laws_robust.proofs.Stages.{loads_same}
 use Rattle.laws_robust.proofs.Stages as set_stages
 use Rattle.laws_container.specs.Gone.{HasRecoveredBy, FilledSinceEachBy, AnswersBy}
 use Rattle.laws_container.proofs.Answers.{each_on}

@@ -1,40 +1,20 @@
 -- The steps of a recovery behind its question: it empties the cell, and hides what stands there.
-use Rattle.std.proofs.Common.{◌≡◌, ◌≢◌, ◌⊎◌, ⊎_elim, inl, inr, ℕ, ◌+◌, ◌*◌, ◌%◌, ◌<◌, ◌≤◌, ◌==◌, if◌then◌else◌, Bool}
-use Rattle.std.proofs.Common.{false, true, Option, Some, None, List, [], ◌∷◌, ◌++◌, set, refl, sym, ap, subst, ◌∙◌}
-use Rattle.std.proofs.Common.{append-nil, arith}
-use Rattle.std.proofs.lemmas.Bool.Decides.{nat_tests}
-use Rattle.std.proofs.lemmas.List.Sums.{fold-append}
-use Rattle.steps.specs.declared.ask.Ask.{Ask}
-use Rattle.steps.specs.declared.ask.After.TheVariants.{GoOn}
-use Rattle.steps.specs.declared.container.recover.RecoverStage.{RecoverStage}
+use Rattle.laws_container.proofs.Names.{◌≡◌, ◌≢◌, ◌⊎◌, ⊎_elim, inl, inr, ℕ, ◌+◌, ◌*◌, ◌%◌, ◌<◌, ◌≤◌, ◌==◌}
+use Rattle.laws_container.proofs.Names.{if◌then◌else◌, Bool, false, true, Option, Some, None, List, [], ◌∷◌, ◌++◌}
+use Rattle.laws_container.proofs.Names.{set, refl, sym, ap, subst, ◌∙◌, append-nil, arith, nat_tests, fold-append}
+use Rattle.laws_container.proofs.Names.{Ask, GoOn, RecoverStage, ReleaseMode, count_word, is_even, recover_comes_to}
+use Rattle.laws_container.proofs.Names.{recover_raises, cell_word, empty, one_more, Event, FreedOf, Hidden, Party}
+use Rattle.laws_container.proofs.Names.{WasShown, Sees, HidesOne, acts, cell_of, LivesToRelease, Frees, Yes}
+use Rattle.laws_container.proofs.Names.{filled_after, filled_of, IsOneOf, HasJustFreed, flight_of, words_after}
+use Rattle.laws_container.proofs.Names.{step_count, is_gone, cell, was_one, by_latest, at_same, some_none, one_owner}
+use Rattle.laws_container.proofs.Names.{both_ways, filled_by, calm_less, IsWorn, exchanges, exchange_sets, fails_same}
 use Rattle.steps.specs.declared.container.recover.RecoverStage as recovers
 use Rattle.steps.specs.declared.copied.Buffer as buffers
-use Rattle.steps.specs.declared.indices.enums.ReleaseMode.{ReleaseMode}
 use Rattle.steps.specs.declared.indices.robust.parts.Raise as raises
-use Rattle.steps.specs.Container.Layout.{count_word, is_even}
-use Rattle.steps.specs.Container.Recover.{recover_comes_to, recover_raises}
-use Rattle.steps.specs.Indices.Robust.Parts.{cell_word, empty, one_more}
-use Rattle.model.specs.declared.event.Event.{Event}
-use Rattle.model.specs.declared.event.Event.TheVariants.{FreedOf, Hidden}
 use Rattle.model.specs.declared.families.container.ContainerStart.TheVariants.{Recover}
-use Rattle.model.specs.declared.party.Party.{Party}
-use Rattle.model.specs.Families.Container.Promises.{WasShown}
-use Rattle.model.specs.Families.Container.Reading.{Sees, Hides as HidesOne, acts}
-use Rattle.model.specs.Families.Indices.Robust.Promises.{cell_of, LivesToRelease}
-use Rattle.model.specs.Families.Indices.Robust.Reading.{Frees, Yes, filled_after, filled_of, IsOneOf}
-use Rattle.model.specs.Families.Indices.Robust.Spans.{HasJustFreed}
-use Rattle.model.specs.Parties.{flight_of}
-use Rattle.model.specs.Turns.{words_after, step_count}
-use Rattle.laws_robust.specs.Gone.{is_gone}
-use Rattle.laws_robust.proofs.Core.{cell}
-use Rattle.laws_robust.proofs.SetActs.{was_one, by_latest}
-use Rattle.laws_robust.proofs.Effects.{at_same, some_none, one_owner, both_ways, filled_by}
 use Rattle.laws_robust.proofs.Effects as set_effects
 use Rattle.laws_robust.proofs.Frees as set_frees
-use Rattle.laws_robust.proofs.Gone.{calm_less}
 use Rattle.laws_robust.proofs.Invariant as set_invariant
-use Rattle.laws_robust.proofs.Invariant.{IsWorn}
-use Rattle.laws_robust.proofs.Stages.{exchanges, exchange_sets, fails_same}
 use Rattle.laws_container.specs.Gone.{FreedBy}
 use Rattle.laws_container.proofs.Core.{count_at}
 use Rattle.laws_container.proofs.HiddenKnows.{StillStands}

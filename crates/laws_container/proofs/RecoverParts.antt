@@ -1,44 +1,19 @@
 -- What the steps of a recovery have in common: how it goes on, and how it comes to the next index.
-use Rattle.std.proofs.Common.{◌≡◌, ◌≢◌, ◌⊎◌, ⊎_elim, inl, inr, ℕ, ◌+◌, ◌*◌, ◌<◌, ◌≤◌, if◌then◌else◌, nat_lt, Bool}
-use Rattle.std.proofs.Common.{false, true, Option, Some, List, [], ◌++◌, refl, sym, ap, subst, arith}
-use Rattle.std.specs.List.{AllByRecursion}
-use Rattle.std.proofs.lemmas.Bool.Decides.{nat_tests}
-use Rattle.steps.specs.declared.ask.Ask.{Ask}
-use Rattle.steps.specs.declared.ask.After.{After}
-use Rattle.steps.specs.declared.ask.After.TheVariants.{GoOn}
+use Rattle.laws_container.proofs.Names.{◌≡◌, ◌≢◌, ◌⊎◌, ⊎_elim, inl, inr, ℕ, ◌+◌, ◌*◌, ◌<◌, ◌≤◌, if◌then◌else◌, nat_lt}
+use Rattle.laws_container.proofs.Names.{Bool, false, true, Option, Some, List, [], ◌++◌, refl, sym, ap, subst, arith}
+use Rattle.laws_container.proofs.Names.{AllByRecursion, nat_tests, Ask, After, GoOn, RecoverStage, ReleaseMode}
+use Rattle.laws_container.proofs.Names.{ReleaseState, recover_comes_to, empty, went_on, Answer, Event, Container}
+use Rattle.laws_container.proofs.Names.{ContainerStart, ContainerFlight, Party, WasShown, promise, Sees, acts}
+use Rattle.laws_container.proofs.Names.{acts_of, HeldThroughout, StillToFree, Frees, Asks, Yes, set_acts, set_acts_of}
+use Rattle.laws_container.proofs.Names.{filled_of, IsOneOf, as_it_is, BeginsNone, put, flight_of, Stands, Open}
+use Rattle.laws_container.proofs.Names.{as_call, words_after, step_count, AreOwn, AllFollow, IsWorn, worn_on, Goes}
 use Rattle.steps.specs.declared.container.recover.Recover as recover_calls
-use Rattle.steps.specs.declared.container.recover.RecoverStage.{RecoverStage}
 use Rattle.steps.specs.declared.container.recover.RecoverStage as recovers
 use Rattle.steps.specs.declared.copied.Buffer as buffers
-use Rattle.steps.specs.declared.indices.enums.ReleaseMode.{ReleaseMode}
-use Rattle.steps.specs.declared.indices.enums.ReleaseState.{ReleaseState}
-use Rattle.steps.specs.Container.Recover.{recover_comes_to}
-use Rattle.steps.specs.Indices.Robust.Parts.{empty}
-use Rattle.steps.specs.Routine.{went_on}
-use Rattle.model.specs.declared.event.Answer.{Answer}
 use Rattle.model.specs.declared.event.Answer.TheVariants as answers
-use Rattle.model.specs.declared.event.Event.{Event}
-use Rattle.model.specs.declared.event.Start.TheVariants.{Container}
-use Rattle.model.specs.declared.families.container.ContainerStart.{ContainerStart}
 use Rattle.model.specs.declared.families.container.ContainerStart.TheVariants.{Recover}
-use Rattle.model.specs.declared.families.container.calls.ContainerFlight.{ContainerFlight}
 use Rattle.model.specs.declared.families.container.calls.ContainerFlight as calls
-use Rattle.model.specs.declared.party.Party.{Party}
-use Rattle.model.specs.Families.Container.Promises.{WasShown, promise}
-use Rattle.model.specs.Families.Container.Reading.{Sees, acts, acts_of}
-use Rattle.model.specs.Families.Indices.Robust.Promises.{HeldThroughout, StillToFree}
-use Rattle.model.specs.Families.Indices.Robust.Reading.{Frees, Asks, Yes, set_acts, set_acts_of, filled_of, IsOneOf}
-use Rattle.model.specs.Families.Queues.Calls.{as_it_is}
-use Rattle.model.specs.Moments.{BeginsNone}
-use Rattle.model.specs.Parties.{put, flight_of}
-use Rattle.model.specs.Promises.Spans.{Stands}
-use Rattle.model.specs.Reading.{Open}
-use Rattle.model.specs.Step.{as_call}
-use Rattle.model.specs.Turns.{words_after, step_count}
-use Rattle.model.proofs.Readings.{AreOwn, AllFollow}
 use Rattle.laws_robust.proofs.Effects as set_effects
-use Rattle.laws_robust.proofs.Invariant.{IsWorn, worn_on}
-use Rattle.laws_robust.proofs.Knows.{Goes}
 use Rattle.laws_container.proofs.Effects.{calmly}
 use Rattle.laws_container.proofs.HiddenKnows.{HasHidden}
 use Rattle.laws_container.proofs.HiddenOn.{hidden_on}

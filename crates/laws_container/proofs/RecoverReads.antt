@@ -1,38 +1,19 @@
 -- The steps of a recovery up to its question: the counter, a cell, the number of an element, its copy, and the answer.
-use Rattle.std.proofs.Common.{◌≡◌, ◌≢◌, ◌⊎◌, ⊎_elim, inl, inr, ℕ, ◌+◌, ◌*◌, ◌<◌, ◌≤◌, ◌==◌, if◌then◌else◌, nat_lt}
-use Rattle.std.proofs.Common.{Bool, false, true, Option, Some, None, is_some, List, [], ◌∷◌, ◌++◌}
-use Rattle.std.proofs.Common.{refl, sym, ap, subst, ◌∙◌, append-nil, arith}
-use Rattle.std.proofs.lemmas.Bool.Decides.{nat_tests}
-use Rattle.steps.specs.declared.ask.Ask.{Ask}
-use Rattle.steps.specs.declared.ask.After.{After}
-use Rattle.steps.specs.declared.ask.After.TheVariants.{GoOn}
+use Rattle.laws_container.proofs.Names.{◌≡◌, ◌≢◌, ◌⊎◌, ⊎_elim, inl, inr, ℕ, ◌+◌, ◌*◌, ◌<◌, ◌≤◌, ◌==◌, if◌then◌else◌}
+use Rattle.laws_container.proofs.Names.{nat_lt, Bool, false, true, Option, Some, None, is_some, List, [], ◌∷◌, ◌++◌}
+use Rattle.laws_container.proofs.Names.{refl, sym, ap, subst, ◌∙◌, append-nil, arith, nat_tests, Ask, After, GoOn}
+use Rattle.laws_container.proofs.Names.{ReleaseState, RecoverStage, ReleaseMode, LockIfLastIndex, Default, count_word}
+use Rattle.laws_container.proofs.Names.{is_even, recover_comes_to, recover_ends, recover_sees, cell_word, empty}
+use Rattle.laws_container.proofs.Names.{locked, Event, Shown, Party, WasShown, Act, Sees, acts_of, seen_in}
+use Rattle.laws_container.proofs.Names.{contents_of, cell_of, IsFilledWith, IsUnlocked, HeldThroughout, StillToFree}
+use Rattle.laws_container.proofs.Names.{SetAct, Frees, Asks, Yes, set_acts_of, IsOneOf, asked_in, words_after}
+use Rattle.laws_container.proofs.Names.{step_count, held_now, held_later, no_more, IsWorn, counter_of, cell}
+use Rattle.laws_container.proofs.Names.{filled_by, is_shut, unlocked, through_now, loads_same}
 use Rattle.steps.specs.declared.container.recover.Recover as recover_calls
-use Rattle.steps.specs.declared.indices.enums.ReleaseState.{ReleaseState}
-use Rattle.steps.specs.declared.container.recover.RecoverStage.{RecoverStage}
 use Rattle.steps.specs.declared.container.recover.RecoverStage as recovers
 use Rattle.steps.specs.declared.copied.Buffer as buffers
-use Rattle.steps.specs.declared.indices.enums.ReleaseMode.{ReleaseMode}
-use Rattle.steps.specs.declared.indices.enums.ReleaseMode.TheVariants.{LockIfLastIndex, Default}
 use Rattle.steps.specs.declared.indices.enums.ReleaseState as states
-use Rattle.steps.specs.Container.Layout.{count_word, is_even}
-use Rattle.steps.specs.Container.Recover.{recover_comes_to, recover_ends, recover_sees}
-use Rattle.steps.specs.Indices.Robust.Parts.{cell_word, empty, locked}
-use Rattle.model.specs.declared.event.Event.{Event}
-use Rattle.model.specs.declared.event.Event.TheVariants.{Shown}
 use Rattle.model.specs.declared.families.container.ContainerStart.TheVariants.{Recover}
-use Rattle.model.specs.declared.party.Party.{Party}
-use Rattle.model.specs.Families.Container.Promises.{WasShown}
-use Rattle.model.specs.Families.Container.Reading.{Act, Sees, acts_of, seen_in, contents_of}
-use Rattle.model.specs.Families.Indices.Robust.Promises.{cell_of, IsFilledWith, IsUnlocked, HeldThroughout, StillToFree}
-use Rattle.model.specs.Families.Indices.Robust.Reading.{SetAct, Frees, Asks, Yes, set_acts_of, IsOneOf, asked_in}
-use Rattle.model.specs.Turns.{words_after, step_count}
-use Rattle.model.proofs.Moments.{held_now, held_later}
-use Rattle.model.proofs.Readings.{no_more}
-use Rattle.laws_robust.proofs.Invariant.{IsWorn}
-use Rattle.laws_robust.proofs.Core.{counter_of, cell}
-use Rattle.laws_robust.proofs.Effects.{filled_by, is_shut, unlocked}
-use Rattle.laws_robust.proofs.Past.{through_now}
-use Rattle.laws_robust.proofs.Stages.{loads_same}
 use Rattle.laws_robust.proofs.Stages as set_stages
 use Rattle.laws_container.proofs.Copies.{copying_first}
 use Rattle.laws_container.proofs.Core.{count_at}

@@ -1,39 +1,19 @@
 -- A recovery of a container reads the words of an element, checks its number, and is told.
-use Rattle.std.proofs.Common.{◌≡◌, ◌≢◌, ⊎_elim, inl, inr, ℕ, ◌+◌, ◌*◌, ◌<◌, ◌≤◌, ◌==◌, if◌then◌else◌, nat_lt}
-use Rattle.std.proofs.Common.{Bool, false, true, not, Option, Some, None, List, [], ◌∷◌, ◌++◌, set, fold}
-use Rattle.std.proofs.Common.{refl, sym, ap, subst, ◌∙◌, append-nil, append_assoc, arith}
-use Rattle.std.proofs.lemmas.Bool.Decides.{nat_tests}
-use Rattle.std.proofs.lemmas.List.{set-get_or, length-set}
-use Rattle.std.proofs.lemmas.List.Concat.{flat_map-append}
-use Rattle.std.proofs.lemmas.List.Sums.{fold-append}
-use Rattle.steps.specs.declared.ask.Ask.{Ask}
-use Rattle.steps.specs.declared.ask.After.{After}
-use Rattle.steps.specs.declared.ask.After.TheVariants.{GoOn}
+use Rattle.laws_container.proofs.Names.{◌≡◌, ◌≢◌, ⊎_elim, inl, inr, ℕ, ◌+◌, ◌*◌, ◌<◌, ◌≤◌, ◌==◌, if◌then◌else◌}
+use Rattle.laws_container.proofs.Names.{nat_lt, Bool, false, true, not, Option, Some, None, List, [], ◌∷◌, ◌++◌, set}
+use Rattle.laws_container.proofs.Names.{fold, refl, sym, ap, subst, ◌∙◌, append-nil, append_assoc, arith, nat_tests}
+use Rattle.laws_container.proofs.Names.{set-get_or, length-set, flat_map-append, fold-append, Ask, After, GoOn}
+use Rattle.laws_container.proofs.Names.{ReleaseState, RecoverStage, ReleaseMode, count_word, element_word, is_even}
+use Rattle.laws_container.proofs.Names.{recover_comes_to, recover_sees, empty, Event, Asked, Told, Copied, Shown}
+use Rattle.laws_container.proofs.Names.{Container, ContainerStart, Copies, Sees, act, acts, acts_of, IsFilledWith}
+use Rattle.laws_container.proofs.Names.{IsUnlocked, Frees, Asks, Yes, set_act, set_acts, set_acts_of, filled_after}
+use Rattle.laws_container.proofs.Names.{IsOneOf, asked_in, read_in, kept_at, Open, own_after, words_after, held_later}
+use Rattle.laws_container.proofs.Names.{gone_more, IsWorn, was_one, last_one, loads_same, exchanges, exchange_sets}
+use Rattle.laws_container.proofs.Names.{fails_same}
 use Rattle.steps.specs.declared.container.recover.Recover as recover_calls
-use Rattle.steps.specs.declared.indices.enums.ReleaseState.{ReleaseState}
-use Rattle.steps.specs.declared.container.recover.RecoverStage.{RecoverStage}
 use Rattle.steps.specs.declared.container.recover.RecoverStage as recovers
 use Rattle.steps.specs.declared.copied.Buffer as buffers
-use Rattle.steps.specs.declared.indices.enums.ReleaseMode.{ReleaseMode}
-use Rattle.steps.specs.Container.Layout.{count_word, element_word, is_even}
-use Rattle.steps.specs.Container.Recover.{recover_comes_to, recover_sees}
-use Rattle.steps.specs.Indices.Robust.Parts.{empty}
-use Rattle.model.specs.declared.event.Event.{Event}
-use Rattle.model.specs.declared.event.Event.TheVariants.{Asked, Told, Copied, Shown}
-use Rattle.model.specs.declared.event.Start.TheVariants.{Container}
-use Rattle.model.specs.declared.families.container.ContainerStart.{ContainerStart}
 use Rattle.model.specs.declared.families.container.ContainerStart.TheVariants.{Recover}
-use Rattle.model.specs.Families.Container.Reading.{Copies, Sees, act, acts, acts_of}
-use Rattle.model.specs.Families.Indices.Robust.Promises.{IsFilledWith, IsUnlocked}
-use Rattle.model.specs.Families.Indices.Robust.Reading.{Frees, Asks, Yes, set_act, set_acts, set_acts_of, filled_after, IsOneOf, asked_in}
-use Rattle.model.specs.Families.Queues.Calls.{read_in, kept_at}
-use Rattle.model.specs.Reading.{Open, own_after}
-use Rattle.model.specs.Turns.{words_after}
-use Rattle.model.proofs.Moments.{held_later}
-use Rattle.laws_robust.proofs.Gone.{gone_more}
-use Rattle.laws_robust.proofs.Invariant.{IsWorn}
-use Rattle.laws_robust.proofs.SetActs.{was_one, last_one}
-use Rattle.laws_robust.proofs.Stages.{loads_same, exchanges, exchange_sets, fails_same}
 use Rattle.laws_robust.proofs.Stages as set_stages
 use Rattle.laws_container.proofs.Copies.{copying_more, copied_value}
 use Rattle.laws_container.proofs.Core.{count_at}

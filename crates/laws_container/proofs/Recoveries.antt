@@ -1,22 +1,11 @@
 -- What a recovery knows once its party has taken a turn: of moments, of what it has asked about, and of what it has lost.
-use Rattle.std.proofs.Common.{◌≡◌, ◌≢◌, ◌⊎◌, ⊎_elim, inl, inr, ℕ, ◌+◌, ◌<◌, ◌≤◌, Some, List, [], ◌∷◌, ◌++◌, sym, ap}
-use Rattle.std.proofs.Common.{subst, ◌∙◌, append_assoc, append-nil, arith}
-use Rattle.std.proofs.lemmas.Bool.{cases_eq}
-use Rattle.std.proofs.lemmas.List.Concat.{flat_map-append}
-use Rattle.steps.specs.declared.container.state.ContainerState.{ContainerState}
-use Rattle.model.specs.declared.event.Event.{Event}
-use Rattle.model.specs.declared.party.Party.{Party}
-use Rattle.model.specs.Coding.{Coding}
-use Rattle.model.specs.Families.Container.Promises.{WasShown}
-use Rattle.model.specs.Families.Container.Reading.{Act, Sees, acts, acts_of, index_seen, seen_in}
-use Rattle.model.specs.Families.Indices.Robust.Promises.{IsUnlocked, HeldThroughout, StillToFree}
-use Rattle.model.specs.Families.Indices.Robust.Reading.{SetAct, Frees, Asks, Yes, index_asked, asked_in, set_acts, set_acts_of, filled_of, IsOneOf, IsLatest}
-use Rattle.model.specs.Moments.{BeginsNone}
-use Rattle.model.proofs.Moments.{held_later}
-use Rattle.model.proofs.Readings.{SplitAt, Last, Earlier, split_last}
-use Rattle.laws_robust.proofs.Gone.{gone_more, honest_less, stays_lost}
-use Rattle.laws_robust.proofs.Knows.{Goes}
-use Rattle.laws_robust.proofs.Past.{through_less}
+use Rattle.laws_container.proofs.Names.{◌≡◌, ◌≢◌, ◌⊎◌, ⊎_elim, inl, inr, ℕ, ◌+◌, ◌<◌, ◌≤◌, Some, List, [], ◌∷◌, ◌++◌}
+use Rattle.laws_container.proofs.Names.{sym, ap, subst, ◌∙◌, append_assoc, append-nil, arith, cases_eq}
+use Rattle.laws_container.proofs.Names.{flat_map-append, ContainerState, Event, Party, Coding, WasShown, Act, Sees}
+use Rattle.laws_container.proofs.Names.{acts, acts_of, index_seen, seen_in, IsUnlocked, HeldThroughout, StillToFree}
+use Rattle.laws_container.proofs.Names.{SetAct, Frees, Asks, Yes, index_asked, asked_in, set_acts, set_acts_of}
+use Rattle.laws_container.proofs.Names.{filled_of, IsOneOf, IsLatest, BeginsNone, held_later, SplitAt, Last, Earlier}
+use Rattle.laws_container.proofs.Names.{split_last, gone_more, honest_less, stays_lost, Goes, through_less}
 use Rattle.laws_container.proofs.Finds.{all_both, below_more, has_more}
 use Rattle.laws_container.proofs.HiddenKnows.{HasHidden}
 use Rattle.laws_container.proofs.Knows.{View, now, IsGone, AskedBelow, GoneBut, Recovers}

@@ -1,52 +1,25 @@
 -- The last steps of a recovery: it raises the counter, locks, looks at the counter again, and counts its change.
-use Rattle.std.proofs.Common.{◌≡◌, ⊎_elim, inl, inr, ℕ, ◌+◌, ◌*◌, ◌<◌, ◌≤◌, Bool, false}
-use Rattle.std.proofs.Common.{Option, Some, None, is_some, List, [], ◌∷◌, ◌++◌, set, refl, sym, ap, subst}
-use Rattle.std.proofs.Common.{append-nil, arith}
-use Rattle.std.proofs.lemmas.List.Sums.{fold-append}
-use Rattle.steps.specs.declared.ask.Ask.{Ask}
-use Rattle.steps.specs.declared.ask.After.{After}
+use Rattle.laws_container.proofs.Names.{◌≡◌, ⊎_elim, inl, inr, ℕ, ◌+◌, ◌*◌, ◌<◌, ◌≤◌, Bool, false, Option, Some, None}
+use Rattle.laws_container.proofs.Names.{is_some, List, [], ◌∷◌, ◌++◌, set, refl, sym, ap, subst, append-nil, arith}
+use Rattle.laws_container.proofs.Names.{fold-append, Ask, After, RecoverStage, ReleaseMode, LockIfLastIndex, Default}
+use Rattle.laws_container.proofs.Names.{ReleaseState, Lock, Raise, recover_raised, recover_locked, empty, locked}
+use Rattle.laws_container.proofs.Names.{greatest, first_lock, raise_after, raise_goes_back, lock_after}
+use Rattle.laws_container.proofs.Names.{lock_goes_back, Event, Locked, Container, most_steps, promise, Sees}
+use Rattle.laws_container.proofs.Names.{locked_after, IsFilled, Frees, Yes, Locks, holder_of, set_acts_of}
+use Rattle.laws_container.proofs.Names.{HasJustFreed, Stands, Open, old_of, words_after, held_now, AllFollow, IsCalm}
+use Rattle.laws_container.proofs.Names.{counter_of, times_below, was_one, is_shut, IsWorn, raise_ask, lock_ask}
+use Rattle.laws_container.proofs.Names.{raise_step, lock_step, IsSaid, raise_number, lock_number, LockAt}
 use Rattle.steps.specs.declared.ask.After.TheVariants.{Done}
-use Rattle.steps.specs.declared.container.recover.RecoverStage.{RecoverStage}
 use Rattle.steps.specs.declared.container.recover.RecoverStage as recovers
 use Rattle.steps.specs.declared.copied.Buffer as buffers
-use Rattle.steps.specs.declared.indices.enums.ReleaseMode.{ReleaseMode}
-use Rattle.steps.specs.declared.indices.enums.ReleaseMode.TheVariants.{LockIfLastIndex, Default}
-use Rattle.steps.specs.declared.indices.enums.ReleaseState.{ReleaseState}
 use Rattle.steps.specs.declared.indices.enums.ReleaseState as states
-use Rattle.steps.specs.declared.indices.robust.parts.Lock.{Lock}
-use Rattle.steps.specs.declared.indices.robust.parts.Raise.{Raise}
 use Rattle.steps.specs.declared.indices.robust.parts.Raise as raises
-use Rattle.steps.specs.Container.Recover.{recover_raised, recover_locked}
-use Rattle.steps.specs.Indices.Robust.Parts.{empty, locked, greatest, first_lock, raise_after, raise_goes_back, lock_after, lock_goes_back}
-use Rattle.model.specs.declared.event.Event.{Event}
-use Rattle.model.specs.declared.event.Event.TheVariants.{Locked}
-use Rattle.model.specs.declared.event.Start.TheVariants.{Container}
 use Rattle.model.specs.declared.families.container.ContainerStart.TheVariants.{Recover}
-use Rattle.model.specs.Families.Container.Bounds.{most_steps}
-use Rattle.model.specs.Families.Container.Promises.{promise}
-use Rattle.model.specs.Families.Container.Reading.{Sees}
-use Rattle.model.specs.Families.Indices.Reading.{locked_after}
-use Rattle.model.specs.Families.Indices.Robust.Promises.{IsFilled}
-use Rattle.model.specs.Families.Indices.Robust.Reading.{Frees, Yes, Locks, holder_of, set_acts_of}
-use Rattle.model.specs.Families.Indices.Robust.Spans.{HasJustFreed}
 use Rattle.model.specs.Families.Indices.Robust.Steps.{locked_by}
-use Rattle.model.specs.Promises.Spans.{Stands}
-use Rattle.model.specs.Reading.{Open}
-use Rattle.model.specs.Turns.{old_of, words_after}
-use Rattle.model.proofs.Moments.{held_now}
-use Rattle.model.proofs.Readings.{AllFollow}
-use Rattle.laws_robust.specs.Gone.{IsCalm}
-use Rattle.laws_robust.proofs.Core.{counter_of}
-use Rattle.laws_robust.proofs.Counting.{times_below}
-use Rattle.laws_robust.proofs.SetActs.{was_one}
-use Rattle.laws_robust.proofs.Effects.{is_shut}
 use Rattle.laws_robust.proofs.Effects as set_effects
-use Rattle.laws_robust.proofs.Invariant.{IsWorn}
 use Rattle.laws_robust.proofs.Knows as set_knows
 use Rattle.laws_robust.proofs.Locks as set_locks
-use Rattle.laws_robust.proofs.Parts.{raise_ask, lock_ask, raise_step, lock_step, IsSaid}
 use Rattle.laws_robust.proofs.Stages as set_stages
-use Rattle.laws_robust.proofs.Standing.{raise_number, lock_number, LockAt}
 use Rattle.laws_container.proofs.HiddenOn.{hidden_on}
 use Rattle.laws_container.proofs.Invariant.{Scene, Inv, of_set, inv_of_set, wrote_of}
 use Rattle.laws_container.proofs.Keeping.{shut_later}

@@ -1,30 +1,18 @@
 -- A remove loads the number that it hides; and any step of one.
-use Rattle.std.proofs.Common.{◌≡◌, inl, ℕ, ◌+◌, ◌<◌, ◌≤◌, false}
-use Rattle.std.proofs.Common.{Option, Some, None, List, [], ◌∷◌, refl, sym, ap, subst, arith}
-use Rattle.steps.specs.declared.ask.Ask.{Ask}
+use Rattle.laws_container.proofs.Names.{◌≡◌, inl, ℕ, ◌+◌, ◌<◌, ◌≤◌, false, Option, Some, None, List, [], ◌∷◌, refl}
+use Rattle.laws_container.proofs.Names.{sym, ap, subst, arith, Ask, ContainerHandleNotOwnedByContainer, RemoveStage}
+use Rattle.laws_container.proofs.Names.{ReleaseMode, ReleaseStage, count_word, empty, Finished, Container}
+use Rattle.laws_container.proofs.Names.{ContainerStart, ContainerFlight, place_of, words_after, loads_same}
+use Rattle.laws_container.proofs.Names.{release_at}
 use Rattle.steps.specs.declared.ask.After.TheVariants.{Done}
-use Rattle.steps.specs.declared.container.enums.ContainerRemoveError.TheVariants.{ContainerHandleNotOwnedByContainer}
-use Rattle.steps.specs.declared.container.remove.RemoveStage.{RemoveStage}
 use Rattle.steps.specs.declared.container.remove.RemoveStage as removes
-use Rattle.steps.specs.declared.indices.enums.ReleaseMode.{ReleaseMode}
-use Rattle.steps.specs.declared.indices.robust.release.ReleaseStage.{ReleaseStage}
 use Rattle.steps.specs.declared.indices.robust.release.ReleaseStage as releases
-use Rattle.steps.specs.Container.Layout.{count_word}
-use Rattle.steps.specs.Indices.Robust.Parts.{empty}
 use Rattle.model.specs.declared.event.Answer.TheVariants as answers
-use Rattle.model.specs.declared.event.Event.TheVariants.{Finished}
-use Rattle.model.specs.declared.event.Start.TheVariants.{Container}
-use Rattle.model.specs.declared.families.container.ContainerStart.{ContainerStart}
 use Rattle.model.specs.declared.families.container.ContainerStart.TheVariants.{Remove}
-use Rattle.model.specs.declared.families.container.calls.ContainerFlight.{ContainerFlight}
-use Rattle.model.specs.Families.Container.Calls.{place_of}
-use Rattle.model.specs.Turns.{words_after}
 use Rattle.laws_robust.proofs.Effects as set_effects
 use Rattle.laws_robust.proofs.Invariant as set_invariant
 use Rattle.laws_robust.proofs.Knows as set_knows
-use Rattle.laws_robust.proofs.Stages.{loads_same}
 use Rattle.laws_robust.proofs.Stages as set_stages
-use Rattle.laws_robust.proofs.Standing.{release_at}
 use Rattle.laws_container.proofs.Core.{count_at}
 use Rattle.laws_container.proofs.HiddenRemoves.{total_is, hides_step, end_step}
 use Rattle.laws_container.proofs.Invariant.{Scene, Inv, ActsFor, before, of_set, inv_of_set}

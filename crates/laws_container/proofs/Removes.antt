@@ -1,67 +1,36 @@
 -- The steps of a remove: what the release of the set leads to, in a call that goes on; then it hides what stood there, unless that
 -- has changed, and counts its change.
-use Rattle.std.proofs.Common.{◌≡◌, ◌≢◌, ◌⊎◌, ⊎_elim, inl, inr, ℕ, ◌+◌, ◌%◌, ◌<◌, ◌≤◌, if◌then◌else◌, Bool, false, true}
-use Rattle.std.proofs.Common.{Option, Some, None, List, [], ◌∷◌, ◌++◌, set, refl, sym, ap, subst, ◌∙◌, arith}
-use Rattle.std.specs.Prelude.{Ok}
-use Rattle.std.proofs.lemmas.List.Sums.{fold-append}
-use Rattle.steps.specs.declared.ask.Ask.{Ask}
-use Rattle.steps.specs.declared.ask.After.{After}
-use Rattle.steps.specs.declared.ask.After.TheVariants.{GoOn, Done}
-use Rattle.steps.specs.declared.container.enums.ContainerRemoveError.TheVariants.{ContainerHandleNotOwnedByContainer}
+use Rattle.laws_container.proofs.Names.{◌≡◌, ◌≢◌, ◌⊎◌, ⊎_elim, inl, inr, ℕ, ◌+◌, ◌%◌, ◌<◌, ◌≤◌, if◌then◌else◌, Bool}
+use Rattle.laws_container.proofs.Names.{false, true, Option, Some, None, List, [], ◌∷◌, ◌++◌, set, refl, sym, ap}
+use Rattle.laws_container.proofs.Names.{subst, ◌∙◌, arith, Ok, fold-append, Ask, After, GoOn}
+use Rattle.laws_container.proofs.Names.{ContainerHandleNotOwnedByContainer, RemoveStage, ReleaseMode, LockIfLastIndex}
+use Rattle.laws_container.proofs.Names.{Default, ReleaseState, GiveBack, ReleaseStage, count_word, is_even, Removed}
+use Rattle.laws_container.proofs.Names.{at_remove, remove_released, cell_word, empty, locked, greatest, went_on}
+use Rattle.laws_container.proofs.Names.{Answer, Event, FreedOf, Locked, Finished, Container, ContainerStart}
+use Rattle.laws_container.proofs.Names.{ContainerFlight, Party, place_of, removed, promise, Act, contents_after}
+use Rattle.laws_container.proofs.Names.{HasDone, locked_after, is_locked, IsUnlocked, LivesToRelease, MayGiveBack}
+use Rattle.laws_container.proofs.Names.{SetAct, Frees, Locks, set_acts, filled_of, holder_of, settled_of, IsOneOf}
+use Rattle.laws_container.proofs.Names.{as_it_is, SinceBegin, put, Stands, Open, span_of, as_call, words_after}
+use Rattle.laws_container.proofs.Names.{step_count, held_now, AllFollow, no_more, GoneBy, Word, is_gone}
+use Rattle.laws_container.proofs.Names.{GivesBackRight, IsHonest, IsCalm, lives_freed, counter_of, was_one}
+use Rattle.laws_container.proofs.Names.{release_at, release_number, ReleaseAt}
+use Rattle.steps.specs.declared.ask.After.TheVariants.{Done}
 use Rattle.steps.specs.declared.container.remove.Remove as remove_calls
-use Rattle.steps.specs.declared.container.remove.RemoveStage.{RemoveStage}
 use Rattle.steps.specs.declared.container.remove.RemoveStage as removes
-use Rattle.steps.specs.declared.indices.enums.ReleaseMode.{ReleaseMode}
-use Rattle.steps.specs.declared.indices.enums.ReleaseMode.TheVariants.{LockIfLastIndex, Default}
-use Rattle.steps.specs.declared.indices.enums.ReleaseState.{ReleaseState}
 use Rattle.steps.specs.declared.indices.enums.ReleaseState as states
 use Rattle.steps.specs.declared.indices.robust.parts.Raise as raises
-use Rattle.steps.specs.declared.indices.robust.release.GiveBack.{GiveBack}
 use Rattle.steps.specs.declared.indices.robust.release.Release as set_calls
-use Rattle.steps.specs.declared.indices.robust.release.ReleaseStage.{ReleaseStage}
 use Rattle.steps.specs.declared.indices.robust.release.ReleaseStage as releases
-use Rattle.steps.specs.Container.Layout.{count_word, is_even}
-use Rattle.steps.specs.Container.Remove.{Removed, at_remove, remove_released}
-use Rattle.steps.specs.Indices.Robust.Parts.{cell_word, empty, locked, greatest}
 use Rattle.steps.specs.Indices.Robust.Release.{Released}
-use Rattle.steps.specs.Routine.{went_on}
-use Rattle.model.specs.declared.event.Answer.{Answer}
 use Rattle.model.specs.declared.event.Answer.TheVariants as answers
-use Rattle.model.specs.declared.event.Event.{Event}
-use Rattle.model.specs.declared.event.Event.TheVariants.{FreedOf, Locked, Finished}
-use Rattle.model.specs.declared.event.Start.TheVariants.{Container}
-use Rattle.model.specs.declared.families.container.ContainerStart.{ContainerStart}
 use Rattle.model.specs.declared.families.container.ContainerStart.TheVariants.{Remove}
-use Rattle.model.specs.declared.families.container.calls.ContainerFlight.{ContainerFlight}
 use Rattle.model.specs.declared.families.container.calls.ContainerFlight as calls
-use Rattle.model.specs.declared.party.Party.{Party}
-use Rattle.model.specs.Families.Container.Calls.{place_of, removed}
-use Rattle.model.specs.Families.Container.Promises.{promise}
-use Rattle.model.specs.Families.Container.Reading.{Act, contents_after}
-use Rattle.model.specs.Families.Container.Spans.{HasDone}
-use Rattle.model.specs.Families.Indices.Reading.{locked_after, is_locked}
-use Rattle.model.specs.Families.Indices.Robust.Promises.{IsUnlocked, LivesToRelease, MayGiveBack}
-use Rattle.model.specs.Families.Indices.Robust.Reading.{SetAct, Frees, Locks, set_acts, filled_of, holder_of, settled_of, IsOneOf}
-use Rattle.model.specs.Families.Queues.Calls.{as_it_is}
-use Rattle.model.specs.Moments.{SinceBegin}
-use Rattle.model.specs.Parties.{put}
-use Rattle.model.specs.Promises.Spans.{Stands}
-use Rattle.model.specs.Reading.{Open, span_of}
-use Rattle.model.specs.Step.{as_call}
-use Rattle.model.specs.Turns.{words_after, step_count}
-use Rattle.model.proofs.Moments.{held_now}
-use Rattle.model.proofs.Readings.{AllFollow, no_more}
-use Rattle.laws_robust.specs.Gone.{GoneBy, Word, is_gone, GivesBackRight, IsHonest, IsCalm}
-use Rattle.laws_robust.proofs.Gone.{lives_freed}
-use Rattle.laws_robust.proofs.Core.{counter_of}
-use Rattle.laws_robust.proofs.SetActs.{was_one}
 use Rattle.laws_robust.proofs.Effects as set_effects
 use Rattle.laws_robust.proofs.HeldRelease.{Caller, Ends, held_step}
 use Rattle.laws_robust.proofs.Invariant as set_invariant
 use Rattle.laws_robust.proofs.Knows as set_knows
 use Rattle.laws_robust.proofs.Locks as set_locks
 use Rattle.laws_robust.proofs.Stages as set_stages
-use Rattle.laws_robust.proofs.Standing.{release_at, release_number, ReleaseAt}
 use Rattle.laws_container.specs.Gone.{FreedBy, AnswersBy}
 use Rattle.laws_container.proofs.Core.{count_at}
 use Rattle.laws_container.proofs.Effects.{calmly}

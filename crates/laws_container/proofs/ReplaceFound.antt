@@ -1,47 +1,22 @@
 -- A replace that has found its owner, and any step of one.
-use Rattle.std.proofs.Common.{◌≡◌, ◌≢◌, ⊎_elim, inl, inr, ℕ, ◌+◌, ◌%◌, ◌<◌, ◌≤◌, ◌==◌, if◌then◌else◌, nat_lt, Bool}
-use Rattle.std.proofs.Common.{false, true, Option, Some, None, is_some, List, [], ◌∷◌, ◌++◌, get_or, set, fold, refl}
-use Rattle.std.proofs.Common.{sym, ap, subst, ◌∙◌, append-nil, arith}
-use Rattle.std.proofs.lemmas.Bool.{cases_eq}
-use Rattle.std.proofs.lemmas.Bool.Decides.{nat_tests}
-use Rattle.std.proofs.lemmas.List.Sums.{fold-append}
-use Rattle.steps.specs.declared.ask.Ask.{Ask}
-use Rattle.steps.specs.declared.ask.After.{After}
-use Rattle.steps.specs.declared.ask.After.TheVariants.{GoOn, Done}
-use Rattle.steps.specs.declared.container.enums.ContainerRemoveError.TheVariants.{ContainerHandleNotOwnedByContainer}
+use Rattle.laws_container.proofs.Names.{◌≡◌, ◌≢◌, ⊎_elim, inl, inr, ℕ, ◌+◌, ◌%◌, ◌<◌, ◌≤◌, ◌==◌, if◌then◌else◌}
+use Rattle.laws_container.proofs.Names.{nat_lt, Bool, false, true, Option, Some, None, is_some, List, [], ◌∷◌, ◌++◌}
+use Rattle.laws_container.proofs.Names.{get_or, set, fold, refl, sym, ap, subst, ◌∙◌, append-nil, arith, cases_eq}
+use Rattle.laws_container.proofs.Names.{nat_tests, fold-append, Ask, After, GoOn, ContainerHandleNotOwnedByContainer}
+use Rattle.laws_container.proofs.Names.{ReplaceStage, change_word, count_word, element_word, is_even, Replaced}
+use Rattle.laws_container.proofs.Names.{at_replace, empty, one_more, went_on, Answer, Event, Placed, Hidden, Finished}
+use Rattle.laws_container.proofs.Names.{Container, ContainerStart, ContainerFlight, Party, place_of, replaced}
+use Rattle.laws_container.proofs.Names.{StandsWellFormed, Hides, places, contents_after, contents_of, announced_after}
+use Rattle.laws_container.proofs.Names.{announced_of, IsFilledWith, SetAct, settled_after, as_it_is, BeginsNone, put}
+use Rattle.laws_container.proofs.Names.{as_call, words_after, held_later, AreOwn, at_same, at_other, quiet_end}
+use Rattle.laws_container.proofs.Names.{calm_less, gone_less, loads_same, exchanges, fails_same}
+use Rattle.steps.specs.declared.ask.After.TheVariants.{Done}
 use Rattle.steps.specs.declared.container.replace.Replace as replace_calls
-use Rattle.steps.specs.declared.container.replace.ReplaceStage.{ReplaceStage}
 use Rattle.steps.specs.declared.container.replace.ReplaceStage as replaces
-use Rattle.steps.specs.Container.Layout.{change_word, count_word, element_word, is_even}
-use Rattle.steps.specs.Container.Replace.{Replaced, at_replace}
-use Rattle.steps.specs.Indices.Robust.Parts.{empty, one_more}
-use Rattle.steps.specs.Routine.{went_on}
-use Rattle.model.specs.declared.event.Answer.{Answer}
 use Rattle.model.specs.declared.event.Answer.TheVariants as answers
-use Rattle.model.specs.declared.event.Event.{Event}
-use Rattle.model.specs.declared.event.Event.TheVariants.{Placed, Hidden, Finished}
-use Rattle.model.specs.declared.event.Start.TheVariants.{Container}
-use Rattle.model.specs.declared.families.container.ContainerStart.{ContainerStart}
 use Rattle.model.specs.declared.families.container.ContainerStart.TheVariants.{Replace}
-use Rattle.model.specs.declared.families.container.calls.ContainerFlight.{ContainerFlight}
 use Rattle.model.specs.declared.families.container.calls.ContainerFlight as calls
-use Rattle.model.specs.declared.party.Party.{Party}
-use Rattle.model.specs.Families.Container.Calls.{place_of, replaced}
-use Rattle.model.specs.Families.Container.Promises.{StandsWellFormed}
-use Rattle.model.specs.Families.Container.Reading.{Hides, places, contents_after, contents_of, announced_after, announced_of}
-use Rattle.model.specs.Families.Indices.Robust.Promises.{IsFilledWith}
-use Rattle.model.specs.Families.Indices.Robust.Reading.{SetAct, settled_after}
-use Rattle.model.specs.Families.Queues.Calls.{as_it_is}
-use Rattle.model.specs.Moments.{BeginsNone}
-use Rattle.model.specs.Parties.{put}
-use Rattle.model.specs.Step.{as_call}
-use Rattle.model.specs.Turns.{words_after}
-use Rattle.model.proofs.Moments.{held_later}
-use Rattle.model.proofs.Readings.{AreOwn}
-use Rattle.laws_robust.proofs.Effects.{at_same, at_other, quiet_end}
-use Rattle.laws_robust.proofs.Gone.{calm_less, gone_less}
 use Rattle.laws_robust.proofs.Effects as set_effects
-use Rattle.laws_robust.proofs.Stages.{loads_same, exchanges, fails_same}
 use Rattle.laws_robust.proofs.Stages as set_stages
 use Rattle.laws_container.proofs.AddWrites.{placed_once}
 use Rattle.laws_container.proofs.Contents.{store_writes}

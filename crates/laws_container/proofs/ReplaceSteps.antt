@@ -1,47 +1,21 @@
 -- The steps of a replace. Once it has found its owner in the cell it may write at its index, in a well-formed run, until it ends.
-use Rattle.std.proofs.Common.{◌≡◌, ◌≢◌, inr, ℕ, ◌+◌, ◌<◌, ◌≤◌, ◌==◌, if◌then◌else◌, Bool}
-use Rattle.std.proofs.Common.{false, true, Option, Some, List, [], ◌∷◌, ◌++◌, fold, refl}
-use Rattle.std.proofs.Common.{sym, ap, subst, ◌∙◌, append-nil, arith}
-use Rattle.std.specs.Prelude.{Err}
-use Rattle.std.proofs.lemmas.Bool.Decides.{nat_tests}
-use Rattle.steps.specs.declared.ask.Ask.{Ask}
-use Rattle.steps.specs.declared.ask.After.{After}
-use Rattle.steps.specs.declared.ask.After.TheVariants.{GoOn, Done}
-use Rattle.steps.specs.declared.container.enums.ContainerRemoveError.TheVariants.{ContainerHandleNotOwnedByContainer}
+use Rattle.laws_container.proofs.Names.{◌≡◌, ◌≢◌, inr, ℕ, ◌+◌, ◌<◌, ◌≤◌, ◌==◌, if◌then◌else◌, Bool, false, true}
+use Rattle.laws_container.proofs.Names.{Option, Some, List, [], ◌∷◌, ◌++◌, fold, refl, sym, ap, subst, ◌∙◌}
+use Rattle.laws_container.proofs.Names.{append-nil, arith, Err, nat_tests, Ask, After, GoOn}
+use Rattle.laws_container.proofs.Names.{ContainerHandleNotOwnedByContainer, Replacement, ReplaceStage, Replaced}
+use Rattle.laws_container.proofs.Names.{at_replace, cell_word, empty, went_on, Answer, Event, Finished, Container}
+use Rattle.laws_container.proofs.Names.{ContainerStart, ContainerFlight, Party, place_of, replaced, StandsWellFormed}
+use Rattle.laws_container.proofs.Names.{MayReplace, cell_of, IsFilledWith, as_it_is, BeginsNone, HeldSometime}
+use Rattle.laws_container.proofs.Names.{party_of, put, Open, own_after, span_of, as_call, words_after, held_now}
+use Rattle.laws_container.proofs.Names.{held_later, party_put_same, AreOwn, span_of-own, cell, filled_by, quiet_end}
+use Rattle.laws_container.proofs.Names.{loads_same}
+use Rattle.steps.specs.declared.ask.After.TheVariants.{Done}
 use Rattle.steps.specs.declared.container.replace.Replace as replace_calls
-use Rattle.steps.specs.declared.container.replace.Replacement.{Replacement}
-use Rattle.steps.specs.declared.container.replace.ReplaceStage.{ReplaceStage}
 use Rattle.steps.specs.declared.container.replace.ReplaceStage as replaces
-use Rattle.steps.specs.Container.Replace.{Replaced, at_replace}
-use Rattle.steps.specs.Indices.Robust.Parts.{cell_word, empty}
-use Rattle.steps.specs.Routine.{went_on}
-use Rattle.model.specs.declared.event.Answer.{Answer}
 use Rattle.model.specs.declared.event.Answer.TheVariants as answers
-use Rattle.model.specs.declared.event.Event.{Event}
-use Rattle.model.specs.declared.event.Event.TheVariants.{Finished}
-use Rattle.model.specs.declared.event.Start.TheVariants.{Container}
-use Rattle.model.specs.declared.families.container.ContainerStart.{ContainerStart}
 use Rattle.model.specs.declared.families.container.ContainerStart.TheVariants.{Replace}
-use Rattle.model.specs.declared.families.container.calls.ContainerFlight.{ContainerFlight}
 use Rattle.model.specs.declared.families.container.calls.ContainerFlight as calls
-use Rattle.model.specs.declared.party.Party.{Party}
-use Rattle.model.specs.Families.Container.Calls.{place_of, replaced}
-use Rattle.model.specs.Families.Container.Promises.{StandsWellFormed}
-use Rattle.model.specs.Families.Container.Reading.{MayReplace}
-use Rattle.model.specs.Families.Indices.Robust.Promises.{cell_of, IsFilledWith}
-use Rattle.model.specs.Families.Queues.Calls.{as_it_is}
-use Rattle.model.specs.Moments.{BeginsNone, HeldSometime}
-use Rattle.model.specs.Parties.{party_of, put}
-use Rattle.model.specs.Reading.{Open, own_after, span_of}
-use Rattle.model.specs.Step.{as_call}
-use Rattle.model.specs.Turns.{words_after}
-use Rattle.model.proofs.Moments.{held_now, held_later}
-use Rattle.model.proofs.Parties.{party_put_same}
-use Rattle.model.proofs.Readings.{AreOwn, span_of-own}
-use Rattle.laws_robust.proofs.Core.{cell}
-use Rattle.laws_robust.proofs.Effects.{filled_by, quiet_end}
 use Rattle.laws_robust.proofs.Effects as set_effects
-use Rattle.laws_robust.proofs.Stages.{loads_same}
 use Rattle.laws_robust.proofs.Stages as set_stages
 use Rattle.laws_container.proofs.Invariant.{Scene, Inv, ActsFor, before, after, of_set, inv_of_set, view, wrote_of}
 use Rattle.laws_container.proofs.Knows.{View, HasFound, IsPaid, Knows}

@@ -1,8 +1,6 @@
 -- Who began the latest replace of an index for an owner.
-use Rattle.std.proofs.Common.{ℕ, ◌==◌, ◌&&◌, if◌then◌else◌, Option, Some, None, List, fold}
-use Rattle.model.specs.declared.event.Event.{Event}
-use Rattle.model.specs.declared.event.Event.TheVariants.{Begun}
-use Rattle.model.specs.declared.event.Start.TheVariants.{Container}
+use Rattle.laws_container.proofs.Names.{ℕ, ◌==◌, ◌&&◌, if◌then◌else◌, Option, Some, None, List, fold, Event, Begun}
+use Rattle.laws_container.proofs.Names.{Container}
 use Rattle.model.specs.declared.families.container.ContainerStart.TheVariants.{Replace}
 
 module _ {T : Type 0} where

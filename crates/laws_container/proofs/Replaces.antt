@@ -1,20 +1,11 @@
 -- What a replace knows of its right: in a well-formed run, if it may replace at all, its index is still settled for its owner,
 -- and nobody has begun to replace it since.
-use Rattle.std.proofs.Common.{◌≡◌, ℕ, ◌==◌, ◌&&◌, if◌then◌else◌, false, Option, Some, None, List, [], ◌∷◌, ◌++◌, fold}
-use Rattle.std.proofs.Common.{refl, sym, ap, subst, ◌∙◌, append_assoc, eq-eqb, arith}
-use Rattle.std.proofs.lemmas.List.{append_cancel_left}
-use Rattle.std.proofs.lemmas.List.Sums.{fold-append}
-use Rattle.model.specs.declared.event.Event.{Event}
-use Rattle.model.specs.declared.event.Event.TheVariants.{Begun}
-use Rattle.model.specs.declared.event.Start.TheVariants.{Container}
+use Rattle.laws_container.proofs.Names.{◌≡◌, ℕ, ◌==◌, ◌&&◌, if◌then◌else◌, false, Option, Some, None, List, [], ◌∷◌}
+use Rattle.laws_container.proofs.Names.{◌++◌, fold, refl, sym, ap, subst, ◌∙◌, append_assoc, eq-eqb, arith}
+use Rattle.laws_container.proofs.Names.{append_cancel_left, fold-append, Event, Begun, Container, TakesNot, NoneTakes}
+use Rattle.laws_container.proofs.Names.{MayReplace, settled_after, settled_of, BeginsNone, GoneBy, is_gone, IsCalm}
+use Rattle.laws_container.proofs.Names.{gone_less, calm_less, Spares, began_earlier, since_begun}
 use Rattle.model.specs.declared.families.container.ContainerStart.TheVariants.{Replace}
-use Rattle.model.specs.Families.Container.Reading.{TakesNot, NoneTakes, MayReplace}
-use Rattle.model.specs.Families.Indices.Robust.Reading.{settled_after, settled_of}
-use Rattle.model.specs.Moments.{BeginsNone}
-use Rattle.laws_robust.specs.Gone.{GoneBy, is_gone, IsCalm}
-use Rattle.laws_robust.proofs.Gone.{gone_less, calm_less}
-use Rattle.laws_robust.proofs.Knows.{Spares}
-use Rattle.laws_robust.proofs.Past.{began_earlier, since_begun}
 use Rattle.laws_container.proofs.Replacers.{replacer_after, replacer_of}
 use Rattle.laws_container.proofs.Writers.{Adds, Replacing}
 

@@ -1,16 +1,8 @@
 -- The steps of the calls of a container that leave its cells and its elements, but may raise the counter: a call goes on, or ends.
-use Rattle.std.proofs.Common.{◌≡◌, ℕ, Bool, List, [], ◌∷◌, refl, arith}
-use Rattle.model.specs.declared.event.Answer.{Answer}
-use Rattle.model.specs.declared.event.Event.{Event}
-use Rattle.model.specs.declared.event.Event.TheVariants.{Finished}
-use Rattle.model.specs.declared.event.Start.TheVariants.{Container}
-use Rattle.model.specs.declared.families.container.ContainerStart.{ContainerStart}
-use Rattle.model.specs.declared.families.container.calls.ContainerFlight.{ContainerFlight}
-use Rattle.model.specs.declared.party.Party.{Party}
-use Rattle.model.specs.Families.Container.Reading.{announced_after}
-use Rattle.laws_robust.proofs.Effects.{Stays, quiet_none, quietly}
+use Rattle.laws_container.proofs.Names.{◌≡◌, ℕ, Bool, List, [], ◌∷◌, refl, arith, Answer, Event, Finished, Container}
+use Rattle.laws_container.proofs.Names.{ContainerStart, ContainerFlight, Party, announced_after, Stays, quiet_none}
+use Rattle.laws_container.proofs.Names.{quietly, IsWorn}
 use Rattle.laws_robust.proofs.Effects as set_effects
-use Rattle.laws_robust.proofs.Invariant.{IsWorn}
 use Rattle.laws_container.specs.Gone.{AnswersBy}
 use Rattle.laws_container.proofs.Effects.{OwesStill, calmly, reads_same}
 use Rattle.laws_container.proofs.HiddenKnows.{EndsRight}

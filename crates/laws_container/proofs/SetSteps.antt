@@ -1,22 +1,13 @@
 -- The steps of the calls of a container on its set of indices: they leave the elements. Who frees an index leaves what stands
 -- there to nobody who may write.
-use Rattle.std.proofs.Common.{◌≡◌, ◌≢◌, ⊎_elim, ℕ, ◌+◌, ◌<◌, ◌≤◌, true, false, None, List, [], ◌∷◌, ◌++◌, length}
-use Rattle.std.proofs.Common.{get_or, set, refl, ap, subst, ◌∙◌, arith, get_or-set_other}
-use Rattle.std.proofs.lemmas.Bool.{cases_eq}
-use Rattle.std.proofs.lemmas.List.{length-set}
-use Rattle.std.proofs.lemmas.List.Sums.{fold-append}
-use Rattle.model.specs.declared.event.Event.{Event}
-use Rattle.model.specs.declared.event.Event.TheVariants.{Filled, Granted, FreedOf, Locked}
-use Rattle.model.specs.declared.families.container.ContainerStart.{ContainerStart}
-use Rattle.model.specs.declared.families.container.calls.ContainerFlight.{ContainerFlight}
-use Rattle.model.specs.declared.party.Party.{Party}
-use Rattle.model.specs.Families.Container.Reading.{contents_after, announced_after}
-use Rattle.model.specs.Families.Indices.Robust.Reading.{filled_after, filled_of, settled_after, settled_of}
-use Rattle.laws_robust.specs.Gone.{is_gone}
+use Rattle.laws_container.proofs.Names.{◌≡◌, ◌≢◌, ⊎_elim, ℕ, ◌+◌, ◌<◌, ◌≤◌, true, false, None, List, [], ◌∷◌, ◌++◌}
+use Rattle.laws_container.proofs.Names.{length, get_or, set, refl, ap, subst, ◌∙◌, arith, get_or-set_other, cases_eq}
+use Rattle.laws_container.proofs.Names.{length-set, fold-append, Event, Filled, Granted, FreedOf, Locked}
+use Rattle.laws_container.proofs.Names.{ContainerStart, ContainerFlight, Party, contents_after, announced_after}
+use Rattle.laws_container.proofs.Names.{filled_after, filled_of, settled_after, settled_of, is_gone, at_same}
+use Rattle.laws_container.proofs.Names.{at_other, some_none, IsBy}
 use Rattle.laws_container.specs.Gone.{RecoversBy}
-use Rattle.laws_robust.proofs.Effects.{at_same, at_other, some_none}
 use Rattle.laws_robust.proofs.Invariant as set_invariant
-use Rattle.laws_robust.proofs.Rights.{IsBy}
 use Rattle.laws_container.proofs.Effects.{OwesStill, calmly, reads_same}
 use Rattle.laws_container.proofs.Invariant.{Scene, Inv, Does, before, after, of_set}
 use Rattle.laws_container.proofs.Left.{left_after, left_of}

@@ -1,20 +1,11 @@
 -- What the container's own steps do to its set of indices: nothing, but that the end of an add gives its right away.
-use Rattle.std.proofs.Common.{◌≡◌, ℕ, ◌+◌, ◌≤◌, ◌==◌, false, true, None, List, [], ◌∷◌, ◌++◌}
-use Rattle.std.proofs.Common.{length, set, refl, sym, ap, ◌∙◌, arith, get_or-set_other}
-use Rattle.std.proofs.lemmas.List.{length-set}
-use Rattle.std.proofs.lemmas.List.Sums.{fold-append}
-use Rattle.steps.specs.Indices.Robust.Parts.{cell_word, locked}
-use Rattle.model.specs.declared.event.Answer.TheVariants.{Index}
-use Rattle.model.specs.declared.event.Event.{Event}
-use Rattle.model.specs.declared.event.Event.TheVariants.{Placed, Hidden, Finished}
-use Rattle.model.specs.declared.event.Start.TheVariants.{Container}
+use Rattle.laws_container.proofs.Names.{◌≡◌, ℕ, ◌+◌, ◌≤◌, ◌==◌, false, true, None, List, [], ◌∷◌, ◌++◌, length, set}
+use Rattle.laws_container.proofs.Names.{refl, sym, ap, ◌∙◌, arith, get_or-set_other, length-set, fold-append}
+use Rattle.laws_container.proofs.Names.{cell_word, locked, Index, Event, Placed, Hidden, Finished, Container}
+use Rattle.laws_container.proofs.Names.{holder_after, holder_of, IsCalm, counter_of, cell, Quiet, gives, Scene, Inv}
+use Rattle.laws_container.proofs.Names.{Good, Does}
 use Rattle.model.specs.declared.families.container.ContainerStart.TheVariants.{Add}
-use Rattle.model.specs.Families.Indices.Robust.Reading.{holder_after, holder_of}
-use Rattle.laws_robust.specs.Gone.{IsCalm}
-use Rattle.laws_robust.proofs.Core.{counter_of, cell}
-use Rattle.laws_robust.proofs.Effects.{Leaves, Quiet}
-use Rattle.laws_robust.proofs.Grants.{gives}
-use Rattle.laws_robust.proofs.Invariant.{Scene, Inv, Good, Does}
+use Rattle.laws_robust.proofs.Effects.{Leaves}
 use Rattle.laws_container.proofs.Writers.{Adds}
 
 module _ {T : Type 0} (scene : Scene T) (inv : Inv scene) where

@@ -1,16 +1,9 @@
 -- What is so of a party's state: between its looks, and while a look goes over the indices. It stays so over any turn.
-use Rattle.std.proofs.Common.{◌≡◌, ◌≢◌, ◌⊎◌, ⊎_elim, inl, inr, ℕ, ◌<◌, ◌≤◌, true, Option, Some, None, is_some, List}
-use Rattle.std.proofs.Common.{◌++◌, length, slice_get, slice_index_or, sym, ap, subst, ◌∙◌, append_assoc, arith}
-use Rattle.steps.specs.declared.container.state.ContainerState.{ContainerState}
-use Rattle.steps.specs.declared.container.state.Element.{Element}
-use Rattle.model.specs.declared.event.Event.{Event}
-use Rattle.model.specs.Coding.{Coding}
-use Rattle.model.specs.Families.Container.Looks.{shows, WasCopied, WasAlone}
-use Rattle.model.specs.Families.Container.Reading.{contents_of, announced_of}
-use Rattle.model.specs.Families.Indices.Robust.Promises.{HeldThroughout}
-use Rattle.model.specs.Moments.{BeginsNone, HeldSometime}
-use Rattle.model.proofs.Moments.{held_later}
-use Rattle.laws_robust.proofs.Past.{through_less, through_now}
+use Rattle.laws_container.proofs.Names.{◌≡◌, ◌≢◌, ◌⊎◌, ⊎_elim, inl, inr, ℕ, ◌<◌, ◌≤◌, true, Option, Some, None}
+use Rattle.laws_container.proofs.Names.{is_some, List, ◌++◌, length, slice_get, slice_index_or, sym, ap, subst, ◌∙◌}
+use Rattle.laws_container.proofs.Names.{append_assoc, arith, ContainerState, Element, Event, Coding, shows, WasCopied}
+use Rattle.laws_container.proofs.Names.{WasAlone, contents_of, announced_of, HeldThroughout, BeginsNone, HeldSometime}
+use Rattle.laws_container.proofs.Names.{held_later, through_less, through_now}
 use Rattle.laws_container.proofs.Alone.{alone_less}
 use Rattle.laws_container.proofs.KeptCopies.{ShowsOwn, CallsOn, own_later}
 use Rattle.laws_container.proofs.Terms.{Keeps}

@@ -1,24 +1,13 @@
 -- Steps that change no word, and write events that change nothing of the set nor of what stands: copies, what is shown, questions,
 -- and the end of any call but an add and a replace.
-use Rattle.std.proofs.Common.{◌≡◌, ℕ, Bool, Option, List, [], ◌∷◌, ◌++◌, length, get_or, fold, refl, ap, ◌∙◌, arith}
-use Rattle.std.specs.List.{AllByRecursion}
-use Rattle.model.specs.declared.event.Event.{Event}
-use Rattle.model.specs.declared.event.Event.TheVariants.{Asked, Told, Copied, Shown, Finished}
-use Rattle.model.specs.declared.event.Start.TheVariants.{Container}
-use Rattle.model.specs.declared.families.container.ContainerStart.{ContainerStart}
+use Rattle.laws_container.proofs.Names.{◌≡◌, ℕ, Bool, Option, List, [], ◌∷◌, ◌++◌, length, get_or, fold, refl, ap}
+use Rattle.laws_container.proofs.Names.{◌∙◌, arith, AllByRecursion, Event, Asked, Told, Copied, Shown, Finished}
+use Rattle.laws_container.proofs.Names.{Container, ContainerStart, ContainerFlight, Party, contents_after}
+use Rattle.laws_container.proofs.Names.{announced_after, locked_after, SetDoes, HoldsRight, filled_after}
+use Rattle.laws_container.proofs.Names.{holder_after, settled_after, dead_after, AreOwn, AreRight, GoneBy, AnswersBy}
+use Rattle.laws_container.proofs.Names.{IsWorn, Quiet, stays_same, quietly, Right, right_after}
 use Rattle.model.specs.declared.families.container.ContainerStart.TheVariants.{Add, Replace}
-use Rattle.model.specs.declared.families.container.calls.ContainerFlight.{ContainerFlight}
-use Rattle.model.specs.declared.party.Party.{Party}
-use Rattle.model.specs.Families.Container.Reading.{contents_after, announced_after}
-use Rattle.model.specs.Families.Indices.Reading.{locked_after}
-use Rattle.model.specs.Families.Indices.Robust.Promises.{SetDoes, HoldsRight}
-use Rattle.model.specs.Families.Indices.Robust.Reading.{filled_after, holder_after, settled_after, dead_after}
-use Rattle.model.proofs.Readings.{AreOwn, AreRight}
-use Rattle.laws_robust.specs.Gone.{GoneBy, AnswersBy}
-use Rattle.laws_robust.proofs.Invariant.{IsWorn}
-use Rattle.laws_robust.proofs.Effects.{Quiet, stays_same, quietly}
 use Rattle.laws_robust.proofs.Invariant as set_invariant
-use Rattle.laws_robust.proofs.Rights.{Right, right_after}
 use Rattle.laws_container.proofs.Effects.{OwesStill, calmly, reads_same}
 use Rattle.laws_container.proofs.Invariant.{Scene, Inv, Changes, AreAllRight, Does, before, after, of_set, inv_of_set}
 use Rattle.laws_container.proofs.Left.{left_after}

@@ -1,46 +1,25 @@
 -- Every turn keeps what holds of the machine of a container: the laws of the family, from what is shown of each call, of a
 -- begin, of a death and of the opening.
-use Rattle.std.proofs.Common.{◌≡◌, ℕ, ◌+◌, ◌-◌, ◌^◌, ◌<◌, ◌≤◌, inl, if◌then◌else◌, Bool, true, false, Option, Some}
-use Rattle.std.proofs.Common.{None, option_map, List, [], ◌∷◌, ◌++◌, refl, sym, ap, subst, ◌∙◌, arith}
-use Rattle.steps.specs.declared.container.state.ContainerState.{ContainerState}
-use Rattle.model.specs.declared.event.Event.{Event}
-use Rattle.model.specs.declared.event.Event.TheVariants.{Begun, Died}
-use Rattle.model.specs.declared.event.Start.{Start}
-use Rattle.model.specs.declared.event.Start.TheVariants.{Container}
-use Rattle.model.specs.declared.families.Flight.{Flight}
+use Rattle.laws_container.proofs.Names.{◌≡◌, ℕ, ◌+◌, ◌-◌, ◌^◌, ◌<◌, ◌≤◌, inl, if◌then◌else◌, Bool, true, false}
+use Rattle.laws_container.proofs.Names.{Option, Some, None, option_map, List, [], ◌∷◌, ◌++◌, refl, sym, ap, subst}
+use Rattle.laws_container.proofs.Names.{◌∙◌, arith, ContainerState, Event, Begun, Died, Start, Container, Flight}
+use Rattle.laws_container.proofs.Names.{Registry, ContainerStart, ContainerFlight, Going, Party, OwnerIsDead, Coding}
+use Rattle.laws_container.proofs.Names.{IsCoding, first_of, want_of, is_question, going_rows, beside_of, step_of}
+use Rattle.laws_container.proofs.Names.{kept_after_death, kept_after_begin, first, acts_for_dead, opening_words}
+use Rattle.laws_container.proofs.Names.{names_owner, states_at_begin, has_died, dead_with, is_dead, wrote_in, is_loan}
+use Rattle.laws_container.proofs.Names.{party_of, put, doing_of, flight_of, Open, span_of, first_row, IsShut, Step}
+use Rattle.laws_container.proofs.Names.{old_of, words_after, change_of, number_of, party_at_begin, party_after}
+use Rattle.laws_container.proofs.Names.{events_of_step, IsReached, Trace, opening, capacity_error, Each-nil}
+use Rattle.laws_container.proofs.Names.{span_of-own, span_of-death, row_passed, MayBegin, MayDie, asked, StandsThere}
+use Rattle.laws_container.proofs.Names.{stands_there, ComesFrom, comes_from, GoneBy, Death, admitted_is}
 use Rattle.model.specs.declared.families.Flight as flights
-use Rattle.model.specs.declared.families.Registry.{Registry}
 use Rattle.model.specs.declared.families.Registry as registries
-use Rattle.model.specs.declared.families.container.ContainerStart.{ContainerStart}
 use Rattle.model.specs.declared.families.container.ContainerStart as starts
-use Rattle.model.specs.declared.families.container.calls.ContainerFlight.{ContainerFlight}
-use Rattle.model.specs.declared.party.Doing.TheVariants.{Going}
-use Rattle.model.specs.declared.party.Party.{Party}
 use Rattle.model.specs.declared.turn.Kind as kinds
-use Rattle.model.specs.declared.turn.Refusal.TheVariants.{OwnerIsDead}
-use Rattle.model.specs.Coding.{Coding, IsCoding}
-use Rattle.model.specs.Families.{first_of, want_of, is_question, going_rows, beside_of, step_of, kept_after_death, kept_after_begin}
 use Rattle.model.specs.Families as families
-use Rattle.model.specs.Families.Container.Calls.{first, acts_for_dead}
 use Rattle.model.specs.Families.Container.Calls as rows
-use Rattle.model.specs.Families.Container.Opening.{opening_words, names_owner, states_at_begin}
-use Rattle.model.specs.Families.Indices.Robust.Dead.{has_died, dead_with}
-use Rattle.model.specs.Families.Indices.Robust.Reading.{is_dead, wrote_in}
-use Rattle.model.specs.Families.Loan.Opening.{is_loan}
-use Rattle.model.specs.Parties.{party_of, put, doing_of, flight_of}
-use Rattle.model.specs.Reading.{Open, span_of}
-use Rattle.model.specs.Rows.{first_row}
-use Rattle.model.specs.Shape.{IsShut}
-use Rattle.model.specs.Step.{Step}
-use Rattle.model.specs.Turns.{old_of, words_after, change_of, number_of, party_at_begin, party_after, events_of_step, IsReached}
-use Rattle.model.specs.World.{Trace, opening, capacity_error}
 use Rattle.model.proofs.Frame as frame
-use Rattle.model.proofs.Readings.{Each-nil, span_of-own, span_of-death}
-use Rattle.model.proofs.Rows.{row_passed, MayBegin, MayDie}
-use Rattle.model.proofs.Scenes.{asked, StandsThere, stands_there, ComesFrom, comes_from}
-use Rattle.laws_robust.specs.Gone.{GoneBy, Death}
 use Rattle.laws_robust.proofs.Invariant as set
-use Rattle.laws_robust.proofs.Opening.{admitted_is}
 use Rattle.laws_container.proofs.Invariant.{ContainerNow, Scene, Represents, Inv, Elements, Does, Shows, Knowing}
 use Rattle.laws_container.proofs.Invariant.{moment, before, view, family, family_by, wrote_of, at_written, owes}
 use Rattle.laws_container.proofs.Invariant.{holds_more, then_is}

@@ -1,43 +1,20 @@
 -- What a step of a call of the container has to show, and how a call goes on or ends.
-use Rattle.std.proofs.Common.{◌≡◌, ℕ, ◌+◌, ◌-◌, ◌≤◌, Bool, true, false, Option, Some, None, List, [], ◌∷◌, ◌++◌, fold}
-use Rattle.std.proofs.Common.{refl, sym, ap, subst, ◌∙◌, append-nil, arith}
-use Rattle.std.proofs.lemmas.List.Concat.{flat_map-append}
-use Rattle.std.proofs.lemmas.List.Sums.{fold-append}
-use Rattle.steps.specs.declared.ask.Ask.{Ask}
-use Rattle.steps.specs.declared.ask.After.{After}
-use Rattle.steps.specs.declared.ask.After.TheVariants.{GoOn, Done}
-use Rattle.steps.specs.declared.container.state.ContainerState.{ContainerState}
-use Rattle.model.specs.declared.event.Answer.{Answer}
-use Rattle.model.specs.declared.event.Event.{Event}
-use Rattle.model.specs.declared.event.Event.TheVariants.{Finished}
-use Rattle.model.specs.declared.event.Start.TheVariants.{Container}
-use Rattle.model.specs.declared.families.Flight.{Flight}
+use Rattle.laws_container.proofs.Names.{◌≡◌, ℕ, ◌+◌, ◌-◌, ◌≤◌, Bool, true, false, Option, Some, None, List, [], ◌∷◌}
+use Rattle.laws_container.proofs.Names.{◌++◌, fold, refl, sym, ap, subst, ◌∙◌, append-nil, arith, flat_map-append}
+use Rattle.laws_container.proofs.Names.{fold-append, Ask, After, GoOn, ContainerState, Answer, Event, Finished}
+use Rattle.laws_container.proofs.Names.{Container, Flight, ContainerStart, ContainerFlight, Over, Party, ask_of}
+use Rattle.laws_container.proofs.Names.{most_steps, want, after, goes_back, states_after, is_looking}
+use Rattle.laws_container.proofs.Names.{StandsWellFormed, promise, Act, act, acts, acts_of, state_of, effects}
+use Rattle.laws_container.proofs.Names.{questions, SetAct, set_act, set_acts, wrote_in, set_acts_of, party_of, put}
+use Rattle.laws_container.proofs.Names.{doing_of, flight_of, Stands, Open, own_after, span_of, as_call, answer_in}
+use Rattle.laws_container.proofs.Names.{old_of, words_after, change_of, step_count, number_of, party_after, ending_of}
+use Rattle.laws_container.proofs.Names.{one_if, AreOwn, AllFollow, span_of-own, both_ways, is_seen}
+use Rattle.steps.specs.declared.ask.After.TheVariants.{Done}
 use Rattle.model.specs.declared.families.Flight as flights
 use Rattle.model.specs.declared.families.Registry as registries
-use Rattle.model.specs.declared.families.container.ContainerStart.{ContainerStart}
 use Rattle.model.specs.declared.families.container.ContainerStart as starts
-use Rattle.model.specs.declared.families.container.calls.ContainerFlight.{ContainerFlight}
 use Rattle.model.specs.declared.families.container.calls.ContainerFlight as calls
-use Rattle.model.specs.declared.party.Doing.TheVariants.{Over}
-use Rattle.model.specs.declared.party.Party.{Party}
-use Rattle.model.specs.Families.{ask_of}
-use Rattle.model.specs.Families.Container.Bounds.{most_steps}
-use Rattle.model.specs.Families.Container.Calls.{want, after, goes_back, states_after}
-use Rattle.model.specs.Families.Container.Looks.{is_looking}
-use Rattle.model.specs.Families.Container.Promises.{StandsWellFormed, promise}
-use Rattle.model.specs.Families.Container.Reading.{Act, act, acts, acts_of}
-use Rattle.model.specs.Families.Container.States.{state_of}
-use Rattle.model.specs.Families.Container.Steps.{effects, questions}
-use Rattle.model.specs.Families.Indices.Robust.Reading.{SetAct, set_act, set_acts, wrote_in, set_acts_of}
-use Rattle.model.specs.Parties.{party_of, put, doing_of, flight_of}
-use Rattle.model.specs.Promises.Spans.{Stands}
-use Rattle.model.specs.Reading.{Open, own_after, span_of}
-use Rattle.model.specs.Step.{as_call, answer_in}
-use Rattle.model.specs.Turns.{old_of, words_after, change_of, step_count, number_of, party_after, ending_of, one_if}
-use Rattle.model.proofs.Readings.{AreOwn, AllFollow, span_of-own}
-use Rattle.laws_robust.proofs.Effects.{both_ways}
 use Rattle.laws_robust.proofs.Invariant as set_invariant
-use Rattle.laws_robust.proofs.Stages.{is_seen}
 use Rattle.laws_container.proofs.Invariant.{Scene, Inv, Does, Shows, AreAllRight, before, wrote_of, view}
 use Rattle.laws_container.proofs.Invariant as invariant
 use Rattle.laws_container.proofs.Knows.{View, Knows}

@@ -1,40 +1,25 @@
 -- Where a call of the container stands: how many steps it has taken at most, and what it has done to the set and to elements.
-use Rattle.std.proofs.Common.{◌≡◌, ◌⊎◌, ℕ, ◌+◌, ◌*◌, ◌%◌, ◌<◌, ◌≤◌, List, [], ◌∷◌, arith}
-use Rattle.std.specs.List.{AllByRecursion}
-use Rattle.steps.specs.declared.container.add.AddStage.{AddStage}
+use Rattle.laws_container.proofs.Names.{◌≡◌, ◌⊎◌, ℕ, ◌+◌, ◌*◌, ◌%◌, ◌<◌, ◌≤◌, List, [], ◌∷◌, arith, AllByRecursion}
+use Rattle.laws_container.proofs.Names.{AddStage, FindStage, LookStage, RecoverStage, RemoveStage, ReplaceStage}
+use Rattle.laws_container.proofs.Names.{ReleaseMode, LockIfLastIndex, Default, Counting, empty, State, ContainerStart}
+use Rattle.laws_container.proofs.Names.{ContainerFlight, Count, IsLocked, CountOf, LookOf, place_of, Act, Hides, Sees}
+use Rattle.laws_container.proofs.Names.{seen_in, HasDone, SetAct, Fills, Grants, Frees, Asks, Yes, IsOneOf, IsLatest}
+use Rattle.laws_container.proofs.Names.{asked_in, HasJustFreed, raise_number, count_number, lock_number}
+use Rattle.laws_container.proofs.Names.{acquire_number, release_number, AcquireAt, CountAt, LockAt, ReleaseAt}
 use Rattle.steps.specs.declared.container.add.AddStage as adds
-use Rattle.steps.specs.declared.container.find.FindStage.{FindStage}
 use Rattle.steps.specs.declared.container.find.FindStage as finds
-use Rattle.steps.specs.declared.container.look.LookStage.{LookStage}
 use Rattle.steps.specs.declared.container.look.LookStage as looks
-use Rattle.steps.specs.declared.container.recover.RecoverStage.{RecoverStage}
 use Rattle.steps.specs.declared.container.recover.RecoverStage as recovers
-use Rattle.steps.specs.declared.container.remove.RemoveStage.{RemoveStage}
 use Rattle.steps.specs.declared.container.remove.RemoveStage as removes
-use Rattle.steps.specs.declared.container.replace.ReplaceStage.{ReplaceStage}
 use Rattle.steps.specs.declared.container.replace.ReplaceStage as replaces
 use Rattle.steps.specs.declared.copied.Buffer as buffers
-use Rattle.steps.specs.declared.indices.enums.ReleaseMode.{ReleaseMode}
-use Rattle.steps.specs.declared.indices.enums.ReleaseMode.TheVariants.{LockIfLastIndex, Default}
-use Rattle.steps.specs.declared.indices.robust.parts.Count.{Count as Counting}
-use Rattle.steps.specs.Indices.Robust.Parts.{empty}
-use Rattle.model.specs.declared.event.Answer.TheVariants.{State}
-use Rattle.model.specs.declared.families.container.ContainerStart.{ContainerStart}
 use Rattle.model.specs.declared.families.container.ContainerStart as starts
-use Rattle.model.specs.declared.families.container.calls.ContainerFlight.{ContainerFlight}
-use Rattle.model.specs.declared.families.container.calls.ContainerFlight.TheVariants.{Add, Remove, Replace, Find, Recover, Look, Count, IsLocked}
-use Rattle.model.specs.declared.families.container.calls.CountOf.{CountOf}
+use Rattle.model.specs.declared.families.container.calls.ContainerFlight.TheVariants.{Add, Remove, Replace, Find}
+use Rattle.model.specs.declared.families.container.calls.ContainerFlight.TheVariants.{Recover, Look}
 use Rattle.model.specs.declared.families.container.calls.CountOf as counts
-use Rattle.model.specs.declared.families.container.calls.LookOf.{LookOf}
 use Rattle.model.specs.declared.families.container.calls.LookOf as kinds
 use Rattle.model.specs.declared.families.indices.robust.RobustStart as set_starts
-use Rattle.model.specs.Families.Container.Calls.{place_of}
-use Rattle.model.specs.Families.Container.Reading.{Act, Hides, Sees, seen_in}
-use Rattle.model.specs.Families.Container.Spans.{HasDone}
 use Rattle.model.specs.Families.Indices.Robust.Bounds as set_bounds
-use Rattle.model.specs.Families.Indices.Robust.Reading.{SetAct, Fills, Grants, Frees, Asks, Yes, IsOneOf, IsLatest, asked_in}
-use Rattle.model.specs.Families.Indices.Robust.Spans.{HasJustFreed}
-use Rattle.laws_robust.proofs.Standing.{raise_number, count_number, lock_number, acquire_number, release_number, AcquireAt, CountAt, LockAt, ReleaseAt}
 
 -- ---- the calls by their stages
 

@@ -1,23 +1,11 @@
 -- The steps of the calls of a container on its own words: a load, a hide, a store, a place, and the end that counts a change.
-use Rattle.std.proofs.Common.{◌≡◌, ◌≢◌, ⊎_elim, ℕ, ◌%◌, ◌<◌, Bool, true, false, Some, None, is_some, List, [], ◌∷◌}
-use Rattle.std.proofs.Common.{◌++◌, length, get_or, set, refl, sym, ap, subst, ◌∙◌, arith}
-use Rattle.std.proofs.lemmas.Bool.{cases_eq}
-use Rattle.std.proofs.lemmas.List.Sums.{fold-append}
-use Rattle.steps.specs.Container.Layout.{change_word, count_word, element_word}
-use Rattle.steps.specs.Indices.Robust.Parts.{one_more}
-use Rattle.model.specs.declared.event.Answer.{Answer}
-use Rattle.model.specs.declared.event.Event.{Event}
-use Rattle.model.specs.declared.event.Event.TheVariants.{Placed, Hidden, Finished}
-use Rattle.model.specs.declared.event.Start.TheVariants.{Container}
-use Rattle.model.specs.declared.families.container.ContainerStart.{ContainerStart}
-use Rattle.model.specs.declared.families.container.calls.ContainerFlight.{ContainerFlight}
-use Rattle.model.specs.declared.party.Party.{Party}
-use Rattle.model.specs.Families.Container.Reading.{contents_after, contents_of, announced_after, announced_of}
-use Rattle.model.specs.Families.Indices.Robust.Reading.{filled_of}
-use Rattle.model.specs.Parties.{flight_of}
-use Rattle.laws_robust.specs.Gone.{is_gone}
+use Rattle.laws_container.proofs.Names.{◌≡◌, ◌≢◌, ⊎_elim, ℕ, ◌%◌, ◌<◌, Bool, true, false, Some, None, is_some, List}
+use Rattle.laws_container.proofs.Names.{[], ◌∷◌, ◌++◌, length, get_or, set, refl, sym, ap, subst, ◌∙◌, arith}
+use Rattle.laws_container.proofs.Names.{cases_eq, fold-append, change_word, count_word, element_word, one_more}
+use Rattle.laws_container.proofs.Names.{Answer, Event, Placed, Hidden, Finished, Container, ContainerStart}
+use Rattle.laws_container.proofs.Names.{ContainerFlight, Party, contents_after, contents_of, announced_after}
+use Rattle.laws_container.proofs.Names.{announced_of, filled_of, flight_of, is_gone, at_same, at_other, both_ways}
 use Rattle.laws_robust.proofs.Effects as set_effects
-use Rattle.laws_robust.proofs.Effects.{at_same, at_other, both_ways}
 use Rattle.laws_robust.proofs.Invariant as set_invariant
 use Rattle.laws_container.specs.Gone.{AnswersBy}
 use Rattle.laws_container.proofs.Contents.{IsWhole, Writing, place_none, place_whole, hide_some, hide_whole}

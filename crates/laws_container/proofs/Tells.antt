@@ -1,61 +1,27 @@
 -- A find that ends has come to the indices of the whole container, or to those up to the one that it asked about where a no
 -- ends it; and in a well-formed run it has copied what stood at each that it has counted.
-use Rattle.std.proofs.Common.{◌≡◌, ◌≢◌, ℕ, ◌+◌, ◌==◌, ◌<◌, ◌≤◌, if◌then◌else◌, nat_lt, Bool, true, false, Option, Some}
-use Rattle.std.proofs.Common.{None, is_none, is_some, List, [], ◌∷◌, ◌++◌, refl, sym, ap, subst, ◌∙◌, arith}
-use Rattle.std.proofs.lemmas.Bool.Decides.{nat_tests}
-use Rattle.std.proofs.lemmas.List.{append_cancel_left}
-use Rattle.steps.specs.declared.ask.After.{After}
-use Rattle.steps.specs.declared.ask.After.TheVariants.{GoOn, Done}
+use Rattle.laws_container.proofs.Names.{◌≡◌, ◌≢◌, ℕ, ◌+◌, ◌==◌, ◌<◌, ◌≤◌, if◌then◌else◌, nat_lt, Bool, true, false}
+use Rattle.laws_container.proofs.Names.{Option, Some, None, is_none, is_some, List, [], ◌∷◌, ◌++◌, refl, sym, ap}
+use Rattle.laws_container.proofs.Names.{subst, ◌∙◌, arith, nat_tests, append_cancel_left, After, GoOn, FindStage}
+use Rattle.laws_container.proofs.Names.{at_find, find_comes_to, is_even, empty, one_more, went_on, Answer, Number}
+use Rattle.laws_container.proofs.Names.{Event, Finished, Start, Container, Flight, Registry, ContainerStart}
+use Rattle.laws_container.proofs.Names.{ContainerFlight, Doing, Going, Over, Party, Idle, Undecided, Turn, Begin}
+use Rattle.laws_container.proofs.Names.{Next, Decide, Die, Coding, want_of, ask_of, is_question, beside_of, step_of}
+use Rattle.laws_container.proofs.Names.{want, after, IsFoundWhole, question_in, question_at, contents_of, state_of}
+use Rattle.laws_container.proofs.Names.{effects, questions, IsFilledWith, IsCount, as_it_is, read_in, party_of, put}
+use Rattle.laws_container.proofs.Names.{doing_of, flight_of, IsParty, is_due, call_refusal, as_call, answer_in}
+use Rattle.laws_container.proofs.Names.{old_of, number_of, after_next, after_decision, after_answer, events_of_step}
+use Rattle.laws_container.proofs.Names.{events_of_answer, events_of_next, events_of_decision, events_of, ask_of_doing}
+use Rattle.laws_container.proofs.Names.{after_turn, Trace, flight_in, row_passed, StandsThere, stands_there, cell}
+use Rattle.laws_container.proofs.Names.{both_ways, through_now}
+use Rattle.steps.specs.declared.ask.After.TheVariants.{Done}
 use Rattle.steps.specs.declared.container.find.Find as find_calls
-use Rattle.steps.specs.declared.container.find.FindStage.{FindStage}
 use Rattle.steps.specs.declared.container.find.FindStage as finds
 use Rattle.steps.specs.declared.copied.Buffer as buffers
-use Rattle.steps.specs.Container.Find.{at_find, find_comes_to}
-use Rattle.steps.specs.Container.Layout.{is_even}
-use Rattle.steps.specs.Indices.Robust.Parts.{empty, one_more}
-use Rattle.steps.specs.Routine.{went_on}
-use Rattle.model.specs.declared.event.Answer.{Answer}
-use Rattle.model.specs.declared.event.Answer.TheVariants.{Number}
-use Rattle.model.specs.declared.event.Event.{Event}
-use Rattle.model.specs.declared.event.Event.TheVariants.{Finished}
-use Rattle.model.specs.declared.event.Start.{Start}
-use Rattle.model.specs.declared.event.Start.TheVariants.{Container}
-use Rattle.model.specs.declared.families.Flight.{Flight}
 use Rattle.model.specs.declared.families.Flight as flights
-use Rattle.model.specs.declared.families.Registry.{Registry}
-use Rattle.model.specs.declared.families.container.ContainerStart.{ContainerStart}
 use Rattle.model.specs.declared.families.container.ContainerStart.TheVariants.{Find}
-use Rattle.model.specs.declared.families.container.calls.ContainerFlight.{ContainerFlight}
 use Rattle.model.specs.declared.families.container.calls.ContainerFlight as calls
-use Rattle.model.specs.declared.party.Doing.{Doing}
-use Rattle.model.specs.declared.party.Doing.TheVariants.{Going, Over}
-use Rattle.model.specs.declared.party.Party.{Party}
-use Rattle.model.specs.declared.turn.Refusal.TheVariants.{Idle, Undecided}
-use Rattle.model.specs.declared.turn.Turn.{Turn}
-use Rattle.model.specs.declared.turn.Turn.TheVariants.{Begin, Next, Decide, Die}
-use Rattle.model.specs.Coding.{Coding}
-use Rattle.model.specs.Families.{want_of, ask_of, is_question, beside_of, step_of}
-use Rattle.model.specs.Families.Container.Calls.{want, after}
-use Rattle.model.specs.Families.Container.Promises.{IsFoundWhole}
-use Rattle.model.specs.Families.Container.Questions.{question_in, question_at}
-use Rattle.model.specs.Families.Container.Reading.{contents_of}
-use Rattle.model.specs.Families.Container.States.{state_of}
-use Rattle.model.specs.Families.Container.Steps.{effects, questions}
-use Rattle.model.specs.Families.Indices.Robust.Promises.{IsFilledWith, IsCount}
-use Rattle.model.specs.Families.Queues.Calls.{as_it_is, read_in}
-use Rattle.model.specs.Parties.{party_of, put, doing_of, flight_of}
-use Rattle.model.specs.Promises.Turns.{IsParty}
-use Rattle.model.specs.Refusals.{is_due, call_refusal}
-use Rattle.model.specs.Step.{as_call, answer_in}
-use Rattle.model.specs.Turns.{old_of, number_of, after_next, after_decision, after_answer, events_of_step}
-use Rattle.model.specs.Turns.{events_of_answer, events_of_next, events_of_decision, events_of, ask_of_doing, after_turn}
-use Rattle.model.specs.World.{Trace, flight_in}
 use Rattle.model.proofs.Frame as frame
-use Rattle.model.proofs.Rows.{row_passed}
-use Rattle.model.proofs.Scenes.{StandsThere, stands_there}
-use Rattle.laws_robust.proofs.Core.{cell}
-use Rattle.laws_robust.proofs.Effects.{both_ways}
-use Rattle.laws_robust.proofs.Past.{through_now}
 use Rattle.laws_robust.proofs.Tells.{IsEnd, ends_alone}
 use Rattle.laws_container.proofs.Finds.{nothing_stands, none_counts, found_none, found_past}
 use Rattle.laws_container.proofs.Invariant.{Scene, Inv, before, family_by}

@@ -1,7 +1,6 @@
 -- On what terms a run is spoken of: by what an owner is gone; and whether the run keeps to it that nobody takes a step for one
 -- who is, and that turns are few, so that no number of an element comes round.
-use Rattle.std.proofs.Common.{◌≡◌, Bool, true}
-use Rattle.laws_robust.specs.Gone.{GoneBy, Death}
+use Rattle.laws_container.proofs.Names.{◌≡◌, Bool, true, GoneBy, Death}
 
 pub record Terms : Type 0 where
   pub by : GoneBy

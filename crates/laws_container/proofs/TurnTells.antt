@@ -1,8 +1,5 @@
 -- What a turn of a container tells, on a machine whose owners die or in an open run.
-use Rattle.model.specs.declared.turn.Turn.{Turn}
-use Rattle.model.specs.Coding.{Coding}
-use Rattle.model.specs.Turns.{after_turn}
-use Rattle.model.specs.World.{Trace}
+use Rattle.laws_container.proofs.Names.{Turn, Coding, after_turn, Trace}
 use Rattle.model.proofs.Frame as frame
 use Rattle.laws_container.specs.Tells.{TellsIf}
 use Rattle.laws_container.proofs.Allowed.{IsAllowed}

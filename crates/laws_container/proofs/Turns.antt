@@ -1,23 +1,13 @@
 -- What a turn leaves of the elements: to any party, and to one that may write at an index.
-use Rattle.std.proofs.Common.{◌≡◌, ◌⊎◌, ℕ, ◌%◌, ◌<◌, ◌≤◌, Bool, true, false, Option, Some, is_some, List}
-use Rattle.model.specs.declared.event.Event.{Event}
-use Rattle.model.specs.declared.families.Flight.{Flight}
+use Rattle.laws_container.proofs.Names.{◌≡◌, ◌⊎◌, ℕ, ◌%◌, ◌<◌, ◌≤◌, Bool, true, false, Option, Some, is_some, List}
+use Rattle.laws_container.proofs.Names.{Event, Flight, ContainerFlight, Party, AddStage, RemoveStage, ReplaceStage}
+use Rattle.laws_container.proofs.Names.{Coding, WasAlone, contents_of, announced_of, filled_of, party_of, doing_of}
+use Rattle.laws_container.proofs.Names.{flight_of, is_gone}
 use Rattle.model.specs.declared.families.Flight as flights
-use Rattle.model.specs.declared.families.container.calls.ContainerFlight.{ContainerFlight}
 use Rattle.model.specs.declared.families.container.calls.ContainerFlight as calls
-use Rattle.model.specs.declared.party.Party.{Party}
-use Rattle.steps.specs.declared.container.add.AddStage.{AddStage}
 use Rattle.steps.specs.declared.container.add.AddStage as adds
-use Rattle.steps.specs.declared.container.remove.RemoveStage.{RemoveStage}
 use Rattle.steps.specs.declared.container.remove.RemoveStage as removes
-use Rattle.steps.specs.declared.container.replace.ReplaceStage.{ReplaceStage}
 use Rattle.steps.specs.declared.container.replace.ReplaceStage as replaces
-use Rattle.model.specs.Coding.{Coding}
-use Rattle.model.specs.Families.Container.Looks.{WasAlone}
-use Rattle.model.specs.Families.Container.Reading.{contents_of, announced_of}
-use Rattle.model.specs.Families.Indices.Robust.Reading.{filled_of}
-use Rattle.model.specs.Parties.{party_of, doing_of, flight_of}
-use Rattle.laws_robust.specs.Gone.{is_gone}
 use Rattle.laws_container.proofs.Core.{change_at, count_at, datum_at}
 use Rattle.laws_container.proofs.Left.{left_of}
 use Rattle.laws_container.proofs.WellFormed.{IsWellFormedSoFar}

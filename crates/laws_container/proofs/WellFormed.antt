@@ -1,19 +1,9 @@
 -- A well-formed run, of its events and the parties' latest calls; and that a run was well-formed a turn ago.
-use Rattle.std.proofs.Common.{◌≡◌, ◌≢◌, ⊎_elim, ℕ, Option, Some, None, List, ◌∷◌, ◌++◌, refl, sym, ap, subst, ◌∙◌, append_assoc}
-use Rattle.std.proofs.lemmas.Bool.{cases_eq}
-use Rattle.model.specs.declared.event.Event.{Event}
-use Rattle.model.specs.declared.party.Party.{Party}
-use Rattle.model.specs.Families.Container.Promises.{ReplacesRight, StandsWellFormed, IsWellFormedRun}
-use Rattle.model.specs.Families.Indices.Robust.Promises.{IsFilledWith}
-use Rattle.model.specs.Moments.{BeginsNone}
-use Rattle.model.specs.Parties.{party_of, put}
-use Rattle.model.specs.Reading.{Each, span_of}
-use Rattle.model.specs.World.{Trace}
-use Rattle.model.proofs.Moments.{others_begin_none, held_later}
-use Rattle.model.proofs.Parties.{party_put_other}
-use Rattle.model.proofs.Readings.{AreOwn, span_of-other}
-use Rattle.laws_robust.specs.Gone.{IsHonestBy, IsCalm}
-use Rattle.laws_robust.proofs.Gone.{calm_less}
+use Rattle.laws_container.proofs.Names.{◌≡◌, ◌≢◌, ⊎_elim, ℕ, Option, Some, None, List, ◌∷◌, ◌++◌, refl, sym, ap}
+use Rattle.laws_container.proofs.Names.{subst, ◌∙◌, append_assoc, cases_eq, Event, Party, ReplacesRight}
+use Rattle.laws_container.proofs.Names.{StandsWellFormed, IsWellFormedRun, IsFilledWith, BeginsNone, party_of, put}
+use Rattle.laws_container.proofs.Names.{Each, span_of, Trace, others_begin_none, held_later, party_put_other, AreOwn}
+use Rattle.laws_container.proofs.Names.{span_of-other, IsHonestBy, IsCalm, calm_less}
 use Rattle.laws_container.proofs.Replaces.{earlier}
 use Rattle.laws_container.proofs.Terms.{Terms, dying, Keeps}
 

@@ -1,9 +1,6 @@
 -- Which party may store the data words of an index, and raise its element count to an odd number: the one whose add was
 -- granted it, until that add has finished; then the one whose replace was begun last. There is one at most.
-use Rattle.std.proofs.Common.{◌≡◌, ◌⊎◌, ℕ, Some, List, arith}
-use Rattle.model.specs.declared.event.Event.{Event}
-use Rattle.model.specs.Families.Indices.Robust.Reading.{holder_of, settled_of}
-use Rattle.laws_robust.proofs.Rights.{IsBy, AreOwned}
+use Rattle.laws_container.proofs.Names.{◌≡◌, ◌⊎◌, ℕ, Some, List, arith, Event, holder_of, settled_of, IsBy, AreOwned}
 use Rattle.laws_container.proofs.Replacers.{replacer_of}
 
 module _ {T : Type 0} where

@@ -1,18 +1,10 @@
 -- What a step writes down apart from an end: events of its party.
-use Rattle.std.proofs.Common.{ℕ, ◌==◌, if◌then◌else◌, Bool, true, false, Option, List, [], ◌∷◌, ◌++◌, arith}
-use Rattle.std.specs.List.{AllByRecursion}
-use Rattle.steps.specs.declared.container.recover.DeadOwner.{DeadOwner}
-use Rattle.steps.specs.declared.container.recover.RecoverStage.{RecoverStage}
+use Rattle.laws_container.proofs.Names.{ℕ, ◌==◌, if◌then◌else◌, Bool, true, false, Option, List, [], ◌∷◌, ◌++◌, arith}
+use Rattle.laws_container.proofs.Names.{AllByRecursion, DeadOwner, RecoverStage, ContainerState, Event, Asked}
+use Rattle.laws_container.proofs.Names.{ContainerFlight, Turn, Coding, effects, question_of, questions, IsParty}
+use Rattle.laws_container.proofs.Names.{IsEffectOf}
 use Rattle.steps.specs.declared.container.recover.RecoverStage as recovers
-use Rattle.steps.specs.declared.container.state.ContainerState.{ContainerState}
-use Rattle.model.specs.declared.event.Event.{Event}
-use Rattle.model.specs.declared.event.Event.TheVariants.{Asked}
-use Rattle.model.specs.declared.families.container.calls.ContainerFlight.{ContainerFlight}
 use Rattle.model.specs.declared.families.container.calls.ContainerFlight.TheVariants.{Recover}
-use Rattle.model.specs.declared.turn.Turn.{Turn}
-use Rattle.model.specs.Coding.{Coding}
-use Rattle.model.specs.Families.Container.Steps.{effects, question_of, questions}
-use Rattle.model.specs.Promises.Turns.{IsParty, IsEffectOf}
 
 module _ {T : Type 0} (turn : Turn T) (p : ℕ) (mine : IsParty turn p) where
   abbrev Is : Event T → Type 0

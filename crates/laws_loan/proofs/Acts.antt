@@ -1,47 +1,25 @@
 -- What a turn of a loan channel writes down: what its step did, then who acts, then the end. A send acts as it publishes, or where
 -- that left one index too many, as the read position goes on; a receive as it moves the read position, or finds nothing.
-use Rattle.std.proofs.Common.{◌≡◌, ◌≢◌, ℕ, ◌-◌, ◌^◌, ◌<◌, ◌≤◌, ◌==◌, ◌&&◌, if◌then◌else◌, Bool, true, false, inl}
-use Rattle.std.proofs.Common.{Option, Some, List, [], ◌∷◌, ◌++◌, refl, sym, ap, subst, ◌∙◌, arith}
-use Rattle.std.proofs.lemmas.Bool.Decides.{nat_tests}
-use Rattle.std.proofs.lemmas.List.{nil_from_length}
-use Rattle.std.specs.List.{AllByRecursion}
-use Rattle.steps.specs.declared.ask.Ask.{Ask}
-use Rattle.steps.specs.declared.ask.Op.TheVariants.{Load}
-use Rattle.steps.specs.declared.copied.OneWord.{OneWord}
-use Rattle.steps.specs.declared.indices.unique.ReleaseStage.{ReleaseStage}
-use Rattle.steps.specs.declared.loan.reclaim.ReclaimStage.{ReclaimStage}
-use Rattle.steps.specs.declared.loan.take_back.TakeBackStage.{TakeBackStage}
+use Rattle.laws_loan.proofs.Names.{◌≡◌, ◌≢◌, ℕ, ◌-◌, ◌^◌, ◌<◌, ◌≤◌, ◌==◌, ◌&&◌, if◌then◌else◌, Bool, true, false, inl}
+use Rattle.laws_loan.proofs.Names.{Option, Some, List, [], ◌∷◌, ◌++◌, refl, sym, ap, subst, ◌∙◌, nat_tests}
+use Rattle.laws_loan.proofs.Names.{nil_from_length, AllByRecursion, Ask, Load, OneWord, ReleaseStage, ReclaimStage}
+use Rattle.laws_loan.proofs.Names.{TakeBackStage, submission_word, shifted, move, load, distance, Answer, Event}
+use Rattle.laws_loan.proofs.Names.{Published, HandedOut, Freed, Returned, TakenBack, Index, LoanFlight, Effect, Turn}
+use Rattle.laws_loan.proofs.Names.{Next, Coding, ask_of, want, read_word, AddsOne, promise, read_in, sent_at, beside}
+use Rattle.laws_loan.proofs.Names.{release_effect, take_back_effect, give_back_effect, reclaim_effect, effect_of}
+use Rattle.laws_loan.proofs.Names.{room_made, effects_of, waiting, ask_in, IsParty, IsEffectOf, IsAct, ActsRight}
+use Rattle.laws_loan.proofs.Names.{old_of, Trace, KnowsOverflowPush, KnowsBacks}
+use Rattle.std.proofs.Common.{arith}
 use Rattle.steps.specs.declared.queues.overflow.PopStage as overflow_pops
 use Rattle.steps.specs.declared.queues.overflow.PushStage as overflow_pushes
 use Rattle.steps.specs.declared.queues.ring.PushStage as pushes
-use Rattle.steps.specs.Loan.Layout.{submission_word}
-use Rattle.steps.specs.Loan.Parts.{shifted}
-use Rattle.steps.specs.Queues.Overflow.{move, push_asks}
-use Rattle.steps.specs.Queues.Ring.{load, distance, word_at}
-use Rattle.model.specs.declared.event.Answer.{Answer}
+use Rattle.steps.specs.Queues.Overflow.{push_asks}
+use Rattle.steps.specs.Queues.Ring.{word_at}
 use Rattle.model.specs.declared.event.Answer as answers
-use Rattle.model.specs.declared.event.Event.{Event}
-use Rattle.model.specs.declared.event.Event.TheVariants.{Published, HandedOut, Freed, Returned, TakenBack}
-use Rattle.model.specs.declared.event.Item.TheVariants.{Index}
 use Rattle.model.specs.declared.families.loan.LoanStart.TheVariants as calls
-use Rattle.model.specs.declared.families.loan.calls.LoanFlight.{LoanFlight}
-use Rattle.model.specs.declared.families.loan.effects.Effect.{Effect}
 use Rattle.model.specs.declared.families.loan.effects.Effect.TheVariants as effects
-use Rattle.model.specs.declared.turn.Turn.{Turn}
-use Rattle.model.specs.declared.turn.Turn.TheVariants.{Next}
-use Rattle.model.specs.Coding.{Coding}
-use Rattle.model.specs.Families.{ask_of}
-use Rattle.model.specs.Families.Loan.Calls.{want}
-use Rattle.model.specs.Families.Loan.Promises.{read_word, AddsOne, promise}
-use Rattle.model.specs.Families.Loan.Steps.{read_in, sent_at, beside, release_effect, take_back_effect}
-use Rattle.model.specs.Families.Loan.Steps.{give_back_effect, reclaim_effect, effect_of, acts, claimed, room_made}
-use Rattle.model.specs.Families.Loan.Steps.{effects_of}
-use Rattle.model.specs.Families.Queues.Reading.{waiting}
-use Rattle.model.specs.Promises.Turns.{ask_in, IsParty, IsEffectOf, IsAct, ActsRight}
-use Rattle.model.specs.Turns.{old_of}
-use Rattle.model.specs.World.{Trace}
+use Rattle.model.specs.Families.Loan.Steps.{acts, claimed}
 use Rattle.model.proofs.Frame as frame
-use Rattle.laws_queues.proofs.Overflow.Knows.{KnowsOverflowPush, KnowsBacks}
 use Rattle.laws_loan.proofs.Channel.{Channel, words_in}
 use Rattle.laws_loan.proofs.Invariant.{sends_at, counted_for}
 use Rattle.laws_loan.proofs.Kept.{waiting_is}

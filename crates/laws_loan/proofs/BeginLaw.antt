@@ -1,40 +1,24 @@
 -- A begin that no row refuses keeps what holds of a loan channel.
-use Rattle.std.proofs.Common.{◌≡◌, ℕ, ◌+◌, ◌≤◌, ◌==◌, Bool, false, not, Some, None, List, [], ◌∷◌, ◌++◌, get_or, refl, sym, ap, subst, ◌∙◌, arith}
-use Rattle.std.proofs.lemmas.Bool.Decides.{nat_tests}
+use Rattle.laws_loan.proofs.Names.{◌≡◌, ℕ, ◌+◌, ◌≤◌, ◌==◌, Bool, false, not, Some, None, List, [], ◌∷◌, ◌++◌, get_or}
+use Rattle.laws_loan.proofs.Names.{refl, sym, ap, subst, ◌∙◌, nat_tests, submission_word, Begun, Start, Flight, Book}
+use Rattle.laws_loan.proofs.Names.{LoanStart, LoanFlight, Send, Receive, Reclaim, Party, Coding, first_of}
+use Rattle.laws_loan.proofs.Names.{kept_after_begin, first, loan_of, send_of, give_up_of, take_back_of, receive_of}
+use Rattle.laws_loan.proofs.Names.{give_back_of, reclaim_of, has_died, call_rows, kept_rows, is_past, asks_for}
+use Rattle.laws_loan.proofs.Names.{lacks_role, lacks_index, reclaims_early, fresh, holds, span_of, first_row, IsShut}
+use Rattle.laws_loan.proofs.Names.{party_at_begin, Trace, MayBegin}
+use Rattle.std.proofs.Common.{arith}
 use Rattle.steps.specs.declared.loan.reclaim.ReclaimStage as reclaims
 use Rattle.steps.specs.declared.loan.send.SendStage as sends
 use Rattle.steps.specs.declared.queues.overflow.PopStage as overflow_pops
 use Rattle.steps.specs.declared.queues.overflow.PushStage as overflow_pushes
-use Rattle.steps.specs.Loan.Layout.{submission_word}
-use Rattle.model.specs.declared.event.Event.TheVariants.{Begun}
-use Rattle.model.specs.declared.event.Start.{Start}
 use Rattle.model.specs.declared.event.Start.TheVariants as starts
-use Rattle.model.specs.declared.families.Flight.{Flight}
 use Rattle.model.specs.declared.families.Flight as flights
 use Rattle.model.specs.declared.families.Registry as registries
-use Rattle.model.specs.declared.families.loan.Book.{Book}
-use Rattle.model.specs.declared.families.loan.LoanStart.{LoanStart}
 use Rattle.model.specs.declared.families.loan.LoanStart.TheVariants as calls
-use Rattle.model.specs.declared.families.loan.calls.LoanFlight.{LoanFlight}
-use Rattle.model.specs.declared.families.loan.calls.LoanFlight.TheVariants.{Send, Receive, Reclaim}
-use Rattle.model.specs.declared.party.Party.{Party}
 use Rattle.model.specs.declared.turn.Kind as kinds
-use Rattle.model.specs.Coding.{Coding}
-use Rattle.model.specs.Families.{first_of, kept_after_begin}
-use Rattle.model.specs.Families.Loan.Calls.{first, loan_of, send_of, give_up_of, take_back_of, receive_of, give_back_of, reclaim_of}
 use Rattle.model.specs.declared.turn.Refusal.TheVariants.{BadIndex, NoRole, NotHeld, OwnerIsDead, OwnerLives}
-use Rattle.model.specs.Families.Indices.Robust.Dead.{has_died}
-use Rattle.model.specs.Families.Loan.Opening.{call_rows, kept_rows, is_past, asks_for, lacks_role, lacks_index, reclaims_early}
-use Rattle.model.specs.Families.Queues.Calls.{fresh}
-use Rattle.model.specs.Families.Queues.Opening.{holds}
 use Rattle.model.specs.Parties.{party_of}
-use Rattle.model.specs.Reading.{span_of}
-use Rattle.model.specs.Rows.{first_row}
-use Rattle.model.specs.Shape.{IsShut}
-use Rattle.model.specs.Turns.{party_at_begin}
-use Rattle.model.specs.World.{Trace}
 use Rattle.model.proofs.Frame as frame
-use Rattle.model.proofs.Rows.{MayBegin}
 use Rattle.laws_loan.proofs.Begins.{IsFirst, after, holds_then, owes}
 use Rattle.laws_loan.proofs.Channel.{Channel, kept_is}
 use Rattle.laws_loan.proofs.Firsts.{is_that, is_below, has_it, loan_first, take_back_first, give_up_first, send_first}

@@ -1,28 +1,15 @@
 -- A call of a loan channel begins.
-use Rattle.std.proofs.Common.{◌≡◌, ◌≢◌, ℕ, ◌+◌, ◌⊎◌, ⊎_elim, true, false, Option, Some, None, List, [], ◌∷◌, ◌++◌, refl, sym, ap, subst, ◌∙◌, append-nil, arith}
-use Rattle.std.proofs.lemmas.Bool.{cases_eq}
-use Rattle.std.proofs.lemmas.List.Sums.{fold-append}
-use Rattle.model.specs.declared.event.Event.{Event}
-use Rattle.model.specs.declared.event.Event.TheVariants.{Begun}
+use Rattle.laws_loan.proofs.Names.{◌≡◌, ◌≢◌, ℕ, ◌+◌, ◌⊎◌, ⊎_elim, true, false, Option, Some, None, List, [], ◌∷◌}
+use Rattle.laws_loan.proofs.Names.{◌++◌, refl, sym, ap, subst, ◌∙◌, append-nil, cases_eq, fold-append, Event, Begun}
+use Rattle.laws_loan.proofs.Names.{Flight, Book, LoanStart, LoanFlight, Party, Coding, has_died, asks_for, taken_from}
+use Rattle.laws_loan.proofs.Names.{MovesRight, BeginsRight, Passing, spot_of, receiver_after, receiver_of}
+use Rattle.laws_loan.proofs.Names.{reclaims_after, put, doing_of, flight_of, Span, Open, span_of, IsShut}
+use Rattle.laws_loan.proofs.Names.{party_at_begin, party_put_same, party_put_other, span_of-own, span_of-other}
+use Rattle.std.proofs.Common.{arith}
 use Rattle.model.specs.declared.event.Start.TheVariants as starts
-use Rattle.model.specs.declared.families.Flight.{Flight}
 use Rattle.model.specs.declared.families.Flight as flights
-use Rattle.model.specs.declared.families.loan.Book.{Book}
-use Rattle.model.specs.declared.families.loan.LoanStart.{LoanStart}
-use Rattle.model.specs.declared.families.loan.calls.LoanFlight.{LoanFlight}
-use Rattle.model.specs.declared.party.Party.{Party}
-use Rattle.model.specs.Coding.{Coding}
-use Rattle.model.specs.Families.Indices.Robust.Dead.{has_died}
-use Rattle.model.specs.Families.Loan.Opening.{asks_for, taken_from}
-use Rattle.model.specs.Families.Loan.Promises.{MovesRight, BeginsRight}
-use Rattle.model.specs.Families.Loan.Reading.{Passing, spot_of, receiver_after, receiver_of, reclaims_after}
-use Rattle.model.specs.Parties.{party_of, put, doing_of, flight_of}
-use Rattle.model.specs.Reading.{Span, Open, span_of}
-use Rattle.model.specs.Shape.{IsShut}
-use Rattle.model.specs.Turns.{party_at_begin}
+use Rattle.model.specs.Parties.{party_of}
 use Rattle.model.proofs.Frame as frame
-use Rattle.model.proofs.Parties.{party_put_same, party_put_other}
-use Rattle.model.proofs.Readings.{span_of-own, span_of-other}
 use Rattle.laws_indices.proofs.Core as indices
 use Rattle.laws_loan.proofs.Channel.{Channel, Holds}
 use Rattle.laws_loan.proofs.Invariant.{Hangs, sends_at, counted_for, hung, reclaims_in, Carries, HoldsNow, family}

@@ -1,6 +1,6 @@
 -- How many steps a call of a loan channel takes at most, and that each turn back is paid.
-use Rattle.std.proofs.Common.{ℕ, ◌≤◌, arith}
-use Rattle.model.specs.Coding.{Coding}
+use Rattle.laws_loan.proofs.Names.{ℕ, ◌≤◌, Coding}
+use Rattle.std.proofs.Common.{arith}
 use Rattle.model.proofs.Frame as frame
 use Rattle.laws_loan.proofs.Invariant.{family}
 

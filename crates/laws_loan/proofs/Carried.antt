@@ -1,10 +1,6 @@
 -- Where a party writes events of its own: what is in passing is carried by the span of its call still.
-use Rattle.std.proofs.Common.{◌≡◌, ◌≢◌, ℕ, ⊎_elim, List, ◌++◌, fold, sym, ap, subst, ◌∙◌}
-use Rattle.std.proofs.lemmas.Bool.{cases_eq}
-use Rattle.model.specs.declared.event.Event.{Event}
-use Rattle.model.specs.Families.Loan.Reading.{Spot, Passing, spot_of}
-use Rattle.model.specs.Reading.{Span, own_after, span_of}
-use Rattle.model.proofs.Readings.{AreOwn, span_of-own, span_of-other}
+use Rattle.laws_loan.proofs.Names.{◌≡◌, ◌≢◌, ℕ, ⊎_elim, List, ◌++◌, fold, sym, ap, subst, ◌∙◌, cases_eq, Event, Spot}
+use Rattle.laws_loan.proofs.Names.{Passing, spot_of, Span, own_after, span_of, AreOwn, span_of-own, span_of-other}
 use Rattle.laws_loan.proofs.Invariant.{Carries}
 
 module _ {T : Type 0} (p : ℕ) (events es : List (Event T)) (own : AreOwn p es) (from : Span T) (is : span_of p events ≡ from) where

@@ -1,26 +1,17 @@
 -- The state of a loan channel's machine: its three parts with what they hold, its book and the events, what holds of them
 -- between two turns, and how it opens.
-use Rattle.std.proofs.Common.{◌≡◌, ◌≢◌, ℕ, zero, suc, ◌+◌, ◌^◌, ◌<◌, ◌≤◌, ⊎_elim, Option, None, List, [], ◌++◌, replicate, refl, ◌∙◌, arith}
-use Rattle.std.proofs.lemmas.List.{length-replicate}
-use Rattle.steps.specs.declared.loan.places.Place.{Place}
+use Rattle.laws_loan.proofs.Names.{◌≡◌, ◌≢◌, ℕ, zero, suc, ◌+◌, ◌^◌, ◌<◌, ◌≤◌, ⊎_elim, Option, None, List, [], ◌++◌}
+use Rattle.laws_loan.proofs.Names.{replicate, refl, ◌∙◌, length-replicate, Place, locked, place_at, Event, Registry}
+use Rattle.laws_loan.proofs.Names.{Book, opening_words, opening_book, opening_kept, KeepsBook, Free, Passing, With}
+use Rattle.laws_loan.proofs.Names.{words_of_index, Core, layout}
+use Rattle.std.proofs.Common.{arith}
 use Rattle.steps.specs.declared.loan.places.Place.TheVariants as places
-use Rattle.steps.specs.Indices.Head.{locked}
-use Rattle.steps.specs.Loan.Places.{place_at}
-use Rattle.model.specs.declared.event.Event.{Event}
-use Rattle.model.specs.declared.families.Registry.{Registry}
 use Rattle.model.specs.declared.families.Registry as registries
-use Rattle.model.specs.declared.families.loan.Book.{Book}
 use Rattle.model.specs.declared.families.queues.Roles.{Roles}
 use Rattle.model.specs.Families.Indices.Opening as index_opening
-use Rattle.model.specs.Families.Loan.Opening.{opening_words, opening_book, opening_kept}
-use Rattle.model.specs.Families.Loan.Promises.{KeepsBook}
-use Rattle.model.specs.Families.Loan.Reading.{Free, Passing, With}
-use Rattle.model.specs.Families.Queues.Calls.{words_of_index}
 use Rattle.laws_indices.proofs.Core as indices
 use Rattle.laws_indices.proofs.Opening.{nobody_holds, opening_good}
 use Rattle.laws_queues.proofs.Queues.Core as queues
-use Rattle.laws_queues.proofs.Queues.Core.{Core}
-use Rattle.laws_queues.proofs.Queues.Knows.{layout}
 use Rattle.laws_loan.proofs.Placed.{IsBy, Placed}
 
 -- ---- the state

@@ -1,21 +1,13 @@
 -- What each operation of a push and of a pop does to the completion queue, whose values have one word each.
-use Rattle.std.proofs.Common.{◌≡◌, ℕ, ◌+◌, ◌-◌, ◌*◌, ◌%◌, ◌^◌, ◌<◌, ◌≤◌, ◌==◌, true, false, Option, Some, List, [], ◌∷◌, length, get_or}
-use Rattle.std.proofs.Common.{refl, ap, ◌∙◌, arith}
-use Rattle.std.proofs.lemmas.Bool.Decides.{nat_tests}
-use Rattle.std.proofs.lemmas.List.{nil_from_length}
-use Rattle.steps.specs.declared.ask.Ask.{Ask}
-use Rattle.steps.specs.declared.ask.Op.TheVariants.{Store}
-use Rattle.steps.specs.declared.ask.After.TheVariants.{GoOn}
-use Rattle.steps.specs.declared.queues.ring.Push.{Push}
+use Rattle.laws_loan.proofs.Names.{◌≡◌, ℕ, ◌+◌, ◌-◌, ◌*◌, ◌%◌, ◌^◌, ◌<◌, ◌≤◌, ◌==◌, true, false, Option, Some, List}
+use Rattle.laws_loan.proofs.Names.{[], ◌∷◌, length, get_or, refl, ap, ◌∙◌, nat_tests, nil_from_length, Ask, Store}
+use Rattle.laws_loan.proofs.Names.{GoOn, Push, after_position, one_word, words_of_index, words_after, change_of, Core}
+use Rattle.laws_loan.proofs.Names.{Holds, filled, taken, fills, one_filled, front, set_at, layout, KnowsPush}
+use Rattle.std.proofs.Common.{arith}
 use Rattle.steps.specs.declared.queues.ring.PushStage as pushes
-use Rattle.steps.specs.Queues.Ring.{after_position, cell_word, push_takes, word_at}
-use Rattle.model.specs.Coding.{one_word}
-use Rattle.model.specs.Families.Queues.Calls.{words_of_index}
-use Rattle.model.specs.Turns.{words_after, change_of}
+use Rattle.steps.specs.Queues.Ring.{cell_word, push_takes, word_at}
 use Rattle.laws_queues.proofs.Queues.Core as core
-use Rattle.laws_queues.proofs.Queues.Core.{Core, Good, Holds, filled, published, taken, fills, one_filled, publishes, takes, front, set_at}
-use Rattle.laws_queues.proofs.Queues.Knows.{layout}
-use Rattle.laws_queues.proofs.Ring.Knows.{KnowsPush}
+use Rattle.laws_queues.proofs.Queues.Core.{Good, published, publishes, takes}
 use Rattle.laws_loan.proofs.Channel.{no_roles}
 
 -- a queue that has something has a first one

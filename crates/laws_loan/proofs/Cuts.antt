@@ -1,15 +1,12 @@
 -- The words of a loan channel are those of its parts, one behind another: an operation on a word of a part is the same
 -- operation on the whole, and leaves the other parts.
-use Rattle.std.proofs.Common.{◌≡◌, ℕ, ◌+◌, ◌-◌, ◌^◌, ◌<◌, ◌==◌, if◌then◌else◌, List, ◌++◌, length, get_or, set, refl, ap, ◌∙◌, arith, length-set}
-use Rattle.std.proofs.lemmas.List.{get_or-append-add, get_or_append_left, set-append_left, set-append_right}
+use Rattle.laws_loan.proofs.Names.{◌≡◌, ℕ, ◌+◌, ◌-◌, ◌^◌, ◌<◌, ◌==◌, if◌then◌else◌, List, ◌++◌, length, get_or, set}
+use Rattle.laws_loan.proofs.Names.{refl, ap, ◌∙◌, length-set, get_or-append-add, get_or_append_left, set-append_left}
+use Rattle.laws_loan.proofs.Names.{set-append_right, shifted, Ask, Want, ask_of, old_of, words_after, change_of}
+use Rattle.std.proofs.Common.{arith}
 use Rattle.steps.specs.Ask.{written}
-use Rattle.steps.specs.Loan.Parts.{shifted}
 use Rattle.steps.specs.Queues.Ring.{word_at}
-use Rattle.steps.specs.declared.ask.Ask.{Ask}
-use Rattle.steps.specs.declared.ask.Want.{Want}
 use Rattle.steps.specs.declared.ask.Want as wants
-use Rattle.model.specs.Families.{ask_of}
-use Rattle.model.specs.Turns.{old_of, words_after, change_of}
 
 -- an operation on one of these words
 abbrev pub IsOn : List ℕ → Want (Unit {0}) → Type 0

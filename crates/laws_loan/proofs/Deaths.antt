@@ -1,29 +1,15 @@
 -- The death of a party: its calls go no further, and nothing else changes.
-use Rattle.std.proofs.Common.{◌≡◌, ◌≢◌, ℕ, ◌+◌, ◌⊎◌, ◌==◌, ◌||◌, ⊎_elim, if◌then◌else◌, Bool, true, false, List, []}
-use Rattle.std.proofs.Common.{◌∷◌, ◌++◌, refl, sym, ap, subst, ◌∙◌, append-nil, arith, eq-eqb, ne_eqb}
-use Rattle.std.proofs.lemmas.Bool.{cases_eq}
-use Rattle.std.proofs.lemmas.List.Sums.{fold-append}
-use Rattle.model.specs.declared.event.Event.{Event}
-use Rattle.model.specs.declared.event.Event.TheVariants.{Died}
-use Rattle.model.specs.declared.event.Start.{Start}
+use Rattle.laws_loan.proofs.Names.{◌≡◌, ◌≢◌, ℕ, ◌+◌, ◌⊎◌, ◌==◌, ◌||◌, ⊎_elim, if◌then◌else◌, Bool, true, false, List}
+use Rattle.laws_loan.proofs.Names.{[], ◌∷◌, ◌++◌, refl, sym, ap, subst, ◌∙◌, append-nil, eq-eqb, ne_eqb, cases_eq}
+use Rattle.laws_loan.proofs.Names.{fold-append, Event, Died, Start, Flight, Registry, LoanStart, LoanFlight, Party}
+use Rattle.laws_loan.proofs.Names.{Coding, kept_after_death, has_died, dead_with, MovesRight, BeginsRight}
+use Rattle.laws_loan.proofs.Names.{AnswersRight, spot_of, receiver_after, receiver_of, died_after, has_died_by}
+use Rattle.laws_loan.proofs.Names.{reclaims_after, span_of, Trace, Each-append, span_of-death, MayDie}
+use Rattle.std.proofs.Common.{arith}
 use Rattle.model.specs.declared.event.Start.TheVariants as starts
-use Rattle.model.specs.declared.families.Flight.{Flight}
 use Rattle.model.specs.declared.families.Flight as flights
-use Rattle.model.specs.declared.families.Registry.{Registry}
-use Rattle.model.specs.declared.families.loan.LoanStart.{LoanStart}
-use Rattle.model.specs.declared.families.loan.calls.LoanFlight.{LoanFlight}
-use Rattle.model.specs.declared.party.Party.{Party}
-use Rattle.model.specs.Coding.{Coding}
-use Rattle.model.specs.Families.{kept_after_death}
-use Rattle.model.specs.Families.Indices.Robust.Dead.{has_died, dead_with}
-use Rattle.model.specs.Families.Loan.Promises.{MovesRight, BeginsRight, AnswersRight}
-use Rattle.model.specs.Families.Loan.Reading.{spot_of, receiver_after, receiver_of, died_after, has_died_by, reclaims_after}
-use Rattle.model.specs.Reading.{span_of}
-use Rattle.model.specs.World.{Trace}
 use Rattle.model.proofs.Dead.{died_now, died_before}
 use Rattle.model.proofs.Frame as frame
-use Rattle.model.proofs.Readings.{Each-append, span_of-death}
-use Rattle.model.proofs.Rows.{MayDie}
 use Rattle.laws_loan.proofs.Channel.{Channel, Represents, Holds}
 use Rattle.laws_loan.proofs.Invariant.{sends_at, counted_for, reclaims_in, Carries, HoldsNow, family}
 use Rattle.laws_loan.proofs.Keeping.{at_stays}

@@ -1,45 +1,21 @@
 -- The steps of a reclaim that pops the submission queue, until that is empty.
-use Rattle.std.proofs.Common.{◌≡◌, ◌≢◌, ℕ, suc, ◌+◌, ◌%◌, ◌^◌, ◌*◌, ◌-◌, ◌<◌, ◌≤◌, ◌==◌, inl, Bool, true}
-use Rattle.std.proofs.Common.{false, not, Option, Some, List, [], ◌∷◌, ◌++◌, length, get_or, refl, sym, ap, subst, ◌∙◌}
-use Rattle.std.proofs.Common.{append-nil, length-append, arith}
-use Rattle.std.proofs.lemmas.Bool.Decides.{nat_tests}
-use Rattle.std.proofs.lemmas.List.{nil_from_length, set-get_or}
-use Rattle.std.proofs.lemmas.List.Concat.{flat_map-append}
-use Rattle.std.proofs.lemmas.List.Sums.{fold-append}
-use Rattle.steps.specs.declared.ask.Ask.{Ask}
-use Rattle.steps.specs.declared.ask.After.{After}
-use Rattle.steps.specs.declared.ask.After.TheVariants.{GoOn}
-use Rattle.steps.specs.declared.loan.reclaim.ReclaimStage.{ReclaimStage}
+use Rattle.laws_loan.proofs.Names.{◌≡◌, ◌≢◌, ℕ, suc, ◌+◌, ◌%◌, ◌^◌, ◌*◌, ◌-◌, ◌<◌, ◌≤◌, ◌==◌, inl, Bool, true, false}
+use Rattle.laws_loan.proofs.Names.{not, Option, Some, List, [], ◌∷◌, ◌++◌, length, get_or, refl, sym, ap, subst, ◌∙◌}
+use Rattle.laws_loan.proofs.Names.{append-nil, length-append, nat_tests, nil_from_length, set-get_or, flat_map-append}
+use Rattle.laws_loan.proofs.Names.{fold-append, Ask, After, GoOn, ReclaimStage, submission_word, reclaim_goes_back}
+use Rattle.laws_loan.proofs.Names.{load, Answer, Event, HandedOut, Item, Index, LoanFlight, Effect, Party, Coding}
+use Rattle.laws_loan.proofs.Names.{ask_of, Waiting, spot_of, receiver_after, takes_back, taken_back, freed, sent_at}
+use Rattle.laws_loan.proofs.Names.{words_of_index, answer_of_item, hands_out, handed_out, Open, span_of, old_of}
+use Rattle.laws_loan.proofs.Names.{words_after, change_of, step_count, oldest, pop_front, Core, taken, layout}
+use Rattle.std.proofs.Common.{arith}
 use Rattle.steps.specs.declared.loan.reclaim.ReclaimStage as reclaims
 use Rattle.steps.specs.declared.queues.overflow.PopStage.{PopStage}
 use Rattle.steps.specs.declared.queues.overflow.PopStage as pops
 use Rattle.steps.specs.declared.queues.ring.PopStage as ring_pops
-use Rattle.steps.specs.Loan.Layout.{submission_word}
-use Rattle.steps.specs.Loan.Reclaim.{reclaim_goes_back}
 use Rattle.steps.specs.Queues.Overflow.{cell_word, pop_asks}
-use Rattle.steps.specs.Queues.Ring.{load}
-use Rattle.model.specs.declared.event.Answer.{Answer}
-use Rattle.model.specs.declared.event.Event.{Event}
-use Rattle.model.specs.declared.event.Event.TheVariants.{HandedOut}
-use Rattle.model.specs.declared.event.Item.{Item}
-use Rattle.model.specs.declared.event.Item.TheVariants.{Index}
 use Rattle.model.specs.declared.families.Flight as flights
-use Rattle.model.specs.declared.families.loan.calls.LoanFlight.{LoanFlight}
-use Rattle.model.specs.declared.families.loan.effects.Effect.{Effect}
 use Rattle.model.specs.declared.families.loan.effects.Effect.TheVariants as effects
-use Rattle.model.specs.declared.party.Party.{Party}
-use Rattle.model.specs.Coding.{Coding}
-use Rattle.model.specs.Families.{ask_of}
-use Rattle.model.specs.Families.Loan.Reading.{Waiting, spot_of, receiver_after, takes_back, taken_back, frees, freed}
-use Rattle.model.specs.Families.Loan.Steps.{sent_at}
-use Rattle.model.specs.Families.Queues.Calls.{words_of_index}
-use Rattle.model.specs.Families.Queues.Objects.{answer_of_item}
-use Rattle.model.specs.Families.Queues.Reading.{hands_out, handed_out}
-use Rattle.model.specs.Reading.{Open, span_of}
-use Rattle.model.specs.Turns.{old_of, words_after, change_of, step_count}
-use Rattle.laws_queues.proofs.Overflow.Core.{oldest, pop_front}
-use Rattle.laws_queues.proofs.Queues.Core.{Core, taken}
-use Rattle.laws_queues.proofs.Queues.Knows.{layout}
+use Rattle.model.specs.Families.Loan.Reading.{frees}
 use Rattle.laws_loan.proofs.Channel.{Channel, no_roles, words_in}
 use Rattle.laws_loan.proofs.Cuts.{IsOn}
 use Rattle.laws_loan.proofs.Invariant.{sends_at, counted_for, HoldsNow}

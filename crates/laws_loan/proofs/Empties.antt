@@ -1,46 +1,24 @@
 -- The steps of a reclaim that pops the completion queue, until that is empty: then it comes to the first index that is sent, or ends.
-use Rattle.std.proofs.Common.{◌≡◌, ℕ, suc, ◌+◌, ◌*◌, ◌-◌, ◌%◌, ◌^◌, ◌<◌, ◌≤◌, ◌==◌, ◌||◌, Bool, true}
-use Rattle.std.proofs.Common.{false, Option, Some, None, List, [], ◌∷◌, ◌++◌, length, get_or, fold, refl, sym, ap}
-use Rattle.std.proofs.Common.{subst, ◌∙◌, append-nil, length-append, arith}
-use Rattle.std.specs.List.{AllByRecursion}
-use Rattle.std.proofs.lemmas.Bool.Decides.{nat_tests}
-use Rattle.std.proofs.lemmas.List.{set-get_or}
-use Rattle.std.proofs.lemmas.List.Concat.{flat_map-append}
-use Rattle.std.proofs.lemmas.List.Sums.{fold-append}
-use Rattle.steps.specs.declared.ask.Ask.{Ask}
-use Rattle.steps.specs.declared.ask.After.{After}
-use Rattle.steps.specs.declared.ask.After.TheVariants.{GoOn, Done}
+use Rattle.laws_loan.proofs.Names.{◌≡◌, ℕ, suc, ◌+◌, ◌*◌, ◌-◌, ◌%◌, ◌^◌, ◌<◌, ◌≤◌, ◌==◌, ◌||◌, Bool, true, false}
+use Rattle.laws_loan.proofs.Names.{Option, Some, None, List, [], ◌∷◌, ◌++◌, length, get_or, fold, refl, sym, ap}
+use Rattle.laws_loan.proofs.Names.{subst, ◌∙◌, append-nil, length-append, AllByRecursion, nat_tests, set-get_or}
+use Rattle.laws_loan.proofs.Names.{flat_map-append, fold-append, Ask, After, GoOn, ReclaimStage, completion_word}
+use Rattle.laws_loan.proofs.Names.{next_sent, reclaim_goes_back, reclaim_releases, load, Answer, Number, Event}
+use Rattle.laws_loan.proofs.Names.{TakenBack, LoanFlight, Reclaim, Effect, Party, Coding, ask_of, Returning, spot_of}
+use Rattle.laws_loan.proofs.Names.{receiver_after, takes_back, taken_back, freed, given_back_at, words_of_index, Open}
+use Rattle.laws_loan.proofs.Names.{Ended, own_after, span_of, as_call, old_of, words_after, step_count, span_of-own}
+use Rattle.laws_loan.proofs.Names.{Core, taken, layout}
+use Rattle.std.proofs.Common.{arith}
+use Rattle.steps.specs.declared.ask.After.TheVariants.{Done}
 use Rattle.steps.specs.declared.indices.unique.ReleaseStage as releases
-use Rattle.steps.specs.declared.loan.reclaim.ReclaimStage.{ReclaimStage}
 use Rattle.steps.specs.declared.loan.reclaim.ReclaimStage as reclaims
 use Rattle.steps.specs.declared.queues.ring.PopStage.{PopStage}
 use Rattle.steps.specs.declared.queues.ring.PopStage as pops
-use Rattle.steps.specs.Loan.Layout.{completion_word}
-use Rattle.steps.specs.Loan.Places.{next_sent}
-use Rattle.steps.specs.Loan.Reclaim.{reclaim_goes_back, reclaim_releases}
-use Rattle.steps.specs.Queues.Ring.{cell_word, word_at, load, pop_asks}
-use Rattle.model.specs.declared.event.Answer.{Answer}
-use Rattle.model.specs.declared.event.Answer.TheVariants.{Number}
-use Rattle.model.specs.declared.event.Event.{Event}
-use Rattle.model.specs.declared.event.Event.TheVariants.{TakenBack}
+use Rattle.steps.specs.Queues.Ring.{cell_word, word_at, pop_asks}
 use Rattle.model.specs.declared.families.Flight as flights
 use Rattle.model.specs.declared.families.loan.LoanStart.TheVariants as calls
-use Rattle.model.specs.declared.families.loan.calls.LoanFlight.{LoanFlight}
-use Rattle.model.specs.declared.families.loan.calls.LoanFlight.TheVariants.{Reclaim}
-use Rattle.model.specs.declared.families.loan.effects.Effect.{Effect}
 use Rattle.model.specs.declared.families.loan.effects.Effect.TheVariants as effects
-use Rattle.model.specs.declared.party.Party.{Party}
-use Rattle.model.specs.Coding.{Coding}
-use Rattle.model.specs.Families.{ask_of}
-use Rattle.model.specs.Families.Loan.Reading.{Returning, spot_of, receiver_after, takes_back, taken_back, frees, freed}
-use Rattle.model.specs.Families.Loan.Steps.{given_back_at}
-use Rattle.model.specs.Families.Queues.Calls.{words_of_index}
-use Rattle.model.specs.Reading.{Open, Ended, own_after, span_of}
-use Rattle.model.specs.Step.{as_call}
-use Rattle.model.specs.Turns.{old_of, words_after, step_count}
-use Rattle.model.proofs.Readings.{span_of-own}
-use Rattle.laws_queues.proofs.Queues.Core.{Core, taken}
-use Rattle.laws_queues.proofs.Queues.Knows.{layout}
+use Rattle.model.specs.Families.Loan.Reading.{frees}
 use Rattle.laws_loan.proofs.Channel.{Channel, no_roles, words_in}
 use Rattle.laws_loan.proofs.Completion as completion
 use Rattle.laws_loan.proofs.Cuts.{IsOn}

@@ -1,33 +1,20 @@
 -- What the first stage of each call of a loan channel knows, where no row refuses its begin.
-use Rattle.std.proofs.Common.{◌≡◌, ◌≢◌, ℕ, ◌<◌, ◌≤◌, ◌⊎◌, ◌==◌, inl, inr, ⊎_elim, nat_le, true, false, not}
-use Rattle.std.proofs.Common.{Option, Some, None, List, [], ◌∷◌, ◌++◌, get_or, refl, sym, ap, subst, ◌∙◌, arith}
-use Rattle.std.proofs.lemmas.Bool.{cases_eq}
-use Rattle.std.proofs.lemmas.Bool.Decides.{nat_tests}
+use Rattle.laws_loan.proofs.Names.{◌≡◌, ◌≢◌, ℕ, ◌<◌, ◌≤◌, ◌⊎◌, ◌==◌, inl, inr, ⊎_elim, nat_le, true, false, not}
+use Rattle.laws_loan.proofs.Names.{Option, Some, None, List, [], ◌∷◌, ◌++◌, get_or, refl, sym, ap, subst, ◌∙◌}
+use Rattle.laws_loan.proofs.Names.{cases_eq, nat_tests, submission_word, Event, Begun, LoanStart, LoanFlight, Send}
+use Rattle.laws_loan.proofs.Names.{Receive, Reclaim, Party, Coding, has_died, loan_of, give_up_of, take_back_of}
+use Rattle.laws_loan.proofs.Names.{give_back_of, asks_for, taken_from, BeginsRight, Passing, With, Move, move_of}
+use Rattle.laws_loan.proofs.Names.{spot_of, receiver_of, reclaims_after, fresh, holds, Open, span_of, span_of-own}
+use Rattle.laws_loan.proofs.Names.{span_of-other, IsShut}
+use Rattle.std.proofs.Common.{arith}
 use Rattle.steps.specs.declared.loan.reclaim.ReclaimStage as reclaims
 use Rattle.steps.specs.declared.loan.send.SendStage as sends
 use Rattle.steps.specs.declared.queues.overflow.PopStage as overflow_pops
 use Rattle.steps.specs.declared.queues.overflow.PushStage as overflow_pushes
-use Rattle.steps.specs.Loan.Layout.{submission_word}
-use Rattle.model.specs.declared.event.Event.{Event}
-use Rattle.model.specs.declared.event.Event.TheVariants.{Begun}
 use Rattle.model.specs.declared.event.Start.TheVariants as starts
 use Rattle.model.specs.declared.families.Flight as flights
-use Rattle.model.specs.declared.families.loan.LoanStart.{LoanStart}
 use Rattle.model.specs.declared.families.loan.LoanStart.TheVariants as calls
-use Rattle.model.specs.declared.families.loan.calls.LoanFlight.{LoanFlight}
-use Rattle.model.specs.declared.families.loan.calls.LoanFlight.TheVariants.{Send, Receive, Reclaim}
-use Rattle.model.specs.declared.party.Party.{Party}
-use Rattle.model.specs.Coding.{Coding}
-use Rattle.model.specs.Families.Indices.Robust.Dead.{has_died}
-use Rattle.model.specs.Families.Loan.Calls.{loan_of, give_up_of, take_back_of, give_back_of}
-use Rattle.model.specs.Families.Loan.Opening.{asks_for, taken_from}
-use Rattle.model.specs.Families.Loan.Promises.{ComesFrom, BeginsRight}
-use Rattle.model.specs.Families.Loan.Reading.{Passing, With, Move, move_of, spot_of, receiver_of, reclaims_after}
-use Rattle.model.specs.Families.Queues.Calls.{fresh}
-use Rattle.model.specs.Families.Queues.Opening.{holds}
-use Rattle.model.specs.Reading.{Open, span_of}
-use Rattle.model.proofs.Readings.{span_of-own, span_of-other}
-use Rattle.model.specs.Shape.{IsShut}
+use Rattle.model.specs.Families.Loan.Promises.{ComesFrom}
 use Rattle.laws_loan.proofs.Begins.{IsFirst, shut_none}
 use Rattle.laws_loan.proofs.Channel.{Channel}
 use Rattle.laws_loan.proofs.Invariant.{hung, reclaims_in, Carries, HoldsNow}

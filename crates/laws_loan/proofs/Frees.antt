@@ -1,41 +1,23 @@
 -- The steps of a reclaim that releases an index that was sent, while the receiver is dead and nothing waits in either queue.
-use Rattle.std.proofs.Common.{◌≡◌, ◌≢◌, ℕ, ◌+◌, ◌*◌, ◌-◌, ◌^◌, ◌<◌, ◌≤◌, ⊎_elim, false, Option, Some, None, List, []}
-use Rattle.std.proofs.Common.{◌∷◌, ◌++◌, fold, length, set, refl, sym, ap, subst, ◌∙◌, length-append}
+use Rattle.laws_loan.proofs.Names.{◌≡◌, ◌≢◌, ℕ, ◌+◌, ◌*◌, ◌-◌, ◌^◌, ◌<◌, ◌≤◌, ⊎_elim, false, Option, Some, None, List}
+use Rattle.laws_loan.proofs.Names.{[], ◌∷◌, ◌++◌, fold, length, set, refl, sym, ap, subst, ◌∙◌, length-append}
+use Rattle.laws_loan.proofs.Names.{AllByRecursion, cases_eq, flat_map-append, fold-append, Ask, GoOn, ReleaseStage}
+use Rattle.laws_loan.proofs.Names.{Place, Releases, back_asks, back_takes, place_at, Answer, Number, Event, Freed}
+use Rattle.laws_loan.proofs.Names.{Finished, Book, LoanFlight, Party, Coding, ask_of, IsReclaiming, Free, Passing}
+use Rattle.laws_loan.proofs.Names.{Move, spot_of, receiver_after, receiver_of, freed, gives_back, book_after, Open}
+use Rattle.laws_loan.proofs.Names.{Ended, own_after, span_of, old_of, words_after, step_count, span_of-own}
+use Rattle.laws_loan.proofs.Names.{release_counts, release_number, ReleaseAt}
 use Rattle.std.proofs.Common.{arith, get_or-set_same, get_or-set_other}
-use Rattle.std.specs.List.{AllByRecursion}
-use Rattle.std.proofs.lemmas.Bool.{cases_eq}
-use Rattle.std.proofs.lemmas.List.Concat.{flat_map-append}
-use Rattle.std.proofs.lemmas.List.Sums.{fold-append}
-use Rattle.steps.specs.declared.ask.Ask.{Ask}
-use Rattle.steps.specs.declared.ask.After.TheVariants.{GoOn, Done}
-use Rattle.steps.specs.declared.indices.unique.ReleaseStage.{ReleaseStage}
+use Rattle.steps.specs.declared.ask.After.TheVariants.{Done}
 use Rattle.steps.specs.declared.indices.unique.ReleaseStage as releases
-use Rattle.steps.specs.declared.loan.places.Place.{Place}
 use Rattle.steps.specs.declared.loan.places.Place.TheVariants as places
-use Rattle.steps.specs.declared.loan.reclaim.ReclaimStage.TheVariants.{Releases}
-use Rattle.steps.specs.Loan.Back.{back_asks, back_takes}
-use Rattle.steps.specs.Loan.Places.{place_at}
-use Rattle.model.specs.declared.event.Answer.{Answer}
-use Rattle.model.specs.declared.event.Answer.TheVariants.{Number}
-use Rattle.model.specs.declared.event.Event.{Event}
-use Rattle.model.specs.declared.event.Event.TheVariants.{Freed, Finished}
 use Rattle.model.specs.declared.event.Start.TheVariants as starts
 use Rattle.model.specs.declared.families.Flight as flights
-use Rattle.model.specs.declared.families.loan.Book.{Book}
 use Rattle.model.specs.declared.families.loan.LoanStart.TheVariants as calls
-use Rattle.model.specs.declared.families.loan.calls.LoanFlight.{LoanFlight}
-use Rattle.model.specs.declared.party.Party.{Party}
-use Rattle.model.specs.Coding.{Coding}
-use Rattle.model.specs.Families.{ask_of}
-use Rattle.model.specs.Families.Loan.Promises.{IsReclaiming}
-use Rattle.model.specs.Families.Loan.Reading.{Free, Passing, Move, spot_of, receiver_after, receiver_of, frees, freed, claims, gives_back}
-use Rattle.model.specs.Families.Loan.Steps.{book_after}
+use Rattle.model.specs.Families.Loan.Reading.{frees, claims}
 use Rattle.model.specs.Families.Queues.Reading.{publishes}
-use Rattle.model.specs.Reading.{acts, Open, Ended, own_after, span_of}
-use Rattle.model.specs.Turns.{old_of, words_after, step_count}
-use Rattle.model.proofs.Readings.{span_of-own}
+use Rattle.model.specs.Reading.{acts}
 use Rattle.laws_indices.proofs.Core as indices
-use Rattle.laws_indices.proofs.Knows.{release_counts, release_number, ReleaseAt}
 use Rattle.laws_loan.proofs.Carried.{moved_on}
 use Rattle.laws_loan.proofs.Channel.{Channel, words_in}
 use Rattle.laws_loan.proofs.Cuts.{IsOn}

@@ -1,18 +1,9 @@
 -- A give-back's steps, at whatever stage it stands, as steps of the machine.
-use Rattle.std.proofs.Common.{◌≡◌, ℕ, ◌-◌, ◌^◌, ◌<◌, false, sym, ap, subst, ◌∙◌}
-use Rattle.steps.specs.declared.loan.parts.Part.{Part}
-use Rattle.steps.specs.declared.queues.ring.Push.{Push}
-use Rattle.steps.specs.declared.routine.Running.{Running}
-use Rattle.steps.specs.Loan.Layout.{completion_word}
+use Rattle.laws_loan.proofs.Names.{◌≡◌, ℕ, ◌-◌, ◌^◌, ◌<◌, false, sym, ap, subst, ◌∙◌, Part, Push, Running}
+use Rattle.laws_loan.proofs.Names.{completion_word, Flight, GiveBack, Party, Coding, has_died, Trace}
 use Rattle.model.specs.declared.event.Start as starts
-use Rattle.model.specs.declared.families.Flight.{Flight}
 use Rattle.model.specs.declared.families.Flight as flights
 use Rattle.model.specs.declared.families.loan.LoanStart.TheVariants as calls
-use Rattle.model.specs.declared.families.loan.calls.LoanFlight.TheVariants.{GiveBack}
-use Rattle.model.specs.declared.party.Party.{Party}
-use Rattle.model.specs.Coding.{Coding}
-use Rattle.model.specs.Families.Indices.Robust.Dead.{has_died}
-use Rattle.model.specs.World.{Trace}
 use Rattle.model.proofs.Frame as frame
 use Rattle.laws_loan.proofs.GiveBacks.{give_at, push_on}
 use Rattle.laws_loan.proofs.Senders.{Stands, Comes, give_back_pushes}

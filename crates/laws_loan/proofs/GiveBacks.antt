@@ -1,44 +1,23 @@
 -- The steps of a give-back: the receiver pushes its index into the completion queue, where there is room for each one.
-use Rattle.std.proofs.Common.{◌≡◌, ◌≢◌, ℕ, ◌+◌, ◌-◌, ◌^◌, ◌<◌, ◌≤◌, Bool, true, false, Option, List, []}
-use Rattle.std.proofs.Common.{◌∷◌, ◌++◌, length, refl, sym, ap, subst, ◌∙◌, append-nil, append_assoc, arith}
-use Rattle.std.proofs.lemmas.List.Sums.{fold-append}
-use Rattle.steps.specs.declared.ask.Ask.{Ask}
-use Rattle.steps.specs.declared.ask.Want.{Want}
-use Rattle.steps.specs.declared.ask.After.{After}
-use Rattle.steps.specs.declared.ask.After.TheVariants.{GoOn, Done}
-use Rattle.steps.specs.declared.queues.ring.Push.{Push}
+use Rattle.laws_loan.proofs.Names.{◌≡◌, ◌≢◌, ℕ, ◌+◌, ◌-◌, ◌^◌, ◌<◌, ◌≤◌, Bool, true, false, Option, List, [], ◌∷◌}
+use Rattle.laws_loan.proofs.Names.{◌++◌, length, refl, sym, ap, subst, ◌∙◌, append-nil, append_assoc, fold-append}
+use Rattle.laws_loan.proofs.Names.{Ask, Want, After, GoOn, Push, completion_word, shifted, part_after, went_on}
+use Rattle.laws_loan.proofs.Names.{Answer, Event, Returned, Finished, Start, LoanFlight, GiveBack, Effect, Party}
+use Rattle.laws_loan.proofs.Names.{Coding, one_word, ask_of, has_died, Passing, Returning, spot_of, receiver_after}
+use Rattle.laws_loan.proofs.Names.{receiver_of, give_back_effect, as_it_is, words_of_index, Span, Open, span_of}
+use Rattle.laws_loan.proofs.Names.{as_call, old_of, words_after, step_count, span_of-other, Core, filled, layout}
+use Rattle.laws_loan.proofs.Names.{KnowsPush, KnowsPop, push_number}
+use Rattle.std.proofs.Common.{arith}
+use Rattle.steps.specs.declared.ask.After.TheVariants.{Done}
 use Rattle.steps.specs.declared.queues.ring.PushStage.{PushStage}
 use Rattle.steps.specs.declared.queues.ring.PushStage as pushes
 use Rattle.steps.specs.declared.queues.ring.PopStage.{PopStage}
-use Rattle.steps.specs.Loan.Layout.{completion_word}
-use Rattle.steps.specs.Loan.Parts.{shifted, part_after}
 use Rattle.steps.specs.Queues.Ring.{cell_word, push_asks, push_takes}
-use Rattle.steps.specs.Routine.{went_on}
-use Rattle.model.specs.declared.event.Answer.{Answer}
 use Rattle.model.specs.declared.event.Answer.TheVariants as answers
-use Rattle.model.specs.declared.event.Event.{Event}
-use Rattle.model.specs.declared.event.Event.TheVariants.{Returned, Finished}
-use Rattle.model.specs.declared.event.Start.{Start}
 use Rattle.model.specs.declared.event.Start.TheVariants as starts
 use Rattle.model.specs.declared.families.loan.LoanStart.TheVariants as calls
-use Rattle.model.specs.declared.families.loan.calls.LoanFlight.{LoanFlight}
-use Rattle.model.specs.declared.families.loan.calls.LoanFlight.TheVariants.{GiveBack}
-use Rattle.model.specs.declared.families.loan.effects.Effect.{Effect}
 use Rattle.model.specs.declared.families.loan.effects.Effect.TheVariants as effects
-use Rattle.model.specs.declared.party.Party.{Party}
-use Rattle.model.specs.Coding.{Coding, one_word}
-use Rattle.model.specs.Families.{ask_of}
-use Rattle.model.specs.Families.Indices.Robust.Dead.{has_died}
-use Rattle.model.specs.Families.Loan.Reading.{Passing, Returning, spot_of, receiver_after, receiver_of}
-use Rattle.model.specs.Families.Loan.Steps.{give_back_effect}
-use Rattle.model.specs.Families.Queues.Calls.{as_it_is, words_of_index}
-use Rattle.model.specs.Reading.{Span, Open, span_of}
-use Rattle.model.specs.Step.{as_call}
-use Rattle.model.specs.Turns.{old_of, words_after, step_count}
-use Rattle.model.proofs.Readings.{span_of-other}
-use Rattle.laws_queues.proofs.Queues.Core.{Core, Good, filled, published}
-use Rattle.laws_queues.proofs.Queues.Knows.{layout}
-use Rattle.laws_queues.proofs.Ring.Knows.{KnowsPush, KnowsPop, push_number}
+use Rattle.laws_queues.proofs.Queues.Core.{Good, published}
 use Rattle.laws_loan.proofs.Carried.{moved_on}
 use Rattle.laws_loan.proofs.Channel.{Channel, no_roles, words_in}
 use Rattle.laws_loan.proofs.Completion as completion

@@ -1,35 +1,18 @@
 -- A step of the receiver's call that changes the completion queue alone, or nothing: what it shows, and that it so comes to what
 -- the frame asks.
-use Rattle.std.proofs.Common.{◌≡◌, ◌≢◌, ℕ, ◌+◌, ◌≤◌, Bool, false, Option, Some, List, [], ◌++◌, fold, sym, ap, subst, refl}
-use Rattle.std.proofs.Common.{◌∙◌, append-nil, arith}
-use Rattle.steps.specs.declared.ask.Ask.{Ask}
-use Rattle.steps.specs.declared.ask.After.{After}
-use Rattle.steps.specs.declared.ask.After.TheVariants.{GoOn}
+use Rattle.laws_loan.proofs.Names.{◌≡◌, ◌≢◌, ℕ, ◌+◌, ◌≤◌, Bool, false, Option, Some, List, [], ◌++◌, fold, sym, ap}
+use Rattle.laws_loan.proofs.Names.{subst, refl, ◌∙◌, append-nil, Ask, After, GoOn, Answer, Event, LoanStart}
+use Rattle.laws_loan.proofs.Names.{LoanFlight, Effect, Party, Coding, one_word, has_died, MovesRight, BeginsRight}
+use Rattle.laws_loan.proofs.Names.{AnswersRight, promise, Passing, spot_of, receiver_of, reclaims_after, ended_book}
+use Rattle.laws_loan.proofs.Names.{book_after, effects_of, words_of_index, put, doing_of, flight_of, Stands, Span}
+use Rattle.laws_loan.proofs.Names.{Open, own_after, span_of, answer_in, words_after, change_of, step_count, one_if}
+use Rattle.laws_loan.proofs.Names.{ending_of, party_put_other, AreOwn, AllFollow, AreRight, Core, KnowsPop}
+use Rattle.std.proofs.Common.{arith}
 use Rattle.steps.specs.declared.queues.ring.PopStage.{PopStage}
-use Rattle.model.specs.declared.event.Answer.{Answer}
-use Rattle.model.specs.declared.event.Event.{Event}
 use Rattle.model.specs.declared.event.Start.TheVariants as starts
-use Rattle.model.specs.declared.families.loan.LoanStart.{LoanStart}
-use Rattle.model.specs.declared.families.loan.calls.LoanFlight.{LoanFlight}
-use Rattle.model.specs.declared.families.loan.effects.Effect.{Effect}
-use Rattle.model.specs.declared.party.Party.{Party}
-use Rattle.model.specs.Coding.{Coding, one_word}
-use Rattle.model.specs.Families.Indices.Robust.Dead.{has_died}
-use Rattle.model.specs.Families.Loan.Promises.{MovesRight, BeginsRight, AnswersRight, promise}
-use Rattle.model.specs.Families.Loan.Reading.{Passing, spot_of, receiver_of, reclaims_after}
-use Rattle.model.specs.Families.Loan.Steps.{ended_book, book_after, effects_of}
-use Rattle.model.specs.Families.Queues.Calls.{words_of_index}
-use Rattle.model.specs.Parties.{put, doing_of, flight_of}
-use Rattle.model.specs.Promises.Spans.{Stands}
-use Rattle.model.specs.Reading.{Span, Open, own_after, span_of}
-use Rattle.model.specs.Step.{answer_in}
-use Rattle.model.specs.Turns.{words_after, change_of, step_count, one_if, ending_of}
 use Rattle.model.proofs.Frame as frame
-use Rattle.model.proofs.Parties.{party_put_other}
-use Rattle.model.proofs.Readings.{AreOwn, AllFollow, AreRight}
 use Rattle.laws_indices.proofs.Core as indices
-use Rattle.laws_queues.proofs.Queues.Core.{Core, Good}
-use Rattle.laws_queues.proofs.Ring.Knows.{KnowsPop}
+use Rattle.laws_queues.proofs.Queues.Core.{Good}
 use Rattle.laws_loan.proofs.Channel.{Channel, Holds, words_in}
 use Rattle.laws_loan.proofs.Invariant.{Hangs, sends_at, counted_for, hung, reclaims_in, Carries, HoldsNow, family}
 use Rattle.laws_loan.proofs.Knows.{number_of, wrote_in, At, FlightKnows}

@@ -1,31 +1,19 @@
 -- A send that has published over a full queue and waits for the read position: which send that is, and what becomes of a span
 -- where a receive makes it act.
-use Rattle.std.proofs.Common.{◌≡◌, ℕ, ◌<◌, ⊎_elim, inl, inr, Option, Some, None, option_map, List, [], ◌∷◌, ◌++◌}
-use Rattle.std.proofs.Common.{flat_map, fold, refl, ap, ◌∙◌, append-nil, arith, eq-eqb}
-use Rattle.std.proofs.lemmas.List.Concat.{flat_map-append}
-use Rattle.steps.specs.Loan.Layout.{submission_word}
-use Rattle.steps.specs.Queues.Ring.{load}
-use Rattle.model.specs.declared.event.Event.{Event}
-use Rattle.model.specs.declared.event.Event.TheVariants.{Published, Acted}
-use Rattle.model.specs.declared.event.Answer.TheVariants.{PoppedNone}
-use Rattle.model.specs.declared.event.Item.TheVariants.{Index}
-use Rattle.model.specs.declared.event.Start.{Start}
+use Rattle.laws_loan.proofs.Names.{◌≡◌, ℕ, ◌<◌, ⊎_elim, inl, inr, Option, Some, None, option_map, List, [], ◌∷◌, ◌++◌}
+use Rattle.laws_loan.proofs.Names.{fold, refl, ap, ◌∙◌, append-nil, eq-eqb, flat_map-append, submission_word, load}
+use Rattle.laws_loan.proofs.Names.{Event, Published, Acted, PoppedNone, Index, Start, Flight, LoanStart, LoanFlight}
+use Rattle.laws_loan.proofs.Names.{Send, Party, Coding, gives_back, takes_back, read_in, pending_send, pending}
+use Rattle.laws_loan.proofs.Names.{beside, room_made, hands_out, doing_of, flight_of, Span, Never, Open, Ended}
+use Rattle.laws_loan.proofs.Names.{own_after, span_of, AreOwn}
+use Rattle.std.proofs.Common.{flat_map, arith}
 use Rattle.model.specs.declared.event.Start.TheVariants as starts
-use Rattle.model.specs.declared.families.Flight.{Flight}
 use Rattle.model.specs.declared.families.Flight as flights
-use Rattle.model.specs.declared.families.loan.LoanStart.{LoanStart}
 use Rattle.model.specs.declared.families.loan.LoanStart.TheVariants as calls
-use Rattle.model.specs.declared.families.loan.calls.LoanFlight.{LoanFlight}
-use Rattle.model.specs.declared.families.loan.calls.LoanFlight.TheVariants.{Send}
-use Rattle.model.specs.declared.party.Party.{Party}
-use Rattle.model.specs.Coding.{Coding}
-use Rattle.model.specs.Families.Loan.Reading.{gives_back, takes_back, frees}
-use Rattle.model.specs.Families.Loan.Steps.{read_in, pending_send, pending, beside, room_made}
-use Rattle.model.specs.Families.Queues.Reading.{publishes, hands_out}
-use Rattle.model.specs.Parties.{party_of, doing_of, flight_of}
-use Rattle.model.specs.Reading.{Span, Never, Open, Ended, own_after, span_of}
+use Rattle.model.specs.Families.Loan.Reading.{frees}
+use Rattle.model.specs.Families.Queues.Reading.{publishes}
+use Rattle.model.specs.Parties.{party_of}
 use Rattle.model.proofs.Frame as frame
-use Rattle.model.proofs.Readings.{AreOwn}
 use Rattle.laws_loan.proofs.Channel.{Channel, words_in}
 use Rattle.laws_loan.proofs.Invariant.{sends_at, counted_for, hung, reclaims_in, Carries, HoldsNow, family}
 use Rattle.laws_loan.proofs.Knows.{send_of, wrote_in, At}

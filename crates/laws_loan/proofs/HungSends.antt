@@ -1,17 +1,9 @@
 -- What the sender's call goes on to know where a receive takes an index out of the submission queue: a send that waits has acted.
-use Rattle.std.proofs.Common.{◌≡◌, ◌≢◌, ℕ, ◌+◌, false, Option, List, fold, arith}
-use Rattle.model.specs.declared.event.Event.{Event}
-use Rattle.model.specs.declared.families.Flight.{Flight}
-use Rattle.model.specs.declared.families.loan.Book.{Book}
-use Rattle.model.specs.declared.party.Party.{Party}
-use Rattle.model.specs.Coding.{Coding}
-use Rattle.model.specs.Families.Indices.Robust.Dead.{has_died}
-use Rattle.model.specs.Families.Loan.Reading.{Passing, spot_of}
-use Rattle.model.specs.Families.Queues.Calls.{words_of_index}
-use Rattle.model.specs.Parties.{doing_of, flight_of}
-use Rattle.model.specs.Reading.{Span, own_after, span_of}
+use Rattle.laws_loan.proofs.Names.{◌≡◌, ◌≢◌, ℕ, ◌+◌, false, Option, List, fold, Event, Flight, Book, Party, Coding}
+use Rattle.laws_loan.proofs.Names.{has_died, Passing, spot_of, words_of_index, doing_of, flight_of, Span, own_after}
+use Rattle.laws_loan.proofs.Names.{span_of, Core, taken}
+use Rattle.std.proofs.Common.{arith}
 use Rattle.model.proofs.Frame as frame
-use Rattle.laws_queues.proofs.Queues.Core.{Core, taken}
 use Rattle.laws_loan.proofs.Channel.{Channel}
 use Rattle.laws_loan.proofs.Hanging.{made}
 use Rattle.laws_loan.proofs.Invariant.{hung, reclaims_in, family}

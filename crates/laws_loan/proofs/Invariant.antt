@@ -1,26 +1,18 @@
 -- What holds of a loan channel's machine between any two turns beside what the frame says of every machine.
+use Rattle.laws_loan.proofs.Names.{◌≡◌, ℕ, ◌+◌, ◌≤◌, ◌⊎◌, Bool, true, false, Option, Some, None, List, [], ◌∷◌, ◌++◌}
+use Rattle.laws_loan.proofs.Names.{length, Event, Index, Start, Flight, Send, Party, Coding, MovesRight, BeginsRight}
+use Rattle.laws_loan.proofs.Names.{AnswersRight, promise, Passing, spot_of, receiver_of, given_back, taken_back}
+use Rattle.laws_loan.proofs.Names.{freed, pending_send, handed_out, doing_of, flight_of, Each, Span, Open, span_of}
+use Rattle.laws_loan.proofs.Names.{Core}
 use native.Mathlib.Omega.{arith}
-use Rattle.std.proofs.Common.{◌≡◌, ℕ, ◌+◌, ◌≤◌, ◌⊎◌, Bool, true, false, Option, Some, None, List, [], ◌∷◌, ◌++◌, length}
-use Rattle.model.specs.declared.event.Event.{Event}
-use Rattle.model.specs.declared.event.Item.TheVariants.{Index}
-use Rattle.model.specs.declared.event.Start.{Start}
 use Rattle.model.specs.declared.event.Start.TheVariants as starts
-use Rattle.model.specs.declared.families.Flight.{Flight}
 use Rattle.model.specs.declared.families.Flight as flights
 use Rattle.model.specs.declared.families.loan.LoanStart.TheVariants as calls
-use Rattle.model.specs.declared.families.loan.calls.LoanFlight.TheVariants.{Send}
-use Rattle.model.specs.declared.party.Party.{Party}
 use Rattle.model.specs.declared.turn.Kind as kinds
-use Rattle.model.specs.Coding.{Coding}
-use Rattle.model.specs.Families.Loan.Promises.{MovesRight, BeginsRight, AnswersRight, promise}
-use Rattle.model.specs.Families.Loan.Reading.{Passing, spot_of, receiver_of, given_back, taken_back, freed}
-use Rattle.model.specs.Families.Loan.Steps.{pending_send}
-use Rattle.model.specs.Families.Queues.Reading.{published, handed_out}
-use Rattle.model.specs.Parties.{party_of, doing_of, flight_of}
-use Rattle.model.specs.Reading.{Each, Span, Open, span_of}
+use Rattle.model.specs.Families.Queues.Reading.{published}
+use Rattle.model.specs.Parties.{party_of}
 use Rattle.model.specs.Shape.{IsOpen}
 use Rattle.model.proofs.Frame.{Family}
-use Rattle.laws_queues.proofs.Queues.Core.{Core}
 use Rattle.laws_loan.proofs.Channel.{Channel, Represents, Holds}
 use Rattle.laws_loan.proofs.Knows.{counts, number_of, wrote_in, At, FlightKnows}
 use Rattle.laws_loan.proofs.Told.{is_reclaiming, Told}

@@ -1,43 +1,23 @@
 -- What is proved of every run of a loan channel: its turns write down in order, act where the promise says, and go on by the table.
+use Rattle.laws_loan.proofs.Names.{◌≡◌, ◌≢◌, ℕ, ◌-◌, ◌^◌, ◌<◌, Option, Some, List, ◌++◌, refl, sym, ap, subst, After}
+use Rattle.laws_loan.proofs.Names.{OneWord, SendStage, submission_word, Answer, Event, Start, Flight, Registry}
+use Rattle.laws_loan.proofs.Names.{LoanStart, LoanFlight, Send, GiveUp, TakeBack, Receive, GiveBack, Reclaim, Going}
+use Rattle.laws_loan.proofs.Names.{Party, Next, Coding, ask_of, beside_of, step_of, goes_of, want, after, promise}
+use Rattle.laws_loan.proofs.Names.{effect_of, IsTurnBy, IsKeptBy, ask_in, answer_in, old_of, ending_of, after_turn}
+use Rattle.laws_loan.proofs.Names.{Trace, StandsThere, stands_there, InOrder, in_order_from}
 use native.Mathlib.Omega.{arith}
-use Rattle.std.proofs.Common.{◌≡◌, ◌≢◌, ℕ, ◌-◌, ◌^◌, ◌<◌, Option, Some, List, ◌++◌, refl, sym, ap, subst}
-use Rattle.steps.specs.declared.ask.After.{After}
-use Rattle.steps.specs.declared.copied.OneWord.{OneWord}
-use Rattle.steps.specs.declared.loan.send.SendStage.{SendStage}
 use Rattle.steps.specs.declared.loan.send.SendStage as sends
 use Rattle.steps.specs.declared.queues.overflow.PopStage.{PopStage}
-use Rattle.steps.specs.Loan.Layout.{submission_word}
-use Rattle.model.specs.declared.event.Answer.{Answer}
-use Rattle.model.specs.declared.event.Event.{Event}
-use Rattle.model.specs.declared.event.Start.{Start}
 use Rattle.model.specs.declared.event.Start as starts
-use Rattle.model.specs.declared.families.Flight.{Flight}
 use Rattle.model.specs.declared.families.Flight as flights
-use Rattle.model.specs.declared.families.Registry.{Registry}
 use Rattle.model.specs.declared.families.Registry as registries
-use Rattle.model.specs.declared.families.loan.LoanStart.{LoanStart}
 use Rattle.model.specs.declared.families.loan.LoanStart.TheVariants as calls
-use Rattle.model.specs.declared.families.loan.calls.LoanFlight.{LoanFlight}
-use Rattle.model.specs.declared.families.loan.calls.LoanFlight.TheVariants.{Loan, Send, GiveUp, TakeBack, Receive, GiveBack, Reclaim}
-use Rattle.model.specs.declared.party.Doing.TheVariants.{Going}
-use Rattle.model.specs.declared.party.Party.{Party}
+use Rattle.model.specs.declared.families.loan.calls.LoanFlight.TheVariants.{Loan}
 use Rattle.model.specs.declared.turn.Kind as kinds
-use Rattle.model.specs.declared.turn.Turn.TheVariants.{Next}
-use Rattle.model.specs.Coding.{Coding}
-use Rattle.model.specs.Families.{ask_of, beside_of, step_of, goes_of}
-use Rattle.model.specs.Families.Loan.Calls.{want, after}
-use Rattle.model.specs.Families.Loan.Promises.{promise}
-use Rattle.model.specs.Families.Loan.Steps.{effect_of}
 use Rattle.model.specs.Parties.{party_of}
-use Rattle.model.specs.Promises.{IsTurnBy, IsKeptBy}
 use Rattle.model.specs.Promises.Families.{promise_of}
-use Rattle.model.specs.Promises.Turns.{ask_in}
-use Rattle.model.specs.Step.{answer_in}
-use Rattle.model.specs.Turns.{old_of, ending_of, after_turn}
-use Rattle.model.specs.World.{Trace}
 use Rattle.model.proofs.Frame as frame
 use Rattle.model.proofs.Orders.{Orders, Keeps, ends_end, turn_is}
-use Rattle.model.proofs.Scenes.{StandsThere, stands_there, InOrder, in_order_from}
 use Rattle.laws_loan.proofs.Acts.{did, acts_of, effects_are, did_effects, all_act, frees_silent, take_back_silent}
 use Rattle.laws_loan.proofs.Acts.{give_back_silent, reclaim_silent, waits, Acting, silent_right, send_right}
 use Rattle.laws_loan.proofs.Acts.{receive_right}

@@ -1,12 +1,7 @@
 -- What a call of a loan channel goes on to know where a turn of no call of its party changes no word.
+use Rattle.laws_loan.proofs.Names.{◌≡◌, ℕ, true, false, List, Event, Book, LoanStart, LoanFlight, has_died, Passing}
+use Rattle.laws_loan.proofs.Names.{spot_of}
 use native.Mathlib.Omega.{arith}
-use Rattle.std.proofs.Common.{◌≡◌, ℕ, true, false, List}
-use Rattle.model.specs.declared.event.Event.{Event}
-use Rattle.model.specs.declared.families.loan.Book.{Book}
-use Rattle.model.specs.declared.families.loan.LoanStart.{LoanStart}
-use Rattle.model.specs.declared.families.loan.calls.LoanFlight.{LoanFlight}
-use Rattle.model.specs.Families.Indices.Robust.Dead.{has_died}
-use Rattle.model.specs.Families.Loan.Reading.{Passing, spot_of}
 use Rattle.laws_loan.proofs.Channel.{Channel}
 use Rattle.laws_loan.proofs.Knows.{At}
 

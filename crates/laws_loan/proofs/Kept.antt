@@ -1,23 +1,15 @@
 -- That between two turns a loan channel's machine keeps its promise.
-use Rattle.std.proofs.Common.{◌≡◌, ◌≢◌, ℕ, ◌<◌, ◌≤◌, ◌⊎◌, true, true≢false, is_some, List, ◌++◌, length, get_or, take}
-use Rattle.std.proofs.Common.{drop, refl, sym, ap, subst, ◌∙◌, drop_at, arith}
-use Rattle.std.proofs.lemmas.List.{get_or_append_left, map-append, take-map}
-use Rattle.steps.specs.Indices.Head.{flag_word, has_flag}
-use Rattle.model.specs.declared.event.Event.{Event}
-use Rattle.model.specs.declared.event.Item.{Item}
-use Rattle.model.specs.declared.event.Item.TheVariants.{Index}
-use Rattle.model.specs.Families.Loan.Promises.{sent_in, given_back_in, AreThose, KeepsBook, LivesRight, IsChannelBy, IsChannel, promise}
-use Rattle.model.specs.Families.Loan.Reading.{Spot, Free, Waiting, Returning, spot_of, place_of, receiver_of, given_back, taken_back, queue_moments}
-use Rattle.model.specs.Families.Queues.Objects.{overflowing_list}
-use Rattle.model.specs.Families.Queues.Reading.{published, handed_out, waiting}
-use Rattle.model.specs.Objects.{IsLegal, standing}
+use Rattle.laws_loan.proofs.Names.{◌≡◌, ◌≢◌, ℕ, ◌<◌, ◌≤◌, ◌⊎◌, true, true≢false, is_some, List, ◌++◌, length, get_or}
+use Rattle.laws_loan.proofs.Names.{take, drop, refl, sym, ap, subst, ◌∙◌, drop_at, get_or_append_left, map-append}
+use Rattle.laws_loan.proofs.Names.{take-map, flag_word, has_flag, Event, Item, Index, sent_in, given_back_in}
+use Rattle.laws_loan.proofs.Names.{AreThose, KeepsBook, LivesRight, IsChannelBy, IsChannel, promise, Spot, Free}
+use Rattle.laws_loan.proofs.Names.{Waiting, Returning, spot_of, place_of, receiver_of, given_back, taken_back}
+use Rattle.laws_loan.proofs.Names.{queue_moments, overflowing_list, handed_out, waiting, IsLegal, standing, IsKeptBy}
+use Rattle.laws_loan.proofs.Names.{Each, span_of, Trace, flag_within, layout}
+use Rattle.std.proofs.Common.{arith}
+use Rattle.model.specs.Families.Queues.Reading.{published}
 use Rattle.model.specs.Parties.{party_of}
-use Rattle.model.specs.Promises.{IsKeptBy}
-use Rattle.model.specs.Reading.{Each, span_of}
-use Rattle.model.specs.World.{Trace}
 use Rattle.model.proofs.Frame as frame
-use Rattle.laws_indices.proofs.Core.{flag_within}
-use Rattle.laws_queues.proofs.Queues.Knows.{layout}
 use Rattle.laws_loan.proofs.Bounds.{bounds}
 use Rattle.laws_loan.proofs.Channel.{kept_is, no_roles}
 use Rattle.laws_loan.proofs.Invariant.{sends_at, counted_for, carried_open, family}

@@ -1,43 +1,29 @@
 -- What a call of a loan channel knows where it stands, and how many steps it has taken at most. Of a receiver that has died it
 -- knows nothing but how often it has turned back, since a reclaim goes on meanwhile.
-use Rattle.std.proofs.Common.{◌≡◌, ◌≢◌, ℕ, ◌+◌, ◌*◌, ◌%◌, ◌<◌, ◌≤◌, ◌==◌, if◌then◌else◌, true, false, List, [], ◌∷◌, length, get_or}
-use Rattle.std.specs.List.{AllByRecursion}
-use Rattle.steps.specs.declared.indices.unique.ReleaseStage.{ReleaseStage}
+use Rattle.laws_loan.proofs.Names.{◌≡◌, ◌≢◌, ℕ, ◌+◌, ◌*◌, ◌%◌, ◌<◌, ◌≤◌, ◌==◌, if◌then◌else◌, true, false, List, []}
+use Rattle.laws_loan.proofs.Names.{◌∷◌, length, get_or, AllByRecursion, ReleaseStage, Place, ReclaimStage, SendStage}
+use Rattle.laws_loan.proofs.Names.{TakeBackStage, submission_word, completion_word, place_at, PoppedNone, PoppedIndex}
+use Rattle.laws_loan.proofs.Names.{Event, Published, HandedOut, TakenBack, Acted, Index, Start, LoanStart, LoanFlight}
+use Rattle.laws_loan.proofs.Names.{Send, GiveUp, TakeBack, Receive, GiveBack, Reclaim, one_word, has_died, Passing}
+use Rattle.laws_loan.proofs.Names.{spot_of, given_back, taken_back, freed, handed_out, moments, Span, Never, Open}
+use Rattle.laws_loan.proofs.Names.{Ended, acquire_counts, acquire_number, release_counts, release_wrote}
+use Rattle.laws_loan.proofs.Names.{release_number, KnowsOverflowPush, KnowsOverflowPop, KnowsBacks}
+use Rattle.laws_loan.proofs.Names.{overflow_push_number, overflow_pop_number, Core, in_one, KnowsPush, KnowsPop}
+use Rattle.laws_loan.proofs.Names.{push_number, pop_number}
 use Rattle.steps.specs.declared.indices.unique.ReleaseStage as releases
-use Rattle.steps.specs.declared.loan.places.Place.{Place}
 use Rattle.steps.specs.declared.loan.places.Place.TheVariants as places
-use Rattle.steps.specs.declared.loan.reclaim.ReclaimStage.{ReclaimStage}
 use Rattle.steps.specs.declared.loan.reclaim.ReclaimStage as reclaims
-use Rattle.steps.specs.declared.loan.send.SendStage.{SendStage}
 use Rattle.steps.specs.declared.loan.send.SendStage as sends
-use Rattle.steps.specs.declared.loan.take_back.TakeBackStage.{TakeBackStage}
 use Rattle.steps.specs.declared.loan.take_back.TakeBackStage as take_backs
 use Rattle.steps.specs.declared.queues.overflow.PushStage as overflow_pushes
 use Rattle.steps.specs.declared.queues.overflow.PopStage as overflow_pops
 use Rattle.steps.specs.declared.queues.ring.PopStage as pops
-use Rattle.steps.specs.Loan.Layout.{submission_word, completion_word}
-use Rattle.steps.specs.Loan.Places.{place_at}
 use Rattle.steps.specs.Queues.Ring.{cell_word}
-use Rattle.model.specs.declared.event.Answer.TheVariants.{PoppedNone, PoppedIndex}
-use Rattle.model.specs.declared.event.Event.{Event}
-use Rattle.model.specs.declared.event.Event.TheVariants.{Published, HandedOut, TakenBack, Acted}
-use Rattle.model.specs.declared.event.Item.TheVariants.{Index}
-use Rattle.model.specs.declared.event.Start.{Start}
 use Rattle.model.specs.declared.event.Start.TheVariants as starts
-use Rattle.model.specs.declared.families.loan.LoanStart.{LoanStart}
 use Rattle.model.specs.declared.families.loan.LoanStart.TheVariants as calls
-use Rattle.model.specs.declared.families.loan.calls.LoanFlight.{LoanFlight}
-use Rattle.model.specs.declared.families.loan.calls.LoanFlight.TheVariants.{Loan, Send, GiveUp, TakeBack, Receive, GiveBack, Reclaim}
-use Rattle.model.specs.Coding.{one_word}
-use Rattle.model.specs.Families.Indices.Robust.Dead.{has_died}
-use Rattle.model.specs.Families.Loan.Reading.{Passing, spot_of, given_back, taken_back, freed, claimed}
-use Rattle.model.specs.Families.Queues.Reading.{published, handed_out}
-use Rattle.model.specs.Reading.{moments, Span, Never, Open, Ended}
-use Rattle.laws_indices.proofs.Knows.{acquire_counts, acquire_number, release_counts, release_wrote, release_number}
-use Rattle.laws_queues.proofs.Overflow.Knows.{KnowsOverflowPush, KnowsOverflowPop, KnowsBacks, overflow_push_number, overflow_pop_number}
-use Rattle.laws_queues.proofs.Queues.Core.{Core}
-use Rattle.laws_queues.proofs.Queues.Knows.{in_one}
-use Rattle.laws_queues.proofs.Ring.Knows.{KnowsPush, KnowsPop, push_number, pop_number}
+use Rattle.model.specs.declared.families.loan.calls.LoanFlight.TheVariants.{Loan}
+use Rattle.model.specs.Families.Loan.Reading.{claimed}
+use Rattle.model.specs.Families.Queues.Reading.{published}
 use Rattle.laws_loan.proofs.Channel.{Channel}
 use Rattle.laws_loan.proofs.SetSteps.{TakesAt}
 

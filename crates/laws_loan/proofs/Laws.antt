@@ -1,35 +1,22 @@
 -- Every turn keeps what holds of a loan channel's machine: the laws of the family, and so every run has it.
+use Rattle.laws_loan.proofs.Names.{◌≡◌, ℕ, ◌-◌, ◌^◌, ◌<◌, true, false, Some, None, sym, subst, Start, Flight}
+use Rattle.laws_loan.proofs.Names.{LoanStart, LoanFlight, Send, GiveUp, TakeBack, Receive, GiveBack, Reclaim, Going}
+use Rattle.laws_loan.proofs.Names.{Party, Turn, Coding, want_of, is_question, going_rows, has_died, LivesRight, Each}
+use Rattle.laws_loan.proofs.Names.{refusal_of, first_row, old_of, after_turn, IsReached, Trace, opened}
+use Rattle.laws_loan.proofs.Names.{capacity_error, queue_error, Each-nil, passes, asked, StandsThere, stands_there}
+use Rattle.laws_loan.proofs.Names.{comes_from}
 use native.Mathlib.Omega.{arith}
-use Rattle.std.proofs.Common.{◌≡◌, ℕ, ◌-◌, ◌^◌, ◌<◌, true, false, Some, None, sym, subst}
-use Rattle.model.specs.declared.event.Start.{Start}
 use Rattle.model.specs.declared.event.Start as starts
-use Rattle.model.specs.declared.families.Flight.{Flight}
 use Rattle.model.specs.declared.families.Flight as flights
 use Rattle.model.specs.declared.families.Registry as registries
-use Rattle.model.specs.declared.families.loan.LoanStart.{LoanStart}
 use Rattle.model.specs.declared.families.loan.LoanStart.TheVariants as calls
-use Rattle.model.specs.declared.families.loan.calls.LoanFlight.{LoanFlight}
-use Rattle.model.specs.declared.families.loan.calls.LoanFlight.TheVariants.{Loan, Send, GiveUp, TakeBack, Receive, GiveBack, Reclaim}
-use Rattle.model.specs.declared.party.Doing.TheVariants.{Going}
-use Rattle.model.specs.declared.party.Party.{Party}
+use Rattle.model.specs.declared.families.loan.calls.LoanFlight.TheVariants.{Loan}
 use Rattle.model.specs.declared.turn.Kind as kinds
-use Rattle.model.specs.declared.turn.Turn.{Turn}
-use Rattle.model.specs.Coding.{Coding}
-use Rattle.model.specs.Families.{want_of, is_question, going_rows}
-use Rattle.model.specs.Families.Indices.Robust.Dead.{has_died}
 use Rattle.model.specs.Families.Loan.Calls as rows
-use Rattle.model.specs.Families.Loan.Promises.{LivesRight}
 use Rattle.model.specs.Parties.{party_of}
-use Rattle.model.specs.Reading.{Each}
-use Rattle.model.specs.Refusals.{refusal_of}
-use Rattle.model.specs.Rows.{first_row}
-use Rattle.model.specs.Turns.{old_of, after_turn, IsReached}
-use Rattle.model.specs.World.{Trace, opened, capacity_error, queue_error}
 use Rattle.model.proofs.Frame as frame
 use Rattle.model.proofs.Reached.{kept_by_runs}
-use Rattle.model.proofs.Readings.{Each-nil}
-use Rattle.model.proofs.Rows.{passes}
-use Rattle.model.proofs.Scenes.{asked, StandsThere, stands_there, ComesFrom, comes_from}
+use Rattle.model.proofs.Scenes.{ComesFrom}
 use Rattle.laws_loan.proofs.BeginLaw.{begin_comes}
 use Rattle.laws_loan.proofs.Channel.{words_in, kept_is, all_free}
 use Rattle.laws_loan.proofs.Deaths.{death_comes}

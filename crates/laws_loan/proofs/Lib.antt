@@ -30,6 +30,7 @@ pub mod Living
 pub mod LoanStep
 pub mod Loans
 pub mod Mine
+mod Names
 pub mod OnQueues
 pub mod OnSet
 pub mod Opens

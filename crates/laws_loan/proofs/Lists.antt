@@ -1,10 +1,8 @@
 -- The indices that wait in a queue are those that are there by the events, each once, and so no more than there are slots.
-use Rattle.std.proofs.Common.{◌≡◌, ◌≢◌, ℕ, zero, suc, ◌+◌, ◌<◌, ◌≤◌, ◌==◌, ⊎_elim, Bool, true, false, Some, None, List}
-use Rattle.std.proofs.Common.{[], ◌∷◌, ◌++◌, length, refl, sym, ap, subst, ◌∙◌, arith, eq-eqb, ne_eqb}
-use Rattle.std.proofs.lemmas.Bool.{cases_eq, cases_lt}
-use Rattle.model.specs.declared.event.Event.{Event}
-use Rattle.model.specs.Families.Loan.Reading.{Spot, Move, move_of, spot_of}
-use Rattle.model.specs.Turns.{one_if}
+use Rattle.laws_loan.proofs.Names.{◌≡◌, ◌≢◌, ℕ, zero, suc, ◌+◌, ◌<◌, ◌≤◌, ◌==◌, ⊎_elim, Bool, true, false, Some, None}
+use Rattle.laws_loan.proofs.Names.{List, [], ◌∷◌, ◌++◌, length, refl, sym, ap, subst, ◌∙◌, eq-eqb, ne_eqb, cases_eq}
+use Rattle.laws_loan.proofs.Names.{cases_lt, Event, Spot, Move, move_of, spot_of, one_if}
+use Rattle.std.proofs.Common.{arith}
 use Rattle.laws_indices.proofs.Sums.{sum_below, sum_moved, sum_none}
 use Rattle.laws_loan.proofs.Spots.{spot_stays, spot_other, spot_moved}
 

@@ -1,14 +1,9 @@
 -- Who goes on with a call lives, since the call has passed its rows.
+use Rattle.laws_loan.proofs.Names.{◌≡◌, ℕ, Bool, false, Option, Some, None, LoanFlight, Coding, going_rows, has_died}
+use Rattle.laws_loan.proofs.Names.{first_row, Trace}
 use native.Mathlib.Omega.{arith}
-use Rattle.std.proofs.Common.{◌≡◌, ℕ, Bool, false, Option, Some, None}
 use Rattle.model.specs.declared.families.Flight as flights
-use Rattle.model.specs.declared.families.loan.calls.LoanFlight.{LoanFlight}
-use Rattle.model.specs.Coding.{Coding}
-use Rattle.model.specs.Families.{going_rows}
-use Rattle.model.specs.Families.Indices.Robust.Dead.{has_died}
 use Rattle.model.specs.Families.Loan.Calls.{party_of}
-use Rattle.model.specs.Rows.{first_row}
-use Rattle.model.specs.World.{Trace}
 use Rattle.model.proofs.Frame as frame
 use Rattle.laws_loan.proofs.StepLaw.{channel}
 

@@ -1,32 +1,14 @@
 -- Who has died does nothing more: what a turn writes down finds its party alive, since the turn has passed its rows.
+use Rattle.laws_loan.proofs.Names.{◌≡◌, ℕ, Bool, false, Option, Some, None, List, [], ◌∷◌, ◌++◌, refl, sym, subst}
+use Rattle.laws_loan.proofs.Names.{◌∙◌, fold-append, Event, Begun, Start, Flight, Registry, Doing, Going, Over, Party}
+use Rattle.laws_loan.proofs.Names.{Turn, Begin, Next, Decide, Die, Coding, step_of, going_rows, is_dead, has_died}
+use Rattle.laws_loan.proofs.Names.{LivesRight, died_after, has_died_by, Each, call_refusal, first_row, events_of_step}
+use Rattle.laws_loan.proofs.Names.{events_of_answer, events_of_next, events_of_decision, events_of, old_of}
+use Rattle.laws_loan.proofs.Names.{ask_of_doing, number_of, after_turn, Trace, flight_in, AreRight, Each-append}
+use Rattle.laws_loan.proofs.Names.{may_begin, may_die, next_passes, decision_passes, MayBegin, stands_there}
 use native.Mathlib.Omega.{arith}
-use Rattle.std.proofs.Common.{◌≡◌, ℕ, Bool, false, Option, Some, None, List, [], ◌∷◌, ◌++◌, refl, sym, subst, ◌∙◌}
-use Rattle.std.proofs.lemmas.List.Sums.{fold-append}
-use Rattle.model.specs.declared.event.Event.{Event}
-use Rattle.model.specs.declared.event.Event.TheVariants.{Begun}
-use Rattle.model.specs.declared.event.Start.{Start}
-use Rattle.model.specs.declared.families.Flight.{Flight}
-use Rattle.model.specs.declared.families.Registry.{Registry}
-use Rattle.model.specs.declared.party.Doing.{Doing}
-use Rattle.model.specs.declared.party.Doing.TheVariants.{Going, Over}
-use Rattle.model.specs.declared.party.Party.{Party}
-use Rattle.model.specs.declared.turn.Turn.{Turn}
-use Rattle.model.specs.declared.turn.Turn.TheVariants.{Begin, Next, Decide, Die}
-use Rattle.model.specs.Coding.{Coding}
-use Rattle.model.specs.Families.{step_of, going_rows, is_dead}
-use Rattle.model.specs.Families.Indices.Robust.Dead.{has_died}
-use Rattle.model.specs.Families.Loan.Promises.{LivesRight}
-use Rattle.model.specs.Families.Loan.Reading.{died_after, has_died_by}
 use Rattle.model.specs.Parties.{party_of}
-use Rattle.model.specs.Reading.{Each}
-use Rattle.model.specs.Refusals.{call_refusal}
-use Rattle.model.specs.Rows.{first_row}
-use Rattle.model.specs.Turns.{events_of_step, events_of_answer, events_of_next, events_of_decision, events_of, old_of, ask_of_doing, number_of, after_turn}
-use Rattle.model.specs.World.{Trace, flight_in}
 use Rattle.model.proofs.Frame as frame
-use Rattle.model.proofs.Readings.{AreRight, Each-append}
-use Rattle.model.proofs.Rows.{may_begin, may_die, next_passes, decision_passes, MayBegin}
-use Rattle.model.proofs.Scenes.{stands_there}
 use Rattle.laws_loan.proofs.Channel.{Channel, Represents, kept_is}
 use Rattle.laws_loan.proofs.StepLaw.{channel}
 

@@ -1,35 +1,19 @@
 -- A loan's acquire, as steps of the machine.
-use Rattle.std.specs.Prelude.{Ok, Err}
-use Rattle.std.proofs.Common.{◌≡◌, ℕ, ◌-◌, ◌^◌, ◌<◌, false, Bool, Option, Some, List, [], ◌∷◌, ◌++◌, set, refl, sym, ap, subst, ◌∙◌}
-use Rattle.steps.specs.declared.ask.Ask.{Ask}
-use Rattle.steps.specs.declared.ask.After.{After}
-use Rattle.steps.specs.declared.ask.After.TheVariants.{GoOn, Done}
+use Rattle.laws_loan.proofs.Names.{Ok, Err, ◌≡◌, ℕ, ◌-◌, ◌^◌, ◌<◌, false, Bool, Option, Some, List, [], ◌∷◌, ◌++◌}
+use Rattle.laws_loan.proofs.Names.{set, refl, sym, ap, subst, ◌∙◌, Ask, After, GoOn, AcquireStage, Acquired}
+use Rattle.laws_loan.proofs.Names.{acquire_asks, acquire_takes, acquire_goes_back, went_on, Answer, Event, Claimed}
+use Rattle.laws_loan.proofs.Names.{Finished, Book, LoanFlight, Party, Coding, ask_of, book_after, as_it_is, Open}
+use Rattle.laws_loan.proofs.Names.{span_of, as_call, old_of, words_after, Trace}
+use Rattle.steps.specs.declared.ask.After.TheVariants.{Done}
 use Rattle.steps.specs.declared.indices.enums.UniqueIndexSetAcquireFailure as failures
 use Rattle.steps.specs.declared.indices.unique.Acquire as acquire_calls
-use Rattle.steps.specs.declared.indices.unique.AcquireStage.{AcquireStage}
-use Rattle.steps.specs.Indices.Unique.{Acquired, acquire_asks, acquire_takes, acquire_goes_back}
-use Rattle.steps.specs.Routine.{went_on}
-use Rattle.model.specs.declared.event.Answer.{Answer}
 use Rattle.model.specs.declared.event.Answer.TheVariants as answers
-use Rattle.model.specs.declared.event.Event.{Event}
-use Rattle.model.specs.declared.event.Event.TheVariants.{Claimed, Finished}
 use Rattle.model.specs.declared.event.Start as starts
 use Rattle.model.specs.declared.families.Flight as flights
-use Rattle.model.specs.declared.families.loan.Book.{Book}
 use Rattle.model.specs.declared.families.loan.LoanStart.TheVariants as calls
-use Rattle.model.specs.declared.families.loan.calls.LoanFlight.{LoanFlight}
 use Rattle.model.specs.declared.families.loan.calls.LoanFlight.TheVariants.{Loan}
 use Rattle.model.specs.declared.families.loan.effects.Effect.TheVariants as effects
-use Rattle.model.specs.declared.party.Party.{Party}
-use Rattle.model.specs.Coding.{Coding}
-use Rattle.model.specs.Families.{ask_of}
 use Rattle.model.specs.Families.Indices.Calls.{acquire_answer}
-use Rattle.model.specs.Families.Loan.Steps.{book_after}
-use Rattle.model.specs.Families.Queues.Calls.{as_it_is}
-use Rattle.model.specs.Reading.{Open, span_of}
-use Rattle.model.specs.Step.{as_call}
-use Rattle.model.specs.Turns.{old_of, words_after}
-use Rattle.model.specs.World.{Trace}
 use Rattle.model.proofs.Frame as frame
 use Rattle.laws_loan.proofs.Channel.{words_in}
 use Rattle.laws_loan.proofs.Invariant.{sends_at, counted_for}

@@ -1,34 +1,20 @@
 -- The steps of a loan: the sender acquires an index of the set.
-use Rattle.std.proofs.Common.{◌≡◌, ◌≢◌, ℕ, ◌+◌, ◌<◌, ◌≤◌, false, Option, Some, None, List, [], ◌∷◌, ◌++◌}
-use Rattle.std.proofs.Common.{fold, set, get_or-set_same, refl, sym, ap, subst, ◌∙◌, append_assoc, arith}
-use Rattle.std.proofs.lemmas.List.Sums.{fold-append}
-use Rattle.steps.specs.declared.ask.Ask.{Ask}
-use Rattle.steps.specs.declared.ask.After.TheVariants.{GoOn, Done}
+use Rattle.laws_loan.proofs.Names.{◌≡◌, ◌≢◌, ℕ, ◌+◌, ◌<◌, ◌≤◌, false, Option, Some, None, List, [], ◌∷◌, ◌++◌, fold}
+use Rattle.laws_loan.proofs.Names.{set, refl, sym, ap, subst, ◌∙◌, append_assoc, fold-append, Ask, GoOn, AcquireStage}
+use Rattle.laws_loan.proofs.Names.{acquire_asks, Answer, Event, Claimed, Finished, Book, LoanFlight, Party, Coding}
+use Rattle.laws_loan.proofs.Names.{ask_of, Spot, Free, Passing, With, spot_of, receiver_after, receiver_of}
+use Rattle.laws_loan.proofs.Names.{book_after, Open, Ended, own_after, span_of, words_after, step_count, span_of-own}
+use Rattle.laws_loan.proofs.Names.{holder, acquire_counts, acquire_number}
+use Rattle.std.proofs.Common.{get_or-set_same, arith}
+use Rattle.steps.specs.declared.ask.After.TheVariants.{Done}
 use Rattle.steps.specs.declared.indices.enums.UniqueIndexSetAcquireFailure as failures
-use Rattle.steps.specs.declared.indices.unique.AcquireStage.{AcquireStage}
 use Rattle.steps.specs.declared.loan.places.Place.TheVariants as places
-use Rattle.steps.specs.Indices.Unique.{acquire_asks}
-use Rattle.model.specs.declared.event.Answer.{Answer}
 use Rattle.model.specs.declared.event.Answer.TheVariants as answers
-use Rattle.model.specs.declared.event.Event.{Event}
-use Rattle.model.specs.declared.event.Event.TheVariants.{Claimed, Finished}
 use Rattle.model.specs.declared.event.Start.TheVariants as starts
 use Rattle.model.specs.declared.families.Flight as flights
-use Rattle.model.specs.declared.families.loan.Book.{Book}
 use Rattle.model.specs.declared.families.loan.LoanStart.TheVariants as calls
-use Rattle.model.specs.declared.families.loan.calls.LoanFlight.{LoanFlight}
 use Rattle.model.specs.declared.families.loan.calls.LoanFlight.TheVariants.{Loan}
-use Rattle.model.specs.declared.party.Party.{Party}
-use Rattle.model.specs.Coding.{Coding}
-use Rattle.model.specs.Families.{ask_of}
-use Rattle.model.specs.Families.Loan.Reading.{Spot, Free, Passing, With, spot_of, receiver_after, receiver_of}
-use Rattle.model.specs.Families.Loan.Steps.{book_after}
-use Rattle.model.specs.Reading.{Open, Ended, own_after, span_of}
-use Rattle.model.specs.Turns.{words_after, step_count}
-use Rattle.model.proofs.Readings.{span_of-own}
 use Rattle.laws_indices.proofs.Core as indices
-use Rattle.laws_indices.proofs.Core.{holder}
-use Rattle.laws_indices.proofs.Knows.{acquire_counts, acquire_number}
 use Rattle.laws_loan.proofs.Carried.{moved_on}
 use Rattle.laws_loan.proofs.Channel.{Channel, words_in}
 use Rattle.laws_loan.proofs.Invariant.{sends_at, counted_for, hung, reclaims_in, HoldsNow}

@@ -1,17 +1,10 @@
 -- What the other calls go on to know where the receiver takes a step of a give-back, which changes the completion queue alone.
+use Rattle.laws_loan.proofs.Names.{◌≡◌, ◌≢◌, ℕ, false, List, [], ◌∷◌, ◌++◌, ap, Event, LoanStart, LoanFlight}
+use Rattle.laws_loan.proofs.Names.{one_word, has_died, Passing, spot_of, words_of_index, Core, filled, KnowsPop}
 use native.Mathlib.Omega.{arith}
-use Rattle.std.proofs.Common.{◌≡◌, ◌≢◌, ℕ, false, List, [], ◌∷◌, ◌++◌, ap}
 use Rattle.steps.specs.declared.queues.ring.PopStage.{PopStage}
 use Rattle.steps.specs.declared.queues.ring.PopStage as pops
-use Rattle.model.specs.declared.event.Event.{Event}
-use Rattle.model.specs.declared.families.loan.LoanStart.{LoanStart}
-use Rattle.model.specs.declared.families.loan.calls.LoanFlight.{LoanFlight}
-use Rattle.model.specs.Coding.{one_word}
-use Rattle.model.specs.Families.Indices.Robust.Dead.{has_died}
-use Rattle.model.specs.Families.Loan.Reading.{Passing, spot_of}
-use Rattle.model.specs.Families.Queues.Calls.{words_of_index}
-use Rattle.laws_queues.proofs.Queues.Core.{Core, filled, published}
-use Rattle.laws_queues.proofs.Ring.Knows.{KnowsPop}
+use Rattle.laws_queues.proofs.Queues.Core.{published}
 use Rattle.laws_loan.proofs.Channel.{Channel}
 use Rattle.laws_loan.proofs.Knows.{At}
 

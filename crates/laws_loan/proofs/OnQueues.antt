@@ -1,18 +1,12 @@
 -- A step of the sender's call that changes no word of the indices, and those of the two queues so.
-use Rattle.std.proofs.Common.{◌≡◌, ℕ, ◌+◌, ◌≤◌, Bool, Some, List, [], ◌++◌, fold, sym, ap, subst, ◌∙◌, append-nil, refl}
-use Rattle.model.specs.declared.event.Event.{Event}
-use Rattle.model.specs.declared.families.loan.Book.{Book}
-use Rattle.model.specs.declared.party.Party.{Party}
-use Rattle.model.specs.Families.Loan.Promises.{MovesRight, BeginsRight, AnswersRight}
-use Rattle.model.specs.Families.Loan.Reading.{Passing, spot_of, receiver_of, given_back, taken_back, reclaims_after, as_queue}
-use Rattle.model.specs.Families.Queues.Calls.{words_of_index}
-use Rattle.model.specs.Families.Queues.Reading.{published, handed_out}
-use Rattle.model.specs.Parties.{put, doing_of, flight_of}
-use Rattle.model.specs.Reading.{span_of}
-use Rattle.model.proofs.Parties.{party_put_same}
-use Rattle.model.proofs.Readings.{AreRight}
+use Rattle.laws_loan.proofs.Names.{◌≡◌, ℕ, ◌+◌, ◌≤◌, Bool, Some, List, [], ◌++◌, fold, sym, ap, subst, ◌∙◌}
+use Rattle.laws_loan.proofs.Names.{append-nil, refl, Event, Book, Party, MovesRight, BeginsRight, AnswersRight}
+use Rattle.laws_loan.proofs.Names.{Passing, spot_of, receiver_of, given_back, taken_back, reclaims_after, as_queue}
+use Rattle.laws_loan.proofs.Names.{words_of_index, handed_out, put, doing_of, flight_of, span_of, party_put_same}
+use Rattle.laws_loan.proofs.Names.{AreRight, Core}
+use Rattle.model.specs.Families.Queues.Reading.{published}
 use Rattle.laws_indices.proofs.Core as indices
-use Rattle.laws_queues.proofs.Queues.Core.{Core, Good}
+use Rattle.laws_queues.proofs.Queues.Core.{Good}
 use Rattle.laws_loan.proofs.Channel.{Channel, Holds}
 use Rattle.laws_loan.proofs.Invariant.{Hangs, sends_at, counted_for, hung, reclaims_in, Carries, HoldsNow}
 use Rattle.laws_loan.proofs.Placed.{Placed}

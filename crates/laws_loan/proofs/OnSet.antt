@@ -1,16 +1,11 @@
 -- A step of the sender's call that changes no word but those of the indices, and tells of neither queue.
-use Rattle.std.proofs.Common.{◌≡◌, ◌≢◌, ℕ, ◌+◌, ◌≤◌, Option, Some, None, List, [], ◌++◌, fold, sym, ap, subst, ◌∙◌, append-nil, refl, arith}
-use Rattle.steps.specs.Indices.Head.{locked}
-use Rattle.model.specs.declared.event.Event.{Event}
-use Rattle.model.specs.declared.families.loan.Book.{Book}
-use Rattle.model.specs.declared.party.Party.{Party}
-use Rattle.model.specs.Families.Loan.Promises.{MovesRight, BeginsRight, AnswersRight}
-use Rattle.model.specs.Families.Loan.Reading.{Passing, spot_of, receiver_of, given_back, taken_back, reclaims_after, as_queue}
-use Rattle.model.specs.Families.Queues.Reading.{published, handed_out}
-use Rattle.model.specs.Parties.{put, doing_of, flight_of}
-use Rattle.model.specs.Reading.{span_of}
-use Rattle.model.proofs.Parties.{party_put_same}
-use Rattle.model.proofs.Readings.{AreRight}
+use Rattle.laws_loan.proofs.Names.{◌≡◌, ◌≢◌, ℕ, ◌+◌, ◌≤◌, Option, Some, None, List, [], ◌++◌, fold, sym, ap, subst}
+use Rattle.laws_loan.proofs.Names.{◌∙◌, append-nil, refl, locked, Event, Book, Party, MovesRight, BeginsRight}
+use Rattle.laws_loan.proofs.Names.{AnswersRight, Passing, spot_of, receiver_of, given_back, taken_back}
+use Rattle.laws_loan.proofs.Names.{reclaims_after, as_queue, handed_out, put, doing_of, flight_of, span_of}
+use Rattle.laws_loan.proofs.Names.{party_put_same, AreRight}
+use Rattle.std.proofs.Common.{arith}
+use Rattle.model.specs.Families.Queues.Reading.{published}
 use Rattle.laws_indices.proofs.Core as indices
 use Rattle.laws_loan.proofs.Channel.{Channel, Holds}
 use Rattle.laws_loan.proofs.Invariant.{Hangs, sends_at, counted_for, hung, reclaims_in, Carries, HoldsNow}

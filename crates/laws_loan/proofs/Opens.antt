@@ -1,12 +1,9 @@
 -- How a loan channel's machine opens, at any two numbers that are admitted.
-use Rattle.std.proofs.Common.{◌≡◌, ℕ, ◌^◌, ◌<◌, ◌≤◌, None, [], refl, arith}
-use Rattle.steps.specs.Indices.Head.{locked}
+use Rattle.laws_loan.proofs.Names.{◌≡◌, ℕ, ◌^◌, ◌<◌, ◌≤◌, None, [], refl, locked, Coding, Free, Passing, opened}
+use Rattle.laws_loan.proofs.Names.{capacity_error, queue_error, Each-nil}
+use Rattle.std.proofs.Common.{arith}
 use Rattle.model.specs.declared.turn.Kind as kinds
-use Rattle.model.specs.Coding.{Coding}
-use Rattle.model.specs.Families.Loan.Reading.{Free, Passing}
-use Rattle.model.specs.World.{opened, capacity_error, queue_error}
 use Rattle.model.proofs.Frame as frame
-use Rattle.model.proofs.Readings.{Each-nil}
 use Rattle.laws_loan.proofs.Channel as channels
 use Rattle.laws_loan.proofs.Channel.{opening_fits, opening_holds}
 use Rattle.laws_loan.proofs.Invariant.{HoldsNow, family}

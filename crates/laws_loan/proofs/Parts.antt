@@ -1,11 +1,8 @@
 -- An operation of a call on one part of the channel, seen in the words of the whole.
-use Rattle.std.proofs.Common.{◌≡◌, ℕ, ◌+◌, ◌^◌, ◌<◌, List, [], ◌++◌, length, sym, ap, subst, ◌∙◌, append_assoc, append-nil, length-append, arith}
-use Rattle.steps.specs.Loan.Layout.{submission_word, completion_word}
-use Rattle.steps.specs.Loan.Parts.{shifted}
-use Rattle.steps.specs.declared.ask.Want.{Want}
-use Rattle.model.specs.Families.{ask_of}
-use Rattle.model.specs.Turns.{old_of, words_after, change_of}
-use Rattle.laws_queues.proofs.Queues.Knows.{layout}
+use Rattle.laws_loan.proofs.Names.{◌≡◌, ℕ, ◌+◌, ◌^◌, ◌<◌, List, [], ◌++◌, length, sym, ap, subst, ◌∙◌, append_assoc}
+use Rattle.laws_loan.proofs.Names.{append-nil, length-append, submission_word, completion_word, shifted, Want, ask_of}
+use Rattle.laws_loan.proofs.Names.{old_of, words_after, change_of, layout}
+use Rattle.std.proofs.Common.{arith}
 use Rattle.laws_loan.proofs.Channel.{Channel, Holds, no_roles, words_in}
 use Rattle.laws_loan.proofs.Cuts.{IsOn, shifted_old, shifted_words, shifted_change, first_old, first_words}
 

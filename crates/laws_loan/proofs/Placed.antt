@@ -1,17 +1,12 @@
 -- Where each index is by the events, beside what is kept: who has claimed it, which indices wait in the two queues, and the
 -- book; and what an event that moves one index leaves of them.
-use Rattle.std.proofs.Common.{◌≡◌, ◌≢◌, ℕ, ◌<◌, ◌≤◌, ◌⊎◌, ⊎_elim, false, Option, Some, None, List, [], ◌∷◌, ◌++◌, length}
-use Rattle.std.proofs.Common.{get_or, set, refl, sym, ap, subst, ◌∙◌, arith, length-set, get_or-set_other}
-use Rattle.std.proofs.lemmas.Bool.{cases_eq}
-use Rattle.std.proofs.lemmas.List.Sums.{fold-append}
+use Rattle.laws_loan.proofs.Names.{◌≡◌, ◌≢◌, ℕ, ◌<◌, ◌≤◌, ◌⊎◌, ⊎_elim, false, Option, Some, None, List, [], ◌∷◌, ◌++◌}
+use Rattle.laws_loan.proofs.Names.{length, get_or, set, refl, sym, ap, subst, ◌∙◌, length-set, cases_eq, fold-append}
+use Rattle.laws_loan.proofs.Names.{place_at, Event, Book, has_died, holder_in, IsIn, KeepsBook, Spot, Free, Passing}
+use Rattle.laws_loan.proofs.Names.{With, Move, move_of, spot_of, receiver_after, receiver_of, died_after, has_died_by}
+use Rattle.laws_loan.proofs.Names.{holder}
+use Rattle.std.proofs.Common.{arith, get_or-set_other}
 use Rattle.steps.specs.declared.loan.places.Place.TheVariants as places
-use Rattle.steps.specs.Loan.Places.{place_at}
-use Rattle.model.specs.declared.event.Event.{Event}
-use Rattle.model.specs.declared.families.loan.Book.{Book}
-use Rattle.model.specs.Families.Indices.Robust.Dead.{has_died}
-use Rattle.model.specs.Families.Loan.Promises.{holder_in, IsIn, KeepsBook}
-use Rattle.model.specs.Families.Loan.Reading.{Spot, Free, Passing, With, Move, move_of, spot_of, receiver_after, receiver_of, died_after, has_died_by}
-use Rattle.laws_indices.proofs.Core.{holder}
 use Rattle.laws_loan.proofs.Lists.{Lists}
 use Rattle.laws_loan.proofs.Spots.{is_waiting, is_returning, spot_stays, spot_other, spot_moved}
 

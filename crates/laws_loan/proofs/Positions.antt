@@ -1,16 +1,10 @@
 -- The words of a loan channel at which its sends and receives act: the positions of the submission queue.
-use Rattle.std.proofs.Common.{◌≡◌, ℕ, ◌+◌, ◌-◌, ◌^◌, ◌<◌, Some, List, ◌∷◌, ◌++◌, length, get_or, sym, ap, subst, ◌∙◌, arith}
-use Rattle.std.proofs.lemmas.List.{get_or-append-add}
-use Rattle.steps.specs.declared.ask.Op.TheVariants.{Exchange}
+use Rattle.laws_loan.proofs.Names.{◌≡◌, ℕ, ◌+◌, ◌-◌, ◌^◌, ◌<◌, Some, List, ◌∷◌, ◌++◌, length, get_or, sym, ap, subst}
+use Rattle.laws_loan.proofs.Names.{◌∙◌, get_or-append-add, Exchange, submission_word, shifted, move, after_position}
+use Rattle.laws_loan.proofs.Names.{ask_of, read_word, AddsOne, old_of, words_after, layout}
+use Rattle.std.proofs.Common.{arith}
 use Rattle.steps.specs.declared.queues.overflow.PushStage as pushes
-use Rattle.steps.specs.Loan.Layout.{submission_word}
-use Rattle.steps.specs.Loan.Parts.{shifted}
-use Rattle.steps.specs.Queues.Overflow.{move, push_asks}
-use Rattle.steps.specs.Queues.Ring.{after_position}
-use Rattle.model.specs.Families.{ask_of}
-use Rattle.model.specs.Families.Loan.Promises.{read_word, AddsOne}
-use Rattle.model.specs.Turns.{old_of, words_after}
-use Rattle.laws_queues.proofs.Queues.Knows.{layout}
+use Rattle.steps.specs.Queues.Overflow.{push_asks}
 use Rattle.laws_loan.proofs.Channel.{Channel, Holds, no_roles, words_in}
 use Rattle.laws_loan.proofs.Parts.{set_long, submission_long, submission_old, submission_words}
 use Rattle.laws_loan.proofs.Submission.{publish_words}

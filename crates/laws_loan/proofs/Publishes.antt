@@ -1,46 +1,23 @@
 -- The store of the next write position by a send: its index is published, and the send acts where there is room.
-use Rattle.std.proofs.Common.{◌≡◌, ◌≢◌, ℕ, ◌+◌, ◌-◌, ◌^◌, ◌<◌, ◌≤◌, ◌==◌, Bool, true, false, Option, Some}
-use Rattle.std.proofs.Common.{List, [], ◌∷◌, ◌++◌, length, fold, refl, sym, ap, subst, ◌∙◌, append-nil, append_assoc}
-use Rattle.std.proofs.Common.{length-append, arith}
-use Rattle.std.proofs.lemmas.Bool.Decides.{nat_tests}
-use Rattle.std.proofs.lemmas.List.{map-append}
-use Rattle.std.proofs.lemmas.List.Sums.{fold-append}
-use Rattle.steps.specs.declared.ask.Ask.{Ask}
-use Rattle.steps.specs.declared.ask.After.{After}
-use Rattle.steps.specs.declared.ask.After.TheVariants.{GoOn, Done}
+use Rattle.laws_loan.proofs.Names.{◌≡◌, ◌≢◌, ℕ, ◌+◌, ◌-◌, ◌^◌, ◌<◌, ◌≤◌, ◌==◌, Bool, true, false, Option, Some, List}
+use Rattle.laws_loan.proofs.Names.{[], ◌∷◌, ◌++◌, length, fold, refl, sym, ap, subst, ◌∙◌, append-nil, append_assoc}
+use Rattle.laws_loan.proofs.Names.{length-append, nat_tests, map-append, fold-append, Ask, After, GoOn}
+use Rattle.laws_loan.proofs.Names.{submission_word, distance, Answer, Event, Published, Acted, Finished, Item, Index}
+use Rattle.laws_loan.proofs.Names.{Start, Book, LoanFlight, Effect, Party, Coding, MovesRight, BeginsRight}
+use Rattle.laws_loan.proofs.Names.{AnswersRight, promise, Passing, Waiting, spot_of, receiver_after, receiver_of}
+use Rattle.laws_loan.proofs.Names.{reclaims_after, read_in, book_after, words_of_index, answer_of_item, flight_of}
+use Rattle.laws_loan.proofs.Names.{Stands, Open, own_after, span_of, change_of, AreOwn, AllFollow, AreRight}
+use Rattle.laws_loan.proofs.Names.{span_of-own, push_room, push_waits, publish_keeps_pop, Core, Holds}
+use Rattle.std.proofs.Common.{arith}
+use Rattle.steps.specs.declared.ask.After.TheVariants.{Done}
 use Rattle.steps.specs.declared.queues.overflow.PushStage as pushes
-use Rattle.steps.specs.Loan.Layout.{submission_word}
-use Rattle.steps.specs.Queues.Ring.{distance}
-use Rattle.model.specs.declared.event.Answer.{Answer}
 use Rattle.model.specs.declared.event.Answer.TheVariants as answers
-use Rattle.model.specs.declared.event.Event.{Event}
-use Rattle.model.specs.declared.event.Event.TheVariants.{Published, Acted, Finished}
-use Rattle.model.specs.declared.event.Item.{Item}
-use Rattle.model.specs.declared.event.Item.TheVariants.{Index}
-use Rattle.model.specs.declared.event.Start.{Start}
 use Rattle.model.specs.declared.event.Start.TheVariants as starts
 use Rattle.model.specs.declared.families.Flight as flights
-use Rattle.model.specs.declared.families.loan.Book.{Book}
 use Rattle.model.specs.declared.families.loan.LoanStart.TheVariants as calls
-use Rattle.model.specs.declared.families.loan.calls.LoanFlight.{LoanFlight}
-use Rattle.model.specs.declared.families.loan.effects.Effect.{Effect}
 use Rattle.model.specs.declared.families.loan.effects.Effect.TheVariants as effects
-use Rattle.model.specs.declared.party.Party.{Party}
-use Rattle.model.specs.Coding.{Coding}
-use Rattle.model.specs.Families.Loan.Promises.{MovesRight, BeginsRight, AnswersRight, promise}
-use Rattle.model.specs.Families.Loan.Reading.{Passing, Waiting, spot_of, receiver_after, receiver_of, reclaims_after}
-use Rattle.model.specs.Families.Loan.Steps.{read_in, book_after}
-use Rattle.model.specs.Families.Queues.Calls.{words_of_index}
-use Rattle.model.specs.Families.Queues.Objects.{answer_of_item}
-use Rattle.model.specs.Parties.{flight_of}
-use Rattle.model.specs.Promises.Spans.{Stands}
-use Rattle.model.specs.Reading.{Open, own_after, span_of}
-use Rattle.model.specs.Turns.{change_of}
 use Rattle.model.proofs.Frame as frame
-use Rattle.model.proofs.Readings.{AreOwn, AllFollow, AreRight, span_of-own}
-use Rattle.laws_queues.proofs.Overflow.Core.{push_room, push_waits}
-use Rattle.laws_queues.proofs.Overflow.Keeping.{publish_keeps_pop}
-use Rattle.laws_queues.proofs.Queues.Core.{Core, Holds, published}
+use Rattle.laws_queues.proofs.Queues.Core.{published}
 use Rattle.laws_loan.proofs.Carried.{moved_on}
 use Rattle.laws_loan.proofs.Channel.{Channel, words_in}
 use Rattle.laws_loan.proofs.Invariant.{Hangs, sends_at, counted_for, hung, reclaims_in, HoldsNow, family}

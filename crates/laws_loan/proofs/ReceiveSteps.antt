@@ -1,42 +1,21 @@
 -- A receive's steps, at whatever stage it stands, as steps of the machine.
-use Rattle.std.proofs.Common.{◌≡◌, ℕ, ◌+◌, ◌-◌, ◌%◌, ◌^◌, ◌<◌, ◌==◌, Bool, true, false, Option, Some, [], ◌∷◌, length}
-use Rattle.std.proofs.Common.{get_or, set, fold, refl, sym, ap, subst, ◌∙◌, arith, eq-eqb}
-use Rattle.std.proofs.lemmas.Bool.Decides.{nat_tests}
-use Rattle.steps.specs.declared.ask.Ask.{Ask}
-use Rattle.steps.specs.declared.ask.After.{After}
+use Rattle.laws_loan.proofs.Names.{◌≡◌, ℕ, ◌+◌, ◌-◌, ◌%◌, ◌^◌, ◌<◌, ◌==◌, Bool, true, false, Option, Some, [], ◌∷◌}
+use Rattle.laws_loan.proofs.Names.{length, get_or, set, fold, refl, sym, ap, subst, ◌∙◌, eq-eqb, nat_tests, Ask}
+use Rattle.laws_loan.proofs.Names.{After, OneWord, Part, Pop, Running, index_in, submission_word, shifted, pop_takes}
+use Rattle.laws_loan.proofs.Names.{pop_keeps, goes_back, load, Answer, Flight, Book, LoanFlight, Receive, Effect}
+use Rattle.laws_loan.proofs.Names.{Party, Coding, ask_of, has_died, beside, ended_book, book_after, receive_effect}
+use Rattle.laws_loan.proofs.Names.{effects_of, sent_at, Open, span_of, old_of, Trace, oldest}
+use Rattle.std.proofs.Common.{arith}
 use Rattle.steps.specs.declared.ask.After.TheVariants.{Done}
-use Rattle.steps.specs.declared.copied.OneWord.{OneWord}
-use Rattle.steps.specs.declared.loan.parts.Part.{Part}
-use Rattle.steps.specs.declared.queues.overflow.Pop.{Pop}
 use Rattle.steps.specs.declared.queues.overflow.PopStage.{PopStage}
 use Rattle.steps.specs.declared.queues.overflow.PopStage as pops
-use Rattle.steps.specs.declared.routine.Running.{Running}
-use Rattle.steps.specs.Loan.Back.{index_in}
-use Rattle.steps.specs.Loan.Layout.{submission_word}
-use Rattle.steps.specs.Loan.Parts.{shifted}
-use Rattle.steps.specs.Queues.Overflow.{cell_word, pop_asks, pop_takes, pop_keeps, goes_back}
-use Rattle.steps.specs.Queues.Ring.{load}
-use Rattle.model.specs.declared.event.Answer.{Answer}
+use Rattle.steps.specs.Queues.Overflow.{cell_word, pop_asks}
 use Rattle.model.specs.declared.event.Answer.TheVariants as answers
 use Rattle.model.specs.declared.event.Start as starts
-use Rattle.model.specs.declared.families.Flight.{Flight}
 use Rattle.model.specs.declared.families.Flight as flights
-use Rattle.model.specs.declared.families.loan.Book.{Book}
 use Rattle.model.specs.declared.families.loan.LoanStart.TheVariants as calls
-use Rattle.model.specs.declared.families.loan.calls.LoanFlight.{LoanFlight}
-use Rattle.model.specs.declared.families.loan.calls.LoanFlight.TheVariants.{Receive}
-use Rattle.model.specs.declared.families.loan.effects.Effect.{Effect}
 use Rattle.model.specs.declared.families.loan.effects.Effect.TheVariants as effects
-use Rattle.model.specs.declared.party.Party.{Party}
-use Rattle.model.specs.Coding.{Coding}
-use Rattle.model.specs.Families.{ask_of}
-use Rattle.model.specs.Families.Indices.Robust.Dead.{has_died}
-use Rattle.model.specs.Families.Loan.Steps.{beside, ended_book, book_after, receive_effect, effects_of, sent_at}
-use Rattle.model.specs.Reading.{Open, span_of}
-use Rattle.model.specs.Turns.{old_of}
-use Rattle.model.specs.World.{Trace}
 use Rattle.model.proofs.Frame as frame
-use Rattle.laws_queues.proofs.Overflow.Core.{oldest}
 use Rattle.laws_loan.proofs.Channel.{Channel, words_in}
 use Rattle.laws_loan.proofs.Hanging.{by_sender, beside_is}
 use Rattle.laws_loan.proofs.Invariant.{sends_at, counted_for, hung}

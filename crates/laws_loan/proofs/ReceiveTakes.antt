@@ -1,33 +1,19 @@
 -- The step of a receive that takes an index out: what it shows, and what it owes to the sender, whose send may have waited for it.
-use Rattle.std.proofs.Common.{◌≡◌, ◌≢◌, ℕ, suc, ◌+◌, ◌-◌, ◌*◌, ◌^◌, ◌<◌, ◌≤◌, ⊎_elim, inr, false, Option, Some, None}
-use Rattle.std.proofs.Common.{List, [], ◌∷◌, ◌++◌, length, set, refl, sym, ap, subst, ◌∙◌, arith}
-use Rattle.std.proofs.lemmas.Bool.{cases_eq}
-use Rattle.steps.specs.declared.ask.Ask.{Ask}
+use Rattle.laws_loan.proofs.Names.{◌≡◌, ◌≢◌, ℕ, suc, ◌+◌, ◌-◌, ◌*◌, ◌^◌, ◌<◌, ◌≤◌, ⊎_elim, inr, false, Option, Some}
+use Rattle.laws_loan.proofs.Names.{None, List, [], ◌∷◌, ◌++◌, length, set, refl, sym, ap, subst, ◌∙◌, cases_eq, Ask}
+use Rattle.laws_loan.proofs.Names.{submission_word, shifted, Event, Start, Flight, Book, Party, Coding, ask_of}
+use Rattle.laws_loan.proofs.Names.{has_died, Passing, Waiting, spot_of, put, doing_of, flight_of, Open, span_of}
+use Rattle.laws_loan.proofs.Names.{words_after, change_of, party_put_other, Core, GoesUp, layout}
+use Rattle.std.proofs.Common.{arith}
 use Rattle.steps.specs.declared.ask.After.TheVariants.{Done}
 use Rattle.steps.specs.declared.queues.overflow.PopStage as pops
-use Rattle.steps.specs.Loan.Layout.{submission_word}
-use Rattle.steps.specs.Loan.Parts.{shifted}
 use Rattle.steps.specs.Queues.Overflow.{pop_asks}
-use Rattle.model.specs.declared.event.Event.{Event}
-use Rattle.model.specs.declared.event.Start.{Start}
 use Rattle.model.specs.declared.event.Start.TheVariants as starts
-use Rattle.model.specs.declared.families.Flight.{Flight}
 use Rattle.model.specs.declared.families.Flight as flights
-use Rattle.model.specs.declared.families.loan.Book.{Book}
 use Rattle.model.specs.declared.families.loan.LoanStart.TheVariants as calls
-use Rattle.model.specs.declared.party.Party.{Party}
-use Rattle.model.specs.Coding.{Coding}
-use Rattle.model.specs.Families.{ask_of}
-use Rattle.model.specs.Families.Indices.Robust.Dead.{has_died}
-use Rattle.model.specs.Families.Loan.Reading.{Passing, Waiting, spot_of}
-use Rattle.model.specs.Parties.{party_of, put, doing_of, flight_of}
-use Rattle.model.specs.Reading.{Open, span_of}
-use Rattle.model.specs.Turns.{words_after, change_of}
+use Rattle.model.specs.Parties.{party_of}
 use Rattle.model.proofs.Frame as frame
-use Rattle.model.proofs.Parties.{party_put_other}
 use Rattle.laws_indices.proofs.Core as indices
-use Rattle.laws_queues.proofs.Queues.Core.{Core, GoesUp}
-use Rattle.laws_queues.proofs.Queues.Knows.{layout}
 use Rattle.laws_loan.proofs.Channel.{Channel, Holds, no_roles, words_in}
 use Rattle.laws_loan.proofs.Hanging.{made, reclaims_made, carries_made, past_none, hung_span}
 use Rattle.laws_loan.proofs.HungSends.{Takes, taken_out, taken_then, sender_fits, none_reclaims}

@@ -1,26 +1,15 @@
 -- The events of a receive that takes an index out: it moves the read position, and a send that waits for that acts with it.
-use Rattle.std.proofs.Common.{◌≡◌, ◌≢◌, ℕ, ◌<◌, ◌≤◌, Bool, false, Option, Some, None, List, [], ◌∷◌, ◌++◌, length, map}
-use Rattle.std.proofs.Common.{take, drop, fold, refl, sym, ap, subst, ◌∙◌, append-nil, append_assoc, arith}
-use Rattle.std.proofs.lemmas.List.Sums.{fold-append}
-use Rattle.model.specs.declared.event.Answer.{Answer}
+use Rattle.laws_loan.proofs.Names.{◌≡◌, ◌≢◌, ℕ, ◌<◌, ◌≤◌, Bool, false, Option, Some, None, List, [], ◌∷◌, ◌++◌}
+use Rattle.laws_loan.proofs.Names.{length, map, take, drop, fold, refl, sym, ap, subst, ◌∙◌, append-nil, append_assoc}
+use Rattle.laws_loan.proofs.Names.{fold-append, Answer, Event, Published, HandedOut, Acted, Finished, Item, Index}
+use Rattle.laws_loan.proofs.Names.{Start, Book, MovesRight, BeginsRight, AnswersRight, promise, Passing, With}
+use Rattle.laws_loan.proofs.Names.{Waiting, spot_of, receiver_after, receiver_of, reclaims_after, book_after}
+use Rattle.laws_loan.proofs.Names.{answer_of_item, cut_off, Stands, StandsRight, Open, Ended, own_after, span_of}
+use Rattle.laws_loan.proofs.Names.{AreRight, span_of-own, span_of-other, pop_front, pop_room, Core}
+use Rattle.std.proofs.Common.{arith}
 use Rattle.model.specs.declared.event.Answer.TheVariants as answers
-use Rattle.model.specs.declared.event.Event.{Event}
-use Rattle.model.specs.declared.event.Event.TheVariants.{Published, HandedOut, Acted, Finished}
-use Rattle.model.specs.declared.event.Item.{Item}
-use Rattle.model.specs.declared.event.Item.TheVariants.{Index}
-use Rattle.model.specs.declared.event.Start.{Start}
 use Rattle.model.specs.declared.event.Start.TheVariants as starts
-use Rattle.model.specs.declared.families.loan.Book.{Book}
 use Rattle.model.specs.declared.families.loan.LoanStart.TheVariants as calls
-use Rattle.model.specs.Families.Loan.Promises.{MovesRight, BeginsRight, AnswersRight, promise}
-use Rattle.model.specs.Families.Loan.Reading.{Passing, With, Waiting, spot_of, receiver_after, receiver_of, reclaims_after}
-use Rattle.model.specs.Families.Loan.Steps.{book_after}
-use Rattle.model.specs.Families.Queues.Objects.{answer_of_item, cut_off}
-use Rattle.model.specs.Promises.Spans.{Stands, StandsRight}
-use Rattle.model.specs.Reading.{Open, Ended, own_after, span_of}
-use Rattle.model.proofs.Readings.{AreRight, span_of-own, span_of-other}
-use Rattle.laws_queues.proofs.Overflow.Core.{pop_front, pop_room}
-use Rattle.laws_queues.proofs.Queues.Core.{Core}
 use Rattle.laws_loan.proofs.Hanging.{made, made_own, made_still}
 use Rattle.laws_loan.proofs.Invariant.{Hangs}
 use Rattle.laws_loan.proofs.Knows.{send_of}

@@ -1,48 +1,24 @@
 -- The steps of a receive that take nothing out: the loads, a turn back where a send has moved the read position, and the end
 -- where nothing waits.
-use Rattle.std.proofs.Common.{◌≡◌, ◌≢◌, ℕ, ◌+◌, ◌-◌, ◌*◌, ◌%◌, ◌^◌, ◌<◌, ◌≤◌, ◌==◌, ⊎_elim, Bool, true, false, Option}
-use Rattle.std.proofs.Common.{List, [], ◌∷◌, ◌++◌, length, get_or, take, refl, sym, ap, subst, ◌∙◌, append-nil}
+use Rattle.laws_loan.proofs.Names.{◌≡◌, ◌≢◌, ℕ, ◌+◌, ◌-◌, ◌*◌, ◌%◌, ◌^◌, ◌<◌, ◌≤◌, ◌==◌, ⊎_elim, Bool, true, false}
+use Rattle.laws_loan.proofs.Names.{Option, List, [], ◌∷◌, ◌++◌, length, get_or, take, refl, sym, ap, subst, ◌∙◌}
+use Rattle.laws_loan.proofs.Names.{append-nil, cases_lt, nat_tests, nil_from_length, set-get_or, Ask, After, GoOn}
+use Rattle.laws_loan.proofs.Names.{OneWord, Pop, submission_word, shifted, part_after, pop_takes, pop_keeps}
+use Rattle.laws_loan.proofs.Names.{pop_answer, goes_back, went_on, Answer, Event, Acted, Finished, Start, LoanFlight}
+use Rattle.laws_loan.proofs.Names.{Receive, Effect, Party, Coding, ask_of, has_died, Passing, spot_of, receive_effect}
+use Rattle.laws_loan.proofs.Names.{popped, Span, Open, span_of, as_call, old_of, words_after, change_of, one_if}
+use Rattle.laws_loan.proofs.Names.{step_count, span_of-other, oldest, KnowsOverflowPop, KnowsBacks}
+use Rattle.laws_loan.proofs.Names.{overflow_pop_number, layout}
 use Rattle.std.proofs.Common.{arith}
-use Rattle.std.proofs.lemmas.Bool.{cases_lt}
-use Rattle.std.proofs.lemmas.Bool.Decides.{nat_tests}
-use Rattle.std.proofs.lemmas.List.{nil_from_length, set-get_or}
 use Rattle.std.proofs.Math.Seq.{take-nil}
-use Rattle.steps.specs.declared.ask.Ask.{Ask}
-use Rattle.steps.specs.declared.ask.After.{After}
-use Rattle.steps.specs.declared.ask.After.TheVariants.{GoOn, Done}
-use Rattle.steps.specs.declared.copied.OneWord.{OneWord}
-use Rattle.steps.specs.declared.queues.overflow.Pop.{Pop}
+use Rattle.steps.specs.declared.ask.After.TheVariants.{Done}
 use Rattle.steps.specs.declared.queues.overflow.PopStage.{PopStage}
 use Rattle.steps.specs.declared.queues.overflow.PopStage as pops
-use Rattle.steps.specs.Loan.Layout.{submission_word}
-use Rattle.steps.specs.Loan.Parts.{shifted, part_after}
-use Rattle.steps.specs.Queues.Overflow.{cell_word, pop_asks, pop_takes, pop_keeps, pop_answer, goes_back}
-use Rattle.steps.specs.Routine.{went_on}
-use Rattle.model.specs.declared.event.Answer.{Answer}
+use Rattle.steps.specs.Queues.Overflow.{cell_word, pop_asks}
 use Rattle.model.specs.declared.event.Answer.TheVariants as answers
-use Rattle.model.specs.declared.event.Event.{Event}
-use Rattle.model.specs.declared.event.Event.TheVariants.{Acted, Finished}
-use Rattle.model.specs.declared.event.Start.{Start}
 use Rattle.model.specs.declared.event.Start.TheVariants as starts
 use Rattle.model.specs.declared.families.loan.LoanStart.TheVariants as calls
-use Rattle.model.specs.declared.families.loan.calls.LoanFlight.{LoanFlight}
-use Rattle.model.specs.declared.families.loan.calls.LoanFlight.TheVariants.{Receive}
-use Rattle.model.specs.declared.families.loan.effects.Effect.{Effect}
 use Rattle.model.specs.declared.families.loan.effects.Effect.TheVariants as effects
-use Rattle.model.specs.declared.party.Party.{Party}
-use Rattle.model.specs.Coding.{Coding}
-use Rattle.model.specs.Families.{ask_of}
-use Rattle.model.specs.Families.Indices.Robust.Dead.{has_died}
-use Rattle.model.specs.Families.Loan.Reading.{Passing, spot_of}
-use Rattle.model.specs.Families.Loan.Steps.{receive_effect}
-use Rattle.model.specs.Families.Queues.Calls.{popped}
-use Rattle.model.specs.Reading.{Span, Open, span_of}
-use Rattle.model.specs.Step.{as_call}
-use Rattle.model.specs.Turns.{old_of, words_after, change_of, one_if, step_count}
-use Rattle.model.proofs.Readings.{span_of-other}
-use Rattle.laws_queues.proofs.Overflow.Core.{oldest}
-use Rattle.laws_queues.proofs.Overflow.Knows.{KnowsOverflowPop, KnowsBacks, overflow_pop_number}
-use Rattle.laws_queues.proofs.Queues.Knows.{layout}
 use Rattle.laws_loan.proofs.Carried.{carried_on}
 use Rattle.laws_loan.proofs.Channel.{Channel, no_roles, words_in}
 use Rattle.laws_loan.proofs.Cuts.{IsOn}

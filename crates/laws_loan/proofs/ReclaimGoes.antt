@@ -1,40 +1,23 @@
 -- A step of a reclaim that changes no word of the indices, after which the reclaim goes on.
-use Rattle.std.proofs.Common.{◌≡◌, ◌≢◌, ℕ, ◌+◌, ◌≤◌, ⊎_elim, true, false, Option, Some, None, List, [], ◌++◌, length}
-use Rattle.std.proofs.Common.{fold, refl, sym, ap, subst, ◌∙◌, arith}
-use Rattle.std.proofs.lemmas.Bool.{cases_eq}
-use Rattle.steps.specs.declared.ask.Ask.{Ask}
-use Rattle.steps.specs.declared.ask.After.{After}
-use Rattle.steps.specs.declared.ask.After.TheVariants.{GoOn}
+use Rattle.laws_loan.proofs.Names.{◌≡◌, ◌≢◌, ℕ, ◌+◌, ◌≤◌, ⊎_elim, true, false, Option, Some, None, List, [], ◌++◌}
+use Rattle.laws_loan.proofs.Names.{length, fold, refl, sym, ap, subst, ◌∙◌, cases_eq, Ask, After, GoOn, ReclaimStage}
+use Rattle.laws_loan.proofs.Names.{place_at, reclaim_asks, reclaim_goes_back, Answer, Event, Start, LoanFlight}
+use Rattle.laws_loan.proofs.Names.{Effect, Party, Coding, one_word, ask_of, reclaim_goes, MovesRight, BeginsRight}
+use Rattle.laws_loan.proofs.Names.{AnswersRight, promise, Passing, spot_of, receiver_of, given_back, reclaims_after}
+use Rattle.laws_loan.proofs.Names.{gives_back, reclaim_effect, words_of_index, Stands, moments, Open, own_after}
+use Rattle.laws_loan.proofs.Names.{span_of, old_of, words_after, change_of, step_count, AreRight, AreOwn, AllFollow}
+use Rattle.laws_loan.proofs.Names.{span_of-own, span_of-other, Core, GoesUp, layout, KnowsPush}
+use Rattle.std.proofs.Common.{arith}
 use Rattle.steps.specs.declared.loan.places.Place.TheVariants as places
-use Rattle.steps.specs.declared.loan.reclaim.ReclaimStage.{ReclaimStage}
 use Rattle.steps.specs.declared.queues.ring.PushStage.{PushStage}
-use Rattle.steps.specs.Loan.Places.{place_at}
-use Rattle.steps.specs.Loan.Reclaim.{reclaim_asks, reclaim_goes_back}
-use Rattle.model.specs.declared.event.Answer.{Answer}
-use Rattle.model.specs.declared.event.Event.{Event}
-use Rattle.model.specs.declared.event.Start.{Start}
 use Rattle.model.specs.declared.event.Start.TheVariants as starts
 use Rattle.model.specs.declared.families.Flight as flights
 use Rattle.model.specs.declared.families.loan.LoanStart.TheVariants as calls
-use Rattle.model.specs.declared.families.loan.calls.LoanFlight.{LoanFlight}
-use Rattle.model.specs.declared.families.loan.effects.Effect.{Effect}
 use Rattle.model.specs.declared.families.loan.effects.Effect.TheVariants as effects
-use Rattle.model.specs.declared.party.Party.{Party}
-use Rattle.model.specs.Coding.{Coding, one_word}
-use Rattle.model.specs.Families.{ask_of}
-use Rattle.model.specs.Families.Loan.Calls.{reclaim_goes}
-use Rattle.model.specs.Families.Loan.Promises.{MovesRight, BeginsRight, AnswersRight, promise}
-use Rattle.model.specs.Families.Loan.Reading.{Passing, spot_of, receiver_of, given_back, claimed, reclaims_after, gives_back, claims}
-use Rattle.model.specs.Families.Loan.Steps.{reclaim_effect}
-use Rattle.model.specs.Families.Queues.Calls.{words_of_index}
+use Rattle.model.specs.Families.Loan.Reading.{claimed, claims}
 use Rattle.model.specs.Families.Queues.Reading.{publishes, published}
-use Rattle.model.specs.Promises.Spans.{Stands}
-use Rattle.model.specs.Reading.{acts, moments, Open, own_after, span_of}
-use Rattle.model.specs.Turns.{old_of, words_after, change_of, step_count}
-use Rattle.model.proofs.Readings.{AreRight, AreOwn, AllFollow, span_of-own, span_of-other}
-use Rattle.laws_queues.proofs.Queues.Core.{Core, Good, GoesUp}
-use Rattle.laws_queues.proofs.Queues.Knows.{layout}
-use Rattle.laws_queues.proofs.Ring.Knows.{KnowsPush}
+use Rattle.model.specs.Reading.{acts}
+use Rattle.laws_queues.proofs.Queues.Core.{Good}
 use Rattle.laws_loan.proofs.Channel.{Channel, no_roles, words_in}
 use Rattle.laws_loan.proofs.Invariant.{Hangs, sends_at, counted_for, hung, reclaims_in, Carries, HoldsNow}
 use Rattle.laws_loan.proofs.Knows.{reclaim_counts, reclaim_number, wrote_in, StageAt, ReclaimAt, At}

@@ -1,45 +1,22 @@
 -- A reclaim, as steps of the machine: it pops the two queues, and releases one index after the other that was sent.
-use Rattle.std.proofs.Common.{◌≡◌, ◌≢◌, ℕ, ◌+◌, ◌*◌, ◌-◌, ◌%◌, ◌^◌, ◌<◌, ◌≤◌, false, Option, Some, None, List, [], ⊎_elim, refl, sym, ap, subst, ◌∙◌}
+use Rattle.laws_loan.proofs.Names.{◌≡◌, ◌≢◌, ℕ, ◌+◌, ◌*◌, ◌-◌, ◌%◌, ◌^◌, ◌<◌, ◌≤◌, false, Option, Some, None, List}
+use Rattle.laws_loan.proofs.Names.{[], ⊎_elim, refl, sym, ap, subst, ◌∙◌, AllByRecursion, cases_lt, Ask, After, GoOn}
+use Rattle.laws_loan.proofs.Names.{ReleaseState, DefaultMode, Release, ReleaseStage, Place, ReclaimStage, Releases}
+use Rattle.laws_loan.proofs.Names.{Drains, Empties, back_asks, back_takes, place_at, next_sent, reclaim_releases}
+use Rattle.laws_loan.proofs.Names.{reclaim_comes_to, reclaim_released, Answer, Number, Event, LoanFlight, Reclaim}
+use Rattle.laws_loan.proofs.Names.{Party, Coding, ask_of, freed, ended_book, Open, span_of, as_call, answer_in}
+use Rattle.laws_loan.proofs.Names.{old_of, words_after, Trace, release_counts, release_number}
 use Rattle.std.proofs.Common.{arith}
-use Rattle.std.specs.List.{AllByRecursion}
-use Rattle.std.proofs.lemmas.Bool.{cases_lt}
-use Rattle.steps.specs.declared.ask.Ask.{Ask}
-use Rattle.steps.specs.declared.ask.After.{After}
-use Rattle.steps.specs.declared.ask.After.TheVariants.{GoOn, Done}
-use Rattle.steps.specs.declared.indices.enums.ReleaseState.{ReleaseState}
-use Rattle.steps.specs.declared.indices.unique.DefaultMode.{DefaultMode}
-use Rattle.steps.specs.declared.indices.unique.Release.{Release}
-use Rattle.steps.specs.declared.indices.unique.ReleaseStage.{ReleaseStage}
+use Rattle.steps.specs.declared.ask.After.TheVariants.{Done}
 use Rattle.steps.specs.declared.indices.unique.ReleaseStage as releases
-use Rattle.steps.specs.declared.loan.places.Place.{Place}
 use Rattle.steps.specs.declared.loan.places.Place.TheVariants as places
 use Rattle.steps.specs.declared.loan.reclaim.Reclaim as reclaims
-use Rattle.steps.specs.declared.loan.reclaim.ReclaimStage.{ReclaimStage}
-use Rattle.steps.specs.declared.loan.reclaim.ReclaimStage.TheVariants.{Releases, Drains, Empties}
-use Rattle.steps.specs.Loan.Back.{back_asks, back_takes}
-use Rattle.steps.specs.Loan.Places.{place_at, next_sent}
-use Rattle.steps.specs.Loan.Reclaim.{reclaim_releases, reclaim_comes_to, reclaim_released}
-use Rattle.model.specs.declared.event.Answer.{Answer}
-use Rattle.model.specs.declared.event.Answer.TheVariants.{Number}
-use Rattle.model.specs.declared.event.Event.{Event}
 use Rattle.model.specs.declared.event.Start as starts
 use Rattle.model.specs.declared.families.Flight as flights
 use Rattle.model.specs.declared.families.loan.LoanStart.TheVariants as calls
-use Rattle.model.specs.declared.families.loan.calls.LoanFlight.{LoanFlight}
-use Rattle.model.specs.declared.families.loan.calls.LoanFlight.TheVariants.{Reclaim}
 use Rattle.model.specs.declared.families.loan.effects.Effect.TheVariants as effects
-use Rattle.model.specs.declared.party.Party.{Party}
-use Rattle.model.specs.Coding.{Coding}
-use Rattle.model.specs.Families.{ask_of}
-use Rattle.model.specs.Families.Loan.Reading.{freed}
-use Rattle.model.specs.Families.Loan.Steps.{ended_book}
-use Rattle.model.specs.Reading.{Open, span_of}
-use Rattle.model.specs.Step.{as_call, answer_in}
-use Rattle.model.specs.Turns.{old_of, words_after}
-use Rattle.model.specs.World.{Trace}
 use Rattle.model.proofs.Frame as frame
 use Rattle.laws_indices.proofs.Core as indices
-use Rattle.laws_indices.proofs.Knows.{release_counts, release_number}
 use Rattle.laws_loan.proofs.Channel.{Channel, words_in}
 use Rattle.laws_loan.proofs.Drains.{drains_does}
 use Rattle.laws_loan.proofs.Empties.{empties_does}

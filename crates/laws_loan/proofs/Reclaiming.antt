@@ -1,23 +1,14 @@
 -- What the steps of a reclaim share, and how it ends: each index is free or with the sender.
-use Rattle.std.proofs.Common.{◌≡◌, ℕ, ◌+◌, ◌%◌, ◌^◌, ◌<◌, ◌≢◌, inl, ⊎_elim, false, Option, Some, List, [], ◌∷◌, ◌++◌, refl, sym, ap, subst}
-use Rattle.std.proofs.Common.{◌∙◌, append-nil, arith}
-use Rattle.std.proofs.lemmas.Bool.{cases_eq}
-use Rattle.std.proofs.lemmas.List.Concat.{flat_map-append}
-use Rattle.std.proofs.lemmas.List.Sums.{fold-append}
+use Rattle.laws_loan.proofs.Names.{◌≡◌, ℕ, ◌+◌, ◌%◌, ◌^◌, ◌<◌, ◌≢◌, inl, ⊎_elim, false, Option, Some, List, [], ◌∷◌}
+use Rattle.laws_loan.proofs.Names.{◌++◌, refl, sym, ap, subst, ◌∙◌, append-nil, cases_eq, flat_map-append}
+use Rattle.laws_loan.proofs.Names.{fold-append, ReclaimStage, place_at, Answer, Event, Finished, Book, LoanFlight}
+use Rattle.laws_loan.proofs.Names.{Reclaim, KeepsBook, IsIn, Passing, Spot, Move, move_of, spot_of, receiver_after}
+use Rattle.laws_loan.proofs.Names.{receiver_of, died_after}
+use Rattle.std.proofs.Common.{arith}
 use Rattle.std.specs.List.{flat_map}
 use Rattle.steps.specs.declared.loan.places.Place.TheVariants as places
-use Rattle.steps.specs.declared.loan.reclaim.ReclaimStage.{ReclaimStage}
-use Rattle.steps.specs.Loan.Places.{place_at}
-use Rattle.model.specs.declared.event.Answer.{Answer}
-use Rattle.model.specs.declared.event.Event.{Event}
-use Rattle.model.specs.declared.event.Event.TheVariants.{Finished}
 use Rattle.model.specs.declared.event.Start.TheVariants as starts
-use Rattle.model.specs.declared.families.loan.Book.{Book}
 use Rattle.model.specs.declared.families.loan.LoanStart.TheVariants as calls
-use Rattle.model.specs.declared.families.loan.calls.LoanFlight.{LoanFlight}
-use Rattle.model.specs.declared.families.loan.calls.LoanFlight.TheVariants.{Reclaim}
-use Rattle.model.specs.Families.Loan.Promises.{KeepsBook, IsIn}
-use Rattle.model.specs.Families.Loan.Reading.{Passing, Spot, Move, move_of, spot_of, receiver_after, receiver_of, died_after}
 use Rattle.laws_loan.proofs.Channel.{Channel}
 use Rattle.laws_loan.proofs.Knows.{StageAt, ReclaimAt}
 use Rattle.laws_loan.proofs.Lists.{lists_stay}

@@ -1,32 +1,17 @@
 -- The release with which a give-up, a send and a take-back end, as steps of the machine.
-use Rattle.std.proofs.Common.{◌≡◌, ℕ, ◌+◌, ◌-◌, ◌^◌, ◌<◌, ◌≤◌, false, Option, Some, None, List, [], ◌∷◌, ◌++◌}
-use Rattle.std.proofs.Common.{set, refl, sym, ap, subst, ◌∙◌, append-nil, arith}
-use Rattle.steps.specs.declared.ask.Ask.{Ask}
-use Rattle.steps.specs.declared.ask.After.{After}
-use Rattle.steps.specs.declared.ask.After.TheVariants.{GoOn, Done}
-use Rattle.steps.specs.declared.indices.enums.ReleaseState.{ReleaseState}
-use Rattle.steps.specs.declared.indices.unique.DefaultMode.{DefaultMode}
-use Rattle.steps.specs.declared.indices.unique.Release.{Release}
-use Rattle.steps.specs.declared.indices.unique.ReleaseStage.{ReleaseStage}
+use Rattle.laws_loan.proofs.Names.{◌≡◌, ℕ, ◌+◌, ◌-◌, ◌^◌, ◌<◌, ◌≤◌, false, Option, Some, None, List, [], ◌∷◌, ◌++◌}
+use Rattle.laws_loan.proofs.Names.{set, refl, sym, ap, subst, ◌∙◌, append-nil, Ask, After, GoOn, ReleaseState}
+use Rattle.laws_loan.proofs.Names.{DefaultMode, Release, ReleaseStage, back_asks, back_takes, Answer, Event, Freed}
+use Rattle.laws_loan.proofs.Names.{Finished, LoanFlight, Effect, Party, Coding, ask_of, book_after, release_effect}
+use Rattle.laws_loan.proofs.Names.{Open, span_of, old_of, words_after, Trace, release_counts, release_number}
+use Rattle.laws_loan.proofs.Names.{release_wrote}
+use Rattle.std.proofs.Common.{arith}
+use Rattle.steps.specs.declared.ask.After.TheVariants.{Done}
 use Rattle.steps.specs.declared.indices.unique.ReleaseStage as releases
-use Rattle.steps.specs.Loan.Back.{back_asks, back_takes}
-use Rattle.model.specs.declared.event.Answer.{Answer}
-use Rattle.model.specs.declared.event.Event.{Event}
-use Rattle.model.specs.declared.event.Event.TheVariants.{Freed, Finished}
 use Rattle.model.specs.declared.event.Start as starts
 use Rattle.model.specs.declared.families.Flight as flights
-use Rattle.model.specs.declared.families.loan.calls.LoanFlight.{LoanFlight}
-use Rattle.model.specs.declared.families.loan.effects.Effect.{Effect}
 use Rattle.model.specs.declared.families.loan.effects.Effect.TheVariants as effects
-use Rattle.model.specs.declared.party.Party.{Party}
-use Rattle.model.specs.Coding.{Coding}
-use Rattle.model.specs.Families.{ask_of}
-use Rattle.model.specs.Families.Loan.Steps.{book_after, release_effect}
-use Rattle.model.specs.Reading.{Open, span_of}
-use Rattle.model.specs.Turns.{old_of, words_after}
-use Rattle.model.specs.World.{Trace}
 use Rattle.model.proofs.Frame as frame
-use Rattle.laws_indices.proofs.Knows.{release_counts, release_number, release_wrote}
 use Rattle.laws_loan.proofs.Channel.{Channel, words_in}
 use Rattle.laws_loan.proofs.Invariant.{sends_at, counted_for, HoldsNow}
 use Rattle.laws_loan.proofs.Knows.{GivesAt}

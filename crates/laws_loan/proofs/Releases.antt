@@ -1,15 +1,11 @@
 -- The three calls that end with a release.
-use Rattle.std.proofs.Common.{◌≡◌, ℕ, ⊎_elim, List, [], ◌∷◌, refl, arith}
-use Rattle.steps.specs.declared.indices.unique.ReleaseStage.{ReleaseStage}
+use Rattle.laws_loan.proofs.Names.{◌≡◌, ℕ, ⊎_elim, List, [], ◌∷◌, refl, ReleaseStage, PoppedIndex, Published}
+use Rattle.laws_loan.proofs.Names.{HandedOut, TakenBack, Acted, Item, Index, LoanFlight, Send, GiveUp, TakeBack}
+use Rattle.std.proofs.Common.{arith}
 use Rattle.steps.specs.declared.loan.send.SendStage as sends
 use Rattle.steps.specs.declared.loan.take_back.TakeBackStage as take_backs
-use Rattle.model.specs.declared.event.Answer.TheVariants.{Done, PoppedIndex}
-use Rattle.model.specs.declared.event.Event.TheVariants.{Published, HandedOut, TakenBack, Acted}
-use Rattle.model.specs.declared.event.Item.{Item}
-use Rattle.model.specs.declared.event.Item.TheVariants.{Index}
+use Rattle.model.specs.declared.event.Answer.TheVariants.{Done}
 use Rattle.model.specs.declared.families.loan.LoanStart.TheVariants as calls
-use Rattle.model.specs.declared.families.loan.calls.LoanFlight.{LoanFlight}
-use Rattle.model.specs.declared.families.loan.calls.LoanFlight.TheVariants.{Send, GiveUp, TakeBack}
 use Rattle.laws_loan.proofs.Knows.{send_of}
 use Rattle.laws_loan.proofs.Releasing.{Releasing}
 

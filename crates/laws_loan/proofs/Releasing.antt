@@ -1,37 +1,18 @@
 -- The release with which a give-up, a send and a take-back end: of the index that is in passing in the call.
-use Rattle.std.proofs.Common.{◌≡◌, ◌≢◌, ℕ, ◌+◌, ◌<◌, ◌≤◌, inl, Bool, false, Option, Some, None, List, []}
-use Rattle.std.proofs.Common.{◌∷◌, ◌++◌, fold, set, refl, sym, ap, subst, ◌∙◌, append-nil, arith}
-use Rattle.std.proofs.lemmas.List.Sums.{fold-append}
-use Rattle.steps.specs.declared.ask.Ask.{Ask}
-use Rattle.steps.specs.declared.ask.After.{After}
-use Rattle.steps.specs.declared.ask.After.TheVariants.{GoOn, Done}
-use Rattle.steps.specs.declared.indices.enums.ReleaseState.{ReleaseState}
-use Rattle.steps.specs.declared.indices.unique.DefaultMode.{DefaultMode}
-use Rattle.steps.specs.declared.indices.unique.Release.{Release}
-use Rattle.steps.specs.declared.indices.unique.ReleaseStage.{ReleaseStage}
+use Rattle.laws_loan.proofs.Names.{◌≡◌, ◌≢◌, ℕ, ◌+◌, ◌<◌, ◌≤◌, inl, Bool, false, Option, Some, None, List, [], ◌∷◌}
+use Rattle.laws_loan.proofs.Names.{◌++◌, fold, set, refl, sym, ap, subst, ◌∙◌, append-nil, fold-append, Ask, After}
+use Rattle.laws_loan.proofs.Names.{GoOn, ReleaseState, DefaultMode, Release, ReleaseStage, back_asks, back_takes}
+use Rattle.laws_loan.proofs.Names.{Answer, Event, Freed, Finished, Book, LoanStart, LoanFlight, Party, Coding, ask_of}
+use Rattle.laws_loan.proofs.Names.{most_steps, AnswersRight, Free, Passing, move_of, spot_of, receiver_after}
+use Rattle.laws_loan.proofs.Names.{receiver_of, reclaims_after, Wrote, may_stand, ended_book, book_after, Span, Open}
+use Rattle.laws_loan.proofs.Names.{own_after, span_of, old_of, words_after, change_of, step_count, span_of-own}
+use Rattle.laws_loan.proofs.Names.{release_counts, release_number, release_wrote, ReleaseAt}
+use Rattle.std.proofs.Common.{arith}
+use Rattle.steps.specs.declared.ask.After.TheVariants.{Done}
 use Rattle.steps.specs.declared.indices.unique.ReleaseStage as releases
-use Rattle.steps.specs.Loan.Back.{back_asks, back_takes}
-use Rattle.model.specs.declared.event.Answer.{Answer}
-use Rattle.model.specs.declared.event.Event.{Event}
-use Rattle.model.specs.declared.event.Event.TheVariants.{Freed, Finished}
 use Rattle.model.specs.declared.event.Start.TheVariants as starts
 use Rattle.model.specs.declared.families.Flight as flights
-use Rattle.model.specs.declared.families.loan.Book.{Book}
-use Rattle.model.specs.declared.families.loan.LoanStart.{LoanStart}
-use Rattle.model.specs.declared.families.loan.calls.LoanFlight.{LoanFlight}
-use Rattle.model.specs.declared.party.Party.{Party}
-use Rattle.model.specs.Coding.{Coding}
-use Rattle.model.specs.Families.{ask_of}
-use Rattle.model.specs.Families.Loan.Bounds.{most_steps}
-use Rattle.model.specs.Families.Loan.Promises.{AnswersRight}
-use Rattle.model.specs.Families.Loan.Reading.{Free, Passing, move_of, spot_of, receiver_after, receiver_of, reclaims_after}
-use Rattle.model.specs.Families.Loan.Spans.{Wrote, may_stand}
-use Rattle.model.specs.Families.Loan.Steps.{ended_book, book_after}
-use Rattle.model.specs.Reading.{Span, Open, own_after, span_of}
-use Rattle.model.specs.Turns.{old_of, words_after, change_of, step_count}
-use Rattle.model.proofs.Readings.{span_of-own}
 use Rattle.laws_indices.proofs.Core as indices
-use Rattle.laws_indices.proofs.Knows.{release_counts, release_number, release_wrote, ReleaseAt}
 use Rattle.laws_loan.proofs.Carried.{moved_on}
 use Rattle.laws_loan.proofs.Channel.{Channel, words_in}
 use Rattle.laws_loan.proofs.Invariant.{sends_at, counted_for, hung, reclaims_in, Carries, HoldsNow}

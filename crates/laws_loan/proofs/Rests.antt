@@ -1,30 +1,17 @@
 -- A step of the sender's call that moves no index and leaves both queues: it changes no word but those of the indices, and writes
 -- nothing, or that it ends.
-use Rattle.std.proofs.Common.{◌≡◌, ◌≢◌, ℕ, ◌+◌, ◌≤◌, false, Option, Some, None, List, [], ◌∷◌, ◌++◌, fold, refl, sym, ap}
-use Rattle.std.proofs.Common.{subst, ◌∙◌, append-nil, arith}
-use Rattle.steps.specs.declared.ask.Ask.{Ask}
-use Rattle.steps.specs.declared.ask.After.{After}
-use Rattle.steps.specs.declared.ask.After.TheVariants.{GoOn, Done}
-use Rattle.steps.specs.Indices.Head.{locked}
-use Rattle.model.specs.declared.event.Answer.{Answer}
-use Rattle.model.specs.declared.event.Event.{Event}
-use Rattle.model.specs.declared.event.Event.TheVariants.{Finished}
+use Rattle.laws_loan.proofs.Names.{◌≡◌, ◌≢◌, ℕ, ◌+◌, ◌≤◌, false, Option, Some, None, List, [], ◌∷◌, ◌++◌, fold, refl}
+use Rattle.laws_loan.proofs.Names.{sym, ap, subst, ◌∙◌, append-nil, Ask, After, GoOn, locked, Answer, Event, Finished}
+use Rattle.laws_loan.proofs.Names.{LoanStart, LoanFlight, Party, Coding, most_steps, MovesRight, BeginsRight}
+use Rattle.laws_loan.proofs.Names.{AnswersRight, promise, reclaims_after, Wrote, flight_of, Stands, Span, Open}
+use Rattle.laws_loan.proofs.Names.{own_after, span_of, words_after, change_of, step_count, AreRight, AreOwn}
+use Rattle.laws_loan.proofs.Names.{AllFollow}
+use Rattle.std.proofs.Common.{arith}
+use Rattle.steps.specs.declared.ask.After.TheVariants.{Done}
 use Rattle.model.specs.declared.event.Start.TheVariants as starts
 use Rattle.model.specs.declared.families.Flight as flights
-use Rattle.model.specs.declared.families.loan.LoanStart.{LoanStart}
-use Rattle.model.specs.declared.families.loan.calls.LoanFlight.{LoanFlight}
-use Rattle.model.specs.declared.party.Party.{Party}
-use Rattle.model.specs.Coding.{Coding}
-use Rattle.model.specs.Families.Loan.Bounds.{most_steps}
-use Rattle.model.specs.Families.Loan.Promises.{ComesFrom, MovesRight, BeginsRight, AnswersRight, promise}
-use Rattle.model.specs.Families.Loan.Reading.{reclaims_after}
-use Rattle.model.specs.Families.Loan.Spans.{Wrote}
-use Rattle.model.specs.Parties.{flight_of}
-use Rattle.model.specs.Promises.Spans.{Stands}
-use Rattle.model.specs.Reading.{Span, Open, own_after, span_of}
-use Rattle.model.specs.Turns.{words_after, change_of, step_count}
+use Rattle.model.specs.Families.Loan.Promises.{ComesFrom}
 use Rattle.model.proofs.Frame as frame
-use Rattle.model.proofs.Readings.{AreRight, AreOwn, AllFollow}
 use Rattle.laws_indices.proofs.Core as indices
 use Rattle.laws_loan.proofs.Carried.{span_then, carried_on}
 use Rattle.laws_loan.proofs.Channel.{Channel, words_in}

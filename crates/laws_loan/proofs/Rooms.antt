@@ -1,11 +1,8 @@
 -- How many indices wait in the two queues: no more than there are slots, so each is below them, and where one index is in
 -- passing there is room for it.
-use Rattle.std.proofs.Common.{◌≡◌, ℕ, ◌^◌, ◌<◌, ◌≤◌, ⊎_elim, Option, List, ◌∷◌, length, sym, ap, ◌∙◌, arith}
-use Rattle.std.proofs.lemmas.Bool.{cases_lt}
-use Rattle.steps.specs.Loan.Back.{index_in}
-use Rattle.model.specs.declared.event.Event.{Event}
-use Rattle.model.specs.declared.families.loan.Book.{Book}
-use Rattle.model.specs.Families.Loan.Reading.{Free, Passing, Waiting, Returning, spot_of}
+use Rattle.laws_loan.proofs.Names.{◌≡◌, ℕ, ◌^◌, ◌<◌, ◌≤◌, ⊎_elim, Option, List, ◌∷◌, length, sym, ap, ◌∙◌, cases_lt}
+use Rattle.laws_loan.proofs.Names.{index_in, Event, Book, Free, Passing, Waiting, Returning, spot_of}
+use Rattle.std.proofs.Common.{arith}
 use Rattle.laws_loan.proofs.Lists.{lists_few, lists_room, first_there}
 use Rattle.laws_loan.proofs.Placed.{Placed}
 use Rattle.laws_loan.proofs.Spots.{is_waiting, is_returning, waits_there, returns_there}

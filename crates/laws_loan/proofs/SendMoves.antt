@@ -1,46 +1,23 @@
 -- Every step of a send's push; here those over a full queue: it moves the read position, and loads the index that so leaves; or a
 -- receive has moved it before, and the send ends.
-use Rattle.std.proofs.Common.{◌≡◌, ◌≢◌, ℕ, suc, ◌+◌, ◌-◌, ◌%◌, ◌^◌, ◌<◌, ◌≤◌, ◌==◌, inl, inr, true, false, Bool}
-use Rattle.std.proofs.Common.{Option, List, [], ◌∷◌, ◌++◌, length, get_or, fold, refl, sym, ap, subst, ◌∙◌}
-use Rattle.std.proofs.Common.{None, append-nil, append_assoc, length-append, arith}
-use Rattle.std.proofs.lemmas.Bool.Decides.{nat_tests}
-use Rattle.std.proofs.lemmas.List.{set-get_or}
-use Rattle.std.proofs.lemmas.List.Sums.{fold-append}
-use Rattle.steps.specs.declared.ask.Ask.{Ask}
-use Rattle.steps.specs.declared.ask.After.{After}
-use Rattle.steps.specs.declared.ask.After.TheVariants.{GoOn, Done}
+use Rattle.laws_loan.proofs.Names.{◌≡◌, ◌≢◌, ℕ, suc, ◌+◌, ◌-◌, ◌%◌, ◌^◌, ◌<◌, ◌≤◌, ◌==◌, inl, inr, true, false, Bool}
+use Rattle.laws_loan.proofs.Names.{Option, List, [], ◌∷◌, ◌++◌, length, get_or, fold, refl, sym, ap, subst, ◌∙◌, None}
+use Rattle.laws_loan.proofs.Names.{append-nil, append_assoc, length-append, nat_tests, set-get_or, fold-append, Ask}
+use Rattle.laws_loan.proofs.Names.{After, GoOn, submission_word, load, Answer, Event, Published, HandedOut, Acted}
+use Rattle.laws_loan.proofs.Names.{Finished, Item, Index, Start, LoanFlight, Effect, Party, Coding, Passing, Waiting}
+use Rattle.laws_loan.proofs.Names.{spot_of, receiver_after, receiver_of, sent_at, words_of_index, answer_of_item}
+use Rattle.laws_loan.proofs.Names.{handed_out, Open, own_after, span_of, change_of, span_of-own, oldest, push_over}
+use Rattle.laws_loan.proofs.Names.{take_keeps_pop, KnowsOverflowPush, overflow_push_number, Core, taken}
+use Rattle.std.proofs.Common.{arith}
+use Rattle.steps.specs.declared.ask.After.TheVariants.{Done}
 use Rattle.steps.specs.declared.indices.unique.ReleaseStage as releases
 use Rattle.steps.specs.declared.queues.overflow.PushStage.{PushStage}
 use Rattle.steps.specs.declared.queues.overflow.PushStage as pushes
-use Rattle.steps.specs.Loan.Layout.{submission_word}
 use Rattle.steps.specs.Queues.Overflow.{cell_word}
-use Rattle.steps.specs.Queues.Ring.{load}
-use Rattle.model.specs.declared.event.Answer.{Answer}
 use Rattle.model.specs.declared.event.Answer.TheVariants as answers
-use Rattle.model.specs.declared.event.Event.{Event}
-use Rattle.model.specs.declared.event.Event.TheVariants.{Published, HandedOut, Acted, Finished}
-use Rattle.model.specs.declared.event.Item.{Item}
-use Rattle.model.specs.declared.event.Item.TheVariants.{Index}
-use Rattle.model.specs.declared.event.Start.{Start}
 use Rattle.model.specs.declared.event.Start.TheVariants as starts
 use Rattle.model.specs.declared.families.loan.LoanStart.TheVariants as calls
-use Rattle.model.specs.declared.families.loan.calls.LoanFlight.{LoanFlight}
-use Rattle.model.specs.declared.families.loan.effects.Effect.{Effect}
 use Rattle.model.specs.declared.families.loan.effects.Effect.TheVariants as effects
-use Rattle.model.specs.declared.party.Party.{Party}
-use Rattle.model.specs.Coding.{Coding}
-use Rattle.model.specs.Families.Loan.Reading.{Passing, Waiting, spot_of, receiver_after, receiver_of}
-use Rattle.model.specs.Families.Loan.Steps.{sent_at}
-use Rattle.model.specs.Families.Queues.Calls.{words_of_index}
-use Rattle.model.specs.Families.Queues.Objects.{answer_of_item}
-use Rattle.model.specs.Families.Queues.Reading.{handed_out}
-use Rattle.model.specs.Reading.{Open, own_after, span_of}
-use Rattle.model.specs.Turns.{change_of}
-use Rattle.model.proofs.Readings.{span_of-own}
-use Rattle.laws_queues.proofs.Overflow.Core.{oldest, push_over}
-use Rattle.laws_queues.proofs.Overflow.Keeping.{take_keeps_pop}
-use Rattle.laws_queues.proofs.Overflow.Knows.{KnowsOverflowPush, overflow_push_number}
-use Rattle.laws_queues.proofs.Queues.Core.{Core, taken}
 use Rattle.laws_loan.proofs.Carried.{moved_on}
 use Rattle.laws_loan.proofs.Channel.{Channel, words_in}
 use Rattle.laws_loan.proofs.Invariant.{sends_at, counted_for, hung, reclaims_in, Carries, HoldsNow}

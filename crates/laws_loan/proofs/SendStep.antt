@@ -1,33 +1,14 @@
 -- A send, as steps of the machine: its push, and the release of the index that comes back.
+use Rattle.laws_loan.proofs.Names.{◌≡◌, ℕ, ◌-◌, ◌^◌, ◌<◌, sym, ap, subst, ◌∙◌, After, ReleaseState, DefaultMode}
+use Rattle.laws_loan.proofs.Names.{Release, ReleaseStage, SendStage, back_asks, back_takes, send_released, went_on}
+use Rattle.laws_loan.proofs.Names.{Answer, PoppedIndex, LoanFlight, Send, Party, Coding, ask_of, release_effect}
+use Rattle.laws_loan.proofs.Names.{as_it_is, popped, Open, span_of, as_call, old_of, Trace}
 use native.Mathlib.Omega.{arith}
-use Rattle.std.proofs.Common.{◌≡◌, ℕ, ◌-◌, ◌^◌, ◌<◌, sym, ap, subst, ◌∙◌}
-use Rattle.steps.specs.declared.ask.After.{After}
-use Rattle.steps.specs.declared.indices.enums.ReleaseState.{ReleaseState}
-use Rattle.steps.specs.declared.indices.unique.DefaultMode.{DefaultMode}
-use Rattle.steps.specs.declared.indices.unique.Release.{Release}
-use Rattle.steps.specs.declared.indices.unique.ReleaseStage.{ReleaseStage}
 use Rattle.steps.specs.declared.loan.send.Send as send
-use Rattle.steps.specs.declared.loan.send.SendStage.{SendStage}
 use Rattle.steps.specs.declared.loan.send.SendStage as sends
-use Rattle.steps.specs.Loan.Back.{back_asks, back_takes}
-use Rattle.steps.specs.Loan.Send.{send_released}
-use Rattle.steps.specs.Routine.{went_on}
-use Rattle.model.specs.declared.event.Answer.{Answer}
-use Rattle.model.specs.declared.event.Answer.TheVariants.{PoppedIndex}
 use Rattle.model.specs.declared.event.Start as starts
 use Rattle.model.specs.declared.families.Flight as flights
 use Rattle.model.specs.declared.families.loan.LoanStart.TheVariants as calls
-use Rattle.model.specs.declared.families.loan.calls.LoanFlight.{LoanFlight}
-use Rattle.model.specs.declared.families.loan.calls.LoanFlight.TheVariants.{Send}
-use Rattle.model.specs.declared.party.Party.{Party}
-use Rattle.model.specs.Coding.{Coding}
-use Rattle.model.specs.Families.{ask_of}
-use Rattle.model.specs.Families.Loan.Steps.{release_effect}
-use Rattle.model.specs.Families.Queues.Calls.{as_it_is, popped}
-use Rattle.model.specs.Reading.{Open, span_of}
-use Rattle.model.specs.Step.{as_call}
-use Rattle.model.specs.Turns.{old_of}
-use Rattle.model.specs.World.{Trace}
 use Rattle.model.proofs.Frame as frame
 use Rattle.laws_loan.proofs.Channel.{words_in}
 use Rattle.laws_loan.proofs.Releases.{send_frees_at, sends_back}

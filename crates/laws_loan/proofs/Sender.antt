@@ -1,28 +1,13 @@
 -- A step of the sender's call, which writes events of its own alone: what it shows, and that it so comes to what the frame asks.
-use Rattle.std.proofs.Common.{◌≡◌, ◌≢◌, ℕ, ◌+◌, Bool, false, Option, Some, List, [], ◌++◌, fold, sym, ap, subst, ◌∙◌}
-use Rattle.steps.specs.declared.ask.Ask.{Ask}
-use Rattle.steps.specs.declared.ask.After.{After}
-use Rattle.model.specs.declared.event.Answer.{Answer}
-use Rattle.model.specs.declared.event.Event.{Event}
-use Rattle.model.specs.declared.event.Start.{Start}
+use Rattle.laws_loan.proofs.Names.{◌≡◌, ◌≢◌, ℕ, ◌+◌, Bool, false, Option, Some, List, [], ◌++◌, fold, sym, ap, subst}
+use Rattle.laws_loan.proofs.Names.{◌∙◌, Ask, After, Answer, Event, Start, Flight, LoanStart, LoanFlight, Effect}
+use Rattle.laws_loan.proofs.Names.{Party, Coding, promise, ended_book, book_after, effects_of, Stands, Span}
+use Rattle.laws_loan.proofs.Names.{own_after, span_of, as_call, answer_in, words_after, change_of, step_count}
+use Rattle.laws_loan.proofs.Names.{party_after, ending_of, AreOwn, AllFollow, span_of-other, GoesUp}
 use Rattle.model.specs.declared.event.Start.TheVariants as starts
-use Rattle.model.specs.declared.families.Flight.{Flight}
 use Rattle.model.specs.declared.families.Flight as flights
 use Rattle.model.specs.declared.families.Registry as registries
-use Rattle.model.specs.declared.families.loan.LoanStart.{LoanStart}
-use Rattle.model.specs.declared.families.loan.calls.LoanFlight.{LoanFlight}
-use Rattle.model.specs.declared.families.loan.effects.Effect.{Effect}
-use Rattle.model.specs.declared.party.Party.{Party}
-use Rattle.model.specs.Coding.{Coding}
-use Rattle.model.specs.Families.Loan.Promises.{promise}
-use Rattle.model.specs.Families.Loan.Steps.{ended_book, book_after, effects_of}
-use Rattle.model.specs.Promises.Spans.{Stands}
-use Rattle.model.specs.Reading.{Span, own_after, span_of}
-use Rattle.model.specs.Step.{as_call, answer_in}
-use Rattle.model.specs.Turns.{words_after, change_of, step_count, party_after, ending_of}
 use Rattle.model.proofs.Frame as frame
-use Rattle.model.proofs.Readings.{AreOwn, AllFollow, span_of-other}
-use Rattle.laws_queues.proofs.Queues.Core.{GoesUp}
 use Rattle.laws_loan.proofs.Channel.{Channel, words_in}
 use Rattle.laws_loan.proofs.Invariant.{family}
 use Rattle.laws_loan.proofs.Knows.{wrote_in, At}

@@ -1,33 +1,19 @@
 -- The push of a send, the pop of a take-back, the push of a give-back and what a receive looks at, as steps of the machine.
-use Rattle.std.proofs.Common.{◌≡◌, ℕ, ◌-◌, ◌^◌, ◌<◌, false, Bool, Option, List, [], fold, ap, ◌∙◌}
-use Rattle.steps.specs.declared.ask.Ask.{Ask}
-use Rattle.steps.specs.declared.ask.After.{After}
-use Rattle.steps.specs.declared.copied.OneWord.{OneWord}
+use Rattle.laws_loan.proofs.Names.{◌≡◌, ℕ, ◌-◌, ◌^◌, ◌<◌, false, Bool, Option, List, [], fold, ap, ◌∙◌, Ask, After}
+use Rattle.laws_loan.proofs.Names.{OneWord, goes_back, Answer, Event, LoanStart, LoanFlight, Effect, Party, Coding}
+use Rattle.laws_loan.proofs.Names.{has_died, beside, ended_book, book_after, effects_of, take_back_effect}
+use Rattle.laws_loan.proofs.Names.{give_back_effect, Open, span_of, answer_in, Trace, StandsThere, Core}
 use Rattle.steps.specs.declared.loan.take_back.TakeBackStage as take_back_stages
 use Rattle.steps.specs.declared.queues.overflow.PopStage as overflow_pops
 use Rattle.steps.specs.declared.queues.overflow.PushStage.{PushStage}
 use Rattle.steps.specs.declared.queues.ring.PopStage.{PopStage}
 use Rattle.steps.specs.declared.queues.ring.PushStage as ring_pushes
-use Rattle.steps.specs.Queues.Overflow.{goes_back}
-use Rattle.model.specs.declared.event.Answer.{Answer}
-use Rattle.model.specs.declared.event.Event.{Event}
 use Rattle.model.specs.declared.event.Start as starts
 use Rattle.model.specs.declared.families.Flight as flights
 use Rattle.model.specs.declared.families.Registry as registries
-use Rattle.model.specs.declared.families.loan.LoanStart.{LoanStart}
 use Rattle.model.specs.declared.families.loan.LoanStart.TheVariants as calls
-use Rattle.model.specs.declared.families.loan.calls.LoanFlight.{LoanFlight}
-use Rattle.model.specs.declared.families.loan.effects.Effect.{Effect}
-use Rattle.model.specs.declared.party.Party.{Party}
-use Rattle.model.specs.Coding.{Coding}
-use Rattle.model.specs.Families.Indices.Robust.Dead.{has_died}
-use Rattle.model.specs.Families.Loan.Steps.{beside, ended_book, book_after, effects_of, take_back_effect, give_back_effect}
-use Rattle.model.specs.Reading.{Open, span_of}
-use Rattle.model.specs.Step.{answer_in}
-use Rattle.model.specs.World.{Trace}
 use Rattle.model.proofs.Frame as frame
-use Rattle.model.proofs.Scenes.{StandsThere, ComesFrom}
-use Rattle.laws_queues.proofs.Queues.Core.{Core}
+use Rattle.model.proofs.Scenes.{ComesFrom}
 use Rattle.laws_loan.proofs.Channel.{Channel, words_in}
 use Rattle.laws_loan.proofs.GiveBacks as give_backs
 use Rattle.laws_loan.proofs.GiveBacks.{give_at}

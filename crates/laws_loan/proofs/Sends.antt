@@ -1,45 +1,23 @@
 -- The steps of a send until it releases an index: the sender pushes the submission queue.
-use Rattle.std.proofs.Common.{◌≡◌, ◌≢◌, ℕ, ◌+◌, ◌-◌, ◌^◌, ◌<◌, ◌≤◌, ◌==◌, false, Option, Some, None, List, [], ◌++◌}
-use Rattle.std.proofs.Common.{length, refl, sym, ap, subst, ◌∙◌, append-nil, arith}
-use Rattle.std.proofs.lemmas.Bool.Decides.{nat_tests}
-use Rattle.steps.specs.declared.ask.Ask.{Ask}
-use Rattle.steps.specs.declared.ask.After.{After}
-use Rattle.steps.specs.declared.ask.After.TheVariants.{GoOn}
+use Rattle.laws_loan.proofs.Names.{◌≡◌, ◌≢◌, ℕ, ◌+◌, ◌-◌, ◌^◌, ◌<◌, ◌≤◌, ◌==◌, false, Option, Some, None, List, []}
+use Rattle.laws_loan.proofs.Names.{◌++◌, length, refl, sym, ap, subst, ◌∙◌, append-nil, nat_tests, Ask, After, GoOn}
+use Rattle.laws_loan.proofs.Names.{OneWord, submission_word, shifted, send_takes, load, went_on, Answer, Event, Start}
+use Rattle.laws_loan.proofs.Names.{LoanFlight, Send, Effect, Party, Coding, ask_of, spot_of, receiver_of, read_in}
+use Rattle.laws_loan.proofs.Names.{push_effect, as_it_is, popped, words_of_index, Open, span_of, as_call, old_of}
+use Rattle.laws_loan.proofs.Names.{words_after, change_of, step_count, fill_keeps_pop, KnowsOverflowPush}
+use Rattle.laws_loan.proofs.Names.{KnowsOverflowPop, overflow_push_number, Core, filled, layout}
+use Rattle.std.proofs.Common.{arith}
 use Rattle.steps.specs.declared.loan.send.Send as send
 use Rattle.steps.specs.declared.loan.send.SendStage as sends
-use Rattle.steps.specs.declared.copied.OneWord.{OneWord}
 use Rattle.steps.specs.declared.queues.overflow.PopStage.{PopStage}
 use Rattle.steps.specs.declared.queues.overflow.PushStage.{PushStage}
 use Rattle.steps.specs.declared.queues.overflow.PushStage as pushes
-use Rattle.steps.specs.Loan.Layout.{submission_word}
-use Rattle.steps.specs.Loan.Parts.{shifted}
-use Rattle.steps.specs.Loan.Send.{send_takes}
 use Rattle.steps.specs.Queues.Overflow.{push_asks}
-use Rattle.steps.specs.Queues.Ring.{load}
-use Rattle.steps.specs.Routine.{went_on}
-use Rattle.model.specs.declared.event.Answer.{Answer}
-use Rattle.model.specs.declared.event.Event.{Event}
-use Rattle.model.specs.declared.event.Start.{Start}
 use Rattle.model.specs.declared.event.Start.TheVariants as starts
 use Rattle.model.specs.declared.families.Flight as flights
 use Rattle.model.specs.declared.families.loan.LoanStart.TheVariants as calls
-use Rattle.model.specs.declared.families.loan.calls.LoanFlight.{LoanFlight}
-use Rattle.model.specs.declared.families.loan.calls.LoanFlight.TheVariants.{Send}
-use Rattle.model.specs.declared.families.loan.effects.Effect.{Effect}
 use Rattle.model.specs.declared.families.loan.effects.Effect.TheVariants as effects
-use Rattle.model.specs.declared.party.Party.{Party}
-use Rattle.model.specs.Coding.{Coding}
-use Rattle.model.specs.Families.{ask_of}
-use Rattle.model.specs.Families.Loan.Reading.{spot_of, receiver_of}
-use Rattle.model.specs.Families.Loan.Steps.{read_in, push_effect}
-use Rattle.model.specs.Families.Queues.Calls.{as_it_is, popped, words_of_index}
-use Rattle.model.specs.Reading.{Open, span_of}
-use Rattle.model.specs.Step.{as_call}
-use Rattle.model.specs.Turns.{old_of, words_after, change_of, step_count}
-use Rattle.laws_queues.proofs.Overflow.Keeping.{fill_keeps_pop}
-use Rattle.laws_queues.proofs.Overflow.Knows.{KnowsOverflowPush, KnowsOverflowPop, overflow_push_number}
-use Rattle.laws_queues.proofs.Queues.Core.{Core, Good, filled}
-use Rattle.laws_queues.proofs.Queues.Knows.{layout}
+use Rattle.laws_queues.proofs.Queues.Core.{Good}
 use Rattle.laws_loan.proofs.Channel.{Channel, no_roles, words_in}
 use Rattle.laws_loan.proofs.Cuts.{IsOn}
 use Rattle.laws_loan.proofs.Invariant.{Hangs, sends_at, counted_for, hung, reclaims_in, Carries, HoldsNow}

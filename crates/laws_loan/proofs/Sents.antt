@@ -1,18 +1,12 @@
 -- What a reclaim meets as it releases: which index it comes to next; where an index is by the events that is sent by the
 -- sender's table, while nothing waits in either queue; and where each index is once none is sent.
-use Rattle.std.proofs.Common.{◌≡◌, ◌≢◌, ℕ, zero, suc, ◌+◌, ◌-◌, ◌<◌, ◌≤◌, ◌⊎◌, inl, inr, ⊎_elim, Bool, true, false}
-use Rattle.std.proofs.Common.{true≢false, Option, Some, None, List, [], refl, sym, ap, subst, ◌∙◌, arith}
-use Rattle.steps.specs.declared.loan.places.Place.{Place}
+use Rattle.laws_loan.proofs.Names.{◌≡◌, ◌≢◌, ℕ, zero, suc, ◌+◌, ◌-◌, ◌<◌, ◌≤◌, ◌⊎◌, inl, inr, ⊎_elim, Bool, true}
+use Rattle.laws_loan.proofs.Names.{false, true≢false, Option, Some, None, List, [], refl, sym, ap, subst, ◌∙◌, Place}
+use Rattle.laws_loan.proofs.Names.{is_sent, place_at, sent_within, next_sent, by_test, Event, Book, has_died, IsIn}
+use Rattle.laws_loan.proofs.Names.{IsReclaiming, MayFree, Spot, Free, Passing, With, Waiting, Returning, spot_of}
+use Rattle.laws_loan.proofs.Names.{receiver_of, has_died_by, span_of, one_if}
+use Rattle.std.proofs.Common.{arith}
 use Rattle.steps.specs.declared.loan.places.Place.TheVariants as places
-use Rattle.steps.specs.Loan.Places.{is_sent, place_at, sent_within, next_sent}
-use Rattle.steps.specs.Picks.{by_test}
-use Rattle.model.specs.declared.event.Event.{Event}
-use Rattle.model.specs.declared.families.loan.Book.{Book}
-use Rattle.model.specs.Families.Indices.Robust.Dead.{has_died}
-use Rattle.model.specs.Families.Loan.Promises.{IsIn, IsReclaiming, MayFree}
-use Rattle.model.specs.Families.Loan.Reading.{Spot, Free, Passing, With, Waiting, Returning, spot_of, receiver_of, has_died_by}
-use Rattle.model.specs.Reading.{span_of}
-use Rattle.model.specs.Turns.{one_if}
 use Rattle.laws_loan.proofs.Lists.{times, Lists}
 use Rattle.laws_loan.proofs.Placed.{IsBy, Placed}
 use Rattle.laws_loan.proofs.Spots.{is_waiting, is_returning}

@@ -1,36 +1,26 @@
 -- What a step of the sender's does to the words of the indices, to who has claimed what, and to whether its call is counted in
 -- the head. Nobody else takes an index or gives one back, so the head stays as it was loaded.
-use Rattle.std.proofs.Common.{◌≡◌, ◌≢◌, ℕ, ◌+◌, ◌-◌, ◌%◌, ◌^◌, ◌<◌, ◌≤◌, ◌==◌, ⊎_elim, nat_lt, Bool, true, false}
-use Rattle.std.proofs.Common.{bit_or, Option, Some, None, List, length, get_or, set, refl, sym, ap, subst, ◌∙◌, arith}
+use Rattle.laws_loan.proofs.Names.{◌≡◌, ◌≢◌, ℕ, ◌+◌, ◌-◌, ◌%◌, ◌^◌, ◌<◌, ◌≤◌, ◌==◌, ⊎_elim, nat_lt, Bool, true, false}
+use Rattle.laws_loan.proofs.Names.{bit_or, Option, Some, None, List, length, get_or, set, refl, sym, ap, subst, ◌∙◌}
+use Rattle.laws_loan.proofs.Names.{Ok, Err, cases_lt, nat_tests, set-get_or, Ask, Or, After, GoOn, ReleaseState}
+use Rattle.laws_loan.proofs.Names.{AcquireStage, DefaultMode, Release, ReleaseStage, next_word, flag_word, flag}
+use Rattle.laws_loan.proofs.Names.{has_flag, proposed, borrowed, locked, says_locked, Acquired, at_acquire}
+use Rattle.laws_loan.proofs.Names.{acquire_asks, acquire_takes, acquire_sees, acquire_goes_back, head_taken}
+use Rattle.laws_loan.proofs.Names.{head_given_back, first_claim, back_asks, back_takes, inner_release, by_test, by_eq}
+use Rattle.laws_loan.proofs.Names.{ask_of, old_of, words_after, head_of, counted_in, holder, one_held, held_below}
+use Rattle.laws_loan.proofs.Names.{flag_within, is_claimed, head_stays, acquire_counts, acquire_number}
+use Rattle.laws_loan.proofs.Names.{release_counts, release_number, ReleaseAt, AllClaimed}
+use Rattle.std.proofs.Common.{arith}
 use Rattle.std.proofs.Common.{get_or-set_same}
-use Rattle.std.specs.Prelude.{Ok, Err}
-use Rattle.std.proofs.lemmas.Bool.{cases_lt}
-use Rattle.std.proofs.lemmas.Bool.Decides.{nat_tests}
-use Rattle.std.proofs.lemmas.List.{set-get_or}
-use Rattle.steps.specs.declared.ask.Ask.{Ask}
-use Rattle.steps.specs.declared.ask.Op.TheVariants.{Or}
-use Rattle.steps.specs.declared.ask.After.{After}
-use Rattle.steps.specs.declared.ask.After.TheVariants.{GoOn, Done}
-use Rattle.steps.specs.declared.indices.enums.ReleaseState.{ReleaseState}
+use Rattle.steps.specs.declared.ask.After.TheVariants.{Done}
 use Rattle.steps.specs.declared.indices.enums.ReleaseState.TheVariants.{Unlocked}
 use Rattle.steps.specs.declared.indices.enums.UniqueIndexSetAcquireFailure as failures
 use Rattle.steps.specs.declared.indices.unique.Acquire as acquire_calls
-use Rattle.steps.specs.declared.indices.unique.AcquireStage.{AcquireStage}
 use Rattle.steps.specs.declared.indices.unique.AcquireStage as acquires
-use Rattle.steps.specs.declared.indices.unique.DefaultMode.{DefaultMode}
-use Rattle.steps.specs.declared.indices.unique.Release.{Release}
-use Rattle.steps.specs.declared.indices.unique.ReleaseStage.{ReleaseStage}
 use Rattle.steps.specs.declared.indices.unique.ReleaseStage as releases
-use Rattle.steps.specs.Indices.Head.{next_word, flag_word, flag, has_flag, proposed, borrowed, locked, says_locked}
-use Rattle.steps.specs.Indices.Unique.{Acquired, at_acquire, acquire_asks, acquire_takes, acquire_sees}
-use Rattle.steps.specs.Indices.Unique.{acquire_goes_back, head_taken, head_given_back, first_claim}
-use Rattle.steps.specs.Loan.Back.{back_asks, back_takes, inner_release}
-use Rattle.steps.specs.Picks.{by_test, by_eq}
-use Rattle.model.specs.Families.{ask_of}
-use Rattle.model.specs.Turns.{old_of, words_after}
-use Rattle.laws_indices.proofs.Core.{head_of, counted_in, holder, one_held, held_below, flag_within, is_claimed, head_stays, Good}
+use Rattle.laws_indices.proofs.Core.{Good}
 use Rattle.laws_indices.proofs.Count.{given_number, less_number}
-use Rattle.laws_indices.proofs.Knows.{acquire_counts, acquire_number, release_counts, release_number, ReleaseAt, IsOpen, AllClaimed}
+use Rattle.laws_indices.proofs.Knows.{IsOpen}
 use Rattle.laws_indices.proofs.Moves.{counts_right, unlocked_for, stores_next, some_counted, gives, subtracts, frees}
 use Rattle.laws_indices.proofs.Moves.{takes, some_free, was_free, still_claimed, claims, claims_again}
 use Rattle.laws_loan.proofs.Cuts.{IsOn}

@@ -1,9 +1,8 @@
 -- Where an index is after one event more.
+use Rattle.laws_loan.proofs.Names.{◌≡◌, ◌≢◌, ℕ, ◌==◌, if◌then◌else◌, Bool, true, false, Some, None, List, [], ◌∷◌}
+use Rattle.laws_loan.proofs.Names.{◌++◌, refl, sym, ap, ◌∙◌, eq-eqb, ne_eqb, fold-append, Event, Spot, Free, Passing}
+use Rattle.laws_loan.proofs.Names.{With, Waiting, Returning, Move, move_of, moved, spot_after, spot_of}
 use native.Mathlib.Omega.{arith}
-use Rattle.std.proofs.Common.{◌≡◌, ◌≢◌, ℕ, ◌==◌, if◌then◌else◌, Bool, true, false, Some, None, List, [], ◌∷◌, ◌++◌, refl, sym, ap, ◌∙◌, eq-eqb, ne_eqb}
-use Rattle.std.proofs.lemmas.List.Sums.{fold-append}
-use Rattle.model.specs.declared.event.Event.{Event}
-use Rattle.model.specs.Families.Loan.Reading.{Spot, Free, Passing, With, Waiting, Returning, Move, move_of, moved, spot_after, spot_of}
 
 -- ---- the two spots that are queues
 

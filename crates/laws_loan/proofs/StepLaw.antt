@@ -1,26 +1,12 @@
 -- From what a step shows to what it comes to for the frame.
-use Rattle.std.proofs.Common.{◌≡◌, ℕ, ◌+◌, Bool, Option, List, ◌++◌, sym, subst, fold}
-use Rattle.steps.specs.declared.ask.Ask.{Ask}
-use Rattle.steps.specs.declared.ask.After.{After}
-use Rattle.steps.specs.declared.ask.After.TheVariants.{GoOn, Done}
-use Rattle.model.specs.declared.event.Answer.{Answer}
-use Rattle.model.specs.declared.event.Event.{Event}
+use Rattle.laws_loan.proofs.Names.{◌≡◌, ℕ, ◌+◌, Bool, Option, List, ◌++◌, sym, subst, fold, Ask, After, GoOn, Answer}
+use Rattle.laws_loan.proofs.Names.{Event, Book, LoanStart, LoanFlight, Effect, Party, Coding, ended_book, book_after}
+use Rattle.laws_loan.proofs.Names.{effects_of, put, Span, span_of, answer_in, words_after, change_of, step_count}
+use Rattle.laws_loan.proofs.Names.{party_after, ending_of, Trace, Core}
+use Rattle.steps.specs.declared.ask.After.TheVariants.{Done}
 use Rattle.model.specs.declared.event.Start as starts
 use Rattle.model.specs.declared.families.Registry as registries
-use Rattle.model.specs.declared.families.loan.Book.{Book}
-use Rattle.model.specs.declared.families.loan.LoanStart.{LoanStart}
-use Rattle.model.specs.declared.families.loan.calls.LoanFlight.{LoanFlight}
-use Rattle.model.specs.declared.families.loan.effects.Effect.{Effect}
-use Rattle.model.specs.declared.party.Party.{Party}
-use Rattle.model.specs.Coding.{Coding}
-use Rattle.model.specs.Families.Loan.Steps.{ended_book, book_after, effects_of}
-use Rattle.model.specs.Parties.{put}
-use Rattle.model.specs.Reading.{Span, span_of}
-use Rattle.model.specs.Step.{answer_in}
-use Rattle.model.specs.Turns.{words_after, change_of, step_count, party_after, ending_of}
-use Rattle.model.specs.World.{Trace}
 use Rattle.model.proofs.Frame as frame
-use Rattle.laws_queues.proofs.Queues.Core.{Core}
 use Rattle.laws_loan.proofs.Channel.{Channel, words_in}
 use Rattle.laws_loan.proofs.Giving.{GivingStep, giving_owes, s_given}
 use Rattle.laws_loan.proofs.Invariant.{HoldsNow, family}

@@ -1,9 +1,7 @@
 -- Events that move no index, end no reclaim and are no death.
-use Rattle.std.proofs.Common.{◌≡◌, ℕ, ◌⊎◌, Bool, false, Option, None, List, [], ◌∷◌, ◌++◌, refl, sym, ap, subst, ◌∙◌, append-nil, append_assoc}
-use Rattle.std.proofs.lemmas.List.Sums.{fold-append}
-use Rattle.model.specs.declared.event.Event.{Event}
-use Rattle.model.specs.declared.families.loan.Book.{Book}
-use Rattle.model.specs.Families.Loan.Reading.{Move, move_of, spot_of, receiver_after, receiver_of, died_after, has_died_by}
+use Rattle.laws_loan.proofs.Names.{◌≡◌, ℕ, ◌⊎◌, Bool, false, Option, None, List, [], ◌∷◌, ◌++◌, refl, sym, ap, subst}
+use Rattle.laws_loan.proofs.Names.{◌∙◌, append-nil, append_assoc, fold-append, Event, Book, Move, move_of, spot_of}
+use Rattle.laws_loan.proofs.Names.{receiver_after, receiver_of, died_after, has_died_by}
 use Rattle.laws_loan.proofs.Lists.{lists_stay}
 use Rattle.laws_loan.proofs.Placed.{Placed, placed_on}
 use Rattle.laws_loan.proofs.Spots.{is_waiting, is_returning, spot_stays}

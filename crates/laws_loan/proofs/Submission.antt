@@ -1,18 +1,13 @@
 -- What each operation of a push and of a pop does to the submission queue: the words then, the queue that they hold, and what
 -- the call finds.
-use Rattle.std.proofs.Common.{◌≡◌, ℕ, ◌+◌, ◌-◌, ◌*◌, ◌%◌, ◌^◌, ◌<◌, ◌≤◌, ◌==◌, true, false, Option, Some, List, ◌∷◌, length, get_or, refl, arith}
-use Rattle.std.proofs.lemmas.Bool.Decides.{nat_tests}
-use Rattle.steps.specs.declared.ask.Ask.{Ask}
-use Rattle.steps.specs.declared.ask.Op.TheVariants.{Store, Exchange}
-use Rattle.steps.specs.declared.ask.After.TheVariants.{GoOn}
+use Rattle.laws_loan.proofs.Names.{◌≡◌, ℕ, ◌+◌, ◌-◌, ◌*◌, ◌%◌, ◌^◌, ◌<◌, ◌≤◌, ◌==◌, true, false, Option, Some, List}
+use Rattle.laws_loan.proofs.Names.{◌∷◌, length, get_or, refl, nat_tests, Ask, Store, Exchange, GoOn, inner_push}
+use Rattle.laws_loan.proofs.Names.{after_position, distance, words_of_index, words_after, change_of, Core, Holds}
+use Rattle.laws_loan.proofs.Names.{filled, taken, fills, one_filled, set_at, layout}
+use Rattle.std.proofs.Common.{arith}
 use Rattle.steps.specs.declared.queues.overflow.PushStage as overflow_pushes
-use Rattle.steps.specs.Loan.Send.{inner_push}
 use Rattle.steps.specs.Queues.Overflow.{cell_word, push_takes}
-use Rattle.steps.specs.Queues.Ring.{after_position, distance}
-use Rattle.model.specs.Families.Queues.Calls.{words_of_index}
-use Rattle.model.specs.Turns.{words_after, change_of}
-use Rattle.laws_queues.proofs.Queues.Core.{Core, Good, Holds, filled, published, taken, fills, one_filled, publishes, takes, word_at, set_at}
-use Rattle.laws_queues.proofs.Queues.Knows.{layout}
+use Rattle.laws_queues.proofs.Queues.Core.{Good, published, publishes, takes, word_at}
 use Rattle.laws_loan.proofs.Channel.{no_roles}
 
 module _ (queue : ℕ) (some : 1 ≤ queue) (few : queue < 2 ^ 32) (k : Core ℕ) (g : Good 1 words_of_index (queue + 1) k) (reached : k.write < 2 ^ 64 - 2) where

@@ -1,21 +1,14 @@
 -- Each event of a loan channel by the table of its places: from where it moves its index, and what is so then.
-use Rattle.std.proofs.Common.{◌≡◌, ◌≢◌, ℕ, ◌<◌, ◌⊎◌, inl, inr, ⊎_elim, false, Option, Some, None, List, [], ◌∷◌, ◌++◌}
-use Rattle.std.proofs.Common.{get_or, set, refl, sym, ap, subst, ◌∙◌, arith, get_or-set_same}
-use Rattle.steps.specs.declared.loan.places.Place.{Place}
+use Rattle.laws_loan.proofs.Names.{◌≡◌, ◌≢◌, ℕ, ◌<◌, ◌⊎◌, inl, inr, ⊎_elim, false, Option, Some, None, List, [], ◌∷◌}
+use Rattle.laws_loan.proofs.Names.{◌++◌, get_or, set, refl, sym, ap, subst, ◌∙◌, Place, place_at, Event, Begun}
+use Rattle.laws_loan.proofs.Names.{Published, HandedOut, Claimed, Freed, Returned, TakenBack, Finished, Index, Book}
+use Rattle.laws_loan.proofs.Names.{LoanStart, taken_from, holder_in, IsIn, Spot, Free, Passing, With, Waiting}
+use Rattle.laws_loan.proofs.Names.{Returning, Move, move_of, spot_of, receiver_of, book_after}
+use Rattle.std.proofs.Common.{arith, get_or-set_same}
 use Rattle.steps.specs.declared.loan.places.Place.TheVariants as places
-use Rattle.steps.specs.Loan.Places.{place_at}
 use Rattle.model.specs.declared.event.Answer.TheVariants as answers
-use Rattle.model.specs.declared.event.Event.{Event}
-use Rattle.model.specs.declared.event.Event.TheVariants.{Begun, Published, HandedOut, Claimed, Freed, Returned, TakenBack, Finished}
-use Rattle.model.specs.declared.event.Item.TheVariants.{Index}
 use Rattle.model.specs.declared.event.Start.TheVariants.{Loan}
-use Rattle.model.specs.declared.families.loan.Book.{Book}
-use Rattle.model.specs.declared.families.loan.LoanStart.{LoanStart}
 use Rattle.model.specs.declared.families.loan.LoanStart.TheVariants as calls
-use Rattle.model.specs.Families.Loan.Opening.{taken_from}
-use Rattle.model.specs.Families.Loan.Promises.{holder_in, IsIn}
-use Rattle.model.specs.Families.Loan.Reading.{Spot, Free, Passing, With, Waiting, Returning, Move, move_of, spot_of, receiver_of}
-use Rattle.model.specs.Families.Loan.Steps.{book_after}
 use Rattle.laws_loan.proofs.Lists.{first_there, lists_pass, lists_push, lists_pop}
 use Rattle.laws_loan.proofs.Placed.{claim_of, IsBy, Placed, same_all, set_one, placed_more}
 use Rattle.laws_loan.proofs.Spots.{is_waiting, is_returning, waits_there, returns_there}

@@ -1,48 +1,23 @@
 -- The sender's table says of each index what the events say, since both go on by the events of a turn.
-use Rattle.std.proofs.Common.{◌≡◌, ◌≢◌, ℕ, ◌<◌, ◌==◌, if◌then◌else◌, ⊎_elim, true, false, Option, Some, None}
-use Rattle.std.proofs.Common.{List, [], ◌∷◌, ◌++◌, length, set, fold, refl, sym, ap, subst, ◌∙◌, append-nil}
-use Rattle.std.proofs.Common.{append_assoc, length-set, arith}
-use Rattle.std.proofs.lemmas.Bool.{cases_eq}
-use Rattle.std.proofs.lemmas.Bool.Decides.{nat_tests}
+use Rattle.laws_loan.proofs.Names.{◌≡◌, ◌≢◌, ℕ, ◌<◌, ◌==◌, if◌then◌else◌, ⊎_elim, true, false, Option, Some, None}
+use Rattle.laws_loan.proofs.Names.{List, [], ◌∷◌, ◌++◌, length, set, fold, refl, sym, ap, subst, ◌∙◌, append-nil}
+use Rattle.laws_loan.proofs.Names.{append_assoc, length-set, cases_eq, nat_tests, fold-append, Ask, Place, place_at}
+use Rattle.laws_loan.proofs.Names.{Answer, Event, Begun, Published, Claimed, Freed, Died, Index, Start, Flight}
+use Rattle.laws_loan.proofs.Names.{Registry, Book, LoanStart, Doing, Going, Over, Party, Turn, Begin, Next, Decide}
+use Rattle.laws_loan.proofs.Names.{Die, Coding, first_of, step_of, kept_after_death, MovesRight, place_after}
+use Rattle.laws_loan.proofs.Names.{place_of, book_after, ended_book, effect_of, effects_of, Each, as_call, answer_in}
+use Rattle.laws_loan.proofs.Names.{events_of_step, events_of_answer, events_of_next, events_of_decision, events_of}
+use Rattle.laws_loan.proofs.Names.{ending_of, old_of, ask_of_doing, number_of, after_begin, after_answer, after_next}
+use Rattle.laws_loan.proofs.Names.{after_decision, after_turn, Trace, AreRight, stands_there}
+use Rattle.std.proofs.Common.{arith}
 use Rattle.std.proofs.lemmas.List.{get_or-set_same, get_or-set_other}
-use Rattle.std.proofs.lemmas.List.Sums.{fold-append}
-use Rattle.steps.specs.declared.ask.Ask.{Ask}
-use Rattle.steps.specs.declared.loan.places.Place.{Place}
 use Rattle.steps.specs.declared.loan.places.Place.TheVariants as places
-use Rattle.steps.specs.Loan.Places.{place_at}
-use Rattle.model.specs.declared.event.Answer.{Answer}
-use Rattle.model.specs.declared.event.Event.{Event}
-use Rattle.model.specs.declared.event.Event.TheVariants.{Begun, Published, Claimed, Freed, Died}
-use Rattle.model.specs.declared.event.Item.TheVariants.{Index}
-use Rattle.model.specs.declared.event.Start.{Start}
 use Rattle.model.specs.declared.event.Start.TheVariants as starts
-use Rattle.model.specs.declared.families.Flight.{Flight}
 use Rattle.model.specs.declared.families.Flight as flights
-use Rattle.model.specs.declared.families.Registry.{Registry}
 use Rattle.model.specs.declared.families.Registry as registries
-use Rattle.model.specs.declared.families.loan.Book.{Book}
-use Rattle.model.specs.declared.families.loan.LoanStart.{LoanStart}
-use Rattle.model.specs.declared.party.Doing.{Doing}
-use Rattle.model.specs.declared.party.Doing.TheVariants.{Going, Over}
-use Rattle.model.specs.declared.party.Party.{Party}
-use Rattle.model.specs.declared.turn.Turn.{Turn}
-use Rattle.model.specs.declared.turn.Turn.TheVariants.{Begin, Next, Decide, Die}
-use Rattle.model.specs.Coding.{Coding}
-use Rattle.model.specs.Families.{first_of, step_of, kept_after_death}
 use Rattle.model.specs.Families.Loan.Calls as rows
-use Rattle.model.specs.Families.Loan.Promises.{MovesRight}
-use Rattle.model.specs.Families.Loan.Reading.{place_after, place_of}
-use Rattle.model.specs.Families.Loan.Steps.{book_after, ended_book, effect_of, effects_of}
 use Rattle.model.specs.Parties.{party_of}
-use Rattle.model.specs.Reading.{Each}
-use Rattle.model.specs.Step.{as_call, answer_in}
-use Rattle.model.specs.Turns.{events_of_step, events_of_answer, events_of_next, events_of_decision, events_of}
-use Rattle.model.specs.Turns.{ending_of, old_of, ask_of_doing, number_of, after_begin, after_answer, after_next}
-use Rattle.model.specs.Turns.{after_decision, after_turn}
-use Rattle.model.specs.World.{Trace}
 use Rattle.model.proofs.Frame as frame
-use Rattle.model.proofs.Readings.{AreRight}
-use Rattle.model.proofs.Scenes.{stands_there}
 use Rattle.laws_loan.proofs.Channel.{Channel, Represents, kept_is}
 use Rattle.laws_loan.proofs.StepLaw.{channel}
 

@@ -1,33 +1,14 @@
 -- A take-back, as steps of the machine: its pop, and the release of the index that it has taken.
+use Rattle.laws_loan.proofs.Names.{◌≡◌, ℕ, ◌-◌, ◌^◌, ◌<◌, sym, ap, subst, ◌∙◌, After, ReleaseState, DefaultMode}
+use Rattle.laws_loan.proofs.Names.{Release, ReleaseStage, TakeBackStage, back_asks, back_takes, take_back_released}
+use Rattle.laws_loan.proofs.Names.{went_on, Answer, PoppedIndex, LoanFlight, TakeBack, Party, Coding, ask_of}
+use Rattle.laws_loan.proofs.Names.{release_effect, as_it_is, popped, Open, span_of, as_call, old_of, Trace}
 use native.Mathlib.Omega.{arith}
-use Rattle.std.proofs.Common.{◌≡◌, ℕ, ◌-◌, ◌^◌, ◌<◌, sym, ap, subst, ◌∙◌}
-use Rattle.steps.specs.declared.ask.After.{After}
-use Rattle.steps.specs.declared.indices.enums.ReleaseState.{ReleaseState}
-use Rattle.steps.specs.declared.indices.unique.DefaultMode.{DefaultMode}
-use Rattle.steps.specs.declared.indices.unique.Release.{Release}
-use Rattle.steps.specs.declared.indices.unique.ReleaseStage.{ReleaseStage}
 use Rattle.steps.specs.declared.loan.take_back.TakeBack as take_back
-use Rattle.steps.specs.declared.loan.take_back.TakeBackStage.{TakeBackStage}
 use Rattle.steps.specs.declared.loan.take_back.TakeBackStage as take_backs
-use Rattle.steps.specs.Loan.Back.{back_asks, back_takes}
-use Rattle.steps.specs.Loan.TakeBack.{take_back_released}
-use Rattle.steps.specs.Routine.{went_on}
-use Rattle.model.specs.declared.event.Answer.{Answer}
-use Rattle.model.specs.declared.event.Answer.TheVariants.{PoppedIndex}
 use Rattle.model.specs.declared.event.Start as starts
 use Rattle.model.specs.declared.families.Flight as flights
 use Rattle.model.specs.declared.families.loan.LoanStart.TheVariants as calls
-use Rattle.model.specs.declared.families.loan.calls.LoanFlight.{LoanFlight}
-use Rattle.model.specs.declared.families.loan.calls.LoanFlight.TheVariants.{TakeBack}
-use Rattle.model.specs.declared.party.Party.{Party}
-use Rattle.model.specs.Coding.{Coding}
-use Rattle.model.specs.Families.{ask_of}
-use Rattle.model.specs.Families.Loan.Steps.{release_effect}
-use Rattle.model.specs.Families.Queues.Calls.{as_it_is, popped}
-use Rattle.model.specs.Reading.{Open, span_of}
-use Rattle.model.specs.Step.{as_call}
-use Rattle.model.specs.Turns.{old_of}
-use Rattle.model.specs.World.{Trace}
 use Rattle.model.proofs.Frame as frame
 use Rattle.laws_loan.proofs.Channel.{words_in}
 use Rattle.laws_loan.proofs.Releases.{take_back_frees_at, takes_back}

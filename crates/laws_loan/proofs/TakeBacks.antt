@@ -1,47 +1,25 @@
 -- The steps of a take-back until it releases its index: the sender pops the completion queue.
-use Rattle.std.proofs.Common.{◌≡◌, ◌≢◌, ℕ, ◌+◌, ◌-◌, ◌^◌, ◌<◌, ◌≤◌, Bool, false, Option, Some, None, List, [], ◌∷◌, ◌++◌}
-use Rattle.std.proofs.Common.{length, fold, refl, sym, ap, subst, ◌∙◌, append-nil, arith, ◌==◌, ◌||◌, true}
-use Rattle.std.proofs.lemmas.Bool.Decides.{nat_tests}
-use Rattle.std.proofs.lemmas.List.{set-get_or}
-use Rattle.std.proofs.lemmas.List.Sums.{fold-append}
-use Rattle.steps.specs.declared.ask.Ask.{Ask}
-use Rattle.steps.specs.declared.ask.After.{After}
-use Rattle.steps.specs.declared.ask.After.TheVariants.{GoOn, Done}
-use Rattle.steps.specs.declared.copied.OneWord.{OneWord}
+use Rattle.laws_loan.proofs.Names.{◌≡◌, ◌≢◌, ℕ, ◌+◌, ◌-◌, ◌^◌, ◌<◌, ◌≤◌, Bool, false, Option, Some, None, List, []}
+use Rattle.laws_loan.proofs.Names.{◌∷◌, ◌++◌, length, fold, refl, sym, ap, subst, ◌∙◌, append-nil, ◌==◌, ◌||◌, true}
+use Rattle.laws_loan.proofs.Names.{nat_tests, set-get_or, fold-append, Ask, After, GoOn, OneWord, completion_word}
+use Rattle.laws_loan.proofs.Names.{shifted, take_back_takes, went_on, Answer, Event, Finished, TakenBack, Start}
+use Rattle.laws_loan.proofs.Names.{LoanFlight, TakeBack, Effect, Party, Coding, one_word, ask_of, Passing, Returning}
+use Rattle.laws_loan.proofs.Names.{spot_of, receiver_after, receiver_of, taken_back, take_back_effect, as_it_is}
+use Rattle.laws_loan.proofs.Names.{popped, words_of_index, Span, Open, own_after, span_of, as_call, old_of}
+use Rattle.laws_loan.proofs.Names.{words_after, step_count, span_of-own, Core, taken, layout, in_one, KnowsPop}
+use Rattle.laws_loan.proofs.Names.{pop_number}
+use Rattle.std.proofs.Common.{arith}
+use Rattle.steps.specs.declared.ask.After.TheVariants.{Done}
 use Rattle.steps.specs.declared.indices.unique.ReleaseStage as releases
 use Rattle.steps.specs.declared.loan.take_back.TakeBackStage as take_backs
 use Rattle.steps.specs.declared.queues.ring.PopStage.{PopStage}
 use Rattle.steps.specs.declared.queues.ring.PopStage as pops
-use Rattle.steps.specs.Loan.Layout.{completion_word}
-use Rattle.steps.specs.Loan.Parts.{shifted}
-use Rattle.steps.specs.Loan.TakeBack.{take_back_takes}
 use Rattle.steps.specs.Queues.Ring.{pop_asks, cell_word, word_at}
-use Rattle.steps.specs.Routine.{went_on}
-use Rattle.model.specs.declared.event.Answer.{Answer}
 use Rattle.model.specs.declared.event.Answer.TheVariants as answers
-use Rattle.model.specs.declared.event.Event.{Event}
-use Rattle.model.specs.declared.event.Event.TheVariants.{Finished, TakenBack}
-use Rattle.model.specs.declared.event.Start.{Start}
 use Rattle.model.specs.declared.event.Start.TheVariants as starts
 use Rattle.model.specs.declared.families.Flight as flights
 use Rattle.model.specs.declared.families.loan.LoanStart.TheVariants as calls
-use Rattle.model.specs.declared.families.loan.calls.LoanFlight.{LoanFlight}
-use Rattle.model.specs.declared.families.loan.calls.LoanFlight.TheVariants.{TakeBack}
-use Rattle.model.specs.declared.families.loan.effects.Effect.{Effect}
 use Rattle.model.specs.declared.families.loan.effects.Effect.TheVariants as effects
-use Rattle.model.specs.declared.party.Party.{Party}
-use Rattle.model.specs.Coding.{Coding, one_word}
-use Rattle.model.specs.Families.{ask_of}
-use Rattle.model.specs.Families.Loan.Reading.{Passing, Returning, spot_of, receiver_after, receiver_of, taken_back}
-use Rattle.model.specs.Families.Loan.Steps.{take_back_effect}
-use Rattle.model.specs.Families.Queues.Calls.{as_it_is, popped, words_of_index}
-use Rattle.model.specs.Reading.{Span, Open, own_after, span_of}
-use Rattle.model.specs.Step.{as_call}
-use Rattle.model.specs.Turns.{old_of, words_after, step_count}
-use Rattle.model.proofs.Readings.{span_of-own}
-use Rattle.laws_queues.proofs.Queues.Core.{Core, taken}
-use Rattle.laws_queues.proofs.Queues.Knows.{layout, in_one}
-use Rattle.laws_queues.proofs.Ring.Knows.{KnowsPop, pop_number}
 use Rattle.laws_loan.proofs.Carried.{moved_on}
 use Rattle.laws_loan.proofs.Channel.{Channel, no_roles, words_in}
 use Rattle.laws_loan.proofs.Completion as completion

@@ -1,20 +1,12 @@
 -- What a receiver's call goes on to know where the sender takes a step.
+use Rattle.laws_loan.proofs.Names.{◌≡◌, ◌≢◌, ℕ, true, false, List, OneWord, Event, LoanStart, LoanFlight, Send}
+use Rattle.laws_loan.proofs.Names.{GiveUp, TakeBack, Receive, GiveBack, Reclaim, one_word, has_died, Passing, spot_of}
+use Rattle.laws_loan.proofs.Names.{KnowsOverflowPop, GoesUp, KnowsPush}
 use native.Mathlib.Omega.{arith}
-use Rattle.std.proofs.Common.{◌≡◌, ◌≢◌, ℕ, true, false, List}
-use Rattle.steps.specs.declared.copied.OneWord.{OneWord}
 use Rattle.steps.specs.declared.queues.overflow.PopStage.{PopStage}
 use Rattle.steps.specs.declared.queues.ring.PushStage.{PushStage}
-use Rattle.model.specs.declared.event.Event.{Event}
-use Rattle.model.specs.declared.families.loan.LoanStart.{LoanStart}
 use Rattle.model.specs.declared.families.loan.LoanStart.TheVariants as calls
-use Rattle.model.specs.declared.families.loan.calls.LoanFlight.{LoanFlight}
-use Rattle.model.specs.declared.families.loan.calls.LoanFlight.TheVariants.{Loan, Send, GiveUp, TakeBack, Receive, GiveBack, Reclaim}
-use Rattle.model.specs.Coding.{one_word}
-use Rattle.model.specs.Families.Indices.Robust.Dead.{has_died}
-use Rattle.model.specs.Families.Loan.Reading.{Passing, spot_of}
-use Rattle.laws_queues.proofs.Overflow.Knows.{KnowsOverflowPop}
-use Rattle.laws_queues.proofs.Queues.Core.{GoesUp}
-use Rattle.laws_queues.proofs.Ring.Knows.{KnowsPush}
+use Rattle.model.specs.declared.families.loan.calls.LoanFlight.TheVariants.{Loan}
 use Rattle.laws_loan.proofs.Channel.{Channel}
 use Rattle.laws_loan.proofs.Knows.{Passes, At, FlightKnows}
 

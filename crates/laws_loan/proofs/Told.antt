@@ -1,13 +1,10 @@
 -- What the events tell of the two queues, beside the indices that wait in them; and how a turn's events go on with it.
-use Rattle.std.proofs.Common.{◌≡◌, ℕ, Bool, false, List, [], ◌∷◌, ◌++◌, map, take, flat_map, fold, refl, sym, ap, subst, ◌∙◌, append_assoc}
-use Rattle.std.proofs.lemmas.List.Concat.{flat_map-append}
-use Rattle.model.specs.declared.event.Event.{Event}
-use Rattle.model.specs.declared.event.Item.{Item}
-use Rattle.model.specs.declared.event.Item.TheVariants.{Index}
-use Rattle.model.specs.Families.Loan.Reading.{gives_back, takes_back, given_back, taken_back, reclaims_after, queue_acts, as_queue, queue_moments}
-use Rattle.model.specs.Families.Queues.Objects.{overflowing_list}
-use Rattle.model.specs.Families.Queues.Reading.{publishes, hands_out, published, handed_out}
-use Rattle.model.specs.Objects.{IsLegal, standing, answers_from}
+use Rattle.laws_loan.proofs.Names.{◌≡◌, ℕ, Bool, false, List, [], ◌∷◌, ◌++◌, map, take, fold, refl, sym, ap, subst}
+use Rattle.laws_loan.proofs.Names.{◌∙◌, append_assoc, flat_map-append, Event, Item, Index, gives_back, takes_back}
+use Rattle.laws_loan.proofs.Names.{given_back, taken_back, reclaims_after, queue_acts, as_queue, queue_moments}
+use Rattle.laws_loan.proofs.Names.{overflowing_list, hands_out, handed_out, IsLegal, standing, answers_from}
+use Rattle.std.proofs.Common.{flat_map}
+use Rattle.model.specs.Families.Queues.Reading.{publishes, published}
 use Rattle.model.proofs.Replays.{calls_of, answers_of, standing_more, legal_more}
 
 -- what goes in behind a list that another list left, and what comes out of it

@@ -1,13 +1,8 @@
 -- What a turn of a loan channel shows, and that it so keeps what holds between two turns.
-use Rattle.std.proofs.Common.{◌≡◌, ℕ, ◌+◌, ◌≤◌, false, List, ◌++◌, fold, sym, subst, ◌∙◌, arith}
-use Rattle.std.proofs.lemmas.List.Sums.{fold-append}
-use Rattle.model.specs.declared.event.Event.{Event}
-use Rattle.model.specs.declared.party.Party.{Party}
-use Rattle.model.specs.Families.Loan.Promises.{MovesRight, BeginsRight, AnswersRight}
-use Rattle.model.specs.Families.Loan.Reading.{Passing, spot_of, receiver_of, reclaims_after}
-use Rattle.model.specs.Parties.{put}
-use Rattle.model.specs.Reading.{span_of}
-use Rattle.model.proofs.Readings.{AreRight, Each-append}
+use Rattle.laws_loan.proofs.Names.{◌≡◌, ℕ, ◌+◌, ◌≤◌, false, List, ◌++◌, fold, sym, subst, ◌∙◌, fold-append, Event}
+use Rattle.laws_loan.proofs.Names.{Party, MovesRight, BeginsRight, AnswersRight, Passing, spot_of, receiver_of}
+use Rattle.laws_loan.proofs.Names.{reclaims_after, put, span_of, AreRight, Each-append}
+use Rattle.std.proofs.Common.{arith}
 use Rattle.laws_loan.proofs.Channel.{Channel, Holds}
 use Rattle.laws_loan.proofs.Invariant.{Hangs, sends_at, counted_for, hung, reclaims_in, Carries, HoldsNow}
 use Rattle.laws_loan.proofs.Told.{is_reclaiming, Told, Tells, told_more}

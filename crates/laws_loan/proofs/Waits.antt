@@ -1,25 +1,16 @@
 -- What waits in the two queues by the words is what waits in them, and these are the indices that are there by the events.
-use Rattle.std.proofs.Common.{◌≡◌, ◌≢◌, ℕ, zero, suc, ◌+◌, ◌-◌, ◌*◌, ◌%◌, ◌<◌, ◌≤◌, ◌==◌, ⊎_elim, Bool, true, Some}
-use Rattle.std.proofs.Common.{Contains, AllPairs, List, [], ◌∷◌, ◌++◌, length, get_or, map, slice_get, refl, sym, ap}
-use Rattle.std.proofs.Common.{◌∙◌, append_assoc, append-nil, drop_at, arith}
-use Rattle.std.proofs.lemmas.Bool.{cases_eq}
-use Rattle.std.proofs.lemmas.List.{get_or_append_left, get_or-map, length-map}
-use Rattle.steps.specs.Loan.Layout.{submission_word, completion_word}
+use Rattle.laws_loan.proofs.Names.{◌≡◌, ◌≢◌, ℕ, zero, suc, ◌+◌, ◌-◌, ◌*◌, ◌%◌, ◌<◌, ◌≤◌, ◌==◌, ⊎_elim, Bool, true}
+use Rattle.laws_loan.proofs.Names.{Some, Contains, AllPairs, List, [], ◌∷◌, ◌++◌, length, get_or, map, slice_get}
+use Rattle.laws_loan.proofs.Names.{refl, sym, ap, ◌∙◌, append_assoc, append-nil, drop_at, cases_eq}
+use Rattle.laws_loan.proofs.Names.{get_or_append_left, get_or-map, length-map, submission_word, completion_word}
+use Rattle.laws_loan.proofs.Names.{Event, Item, Index, Coding, sent_in, given_back_in, AreThose, Spot, spot_of}
+use Rattle.laws_loan.proofs.Names.{words_of_index, cells_of, words_of_cell, one_if, Core, at_below, layout}
+use Rattle.std.proofs.Common.{arith}
 use Rattle.steps.specs.Queues.Ring.{cell_word}
-use Rattle.model.specs.declared.event.Event.{Event}
-use Rattle.model.specs.declared.event.Item.{Item}
-use Rattle.model.specs.declared.event.Item.TheVariants.{Index}
 use Rattle.model.specs.declared.families.queues.QueueKind.{QueueKind}
 use Rattle.model.specs.declared.families.queues.QueueKind.TheVariants.{IndexQueue, Overflow}
-use Rattle.model.specs.Coding.{Coding}
-use Rattle.model.specs.Families.Loan.Promises.{sent_in, given_back_in, AreThose}
-use Rattle.model.specs.Families.Loan.Reading.{Spot, spot_of}
 use Rattle.model.specs.Families.Queues.Book.{item_at, cell_of, stored, waiting_in}
-use Rattle.model.specs.Families.Queues.Calls.{words_of_index}
-use Rattle.model.specs.Families.Queues.Opening.{cells_of, words_of_cell}
-use Rattle.model.specs.Turns.{one_if}
-use Rattle.laws_queues.proofs.Queues.Core.{Core, Good, at_below, word_at}
-use Rattle.laws_queues.proofs.Queues.Knows.{layout}
+use Rattle.laws_queues.proofs.Queues.Core.{Good, word_at}
 use Rattle.laws_loan.proofs.Channel.{Channel, Holds, no_roles, words_in}
 use Rattle.laws_loan.proofs.Lists.{times, same_one, other_none, one_at_most, true_if_one, Lists}
 use Rattle.laws_loan.proofs.Parts.{set_long, both_long}

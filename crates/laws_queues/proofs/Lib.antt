@@ -1,3 +1,4 @@
+mod Names
 pub mod Overflow
 pub mod Queues
 pub mod Ring

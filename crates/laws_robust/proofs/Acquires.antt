@@ -1,28 +1,15 @@
 -- The steps of an acquire.
-use Rattle.std.proofs.Common.{sym, subst, inr, inl, ⊎_elim, ◌≡◌, ℕ, ◌<◌, ◌≤◌, Bool, false, Option, List, [], ◌∷◌, ◌++◌, refl, ap, ◌∙◌, arith}
-use Rattle.std.specs.Prelude.{Err}
-use Rattle.std.proofs.lemmas.List.Concat.{flat_map-append}
-use Rattle.steps.specs.declared.ask.Ask.{Ask}
-use Rattle.steps.specs.declared.ask.After.{After}
-use Rattle.steps.specs.declared.ask.After.TheVariants.{Done}
+use Rattle.laws_robust.proofs.Names.{sym, subst, inr, inl, ⊎_elim, ◌≡◌, ℕ, ◌<◌, ◌≤◌, Bool, false, Option, List, []}
+use Rattle.laws_robust.proofs.Names.{◌∷◌, ◌++◌, refl, ap, ◌∙◌, arith, Err, flat_map-append, Ask, After, Done}
+use Rattle.laws_robust.proofs.Names.{AcquireStage, Acquired, empty, went_on, Index, NoIndex, Event, Filled, Granted}
+use Rattle.laws_robust.proofs.Names.{acquire_answer, Fills, Grants, set_act, set_acts, is_dead, as_it_is, as_call}
+use Rattle.laws_robust.proofs.Names.{words_after}
 use Rattle.steps.specs.declared.indices.enums.UniqueIndexSetAcquireFailure as failures
 use Rattle.steps.specs.declared.indices.robust.acquire.Acquire as calls
-use Rattle.steps.specs.declared.indices.robust.acquire.AcquireStage.{AcquireStage}
 use Rattle.steps.specs.declared.indices.robust.acquire.AcquireStage as acquires
 use Rattle.steps.specs.declared.indices.robust.parts.Raise as raises
-use Rattle.steps.specs.Indices.Robust.Acquire.{Acquired}
-use Rattle.steps.specs.Indices.Robust.Parts.{empty}
-use Rattle.steps.specs.Routine.{went_on}
-use Rattle.model.specs.declared.event.Answer.TheVariants.{Index, NoIndex}
-use Rattle.model.specs.declared.event.Event.{Event}
-use Rattle.model.specs.declared.event.Event.TheVariants.{Filled, Granted}
 use Rattle.model.specs.declared.families.indices.robust.RobustStart.TheVariants.{Acquire}
 use Rattle.model.specs.declared.families.indices.robust.calls.RobustFlight as flights
-use Rattle.model.specs.Families.Indices.Robust.Calls.{acquire_answer}
-use Rattle.model.specs.Families.Indices.Robust.Reading.{Fills, Grants, set_act, set_acts, is_dead}
-use Rattle.model.specs.Families.Queues.Calls.{as_it_is}
-use Rattle.model.specs.Step.{as_call}
-use Rattle.model.specs.Turns.{words_after}
 use Rattle.laws_robust.proofs.Effects.{stays_same}
 use Rattle.laws_robust.proofs.Grants.{grants}
 use Rattle.laws_robust.proofs.Held.{Caller, WhyNot, FewEnd, held_step}

@@ -1,21 +1,9 @@
 -- No turn of an open run is a death. So where what the calls under way write leaves alive who lives, all live on.
-use Rattle.std.proofs.Common.{◌≡◌, ℕ, Bool, false, Option, Some, None, List, [], ◌∷◌, fold, refl, ap, ◌∙◌}
-use Rattle.std.specs.List.{AllByRecursion}
-use Rattle.std.proofs.lemmas.List.Sums.{fold-append}
-use Rattle.model.specs.declared.event.Answer.{Answer}
-use Rattle.model.specs.declared.event.Event.{Event}
-use Rattle.model.specs.declared.event.Start.{Start}
-use Rattle.model.specs.declared.families.Flight.{Flight}
-use Rattle.model.specs.declared.party.Doing.{Doing}
-use Rattle.model.specs.declared.party.Doing.TheVariants.{Going, Over}
-use Rattle.model.specs.declared.party.Party.{Party}
-use Rattle.model.specs.declared.turn.Turn.{Turn}
-use Rattle.model.specs.declared.turn.Turn.TheVariants.{Begin, Next, Decide, Die}
-use Rattle.model.specs.Families.Indices.Robust.Reading.{dead_after, is_dead}
-use Rattle.model.specs.Parties.{party_of}
-use Rattle.model.specs.Turns.{old_of, number_of, ask_of_doing, step_in, events_of_step, events_of_answer}
-use Rattle.model.specs.Turns.{events_of_next, events_of_decision, events_of, ending_of, after_turn}
-use Rattle.model.specs.World.{Trace}
+use Rattle.laws_robust.proofs.Names.{◌≡◌, ℕ, Bool, false, Option, Some, None, List, [], ◌∷◌, fold, refl, ap, ◌∙◌}
+use Rattle.laws_robust.proofs.Names.{AllByRecursion, fold-append, Answer, Event, Start, Flight, Doing, Going, Over}
+use Rattle.laws_robust.proofs.Names.{Party, Turn, Begin, Next, Decide, Die, dead_after, is_dead, party_of, old_of}
+use Rattle.laws_robust.proofs.Names.{number_of, ask_of_doing, step_in, events_of_step, events_of_answer}
+use Rattle.laws_robust.proofs.Names.{events_of_next, events_of_decision, events_of, ending_of, after_turn, Trace}
 use Rattle.laws_robust.specs.Open.{open_refusal}
 
 module _ {T : Type 0} where

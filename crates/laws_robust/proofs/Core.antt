@@ -1,6 +1,6 @@
 -- The words of a robust index set, and what an operation on one of them does to the counter and the cells.
-use Rattle.std.proofs.Common.{◌≡◌, ◌≢◌, ℕ, ◌<◌, List, length, get_or, set, arith, get_or-set_same, get_or-set_other}
-use Rattle.steps.specs.Indices.Robust.Parts.{cell_word}
+use Rattle.laws_robust.proofs.Names.{◌≡◌, ◌≢◌, ℕ, ◌<◌, List, length, get_or, set, arith, get_or-set_same}
+use Rattle.laws_robust.proofs.Names.{get_or-set_other, cell_word}
 
 abbrev pub counter_of : List ℕ → ℕ
 counter_of words = get_or words 0 0

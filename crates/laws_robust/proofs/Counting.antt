@@ -1,11 +1,8 @@
 -- Counts of indices in a call that comes to them one after another.
-use Rattle.std.proofs.Common.{◌≡◌, ◌≢◌, ℕ, zero, suc, ◌+◌, ◌*◌, ◌<◌, ◌≤◌, ◌==◌, ⊎_elim, if◌then◌else◌, Bool, true}
-use Rattle.std.proofs.Common.{false, List, ◌++◌, refl, sym, ap, subst, ◌∙◌, arith, eq-eqb, ne_eqb}
-use Rattle.std.proofs.lemmas.Bool.{cases_eq}
-use Rattle.model.specs.declared.event.Event.{Event}
-use Rattle.model.specs.Families.Indices.Robust.Promises.{count_below, HeldThroughout, IsCount}
-use Rattle.model.specs.Moments.{BeginsNone, HeldSometime}
-use Rattle.model.proofs.Moments.{held_now, held_later}
+use Rattle.laws_robust.proofs.Names.{◌≡◌, ◌≢◌, ℕ, zero, suc, ◌+◌, ◌*◌, ◌<◌, ◌≤◌, ◌==◌, ⊎_elim, if◌then◌else◌, Bool}
+use Rattle.laws_robust.proofs.Names.{true, false, List, ◌++◌, refl, sym, ap, subst, ◌∙◌, arith, eq-eqb, ne_eqb}
+use Rattle.laws_robust.proofs.Names.{cases_eq, Event, count_below, HeldThroughout, IsCount, BeginsNone, HeldSometime}
+use Rattle.laws_robust.proofs.Names.{held_now, held_later}
 use Rattle.laws_robust.proofs.Past.{through_less, through_now}
 
 -- what the indices before another one take, each as much

@@ -1,18 +1,11 @@
 -- The death of an owner.
-use Rattle.std.proofs.Common.{◌≡◌, ℕ, ◌+◌, ◌==◌, ◌||◌, inl, false, None, List, [], ◌∷◌, ◌++◌}
-use Rattle.std.proofs.Common.{refl, sym, ap, ◌∙◌, arith}
-use Rattle.std.proofs.lemmas.List.Sums.{fold-append}
-use Rattle.model.specs.declared.event.Event.{Event}
-use Rattle.model.specs.declared.event.Event.TheVariants.{Died}
-use Rattle.model.specs.declared.families.Flight.{Flight}
+use Rattle.laws_robust.proofs.Names.{◌≡◌, ℕ, ◌+◌, ◌==◌, ◌||◌, inl, false, None, List, [], ◌∷◌, ◌++◌, refl, sym, ap}
+use Rattle.laws_robust.proofs.Names.{◌∙◌, arith, fold-append, Event, Died, Flight, locked_after, is_locked, has_died}
+use Rattle.laws_robust.proofs.Names.{dead_with, cell_of, SetDoes, HoldsRight, set_acts, filled_after, filled_of}
+use Rattle.laws_robust.proofs.Names.{holder_after, holder_of, settled_after, settled_of, dead_after, is_dead}
+use Rattle.laws_robust.proofs.Names.{wrote_in, Each-append, span_of-death}
 use Rattle.model.specs.declared.families.Flight as flights
-use Rattle.model.specs.Families.Indices.Reading.{locked_after, is_locked}
-use Rattle.model.specs.Families.Indices.Robust.Dead.{has_died, dead_with}
-use Rattle.model.specs.Families.Indices.Robust.Promises.{cell_of, SetDoes, HoldsRight}
-use Rattle.model.specs.Families.Indices.Robust.Reading.{set_acts, filled_after, filled_of, holder_after, holder_of}
-use Rattle.model.specs.Families.Indices.Robust.Reading.{settled_after, settled_of, dead_after, is_dead, wrote_in}
 use Rattle.model.proofs.Dead.{died_now, died_before}
-use Rattle.model.proofs.Readings.{Each-append, span_of-death}
 use Rattle.laws_robust.specs.Gone.{GoneBy, AnswersBy}
 use Rattle.laws_robust.proofs.Effects.{well_formed_less}
 use Rattle.laws_robust.proofs.Gone.{calm_less}

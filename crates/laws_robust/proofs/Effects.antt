@@ -1,22 +1,13 @@
 -- What each kind of step does to a robust index set and to the other parties.
-use Rattle.std.proofs.Common.{◌⊎◌, ◌≡◌, ◌≢◌, ℕ, ◌+◌, ◌<◌, ◌≤◌, ◌==◌, ⊎_elim, if◌then◌else◌, Bool, true, false, Option}
-use Rattle.std.proofs.Common.{Some, None, List, [], ◌∷◌, ◌++◌, length, get_or, set, get_or-set_other, fold, refl, sym}
-use Rattle.std.proofs.Common.{ap, ◌∙◌, append_assoc, arith, eq-eqb, ne_eqb}
-use Rattle.std.proofs.lemmas.List.{length-set}
-use Rattle.std.proofs.lemmas.List.Sums.{fold-append}
-use Rattle.steps.specs.Indices.Robust.Parts.{cell_word, empty, locked, greatest}
-use Rattle.model.specs.declared.event.Answer.{Answer}
-use Rattle.model.specs.declared.event.Event.{Event}
-use Rattle.model.specs.declared.event.Event.TheVariants.{Filled, Asked, Told, Finished}
-use Rattle.model.specs.declared.event.Start.{Start}
-use Rattle.model.specs.Families.Container.Reading.{NoneTakes}
-use Rattle.model.specs.Families.Indices.Reading.{locked_after, is_locked}
-use Rattle.model.specs.Families.Indices.Robust.Promises.{cell_of, SetDoes, IsWellFormed, HoldsRight, IsUnlocked}
-use Rattle.model.specs.Families.Indices.Robust.Reading.{set_acts, filled_after, filled_of, holder_after, holder_of}
-use Rattle.model.specs.Families.Indices.Robust.Reading.{settled_after, settled_of, dead_after, is_dead, wrote_in}
-use Rattle.model.specs.Moments.{HeldSometime}
-use Rattle.model.proofs.Moments.{others_begin_none}
-use Rattle.model.proofs.Readings.{AreRight, Each-append, AreOwn, span_of-other}
+use Rattle.laws_robust.proofs.Names.{◌⊎◌, ◌≡◌, ◌≢◌, ℕ, ◌+◌, ◌<◌, ◌≤◌, ◌==◌, ⊎_elim, if◌then◌else◌, Bool, true, false}
+use Rattle.laws_robust.proofs.Names.{Option, Some, None, List, [], ◌∷◌, ◌++◌, length, get_or, set, get_or-set_other}
+use Rattle.laws_robust.proofs.Names.{fold, refl, sym, ap, ◌∙◌, append_assoc, arith, eq-eqb, ne_eqb, length-set}
+use Rattle.laws_robust.proofs.Names.{fold-append, cell_word, empty, locked, greatest, Answer, Event, Filled, Asked}
+use Rattle.laws_robust.proofs.Names.{Told, Finished, Start, NoneTakes, locked_after, is_locked, cell_of, SetDoes}
+use Rattle.laws_robust.proofs.Names.{IsWellFormed, HoldsRight, IsUnlocked, set_acts, filled_after, filled_of}
+use Rattle.laws_robust.proofs.Names.{holder_after, holder_of, settled_after, settled_of, dead_after, is_dead}
+use Rattle.laws_robust.proofs.Names.{wrote_in, HeldSometime, others_begin_none, AreRight, Each-append, AreOwn}
+use Rattle.laws_robust.proofs.Names.{span_of-other}
 use Rattle.laws_robust.specs.Gone.{IsCalm, AnswersBy}
 use Rattle.laws_robust.proofs.Core.{counter_of, cell, counter_set, cells_stay, counter_stays, cell_set, cell_stays}
 use Rattle.laws_robust.proofs.Gone.{calm_less, answers_on}

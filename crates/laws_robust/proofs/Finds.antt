@@ -1,23 +1,13 @@
 -- The steps of a find.
-use Rattle.std.proofs.Common.{◌≡◌, ◌≢◌, ℕ, ◌+◌, ◌<◌, ◌≤◌, ◌==◌, if◌then◌else◌, nat_lt, Bool, true, false, Option, Some, None, List, [], refl, ap, ◌∙◌, arith}
-use Rattle.std.proofs.lemmas.Bool.Decides.{nat_tests}
-use Rattle.steps.specs.declared.ask.Ask.{Ask}
-use Rattle.steps.specs.declared.ask.After.{After}
-use Rattle.steps.specs.declared.ask.After.TheVariants.{GoOn, Done}
+use Rattle.laws_robust.proofs.Names.{◌≡◌, ◌≢◌, ℕ, ◌+◌, ◌<◌, ◌≤◌, ◌==◌, if◌then◌else◌, nat_lt, Bool, true, false}
+use Rattle.laws_robust.proofs.Names.{Option, Some, None, List, [], refl, ap, ◌∙◌, arith, nat_tests, Ask, After, GoOn}
+use Rattle.laws_robust.proofs.Names.{Done, FindStage, at_find, find_comes_to, find_after, cell_word, empty, one_more}
+use Rattle.laws_robust.proofs.Names.{by_test, went_on, Number, cell_of, IsFilledWith, IsCount, as_it_is, as_call}
+use Rattle.laws_robust.proofs.Names.{words_after, step_count}
 use Rattle.steps.specs.declared.indices.robust.find.Find as calls
-use Rattle.steps.specs.declared.indices.robust.find.FindStage.{FindStage}
 use Rattle.steps.specs.declared.indices.robust.find.FindStage as finds
-use Rattle.steps.specs.Indices.Robust.Find.{at_find, find_comes_to, find_after}
-use Rattle.steps.specs.Indices.Robust.Parts.{cell_word, empty, one_more}
-use Rattle.steps.specs.Picks.{by_test}
-use Rattle.steps.specs.Routine.{went_on}
-use Rattle.model.specs.declared.event.Answer.TheVariants.{Number}
 use Rattle.model.specs.declared.families.indices.robust.RobustStart.TheVariants.{Find}
 use Rattle.model.specs.declared.families.indices.robust.calls.RobustFlight as flights
-use Rattle.model.specs.Families.Indices.Robust.Promises.{cell_of, IsFilledWith, IsCount}
-use Rattle.model.specs.Families.Queues.Calls.{as_it_is}
-use Rattle.model.specs.Step.{as_call}
-use Rattle.model.specs.Turns.{words_after, step_count}
 use Rattle.laws_robust.proofs.Core.{cell}
 use Rattle.laws_robust.proofs.Counting.{count_next, count_within}
 use Rattle.laws_robust.proofs.Effects.{stays_same, filled_by}

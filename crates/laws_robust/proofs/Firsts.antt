@@ -1,28 +1,13 @@
 -- What the first stage of a call of the robust index set knows, and which calls begin on the set.
-use Rattle.std.proofs.Common.{◌≡◌, ℕ, ◌<◌, ◌≤◌, nat_le, if◌then◌else◌, Bool, true, false, Some, None, option_map, List, [], ◌∷◌, ◌++◌, refl, sym, ◌∙◌, arith}
-use Rattle.std.proofs.lemmas.Bool.Decides.{nat_tests}
-use Rattle.steps.specs.Indices.Robust.Parts.{empty}
-use Rattle.model.specs.declared.event.Event.{Event}
-use Rattle.model.specs.declared.event.Event.TheVariants.{Begun}
-use Rattle.model.specs.declared.event.Start.{Start}
-use Rattle.model.specs.declared.event.Start.TheVariants.{Robust}
-use Rattle.model.specs.declared.families.Flight.{Flight}
+use Rattle.laws_robust.proofs.Names.{◌≡◌, ℕ, ◌<◌, ◌≤◌, nat_le, if◌then◌else◌, Bool, true, false, Some, None}
+use Rattle.laws_robust.proofs.Names.{option_map, List, [], ◌∷◌, ◌++◌, refl, sym, ◌∙◌, arith, nat_tests, empty, Event}
+use Rattle.laws_robust.proofs.Names.{Begun, Start, Robust, Flight, Registry, RobustStart, RobustFlight, BadIndex}
+use Rattle.laws_robust.proofs.Names.{OwnerIsDead, first_of, first, has_died, is_owner, names_owner, call_rows}
+use Rattle.laws_robust.proofs.Names.{IsFilledWith, SetAct, Yes, settled_of, set_acts_of, IsOneOf, first_row, no_more}
+use Rattle.laws_robust.proofs.Names.{row_passed}
 use Rattle.model.specs.declared.families.Flight as flights
-use Rattle.model.specs.declared.families.Registry.{Registry}
-use Rattle.model.specs.declared.families.indices.robust.RobustStart.{RobustStart}
 use Rattle.model.specs.declared.families.indices.robust.RobustStart as starts
-use Rattle.model.specs.declared.families.indices.robust.calls.RobustFlight.{RobustFlight}
 use Rattle.model.specs.declared.turn.Kind as kinds
-use Rattle.model.specs.declared.turn.Refusal.TheVariants.{BadIndex, OwnerIsDead}
-use Rattle.model.specs.Families.{first_of}
-use Rattle.model.specs.Families.Indices.Robust.Calls.{first}
-use Rattle.model.specs.Families.Indices.Robust.Dead.{has_died}
-use Rattle.model.specs.Families.Indices.Robust.Opening.{is_owner, names_owner, call_rows}
-use Rattle.model.specs.Families.Indices.Robust.Promises.{IsFilledWith}
-use Rattle.model.specs.Families.Indices.Robust.Reading.{SetAct, Yes, settled_of, set_acts_of, IsOneOf}
-use Rattle.model.specs.Rows.{first_row}
-use Rattle.model.proofs.Readings.{no_more}
-use Rattle.model.proofs.Rows.{row_passed}
 use Rattle.laws_robust.specs.Gone.{GoneBy, IsCalm}
 use Rattle.laws_robust.proofs.Begins.{taken}
 use Rattle.laws_robust.proofs.Counting.{count_none}

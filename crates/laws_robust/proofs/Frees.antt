@@ -1,17 +1,10 @@
 -- What a step does that frees an index.
-use Rattle.std.proofs.Common.{◌≡◌, ◌≢◌, ℕ, ◌<◌, ◌==◌, if◌then◌else◌, false, Some, None, List, [], ◌∷◌, ◌++◌}
-use Rattle.std.proofs.Common.{length, set, refl, sym, ap, ◌∙◌, arith}
-use Rattle.std.proofs.lemmas.List.{length-set}
-use Rattle.std.proofs.lemmas.List.Sums.{fold-append}
-use Rattle.steps.specs.Indices.Robust.Parts.{cell_word, empty, locked}
-use Rattle.model.specs.declared.event.Event.{Event}
-use Rattle.model.specs.declared.event.Event.TheVariants.{FreedOf}
-use Rattle.model.specs.Families.Indices.Reading.{locked_after, is_locked}
-use Rattle.model.specs.Families.Indices.Robust.Promises.{cell_of, SetDoes, HoldsRight, LivesToRelease}
-use Rattle.model.specs.Families.Indices.Robust.Reading.{set_acts, filled_after, filled_of, holder_after, holder_of}
-use Rattle.model.specs.Families.Indices.Robust.Reading.{settled_after, settled_of, dead_after, is_dead, wrote_in}
-use Rattle.model.specs.Reading.{span_of}
-use Rattle.model.proofs.Readings.{Each-append, span_of-other}
+use Rattle.laws_robust.proofs.Names.{◌≡◌, ◌≢◌, ℕ, ◌<◌, ◌==◌, if◌then◌else◌, false, Some, None, List, [], ◌∷◌, ◌++◌}
+use Rattle.laws_robust.proofs.Names.{length, set, refl, sym, ap, ◌∙◌, arith, length-set, fold-append, cell_word}
+use Rattle.laws_robust.proofs.Names.{empty, locked, Event, FreedOf, locked_after, is_locked, cell_of, SetDoes}
+use Rattle.laws_robust.proofs.Names.{HoldsRight, LivesToRelease, set_acts, filled_after, filled_of, holder_after}
+use Rattle.laws_robust.proofs.Names.{holder_of, settled_after, settled_of, dead_after, is_dead, wrote_in, span_of}
+use Rattle.laws_robust.proofs.Names.{Each-append, span_of-other}
 use Rattle.laws_robust.specs.Gone.{is_gone, IsCalm, AnswersBy}
 use Rattle.laws_robust.proofs.Core.{counter_of, cell, counter_stays, cell_set, cell_stays}
 use Rattle.laws_robust.proofs.Effects.{well_formed_less}

@@ -1,21 +1,14 @@
 -- Who is gone stays so; a run was honest and well-formed a turn ago; and in an honest run nothing is filled again with an owner
 -- who is gone.
-use Rattle.std.proofs.Common.{⊎_elim, ◌≡◌, ℕ, ◌==◌, ◌||◌, Bool, true, false, Option, Some, None, List, [], ◌∷◌, ◌++◌}
-use Rattle.std.proofs.Common.{fold, refl, sym, ap, subst, ◌∙◌, append_assoc, append-nil, eq-eqb, arith}
-use Rattle.std.proofs.lemmas.List.Sums.{fold-append}
-use Rattle.steps.specs.declared.indices.enums.ReleaseMode.{ReleaseMode}
-use Rattle.steps.specs.declared.indices.enums.ReleaseMode.TheVariants.{LockIfLastIndex}
+use Rattle.laws_robust.proofs.Names.{⊎_elim, ◌≡◌, ℕ, ◌==◌, ◌||◌, Bool, true, false, Option, Some, None, List, [], ◌∷◌}
+use Rattle.laws_robust.proofs.Names.{◌++◌, fold, refl, sym, ap, subst, ◌∙◌, append_assoc, append-nil, eq-eqb, arith}
+use Rattle.laws_robust.proofs.Names.{fold-append, ReleaseMode, LockIfLastIndex, Index, NoIndex, State, Event, Begun}
+use Rattle.laws_robust.proofs.Names.{Granted, FreedOf, Told, Died, Finished, Robust, Container, AsksRight, FreesRight}
+use Rattle.laws_robust.proofs.Names.{AnswersRight, filled_after, filled_of, dead_after, is_dead, Each}
 use Rattle.steps.specs.declared.indices.enums.ReleaseState.TheVariants.{Unlocked}
 use Rattle.steps.specs.declared.indices.enums.UniqueIndexSetAcquireFailure.TheVariants.{OutOfIndices}
-use Rattle.model.specs.declared.event.Answer.TheVariants.{Index, NoIndex, State}
-use Rattle.model.specs.declared.event.Event.{Event}
-use Rattle.model.specs.declared.event.Event.TheVariants.{Begun, Granted, FreedOf, Told, Died, Finished}
-use Rattle.model.specs.declared.event.Start.TheVariants.{Robust, Container}
 use Rattle.model.specs.declared.families.container.ContainerStart as containers
 use Rattle.model.specs.declared.families.indices.robust.RobustStart.TheVariants.{Acquire, Release, Recover}
-use Rattle.model.specs.Families.Indices.Robust.Promises.{AsksRight, FreesRight, AnswersRight}
-use Rattle.model.specs.Families.Indices.Robust.Reading.{filled_after, filled_of, dead_after, is_dead}
-use Rattle.model.specs.Reading.{Each}
 use Rattle.laws_robust.specs.Gone.{GoneBy, Death, Word, gone_after, is_gone, ActsForRight, IsHonest, IsHonestBy, IsCalm, MayBeTold, AsksBy, AnswersBy}
 
 or_true : (b : Bool) → (b || true) ≡ true

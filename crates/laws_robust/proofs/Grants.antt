@@ -1,17 +1,11 @@
 -- What a step does by which an index is granted, by which a call that was granted one ends, or both at once. The right to the
 -- index stays with the party until its call is done.
-use Rattle.std.proofs.Common.{◌<◌, ◌≡◌, ◌≢◌, ℕ, ◌==◌, ◌&&◌, if◌then◌else◌, Bool, true, false}
-use Rattle.std.proofs.Common.{Option, Some, None, List, [], ◌∷◌, ◌++◌, fold, refl, sym, subst, ◌∙◌, append_assoc, arith}
-use Rattle.std.proofs.lemmas.List.Sums.{fold-append}
-use Rattle.steps.specs.Indices.Robust.Parts.{greatest}
-use Rattle.model.specs.declared.event.Answer.TheVariants.{Index}
-use Rattle.model.specs.declared.event.Event.{Event}
-use Rattle.model.specs.declared.event.Event.TheVariants.{Granted, Finished}
-use Rattle.model.specs.declared.event.Start.TheVariants.{Robust}
+use Rattle.laws_robust.proofs.Names.{◌<◌, ◌≡◌, ◌≢◌, ℕ, ◌==◌, ◌&&◌, if◌then◌else◌, Bool, true, false, Option, Some}
+use Rattle.laws_robust.proofs.Names.{None, List, [], ◌∷◌, ◌++◌, fold, refl, sym, subst, ◌∙◌, append_assoc, arith}
+use Rattle.laws_robust.proofs.Names.{fold-append, greatest, Index, Event, Granted, Finished, Robust, SetDoes}
+use Rattle.laws_robust.proofs.Names.{HoldsRight, filled_of, holder_after, holder_of, settled_after, settled_of}
+use Rattle.laws_robust.proofs.Names.{is_dead, AreOwn, AreRight}
 use Rattle.model.specs.declared.families.indices.robust.RobustStart.TheVariants.{Acquire}
-use Rattle.model.specs.Families.Indices.Robust.Promises.{SetDoes, HoldsRight}
-use Rattle.model.specs.Families.Indices.Robust.Reading.{filled_of, holder_after, holder_of, settled_after, settled_of, is_dead}
-use Rattle.model.proofs.Readings.{AreOwn, AreRight}
 use Rattle.laws_robust.specs.Gone.{IsCalm, AnswersBy}
 use Rattle.laws_robust.proofs.Core.{counter_of}
 use Rattle.laws_robust.proofs.Effects.{Keeps, Leaves, at_same, hands_on, same_filled}

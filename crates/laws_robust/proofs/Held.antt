@@ -1,37 +1,18 @@
 -- The steps of an acquire, in any call that holds it. What a step leads to is what the caller makes of it.
-use Rattle.std.proofs.Common.{◌≡◌, ◌≢◌, ℕ, ◌+◌, ◌*◌, ◌<◌, ◌≤◌, ◌==◌, ◌⊎◌, ⊎_elim, inl, inr, if◌then◌else◌, nat_lt}
-use Rattle.std.proofs.Common.{Bool, true, false, not, Option, Some, None, is_some, List, [], ◌∷◌, ◌++◌, set, refl, sym}
-use Rattle.std.proofs.Common.{ap, ◌∙◌, arith}
-use Rattle.std.specs.Prelude.{Ok, Err}
-use Rattle.std.proofs.lemmas.Bool.{cases_lt}
-use Rattle.std.proofs.lemmas.Bool.Decides.{nat_tests}
-use Rattle.std.proofs.lemmas.List.{set-get_or}
-use Rattle.std.proofs.lemmas.List.Sums.{fold-append}
-use Rattle.steps.specs.declared.ask.Ask.{Ask}
-use Rattle.steps.specs.declared.ask.After.{After}
-use Rattle.steps.specs.declared.ask.After.TheVariants.{GoOn, Done}
-use Rattle.steps.specs.declared.indices.enums.ReleaseState.{ReleaseState}
+use Rattle.laws_robust.proofs.Names.{◌≡◌, ◌≢◌, ℕ, ◌+◌, ◌*◌, ◌<◌, ◌≤◌, ◌==◌, ◌⊎◌, ⊎_elim, inl, inr, if◌then◌else◌}
+use Rattle.laws_robust.proofs.Names.{nat_lt, Bool, true, false, not, Option, Some, None, is_some, List, [], ◌∷◌, ◌++◌}
+use Rattle.laws_robust.proofs.Names.{set, refl, sym, ap, ◌∙◌, arith, Ok, Err, cases_lt, nat_tests, set-get_or}
+use Rattle.laws_robust.proofs.Names.{fold-append, Ask, After, GoOn, Done, ReleaseState, AcquireStage, Raise, Acquired}
+use Rattle.laws_robust.proofs.Names.{at_acquire, acquire_tries, acquire_sees, acquire_raised, acquire_asks}
+use Rattle.laws_robust.proofs.Names.{acquire_takes, acquire_goes_back, cell_word, empty, locked, greatest}
+use Rattle.laws_robust.proofs.Names.{raise_after, raise_goes_back, by_test, by_eq, Event, Filled, Granted, IsFilled}
+use Rattle.laws_robust.proofs.Names.{IsUnlocked, Fills, filled_after, filled_of, holder_after, holder_of, is_dead}
+use Rattle.laws_robust.proofs.Names.{ask_of, is_locked, FilledLate, granted, acquire_effects, HeldSometime, old_of}
+use Rattle.laws_robust.proofs.Names.{words_after, step_count, held_now}
 use Rattle.steps.specs.declared.indices.enums.UniqueIndexSetAcquireFailure as failures
 use Rattle.steps.specs.declared.indices.robust.acquire.Acquire as calls
-use Rattle.steps.specs.declared.indices.robust.acquire.AcquireStage.{AcquireStage}
 use Rattle.steps.specs.declared.indices.robust.acquire.AcquireStage as acquires
-use Rattle.steps.specs.declared.indices.robust.parts.Raise.{Raise}
 use Rattle.steps.specs.declared.indices.robust.parts.Raise as raises
-use Rattle.steps.specs.Indices.Robust.Acquire.{Acquired, at_acquire, acquire_tries, acquire_sees, acquire_raised}
-use Rattle.steps.specs.Indices.Robust.Acquire.{acquire_asks, acquire_takes, acquire_goes_back}
-use Rattle.steps.specs.Indices.Robust.Parts.{cell_word, empty, locked, greatest, raise_after, raise_goes_back}
-use Rattle.steps.specs.Picks.{by_test, by_eq}
-use Rattle.model.specs.declared.event.Event.{Event}
-use Rattle.model.specs.declared.event.Event.TheVariants.{Filled, Granted}
-use Rattle.model.specs.Families.Indices.Robust.Promises.{IsFilled, IsUnlocked}
-use Rattle.model.specs.Families.Indices.Robust.Reading.{Fills, filled_after, filled_of, holder_after, holder_of, is_dead}
-use Rattle.model.specs.Families.{ask_of}
-use Rattle.model.specs.Families.Indices.Reading.{is_locked}
-use Rattle.model.specs.Families.Indices.Robust.Spans.{FilledLate}
-use Rattle.model.specs.Families.Indices.Robust.Steps.{granted, acquire_effects}
-use Rattle.model.specs.Moments.{HeldSometime}
-use Rattle.model.specs.Turns.{old_of, words_after, step_count}
-use Rattle.model.proofs.Moments.{held_now}
 use Rattle.laws_robust.specs.Gone.{IsCalm}
 use Rattle.laws_robust.proofs.Core.{counter_of, cell}
 use Rattle.laws_robust.proofs.Effects.{at_same, IsRaised, unlocked, is_shut, filled_none, filled_some, fills}

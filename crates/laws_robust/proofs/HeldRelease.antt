@@ -1,39 +1,22 @@
 -- The steps of a release, in any call that holds it. What a step leads to is what the caller makes of it.
-use Rattle.std.proofs.Common.{inr, inl, ◌⊎◌, ◌≡◌, ◌≢◌, ℕ, ◌+◌, ◌*◌, ◌<◌, ◌≤◌, ◌==◌, if◌then◌else◌, Bool, true, false}
-use Rattle.std.proofs.Common.{Option, Some, None, is_some, List, [], ◌∷◌, ◌++◌, set, refl, ap, subst, ◌∙◌, arith, sym}
-use Rattle.std.specs.Prelude.{Ok, Err}
-use Rattle.std.proofs.lemmas.Bool.Decides.{nat_tests}
-use Rattle.steps.specs.declared.ask.Ask.{Ask}
-use Rattle.steps.specs.declared.ask.After.{After}
-use Rattle.steps.specs.declared.ask.After.TheVariants.{GoOn, Done}
-use Rattle.steps.specs.declared.indices.enums.ReleaseMode.{ReleaseMode}
-use Rattle.steps.specs.declared.indices.enums.ReleaseMode.TheVariants.{LockIfLastIndex, Default}
-use Rattle.steps.specs.declared.indices.enums.ReleaseState.{ReleaseState}
+use Rattle.laws_robust.proofs.Names.{inr, inl, ◌⊎◌, ◌≡◌, ◌≢◌, ℕ, ◌+◌, ◌*◌, ◌<◌, ◌≤◌, ◌==◌, if◌then◌else◌, Bool, true}
+use Rattle.laws_robust.proofs.Names.{false, Option, Some, None, is_some, List, [], ◌∷◌, ◌++◌, set, refl, ap, subst}
+use Rattle.laws_robust.proofs.Names.{◌∙◌, arith, sym, Ok, Err, nat_tests, Ask, After, GoOn, Done, ReleaseMode}
+use Rattle.laws_robust.proofs.Names.{LockIfLastIndex, Default, ReleaseState, IndexIsNotOwnedByProvidedOwner, Lock}
+use Rattle.laws_robust.proofs.Names.{Raise, ReleaseStage, cell_word, empty, locked, greatest, first_lock, raise_after}
+use Rattle.laws_robust.proofs.Names.{raise_goes_back, lock_after, lock_goes_back, Released, at_release}
+use Rattle.laws_robust.proofs.Names.{release_raised, release_locked, release_asks, release_takes, release_goes_back}
+use Rattle.laws_robust.proofs.Names.{Event, FreedOf, Locked, is_locked, most_steps, cell_of, IsFilled}
+use Rattle.laws_robust.proofs.Names.{FilledSinceFreed, LivesToRelease, holder_of, Frees, filled_of, settled_of}
+use Rattle.laws_robust.proofs.Names.{set_acts_of, IsOneOf, locked_by, release_effects, ask_of, SinceBegin, span_of}
+use Rattle.laws_robust.proofs.Names.{old_of, words_after, step_count, held_now}
 use Rattle.steps.specs.declared.indices.enums.ReleaseState as states
-use Rattle.steps.specs.declared.indices.enums.RobustUniqueIndexSetReleaseError.TheVariants.{IndexIsNotOwnedByProvidedOwner}
 use Rattle.steps.specs.declared.indices.robust.parts.Count as counts
-use Rattle.steps.specs.declared.indices.robust.parts.Lock.{Lock}
 use Rattle.steps.specs.declared.indices.robust.parts.Lock as parts
-use Rattle.steps.specs.declared.indices.robust.parts.Raise.{Raise}
 use Rattle.steps.specs.declared.indices.robust.parts.Raise as raises
 use Rattle.steps.specs.declared.indices.robust.release.Release as calls
-use Rattle.steps.specs.declared.indices.robust.release.ReleaseStage.{ReleaseStage}
 use Rattle.steps.specs.declared.indices.robust.release.ReleaseStage as releases
-use Rattle.steps.specs.Indices.Robust.Parts.{cell_word, empty, locked, greatest, first_lock, raise_after, raise_goes_back, lock_after, lock_goes_back}
-use Rattle.steps.specs.Indices.Robust.Release.{Released, at_release, release_raised, release_locked, release_asks, release_takes, release_goes_back}
-use Rattle.model.specs.declared.event.Event.{Event}
-use Rattle.model.specs.declared.event.Event.TheVariants.{FreedOf, Locked}
 use Rattle.model.specs.declared.families.indices.robust.RobustStart.TheVariants.{Release}
-use Rattle.model.specs.Families.Indices.Reading.{is_locked}
-use Rattle.model.specs.Families.Indices.Robust.Bounds.{most_steps}
-use Rattle.model.specs.Families.Indices.Robust.Promises.{cell_of, IsFilled, FilledSinceFreed, LivesToRelease}
-use Rattle.model.specs.Families.Indices.Robust.Reading.{holder_of, Frees, filled_of, settled_of, set_acts_of, IsOneOf}
-use Rattle.model.specs.Families.Indices.Robust.Steps.{locked_by, release_effects}
-use Rattle.model.specs.Families.{ask_of}
-use Rattle.model.specs.Moments.{SinceBegin}
-use Rattle.model.specs.Reading.{span_of}
-use Rattle.model.specs.Turns.{old_of, words_after, step_count}
-use Rattle.model.proofs.Moments.{held_now}
 use Rattle.laws_robust.specs.Gone.{is_gone, IsCalm}
 use Rattle.laws_robust.proofs.Core.{counter_of, cell}
 use Rattle.laws_robust.proofs.Effects.{Stays, one_party, unlocked, is_shut, stays_same, stays_raised, filled_by}

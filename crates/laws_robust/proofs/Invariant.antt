@@ -1,27 +1,17 @@
 -- What holds of the machine of a robust index set between any two turns beside what the frame says of every machine, and
 -- what a turn must show to keep it.
-use Rattle.std.proofs.Common.{◌≡◌, ◌≢◌, ℕ, ◌+◌, ◌-◌, ◌^◌, ◌<◌, ◌≤◌, ◌==◌, false, Some, List, ◌++◌, length, fold, refl, sym, ap, subst, ◌∙◌, arith}
-use Rattle.steps.specs.Indices.Robust.Parts.{empty, locked, greatest}
-use Rattle.model.specs.declared.event.Event.{Event}
-use Rattle.model.specs.declared.event.Start.{Start}
+use Rattle.laws_robust.proofs.Names.{◌≡◌, ◌≢◌, ℕ, ◌+◌, ◌-◌, ◌^◌, ◌<◌, ◌≤◌, ◌==◌, false, Some, List, ◌++◌, length}
+use Rattle.laws_robust.proofs.Names.{fold, refl, sym, ap, subst, ◌∙◌, arith, empty, locked, greatest, Event, Start}
+use Rattle.laws_robust.proofs.Names.{Flight, Registry, Party, Coding, is_locked, has_died, cell_of, SetDoes}
+use Rattle.laws_robust.proofs.Names.{HoldsRight, promise, SetAct, set_acts, filled_of, is_dead, wrote_in, set_acts_of}
+use Rattle.laws_robust.proofs.Names.{party_of, put, Stands, Each, Span, own_after, span_of, AreOwn, AllFollow}
+use Rattle.laws_robust.proofs.Names.{AreRight, Each-append, span_of-other}
 use Rattle.model.specs.declared.event.Start as any_starts
-use Rattle.model.specs.declared.families.Flight.{Flight}
 use Rattle.model.specs.declared.families.Flight as flights
-use Rattle.model.specs.declared.families.Registry.{Registry}
 use Rattle.model.specs.declared.families.Registry as registries
-use Rattle.model.specs.declared.party.Party.{Party}
 use Rattle.model.specs.declared.turn.Kind as kinds
-use Rattle.model.specs.Coding.{Coding}
-use Rattle.model.specs.Families.Indices.Reading.{is_locked}
-use Rattle.model.specs.Families.Indices.Robust.Dead.{has_died}
-use Rattle.model.specs.Families.Indices.Robust.Promises.{cell_of, SetDoes, HoldsRight, promise}
-use Rattle.model.specs.Families.Indices.Robust.Reading.{SetAct, set_acts, filled_of, is_dead, wrote_in, set_acts_of}
-use Rattle.model.specs.Parties.{party_of, put}
-use Rattle.model.specs.Promises.Spans.{Stands}
-use Rattle.model.specs.Reading.{Each, Span, own_after, span_of}
 use Rattle.model.proofs.Frame as frame
 use Rattle.model.proofs.Frame.{Family}
-use Rattle.model.proofs.Readings.{AreOwn, AllFollow, AreRight, Each-append, span_of-other}
 use Rattle.laws_robust.specs.Gone.{GoneBy, Death, Word, IsCalm, AsksBy, AnswersBy}
 use Rattle.laws_robust.proofs.Core.{counter_of, cell}
 use Rattle.laws_robust.proofs.Knows.{View, Knows, Goes, Spares, IsSeen, knows_later}

@@ -1,31 +1,14 @@
 -- What a turn writes down: what the step did to the set, then the end. No call of the set acts.
-use Rattle.std.proofs.Common.{◌≡◌, ℕ, Option, Some, List, [], ◌++◌, refl, sym, ap, subst, append-nil, arith}
-use Rattle.model.specs.declared.event.Answer.{Answer}
-use Rattle.model.specs.declared.event.Start.{Start}
-use Rattle.model.specs.declared.event.Start.TheVariants.{Robust}
-use Rattle.model.specs.declared.families.Flight.{Flight}
+use Rattle.laws_robust.proofs.Names.{◌≡◌, ℕ, Option, Some, List, [], ◌++◌, refl, sym, ap, subst, append-nil, arith}
+use Rattle.laws_robust.proofs.Names.{Answer, Start, Robust, Flight, Registry, Going, Party, Turn, Next, Decide}
+use Rattle.laws_robust.proofs.Names.{Coding, want_of, after_of, ask_of, beside_of, step_of, goes_of, promise, effects}
+use Rattle.laws_robust.proofs.Names.{party_of, IsTurnBy, promise_of, IsParty, WritesInOrder, answer_in, old_of}
+use Rattle.laws_robust.proofs.Names.{number_of, step_in, events_of_step, ending_of, after_turn, Trace, stands_there}
 use Rattle.model.specs.declared.families.Flight as flights
-use Rattle.model.specs.declared.families.Registry.{Registry}
 use Rattle.model.specs.declared.families.Registry as registries
-use Rattle.model.specs.declared.party.Doing.TheVariants.{Going}
-use Rattle.model.specs.declared.party.Party.{Party}
 use Rattle.model.specs.declared.turn.Kind as kinds
-use Rattle.model.specs.declared.turn.Turn.{Turn}
-use Rattle.model.specs.declared.turn.Turn.TheVariants.{Next, Decide}
-use Rattle.model.specs.Coding.{Coding}
-use Rattle.model.specs.Families.{want_of, after_of, ask_of, beside_of, step_of, goes_of}
-use Rattle.model.specs.Families.Indices.Robust.Promises.{promise}
-use Rattle.model.specs.Families.Indices.Robust.Steps.{effects}
-use Rattle.model.specs.Parties.{party_of}
-use Rattle.model.specs.Promises.{IsTurnBy}
-use Rattle.model.specs.Promises.Families.{promise_of}
-use Rattle.model.specs.Promises.Turns.{IsParty, WritesInOrder}
-use Rattle.model.specs.Step.{answer_in}
-use Rattle.model.specs.Turns.{old_of, number_of, step_in, events_of_step, ending_of, after_turn}
-use Rattle.model.specs.World.{Trace}
 use Rattle.model.proofs.Frame as frame
 use Rattle.model.proofs.Orders.{Orders, Keeps, ends_end, turn_is}
-use Rattle.model.proofs.Scenes.{stands_there}
 use Rattle.laws_robust.proofs.Invariant.{RobustSet, Represents, family}
 use Rattle.laws_robust.proofs.Kept.{kept}
 use Rattle.laws_robust.proofs.Sound.{kept_is, reached_sound}

@@ -1,32 +1,17 @@
 -- What the invariant says of the events, in the promise's words.
-use Rattle.std.proofs.Common.{◌≡◌, ℕ, ◌+◌, ◌-◌, ◌*◌, ◌≤◌, ⊎_elim, Option, Some, None, List, sym, ap, subst, ◌∙◌, arith}
-use Rattle.steps.specs.declared.indices.enums.ReleaseMode.{ReleaseMode}
-use Rattle.steps.specs.declared.indices.enums.ReleaseMode.TheVariants.{LockIfLastIndex, Default}
-use Rattle.steps.specs.declared.indices.robust.acquire.AcquireStage.{AcquireStage}
-use Rattle.steps.specs.declared.indices.robust.find.FindStage.{FindStage}
+use Rattle.laws_robust.proofs.Names.{◌≡◌, ℕ, ◌+◌, ◌-◌, ◌*◌, ◌≤◌, ⊎_elim, Option, Some, None, List, sym, ap, subst}
+use Rattle.laws_robust.proofs.Names.{◌∙◌, arith, ReleaseMode, LockIfLastIndex, Default, AcquireStage, FindStage}
+use Rattle.laws_robust.proofs.Names.{Count, Lock, RecoverStage, GiveBack, ReleaseStage, RobustStart, RobustFlight}
+use Rattle.laws_robust.proofs.Names.{Coding, most_steps, KeepsDead, IsRobustSet, promise, SetAct, party_of, IsKeptBy}
+use Rattle.laws_robust.proofs.Names.{IsKept, promise_of, span_of, IsReached, Trace, progress_in}
 use Rattle.steps.specs.declared.indices.robust.find.FindStage as finds
-use Rattle.steps.specs.declared.indices.robust.parts.Count.{Count}
-use Rattle.steps.specs.declared.indices.robust.parts.Lock.{Lock}
 use Rattle.steps.specs.declared.indices.robust.parts.Lock as locks
-use Rattle.steps.specs.declared.indices.robust.recover.RecoverStage.{RecoverStage}
-use Rattle.steps.specs.declared.indices.robust.release.GiveBack.{GiveBack}
-use Rattle.steps.specs.declared.indices.robust.release.ReleaseStage.{ReleaseStage}
-use Rattle.model.specs.declared.families.indices.robust.RobustStart.{RobustStart}
 use Rattle.model.specs.declared.families.indices.robust.RobustStart as starts
-use Rattle.model.specs.declared.families.indices.robust.calls.RobustFlight.{RobustFlight}
-use Rattle.model.specs.declared.families.indices.robust.calls.RobustFlight.TheVariants.{Acquire, Release, Find, Recover, BorrowedIndices, IsLocked}
+use Rattle.model.specs.declared.families.indices.robust.calls.RobustFlight.TheVariants.{Acquire, Release, Find}
+use Rattle.model.specs.declared.families.indices.robust.calls.RobustFlight.TheVariants.{Recover, BorrowedIndices}
+use Rattle.model.specs.declared.families.indices.robust.calls.RobustFlight.TheVariants.{IsLocked}
 use Rattle.model.specs.declared.turn.Kind as kinds
-use Rattle.model.specs.Coding.{Coding}
-use Rattle.model.specs.Families.Indices.Robust.Bounds.{most_steps}
-use Rattle.model.specs.Families.Indices.Robust.Promises.{KeepsDead, IsRobustSet, promise}
-use Rattle.model.specs.Families.Indices.Robust.Reading.{SetAct}
-use Rattle.model.specs.Parties.{party_of}
-use Rattle.model.specs.Promises.{IsKeptBy, IsKept}
-use Rattle.model.specs.Promises.Families.{promise_of}
 use Rattle.model.specs.Promises.Bounds.{Progresses}
-use Rattle.model.specs.Reading.{span_of}
-use Rattle.model.specs.Turns.{IsReached}
-use Rattle.model.specs.World.{Trace, progress_in}
 use Rattle.model.proofs.Frame as frame
 use Rattle.laws_robust.specs.Gone.{Death}
 use Rattle.laws_robust.proofs.Core.{cell}

@@ -1,31 +1,22 @@
 -- What a call of the robust index set knows where it stands: of its counts, of moments of it, of what it has a right to, and
 -- of what it has recovered; and that it knows this still after any turn of another party.
-use Rattle.std.proofs.Common.{if◌then◌else◌, ◌==◌, ◌≡◌, ◌≢◌, ℕ, ◌+◌, ◌<◌, ◌≤◌, ◌⊎◌, ⊎_elim, inl, inr, true, false}
-use Rattle.std.proofs.Common.{Option, Some, None, List, ◌++◌, sym, subst, ◌∙◌, arith}
-use Rattle.steps.specs.declared.indices.robust.acquire.AcquireStage.{AcquireStage}
+use Rattle.laws_robust.proofs.Names.{if◌then◌else◌, ◌==◌, ◌≡◌, ◌≢◌, ℕ, ◌+◌, ◌<◌, ◌≤◌, ◌⊎◌, ⊎_elim, inl, inr, true}
+use Rattle.laws_robust.proofs.Names.{false, Option, Some, None, List, ◌++◌, sym, subst, ◌∙◌, arith, AcquireStage}
+use Rattle.laws_robust.proofs.Names.{FindStage, Count, Lock, Raise, RecoverStage, ReleaseStage, greatest, Event}
+use Rattle.laws_robust.proofs.Names.{RobustFlight, NoneTakes, IsFilled, IsFilledWith, IsUnlocked, IsCount}
+use Rattle.laws_robust.proofs.Names.{HeldThroughout, FilledSinceFreed, StillToFree, IsWellFormed, Asks, Yes}
+use Rattle.laws_robust.proofs.Names.{filled_of, holder_of, settled_of, is_dead, set_acts_of, IsOneOf, BeginsNone}
+use Rattle.laws_robust.proofs.Names.{HeldSometime, SinceBegin, held_later}
 use Rattle.steps.specs.declared.indices.robust.acquire.AcquireStage as acquires
-use Rattle.steps.specs.declared.indices.robust.find.FindStage.{FindStage}
 use Rattle.steps.specs.declared.indices.robust.find.FindStage as finds
-use Rattle.steps.specs.declared.indices.robust.parts.Count.{Count}
 use Rattle.steps.specs.declared.indices.robust.parts.Count as counts
-use Rattle.steps.specs.declared.indices.robust.parts.Lock.{Lock}
 use Rattle.steps.specs.declared.indices.robust.parts.Lock as locks
-use Rattle.steps.specs.declared.indices.robust.parts.Raise.{Raise}
 use Rattle.steps.specs.declared.indices.robust.parts.Raise as raises
-use Rattle.steps.specs.declared.indices.robust.recover.RecoverStage.{RecoverStage}
 use Rattle.steps.specs.declared.indices.robust.recover.RecoverStage as recovers
-use Rattle.steps.specs.declared.indices.robust.release.ReleaseStage.{ReleaseStage}
 use Rattle.steps.specs.declared.indices.robust.release.ReleaseStage as releases
-use Rattle.steps.specs.Indices.Robust.Parts.{greatest}
-use Rattle.model.specs.declared.event.Event.{Event}
-use Rattle.model.specs.declared.families.indices.robust.calls.RobustFlight.{RobustFlight}
-use Rattle.model.specs.declared.families.indices.robust.calls.RobustFlight.TheVariants.{Acquire, Release, Find, Recover, BorrowedIndices, IsLocked}
-use Rattle.model.specs.Families.Container.Reading.{NoneTakes}
-use Rattle.model.specs.Families.Indices.Robust.Promises.{IsFilled, IsFilledWith, IsUnlocked, IsCount, HeldThroughout}
-use Rattle.model.specs.Families.Indices.Robust.Promises.{FilledSinceFreed, StillToFree, IsWellFormed}
-use Rattle.model.specs.Families.Indices.Robust.Reading.{Asks, Yes, filled_of, holder_of, settled_of, is_dead, set_acts_of, IsOneOf}
-use Rattle.model.specs.Moments.{BeginsNone, HeldSometime, SinceBegin}
-use Rattle.model.proofs.Moments.{held_later}
+use Rattle.model.specs.declared.families.indices.robust.calls.RobustFlight.TheVariants.{Acquire, Release, Find}
+use Rattle.model.specs.declared.families.indices.robust.calls.RobustFlight.TheVariants.{Recover, BorrowedIndices}
+use Rattle.model.specs.declared.families.indices.robust.calls.RobustFlight.TheVariants.{IsLocked}
 use Rattle.laws_robust.proofs.Core.{counter_of}
 use Rattle.laws_robust.specs.Gone.{GoneBy, is_gone, IsHonestBy, IsCalm}
 use Rattle.laws_robust.proofs.Counting.{count_later}

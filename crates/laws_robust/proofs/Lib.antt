@@ -4,6 +4,7 @@ pub mod Begins
 pub mod Core
 pub mod Counting
 pub mod Deaths
+mod Names
 pub mod SetActs
 pub mod Effects
 pub mod Finds

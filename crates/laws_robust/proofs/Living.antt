@@ -1,27 +1,13 @@
 -- No owner dies in an open run, so none of its calls is refused for a dead owner.
-use Rattle.std.proofs.Common.{◌≡◌, ℕ, false, Some, None, List, refl, sym, subst, ◌∙◌}
-use Rattle.std.specs.List.{AllByRecursion}
-use Rattle.model.specs.declared.event.Event.{Event}
-use Rattle.model.specs.declared.event.Start.{Start}
-use Rattle.model.specs.declared.event.Start.TheVariants.{Robust}
-use Rattle.model.specs.declared.families.Flight.{Flight}
+use Rattle.laws_robust.proofs.Names.{◌≡◌, ℕ, false, Some, None, List, refl, sym, subst, ◌∙◌, AllByRecursion, Event}
+use Rattle.laws_robust.proofs.Names.{Start, Robust, Flight, Registry, RobustFlight, Coding, beside_of, step_of}
+use Rattle.laws_robust.proofs.Names.{going_rows, after, has_died, acts_for_dead, frees_living, effects, first_row}
+use Rattle.laws_robust.proofs.Names.{answer_in, events_of_step, Trace, stands_there}
 use Rattle.model.specs.declared.families.Flight as flights
-use Rattle.model.specs.declared.families.Registry.{Registry}
 use Rattle.model.specs.declared.families.Registry as registries
-use Rattle.model.specs.declared.families.indices.robust.calls.RobustFlight.{RobustFlight}
 use Rattle.model.specs.declared.families.indices.robust.calls.RobustFlight.TheVariants.{Acquire, Release, Recover}
-use Rattle.model.specs.Coding.{Coding}
-use Rattle.model.specs.Families.{beside_of, step_of, going_rows}
-use Rattle.model.specs.Families.Indices.Robust.Calls.{after}
-use Rattle.model.specs.Families.Indices.Robust.Dead.{has_died, acts_for_dead, frees_living}
 use Rattle.model.specs.Families.Indices.Robust.Dead as rows
-use Rattle.model.specs.Families.Indices.Robust.Steps.{effects}
-use Rattle.model.specs.Rows.{first_row}
-use Rattle.model.specs.Step.{answer_in}
-use Rattle.model.specs.Turns.{events_of_step}
-use Rattle.model.specs.World.{Trace}
 use Rattle.model.proofs.Frame as frame
-use Rattle.model.proofs.Scenes.{stands_there}
 use Rattle.laws_robust.specs.Gone.{Word}
 use Rattle.laws_robust.proofs.Alive.{Leaves, AllLive, StepsLeave, end_leaves}
 use Rattle.laws_robust.proofs.Invariant.{family_by}

@@ -1,16 +1,10 @@
 -- What a step does that locks the set.
-use Rattle.std.proofs.Common.{◌<◌, ◌≡◌, ℕ, true, false, None, List, [], ◌∷◌, ◌++◌, length, set, refl, sym, ap, ◌∙◌, arith, eq-eqb}
-use Rattle.std.proofs.lemmas.List.{length-set}
-use Rattle.std.proofs.lemmas.List.Sums.{fold-append}
-use Rattle.steps.specs.Indices.Robust.Parts.{locked, greatest}
-use Rattle.model.specs.declared.event.Event.{Event}
-use Rattle.model.specs.declared.event.Event.TheVariants.{Locked}
-use Rattle.model.specs.Families.Indices.Reading.{locked_after, is_locked}
-use Rattle.model.specs.Families.Indices.Robust.Promises.{cell_of, SetDoes, HoldsRight}
-use Rattle.model.specs.Families.Indices.Robust.Reading.{set_acts, filled_after, filled_of, holder_after, holder_of}
-use Rattle.model.specs.Families.Indices.Robust.Reading.{settled_after, settled_of, dead_after, is_dead, wrote_in}
-use Rattle.model.proofs.Moments.{others_begin_none}
-use Rattle.model.proofs.Readings.{AreRight, AreOwn, Each-append, span_of-other}
+use Rattle.laws_robust.proofs.Names.{◌<◌, ◌≡◌, ℕ, true, false, None, List, [], ◌∷◌, ◌++◌, length, set, refl, sym, ap}
+use Rattle.laws_robust.proofs.Names.{◌∙◌, arith, eq-eqb, length-set, fold-append, locked, greatest, Event, Locked}
+use Rattle.laws_robust.proofs.Names.{locked_after, is_locked, cell_of, SetDoes, HoldsRight, set_acts, filled_after}
+use Rattle.laws_robust.proofs.Names.{filled_of, holder_after, holder_of, settled_after, settled_of, dead_after}
+use Rattle.laws_robust.proofs.Names.{is_dead, wrote_in, others_begin_none, AreRight, AreOwn, Each-append}
+use Rattle.laws_robust.proofs.Names.{span_of-other}
 use Rattle.laws_robust.specs.Gone.{IsCalm, AnswersBy}
 use Rattle.laws_robust.proofs.Core.{counter_of, cell, counter_set, cells_stay}
 use Rattle.laws_robust.proofs.Effects.{Quiet, both_ways, well_formed_less, not_shut, unlocked}

@@ -1,21 +1,12 @@
 -- The steps of the calls that look: how many indices are borrowed, and whether the set is locked.
-use Rattle.std.proofs.Common.{◌≡◌, ℕ, ◌+◌, ◌*◌, ◌≤◌, ◌==◌, Bool, true, false, Option, Some, None, is_some, List, [], refl, ap, arith}
-use Rattle.steps.specs.declared.ask.Ask.{Ask}
-use Rattle.steps.specs.declared.ask.After.{After}
-use Rattle.steps.specs.declared.indices.robust.parts.Count.{Count}
+use Rattle.laws_robust.proofs.Names.{◌≡◌, ℕ, ◌+◌, ◌*◌, ◌≤◌, ◌==◌, Bool, true, false, Option, Some, None, is_some}
+use Rattle.laws_robust.proofs.Names.{List, [], refl, ap, arith, Ask, After, Count, Counted, locked, count_after}
+use Rattle.laws_robust.proofs.Names.{count_goes_back, went_on, Number, Truth, IsFilled, filled_of, as_it_is, as_call}
+use Rattle.laws_robust.proofs.Names.{old_of, words_after}
 use Rattle.steps.specs.declared.indices.robust.parts.Count as counts
-use Rattle.steps.specs.declared.indices.robust.parts.Counted.{Counted}
 use Rattle.steps.specs.Indices.Robust.Looks.{borrowed_counted}
-use Rattle.steps.specs.Indices.Robust.Parts.{locked, count_after, count_goes_back}
-use Rattle.steps.specs.Routine.{went_on}
-use Rattle.model.specs.declared.event.Answer.TheVariants.{Number, Truth}
 use Rattle.model.specs.declared.families.indices.robust.RobustStart.TheVariants.{BorrowedIndices, IsLocked}
 use Rattle.model.specs.declared.families.indices.robust.calls.RobustFlight as flights
-use Rattle.model.specs.Families.Indices.Robust.Promises.{IsFilled}
-use Rattle.model.specs.Families.Indices.Robust.Reading.{filled_of}
-use Rattle.model.specs.Families.Queues.Calls.{as_it_is}
-use Rattle.model.specs.Step.{as_call}
-use Rattle.model.specs.Turns.{old_of, words_after}
 use Rattle.laws_robust.proofs.Core.{counter_of}
 use Rattle.laws_robust.proofs.Counting.{count_none, count_next}
 use Rattle.laws_robust.proofs.Effects.{both_ways, not_shut, unlocked, is_shut, stays_same, stays_raised}

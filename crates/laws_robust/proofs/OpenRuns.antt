@@ -1,33 +1,18 @@
 -- What holds of the machine of a robust set keeps to every turn of an open run, so it holds wherever such a run leads.
-use Rattle.std.proofs.Common.{◌≡◌, ◌≢◌, slice_index, ℕ, ◌+◌, Bool, true, not, Option, Some, None, is_none, List, []}
-use Rattle.std.proofs.Common.{◌∷◌, ◌++◌, refl, sym, ap, subst, ◌∙◌, append-nil, arith}
-use Rattle.steps.specs.Indices.Robust.Parts.{greatest}
-use Rattle.steps.specs.declared.indices.enums.ReleaseMode.{ReleaseMode}
-use Rattle.model.specs.declared.event.Start.TheVariants.{Container}
+use Rattle.laws_robust.proofs.Names.{◌≡◌, ◌≢◌, slice_index, ℕ, ◌+◌, Bool, true, not, Option, Some, None, is_none}
+use Rattle.laws_robust.proofs.Names.{List, [], ◌∷◌, ◌++◌, refl, sym, ap, subst, ◌∙◌, append-nil, arith, greatest}
+use Rattle.laws_robust.proofs.Names.{ReleaseMode, Container, Flight, Doing, Going, Over, Party, Idle, Undecided, Turn}
+use Rattle.laws_robust.proofs.Names.{Begin, Next, Decide, Die, Coding, IsCoding, want_of, is_question, AnswersRight}
+use Rattle.laws_robust.proofs.Names.{party_of, doing_of, flight_of, Each, is_due, call_refusal, number_of, after_step}
+use Rattle.laws_robust.proofs.Names.{step_in, party_after, change_of, step_count, after_decision, after_answer}
+use Rattle.laws_robust.proofs.Names.{events_of_step, events_of_answer, events_of_decision, after_turn, unless_refused}
+use Rattle.laws_robust.proofs.Names.{Trace, opening, capacity_error, flight_in, row_passed}
 use Rattle.model.specs.declared.families.container.ContainerStart.TheVariants.{Recover}
-use Rattle.model.specs.declared.families.Flight.{Flight}
 use Rattle.model.specs.declared.families.Flight as flights
-use Rattle.model.specs.declared.party.Doing.{Doing}
-use Rattle.model.specs.declared.party.Doing.TheVariants.{Going, Over}
-use Rattle.model.specs.declared.party.Party.{Party}
 use Rattle.model.specs.declared.turn.Kind.{Kind}
 use Rattle.model.specs.declared.turn.Kind as kinds
-use Rattle.model.specs.declared.turn.Refusal.TheVariants.{Idle, Undecided}
-use Rattle.model.specs.declared.turn.Turn.{Turn}
-use Rattle.model.specs.declared.turn.Turn.TheVariants.{Begin, Next, Decide, Die}
-use Rattle.model.specs.Coding.{Coding, IsCoding}
-use Rattle.model.specs.Families.{want_of, is_question}
-use Rattle.model.specs.Families.Indices.Robust.Promises.{AnswersRight}
-use Rattle.model.specs.Parties.{party_of, doing_of, flight_of}
-use Rattle.model.specs.Reading.{Each}
-use Rattle.model.specs.Refusals.{is_due, call_refusal}
-use Rattle.model.specs.Turns.{number_of, after_step, step_in, party_after, change_of, step_count, after_decision}
-use Rattle.model.specs.Turns.{after_answer, events_of_step, events_of_answer, events_of_decision, after_turn}
-use Rattle.model.specs.Turns.{unless_refused}
-use Rattle.model.specs.World.{Trace, opening, capacity_error, flight_in}
 use Rattle.model.proofs.Frame as frame
 use Rattle.model.proofs.Reached.{turn_making}
-use Rattle.model.proofs.Rows.{row_passed}
 use Rattle.laws_robust.specs.Gone.{Word, IsHonest}
 use Rattle.laws_robust.specs.Open.{open_refusal, attempt_open, run_open, IsReachedOpen, IsOpenSet}
 use Rattle.laws_robust.proofs.Alive.{AllLive, all_live_on}

@@ -1,9 +1,7 @@
 -- What every turn of an open run keeps holds wherever the run leads.
-use Rattle.std.proofs.Common.{◌≡◌, Option, Some, None, List, [], ◌∷◌, refl, sym, subst}
+use Rattle.laws_robust.proofs.Names.{◌≡◌, Option, Some, None, List, [], ◌∷◌, refl, sym, subst, Turn, after_turn}
+use Rattle.laws_robust.proofs.Names.{unless_refused, Trace, opening}
 use Rattle.model.specs.declared.turn.Refusal.{Refusal}
-use Rattle.model.specs.declared.turn.Turn.{Turn}
-use Rattle.model.specs.Turns.{after_turn, unless_refused}
-use Rattle.model.specs.World.{Trace, opening}
 use Rattle.laws_robust.specs.Open.{open_refusal, attempt_open, run_open, IsReachedOpen}
 
 module _ {T : Type 0} (Holds : Trace T → Type 0)

@@ -1,11 +1,7 @@
 -- The robust index set as it opens: no index is filled, and nobody has died.
-use Rattle.std.proofs.Common.{◌≡◌, ℕ, zero, suc, ◌+◌, ◌^◌, ◌<◌, ◌≤◌, None, [], replicate, get_or, refl, ap, ◌∙◌, arith}
-use Rattle.std.proofs.lemmas.List.{length-replicate}
-use Rattle.steps.specs.Indices.Robust.Parts.{empty}
+use Rattle.laws_robust.proofs.Names.{◌≡◌, ℕ, zero, suc, ◌+◌, ◌^◌, ◌<◌, ◌≤◌, None, [], replicate, get_or, refl, ap}
+use Rattle.laws_robust.proofs.Names.{◌∙◌, arith, length-replicate, empty, opening_words, capacity_error, Each-nil}
 use Rattle.model.specs.declared.turn.Kind as kinds
-use Rattle.model.specs.Families.Indices.Robust.Opening.{opening_words}
-use Rattle.model.specs.World.{capacity_error}
-use Rattle.model.proofs.Readings.{Each-nil}
 use Rattle.laws_robust.specs.Gone.{GoneBy}
 use Rattle.laws_robust.proofs.Core.{cell}
 use Rattle.laws_robust.proofs.Invariant.{Good}

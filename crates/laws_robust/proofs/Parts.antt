@@ -1,32 +1,18 @@
 -- The steps of the parts that calls of a robust index set are made of: a raise of the counter, a count and a lock. What a
 -- step leads to is what the caller makes of it, of the operation, of whether it turns back, and of how the part goes on.
-use Rattle.std.proofs.Common.{eq-eqb, ◌≡◌, ◌≢◌, ℕ, ◌+◌, ◌*◌, ◌<◌, ◌≤◌, ◌==◌, ◌&&◌, ⊎_elim, inl, if◌then◌else◌, nat_lt}
-use Rattle.std.proofs.Common.{Bool, true, false, not, Option, Some, None, List, [], ◌∷◌, set, refl, sym, ap, subst}
-use Rattle.std.proofs.Common.{◌∙◌, arith, ne_eqb}
-use Rattle.std.proofs.lemmas.Bool.{cases_lt}
-use Rattle.std.proofs.lemmas.Bool.Decides.{nat_tests}
-use Rattle.steps.specs.declared.ask.Ask.{Ask}
-use Rattle.steps.specs.declared.ask.After.{After}
-use Rattle.steps.specs.declared.ask.After.TheVariants.{GoOn, Done}
-use Rattle.steps.specs.declared.indices.enums.ReleaseState.{ReleaseState}
+use Rattle.laws_robust.proofs.Names.{eq-eqb, ◌≡◌, ◌≢◌, ℕ, ◌+◌, ◌*◌, ◌<◌, ◌≤◌, ◌==◌, ◌&&◌, ⊎_elim, inl, if◌then◌else◌}
+use Rattle.laws_robust.proofs.Names.{nat_lt, Bool, true, false, not, Option, Some, None, List, [], ◌∷◌, set, refl}
+use Rattle.laws_robust.proofs.Names.{sym, ap, subst, ◌∙◌, arith, ne_eqb, cases_lt, nat_tests, Ask, After, GoOn, Done}
+use Rattle.laws_robust.proofs.Names.{ReleaseState, Count, Counted, Lock, Raise, cell_word, empty, locked, greatest}
+use Rattle.laws_robust.proofs.Names.{one_more, raise_sees, raise_after, raise_goes_back, count_comes_to, count_after}
+use Rattle.laws_robust.proofs.Names.{count_goes_back, first_lock, lock_counted, lock_after, lock_goes_back, by_test}
+use Rattle.laws_robust.proofs.Names.{by_eq, Event, Locked, filled_of, holder_of, locked_by, old_of, words_after}
+use Rattle.laws_robust.proofs.Names.{step_count}
 use Rattle.steps.specs.declared.indices.enums.ReleaseState as states
-use Rattle.steps.specs.declared.indices.robust.parts.Count.{Count}
 use Rattle.steps.specs.declared.indices.robust.parts.Count as counts
-use Rattle.steps.specs.declared.indices.robust.parts.Counted.{Counted}
 use Rattle.steps.specs.declared.indices.robust.parts.Counted as ends
-use Rattle.steps.specs.declared.indices.robust.parts.Lock.{Lock}
 use Rattle.steps.specs.declared.indices.robust.parts.Lock as locks
-use Rattle.steps.specs.declared.indices.robust.parts.Raise.{Raise}
 use Rattle.steps.specs.declared.indices.robust.parts.Raise as raises
-use Rattle.steps.specs.Indices.Robust.Parts.{cell_word, empty, locked, greatest, one_more, raise_sees, raise_after}
-use Rattle.steps.specs.Indices.Robust.Parts.{raise_goes_back, count_comes_to, count_after, count_goes_back, first_lock}
-use Rattle.steps.specs.Indices.Robust.Parts.{lock_counted, lock_after, lock_goes_back}
-use Rattle.steps.specs.Picks.{by_test, by_eq}
-use Rattle.model.specs.declared.event.Event.{Event}
-use Rattle.model.specs.declared.event.Event.TheVariants.{Locked}
-use Rattle.model.specs.Families.Indices.Robust.Reading.{filled_of, holder_of}
-use Rattle.model.specs.Families.Indices.Robust.Steps.{locked_by}
-use Rattle.model.specs.Turns.{old_of, words_after, step_count}
 use Rattle.laws_robust.specs.Gone.{IsCalm}
 use Rattle.laws_robust.proofs.Core.{counter_of, cell, counter_set}
 use Rattle.laws_robust.proofs.Effects.{Stays, not_shut, stays_same, stays_raised, filled_none, filled_some}

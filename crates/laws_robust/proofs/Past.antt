@@ -1,12 +1,7 @@
 -- What was so at each moment of a call, or as it began, is so in a shorter run as well.
-use Rattle.std.proofs.Common.{◌≡◌, ℕ, List, [], ◌∷◌, ◌++◌, refl, sym, ap, subst, ◌∙◌, append_assoc, append-nil}
-use Rattle.model.specs.declared.event.Event.{Event}
-use Rattle.model.specs.declared.event.Event.TheVariants.{Begun}
-use Rattle.model.specs.declared.event.Start.{Start}
-use Rattle.model.specs.Families.Indices.Robust.Promises.{HeldThroughout}
-use Rattle.model.specs.Moments.{BeginsNone, SinceBegin}
-use Rattle.model.proofs.Moments.{begins_none_more}
-use Rattle.model.proofs.Readings.{no_more}
+use Rattle.laws_robust.proofs.Names.{◌≡◌, ℕ, List, [], ◌∷◌, ◌++◌, refl, sym, ap, subst, ◌∙◌, append_assoc, append-nil}
+use Rattle.laws_robust.proofs.Names.{Event, Begun, Start, HeldThroughout, BeginsNone, SinceBegin, begins_none_more}
+use Rattle.laws_robust.proofs.Names.{no_more}
 
 module _ {T : Type 0} (p : ℕ) where
   pub through_less : (P : List (Event T) → Type 0) (events es : List (Event T)) → BeginsNone p es

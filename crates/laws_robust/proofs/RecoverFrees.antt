@@ -1,36 +1,18 @@
 -- A recovery of a robust set: the decision, and what frees an index.
-use Rattle.std.proofs.Common.{◌≡◌, ◌≢◌, ℕ, ◌+◌, ◌*◌, ◌≤◌, ◌==◌, ⊎_elim, inl, if◌then◌else◌}
-use Rattle.std.proofs.Common.{Bool, true, false, Option, Some, None, List, [], ◌∷◌, ◌++◌, refl, sym, ap, subst, ◌∙◌}
-use Rattle.std.proofs.Common.{arith}
-use Rattle.std.proofs.lemmas.Bool.{cases_lt}
-use Rattle.std.proofs.lemmas.Bool.Decides.{nat_tests}
-use Rattle.std.proofs.lemmas.List.Sums.{fold-append}
-use Rattle.steps.specs.declared.ask.Ask.{Ask}
-use Rattle.steps.specs.declared.ask.After.{After}
-use Rattle.steps.specs.declared.ask.After.TheVariants.{GoOn, Done}
-use Rattle.steps.specs.declared.indices.enums.ReleaseMode.{ReleaseMode}
-use Rattle.steps.specs.declared.indices.enums.ReleaseMode.TheVariants.{LockIfLastIndex, Default}
-use Rattle.steps.specs.declared.indices.enums.ReleaseState.{ReleaseState}
+use Rattle.laws_robust.proofs.Names.{◌≡◌, ◌≢◌, ℕ, ◌+◌, ◌*◌, ◌≤◌, ◌==◌, ⊎_elim, inl, if◌then◌else◌, Bool, true, false}
+use Rattle.laws_robust.proofs.Names.{Option, Some, None, List, [], ◌∷◌, ◌++◌, refl, sym, ap, subst, ◌∙◌, arith}
+use Rattle.laws_robust.proofs.Names.{cases_lt, nat_tests, fold-append, Ask, After, GoOn, Done, ReleaseMode}
+use Rattle.laws_robust.proofs.Names.{LockIfLastIndex, Default, ReleaseState, Raise, RecoverStage, cell_word, empty}
+use Rattle.laws_robust.proofs.Names.{locked, first_lock, raise_after, raise_goes_back, at_recover, recover_comes_to}
+use Rattle.laws_robust.proofs.Names.{recover_raised, went_on, State, Event, FreedOf, Told, cell_of, StillToFree}
+use Rattle.laws_robust.proofs.Names.{LivesToRelease, SetAct, Frees, Asks, Yes, filled_after, filled_of, set_acts_of}
+use Rattle.laws_robust.proofs.Names.{IsOneOf, HasJustFreed, as_it_is, as_call, words_after, step_count}
 use Rattle.steps.specs.declared.indices.enums.ReleaseState as states
-use Rattle.steps.specs.declared.indices.robust.parts.Raise.{Raise}
 use Rattle.steps.specs.declared.indices.robust.parts.Raise as raises
 use Rattle.steps.specs.declared.indices.robust.recover.Recover as calls
-use Rattle.steps.specs.declared.indices.robust.recover.RecoverStage.{RecoverStage}
 use Rattle.steps.specs.declared.indices.robust.recover.RecoverStage as recovers
-use Rattle.steps.specs.Indices.Robust.Parts.{cell_word, empty, locked, first_lock, raise_after, raise_goes_back}
-use Rattle.steps.specs.Indices.Robust.Recover.{at_recover, recover_comes_to, recover_raised}
-use Rattle.steps.specs.Routine.{went_on}
-use Rattle.model.specs.declared.event.Answer.TheVariants.{State}
-use Rattle.model.specs.declared.event.Event.{Event}
-use Rattle.model.specs.declared.event.Event.TheVariants.{FreedOf, Told}
 use Rattle.model.specs.declared.families.indices.robust.RobustStart.TheVariants.{Recover}
 use Rattle.model.specs.declared.families.indices.robust.calls.RobustFlight as flights
-use Rattle.model.specs.Families.Indices.Robust.Promises.{cell_of, StillToFree, LivesToRelease}
-use Rattle.model.specs.Families.Indices.Robust.Reading.{SetAct, Frees, Asks, Yes, filled_after, filled_of, set_acts_of, IsOneOf}
-use Rattle.model.specs.Families.Indices.Robust.Spans.{HasJustFreed}
-use Rattle.model.specs.Families.Queues.Calls.{as_it_is}
-use Rattle.model.specs.Step.{as_call}
-use Rattle.model.specs.Turns.{words_after, step_count}
 use Rattle.laws_robust.specs.Gone.{is_gone, MayBeTold, HasRecoveredBy}
 use Rattle.laws_robust.proofs.Core.{counter_of, cell}
 use Rattle.laws_robust.proofs.Counting.{times_below}

@@ -1,36 +1,17 @@
 -- The lock of a recovery, and any step of it.
-use Rattle.std.proofs.Common.{◌<◌, ◌≡◌, ◌≢◌, ℕ, ◌+◌, ◌*◌, ◌≤◌, Bool, false, Option, Some, None, List, [], ◌∷◌, ◌++◌, set, refl, sym, ap, subst, arith}
-use Rattle.steps.specs.declared.ask.Ask.{Ask}
-use Rattle.steps.specs.declared.ask.After.{After}
-use Rattle.steps.specs.declared.indices.enums.ReleaseMode.{ReleaseMode}
-use Rattle.steps.specs.declared.indices.enums.ReleaseMode.TheVariants.{LockIfLastIndex}
-use Rattle.steps.specs.declared.indices.enums.ReleaseState.{ReleaseState}
+use Rattle.laws_robust.proofs.Names.{◌<◌, ◌≡◌, ◌≢◌, ℕ, ◌+◌, ◌*◌, ◌≤◌, Bool, false, Option, Some, None, List, [], ◌∷◌}
+use Rattle.laws_robust.proofs.Names.{◌++◌, set, refl, sym, ap, subst, arith, Ask, After, ReleaseMode, LockIfLastIndex}
+use Rattle.laws_robust.proofs.Names.{ReleaseState, Lock, RecoverStage, locked, greatest, lock_after, lock_goes_back}
+use Rattle.laws_robust.proofs.Names.{recover_comes_to, recover_locked, went_on, State, Event, Locked, Robust, promise}
+use Rattle.laws_robust.proofs.Names.{SetAct, Locks, holder_of, set_acts_of, HasJustFreed, locked_by, as_it_is, Stands}
+use Rattle.laws_robust.proofs.Names.{Open, as_call, old_of, words_after, step_count, AllFollow}
 use Rattle.steps.specs.declared.indices.robust.parts.Count as counts
-use Rattle.steps.specs.declared.indices.robust.parts.Lock.{Lock}
 use Rattle.steps.specs.declared.indices.robust.parts.Lock as parts
 use Rattle.steps.specs.declared.indices.robust.parts.Raise as raises
 use Rattle.steps.specs.declared.indices.robust.recover.Recover as calls
-use Rattle.steps.specs.declared.indices.robust.recover.RecoverStage.{RecoverStage}
 use Rattle.steps.specs.declared.indices.robust.recover.RecoverStage as recovers
-use Rattle.steps.specs.Indices.Robust.Parts.{locked, greatest, lock_after, lock_goes_back}
-use Rattle.steps.specs.Indices.Robust.Recover.{recover_comes_to, recover_locked}
-use Rattle.steps.specs.Routine.{went_on}
-use Rattle.model.specs.declared.event.Answer.TheVariants.{State}
-use Rattle.model.specs.declared.event.Event.{Event}
-use Rattle.model.specs.declared.event.Event.TheVariants.{Locked}
-use Rattle.model.specs.declared.event.Start.TheVariants.{Robust}
 use Rattle.model.specs.declared.families.indices.robust.RobustStart.TheVariants.{Recover}
 use Rattle.model.specs.declared.families.indices.robust.calls.RobustFlight as flights
-use Rattle.model.specs.Families.Indices.Robust.Promises.{promise}
-use Rattle.model.specs.Families.Indices.Robust.Reading.{SetAct, Locks, holder_of, set_acts_of}
-use Rattle.model.specs.Families.Indices.Robust.Spans.{HasJustFreed}
-use Rattle.model.specs.Families.Indices.Robust.Steps.{locked_by}
-use Rattle.model.specs.Families.Queues.Calls.{as_it_is}
-use Rattle.model.specs.Promises.Spans.{Stands}
-use Rattle.model.specs.Reading.{Open}
-use Rattle.model.specs.Step.{as_call}
-use Rattle.model.specs.Turns.{old_of, words_after, step_count}
-use Rattle.model.proofs.Readings.{AllFollow}
 use Rattle.laws_robust.specs.Gone.{IsCalm, MayBeTold}
 use Rattle.laws_robust.proofs.Core.{counter_of}
 use Rattle.laws_robust.proofs.SetActs.{asks_more, freed_more}

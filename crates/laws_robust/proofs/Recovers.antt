@@ -1,43 +1,19 @@
 -- The steps of a recovery.
-use Rattle.std.proofs.Common.{◌≡◌, ◌≢◌, ℕ, ◌+◌, ◌*◌, ◌<◌, ◌≤◌, ◌==◌, ◌⊎◌, ⊎_elim, inl, inr, if◌then◌else◌, nat_lt}
-use Rattle.std.proofs.Common.{Bool, true, false, Option, Some, None, List, [], ◌∷◌, ◌++◌, refl, sym, ap, subst, ◌∙◌}
-use Rattle.std.proofs.Common.{arith}
-use Rattle.std.specs.List.{AllByRecursion}
-use Rattle.std.proofs.lemmas.Bool.{cases_lt}
-use Rattle.std.proofs.lemmas.Bool.Decides.{nat_tests}
-use Rattle.std.proofs.lemmas.List.Sums.{fold-append}
-use Rattle.steps.specs.declared.ask.Ask.{Ask}
-use Rattle.steps.specs.declared.ask.After.{After}
-use Rattle.steps.specs.declared.ask.After.TheVariants.{GoOn, Done}
-use Rattle.steps.specs.declared.indices.enums.ReleaseMode.{ReleaseMode}
-use Rattle.steps.specs.declared.indices.enums.ReleaseMode.TheVariants.{LockIfLastIndex, Default}
-use Rattle.steps.specs.declared.indices.enums.ReleaseState.{ReleaseState}
+use Rattle.laws_robust.proofs.Names.{◌≡◌, ◌≢◌, ℕ, ◌+◌, ◌*◌, ◌<◌, ◌≤◌, ◌==◌, ◌⊎◌, ⊎_elim, inl, inr, if◌then◌else◌}
+use Rattle.laws_robust.proofs.Names.{nat_lt, Bool, true, false, Option, Some, None, List, [], ◌∷◌, ◌++◌, refl, sym}
+use Rattle.laws_robust.proofs.Names.{ap, subst, ◌∙◌, arith, AllByRecursion, cases_lt, nat_tests, fold-append, Ask}
+use Rattle.laws_robust.proofs.Names.{After, GoOn, Done, ReleaseMode, LockIfLastIndex, Default, ReleaseState, Lock}
+use Rattle.laws_robust.proofs.Names.{RecoverStage, cell_word, empty, locked, at_recover, recover_comes_to, by_test}
+use Rattle.laws_robust.proofs.Names.{went_on, State, Event, Asked, Finished, Robust, most_steps, promise, IsUnlocked}
+use Rattle.laws_robust.proofs.Names.{HeldThroughout, StillToFree, SetAct, Frees, Asks, Yes, set_acts, asked_in}
+use Rattle.laws_robust.proofs.Names.{filled_after, filled_of, set_acts_of, IsOneOf, as_it_is, BeginsNone}
+use Rattle.laws_robust.proofs.Names.{HeldSometime, Stands, Open, as_call, words_after, step_count, held_now}
+use Rattle.laws_robust.proofs.Names.{held_later, no_more, AllFollow, AreRight}
 use Rattle.steps.specs.declared.indices.enums.ReleaseState as states
-use Rattle.steps.specs.declared.indices.robust.parts.Lock.{Lock}
 use Rattle.steps.specs.declared.indices.robust.recover.Recover as calls
-use Rattle.steps.specs.declared.indices.robust.recover.RecoverStage.{RecoverStage}
 use Rattle.steps.specs.declared.indices.robust.recover.RecoverStage as recovers
-use Rattle.steps.specs.Indices.Robust.Parts.{cell_word, empty, locked}
-use Rattle.steps.specs.Indices.Robust.Recover.{at_recover, recover_comes_to}
-use Rattle.steps.specs.Picks.{by_test}
-use Rattle.steps.specs.Routine.{went_on}
-use Rattle.model.specs.declared.event.Answer.TheVariants.{State}
-use Rattle.model.specs.declared.event.Event.{Event}
-use Rattle.model.specs.declared.event.Event.TheVariants.{Asked, Finished}
-use Rattle.model.specs.declared.event.Start.TheVariants.{Robust}
 use Rattle.model.specs.declared.families.indices.robust.RobustStart.TheVariants.{Recover}
 use Rattle.model.specs.declared.families.indices.robust.calls.RobustFlight as flights
-use Rattle.model.specs.Families.Indices.Robust.Bounds.{most_steps}
-use Rattle.model.specs.Families.Indices.Robust.Promises.{promise, IsUnlocked, HeldThroughout, StillToFree}
-use Rattle.model.specs.Families.Indices.Robust.Reading.{SetAct, Frees, Asks, Yes, set_acts, asked_in, filled_after, filled_of, set_acts_of, IsOneOf}
-use Rattle.model.specs.Families.Queues.Calls.{as_it_is}
-use Rattle.model.specs.Moments.{BeginsNone, HeldSometime}
-use Rattle.model.specs.Promises.Spans.{Stands}
-use Rattle.model.specs.Reading.{Open}
-use Rattle.model.specs.Step.{as_call}
-use Rattle.model.specs.Turns.{words_after, step_count}
-use Rattle.model.proofs.Moments.{held_now, held_later}
-use Rattle.model.proofs.Readings.{no_more, AllFollow, AreRight}
 use Rattle.laws_robust.specs.Gone.{is_gone, IsHonestBy, AsksBy, AnswersBy}
 use Rattle.laws_robust.proofs.Core.{counter_of, cell}
 use Rattle.laws_robust.proofs.SetActs.{still_one, last_one, was_one, all_so, asks_more, FreedWereAsked, freed_more}
@@ -274,7 +250,8 @@ module _ {T : Type 0} (scene : Scene T) (inv : Inv scene) (mode : ReleaseMode) (
 
       asks_says : AskedBelow (index + 1) (then_sees scene load false asking)
       asks_says i owner below through =
-          ⊎_elim (λ before. asked_then (Asks index (cell ws index)) asking (words_after ws load) tt asks_set_acts asks_does index k.says.1 i owner before through)
+          ⊎_elim (λ before. asked_then (Asks index (cell ws index)) asking (words_after ws load) tt asks_set_acts asks_does
+          index k.says.1 i owner before through)
           (λ last.
           let same : i ≡ index = omega arith in
           ⊎_elim (λ filled. filled_here i owner same filled)

@@ -1,42 +1,20 @@
 -- The steps of a release.
-use Rattle.std.proofs.Common.{◌≡◌, ◌≢◌, ℕ, ◌+◌, ◌<◌, ◌≤◌, inl, inr, Bool, true, false, Option, Some, None, List, []}
-use Rattle.std.proofs.Common.{◌∷◌, ◌++◌, set, refl, ap, subst, ◌∙◌, arith, sym}
-use Rattle.std.specs.Prelude.{Ok}
-use Rattle.std.proofs.lemmas.List.Concat.{flat_map-append}
-use Rattle.std.proofs.lemmas.List.Sums.{fold-append}
-use Rattle.steps.specs.declared.ask.Ask.{Ask}
-use Rattle.steps.specs.declared.ask.After.{After}
-use Rattle.steps.specs.declared.ask.After.TheVariants.{Done}
-use Rattle.steps.specs.declared.indices.enums.ReleaseMode.{ReleaseMode}
-use Rattle.steps.specs.declared.indices.enums.ReleaseMode.TheVariants.{LockIfLastIndex, Default}
-use Rattle.steps.specs.declared.indices.enums.ReleaseState.{ReleaseState}
+use Rattle.laws_robust.proofs.Names.{◌≡◌, ◌≢◌, ℕ, ◌+◌, ◌<◌, ◌≤◌, inl, inr, Bool, true, false, Option, Some, None}
+use Rattle.laws_robust.proofs.Names.{List, [], ◌∷◌, ◌++◌, set, refl, ap, subst, ◌∙◌, arith, sym, Ok, flat_map-append}
+use Rattle.laws_robust.proofs.Names.{fold-append, Ask, After, Done, ReleaseMode, LockIfLastIndex, Default}
+use Rattle.laws_robust.proofs.Names.{ReleaseState, IndexIsNotOwnedByProvidedOwner, ReleaseStage, empty, locked}
+use Rattle.laws_robust.proofs.Names.{greatest, Released, went_on, State, NotOwned, Event, FreedOf, Locked, Finished}
+use Rattle.laws_robust.proofs.Names.{Robust, locked_after, is_locked, most_steps, release_answer, MayGiveBack}
+use Rattle.laws_robust.proofs.Names.{LivesToRelease, SetAct, Frees, Locks, set_act, set_acts, filled_of, holder_of}
+use Rattle.laws_robust.proofs.Names.{settled_of, is_dead, HasDone, as_it_is, SinceBegin, span_of, as_call}
+use Rattle.laws_robust.proofs.Names.{words_after, step_count}
 use Rattle.steps.specs.declared.indices.enums.ReleaseState as states
 use Rattle.steps.specs.declared.indices.enums.RobustUniqueIndexSetReleaseError.{RobustUniqueIndexSetReleaseError}
-use Rattle.steps.specs.declared.indices.enums.RobustUniqueIndexSetReleaseError.TheVariants.{IndexIsNotOwnedByProvidedOwner}
 use Rattle.steps.specs.declared.indices.robust.parts.Raise as raises
 use Rattle.steps.specs.declared.indices.robust.release.Release as calls
-use Rattle.steps.specs.declared.indices.robust.release.ReleaseStage.{ReleaseStage}
 use Rattle.steps.specs.declared.indices.robust.release.ReleaseStage as releases
-use Rattle.steps.specs.Indices.Robust.Parts.{empty, locked, greatest}
-use Rattle.steps.specs.Indices.Robust.Release.{Released}
-use Rattle.steps.specs.Routine.{went_on}
-use Rattle.model.specs.declared.event.Answer.TheVariants.{State, NotOwned}
-use Rattle.model.specs.declared.event.Event.{Event}
-use Rattle.model.specs.declared.event.Event.TheVariants.{FreedOf, Locked, Finished}
-use Rattle.model.specs.declared.event.Start.TheVariants.{Robust}
 use Rattle.model.specs.declared.families.indices.robust.RobustStart.TheVariants.{Release}
 use Rattle.model.specs.declared.families.indices.robust.calls.RobustFlight as flights
-use Rattle.model.specs.Families.Indices.Reading.{locked_after, is_locked}
-use Rattle.model.specs.Families.Indices.Robust.Bounds.{most_steps}
-use Rattle.model.specs.Families.Indices.Robust.Calls.{release_answer}
-use Rattle.model.specs.Families.Indices.Robust.Promises.{MayGiveBack, LivesToRelease}
-use Rattle.model.specs.Families.Indices.Robust.Reading.{SetAct, Frees, Locks, set_act, set_acts, filled_of, holder_of, settled_of, is_dead}
-use Rattle.model.specs.Families.Indices.Robust.Spans.{HasDone}
-use Rattle.model.specs.Families.Queues.Calls.{as_it_is}
-use Rattle.model.specs.Moments.{SinceBegin}
-use Rattle.model.specs.Reading.{span_of}
-use Rattle.model.specs.Step.{as_call}
-use Rattle.model.specs.Turns.{words_after, step_count}
 use Rattle.laws_robust.specs.Gone.{GoneBy, Word, is_gone, GivesBackRight, IsHonest, IsCalm, AnswersBy}
 use Rattle.laws_robust.proofs.Core.{counter_of}
 use Rattle.laws_robust.proofs.Effects.{Stays, quiet_end, stays_same}

@@ -1,13 +1,9 @@
 -- Which party may give an index back, or will be granted it: the one whose acquire or add has filled it, until it has
 -- finished; then nobody before a release or a remove of it begins for its owner; then the party of that one.
-use Rattle.std.proofs.Common.{◌≡◌, ℕ, ◌==◌, if◌then◌else◌, Some, List, fold}
-use Rattle.model.specs.declared.event.Answer.TheVariants.{Index}
-use Rattle.model.specs.declared.event.Event.{Event}
-use Rattle.model.specs.declared.event.Event.TheVariants.{Begun, Filled, FreedOf, Finished}
-use Rattle.model.specs.declared.event.Start.TheVariants.{Robust, Container}
+use Rattle.laws_robust.proofs.Names.{◌≡◌, ℕ, ◌==◌, if◌then◌else◌, Some, List, fold, Index, Event, Begun, Filled}
+use Rattle.laws_robust.proofs.Names.{FreedOf, Finished, Robust, Container, filled_of, holder_of, settled_of}
 use Rattle.model.specs.declared.families.container.ContainerStart.TheVariants.{Add, Remove}
 use Rattle.model.specs.declared.families.indices.robust.RobustStart.TheVariants.{Acquire, Release}
-use Rattle.model.specs.Families.Indices.Robust.Reading.{filled_of, holder_of, settled_of}
 
 pub data Right : Type 0 where
   Nobody : Right

@@ -1,9 +1,8 @@
 -- What a call has done, once it does one thing more.
-use Rattle.std.proofs.Common.{◌≡◌, ℕ, ◌<◌, ◌⊎◌, ⊎_elim, inl, inr, List, [], ◌∷◌, ◌++◌, refl, sym, ap, subst, ◌∙◌, append_assoc, append-nil}
-use Rattle.std.specs.List.{AllByRecursion}
-use Rattle.std.proofs.lemmas.List.Concat.{flat_map-append}
-use Rattle.model.specs.Families.Indices.Robust.Reading.{SetAct, Frees, Asks, index_asked, asked_in, IsOneOf, IsLatest}
-use Rattle.model.proofs.Readings.{SplitAt, Last, Earlier, split_last}
+use Rattle.laws_robust.proofs.Names.{◌≡◌, ℕ, ◌<◌, ◌⊎◌, ⊎_elim, inl, inr, List, [], ◌∷◌, ◌++◌, refl, sym, ap, subst}
+use Rattle.laws_robust.proofs.Names.{◌∙◌, append_assoc, append-nil, AllByRecursion, flat_map-append, SetAct, Frees}
+use Rattle.laws_robust.proofs.Names.{Asks, index_asked, asked_in, IsOneOf, IsLatest, SplitAt, Last, Earlier}
+use Rattle.laws_robust.proofs.Names.{split_last}
 
 pub still_one : (one d : SetAct) (all : List SetAct) → IsOneOf one all → IsOneOf one (all ++ d ∷ [])
 still_one one d all h =

@@ -1,55 +1,28 @@
 -- Every turn keeps what holds of the machine of a robust index set: the laws of the family.
-use Rattle.std.proofs.Common.{◌≡◌, ◌≢◌, ℕ, ◌+◌, ◌-◌, ◌^◌, ◌<◌, ◌≤◌, inl, Bool, true, false, Option, Some, None, List}
-use Rattle.std.proofs.Common.{[], ◌∷◌, ◌++◌, refl, sym, ap, subst, ◌∙◌, arith}
-use Rattle.steps.specs.declared.indices.enums.ReleaseMode.{ReleaseMode}
-use Rattle.steps.specs.declared.indices.robust.acquire.AcquireStage.{AcquireStage}
-use Rattle.steps.specs.declared.indices.robust.find.FindStage.{FindStage}
+use Rattle.laws_robust.proofs.Names.{◌≡◌, ◌≢◌, ℕ, ◌+◌, ◌-◌, ◌^◌, ◌<◌, ◌≤◌, inl, Bool, true, false, Option, Some, None}
+use Rattle.laws_robust.proofs.Names.{List, [], ◌∷◌, ◌++◌, refl, sym, ap, subst, ◌∙◌, arith, ReleaseMode, AcquireStage}
+use Rattle.laws_robust.proofs.Names.{FindStage, Count, Lock, Raise, RecoverStage, GiveBack, ReleaseStage}
+use Rattle.laws_robust.proofs.Names.{acquire_asks, empty, raise_want, count_want, lock_want, release_asks, Event}
+use Rattle.laws_robust.proofs.Names.{Begun, Died, Start, Robust, Flight, Registry, RobustStart, RobustFlight, Going}
+use Rattle.laws_robust.proofs.Names.{Party, Coding, first_of, want_of, is_question, going_rows, beside_of, step_of}
+use Rattle.laws_robust.proofs.Names.{kept_after_death, kept_after_begin, want, has_died, dead_with, acts_for_dead}
+use Rattle.laws_robust.proofs.Names.{frees_living, opening_words, call_rows, kept_rows, set_acts, is_dead, wrote_in}
+use Rattle.laws_robust.proofs.Names.{party_of, Open, span_of, first_row, Step, old_of, words_after, change_of}
+use Rattle.laws_robust.proofs.Names.{number_of, party_at_begin, party_after, events_of_step, IsReached, Trace}
+use Rattle.laws_robust.proofs.Names.{opening, capacity_error, Each-nil, Each-append, span_of-own, span_of-death}
+use Rattle.laws_robust.proofs.Names.{MayBegin, MayDie, asked, StandsThere, stands_there, ComesFrom, comes_from}
 use Rattle.steps.specs.declared.indices.robust.find.FindStage as finds
-use Rattle.steps.specs.declared.indices.robust.parts.Count.{Count}
-use Rattle.steps.specs.declared.indices.robust.parts.Lock.{Lock}
 use Rattle.steps.specs.declared.indices.robust.parts.Lock as locks
-use Rattle.steps.specs.declared.indices.robust.parts.Raise.{Raise}
 use Rattle.steps.specs.declared.indices.robust.parts.Raise as raises
-use Rattle.steps.specs.declared.indices.robust.recover.RecoverStage.{RecoverStage}
 use Rattle.steps.specs.declared.indices.robust.recover.RecoverStage as recovers
-use Rattle.steps.specs.declared.indices.robust.release.GiveBack.{GiveBack}
-use Rattle.steps.specs.declared.indices.robust.release.ReleaseStage.{ReleaseStage}
-use Rattle.steps.specs.Indices.Robust.Acquire.{acquire_asks}
-use Rattle.steps.specs.Indices.Robust.Parts.{empty, raise_want, count_want, lock_want}
-use Rattle.steps.specs.Indices.Robust.Release.{release_asks}
-use Rattle.model.specs.declared.event.Event.{Event}
-use Rattle.model.specs.declared.event.Event.TheVariants.{Begun, Died}
-use Rattle.model.specs.declared.event.Start.{Start}
-use Rattle.model.specs.declared.event.Start.TheVariants.{Robust}
-use Rattle.model.specs.declared.families.Flight.{Flight}
 use Rattle.model.specs.declared.families.Flight as flights
-use Rattle.model.specs.declared.families.Registry.{Registry}
 use Rattle.model.specs.declared.families.Registry as registries
-use Rattle.model.specs.declared.families.indices.robust.RobustStart.{RobustStart}
 use Rattle.model.specs.declared.families.indices.robust.RobustStart as starts
-use Rattle.model.specs.declared.families.indices.robust.calls.RobustFlight.{RobustFlight}
 use Rattle.model.specs.declared.families.indices.robust.calls.RobustFlight as calls
-use Rattle.model.specs.declared.party.Doing.TheVariants.{Going}
-use Rattle.model.specs.declared.party.Party.{Party}
 use Rattle.model.specs.declared.turn.Kind as kinds
-use Rattle.model.specs.Coding.{Coding}
-use Rattle.model.specs.Families.{first_of, want_of, is_question, going_rows, beside_of, step_of, kept_after_death, kept_after_begin}
 use Rattle.model.specs.Families as families
-use Rattle.model.specs.Families.Indices.Robust.Calls.{want}
-use Rattle.model.specs.Families.Indices.Robust.Dead.{has_died, dead_with, acts_for_dead, frees_living}
-use Rattle.model.specs.Families.Indices.Robust.Opening.{opening_words, call_rows, kept_rows}
-use Rattle.model.specs.Families.Indices.Robust.Reading.{set_acts, is_dead, wrote_in}
 use Rattle.model.specs.Families.Loan.Opening.{is_loan}
-use Rattle.model.specs.Parties.{party_of}
-use Rattle.model.specs.Reading.{Open, span_of}
-use Rattle.model.specs.Rows.{first_row}
-use Rattle.model.specs.Step.{Step}
-use Rattle.model.specs.Turns.{old_of, words_after, change_of, number_of, party_at_begin, party_after, events_of_step, IsReached}
-use Rattle.model.specs.World.{Trace, opening, capacity_error}
 use Rattle.model.proofs.Frame as frame
-use Rattle.model.proofs.Readings.{Each-nil, Each-append, span_of-own, span_of-death}
-use Rattle.model.proofs.Rows.{MayBegin, MayDie}
-use Rattle.model.proofs.Scenes.{asked, StandsThere, stands_there, ComesFrom, comes_from}
 use Rattle.laws_robust.specs.Gone.{GoneBy, Death, Word, MayBeTold, AsksBy}
 use Rattle.laws_robust.proofs.Acquires.{acquire_step}
 use Rattle.laws_robust.proofs.Begins.{begins}

@@ -1,39 +1,17 @@
 -- What a step of a call of the robust index set has to show, and how a call goes on or ends.
-use Rattle.std.proofs.Common.{◌≡◌, ◌≢◌, ℕ, ◌+◌, ◌≤◌, ◌==◌, ⊎_elim, inl, inr, if◌then◌else◌, Bool, true, false, Option}
-use Rattle.std.proofs.Common.{Some, None, List, [], ◌∷◌, ◌++◌, get_or, set, fold, refl, sym, ap, subst, ◌∙◌}
-use Rattle.std.proofs.Common.{append-nil, arith, eq-eqb, ne_eqb}
-use Rattle.std.proofs.lemmas.Bool.Decides.{nat_tests}
-use Rattle.std.proofs.lemmas.List.{set-get_or}
-use Rattle.std.proofs.lemmas.List.Concat.{flat_map-append}
-use Rattle.std.proofs.lemmas.List.Sums.{fold-append}
+use Rattle.laws_robust.proofs.Names.{◌≡◌, ◌≢◌, ℕ, ◌+◌, ◌≤◌, ◌==◌, ⊎_elim, inl, inr, if◌then◌else◌, Bool, true, false}
+use Rattle.laws_robust.proofs.Names.{Option, Some, None, List, [], ◌∷◌, ◌++◌, get_or, set, fold, refl, sym, ap, subst}
+use Rattle.laws_robust.proofs.Names.{◌∙◌, append-nil, arith, eq-eqb, ne_eqb, nat_tests, set-get_or, flat_map-append}
+use Rattle.laws_robust.proofs.Names.{fold-append, Ask, After, GoOn, Done, Answer, Event, Finished, Robust, Flight}
+use Rattle.laws_robust.proofs.Names.{RobustStart, RobustFlight, Over, Party, ask_of, most_steps, want, after}
+use Rattle.laws_robust.proofs.Names.{goes_back, promise, SetAct, set_act, set_acts, settled_after, wrote_in}
+use Rattle.laws_robust.proofs.Names.{set_acts_of, HasDone, effects, Stands, Open, own_after, span_of, as_call}
+use Rattle.laws_robust.proofs.Names.{answer_in, one_if, old_of, words_after, change_of, step_count, number_of}
+use Rattle.laws_robust.proofs.Names.{party_after, ending_of, AreOwn, AllFollow, AreRight, span_of-own}
 use Rattle.steps.specs.Ask.{written}
-use Rattle.steps.specs.declared.ask.Ask.{Ask}
-use Rattle.steps.specs.declared.ask.After.{After}
-use Rattle.steps.specs.declared.ask.After.TheVariants.{GoOn, Done}
 use Rattle.steps.specs.declared.ask.Op.TheVariants.{Load, Exchange}
-use Rattle.model.specs.declared.event.Answer.{Answer}
-use Rattle.model.specs.declared.event.Event.{Event}
-use Rattle.model.specs.declared.event.Event.TheVariants.{Finished}
-use Rattle.model.specs.declared.event.Start.TheVariants.{Robust}
-use Rattle.model.specs.declared.families.Flight.{Flight}
 use Rattle.model.specs.declared.families.Flight as flights
 use Rattle.model.specs.declared.families.Registry as registries
-use Rattle.model.specs.declared.families.indices.robust.RobustStart.{RobustStart}
-use Rattle.model.specs.declared.families.indices.robust.calls.RobustFlight.{RobustFlight}
-use Rattle.model.specs.declared.party.Doing.TheVariants.{Over}
-use Rattle.model.specs.declared.party.Party.{Party}
-use Rattle.model.specs.Families.{ask_of}
-use Rattle.model.specs.Families.Indices.Robust.Bounds.{most_steps}
-use Rattle.model.specs.Families.Indices.Robust.Calls.{want, after, goes_back}
-use Rattle.model.specs.Families.Indices.Robust.Promises.{promise}
-use Rattle.model.specs.Families.Indices.Robust.Reading.{SetAct, set_act, set_acts, settled_after, wrote_in, set_acts_of}
-use Rattle.model.specs.Families.Indices.Robust.Spans.{HasDone}
-use Rattle.model.specs.Families.Indices.Robust.Steps.{effects}
-use Rattle.model.specs.Promises.Spans.{Stands}
-use Rattle.model.specs.Reading.{Open, own_after, span_of}
-use Rattle.model.specs.Step.{as_call, answer_in}
-use Rattle.model.specs.Turns.{one_if, old_of, words_after, change_of, step_count, number_of, party_after, ending_of}
-use Rattle.model.proofs.Readings.{AreOwn, AllFollow, AreRight, span_of-own}
 use Rattle.model.proofs.Turns.{kept_words}
 use Rattle.laws_robust.specs.Gone.{AsksBy, AnswersBy}
 use Rattle.laws_robust.proofs.Core.{counter_of}

@@ -1,29 +1,19 @@
 -- Where a call of the robust index set stands: its stages, how many steps it has taken at most, and what it has done.
-use Rattle.std.proofs.Common.{◌≡◌, ℕ, ◌+◌, ◌*◌, ◌<◌, ◌≤◌, List, [], ◌∷◌, arith}
-use Rattle.std.specs.List.{AllByRecursion}
-use Rattle.steps.specs.declared.indices.enums.ReleaseMode.{ReleaseMode}
-use Rattle.steps.specs.declared.indices.enums.ReleaseMode.TheVariants.{LockIfLastIndex, Default}
-use Rattle.steps.specs.declared.indices.robust.acquire.AcquireStage.{AcquireStage}
+use Rattle.laws_robust.proofs.Names.{◌≡◌, ℕ, ◌+◌, ◌*◌, ◌<◌, ◌≤◌, List, [], ◌∷◌, arith, AllByRecursion, ReleaseMode}
+use Rattle.laws_robust.proofs.Names.{LockIfLastIndex, Default, AcquireStage, FindStage, Count, Lock, Raise}
+use Rattle.laws_robust.proofs.Names.{RecoverStage, ReleaseStage, empty, RobustStart, RobustFlight, SetAct, Fills}
+use Rattle.laws_robust.proofs.Names.{Frees, Asks, Yes, IsOneOf, IsLatest, asked_in, HasJustFreed}
 use Rattle.steps.specs.declared.indices.robust.acquire.AcquireStage as acquires
-use Rattle.steps.specs.declared.indices.robust.find.FindStage.{FindStage}
 use Rattle.steps.specs.declared.indices.robust.find.FindStage as finds
-use Rattle.steps.specs.declared.indices.robust.parts.Count.{Count}
 use Rattle.steps.specs.declared.indices.robust.parts.Count as counts
-use Rattle.steps.specs.declared.indices.robust.parts.Lock.{Lock}
 use Rattle.steps.specs.declared.indices.robust.parts.Lock as locks
-use Rattle.steps.specs.declared.indices.robust.parts.Raise.{Raise}
 use Rattle.steps.specs.declared.indices.robust.parts.Raise as raises
-use Rattle.steps.specs.declared.indices.robust.recover.RecoverStage.{RecoverStage}
 use Rattle.steps.specs.declared.indices.robust.recover.RecoverStage as recovers
-use Rattle.steps.specs.declared.indices.robust.release.ReleaseStage.{ReleaseStage}
 use Rattle.steps.specs.declared.indices.robust.release.ReleaseStage as releases
-use Rattle.steps.specs.Indices.Robust.Parts.{empty}
-use Rattle.model.specs.declared.families.indices.robust.RobustStart.{RobustStart}
 use Rattle.model.specs.declared.families.indices.robust.RobustStart as starts
-use Rattle.model.specs.declared.families.indices.robust.calls.RobustFlight.{RobustFlight}
-use Rattle.model.specs.declared.families.indices.robust.calls.RobustFlight.TheVariants.{Acquire, Release, Find, Recover, BorrowedIndices, IsLocked}
-use Rattle.model.specs.Families.Indices.Robust.Reading.{SetAct, Fills, Frees, Asks, Yes, IsOneOf, IsLatest, asked_in}
-use Rattle.model.specs.Families.Indices.Robust.Spans.{HasJustFreed}
+use Rattle.model.specs.declared.families.indices.robust.calls.RobustFlight.TheVariants.{Acquire, Release, Find}
+use Rattle.model.specs.declared.families.indices.robust.calls.RobustFlight.TheVariants.{Recover, BorrowedIndices}
+use Rattle.model.specs.declared.families.indices.robust.calls.RobustFlight.TheVariants.{IsLocked}
 
 -- ---- the calls by their stages
 

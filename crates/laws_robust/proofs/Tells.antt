@@ -1,50 +1,22 @@
 -- A find that ends in another turn than a no has come to the indices of the whole set.
-use Rattle.std.proofs.Common.{◌≡◌, ◌≢◌, ℕ, ◌^◌, ◌-◌, ◌<◌, Bool, true, false, Option, Some, None, List, [], ◌∷◌, ◌++◌, refl, sym, ap, subst, ◌∙◌, arith}
-use Rattle.std.proofs.lemmas.List.{append_cancel_left}
-use Rattle.std.specs.List.{AllByRecursion}
-use Rattle.steps.specs.declared.ask.After.{After}
-use Rattle.steps.specs.declared.ask.After.TheVariants.{GoOn, Done}
+use Rattle.laws_robust.proofs.Names.{◌≡◌, ◌≢◌, ℕ, ◌^◌, ◌-◌, ◌<◌, Bool, true, false, Option, Some, None, List, [], ◌∷◌}
+use Rattle.laws_robust.proofs.Names.{◌++◌, refl, sym, ap, subst, ◌∙◌, arith, append_cancel_left, AllByRecursion}
+use Rattle.laws_robust.proofs.Names.{After, GoOn, Done, FindStage, find_after, empty, went_on, Answer, Number, Event}
+use Rattle.laws_robust.proofs.Names.{Finished, Start, Robust, Flight, Registry, RobustStart, RobustFlight, Doing}
+use Rattle.laws_robust.proofs.Names.{Going, Over, Party, Turn, Begin, Next, Decide, Die, Coding, want_of, ask_of}
+use Rattle.laws_robust.proofs.Names.{is_question, beside_of, step_of, want, after, IsCount, IsFilledWith, FindsAll}
+use Rattle.laws_robust.proofs.Names.{effects, as_it_is, party_of, doing_of, flight_of, IsParty, IsEffectOf}
+use Rattle.laws_robust.proofs.Names.{refusal_of, is_due, call_refusal, as_call, answer_in, old_of, number_of}
+use Rattle.laws_robust.proofs.Names.{events_of_step, events_of_answer, events_of_next, events_of_decision, events_of}
+use Rattle.laws_robust.proofs.Names.{ask_of_doing, ending_of, after_turn, World, Trace, flight_in, passes}
+use Rattle.laws_robust.proofs.Names.{must_be_due, StandsThere, stands_there}
 use Rattle.steps.specs.declared.indices.robust.find.Find as find_calls
-use Rattle.steps.specs.declared.indices.robust.find.FindStage.{FindStage}
 use Rattle.steps.specs.declared.indices.robust.find.FindStage as finds
-use Rattle.steps.specs.Indices.Robust.Find.{find_after}
-use Rattle.steps.specs.Indices.Robust.Parts.{empty}
-use Rattle.steps.specs.Routine.{went_on}
-use Rattle.model.specs.declared.event.Answer.{Answer}
-use Rattle.model.specs.declared.event.Answer.TheVariants.{Number}
-use Rattle.model.specs.declared.event.Event.{Event}
-use Rattle.model.specs.declared.event.Event.TheVariants.{Finished}
-use Rattle.model.specs.declared.event.Start.{Start}
-use Rattle.model.specs.declared.event.Start.TheVariants.{Robust}
-use Rattle.model.specs.declared.families.Flight.{Flight}
 use Rattle.model.specs.declared.families.Flight as flights
-use Rattle.model.specs.declared.families.Registry.{Registry}
 use Rattle.model.specs.declared.families.Registry as registries
-use Rattle.model.specs.declared.families.indices.robust.RobustStart.{RobustStart}
 use Rattle.model.specs.declared.families.indices.robust.RobustStart as starts
-use Rattle.model.specs.declared.families.indices.robust.calls.RobustFlight.{RobustFlight}
 use Rattle.model.specs.declared.families.indices.robust.calls.RobustFlight as calls
-use Rattle.model.specs.declared.party.Doing.{Doing}
-use Rattle.model.specs.declared.party.Doing.TheVariants.{Going, Over}
-use Rattle.model.specs.declared.party.Party.{Party}
-use Rattle.model.specs.declared.turn.Turn.{Turn}
-use Rattle.model.specs.declared.turn.Turn.TheVariants.{Begin, Next, Decide, Die}
-use Rattle.model.specs.Coding.{Coding}
-use Rattle.model.specs.Families.{want_of, ask_of, is_question, beside_of, step_of}
-use Rattle.model.specs.Families.Indices.Robust.Calls.{want, after}
-use Rattle.model.specs.Families.Indices.Robust.Promises.{IsCount, IsFilledWith, FindsAll}
-use Rattle.model.specs.Families.Indices.Robust.Steps.{effects}
-use Rattle.model.specs.Families.Queues.Calls.{as_it_is}
-use Rattle.model.specs.Parties.{party_of, doing_of, flight_of}
-use Rattle.model.specs.Promises.Turns.{IsParty, IsEffectOf}
-use Rattle.model.specs.Refusals.{refusal_of, is_due, call_refusal}
-use Rattle.model.specs.Step.{as_call, answer_in}
-use Rattle.model.specs.Turns.{old_of, number_of, events_of_step, events_of_answer, events_of_next, events_of_decision}
-use Rattle.model.specs.Turns.{events_of, ask_of_doing, ending_of, after_turn}
-use Rattle.model.specs.World.{World, Trace, flight_in}
 use Rattle.model.proofs.Frame as frame
-use Rattle.model.proofs.Rows.{passes, must_be_due}
-use Rattle.model.proofs.Scenes.{StandsThere, stands_there}
 use Rattle.laws_robust.proofs.Finds.{find_loads_all, find_asks_all}
 use Rattle.laws_robust.proofs.Invariant.{Scene, Inv, family}
 use Rattle.laws_robust.proofs.Knows.{Knows}

@@ -1,50 +1,26 @@
 -- What a decision comes to: a no ends a find at the index that it asked about, and a yes tells a recovery to free the index
 -- that it asked about. No other turn tells it.
-use Rattle.std.proofs.Common.{◌≡◌, ◌≢◌, ℕ, Bool, true, false, Option, Some, None, is_none, List, [], ◌∷◌, ◌++◌, refl, sym, ap, subst, ◌∙◌, arith}
-use Rattle.std.specs.List.{AllByRecursion}
+use Rattle.laws_robust.proofs.Names.{◌≡◌, ◌≢◌, ℕ, Bool, true, false, Option, Some, None, is_none, List, [], ◌∷◌, ◌++◌}
+use Rattle.laws_robust.proofs.Names.{refl, sym, ap, subst, ◌∙◌, arith, AllByRecursion, ReleaseMode, Count, Lock}
+use Rattle.laws_robust.proofs.Names.{Raise, RecoverStage, raise_want, count_want, lock_want, Answer, Event, Start}
+use Rattle.laws_robust.proofs.Names.{Robust, Flight, Registry, RobustStart, RobustFlight, Doing, Going, Over, Party}
+use Rattle.laws_robust.proofs.Names.{Idle, Undecided, Turn, Begin, Next, Decide, Die, Coding, want_of, ask_of}
+use Rattle.laws_robust.proofs.Names.{is_question, beside_of, step_of, want, after, owned_by, owned_of, IsIn}
+use Rattle.laws_robust.proofs.Names.{IsStopped, FindsUpTo, ToldRight, TellsOnce, IsTold, YesTells, effects, party_of}
+use Rattle.laws_robust.proofs.Names.{doing_of, flight_of, refusal_of, is_due, call_refusal, answer_in, old_of}
+use Rattle.laws_robust.proofs.Names.{number_of, ask_of_doing, events_of_step, events_of_answer, events_of_next}
+use Rattle.laws_robust.proofs.Names.{events_of_decision, events_of, ending_of, after_turn, Trace, flight_in}
+use Rattle.laws_robust.proofs.Names.{row_passed, passes, StandsThere, stands_there}
 use Rattle.steps.specs.declared.ask.Want.{Want}
-use Rattle.steps.specs.declared.indices.enums.ReleaseMode.{ReleaseMode}
-use Rattle.steps.specs.declared.indices.robust.parts.Count.{Count}
-use Rattle.steps.specs.declared.indices.robust.parts.Lock.{Lock}
 use Rattle.steps.specs.declared.indices.robust.parts.Lock as locks
-use Rattle.steps.specs.declared.indices.robust.parts.Raise.{Raise}
 use Rattle.steps.specs.declared.indices.robust.parts.Raise as raises
-use Rattle.steps.specs.declared.indices.robust.recover.RecoverStage.{RecoverStage}
 use Rattle.steps.specs.declared.indices.robust.recover.RecoverStage as recovers
-use Rattle.steps.specs.Indices.Robust.Parts.{raise_want, count_want, lock_want}
-use Rattle.model.specs.declared.event.Answer.{Answer}
-use Rattle.model.specs.declared.event.Event.{Event}
-use Rattle.model.specs.declared.event.Start.{Start}
-use Rattle.model.specs.declared.event.Start.TheVariants.{Robust}
-use Rattle.model.specs.declared.families.Flight.{Flight}
 use Rattle.model.specs.declared.families.Flight as flights
-use Rattle.model.specs.declared.families.Registry.{Registry}
 use Rattle.model.specs.declared.families.Registry as registries
-use Rattle.model.specs.declared.families.indices.robust.RobustStart.{RobustStart}
 use Rattle.model.specs.declared.families.indices.robust.RobustStart as starts
-use Rattle.model.specs.declared.families.indices.robust.calls.RobustFlight.{RobustFlight}
 use Rattle.model.specs.declared.families.indices.robust.calls.RobustFlight as calls
-use Rattle.model.specs.declared.party.Doing.{Doing}
-use Rattle.model.specs.declared.party.Doing.TheVariants.{Going, Over}
-use Rattle.model.specs.declared.party.Party.{Party}
-use Rattle.model.specs.declared.turn.Refusal.TheVariants.{Idle, Undecided}
-use Rattle.model.specs.declared.turn.Turn.{Turn}
-use Rattle.model.specs.declared.turn.Turn.TheVariants.{Begin, Next, Decide, Die}
-use Rattle.model.specs.Coding.{Coding}
-use Rattle.model.specs.Families.{want_of, ask_of, is_question, beside_of, step_of}
-use Rattle.model.specs.Families.Indices.Robust.Calls.{want, after}
-use Rattle.model.specs.Families.Indices.Robust.Promises.{owned_by, owned_of, IsIn, IsStopped, FindsUpTo, ToldRight, TellsOnce, IsTold, YesTells}
-use Rattle.model.specs.Families.Indices.Robust.Steps.{effects}
-use Rattle.model.specs.Parties.{party_of, doing_of, flight_of}
-use Rattle.model.specs.Refusals.{refusal_of, is_due, call_refusal}
 use Rattle.model.specs.Shape.{IsOpenFor}
-use Rattle.model.specs.Step.{answer_in}
-use Rattle.model.specs.Turns.{old_of, number_of, ask_of_doing, events_of_step, events_of_answer, events_of_next}
-use Rattle.model.specs.Turns.{events_of_decision, events_of, ending_of, after_turn}
-use Rattle.model.specs.World.{Trace, flight_in}
 use Rattle.model.proofs.Frame as frame
-use Rattle.model.proofs.Rows.{row_passed, passes}
-use Rattle.model.proofs.Scenes.{StandsThere, stands_there}
 use Rattle.laws_robust.proofs.Invariant.{family}
 use Rattle.laws_robust.proofs.Knows.{Knows}
 use Rattle.laws_robust.specs.Gone.{Death}

@@ -1,21 +1,10 @@
 -- No turn changes how many words a machine has, so one of the robust set has its counter and a cell an index.
-use Rattle.std.proofs.Common.{◌≡◌, ℕ, ◌+◌, Bool, Option, Some, None, List, length, refl, sym, subst, ◌∙◌, arith}
-use Rattle.std.proofs.lemmas.List.{length-set, length-replicate}
-use Rattle.steps.specs.Indices.Robust.Parts.{empty}
-use Rattle.steps.specs.declared.ask.Ask.{Ask}
-use Rattle.model.specs.declared.event.Start.{Start}
-use Rattle.model.specs.declared.families.Flight.{Flight}
-use Rattle.model.specs.declared.party.Doing.{Doing}
-use Rattle.model.specs.declared.party.Doing.TheVariants.{Going, Over}
-use Rattle.model.specs.declared.party.Party.{Party}
+use Rattle.laws_robust.proofs.Names.{◌≡◌, ℕ, ◌+◌, Bool, Option, Some, None, List, length, refl, sym, subst, ◌∙◌}
+use Rattle.laws_robust.proofs.Names.{arith, length-set, length-replicate, empty, Ask, Start, Flight, Doing, Going}
+use Rattle.laws_robust.proofs.Names.{Over, Party, Turn, Begin, Next, Decide, Die, first_of, opening_words, party_of}
+use Rattle.laws_robust.proofs.Names.{old_of, words_after, number_of, ask_of_doing, after_begin, after_answer}
+use Rattle.laws_robust.proofs.Names.{after_next, after_decision, world_after, World, Trace, opening}
 use Rattle.model.specs.declared.turn.Kind as kinds
-use Rattle.model.specs.declared.turn.Turn.{Turn}
-use Rattle.model.specs.declared.turn.Turn.TheVariants.{Begin, Next, Decide, Die}
-use Rattle.model.specs.Families.{first_of}
-use Rattle.model.specs.Families.Indices.Robust.Opening.{opening_words}
-use Rattle.model.specs.Parties.{party_of}
-use Rattle.model.specs.Turns.{old_of, words_after, number_of, ask_of_doing, after_begin, after_answer, after_next, after_decision, world_after}
-use Rattle.model.specs.World.{World, Trace, opening}
 use Rattle.laws_robust.specs.Open.{IsReachedOpen}
 use Rattle.laws_robust.proofs.OpenTurns.{reached_keeps}
 

@@ -1,14 +1,7 @@
 -- What a step writes down apart from an end: events of its party, and Told where it is handed a yes to its question.
-use Rattle.std.proofs.Common.{◌≡◌, ◌≢◌, ℕ, ◌==◌, if◌then◌else◌, Bool, true, false, Option, Some, List, [], arith}
-use Rattle.std.specs.List.{AllByRecursion}
-use Rattle.model.specs.declared.event.Event.{Event}
-use Rattle.model.specs.declared.event.Event.TheVariants.{Filled, Granted, FreedOf, Asked, Told, Locked}
-use Rattle.model.specs.declared.families.indices.robust.calls.RobustFlight.{RobustFlight}
-use Rattle.model.specs.declared.turn.Turn.{Turn}
-use Rattle.model.specs.Families.Indices.Robust.Calls.{want}
-use Rattle.model.specs.Families.Indices.Robust.Promises.{owned_by}
-use Rattle.model.specs.Families.Indices.Robust.Steps.{freed, effects}
-use Rattle.model.specs.Promises.Turns.{IsParty, IsEffectOf}
+use Rattle.laws_robust.proofs.Names.{◌≡◌, ◌≢◌, ℕ, ◌==◌, if◌then◌else◌, Bool, true, false, Option, Some, List, []}
+use Rattle.laws_robust.proofs.Names.{arith, AllByRecursion, Event, Filled, Granted, FreedOf, Asked, Told, Locked}
+use Rattle.laws_robust.proofs.Names.{RobustFlight, Turn, want, owned_by, freed, effects, IsParty, IsEffectOf}
 
 -- P holds of all that a call may do to the set, but for what it is told
 pub record HoldsOf {T : Type 0} (P : Event T → Type 0) (p : ℕ) : Type 0 where

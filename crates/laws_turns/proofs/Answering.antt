@@ -1,49 +1,25 @@
 -- A call of the robust set puts no question again once it has an answer.
-use Rattle.std.proofs.Common.{◌≡◌, ℕ, ◌+◌, ◌==◌, nat_lt, Bool, true, false, Option, Some, None, refl, sym, ap, subst, ◌∙◌, if◌then◌else◌}
-use Rattle.steps.specs.declared.ask.After.{After}
-use Rattle.steps.specs.declared.ask.After.TheVariants.{GoOn, Done}
+use Rattle.laws_turns.proofs.Names.{◌≡◌, ℕ, ◌+◌, ◌==◌, nat_lt, Bool, true, false, Option, Some, None, refl, sym, ap}
+use Rattle.laws_turns.proofs.Names.{subst, ◌∙◌, if◌then◌else◌, After, GoOn, Done, ReleaseMode, ReleaseState}
+use Rattle.laws_turns.proofs.Names.{raise_want, lock_want, went_on, acquire_asks, release_asks, count_want, Answer}
+use Rattle.laws_turns.proofs.Names.{Number, State, Start, Robust, Flight, RobustFlight, Party, Turn, Decide, Coding}
+use Rattle.laws_turns.proofs.Names.{goes_of, want_of, is_question, GoesOn, as_it_is, as_call, refusal_of, is_due}
+use Rattle.laws_turns.proofs.Names.{number_of, after_turn, IsReached, Trace, flight_in, turn_making, passes}
+use Rattle.laws_turns.proofs.Names.{must_be_due, StandsThere, both_ways, robust_keeps, raise_asks_none}
+use Rattle.laws_turns.proofs.Names.{count_asks_none, lock_asks_none, acquire_asks_none, release_asks_none, find_at}
 use Rattle.steps.specs.declared.indices.robust.find.FindStage.{FindStage}
 use Rattle.steps.specs.declared.indices.robust.find.FindStage as finds
 use Rattle.steps.specs.declared.indices.robust.recover.RecoverStage.{RecoverStage}
 use Rattle.steps.specs.declared.indices.robust.recover.RecoverStage as recovers
-use Rattle.steps.specs.declared.indices.enums.ReleaseMode.{ReleaseMode}
-use Rattle.steps.specs.declared.indices.enums.ReleaseState.{ReleaseState}
-use Rattle.steps.specs.Indices.Robust.Parts.{raise_want, lock_want}
-use Rattle.steps.specs.Routine.{went_on}
-use Rattle.steps.specs.Indices.Robust.Acquire.{acquire_asks}
-use Rattle.steps.specs.Indices.Robust.Release.{release_asks}
-use Rattle.steps.specs.Indices.Robust.Parts.{count_want}
-use Rattle.model.specs.declared.event.Answer.{Answer}
-use Rattle.model.specs.declared.event.Answer.TheVariants.{Number, State}
-use Rattle.model.specs.declared.event.Start.{Start}
-use Rattle.model.specs.declared.event.Start.TheVariants.{Robust}
-use Rattle.model.specs.declared.families.Flight.{Flight}
 use Rattle.model.specs.declared.families.Flight as flights
-use Rattle.model.specs.declared.families.indices.robust.calls.RobustFlight.{RobustFlight}
 use Rattle.model.specs.declared.families.indices.robust.calls.RobustFlight as calls
-use Rattle.model.specs.declared.party.Party.{Party}
 use Rattle.model.specs.declared.turn.Kind as kinds
-use Rattle.model.specs.declared.turn.Turn.{Turn}
-use Rattle.model.specs.declared.turn.Turn.TheVariants.{Decide}
-use Rattle.model.specs.Coding.{Coding}
-use Rattle.model.specs.Families.{goes_of, want_of, is_question}
 use Rattle.model.specs.Families.Indices.Robust.Calls.{want, after}
-use Rattle.model.specs.Promises.Turns.{GoesOn}
-use Rattle.model.specs.Families.Queues.Calls.{as_it_is}
-use Rattle.model.specs.Step.{as_call}
-use Rattle.model.specs.Refusals.{refusal_of, is_due}
-use Rattle.model.specs.Turns.{number_of, after_turn, IsReached}
-use Rattle.model.specs.World.{Trace, flight_in}
 use Rattle.model.proofs.Frame as frame
-use Rattle.model.proofs.Reached.{turn_making}
-use Rattle.model.proofs.Rows.{passes, must_be_due}
-use Rattle.model.proofs.Scenes.{StandsThere}
-use Rattle.laws_robust.proofs.Effects.{both_ways}
 use Rattle.laws_robust.proofs.Invariant.{family}
-use Rattle.laws_robust.proofs.Justified.{robust_keeps}
-use Rattle.laws_robust.proofs.Sound.{reached_sound, raise_asks_none, count_asks_none, lock_asks_none, acquire_asks_none, release_asks_none}
+use Rattle.laws_robust.proofs.Sound.{reached_sound}
 use Rattle.laws_robust.proofs.Stages.{any_call}
-use Rattle.laws_robust.proofs.Standing.{find_at, recover_at}
+use Rattle.laws_robust.proofs.Standing.{recover_at}
 use Rattle.laws_turns.specs.Questions.{IsAnswered}
 use Rattle.laws_turns.proofs.Standing.{left_by, decision_left, under_way}
 

@@ -1,56 +1,29 @@
 -- What a recovery writes that it asks, it asks.
-use Rattle.std.proofs.lemmas.List.{append_cancel_left}
-use Rattle.std.proofs.Common.{ap, ◌≡◌, ℕ, ◌+◌, ◌==◌, Bool, true, false, Option, Some, None, List, [], ◌∷◌, ◌++◌, refl, sym, subst, ◌∙◌}
-use Rattle.std.specs.List.{AllByRecursion}
-use Rattle.steps.specs.declared.ask.After.{After}
-use Rattle.steps.specs.declared.ask.After.TheVariants.{GoOn, Done}
-use Rattle.steps.specs.declared.ask.Ask.{Ask}
-use Rattle.steps.specs.declared.indices.enums.ReleaseMode.{ReleaseMode}
-use Rattle.steps.specs.declared.indices.enums.ReleaseState.{ReleaseState}
-use Rattle.steps.specs.declared.indices.enums.ReleaseState.TheVariants.{Locked, Unlocked}
-use Rattle.steps.specs.declared.indices.robust.acquire.AcquireStage.{AcquireStage}
+use Rattle.laws_turns.proofs.Names.{append_cancel_left, ap, ◌≡◌, ℕ, ◌+◌, ◌==◌, Bool, true, false, Option, Some, None}
+use Rattle.laws_turns.proofs.Names.{List, [], ◌∷◌, ◌++◌, refl, sym, subst, ◌∙◌, AllByRecursion, After, GoOn, Done}
+use Rattle.laws_turns.proofs.Names.{Ask, ReleaseMode, ReleaseState, Unlocked, AcquireStage, Lock, Raise, GiveBack}
+use Rattle.laws_turns.proofs.Names.{ReleaseStage, Running, empty, raise_after, Answer, Event, Asked, Start, Flight}
+use Rattle.laws_turns.proofs.Names.{Registry, RobustStart, RobustFlight, Doing, Going, Over, Party, Turn, Begin, Next}
+use Rattle.laws_turns.proofs.Names.{Decide, Die, Coding, step_of, beside_of, owned_of, acquire_effects}
+use Rattle.laws_turns.proofs.Names.{release_effects, recover_effects, granted, locked_by, party_of, doing_of}
+use Rattle.laws_turns.proofs.Names.{flight_of, Step, answer_in, old_of, number_of, ask_of_doing, doing_after}
+use Rattle.laws_turns.proofs.Names.{party_after, step_count, change_of, ending_of, events_of_step, events_of_answer}
+use Rattle.laws_turns.proofs.Names.{events_of_next, events_of_decision, after_answer, after_next, after_decision}
+use Rattle.laws_turns.proofs.Names.{events_of, world_after, after_turn, IsReached, World, Trace, flight_in}
+use Rattle.laws_turns.proofs.Names.{party_put_same, turn_making}
+use Rattle.steps.specs.declared.indices.enums.ReleaseState.TheVariants.{Locked}
 use Rattle.steps.specs.declared.indices.robust.acquire.AcquireStage.TheVariants as acquires
-use Rattle.steps.specs.declared.indices.robust.parts.Lock.{Lock}
 use Rattle.steps.specs.declared.indices.robust.parts.Lock.TheVariants as locks
-use Rattle.steps.specs.declared.indices.robust.parts.Raise.{Raise}
 use Rattle.steps.specs.declared.indices.robust.recover.Recover.{Recover}
 use Rattle.steps.specs.declared.indices.robust.recover.RecoverStage.{RecoverStage}
 use Rattle.steps.specs.declared.indices.robust.recover.RecoverStage.TheVariants as recovers
-use Rattle.steps.specs.declared.indices.robust.release.GiveBack.{GiveBack}
-use Rattle.steps.specs.declared.indices.robust.release.ReleaseStage.{ReleaseStage}
 use Rattle.steps.specs.declared.indices.robust.release.ReleaseStage.TheVariants as releases
-use Rattle.steps.specs.declared.routine.Running.{Running}
-use Rattle.steps.specs.Indices.Robust.Parts.{empty, raise_after}
-use Rattle.model.specs.declared.event.Answer.{Answer}
-use Rattle.model.specs.declared.event.Event.{Event}
-use Rattle.model.specs.declared.event.Event.TheVariants.{Asked}
-use Rattle.model.specs.declared.event.Start.{Start}
 use Rattle.model.specs.declared.event.Start.TheVariants as starts
-use Rattle.model.specs.declared.families.Flight.{Flight}
 use Rattle.model.specs.declared.families.Flight.TheVariants as flights
-use Rattle.model.specs.declared.families.Registry.{Registry}
 use Rattle.model.specs.declared.families.Registry.TheVariants as registries
-use Rattle.model.specs.declared.families.indices.robust.RobustStart.{RobustStart}
-use Rattle.model.specs.declared.families.indices.robust.calls.RobustFlight.{RobustFlight}
 use Rattle.model.specs.declared.families.indices.robust.calls.RobustFlight.TheVariants as calls
-use Rattle.model.specs.declared.party.Doing.{Doing}
-use Rattle.model.specs.declared.party.Doing.TheVariants.{Going, Over}
-use Rattle.model.specs.declared.party.Party.{Party}
 use Rattle.model.specs.declared.turn.Kind as kinds
-use Rattle.model.specs.declared.turn.Turn.{Turn}
-use Rattle.model.specs.declared.turn.Turn.TheVariants.{Begin, Next, Decide, Die}
-use Rattle.model.specs.Coding.{Coding}
-use Rattle.model.specs.Families.{step_of, beside_of}
-use Rattle.model.specs.Families.Indices.Robust.Promises.{owned_of}
-use Rattle.model.specs.Families.Indices.Robust.Steps.{acquire_effects, release_effects, recover_effects, effects, granted, freed, locked_by}
-use Rattle.model.specs.Parties.{party_of, doing_of, flight_of}
-use Rattle.model.specs.Step.{Step, answer_in}
-use Rattle.model.specs.Turns.{old_of, number_of, ask_of_doing, doing_after, party_after, step_count, change_of}
-use Rattle.model.specs.Turns.{ending_of, events_of_step, events_of_answer, events_of_next, events_of_decision}
-use Rattle.model.specs.Turns.{after_answer, after_next, after_decision, events_of, world_after, after_turn, IsReached}
-use Rattle.model.specs.World.{World, Trace, flight_in}
-use Rattle.model.proofs.Parties.{party_put_same}
-use Rattle.model.proofs.Reached.{turn_making}
+use Rattle.model.specs.Families.Indices.Robust.Steps.{effects, freed}
 use Rattle.laws_robust.proofs.Sound.{kept_is, reached_sound}
 use Rattle.laws_turns.specs.Questions.{AsksIt, AsksAtOnce}
 

@@ -1,7 +1,5 @@
 -- An add, and then an update of a state that follows the container.
-use Rattle.std.proofs.Common.{◌≡◌, ℕ, sym, subst}
-use Rattle.plain.specs.Contents.{Contents, after_add}
-use Rattle.plain.specs.States.{Snapshot, updated}
+use Rattle.laws_turns.proofs.Names.{◌≡◌, ℕ, sym, subst, Contents, after_add, Snapshot, updated}
 use Rattle.laws_turns.specs.Following.{MayChange, Follows}
 use Rattle.laws_turns.proofs.Changing.{adds}
 use Rattle.laws_turns.proofs.Showing.{updates}

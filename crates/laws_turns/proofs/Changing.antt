@@ -1,20 +1,16 @@
 -- Each call on a container of one caller leaves its states following it.
-use Rattle.std.proofs.Common.{◌≡◌, ◌⊎◌, ⊎_elim, inl, inr, ℕ, ◌+◌, ◌-◌, ◌^◌, ◌%◌, ◌<◌, ◌≤◌, ◌==◌, ◌&&◌, Bool, true}
-use Rattle.std.proofs.Common.{false, not, Option, Some, None, Result, Ok, Err, List, [], ◌∷◌, length, fold, get_or}
-use Rattle.std.proofs.Common.{if◌then◌else◌, refl, sym, ap, subst, ◌∙◌, arith}
-use Rattle.std.proofs.lemmas.Bool.{cases_eq, cases_lt}
-use Rattle.std.proofs.lemmas.Bool.Decides.{nat_tests}
-use Rattle.std.proofs.lemmas.List.{get_or-set_same, get_or-set_other, set_past, length-set}
-use Rattle.steps.specs.Container.Layout.{is_even}
-use Rattle.steps.specs.Indices.Robust.Parts.{one_more}
+use Rattle.laws_turns.proofs.Names.{◌≡◌, ◌⊎◌, ⊎_elim, inl, inr, ℕ, ◌+◌, ◌-◌, ◌^◌, ◌%◌, ◌<◌, ◌≤◌, ◌==◌, ◌&&◌, Bool}
+use Rattle.laws_turns.proofs.Names.{true, false, not, Option, Some, None, Result, Ok, Err, List, [], ◌∷◌, length}
+use Rattle.laws_turns.proofs.Names.{fold, get_or, if◌then◌else◌, refl, sym, ap, subst, ◌∙◌, arith, cases_eq, cases_lt}
+use Rattle.laws_turns.proofs.Names.{nat_tests, get_or-set_same, set_past, length-set, is_even, one_more}
+use Rattle.laws_turns.proofs.Names.{ContainerHandle, ReleaseMode, LockIfLastIndex, Default, Contents, capacity}
+use Rattle.laws_turns.proofs.Names.{count_without, count_with, changed, names, put_at, after_add, after_remove}
+use Rattle.laws_turns.proofs.Names.{after_replace, Snapshot}
+use Rattle.std.proofs.lemmas.List.{get_or-set_other}
 use Rattle.steps.specs.Objects.Owners as owners
 use Rattle.steps.specs.Objects.Owners.{Owners, Owned}
-use Rattle.steps.specs.declared.container.handle.ContainerHandle.{ContainerHandle}
-use Rattle.steps.specs.declared.indices.enums.ReleaseMode.{ReleaseMode}
-use Rattle.steps.specs.declared.indices.enums.ReleaseMode.TheVariants.{LockIfLastIndex, Default}
 use Rattle.steps.specs.declared.indices.enums.UniqueIndexSetAcquireFailure.{UniqueIndexSetAcquireFailure}
-use Rattle.plain.specs.Contents.{Contents, capacity, count_without, count_with, changed, counted, names, put_at, after_add, after_remove, after_replace}
-use Rattle.plain.specs.States.{Snapshot}
+use Rattle.plain.specs.Contents.{counted}
 use Rattle.plain.specs.Visited.{freed, all_freed, one_change}
 use Rattle.laws_turns.specs.Following.{MayChange, IsCounted, Follows, Keeps}
 

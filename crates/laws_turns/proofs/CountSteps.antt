@@ -1,47 +1,23 @@
 -- What a step of a call of a container leaves of the number of changes: it goes up by 1 as a call ends that has changed the
 -- container, and else it stays.
-use Rattle.std.proofs.Common.{◌≡◌, ◌≢◌, ℕ, ◌<◌, Option, Some}
-use Rattle.std.proofs.Common.{None, List, refl, sym, ap, arith, get_or, get_or-set_other}
+use Rattle.laws_turns.proofs.Names.{◌≡◌, ◌≢◌, ℕ, ◌<◌, Option, Some, None, List, refl, sym, ap, arith, get_or, After}
+use Rattle.laws_turns.proofs.Names.{Ask, AddStage, LookStage, RemoveStage, ReplaceStage, ReleaseMode, ReleaseState}
+use Rattle.laws_turns.proofs.Names.{AcquireStage, Count, Lock, Raise, GiveBack, Release, ReleaseStage, change_word}
+use Rattle.laws_turns.proofs.Names.{acquire_asks, cell_word, empty, locked, one_more, raise_want, count_want}
+use Rattle.laws_turns.proofs.Names.{lock_want, release_asks, Answer, Finished, Container, ContainerStart}
+use Rattle.laws_turns.proofs.Names.{ContainerFlight, ask_of, SetAct, words_after, loads, exchanges, loads_same}
+use Rattle.laws_turns.proofs.Names.{AcquireAt, change_at}
+use Rattle.std.proofs.Common.{get_or-set_other}
 use Rattle.steps.specs.Ask.{written}
-use Rattle.steps.specs.declared.ask.After.{After}
-use Rattle.steps.specs.declared.ask.Ask.{Ask}
-use Rattle.steps.specs.declared.container.add.AddStage.{AddStage}
 use Rattle.steps.specs.declared.container.find.FindStage.{FindStage}
-use Rattle.steps.specs.declared.container.look.LookStage.{LookStage}
 use Rattle.steps.specs.declared.container.recover.RecoverStage.{RecoverStage}
-use Rattle.steps.specs.declared.container.remove.RemoveStage.{RemoveStage}
-use Rattle.steps.specs.declared.container.replace.ReplaceStage.{ReplaceStage}
-use Rattle.steps.specs.declared.indices.enums.ReleaseMode.{ReleaseMode}
-use Rattle.steps.specs.declared.indices.enums.ReleaseState.{ReleaseState}
 use Rattle.steps.specs.declared.indices.robust.acquire.Acquire.{Acquire}
-use Rattle.steps.specs.declared.indices.robust.acquire.AcquireStage.{AcquireStage}
 use Rattle.steps.specs.declared.indices.robust.acquire.AcquireStage as acquires
-use Rattle.steps.specs.declared.indices.robust.parts.Count.{Count}
 use Rattle.steps.specs.declared.indices.robust.parts.Count as counts
-use Rattle.steps.specs.declared.indices.robust.parts.Lock.{Lock}
 use Rattle.steps.specs.declared.indices.robust.parts.Lock as locks
-use Rattle.steps.specs.declared.indices.robust.parts.Raise.{Raise}
 use Rattle.steps.specs.declared.indices.robust.parts.Raise as raises
-use Rattle.steps.specs.declared.indices.robust.release.GiveBack.{GiveBack}
-use Rattle.steps.specs.declared.indices.robust.release.Release.{Release}
-use Rattle.steps.specs.declared.indices.robust.release.ReleaseStage.{ReleaseStage}
 use Rattle.steps.specs.declared.indices.robust.release.ReleaseStage as releases
-use Rattle.steps.specs.Container.Layout.{change_word}
-use Rattle.steps.specs.Indices.Robust.Acquire.{acquire_asks}
-use Rattle.steps.specs.Indices.Robust.Parts.{cell_word, empty, locked, one_more, raise_want, count_want, lock_want}
-use Rattle.steps.specs.Indices.Robust.Release.{release_asks}
-use Rattle.model.specs.declared.event.Answer.{Answer}
-use Rattle.model.specs.declared.event.Event.TheVariants.{Finished}
-use Rattle.model.specs.declared.event.Start.TheVariants.{Container}
-use Rattle.model.specs.declared.families.container.ContainerStart.{ContainerStart}
 use Rattle.model.specs.declared.families.container.ContainerStart as starts
-use Rattle.model.specs.declared.families.container.calls.ContainerFlight.{ContainerFlight}
-use Rattle.model.specs.Families.{ask_of}
-use Rattle.model.specs.Families.Indices.Robust.Reading.{SetAct}
-use Rattle.model.specs.Turns.{words_after}
-use Rattle.laws_robust.proofs.Stages.{loads, exchanges, loads_same}
-use Rattle.laws_robust.proofs.Standing.{AcquireAt}
-use Rattle.laws_container.proofs.Core.{change_at}
 use Rattle.laws_turns.specs.Changes.{change_in}
 
 module _ {T : Type 0} where

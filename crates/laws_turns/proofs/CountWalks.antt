@@ -1,16 +1,22 @@
 -- Each step of a call of a container, and the changes that it counts.
-use Rattle.std.proofs.Common.{◌≡◌, ◌≢◌, ℕ, ◌+◌, ◌==◌, nat_lt, if◌then◌else◌, Bool, true, false, Option, Some}
-use Rattle.std.proofs.Common.{List, refl, sym, ap, subst, ◌∙◌, arith, get_or, Ok, Err}
-use Rattle.steps.specs.declared.ask.After.{After}
-use Rattle.steps.specs.declared.ask.After.TheVariants.{GoOn, Done}
-use Rattle.steps.specs.declared.ask.Ask.{Ask}
+use Rattle.laws_turns.proofs.Names.{◌≡◌, ◌≢◌, ℕ, ◌+◌, ◌==◌, nat_lt, if◌then◌else◌, Bool, true, false, Option, Some}
+use Rattle.laws_turns.proofs.Names.{List, refl, sym, ap, subst, ◌∙◌, arith, get_or, Ok, Err, After, GoOn, Done, Ask}
+use Rattle.laws_turns.proofs.Names.{AddStage, LookStage, RemoveStage, ReplaceStage, Replacement, ContainerState}
+use Rattle.laws_turns.proofs.Names.{ReleaseMode, LockIfLastIndex, Default, ReleaseState, AcquireStage, Count, Lock}
+use Rattle.laws_turns.proofs.Names.{Raise, GiveBack, Release, ReleaseStage, add_asks, Added, add_acquired}
+use Rattle.laws_turns.proofs.Names.{inner_acquire, find_asks, change_word, count_word, element_word, is_even}
+use Rattle.laws_turns.proofs.Names.{look_asks, recover_keeps, Removed, remove_asks, remove_released, inner_release}
+use Rattle.laws_turns.proofs.Names.{Replaced, replace_asks, Acquired, acquire_takes, cell_word, empty, locked}
+use Rattle.laws_turns.proofs.Names.{one_more, raise_want, raise_after, lock_want, lock_after, Released, release_takes}
+use Rattle.laws_turns.proofs.Names.{went_on, Answer, State, Container, ContainerStart, ContainerFlight, Coding}
+use Rattle.laws_turns.proofs.Names.{ask_of, is_question, place_of, added, removed, replaced, Act, SetAct, as_it_is}
+use Rattle.laws_turns.proofs.Names.{kept_at, as_call, answer_in, words_after, exchanges, change_at, adds_one}
+use Rattle.laws_turns.proofs.Names.{stores_to, both_ways, raise_asks_none, lock_asks_none}
 use Rattle.steps.specs.declared.container.add.Add as add_calls
-use Rattle.steps.specs.declared.container.add.AddStage.{AddStage}
 use Rattle.steps.specs.declared.container.add.AddStage as adds
 use Rattle.steps.specs.declared.container.add.Owned.{Owned}
 use Rattle.steps.specs.declared.container.find.FindStage.{FindStage}
 use Rattle.steps.specs.declared.container.find.FindStage as finds
-use Rattle.steps.specs.declared.container.look.LookStage.{LookStage}
 use Rattle.steps.specs.declared.container.look.LookStage as looks
 use Rattle.steps.specs.declared.container.recover.DeadOwner.{DeadOwner}
 use Rattle.steps.specs.declared.container.recover.Recover as recover_calls
@@ -18,58 +24,19 @@ use Rattle.steps.specs.declared.container.recover.RecoverStage.{RecoverStage}
 use Rattle.steps.specs.declared.container.recover.RecoverStage as recovers
 use Rattle.steps.specs.declared.container.enums.ContainerRemoveError.TheVariants.{ContainerHandleNotOwnedByContainer}
 use Rattle.steps.specs.declared.container.remove.Remove as remove_calls
-use Rattle.steps.specs.declared.container.remove.RemoveStage.{RemoveStage}
 use Rattle.steps.specs.declared.container.remove.RemoveStage as removes
 use Rattle.steps.specs.declared.container.replace.Replace as replace_calls
-use Rattle.steps.specs.declared.container.replace.ReplaceStage.{ReplaceStage}
 use Rattle.steps.specs.declared.container.replace.ReplaceStage as replaces
-use Rattle.steps.specs.declared.container.replace.Replacement.{Replacement}
-use Rattle.steps.specs.declared.container.state.ContainerState.{ContainerState}
 use Rattle.steps.specs.declared.copied.Buffer as buffers
-use Rattle.steps.specs.declared.indices.enums.ReleaseMode.{ReleaseMode}
-use Rattle.steps.specs.declared.indices.enums.ReleaseMode.TheVariants.{LockIfLastIndex, Default}
-use Rattle.steps.specs.declared.indices.enums.ReleaseState.{ReleaseState}
 use Rattle.steps.specs.declared.indices.enums.ReleaseState as states
 use Rattle.steps.specs.declared.indices.robust.acquire.Acquire.{Acquire}
-use Rattle.steps.specs.declared.indices.robust.acquire.AcquireStage.{AcquireStage}
-use Rattle.steps.specs.declared.indices.robust.parts.Count.{Count}
-use Rattle.steps.specs.declared.indices.robust.parts.Lock.{Lock}
-use Rattle.steps.specs.declared.indices.robust.parts.Raise.{Raise}
-use Rattle.steps.specs.declared.indices.robust.release.GiveBack.{GiveBack}
-use Rattle.steps.specs.declared.indices.robust.release.Release.{Release}
-use Rattle.steps.specs.declared.indices.robust.release.ReleaseStage.{ReleaseStage}
-use Rattle.steps.specs.Container.Add.{add_asks, Added, add_acquired, inner_acquire}
-use Rattle.steps.specs.Container.Find.{find_asks}
-use Rattle.steps.specs.Container.Layout.{change_word, count_word, element_word, is_even}
-use Rattle.steps.specs.Container.Look.{look_asks}
-use Rattle.steps.specs.Container.Recover.{recover_keeps, recover_asks, recover_takes, recover_comes_to, recover_raised, recover_locked}
-use Rattle.steps.specs.Container.Remove.{Removed, remove_asks, remove_released, inner_release}
-use Rattle.steps.specs.Container.Replace.{Replaced, replace_asks}
-use Rattle.steps.specs.Indices.Robust.Acquire.{Acquired, acquire_takes}
-use Rattle.steps.specs.Indices.Robust.Parts.{cell_word, empty, locked, one_more, raise_want, raise_after, lock_want, lock_after}
-use Rattle.steps.specs.Indices.Robust.Release.{Released, release_takes}
-use Rattle.steps.specs.Routine.{went_on}
-use Rattle.model.specs.declared.event.Answer.{Answer}
-use Rattle.model.specs.declared.event.Answer.TheVariants.{State}
-use Rattle.model.specs.declared.event.Start.TheVariants.{Container}
-use Rattle.model.specs.declared.families.container.ContainerStart.{ContainerStart}
+use Rattle.steps.specs.Container.Recover.{recover_asks, recover_takes, recover_comes_to, recover_raised}
+use Rattle.steps.specs.Container.Recover.{recover_locked}
 use Rattle.model.specs.declared.families.container.ContainerStart as starts
-use Rattle.model.specs.declared.families.container.calls.ContainerFlight.{ContainerFlight}
 use Rattle.model.specs.declared.families.container.calls.ContainerFlight as calls
-use Rattle.model.specs.Coding.{Coding}
-use Rattle.model.specs.Families.{ask_of, is_question}
-use Rattle.model.specs.Families.Container.Calls.{want, after, place_of, added, removed, replaced}
-use Rattle.model.specs.Families.Container.Reading.{Act}
-use Rattle.model.specs.Families.Indices.Robust.Reading.{SetAct}
-use Rattle.model.specs.Families.Queues.Calls.{as_it_is, kept_at}
-use Rattle.model.specs.Step.{as_call, answer_in}
-use Rattle.model.specs.Turns.{words_after}
-use Rattle.laws_robust.proofs.Stages.{exchanges}
-use Rattle.laws_container.proofs.Core.{change_at}
-use Rattle.laws_container.proofs.Standing.{add_at, remove_at, replace_at, recover_at, AddAt, RemoveAt, RecoverAt, At, place_is}
-use Rattle.laws_container.proofs.Writing.{adds_one, stores_to}
-use Rattle.laws_robust.proofs.Effects.{both_ways}
-use Rattle.laws_robust.proofs.Sound.{raise_asks_none, lock_asks_none}
+use Rattle.model.specs.Families.Container.Calls.{want, after}
+use Rattle.laws_container.proofs.Standing.{add_at, remove_at, replace_at, recover_at, AddAt, RemoveAt, RecoverAt, At}
+use Rattle.laws_container.proofs.Standing.{place_is}
 use Rattle.laws_turns.proofs.Waiting.{add_asks_none, remove_asks_none, replace_asks_none}
 use Rattle.laws_turns.proofs.CountSteps.{IsCalm, acquire_calm, calm_apart, calm_load, count_calm, empty_none}
 use Rattle.laws_turns.proofs.CountSteps.{find_none, get_none, len_none, lock_calm, raise_calm, release_calm}

@@ -1,53 +1,28 @@
 -- The number of changes of a container counts the changes, in every reached machine.
-use Rattle.std.proofs.Common.{◌≡◌, ℕ, ◌+◌, ◌-◌, ◌^◌, ◌<◌, Bool, true, Option, Some, None, List, [], ◌∷◌, ◌++◌, fold, refl, sym, ap, subst, ◌∙◌, arith}
-use Rattle.std.specs.List.{AllByRecursion}
-use Rattle.std.proofs.lemmas.List.Sums.{fold-append}
-use Rattle.steps.specs.Container.Layout.{change_word}
-use Rattle.steps.specs.declared.ask.After.{After}
-use Rattle.steps.specs.declared.ask.After.TheVariants.{GoOn, Done}
-use Rattle.steps.specs.declared.ask.Ask.{Ask}
-use Rattle.steps.specs.Indices.Robust.Parts.{one_more}
-use Rattle.model.specs.declared.event.Answer.{Answer}
-use Rattle.model.specs.declared.event.Event.{Event}
-use Rattle.model.specs.declared.event.Event.TheVariants.{Begun, Died, Finished}
-use Rattle.model.specs.declared.event.Start.{Start}
-use Rattle.model.specs.declared.event.Start.TheVariants.{Container}
-use Rattle.model.specs.declared.families.Flight.{Flight}
+use Rattle.laws_turns.proofs.Names.{◌≡◌, ℕ, ◌+◌, ◌-◌, ◌^◌, ◌<◌, Bool, true, Option, Some, None, List, [], ◌∷◌, ◌++◌}
+use Rattle.laws_turns.proofs.Names.{fold, refl, sym, ap, subst, ◌∙◌, arith, AllByRecursion, fold-append, change_word}
+use Rattle.laws_turns.proofs.Names.{After, GoOn, Done, Ask, one_more, Answer, Event, Begun, Died, Finished, Start}
+use Rattle.laws_turns.proofs.Names.{Container, Flight, Registry, ContainerStart, ContainerFlight, Party, Turn, Begin}
+use Rattle.laws_turns.proofs.Names.{Next, Decide, Die, want_of, ask_of, is_question, beside_of, step_of, state_of}
+use Rattle.laws_turns.proofs.Names.{questions, party_of, IsParty, IsEffectOf, ask_in, ask_of_flight, refusal_of}
+use Rattle.laws_turns.proofs.Names.{is_due, answer_in, old_of, words_after, number_of, ending_of, events_of}
+use Rattle.laws_turns.proofs.Names.{events_of_answer, events_of_next, events_of_decision, events_of_step}
+use Rattle.laws_turns.proofs.Names.{ask_of_doing, step_in, world_after, after_turn, IsReached, Trace, capacity_error}
+use Rattle.laws_turns.proofs.Names.{flight_in, kept_by_runs, reached_more, turn_making, passes, may_next, may_decide}
+use Rattle.laws_turns.proofs.Names.{must_be_due, StandsThere, change_at, change_set, shown, container_keeps, adds_one}
+use Rattle.laws_turns.proofs.Names.{adds_to_change, all_effects, dying}
 use Rattle.model.specs.declared.families.Flight as flights
-use Rattle.model.specs.declared.families.Registry.{Registry}
 use Rattle.model.specs.declared.families.Registry as registries
-use Rattle.model.specs.declared.families.container.ContainerStart.{ContainerStart}
-use Rattle.model.specs.declared.families.container.calls.ContainerFlight.{ContainerFlight}
-use Rattle.model.specs.declared.party.Party.{Party}
 use Rattle.model.specs.declared.turn.Kind as kinds
-use Rattle.model.specs.declared.turn.Turn.{Turn}
-use Rattle.model.specs.declared.turn.Turn.TheVariants.{Begin, Next, Decide, Die}
-use Rattle.model.specs.Families.{want_of, ask_of, is_question, beside_of, step_of}
 use Rattle.model.specs.Families.Container.Calls.{want, after}
-use Rattle.model.specs.Families.Container.States.{state_of}
-use Rattle.model.specs.Families.Container.Steps.{effects, questions}
-use Rattle.model.specs.Parties.{party_of}
-use Rattle.model.specs.Promises.Turns.{IsParty, IsEffectOf, ask_in, ask_of_flight}
-use Rattle.model.specs.Refusals.{refusal_of, is_due}
-use Rattle.model.specs.Step.{answer_in}
-use Rattle.model.specs.Turns.{old_of, words_after, number_of, ending_of, events_of, events_of_answer, events_of_next}
-use Rattle.model.specs.Turns.{events_of_decision, events_of_step, ask_of_doing, step_in, world_after, after_turn}
-use Rattle.model.specs.Turns.{IsReached}
-use Rattle.model.specs.World.{Trace, opened, capacity_error, flight_in}
+use Rattle.model.specs.Families.Container.Steps.{effects}
+use Rattle.model.specs.World.{opened}
 use Rattle.model.proofs.Frame as frame
-use Rattle.model.proofs.Reached.{kept_by_runs, reached_more, turn_making}
-use Rattle.model.proofs.Rows.{passes, may_next, may_decide, must_be_due}
-use Rattle.model.proofs.Scenes.{StandsThere}
 use Rattle.laws_robust.proofs.Opening.{admitted_is}
-use Rattle.laws_container.proofs.Core.{change_at, change_set}
-use Rattle.laws_container.proofs.Everything.{shown, container_keeps}
 use Rattle.laws_container.proofs.Invariant.{family}
 use Rattle.laws_container.proofs.Opening.{opens}
 use Rattle.laws_container.proofs.Sound.{kept_is, reached_sound, scene_of, inv_of, is_there}
 use Rattle.laws_container.proofs.Stages.{any_call}
-use Rattle.laws_container.proofs.Writing.{adds_one, adds_to_change}
-use Rattle.laws_container.proofs.Written.{all_effects}
-use Rattle.laws_container.proofs.Terms.{dying}
 use Rattle.laws_turns.specs.Changes.{change_in, changes_of, CountsChanges}
 use Rattle.laws_turns.proofs.CountSteps.{ends_count}
 use Rattle.laws_turns.proofs.CountWalks.{step_counts, decision_counts}

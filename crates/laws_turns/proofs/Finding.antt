@@ -1,49 +1,26 @@
 -- A find of the robust set asks about an index just where its cell holds the owner.
-use Rattle.std.proofs.Common.{◌≡◌, ℕ, ◌+◌, ◌<◌, ◌==◌, nat_lt, Bool, true, false, Option, Some, None, List, refl, sym}
-use Rattle.std.proofs.Common.{ap, subst, ◌∙◌, if◌then◌else◌, slice_index, arith, ne_eqb}
-use Rattle.steps.specs.declared.ask.After.{After}
-use Rattle.steps.specs.declared.ask.After.TheVariants.{GoOn, Done}
-use Rattle.steps.specs.declared.ask.Ask.{Ask}
+use Rattle.laws_turns.proofs.Names.{◌≡◌, ℕ, ◌+◌, ◌<◌, ◌==◌, nat_lt, Bool, true, false, Option, Some, None, List, refl}
+use Rattle.laws_turns.proofs.Names.{sym, ap, subst, ◌∙◌, if◌then◌else◌, slice_index, arith, ne_eqb, After, GoOn, Done}
+use Rattle.laws_turns.proofs.Names.{Ask, cell_word, empty, one_more, went_on, Number, Start, Robust, Flight}
+use Rattle.laws_turns.proofs.Names.{RobustStart, RobustFlight, Party, Turn, Next, Coding, goes_of, want_of, ask_of}
+use Rattle.laws_turns.proofs.Names.{IsIn, asked_of, cell_of, SetAct, filled_of, set_acts_of, ask_of_flight, ask_in}
+use Rattle.laws_turns.proofs.Names.{GoesOn, as_it_is, as_call, refusal_of, old_of, after_turn, IsReached, Trace}
+use Rattle.laws_turns.proofs.Names.{flight_in, turn_making, StandsThere, cell, robust_keeps, find_at, FindAt}
 use Rattle.steps.specs.declared.indices.robust.find.Find as find_calls
 use Rattle.steps.specs.declared.indices.robust.find.FindStage.{FindStage}
 use Rattle.steps.specs.declared.indices.robust.find.FindStage as finds
 use Rattle.steps.specs.Indices.Robust.Find.{at_find, find_comes_to}
-use Rattle.steps.specs.Indices.Robust.Parts.{cell_word, empty, one_more}
-use Rattle.steps.specs.Routine.{went_on}
-use Rattle.model.specs.declared.event.Answer.TheVariants.{Number}
-use Rattle.model.specs.declared.event.Start.{Start}
-use Rattle.model.specs.declared.event.Start.TheVariants.{Robust}
-use Rattle.model.specs.declared.families.Flight.{Flight}
 use Rattle.model.specs.declared.families.Flight as flights
-use Rattle.model.specs.declared.families.indices.robust.RobustStart.{RobustStart}
 use Rattle.model.specs.declared.families.indices.robust.RobustStart as starts
-use Rattle.model.specs.declared.families.indices.robust.calls.RobustFlight.{RobustFlight}
 use Rattle.model.specs.declared.families.indices.robust.calls.RobustFlight as calls
-use Rattle.model.specs.declared.party.Party.{Party}
 use Rattle.model.specs.declared.turn.Kind as kinds
-use Rattle.model.specs.declared.turn.Turn.{Turn}
-use Rattle.model.specs.declared.turn.Turn.TheVariants.{Next}
-use Rattle.model.specs.Coding.{Coding}
-use Rattle.model.specs.Families.{goes_of, want_of, ask_of}
 use Rattle.model.specs.Families.Indices.Robust.Calls.{want, after}
-use Rattle.model.specs.Families.Indices.Robust.Promises.{IsIn, asked_of, cell_of}
-use Rattle.model.specs.Families.Indices.Robust.Reading.{SetAct, filled_of, set_acts_of}
-use Rattle.model.specs.Promises.Turns.{ask_of_flight, ask_in, GoesOn}
-use Rattle.model.specs.Families.Queues.Calls.{as_it_is}
-use Rattle.model.specs.Step.{as_call}
-use Rattle.model.specs.Refusals.{refusal_of}
 use Rattle.model.specs.Shape.{IsOpenFor}
-use Rattle.model.specs.Turns.{old_of, after_turn, IsReached}
-use Rattle.model.specs.World.{Trace, flight_in}
 use Rattle.model.proofs.Frame as frame
-use Rattle.model.proofs.Reached.{turn_making}
-use Rattle.model.proofs.Scenes.{StandsThere}
-use Rattle.laws_robust.proofs.Core.{cell}
 use Rattle.laws_robust.proofs.Invariant.{family}
-use Rattle.laws_robust.proofs.Justified.{robust_keeps}
 use Rattle.laws_robust.proofs.Sound.{kept_is, reached_sound}
 use Rattle.laws_robust.proofs.Stages.{any_call}
-use Rattle.laws_robust.proofs.Standing.{find_at, At, FindAt}
+use Rattle.laws_robust.proofs.Standing.{At}
 use Rattle.laws_turns.specs.Questions.{FindsAsking, index_if, loads_cell}
 use Rattle.laws_turns.proofs.Standing.{left_by, next_left, under_way}
 

@@ -11,6 +11,7 @@ pub mod LockKnows
 pub mod LockSteps
 pub mod Locking
 pub mod Meeting
+mod Names
 pub mod Others
 pub mod Queue
 pub mod SeenCalls

@@ -1,53 +1,27 @@
 -- What any call of the robust set leaves, of which a recovery in mode LockIfLastIndex is one.
-use Rattle.std.proofs.Common.{◌≡◌, ◌≢◌, ℕ, ◌-◌, ◌^◌, ◌<◌, true, Option, Some, None, List, [], ◌∷◌, ◌++◌, refl, sym, ap, subst, ◌∙◌, append_assoc, append-nil}
-use Rattle.std.specs.List.{AllByRecursion}
-use Rattle.steps.specs.declared.ask.After.{After}
-use Rattle.steps.specs.declared.ask.After.TheVariants.{GoOn, Done}
-use Rattle.steps.specs.declared.indices.enums.ReleaseMode.{ReleaseMode}
-use Rattle.steps.specs.declared.indices.enums.ReleaseMode.TheVariants.{LockIfLastIndex, Default}
-use Rattle.steps.specs.declared.indices.enums.ReleaseState.{ReleaseState}
+use Rattle.laws_turns.proofs.Names.{◌≡◌, ◌≢◌, ℕ, ◌-◌, ◌^◌, ◌<◌, true, Option, Some, None, List, [], ◌∷◌, ◌++◌, refl}
+use Rattle.laws_turns.proofs.Names.{sym, ap, subst, ◌∙◌, append_assoc, append-nil, AllByRecursion, After, GoOn, Done}
+use Rattle.laws_turns.proofs.Names.{ReleaseMode, LockIfLastIndex, Default, ReleaseState, raise_want, lock_want}
+use Rattle.laws_turns.proofs.Names.{Running, went_on, acquire_after, borrowed_after, release_after, Answer, State}
+use Rattle.laws_turns.proofs.Names.{Number, Event, Finished, Start, Robust, Flight, RobustStart, RobustFlight, Party}
+use Rattle.laws_turns.proofs.Names.{ask_of, is_question, recover_effects, as_it_is, party_of, whose, as_call}
+use Rattle.laws_turns.proofs.Names.{answer_in, old_of, ending_of, IsReached, Trace, AreOwn, AreRight, Death}
+use Rattle.laws_turns.proofs.Names.{both_ways, Scene, Inv, Knows, raise_asks_none, lock_asks_none, IsHere, all, now}
 use Rattle.steps.specs.declared.indices.enums.ReleaseState as states
 use Rattle.steps.specs.declared.indices.robust.recover.Recover as recover_calls
 use Rattle.steps.specs.declared.indices.robust.recover.RecoverStage.{RecoverStage}
 use Rattle.steps.specs.declared.indices.robust.recover.RecoverStage as recovers
-use Rattle.steps.specs.Indices.Robust.Parts.{raise_want, lock_want}
 use Rattle.steps.specs.Indices.Robust.Recover.{recover_asks, recover_takes}
-use Rattle.steps.specs.declared.routine.Running.{Running}
-use Rattle.steps.specs.Routine.{went_on}
-use Rattle.steps.specs.Indices.Robust.Acquire.{acquire_after}
 use Rattle.steps.specs.Indices.Robust.Find.{find_after}
-use Rattle.steps.specs.Indices.Robust.Looks.{borrowed_after}
-use Rattle.steps.specs.Indices.Robust.Release.{release_after}
-use Rattle.model.specs.declared.event.Answer.{Answer}
-use Rattle.model.specs.declared.event.Answer.TheVariants.{State, Number}
-use Rattle.model.specs.declared.event.Event.{Event}
-use Rattle.model.specs.declared.event.Event.TheVariants.{Finished}
-use Rattle.model.specs.declared.event.Start.{Start}
-use Rattle.model.specs.declared.event.Start.TheVariants.{Robust}
-use Rattle.model.specs.declared.families.Flight.{Flight}
-use Rattle.model.specs.declared.families.indices.robust.RobustStart.{RobustStart}
 use Rattle.model.specs.declared.families.indices.robust.RobustStart as starts
-use Rattle.model.specs.declared.families.indices.robust.calls.RobustFlight.{RobustFlight}
 use Rattle.model.specs.declared.families.indices.robust.calls.RobustFlight as calls
-use Rattle.model.specs.declared.party.Party.{Party}
 use Rattle.model.specs.declared.turn.Kind as kinds
-use Rattle.model.specs.Families.{ask_of, is_question}
 use Rattle.model.specs.Families.Indices.Robust.Calls.{want, after, acquire_answer, release_answer}
-use Rattle.model.specs.Families.Indices.Robust.Steps.{effects, recover_effects}
-use Rattle.model.specs.Families.Queues.Calls.{as_it_is}
-use Rattle.model.specs.Parties.{party_of}
-use Rattle.model.specs.Reading.{whose}
-use Rattle.model.specs.Step.{as_call, answer_in}
-use Rattle.model.specs.Turns.{old_of, ending_of, IsReached}
-use Rattle.model.specs.World.{Trace}
+use Rattle.model.specs.Families.Indices.Robust.Steps.{effects}
 use Rattle.model.proofs.Frame as frame
-use Rattle.model.proofs.Readings.{AreOwn, AreRight}
-use Rattle.laws_robust.specs.Gone.{Death}
-use Rattle.laws_robust.proofs.Effects.{both_ways}
-use Rattle.laws_robust.proofs.Invariant.{Scene, Inv, family}
-use Rattle.laws_robust.proofs.Knows.{Knows}
-use Rattle.laws_robust.proofs.Sound.{reached_sound, scene_of, inv_of, raise_asks_none, lock_asks_none}
-use Rattle.laws_robust.proofs.Stages.{IsHere, all, now, any_call}
+use Rattle.laws_robust.proofs.Invariant.{family}
+use Rattle.laws_robust.proofs.Sound.{reached_sound, scene_of, inv_of}
+use Rattle.laws_robust.proofs.Stages.{any_call}
 use Rattle.laws_robust.proofs.Standing.{recover_at, At, RecoverAt}
 use Rattle.laws_robust.proofs.Written.{effects_hold}
 use Rattle.laws_turns.specs.Recoveries.{LocksRight}

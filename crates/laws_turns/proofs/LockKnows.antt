@@ -1,19 +1,13 @@
 -- What a recovery of the robust set in mode LockIfLastIndex knows of the indices that it has freed, and that it knows this
 -- still after any turn of another party.
-use Rattle.std.proofs.Common.{◌≡◌, ℕ, inl, Option, Some, List, ◌++◌, subst}
-use Rattle.steps.specs.declared.indices.enums.ReleaseMode.{ReleaseMode}
+use Rattle.laws_turns.proofs.Names.{◌≡◌, ℕ, inl, Option, Some, List, ◌++◌, subst, ReleaseMode, Event, Flight}
+use Rattle.laws_turns.proofs.Names.{RobustFlight, Frees, set_acts_of, IsOneOf, BeginsNone, LockSays, NoIndex}
+use Rattle.laws_turns.proofs.Names.{FilledBut, FoundFilled, filled_then, says_later}
 use Rattle.steps.specs.declared.indices.robust.recover.RecoverStage.{RecoverStage}
 use Rattle.steps.specs.declared.indices.robust.recover.RecoverStage as recovers
-use Rattle.model.specs.declared.event.Event.{Event}
-use Rattle.model.specs.declared.families.Flight.{Flight}
 use Rattle.model.specs.declared.families.Flight as flights
-use Rattle.model.specs.declared.families.indices.robust.calls.RobustFlight.{RobustFlight}
 use Rattle.model.specs.declared.families.indices.robust.calls.RobustFlight as calls
-use Rattle.model.specs.Families.Indices.Robust.Reading.{Frees, set_acts_of, IsOneOf}
-use Rattle.model.specs.Moments.{BeginsNone}
-use Rattle.laws_robust.proofs.Knows.{LockSays}
 use Rattle.laws_container.proofs.Keeping.{shut_later}
-use Rattle.laws_container.proofs.KeptLocks.{NoIndex, FilledBut, FoundFilled, filled_then, says_later}
 
 module _ {T : Type 0} where
   -- some index was filled after each that it has freed, or the set is locked

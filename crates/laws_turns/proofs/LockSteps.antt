@@ -1,49 +1,30 @@
 -- What a step of a recovery of the robust set leaves it knowing of the indices that it has freed, and what it has found
 -- where it answers Unlocked.
-use Rattle.std.proofs.Common.{◌≡◌, ◌≢◌, ⊎_elim, ℕ, ◌+◌, ◌==◌, nat_lt, if◌then◌else◌, is_some, Bool, true, false}
-use Rattle.std.proofs.Common.{Option, Some, List, [], ◌∷◌, ◌++◌, refl, sym, ap, subst, ◌∙◌, append-nil, arith}
-use Rattle.std.proofs.lemmas.Bool.Decides.{nat_tests}
-use Rattle.std.proofs.lemmas.List.Sums.{fold-append}
-use Rattle.steps.specs.declared.ask.After.{After}
-use Rattle.steps.specs.declared.ask.After.TheVariants.{GoOn, Done}
-use Rattle.steps.specs.declared.ask.Ask.{Ask}
-use Rattle.steps.specs.declared.indices.enums.ReleaseMode.{ReleaseMode}
-use Rattle.steps.specs.declared.indices.enums.ReleaseMode.TheVariants.{LockIfLastIndex, Default}
-use Rattle.steps.specs.declared.indices.enums.ReleaseState.{ReleaseState}
-use Rattle.steps.specs.declared.indices.enums.ReleaseState.TheVariants.{Unlocked}
+use Rattle.laws_turns.proofs.Names.{◌≡◌, ◌≢◌, ⊎_elim, ℕ, ◌+◌, ◌==◌, nat_lt, if◌then◌else◌, is_some, Bool, true, false}
+use Rattle.laws_turns.proofs.Names.{Option, Some, List, [], ◌∷◌, ◌++◌, refl, sym, ap, subst, ◌∙◌, append-nil, arith}
+use Rattle.laws_turns.proofs.Names.{nat_tests, fold-append, After, GoOn, Done, Ask, ReleaseMode, LockIfLastIndex}
+use Rattle.laws_turns.proofs.Names.{Default, ReleaseState, Unlocked, Lock, Raise, empty, locked, raise_want}
+use Rattle.laws_turns.proofs.Names.{raise_after, lock_after, lock_goes_back, Event, FreedOf, Asked, Told, ask_of}
+use Rattle.laws_turns.proofs.Names.{IsFilled, SetAct, Frees, set_acts, set_acts_of, IsOneOf, locked_by}
+use Rattle.laws_turns.proofs.Names.{recover_effects, BeginsNone, old_of, words_after, held_now, AreOwn, Death}
+use Rattle.laws_turns.proofs.Names.{counter_of, is_shut, unlocked, IsWorn, Scene, Inv, LockSays, Knows, IsHere}
+use Rattle.laws_turns.proofs.Names.{Lengthens, all, now, set_acts_more, LockAt, NoIndex, FoundFilled, filled_locked}
+use Rattle.laws_turns.proofs.Names.{filled_last, filled_each}
 use Rattle.steps.specs.declared.indices.enums.ReleaseState as states
 use Rattle.steps.specs.declared.indices.robust.parts.Count as counts
-use Rattle.steps.specs.declared.indices.robust.parts.Lock.{Lock}
 use Rattle.steps.specs.declared.indices.robust.parts.Lock as parts
-use Rattle.steps.specs.declared.indices.robust.parts.Raise.{Raise}
 use Rattle.steps.specs.declared.indices.robust.parts.Raise as raises
 use Rattle.steps.specs.declared.indices.robust.recover.Recover as calls
 use Rattle.steps.specs.declared.indices.robust.recover.RecoverStage.{RecoverStage}
 use Rattle.steps.specs.declared.indices.robust.recover.RecoverStage as recovers
-use Rattle.steps.specs.Indices.Robust.Parts.{empty, locked, raise_want, raise_after, lock_after, lock_goes_back}
-use Rattle.steps.specs.Indices.Robust.Recover.{recover_asks, recover_takes, recover_comes_to, recover_raised, recover_locked}
-use Rattle.model.specs.declared.event.Event.{Event}
-use Rattle.model.specs.declared.event.Event.TheVariants.{FreedOf, Asked, Told, Locked}
+use Rattle.steps.specs.Indices.Robust.Recover.{recover_asks, recover_takes, recover_comes_to, recover_raised}
+use Rattle.steps.specs.Indices.Robust.Recover.{recover_locked}
+use Rattle.model.specs.declared.event.Event.TheVariants.{Locked}
 use Rattle.model.specs.declared.families.indices.robust.RobustStart.TheVariants.{Recover}
-use Rattle.model.specs.Families.{ask_of}
 use Rattle.model.specs.Families.Indices.Reading.{locked_after}
-use Rattle.model.specs.Families.Indices.Robust.Promises.{IsFilled}
-use Rattle.model.specs.Families.Indices.Robust.Reading.{SetAct, Frees, set_acts, set_acts_of, IsOneOf}
-use Rattle.model.specs.Families.Indices.Robust.Steps.{locked_by, recover_effects}
-use Rattle.model.specs.Moments.{BeginsNone}
-use Rattle.model.specs.Turns.{old_of, words_after}
-use Rattle.model.proofs.Moments.{held_now}
-use Rattle.model.proofs.Readings.{AreOwn}
-use Rattle.laws_robust.specs.Gone.{Death}
-use Rattle.laws_robust.proofs.Core.{counter_of}
 use Rattle.laws_robust.proofs.SetActs.{was_one}
-use Rattle.laws_robust.proofs.Effects.{is_shut, unlocked}
-use Rattle.laws_robust.proofs.Invariant.{IsWorn, Scene, Inv}
-use Rattle.laws_robust.proofs.Knows.{LockSays, Knows}
 use Rattle.laws_robust.proofs.Parts.{lock_ask, lock_step, IsSaid}
-use Rattle.laws_robust.proofs.Stages.{IsHere, Lengthens, all, now, set_acts_more}
-use Rattle.laws_robust.proofs.Standing.{recover_at, RecoverAt, LockAt}
-use Rattle.laws_container.proofs.KeptLocks.{NoIndex, FoundFilled, filled_locked, filled_last, filled_each}
+use Rattle.laws_robust.proofs.Standing.{recover_at, RecoverAt}
 use Rattle.laws_turns.specs.Recoveries.{FilledSinceEach}
 use Rattle.laws_turns.proofs.LockKnows.{Settled, StageKnows, settled_then}
 

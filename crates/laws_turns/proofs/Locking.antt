@@ -1,52 +1,30 @@
 -- A recovery of the robust set in mode LockIfLastIndex that answers Unlocked has met an index that was filled after each
 -- that it freed: in every reached machine.
-use Rattle.std.proofs.Common.{◌≡◌, ⊎_elim, ℕ, Bool, true, Option, Some, None, List, [], ◌∷◌, ◌++◌, refl, sym, ap, subst, ◌∙◌}
-use Rattle.std.proofs.lemmas.Bool.{cases_eq}
-use Rattle.steps.specs.declared.indices.enums.ReleaseMode.{ReleaseMode}
+use Rattle.laws_turns.proofs.Names.{◌≡◌, ⊎_elim, ℕ, Bool, true, Option, Some, None, List, [], ◌∷◌, ◌++◌, refl, sym}
+use Rattle.laws_turns.proofs.Names.{ap, subst, ◌∙◌, cases_eq, ReleaseMode, Event, Begun, Died, Start, Robust, Flight}
+use Rattle.laws_turns.proofs.Names.{Registry, RobustStart, RobustFlight, Party, Turn, Begin, Next, Decide, Die}
+use Rattle.laws_turns.proofs.Names.{want_of, ask_of, is_question, goes_of, beside_of, step_of, Frees, set_acts_of}
+use Rattle.laws_turns.proofs.Names.{set_acts, wrote_in, BeginsNone, party_of, IsParty, Each, refusal_of, is_due}
+use Rattle.laws_turns.proofs.Names.{answer_in, old_of, number_of, events_of, events_of_answer, events_of_next}
+use Rattle.laws_turns.proofs.Names.{events_of_decision, events_of_step, step_in, world_after, ask_of_doing}
+use Rattle.laws_turns.proofs.Names.{after_turn, IsReached, Trace, flight_in, others_begin_none, kept_by_runs}
+use Rattle.laws_turns.proofs.Names.{reached_more, turn_making, AreOwn, AreRight, Each-append, Each-nil, no_more}
+use Rattle.laws_turns.proofs.Names.{span_of-own, span_of-other, span_of-death, passes, may_next, may_decide}
+use Rattle.laws_turns.proofs.Names.{must_be_due, StandsThere, Death, robust_keeps, NoIndex, filled_none}
 use Rattle.steps.specs.declared.indices.robust.recover.RecoverStage.{RecoverStage}
 use Rattle.steps.specs.declared.indices.robust.recover.RecoverStage as recovers
-use Rattle.model.specs.declared.event.Event.{Event}
-use Rattle.model.specs.declared.event.Event.TheVariants.{Begun, Died}
-use Rattle.model.specs.declared.event.Start.{Start}
-use Rattle.model.specs.declared.event.Start.TheVariants.{Robust}
-use Rattle.model.specs.declared.families.Flight.{Flight}
 use Rattle.model.specs.declared.families.Flight as flights
-use Rattle.model.specs.declared.families.Registry.{Registry}
 use Rattle.model.specs.declared.families.Registry as registries
-use Rattle.model.specs.declared.families.indices.robust.RobustStart.{RobustStart}
 use Rattle.model.specs.declared.families.indices.robust.RobustStart as starts
-use Rattle.model.specs.declared.families.indices.robust.calls.RobustFlight.{RobustFlight}
 use Rattle.model.specs.declared.families.indices.robust.calls.RobustFlight as calls
-use Rattle.model.specs.declared.party.Party.{Party}
 use Rattle.model.specs.declared.turn.Kind as kinds
-use Rattle.model.specs.declared.turn.Turn.{Turn}
-use Rattle.model.specs.declared.turn.Turn.TheVariants.{Begin, Next, Decide, Die}
-use Rattle.model.specs.Families.{want_of, ask_of, is_question, goes_of, beside_of, step_of}
 use Rattle.model.specs.Families.Indices.Robust.Calls.{want, after}
-use Rattle.model.specs.Families.Indices.Robust.Reading.{Frees, set_acts_of, set_acts, wrote_in}
 use Rattle.model.specs.Families.Indices.Robust.Steps.{effects}
-use Rattle.model.specs.Moments.{BeginsNone}
-use Rattle.model.specs.Parties.{party_of}
-use Rattle.model.specs.Promises.Turns.{IsParty}
-use Rattle.model.specs.Reading.{Each}
-use Rattle.model.specs.Refusals.{refusal_of, is_due}
-use Rattle.model.specs.Step.{answer_in}
-use Rattle.model.specs.Turns.{old_of, number_of, events_of, events_of_answer, events_of_next, events_of_decision}
-use Rattle.model.specs.Turns.{events_of_step, step_in, world_after, ask_of_doing, after_turn, IsReached}
-use Rattle.model.specs.World.{Trace, flight_in}
 use Rattle.model.proofs.Frame as frame
-use Rattle.model.proofs.Moments.{others_begin_none}
-use Rattle.model.proofs.Reached.{kept_by_runs, reached_more, turn_making}
-use Rattle.model.proofs.Readings.{AreOwn, AreRight, Each-append, Each-nil, no_more, span_of-own, span_of-other, span_of-death}
-use Rattle.model.proofs.Rows.{passes, may_next, may_decide, must_be_due}
-use Rattle.model.proofs.Scenes.{StandsThere}
-use Rattle.laws_robust.specs.Gone.{Death}
 use Rattle.laws_robust.proofs.Invariant.{family}
-use Rattle.laws_robust.proofs.Justified.{robust_keeps}
 use Rattle.laws_robust.proofs.Sound.{kept_is, reached_sound, is_there}
 use Rattle.laws_robust.proofs.Stages.{any_call}
 use Rattle.laws_robust.proofs.Standing.{At, RecoverAt}
-use Rattle.laws_container.proofs.KeptLocks.{NoIndex, filled_none}
 use Rattle.laws_turns.specs.Recoveries.{LocksRight}
 use Rattle.laws_turns.proofs.LockKnows.{StageKnows, CallKnows, FlightKnows, flight_later}
 use Rattle.laws_turns.proofs.LockCalls.{Leaves, wrote_by, all_own, effects_own, step_leaves, decision_leaves}
@@ -89,7 +67,8 @@ module _ {T : Type 0} (t : Trace T) (is : t.world.kind ≡ kinds.TheVariants.Rob
         (here : FlightKnows c p (flight_in (world_after t.world turn) p) (t.events ++ es)) where
       known_by : (q : ℕ) → FlightKnows c q (flight_in (world_after t.world turn) q) (t.events ++ es)
       known_by q = ⊎_elim (λ same. subst (λ n. FlightKnows c n (flight_in (world_after t.world turn) n) (t.events ++ es)) (sym same) here)
-          (λ ne. other_known q (λ its. ne (mine q its)) (others_begin_none q p es ne own) (ap (λ a. set_acts (wrote_in a)) (span_of-other p q t.events es ne own)))
+          (λ ne. other_known q (λ its. ne (mine q its)) (others_begin_none q p es ne own)
+          (ap (λ a. set_acts (wrote_in a)) (span_of-other p q t.events es ne own)))
           (cases_eq q p)
 
   -- ---- a turn of a call under way

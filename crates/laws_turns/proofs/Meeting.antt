@@ -1,38 +1,20 @@
 -- An update of a state that answers true has met a change, and one that answers false none: in every reached machine.
-use Rattle.std.proofs.Common.{◌≡◌, ◌≢◌, ℕ, ◌==◌, false, Option, Some, None, is_some, is_none, List, [], ◌∷◌, ◌++◌}
-use Rattle.std.proofs.Common.{if◌then◌else◌, refl, sym, ap, subst, ◌∙◌, arith, ne_eqb, eq-eqb}
-use Rattle.steps.specs.declared.container.state.ContainerState.{ContainerState}
-use Rattle.model.specs.declared.event.Event.TheVariants.{Begun, Died}
-use Rattle.model.specs.Families.Container.Keeping.{is_look_of}
-use Rattle.model.specs.declared.event.Start.{Start}
-use Rattle.model.specs.declared.event.Start.TheVariants.{Container}
-use Rattle.model.specs.declared.families.Flight.{Flight}
+use Rattle.laws_turns.proofs.Names.{◌≡◌, ◌≢◌, ℕ, ◌==◌, false, Option, Some, None, is_some, is_none, List, [], ◌∷◌}
+use Rattle.laws_turns.proofs.Names.{◌++◌, if◌then◌else◌, refl, sym, ap, subst, ◌∙◌, arith, ne_eqb, eq-eqb}
+use Rattle.laws_turns.proofs.Names.{ContainerState, Begun, Died, is_look_of, Start, Container, Flight, ContainerStart}
+use Rattle.laws_turns.proofs.Names.{LookOf, Turn, Begin, Next, Decide, Die, first_of, kept_after_begin, first}
+use Rattle.laws_turns.proofs.Names.{state_in, state_of, with_state, fresh, Each, refusal_of, after_begin, world_after}
+use Rattle.laws_turns.proofs.Names.{after_turn, IsReached, Trace, flight_in, found_put_same, kept_by_runs}
+use Rattle.laws_turns.proofs.Names.{reached_more, turn_making, Each-nil, passes, may_begin, container_keeps, IsOwn}
+use Rattle.laws_turns.proofs.Names.{begins_own, Coding}
 use Rattle.model.specs.declared.families.Flight as flights
-use Rattle.model.specs.declared.families.container.ContainerStart.{ContainerStart}
 use Rattle.model.specs.declared.families.container.ContainerStart as starts
-use Rattle.model.specs.declared.families.container.calls.LookOf.{LookOf}
 use Rattle.model.specs.declared.families.container.calls.LookOf as kinds_of
 use Rattle.model.specs.declared.turn.Kind as kinds
-use Rattle.model.specs.declared.turn.Turn.{Turn}
-use Rattle.model.specs.declared.turn.Turn.TheVariants.{Begin, Next, Decide, Die}
-use Rattle.model.specs.Families.{first_of, kept_after_begin}
-use Rattle.model.specs.Families.Container.Calls.{first}
-use Rattle.model.specs.Families.Container.Looks.{state_in}
-use Rattle.model.specs.Families.Container.States.{state_of, with_state, fresh}
-use Rattle.model.specs.Reading.{Each}
-use Rattle.model.specs.Refusals.{refusal_of}
-use Rattle.model.specs.Turns.{after_begin, world_after, after_turn, IsReached}
-use Rattle.model.specs.World.{Trace, opened, flight_in}
-use Rattle.model.proofs.Parties.{found_put_same}
-use Rattle.model.proofs.Reached.{kept_by_runs, reached_more, turn_making}
-use Rattle.model.proofs.Readings.{Each-nil}
-use Rattle.model.proofs.Rows.{passes, may_begin}
-use Rattle.laws_container.proofs.Everything.{container_keeps}
-use Rattle.laws_container.proofs.Sound.{IsOwn, begins_own}
+use Rattle.model.specs.World.{opened}
 use Rattle.laws_turns.specs.Changes.{Seen, seen_after, seen_by, MeetsChanges}
 use Rattle.laws_turns.proofs.SeenKnows.{Within, IsToLoad, Grows, CallSees, FlightSees, seen_number, one_more, within_later, begun_grows, IsNoLook}
 use Rattle.laws_turns.proofs.SeenTurns.{Extra, s, now_kept, same_kept, other_known, known_by, after_it, next_kept, decision_kept}
-use Rattle.model.specs.Coding.{Coding}
 use Rattle.model.specs.Families.Container.Opening.{states_at_begin}
 
 module _ {T : Type 0} (t : Trace T) (is : t.world.kind ≡ kinds.TheVariants.Container) (r : IsReached t) (h : Extra t) where

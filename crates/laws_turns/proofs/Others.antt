@@ -1,19 +1,9 @@
 -- The calls of the other parties stay where they stood.
-use Rattle.std.proofs.Common.{◌≡◌, ◌≢◌, ℕ, Bool, Option, Some, None, refl, ap}
-use Rattle.steps.specs.declared.ask.Ask.{Ask}
-use Rattle.model.specs.declared.event.Start.{Start}
-use Rattle.model.specs.declared.families.Flight.{Flight}
-use Rattle.model.specs.declared.party.Doing.{Doing}
-use Rattle.model.specs.declared.party.Doing.TheVariants.{Going, Over}
-use Rattle.model.specs.declared.party.Party.{Party}
-use Rattle.model.specs.declared.turn.Turn.{Turn}
-use Rattle.model.specs.declared.turn.Turn.TheVariants.{Begin, Next, Decide, Die}
-use Rattle.model.specs.Families.{first_of}
-use Rattle.model.specs.Parties.{party_of, doing_of, flight_of}
-use Rattle.model.specs.Turns.{party_at_begin, party_after, step_in, step_count, change_of, old_of, number_of}
-use Rattle.model.specs.Turns.{ask_of_doing, after_begin, after_answer, after_next, after_decision, world_after}
-use Rattle.model.specs.World.{World, flight_in}
-use Rattle.model.proofs.Parties.{party_put_other}
+use Rattle.laws_turns.proofs.Names.{◌≡◌, ◌≢◌, ℕ, Bool, Option, Some, None, refl, ap, Ask, Start, Flight, Doing, Going}
+use Rattle.laws_turns.proofs.Names.{Over, Party, Turn, Begin, Next, Decide, Die, first_of, party_of, doing_of}
+use Rattle.laws_turns.proofs.Names.{flight_of, party_at_begin, party_after, step_in, step_count, change_of, old_of}
+use Rattle.laws_turns.proofs.Names.{number_of, ask_of_doing, after_begin, after_answer, after_next, after_decision}
+use Rattle.laws_turns.proofs.Names.{world_after, World, flight_in, party_put_other}
 use Rattle.laws_turns.specs.Others.{OthersStay}
 
 module _ {T : Type 0} where

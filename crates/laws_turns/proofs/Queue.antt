@@ -1,38 +1,25 @@
 -- The submission queue of a channel is as long as it was.
-use Rattle.std.proofs.Common.{◌≡◌, ℕ, Bool, Option, Some, None, List, [], ◌∷◌, fold, refl, sym, ap, subst, ◌∙◌}
-use Rattle.steps.specs.declared.ask.Ask.{Ask}
-use Rattle.model.specs.declared.event.Answer.{Answer}
+use Rattle.laws_turns.proofs.Names.{◌≡◌, ℕ, Bool, Option, Some, None, List, [], ◌∷◌, fold, refl, sym, ap, subst, ◌∙◌}
+use Rattle.laws_turns.proofs.Names.{Ask, Answer, Event, Published, Claimed, Freed, Start, Flight, Registry, Doing}
+use Rattle.laws_turns.proofs.Names.{Going, Over, Party, Turn, Begin, Next, Decide, Die, Coding, first_of, step_of}
+use Rattle.laws_turns.proofs.Names.{kept_after_begin, kept_after_death, beside_of, party_of, answer_in, old_of}
+use Rattle.laws_turns.proofs.Names.{number_of, ask_of_doing, after_begin, after_answer, after_next, after_decision}
+use Rattle.laws_turns.proofs.Names.{world_after, after_turn, attempt, unless_refused, run, IsReached, refusal_of}
+use Rattle.laws_turns.proofs.Names.{World, Trace, kept_opened}
 use Rattle.model.specs.declared.event.Answer.TheVariants as answers
-use Rattle.model.specs.declared.event.Event.{Event}
-use Rattle.model.specs.declared.event.Event.TheVariants.{Published, Claimed, Freed}
 use Rattle.model.specs.declared.event.Item.TheVariants.{Index}
-use Rattle.model.specs.declared.event.Start.{Start}
 use Rattle.model.specs.declared.event.Start.TheVariants as starts
-use Rattle.model.specs.declared.families.Flight.{Flight}
 use Rattle.model.specs.declared.families.Flight.TheVariants as flights
-use Rattle.model.specs.declared.families.Registry.{Registry}
 use Rattle.model.specs.declared.families.Registry.TheVariants as registries
 use Rattle.model.specs.declared.families.loan.Book.{Book}
 use Rattle.model.specs.declared.families.loan.LoanStart.{LoanStart}
 use Rattle.model.specs.declared.families.loan.LoanStart.TheVariants.{Loan, Receive, Reclaim}
-use Rattle.model.specs.declared.party.Doing.{Doing}
-use Rattle.model.specs.declared.party.Doing.TheVariants.{Going, Over}
-use Rattle.model.specs.declared.party.Party.{Party}
 use Rattle.model.specs.declared.turn.Kind as kinds
 use Rattle.model.specs.declared.turn.Refusal.{Refusal}
-use Rattle.model.specs.declared.turn.Turn.{Turn}
-use Rattle.model.specs.declared.turn.Turn.TheVariants.{Begin, Next, Decide, Die}
-use Rattle.model.specs.Coding.{Coding}
-use Rattle.model.specs.Families.{first_of, step_of, kept_after_begin, kept_after_death, beside_of}
 use Rattle.model.specs.Families.Loan.Calls.{after}
 use Rattle.model.specs.Families.Loan.Opening.{taken_from, asks_for}
 use Rattle.model.specs.Families.Loan.Steps.{book_after, ended_book, wrote}
-use Rattle.model.specs.Parties.{party_of}
-use Rattle.model.specs.Step.{answer_in}
-use Rattle.model.specs.Turns.{old_of, number_of, ask_of_doing, after_begin, after_answer, after_next, after_decision}
-use Rattle.model.specs.Turns.{world_after, after_turn, attempt, unless_refused, run, IsReached}
-use Rattle.model.specs.Refusals.{refusal_of}
-use Rattle.model.specs.World.{World, Trace, opened, kept_opened}
+use Rattle.model.specs.World.{opened}
 use Rattle.laws_turns.specs.Others.{queue_in, KeepsQueue}
 
 taken : (book : Book) (o : Option ℕ) → (taken_from book o).queue ≡ book.queue

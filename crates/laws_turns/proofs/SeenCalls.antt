@@ -1,47 +1,23 @@
 -- What a step of any call of a container leaves known of the changes, and what its end has met.
-use Rattle.std.proofs.Common.{◌≡◌, ℕ, ◌+◌, ◌<◌, ◌==◌, Bool, true, false, Option, Some, None, List, [], ◌∷◌, ◌++◌}
-use Rattle.std.proofs.Common.{if◌then◌else◌, refl, sym, ap, subst, ◌∙◌, append_assoc, append-nil, arith, eq-eqb}
-use Rattle.std.specs.List.{AllByRecursion}
-use Rattle.steps.specs.declared.ask.After.{After}
-use Rattle.steps.specs.declared.ask.After.TheVariants.{GoOn, Done}
-use Rattle.steps.specs.declared.container.look.Look.{Look}
+use Rattle.laws_turns.proofs.Names.{◌≡◌, ℕ, ◌+◌, ◌<◌, ◌==◌, Bool, true, false, Option, Some, None, List, [], ◌∷◌}
+use Rattle.laws_turns.proofs.Names.{◌++◌, if◌then◌else◌, refl, sym, ap, subst, ◌∙◌, append_assoc, append-nil, arith}
+use Rattle.laws_turns.proofs.Names.{eq-eqb, AllByRecursion, After, GoOn, Done, Look, ContainerState, Running}
+use Rattle.laws_turns.proofs.Names.{add_after, find_kept, recover_after, recover_kept, remove_after, replace_after}
+use Rattle.laws_turns.proofs.Names.{borrowed_after, went_on, Answer, State, Number, Truth, Event, Finished, Container}
+use Rattle.laws_turns.proofs.Names.{ContainerStart, ContainerFlight, LookOf, Turn, Coding, added, removed, replaced}
+use Rattle.laws_turns.proofs.Names.{looked, look_shows, look_came, settled_if, Act, questions, SetAct, as_it_is}
+use Rattle.laws_turns.proofs.Names.{kept_at, IsParty, IsEffectOf, as_call, answer_in, ending_of, AreRight, looks_as}
+use Rattle.laws_turns.proofs.Names.{all_effects}
 use Rattle.steps.specs.declared.container.look.LookStage as stages
-use Rattle.steps.specs.declared.container.state.ContainerState.{ContainerState}
-use Rattle.steps.specs.declared.routine.Running.{Running}
-use Rattle.steps.specs.Container.Add.{add_after}
-use Rattle.steps.specs.Container.Find.{find_after, find_kept}
+use Rattle.steps.specs.Container.Find.{find_after}
 use Rattle.steps.specs.Container.Look as look_steps
-use Rattle.steps.specs.Container.Recover.{recover_after, recover_kept}
-use Rattle.steps.specs.Container.Remove.{remove_after}
-use Rattle.steps.specs.Container.Replace.{replace_after}
-use Rattle.steps.specs.Indices.Robust.Looks.{borrowed_after}
-use Rattle.steps.specs.Routine.{went_on}
-use Rattle.model.specs.declared.event.Answer.{Answer}
-use Rattle.model.specs.declared.event.Answer.TheVariants.{State, Number, Truth}
-use Rattle.model.specs.declared.event.Event.{Event}
-use Rattle.model.specs.declared.event.Event.TheVariants.{Finished}
-use Rattle.model.specs.declared.event.Start.TheVariants.{Container}
-use Rattle.model.specs.declared.families.container.ContainerStart.{ContainerStart}
 use Rattle.model.specs.declared.families.container.ContainerStart as starts
-use Rattle.model.specs.declared.families.container.calls.ContainerFlight.{ContainerFlight}
 use Rattle.model.specs.declared.families.container.calls.ContainerFlight as calls
-use Rattle.model.specs.declared.families.container.calls.LookOf.{LookOf}
 use Rattle.model.specs.declared.families.container.calls.LookOf as kinds
-use Rattle.model.specs.declared.turn.Turn.{Turn}
-use Rattle.model.specs.Coding.{Coding}
-use Rattle.model.specs.Families.Container.Calls.{after, added, removed, replaced, counted, looked, look_shows, look_came, settled_if}
-use Rattle.model.specs.Families.Container.Reading.{Act}
-use Rattle.model.specs.Families.Container.Steps.{effects, questions}
-use Rattle.model.specs.Families.Indices.Robust.Reading.{SetAct}
-use Rattle.model.specs.Families.Queues.Calls.{as_it_is, kept_at}
-use Rattle.model.specs.Promises.Turns.{IsParty, IsEffectOf}
-use Rattle.model.specs.Step.{as_call, answer_in}
-use Rattle.model.specs.Turns.{ending_of}
-use Rattle.model.proofs.Readings.{AreRight}
-use Rattle.laws_container.proofs.Looks.{looks_as}
+use Rattle.model.specs.Families.Container.Calls.{after, counted}
+use Rattle.model.specs.Families.Container.Steps.{effects}
 use Rattle.laws_container.proofs.Stages.{any_call}
 use Rattle.laws_container.proofs.Standing.{At}
-use Rattle.laws_container.proofs.Written.{all_effects}
 use Rattle.laws_turns.specs.Changes.{Seen, up_to_date, changes_of, seen_after, seen_by, MeetsChanges}
 use Rattle.laws_turns.proofs.SeenKnows.{Within, LookSees, CallSees, FlightSees, seen_number, changes_are, effects_same}
 use Rattle.laws_turns.proofs.SeenKnows.{one_more, IsNoLook, ended_grows, within_later}

@@ -1,29 +1,15 @@
 -- What a state of a container and a look that is under way know of the changes, and that they know it still after any turn of
 -- another party.
-use Rattle.std.proofs.Common.{◌≡◌, ◌≢◌, ℕ, ◌+◌, ◌<◌, ◌≤◌, ◌==◌, Bool, true, false, Option, Some, None, List, [], ◌∷◌}
-use Rattle.std.proofs.Common.{◌++◌, fold, if◌then◌else◌, refl, sym, ap, subst, ◌∙◌, arith, ne_eqb}
-use Rattle.std.proofs.lemmas.List.Sums.{fold-append}
-use Rattle.steps.specs.declared.container.look.LookStage.{LookStage}
+use Rattle.laws_turns.proofs.Names.{◌≡◌, ◌≢◌, ℕ, ◌+◌, ◌<◌, ◌≤◌, ◌==◌, Bool, true, false, Option, Some, None, List, []}
+use Rattle.laws_turns.proofs.Names.{◌∷◌, ◌++◌, fold, if◌then◌else◌, refl, sym, ap, subst, ◌∙◌, arith, ne_eqb}
+use Rattle.laws_turns.proofs.Names.{fold-append, LookStage, ContainerState, AllByRecursion, Answer, Number, Truth}
+use Rattle.laws_turns.proofs.Names.{Turn, ContainerStart, IsEffectOf, whose, Event, Begun, Finished, Container}
+use Rattle.laws_turns.proofs.Names.{Flight, ContainerFlight, LookOf, AreOwn}
 use Rattle.steps.specs.declared.container.look.LookStage as stages
-use Rattle.steps.specs.declared.container.state.ContainerState.{ContainerState}
-use Rattle.std.specs.List.{AllByRecursion}
-use Rattle.model.specs.declared.event.Answer.{Answer}
-use Rattle.model.specs.declared.event.Answer.TheVariants.{Number, Truth}
-use Rattle.model.specs.declared.turn.Turn.{Turn}
-use Rattle.model.specs.declared.families.container.ContainerStart.{ContainerStart}
-use Rattle.model.specs.Promises.Turns.{IsEffectOf}
-use Rattle.model.specs.Reading.{whose}
-use Rattle.model.specs.declared.event.Event.{Event}
-use Rattle.model.specs.declared.event.Event.TheVariants.{Begun, Finished}
-use Rattle.model.specs.declared.event.Start.TheVariants.{Container}
-use Rattle.model.specs.declared.families.Flight.{Flight}
 use Rattle.model.specs.declared.families.Flight as flights
 use Rattle.model.specs.declared.families.container.ContainerStart.TheVariants.{GetState, UpdateState}
-use Rattle.model.specs.declared.families.container.calls.ContainerFlight.{ContainerFlight}
 use Rattle.model.specs.declared.families.container.calls.ContainerFlight as calls
-use Rattle.model.specs.declared.families.container.calls.LookOf.{LookOf}
 use Rattle.model.specs.declared.families.container.calls.LookOf as kinds
-use Rattle.model.proofs.Readings.{AreOwn}
 use Rattle.laws_turns.specs.Changes.{Seen, change_in, changes_of, seen_after, seen_by}
 
 -- ---- what is known

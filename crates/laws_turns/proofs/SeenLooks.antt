@@ -1,18 +1,11 @@
 -- What a step of a look leaves known of the changes, and what its end has met.
-use Rattle.std.proofs.Common.{◌≡◌, ◌≢◌, ℕ, ◌+◌, ◌<◌, ◌==◌, nat_lt, Bool, true, false, Some, List, if◌then◌else◌, slice_index_or, refl, arith}
-use Rattle.std.proofs.lemmas.Bool.Decides.{nat_tests}
-use Rattle.steps.specs.declared.ask.After.{After}
-use Rattle.steps.specs.declared.ask.After.TheVariants.{GoOn, Done}
-use Rattle.steps.specs.declared.container.look.Look.{Look}
-use Rattle.steps.specs.declared.container.look.LookStage.{LookStage}
+use Rattle.laws_turns.proofs.Names.{◌≡◌, ◌≢◌, ℕ, ◌+◌, ◌<◌, ◌==◌, nat_lt, Bool, true, false, Some, List, if◌then◌else◌}
+use Rattle.laws_turns.proofs.Names.{slice_index_or, refl, arith, nat_tests, After, GoOn, Done, Look, LookStage}
+use Rattle.laws_turns.proofs.Names.{ContainerState, is_even, at_look, look_comes_to, look_finds, look_takes}
+use Rattle.laws_turns.proofs.Names.{look_keeps, LookOf, settled_if}
 use Rattle.steps.specs.declared.container.look.LookStage as stages
-use Rattle.steps.specs.declared.container.state.ContainerState.{ContainerState}
-use Rattle.steps.specs.Container.Layout.{is_even}
-use Rattle.steps.specs.Container.Look.{at_look, look_comes_to, look_finds, look_takes, look_keeps}
 use Rattle.steps.specs.Container.State.{Showing, with_count, with_word, with_value}
-use Rattle.model.specs.declared.families.container.calls.LookOf.{LookOf}
 use Rattle.model.specs.declared.families.container.calls.LookOf as kinds
-use Rattle.model.specs.Families.Container.Calls.{settled_if}
 use Rattle.laws_turns.specs.Changes.{Seen, up_to_date}
 use Rattle.laws_turns.proofs.SeenKnows.{Within, HasLoaded, IsToLoad, LookSees}
 

@@ -1,63 +1,33 @@
 -- What the turns of a call under way leave known of the changes of a container.
-use Rattle.std.proofs.Common.{◌≡◌, ◌≢◌, ⊎_elim, ℕ, ◌==◌, ◌&&◌, Bool, true, false, Option, Some, None, is_some, IfSome}
-use Rattle.std.proofs.Common.{List, [], ◌∷◌, ◌++◌, refl, sym, ap, subst, ◌∙◌, ne_eqb, eq-eqb}
-use Rattle.std.proofs.lemmas.Bool.{cases_eq}
-use Rattle.std.specs.List.{AllByRecursion}
-use Rattle.steps.specs.declared.container.look.Look.{Look}
+use Rattle.laws_turns.proofs.Names.{◌≡◌, ◌≢◌, ⊎_elim, ℕ, ◌==◌, ◌&&◌, Bool, true, false, Option, Some, None, is_some}
+use Rattle.laws_turns.proofs.Names.{IfSome, List, [], ◌∷◌, ◌++◌, refl, sym, ap, subst, ◌∙◌, ne_eqb, eq-eqb, cases_eq}
+use Rattle.laws_turns.proofs.Names.{AllByRecursion, Look, ContainerState, look_asks, Answer, Event, Begun, Died}
+use Rattle.laws_turns.proofs.Names.{Acted, Finished, is_look_of, Act, questions, SetAct, Start, Container, Flight}
+use Rattle.laws_turns.proofs.Names.{Registry, ContainerStart, ContainerFlight, LookOf, Party, Turn, Next, Decide}
+use Rattle.laws_turns.proofs.Names.{want_of, ask_of, is_question, goes_of, beside_of, step_of, look_shows, settled_if}
+use Rattle.laws_turns.proofs.Names.{writes_state, state_in, is_looking, state_of, party_of, IsParty, IsEffectOf, Each}
+use Rattle.laws_turns.proofs.Names.{whose, refusal_of, is_due, answer_in, old_of, number_of, ending_of, events_of}
+use Rattle.laws_turns.proofs.Names.{events_of_answer, events_of_next, events_of_decision, events_of_step}
+use Rattle.laws_turns.proofs.Names.{ask_of_doing, step_in, after_answer, after_next, after_decision, world_after}
+use Rattle.laws_turns.proofs.Names.{after_turn, IsReached, Trace, flight_in, AreOwn, AreRight, Each-append, passes}
+use Rattle.laws_turns.proofs.Names.{may_next, may_decide, must_be_due, StandsThere, both_ways, shown, container_keeps}
+use Rattle.laws_turns.proofs.Names.{looks_as, written_same, may_go_on, all_effects, dying}
 use Rattle.steps.specs.declared.container.look.LookStage as stages
-use Rattle.steps.specs.declared.container.state.ContainerState.{ContainerState}
-use Rattle.steps.specs.Container.Look.{look_asks}
 use Rattle.steps.specs.Container.Look as look_steps
-use Rattle.model.specs.declared.event.Answer.{Answer}
-use Rattle.model.specs.declared.event.Event.{Event}
-use Rattle.model.specs.declared.event.Event.TheVariants.{Begun, Died, Acted, Finished}
-use Rattle.model.specs.Families.Container.Keeping.{is_look_of}
-use Rattle.model.specs.Families.Container.Reading.{Act}
-use Rattle.model.specs.Families.Container.Steps.{effects, questions}
-use Rattle.model.specs.Families.Indices.Robust.Reading.{SetAct}
+use Rattle.model.specs.Families.Container.Steps.{effects}
 use Rattle.laws_container.proofs.Allowed.{allowed_by}
 use Rattle.laws_container.proofs.KeptStates.{keeps_states}
 use Rattle.laws_container.proofs.Stages.{any_call}
-use Rattle.model.specs.declared.event.Start.{Start}
-use Rattle.model.specs.declared.event.Start.TheVariants.{Container}
-use Rattle.model.specs.declared.families.Flight.{Flight}
 use Rattle.model.specs.declared.families.Flight as flights
-use Rattle.model.specs.declared.families.Registry.{Registry}
 use Rattle.model.specs.declared.families.Registry as registries
-use Rattle.model.specs.declared.families.container.ContainerStart.{ContainerStart}
 use Rattle.model.specs.declared.families.container.ContainerStart as starts
-use Rattle.model.specs.declared.families.container.calls.ContainerFlight.{ContainerFlight}
 use Rattle.model.specs.declared.families.container.calls.ContainerFlight as calls
-use Rattle.model.specs.declared.families.container.calls.LookOf.{LookOf}
-use Rattle.model.specs.declared.party.Party.{Party}
 use Rattle.model.specs.declared.turn.Kind as kinds
-use Rattle.model.specs.declared.turn.Turn.{Turn}
-use Rattle.model.specs.declared.turn.Turn.TheVariants.{Next, Decide}
-use Rattle.model.specs.Families.{want_of, ask_of, is_question, goes_of, beside_of, step_of}
-use Rattle.model.specs.Families.Container.Calls.{want, after, look_shows, settled_if, writes_state}
-use Rattle.model.specs.Families.Container.Looks.{state_in, is_looking}
-use Rattle.model.specs.Families.Container.States.{state_of}
-use Rattle.model.specs.Parties.{party_of}
-use Rattle.model.specs.Promises.Turns.{IsParty, IsEffectOf}
-use Rattle.model.specs.Reading.{Each, whose}
-use Rattle.model.specs.Refusals.{refusal_of, is_due}
-use Rattle.model.specs.Step.{answer_in}
-use Rattle.model.specs.Turns.{old_of, number_of, ending_of, events_of, events_of_answer, events_of_next}
-use Rattle.model.specs.Turns.{events_of_decision, events_of_step, ask_of_doing, step_in, after_answer, after_next}
-use Rattle.model.specs.Turns.{after_decision, world_after, after_turn, IsReached}
-use Rattle.model.specs.World.{Trace, flight_in}
+use Rattle.model.specs.Families.Container.Calls.{want, after}
 use Rattle.model.proofs.Frame as frame
-use Rattle.model.proofs.Readings.{AreOwn, AreRight, Each-append}
-use Rattle.model.proofs.Rows.{passes, may_next, may_decide, must_be_due}
-use Rattle.model.proofs.Scenes.{StandsThere}
-use Rattle.laws_robust.proofs.Effects.{both_ways}
-use Rattle.laws_container.proofs.Everything.{shown, container_keeps}
 use Rattle.laws_container.proofs.Invariant.{family}
-use Rattle.laws_container.proofs.Looks.{looks_as, written_same}
-use Rattle.laws_container.proofs.Sound.{kept_is, may_go_on, reached_sound, is_there}
+use Rattle.laws_container.proofs.Sound.{kept_is, reached_sound, is_there}
 use Rattle.laws_container.proofs.Standing.{At}
-use Rattle.laws_container.proofs.Written.{all_effects}
-use Rattle.laws_container.proofs.Terms.{dying}
 use Rattle.laws_turns.specs.Changes.{Seen, seen_by, MeetsChanges}
 use Rattle.laws_turns.proofs.Counting.{counts_changes}
 use Rattle.laws_turns.proofs.Others.{others_stay}

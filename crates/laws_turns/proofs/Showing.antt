@@ -1,14 +1,10 @@
 -- A state that follows its container is the map once it is brought up to date.
-use Rattle.std.proofs.Common.{◌≡◌, ⊎_elim, ℕ, ◌*◌, ◌≤◌, ◌==◌, Bool, true, false, Option, None, List, replicate, get_or}
-use Rattle.std.proofs.Common.{map, if◌then◌else◌, refl, sym, ap, ◌∙◌, arith}
-use Rattle.std.proofs.lemmas.Bool.{cases_lt}
-use Rattle.std.proofs.lemmas.Bool.Decides.{nat_tests}
-use Rattle.std.proofs.lemmas.List.{ext_get_or, get_or-replicate, get_or_past, length-replicate}
+use Rattle.laws_turns.proofs.Names.{◌≡◌, ⊎_elim, ℕ, ◌*◌, ◌≤◌, ◌==◌, Bool, true, false, Option, None, List, replicate}
+use Rattle.laws_turns.proofs.Names.{get_or, map, if◌then◌else◌, refl, sym, ap, ◌∙◌, arith, cases_lt, nat_tests}
+use Rattle.laws_turns.proofs.Names.{ext_get_or, get_or-replicate, get_or_past, length-replicate, range_with_len}
+use Rattle.laws_turns.proofs.Names.{is_even, Contents, capacity, Snapshot, blank, value_then, updated}
 use Rattle.std.proofs.lemmas.List.FromFn.{get_or-map-range_with_len, length-map-range_with_len}
-use Rattle.std.specs.List.{range_with_len}
-use Rattle.steps.specs.Container.Layout.{is_even}
-use Rattle.plain.specs.Contents.{Contents, capacity, opened}
-use Rattle.plain.specs.States.{Snapshot, blank, value_then, updated}
+use Rattle.plain.specs.Contents.{opened}
 use Rattle.laws_turns.specs.Following.{IsCounted, Follows}
 
 -- what stands in a list of one value, which is read past its end too

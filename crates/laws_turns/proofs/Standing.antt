@@ -1,20 +1,9 @@
 -- Where a party's call stands before a turn, and where it stands after it.
-use Rattle.std.proofs.Common.{◌≡◌, ℕ, Bool, Option, Some, None, IfSome, refl, ap, subst, ◌∙◌}
-use Rattle.steps.specs.declared.ask.After.{After}
-use Rattle.steps.specs.declared.ask.After.TheVariants.{GoOn, Done}
-use Rattle.model.specs.declared.event.Answer.{Answer}
-use Rattle.model.specs.declared.families.Flight.{Flight}
-use Rattle.model.specs.declared.party.Doing.{Doing}
-use Rattle.model.specs.declared.party.Doing.TheVariants.{Going, Over}
-use Rattle.model.specs.declared.party.Party.{Party}
-use Rattle.model.specs.declared.turn.Turn.TheVariants.{Next, Decide}
-use Rattle.model.specs.Families.{want_of, ask_of, goes_of}
-use Rattle.model.specs.Parties.{party_of, doing_of, flight_of}
-use Rattle.model.specs.Promises.Turns.{StandsAt, GoesOn}
-use Rattle.model.specs.Turns.{old_of, number_of}
-use Rattle.model.specs.World.{World, Trace, flight_in}
+use Rattle.laws_turns.proofs.Names.{◌≡◌, ℕ, Bool, Option, Some, None, IfSome, refl, ap, subst, ◌∙◌, After, GoOn, Done}
+use Rattle.laws_turns.proofs.Names.{Answer, Flight, Doing, Going, Over, Party, Next, Decide, want_of, ask_of, goes_of}
+use Rattle.laws_turns.proofs.Names.{party_of, doing_of, flight_of, StandsAt, GoesOn, old_of, number_of, World, Trace}
+use Rattle.laws_turns.proofs.Names.{flight_in, StandsThere, stands_there}
 use Rattle.model.proofs.Frame.{Family, Sound}
-use Rattle.model.proofs.Scenes.{StandsThere, stands_there}
 
 module _ {T : Type 0} where
   -- ---- after a turn

@@ -1,49 +1,29 @@
 -- A call of a container waits for a decision just where it asks about a value.
-use Rattle.std.proofs.Common.{◌≡◌, ℕ, false, Option, Some, None, is_some, refl, ap, subst, ◌∙◌}
-use Rattle.steps.specs.declared.container.add.AddStage.{AddStage}
+use Rattle.laws_turns.proofs.Names.{◌≡◌, ℕ, false, Option, Some, None, is_some, refl, ap, subst, ◌∙◌, AddStage}
+use Rattle.laws_turns.proofs.Names.{LookStage, RemoveStage, ReplaceStage, Replacement, GiveBack, add_asks, look_asks}
+use Rattle.laws_turns.proofs.Names.{remove_asks, replace_asks, find_asks, Start, Container, Flight, ContainerFlight}
+use Rattle.laws_turns.proofs.Names.{Party, Coding, is_question, Turn, turn_making, reached_more, shown}
+use Rattle.laws_turns.proofs.Names.{container_keeps, refusal_of, is_due, after_turn, IsReached, Trace, flight_in}
+use Rattle.laws_turns.proofs.Names.{StandsThere, raise_asks_none, count_asks_none, lock_asks_none, acquire_asks_none}
+use Rattle.laws_turns.proofs.Names.{release_asks_none}
 use Rattle.steps.specs.declared.container.add.AddStage as adds
 use Rattle.steps.specs.declared.container.add.Owned.{Owned}
-use Rattle.steps.specs.declared.container.look.LookStage.{LookStage}
 use Rattle.steps.specs.declared.container.look.LookStage as looks
-use Rattle.steps.specs.declared.container.remove.RemoveStage.{RemoveStage}
 use Rattle.steps.specs.declared.container.remove.RemoveStage as removes
-use Rattle.steps.specs.declared.container.replace.ReplaceStage.{ReplaceStage}
 use Rattle.steps.specs.declared.container.replace.ReplaceStage as replaces
-use Rattle.steps.specs.declared.container.replace.Replacement.{Replacement}
-use Rattle.steps.specs.declared.indices.robust.release.GiveBack.{GiveBack}
-use Rattle.steps.specs.Container.Add.{add_asks}
-use Rattle.steps.specs.Container.Look.{look_asks}
-use Rattle.steps.specs.Container.Remove.{remove_asks}
-use Rattle.steps.specs.Container.Replace.{replace_asks}
 use Rattle.steps.specs.declared.container.find.FindStage.{FindStage}
 use Rattle.steps.specs.declared.container.find.FindStage as finds
 use Rattle.steps.specs.declared.container.recover.RecoverStage.{RecoverStage}
 use Rattle.steps.specs.declared.container.recover.RecoverStage as recovers
-use Rattle.steps.specs.Container.Find.{find_asks}
 use Rattle.steps.specs.Container.Recover.{recover_asks}
-use Rattle.model.specs.declared.event.Start.{Start}
-use Rattle.model.specs.declared.event.Start.TheVariants.{Container}
-use Rattle.model.specs.declared.families.Flight.{Flight}
 use Rattle.model.specs.declared.families.Flight as flights
-use Rattle.model.specs.declared.families.container.calls.ContainerFlight.{ContainerFlight}
 use Rattle.model.specs.declared.families.container.calls.ContainerFlight as calls
-use Rattle.model.specs.declared.party.Party.{Party}
 use Rattle.model.specs.declared.turn.Kind as kinds
-use Rattle.model.specs.Coding.{Coding}
-use Rattle.model.specs.Families.{is_question}
 use Rattle.model.specs.Families.Container.Calls.{want}
 use Rattle.model.specs.Families.Container.Questions.{question_in, find_question, recover_question}
 use Rattle.model.specs.Families.Container.Promises.{TellsRight}
 use Rattle.model.specs.Promises.Families.{promise_of}
-use Rattle.model.specs.declared.turn.Turn.{Turn}
-use Rattle.model.proofs.Reached.{turn_making, reached_more}
-use Rattle.laws_container.proofs.Everything.{shown, container_keeps}
-use Rattle.model.specs.Refusals.{refusal_of, is_due}
-use Rattle.model.specs.Turns.{after_turn, IsReached}
-use Rattle.model.specs.World.{Trace, flight_in}
 use Rattle.model.proofs.Frame as frame
-use Rattle.model.proofs.Scenes.{StandsThere}
-use Rattle.laws_robust.proofs.Sound.{raise_asks_none, count_asks_none, lock_asks_none, acquire_asks_none, release_asks_none}
 use Rattle.laws_container.proofs.Invariant.{family}
 use Rattle.laws_container.proofs.Sound.{reached_sound}
 use Rattle.laws_turns.specs.Questions.{WaitsForAnswers, IsAnswered}

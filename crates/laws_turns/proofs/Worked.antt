@@ -1,35 +1,20 @@
 -- The definitions at worked runs, and at what a wrong machine would leave, which they refuse.
-use Rattle.std.proofs.Common.{◌≡◌, ℕ, ◌==◌, if◌then◌else◌, is_some, Bool, true, false, Option, Some, None, List, []}
-use Rattle.std.proofs.Common.{◌∷◌, ◌++◌, slice_index, refl, sym, subst, arith}
-use Rattle.steps.specs.Container.Layout.{change_word}
-use Rattle.steps.specs.declared.indices.enums.ReleaseMode.TheVariants.{LockIfLastIndex, Default}
+use Rattle.laws_turns.proofs.Names.{◌≡◌, ℕ, ◌==◌, if◌then◌else◌, is_some, Bool, true, false, Option, Some, None, List}
+use Rattle.laws_turns.proofs.Names.{[], ◌∷◌, ◌++◌, slice_index, refl, sym, subst, arith, change_word, LockIfLastIndex}
+use Rattle.laws_turns.proofs.Names.{Default, State, Number, Truth, Event, Begun, Filled, FreedOf, Asked, Finished}
+use Rattle.laws_turns.proofs.Names.{Start, Robust, Container, Flight, Going, Turn, Begin, Next, Decide, Die, one_word}
+use Rattle.laws_turns.proofs.Names.{IsFilled, asked_of, owned_of, Frees, set_acts_of, IsOneOf, put, ask_in}
+use Rattle.laws_turns.proofs.Names.{after_turn, Trace, kept_opened, flight_in, held_now, no_more, find_at}
 use Rattle.steps.specs.declared.indices.enums.ReleaseState.TheVariants as states
 use Rattle.steps.specs.declared.indices.robust.find.FindStage.TheVariants as finds
 use Rattle.steps.specs.declared.indices.robust.recover.RecoverStage.TheVariants as recovers
-use Rattle.model.specs.declared.event.Answer.TheVariants.{Index, State, Number, Truth}
-use Rattle.model.specs.declared.event.Event.{Event}
-use Rattle.model.specs.declared.event.Event.TheVariants.{Begun, Filled, FreedOf, Asked, Finished}
-use Rattle.model.specs.declared.event.Start.{Start}
-use Rattle.model.specs.declared.event.Start.TheVariants.{Robust, Container}
-use Rattle.model.specs.declared.families.Flight.{Flight}
+use Rattle.model.specs.declared.event.Answer.TheVariants.{Index}
 use Rattle.model.specs.declared.families.Flight.TheVariants as flights
 use Rattle.model.specs.declared.families.container.ContainerStart.TheVariants as containers
 use Rattle.model.specs.declared.families.indices.robust.RobustStart.TheVariants.{Acquire, Find, Recover}
-use Rattle.model.specs.declared.party.Doing.TheVariants.{Going}
 use Rattle.model.specs.declared.turn.Kind as kinds
-use Rattle.model.specs.declared.turn.Turn.{Turn}
-use Rattle.model.specs.declared.turn.Turn.TheVariants.{Begin, Next, Decide, Die}
-use Rattle.model.specs.Coding.{one_word}
-use Rattle.model.specs.Families.Indices.Robust.Promises.{IsFilled, asked_of, owned_of}
-use Rattle.model.specs.Families.Indices.Robust.Reading.{Frees, set_acts_of, IsOneOf}
-use Rattle.model.specs.Parties.{put}
-use Rattle.model.specs.Promises.Turns.{ask_in}
-use Rattle.model.specs.Turns.{after_turn}
-use Rattle.model.specs.World.{Trace, kept_opened, flight_in}
-use Rattle.model.proofs.Moments.{held_now}
-use Rattle.model.proofs.Readings.{no_more}
 use Rattle.model.proofs.Runs.{begins, ran}
-use Rattle.laws_robust.proofs.Standing.{find_at, recover_at}
+use Rattle.laws_robust.proofs.Standing.{recover_at}
 use Rattle.laws_turns.specs.Changes.{changes_of, CountsChanges, MeetsChanges}
 use Rattle.laws_turns.specs.Others.{queue_in}
 use Rattle.laws_turns.specs.Questions.{IsAnswered, AsksAtOnce, FindsAsking, loads_cell}

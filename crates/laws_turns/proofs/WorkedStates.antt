@@ -1,9 +1,7 @@
 -- The definitions at a worked run of a container of two indices, and at what they refuse.
-use Rattle.std.proofs.Common.{◌≡◌, ℕ, Option, Some, List, [], ◌∷◌, refl}
-use Rattle.steps.specs.declared.container.handle.ContainerHandle.{ContainerHandle}
-use Rattle.steps.specs.declared.indices.enums.ReleaseMode.TheVariants.{Default}
-use Rattle.plain.specs.Contents.{Contents, opened, after_add, after_remove, after_replace}
-use Rattle.plain.specs.States.{Snapshot, blank, updated}
+use Rattle.laws_turns.proofs.Names.{◌≡◌, ℕ, Option, Some, List, [], ◌∷◌, refl, ContainerHandle, Default, Contents}
+use Rattle.laws_turns.proofs.Names.{after_add, after_remove, after_replace, Snapshot, blank, updated}
+use Rattle.plain.specs.Contents.{opened}
 use Rattle.laws_turns.specs.Following.{Follows}
 
 -- 5 and 6 are added, 5 is removed, 6 becomes 7, and 8 is added where 5 stood

@@ -1,3 +1,4 @@
+mod Names
 pub mod Rules
 pub mod RobustSet
 pub mod ContainerSet

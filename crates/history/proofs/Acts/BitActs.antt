@@ -1,22 +1,16 @@
 -- The calls of a bit set act place by place.
-use Rattle.std.proofs.Common.{◌≡◌, ◌≢◌, ⊎_elim, ℕ, zero, suc, ◌-◌, ◌^◌, ◌<◌, ◌≤◌, ◌==◌, ◌&&◌, true, false, cond, Some}
-use Rattle.std.proofs.Common.{None, List, [], ◌∷◌, ◌++◌, refl, sym, ap, subst, ◌∙◌, append_assoc, append-nil, arith}
-use Rattle.std.proofs.lemmas.Bool.{cases_eq, cases_lt}
-use Rattle.model.specs.declared.event.Answer.{Answer}
-use Rattle.model.specs.declared.event.Answer.TheVariants.{Done, Truth, ResetNone, Reset}
-use Rattle.model.specs.declared.event.Event.{Event}
+use Rattle.history.proofs.Names.{◌≡◌, ◌≢◌, ⊎_elim, ℕ, zero, suc, ◌-◌, ◌^◌, ◌<◌, ◌≤◌, ◌==◌, ◌&&◌, true, false, cond}
+use Rattle.history.proofs.Names.{Some, None, List, [], ◌∷◌, ◌++◌, refl, sym, ap, subst, ◌∙◌, append_assoc, append-nil}
+use Rattle.history.proofs.Names.{arith, cases_eq, cases_lt, Answer, Truth, ResetNone, Reset, Event, Begun, Cleared}
+use Rattle.history.proofs.Names.{TakenOut, Acted, Finished, Start, Set, ResetNext, ResetAll, HasCleared}
+use Rattle.history.proofs.Names.{BitsAnswerRight, BitsWrote, MayClear, bits_promise, sets, clears, counts, standing}
+use Rattle.history.proofs.Names.{BeginsNone, HeldSometime, SinceBegin, Stands, StandsRight, Each, Span, Never, Open}
+use Rattle.history.proofs.Names.{Ended, span_of, sets_more}
+use Rattle.model.specs.declared.event.Answer.TheVariants.{Done}
 use Rattle.model.specs.declared.event.Event as event
-use Rattle.model.specs.declared.event.Event.TheVariants.{Begun, Cleared, Counted, TakenOut, Acted, Finished}
-use Rattle.model.specs.declared.event.Start.{Start}
+use Rattle.model.specs.declared.event.Event.TheVariants.{Counted}
 use Rattle.model.specs.declared.event.Start.TheVariants.{Bits}
-use Rattle.model.specs.declared.families.bits.BitsStart.TheVariants.{Set, ResetNext, ResetAll}
 use Rattle.model.specs.declared.turn.Kind as kinds
-use Rattle.model.specs.Families.Bits.Promises.{HasCleared, BitsAnswerRight, BitsWrote, MayClear, bits_promise}
-use Rattle.model.specs.Families.Bits.Reading.{sets, clears, counts, standing}
-use Rattle.model.specs.Moments.{BeginsNone, HeldSometime, SinceBegin}
-use Rattle.model.specs.Promises.Spans.{Stands, StandsRight}
-use Rattle.model.specs.Reading.{Each, Span, Never, Open, Ended, span_of}
-use Rattle.laws_bits.proofs.Bits.Core.{sets_more}
 use Rattle.history.specs.Acts.{Way, MayAct, Acts, Found, Tells, Ends, number_after, left_by, ActsByPlace}
 use Rattle.history.proofs.Acts.BitWays.{only_clears, cleared_in, Numbers, numbers_more, Fit, clears_none, one_fits, at_place}
 use Rattle.history.proofs.Acts.Filling.{Marked, nothing_marked, goes_on, Fact, Stays, Silent, finishes}

@@ -1,17 +1,12 @@
 -- What stands at the places of a bit set, and where its calls stand, after the events of a history.
-use Rattle.std.proofs.Common.{◌≡◌, ◌≢◌, ℕ, ◌+◌, ◌≤◌, ◌==◌, Bool, true, false, cond, Option, Some, None, IfSome, List}
-use Rattle.std.proofs.Common.{[], ◌∷◌, ◌++◌, length, refl, sym, ap, subst, ◌∙◌, arith}
-use Rattle.model.specs.declared.event.Event.{Event}
+use Rattle.history.proofs.Names.{◌≡◌, ◌≢◌, ℕ, ◌+◌, ◌≤◌, ◌==◌, Bool, true, false, cond, Option, Some, None, IfSome}
+use Rattle.history.proofs.Names.{List, [], ◌∷◌, ◌++◌, length, refl, sym, ap, subst, ◌∙◌, arith, Event, Begun, Cleared}
+use Rattle.history.proofs.Names.{TakenOut, Acted, Finished, Start, Set, ResetNext, ResetAll, MayClear, bits_promise}
+use Rattle.history.proofs.Names.{sets, clears, Stands, StandsRight, whose, Span, Never, Open, Ended, own_after}
+use Rattle.history.proofs.Names.{span_after, sets_more, clears_more}
 use Rattle.model.specs.declared.event.Event as event
-use Rattle.model.specs.declared.event.Event.TheVariants.{Begun, Cleared, Counted, TakenOut, Acted, Finished}
-use Rattle.model.specs.declared.event.Start.{Start}
+use Rattle.model.specs.declared.event.Event.TheVariants.{Counted}
 use Rattle.model.specs.declared.event.Start.TheVariants.{Bits}
-use Rattle.model.specs.declared.families.bits.BitsStart.TheVariants.{Set, ResetNext, ResetAll}
-use Rattle.model.specs.Families.Bits.Promises.{MayClear, bits_promise}
-use Rattle.model.specs.Families.Bits.Reading.{sets, clears}
-use Rattle.model.specs.Promises.Spans.{Stands, StandsRight}
-use Rattle.model.specs.Reading.{whose, Span, Never, Open, Ended, own_after, span_after}
-use Rattle.laws_bits.proofs.Bits.Core.{sets_more, clears_more}
 use Rattle.history.specs.Acts.{Way, number_after, way_after, found_now}
 use Rattle.history.proofs.Acts.Finds.{BitFinds}
 use Rattle.history.proofs.Acts.Marks.{is_number, number_in, number_more}

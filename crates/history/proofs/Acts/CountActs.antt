@@ -1,22 +1,16 @@
 -- The calls of a counting bit set act place by place.
-use Rattle.std.proofs.Common.{◌≡◌, ◌⊎◌, ⊎_elim, inl, inr, ℕ, zero, suc, ◌+◌, ◌-◌, ◌*◌, ◌^◌, ◌%◌, ◌<◌, ◌≤◌, ◌==◌, ◌&&◌}
-use Rattle.std.proofs.Common.{Bool, true, false, cond, Option, Some, None, IfSome, List, [], ◌∷◌, ◌++◌, refl, sym, ap}
-use Rattle.std.proofs.Common.{subst, ◌∙◌, append_assoc, append-nil, arith}
-use Rattle.std.proofs.lemmas.Bool.{cases_eq, cases_lt}
-use Rattle.model.specs.declared.event.Answer.{Answer}
-use Rattle.model.specs.declared.event.Answer.TheVariants.{Done, Number}
-use Rattle.model.specs.declared.event.Event.{Event}
+use Rattle.history.proofs.Names.{◌≡◌, ◌⊎◌, ⊎_elim, inl, inr, ℕ, zero, suc, ◌+◌, ◌-◌, ◌*◌, ◌^◌, ◌%◌, ◌<◌, ◌≤◌, ◌==◌}
+use Rattle.history.proofs.Names.{◌&&◌, Bool, true, false, cond, Option, Some, None, IfSome, List, [], ◌∷◌, ◌++◌, refl}
+use Rattle.history.proofs.Names.{sym, ap, subst, ◌∙◌, append_assoc, append-nil, arith, cases_eq, cases_lt, Answer}
+use Rattle.history.proofs.Names.{Number, Event, Begun, Cleared, TakenOut, Finished, Start, Set, ResetAll, HasTakenOn}
+use Rattle.history.proofs.Names.{CountsAnswerOn, AnswersCountOn, CountsWrote, counts_promise, counts, takes}
+use Rattle.history.proofs.Names.{BeginsNone, SinceBegin, Stands, StandsRight, Each, whose, Span, Open, own_after}
+use Rattle.history.proofs.Names.{span_after, span_of}
+use Rattle.model.specs.declared.event.Answer.TheVariants.{Done}
 use Rattle.model.specs.declared.event.Event as event
-use Rattle.model.specs.declared.event.Event.TheVariants.{Begun, Cleared, Counted, TakenOut, Finished}
-use Rattle.model.specs.declared.event.Start.{Start}
+use Rattle.model.specs.declared.event.Event.TheVariants.{Counted}
 use Rattle.model.specs.declared.event.Start.TheVariants.{Bits}
-use Rattle.model.specs.declared.families.bits.BitsStart.TheVariants.{Set, ResetAll}
 use Rattle.model.specs.declared.turn.Kind as kinds
-use Rattle.model.specs.Families.Bits.Promises.{HasTakenOn, CountsAnswerOn, AnswersCountOn, CountsWrote, counts_promise}
-use Rattle.model.specs.Families.Bits.Reading.{counts, takes}
-use Rattle.model.specs.Moments.{BeginsNone, SinceBegin}
-use Rattle.model.specs.Promises.Spans.{Stands, StandsRight}
-use Rattle.model.specs.Reading.{Each, whose, Span, Open, own_after, span_after, span_of}
 use Rattle.laws_bits.proofs.Counts.Core.{counts_more, takes_more}
 use Rattle.history.specs.Acts.{Way, Acts, Found, Tells, Ends, number_after, way_after, found_now, ActsByPlace}
 use Rattle.history.proofs.Acts.Filling.{Marked, nothing_marked, goes_on, Fact, Stays, Silent, finishes}

@@ -1,61 +1,37 @@
 -- What each act of a history found: a flag is set where it was clear and cleared where it stood, and what is taken out of a
 -- count is all of it.
-use Rattle.std.proofs.Common.{◌≡◌, ◌⊎◌, inl, inr, ⊎_elim, ℕ, ◌+◌, ◌*◌, ◌^◌, ◌<◌, ◌≤◌, ◌==◌, nat_lt, Bool, true, false}
-use Rattle.std.proofs.Common.{Option, Some, None, List, [], ◌∷◌, ◌++◌, get_or, refl, sym, ap, subst, ◌∙◌, append_assoc}
-use Rattle.std.proofs.Common.{append-nil, arith}
-use Rattle.std.proofs.lemmas.Bool.Decides.{nat_tests}
+use Rattle.history.proofs.Names.{◌≡◌, ◌⊎◌, inl, inr, ⊎_elim, ℕ, ◌+◌, ◌*◌, ◌^◌, ◌<◌, ◌≤◌, ◌==◌, nat_lt, Bool, true}
+use Rattle.history.proofs.Names.{false, Option, Some, None, List, [], ◌∷◌, ◌++◌, get_or, refl, sym, ap, subst, ◌∙◌}
+use Rattle.history.proofs.Names.{append_assoc, append-nil, arith, nat_tests, stands, Answer, Event, Begun, Cleared}
+use Rattle.history.proofs.Names.{TakenOut, Finished, Start, Flight, Registry, BitsStart, BitsFlight, Doing, Going}
+use Rattle.history.proofs.Names.{Over, Party, Turn, Begin, Next, Decide, Die, step_of, want_of, is_question, ask_of}
+use Rattle.history.proofs.Names.{beside_of, sets, clears, counts, takes, party_of, Each, span_of, call_refusal}
+use Rattle.history.proofs.Names.{is_due, answer_in, one_if, old_of, ask_of_doing, number_of, step_in, events_of}
+use Rattle.history.proofs.Names.{events_of_answer, events_of_next, events_of_decision, ending_of, after_turn}
+use Rattle.history.proofs.Names.{IsReachedOn, Trace, flight_in, is_true, turn_making, reached_on_more}
+use Rattle.history.proofs.Names.{reached_on_opening, kept_by_runs_on, AreRight, Each-append, Each-nil, must_be_due}
+use Rattle.history.proofs.Names.{stands_there, wrote_in, sets_more, clears_more, bits_laws, bits_go_on, counts_laws}
 use Rattle.steps.specs.declared.bits.bit_set.SetStage.{SetStage}
 use Rattle.steps.specs.declared.bits.bit_set.SetStage as setting
 use Rattle.steps.specs.declared.bits.bit_set.ResetNextStage.{ResetNextStage}
 use Rattle.steps.specs.declared.bits.bit_set.ResetNextStage as resetting
 use Rattle.steps.specs.Bits.Places.{places_in}
-use Rattle.steps.specs.Bits.Words.{stands}
-use Rattle.model.specs.declared.event.Answer.{Answer}
-use Rattle.model.specs.declared.event.Event.{Event}
 use Rattle.model.specs.declared.event.Event as events
-use Rattle.model.specs.declared.event.Event.TheVariants.{Begun, Cleared, Counted, TakenOut, Finished}
-use Rattle.model.specs.declared.event.Start.{Start}
+use Rattle.model.specs.declared.event.Event.TheVariants.{Counted}
 use Rattle.model.specs.declared.event.Start.TheVariants.{Bits}
-use Rattle.model.specs.declared.families.Flight.{Flight}
 use Rattle.model.specs.declared.families.Flight as flights
-use Rattle.model.specs.declared.families.Registry.{Registry}
 use Rattle.model.specs.declared.families.Registry as registries
-use Rattle.model.specs.declared.families.bits.BitsStart.{BitsStart}
 use Rattle.model.specs.declared.families.bits.BitsStart.TheVariants as starts
-use Rattle.model.specs.declared.families.bits.calls.BitsFlight.{BitsFlight}
 use Rattle.model.specs.declared.families.bits.calls.BitsFlight.TheVariants as calls
-use Rattle.model.specs.declared.party.Doing.{Doing}
-use Rattle.model.specs.declared.party.Doing.TheVariants.{Going, Over}
-use Rattle.model.specs.declared.party.Party.{Party}
 use Rattle.model.specs.declared.turn.Kind as kinds
-use Rattle.model.specs.declared.turn.Turn.{Turn}
-use Rattle.model.specs.declared.turn.Turn.TheVariants.{Begin, Next, Decide, Die}
-use Rattle.model.specs.Families.{step_of, want_of, is_question, ask_of, beside_of}
-use Rattle.model.specs.Families.Bits.Reading.{sets, clears, counts, takes}
 use Rattle.model.specs.Families.Bits.Steps.{set_events, reset_events, take_events, effects_of}
-use Rattle.model.specs.Parties.{party_of}
-use Rattle.model.specs.Reading.{Each, span_of}
-use Rattle.model.specs.Refusals.{call_refusal, is_due}
-use Rattle.model.specs.Step.{answer_in}
-use Rattle.model.specs.Turns.{one_if, old_of, ask_of_doing, number_of, step_in, events_of, events_of_answer}
-use Rattle.model.specs.Turns.{events_of_next, events_of_decision, ending_of, after_turn, IsReachedOn}
-use Rattle.model.specs.World.{Trace, flight_in}
 use Rattle.model.proofs.Frame as frame
-use Rattle.model.proofs.Frame.{is_true}
-use Rattle.model.proofs.Reached.{turn_making, reached_on_more, reached_on_opening, kept_by_runs_on}
-use Rattle.model.proofs.Readings.{AreRight, Each-append, Each-nil}
-use Rattle.model.proofs.Rows.{must_be_due}
-use Rattle.model.proofs.Scenes.{stands_there}
 use Rattle.laws_bits.proofs.Family.{FlightAt, family}
 use Rattle.laws_bits.proofs.Laws.{sound_on}
-use Rattle.laws_bits.proofs.Spans.{wrote_in}
-use Rattle.laws_bits.proofs.Bits.Core.{sets_more, clears_more}
 use Rattle.laws_bits.proofs.Bits.Invariant as bits
-use Rattle.laws_bits.proofs.Bits.Justified.{laws as bits_laws, bits_go_on}
 use Rattle.laws_bits.proofs.Bits.Knows as bit_calls
 use Rattle.laws_bits.proofs.Bits.Lists.{sets_none}
 use Rattle.laws_bits.proofs.Counts.Invariant as counting
-use Rattle.laws_bits.proofs.Counts.Justified.{laws as counts_laws}
 use Rattle.history.proofs.Acts.Marks.{same_number}
 
 one_low : (b : Bool) → one_if b ≤ 1

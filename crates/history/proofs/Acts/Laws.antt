@@ -1,16 +1,8 @@
 -- The laws of a reached machine's history, and of one that a pass has seen.
-use Rattle.std.proofs.Common.{◌≡◌, ℕ, List, refl, sym, subst}
-use Rattle.model.specs.declared.event.Event.{Event}
-use Rattle.model.specs.declared.turn.Kind.{Kind}
+use Rattle.history.proofs.Names.{◌≡◌, ℕ, List, refl, sym, subst, Event, Kind, Coding, IsReachedOn, Trace, bit_set}
+use Rattle.history.proofs.Names.{bits_laws, bits_go_on, counting_set, counts_laws, counts_go_on}
 use Rattle.model.specs.declared.turn.Kind as kinds
-use Rattle.model.specs.Coding.{Coding}
-use Rattle.model.specs.Turns.{IsReachedOn}
-use Rattle.model.specs.World.{Trace}
 use Rattle.laws_bits.proofs.Laws.{sound_on}
-use Rattle.laws_bits.proofs.Bits.Invariant.{bit_set}
-use Rattle.laws_bits.proofs.Bits.Justified.{laws as bits_laws, bits_go_on}
-use Rattle.laws_bits.proofs.Counts.Invariant.{counting_set}
-use Rattle.laws_bits.proofs.Counts.Justified.{laws as counts_laws, counts_go_on}
 use Rattle.history.specs.History.{IsHistory, IsReachedAs}
 use Rattle.history.specs.Acts.{ActsByPlace, IsSet}
 use Rattle.history.proofs.Acts.BitActs.{bits_act}

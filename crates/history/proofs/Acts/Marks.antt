@@ -1,11 +1,7 @@
 -- How marks go on: one more at the end, and a silent act put between two of them.
-use Rattle.std.proofs.Common.{◌≡◌, ◌≢◌, ℕ, ◌==◌, ◌&&◌, Bool, true, false, cond, Option, Some, None, List, [], ◌∷◌, ◌++◌, refl, sym, ap, subst, ◌∙◌, arith}
-use Rattle.std.proofs.lemmas.Bool.Decides.{nat_tests}
-use Rattle.model.specs.declared.event.Event.{Event}
-use Rattle.model.specs.declared.event.Event.TheVariants.{Begun, Finished}
-use Rattle.model.specs.declared.event.Start.{Start}
-use Rattle.model.specs.declared.turn.Kind.{Kind}
-use Rattle.model.specs.Moments.{BeginsNone}
+use Rattle.history.proofs.Names.{◌≡◌, ◌≢◌, ℕ, ◌==◌, ◌&&◌, Bool, true, false, cond, Option, Some, None, List, [], ◌∷◌}
+use Rattle.history.proofs.Names.{◌++◌, refl, sym, ap, subst, ◌∙◌, arith, nat_tests, Event, Begun, Finished, Start}
+use Rattle.history.proofs.Names.{Kind, BeginsNone}
 use Rattle.history.specs.Acts.{Mark, Happens, Leaves, left_by, told, does, number_after, Way, MayAct, Acts, found_now, way_after, IsRight}
 
 -- ---- tests

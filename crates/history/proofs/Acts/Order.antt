@@ -1,14 +1,9 @@
 -- The calls that passes made stand in one history, in the order in which each pass, and those that it took in, made them.
-use Rattle.std.proofs.Common.{◌≡◌, ℕ, ◌+◌, ◌<◌, ◌==◌, Bool, true, false, cond, Some, List, [], ◌∷◌, ◌++◌, length, map}
-use Rattle.std.proofs.Common.{refl, sym, ap, subst, ◌∙◌, append_assoc, arith}
+use Rattle.history.proofs.Names.{◌≡◌, ℕ, ◌+◌, ◌<◌, ◌==◌, Bool, true, false, cond, Some, List, [], ◌∷◌, ◌++◌, length}
+use Rattle.history.proofs.Names.{map, refl, sym, ap, subst, ◌∙◌, append_assoc, arith, Contains, Answer, Event, Begun}
+use Rattle.history.proofs.Names.{Cleared, TakenOut, Finished, Start, Call, response_in, calls_from, calls_of}
+use Rattle.history.proofs.Names.{StandsBefore, Precedes, whose, is_party}
 use Rattle.std.proofs.lemmas.List.{length-append}
-use Rattle.std.specs.List.{Contains}
-use Rattle.model.specs.declared.event.Answer.{Answer}
-use Rattle.model.specs.declared.event.Event.{Event}
-use Rattle.model.specs.declared.event.Event.TheVariants.{Begun, Cleared, TakenOut, Finished}
-use Rattle.model.specs.declared.event.Start.{Start}
-use Rattle.model.specs.Linearizable.{Call, response_in, calls_from, calls_of, StandsBefore, Precedes}
-use Rattle.model.specs.Reading.{whose, is_party}
 use Rattle.model.proofs.Linearizable.Acting.{call_at, response_at, responded, passed}
 use Rattle.model.proofs.Linearizable.Members.{here, there}
 use Rattle.history.specs.declared.view.View.{View}

@@ -1,12 +1,9 @@
 -- Where a party's call stands, from its span; and what is so of every beginning of a history.
-use Rattle.std.proofs.Common.{◌≡◌, ℕ, ◌==◌, Bool, true, false, Option, Some, None, List, [], ◌∷◌, ◌++◌, refl, sym, ap, subst, ◌∙◌, append_assoc, append-nil}
-use Rattle.std.proofs.lemmas.List.Sums.{fold-append}
-use Rattle.model.specs.declared.event.Answer.{Answer}
-use Rattle.model.specs.declared.event.Event.{Event}
-use Rattle.model.specs.declared.event.Event.TheVariants.{Begun, Finished}
-use Rattle.model.specs.declared.event.Start.{Start}
-use Rattle.model.specs.Moments.{BeginsNone}
-use Rattle.model.specs.Reading.{whose, is_party, Span, Never, Open, Ended, longer, ended, own_after, span_after, span_of}
+use Rattle.history.proofs.Names.{◌≡◌, ℕ, ◌==◌, Bool, true, false, Option, Some, None, List, [], ◌∷◌, ◌++◌, refl, sym}
+use Rattle.history.proofs.Names.{ap, subst, ◌∙◌, append_assoc, append-nil, fold-append, Answer, Event, Begun}
+use Rattle.history.proofs.Names.{Finished, Start, BeginsNone, whose, is_party, Span, Never, Open, Ended, longer}
+use Rattle.history.proofs.Names.{own_after, span_after, span_of}
+use Rattle.model.specs.Reading.{ended}
 use Rattle.model.specs.Shape.{IsOpenFor, IsShut}
 use Rattle.history.specs.Acts.{Way, way_after}
 use Rattle.history.proofs.Acts.Marks.{way_in, number_in, way_more}

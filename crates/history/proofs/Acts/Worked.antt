@@ -1,24 +1,17 @@
 -- Marks at short histories that are refused, and the two schedules by which a reset of all places, and a reset of the next one
 -- that answers None, are not linearizable as whole calls.
-use Rattle.std.proofs.Common.{◌≡◌, ℕ, ◌+◌, ◌==◌, ◌||◌, Bool, true, false, not, None, List, [], ◌∷◌, map, refl, arith}
+use Rattle.history.proofs.Names.{◌≡◌, ℕ, ◌+◌, ◌==◌, ◌||◌, Bool, true, false, not, None, List, [], ◌∷◌, map, refl}
+use Rattle.history.proofs.Names.{arith, Answer, Truth, Number, ResetNone, Reset, Event, Begun, Cleared, TakenOut}
+use Rattle.history.proofs.Names.{Finished, Start, Set, ResetNext, ResetAll, Kind, Turn, Begin, Next, one_word}
+use Rattle.history.proofs.Names.{standing, run, Trace}
 use Rattle.std.specs.Prelude.{take}
-use Rattle.model.specs.declared.event.Answer.{Answer}
-use Rattle.model.specs.declared.event.Answer.TheVariants.{Done, Truth, Number, ResetNone, Reset}
-use Rattle.model.specs.declared.event.Event.{Event}
+use Rattle.model.specs.declared.event.Answer.TheVariants.{Done}
 use Rattle.model.specs.declared.event.Event as told
-use Rattle.model.specs.declared.event.Event.TheVariants.{Begun, Cleared, Counted, TakenOut, Finished}
-use Rattle.model.specs.declared.event.Start.{Start}
+use Rattle.model.specs.declared.event.Event.TheVariants.{Counted}
 use Rattle.model.specs.declared.event.Start.TheVariants.{Bits}
-use Rattle.model.specs.declared.families.bits.BitsStart.TheVariants.{Set, ResetNext, ResetAll}
-use Rattle.model.specs.declared.turn.Kind.{Kind}
 use Rattle.model.specs.declared.turn.Kind as kinds
-use Rattle.model.specs.declared.turn.Turn.{Turn}
-use Rattle.model.specs.declared.turn.Turn.TheVariants.{Begin, Next}
-use Rattle.model.specs.Coding.{one_word}
-use Rattle.model.specs.Families.Bits.Reading.{standing}
 use Rattle.model.specs.Objects.{Object, IsLegal}
-use Rattle.model.specs.Turns.{run}
-use Rattle.model.specs.World.{Trace, opening}
+use Rattle.model.specs.World.{opening}
 use Rattle.history.specs.Acts.{Mark, Happens, Leaves, IsRight}
 
 -- ---- marks that are not right

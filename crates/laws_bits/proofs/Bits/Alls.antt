@@ -1,36 +1,17 @@
 -- The steps of a reset of all bits: it swaps the next element with 0.
-use Rattle.std.proofs.Common.{◌≡◌, ◌≢◌, ℕ, ◌+◌, ◌-◌, ◌<◌, ◌≤◌, nat_lt, Bool, true, false, cond, ⊎_elim, Option, Some}
-use Rattle.std.proofs.Common.{None, List, [], ◌∷◌, ◌++◌, fold, length, get_or, set, refl, sym, ap, subst, ◌∙◌}
-use Rattle.std.proofs.Common.{append-nil, arith, length-set, get_or-set_other}
-use Rattle.std.proofs.lemmas.Bool.{cases_eq, cases_lt}
-use Rattle.std.proofs.lemmas.Bool.Decides.{nat_tests}
-use Rattle.std.proofs.lemmas.List.Sums.{fold-append}
-use Rattle.steps.specs.declared.ask.Ask.{Ask}
-use Rattle.steps.specs.declared.ask.Op.TheVariants.{Swap}
-use Rattle.steps.specs.declared.ask.After.{After}
-use Rattle.steps.specs.declared.ask.After.TheVariants.{GoOn, Done}
-use Rattle.steps.specs.declared.copied.OneWord.{OneWord}
-use Rattle.steps.specs.Bits.Places.{first_place, places_in}
-use Rattle.steps.specs.Bits.Words.{element_of, elements, has_flag, stands}
+use Rattle.laws_bits.proofs.Names.{◌≡◌, ◌≢◌, ℕ, ◌+◌, ◌-◌, ◌<◌, ◌≤◌, nat_lt, Bool, true, false, cond, ⊎_elim, Option}
+use Rattle.laws_bits.proofs.Names.{Some, None, List, [], ◌∷◌, ◌++◌, fold, length, get_or, set, refl, sym, ap, subst}
+use Rattle.laws_bits.proofs.Names.{◌∙◌, append-nil, length-set, get_or-set_other, cases_eq, cases_lt, nat_tests}
+use Rattle.laws_bits.proofs.Names.{fold-append, Ask, Swap, After, GoOn, Done, OneWord, first_place, places_in}
+use Rattle.laws_bits.proofs.Names.{element_of, elements, has_flag, stands, stands_elsewhere, swapped_clear, Answer}
+use Rattle.laws_bits.proofs.Names.{Event, Finished, Bits, BitsFlight, Coding, BitsAnswerRight, HasCleared}
+use Rattle.laws_bits.proofs.Names.{bits_promise, sets, clears, position_after, SinceBegin, Stands, Open, own_after}
+use Rattle.laws_bits.proofs.Names.{span_of, one_if, change_of, since_more, AllFollow, span_of-own}
+use Rattle.std.proofs.Common.{arith}
 use Rattle.steps.proofs.Flags.Places.{place_named, place_not_named}
-use Rattle.steps.proofs.Flags.Words.{stands_elsewhere, swapped_clear}
-use Rattle.model.specs.declared.event.Answer.{Answer}
 use Rattle.model.specs.declared.event.Answer as answers
-use Rattle.model.specs.declared.event.Event.{Event}
-use Rattle.model.specs.declared.event.Event.TheVariants.{Finished}
-use Rattle.model.specs.declared.event.Start.TheVariants.{Bits}
 use Rattle.model.specs.declared.families.bits.BitsStart.TheVariants.{ResetAll}
-use Rattle.model.specs.declared.families.bits.calls.BitsFlight.{BitsFlight}
 use Rattle.model.specs.declared.families.bits.calls.BitsFlight as calls
-use Rattle.model.specs.Coding.{Coding}
-use Rattle.model.specs.Families.Bits.Promises.{BitsAnswerRight, HasCleared, bits_promise}
-use Rattle.model.specs.Families.Bits.Reading.{sets, clears, position_after}
-use Rattle.model.specs.Moments.{SinceBegin}
-use Rattle.model.specs.Promises.Spans.{Stands}
-use Rattle.model.specs.Reading.{Open, own_after, span_of}
-use Rattle.model.specs.Turns.{one_if, change_of}
-use Rattle.model.proofs.Moments.{since_more}
-use Rattle.model.proofs.Readings.{AllFollow, span_of-own}
 use Rattle.laws_bits.proofs.Bits.Core.{ClearedBelow, cleared_still, cleared_by, sets_more, clears_more}
 use Rattle.laws_bits.proofs.Bits.Invariant.{Holds, bit_set}
 use Rattle.laws_bits.proofs.Bits.Lists.{own_more, right_more, follow_more, places_rise, all_cleared, all_own}

@@ -1,11 +1,8 @@
 -- What the events say of each bit, and what came since a party's latest call began.
-use Rattle.std.proofs.Common.{◌≡◌, ℕ, ◌+◌, ◌<◌, ◌≤◌, cond, List, [], ◌∷◌, ◌++◌, ap, sym, ◌∙◌, append_assoc, arith}
-use Rattle.std.proofs.lemmas.List.Sums.{sum_by-append}
-use Rattle.steps.specs.Bits.Words.{element_of}
-use Rattle.model.specs.declared.event.Event.{Event}
-use Rattle.model.specs.declared.event.Event.TheVariants.{Begun}
-use Rattle.model.specs.declared.event.Start.{Start}
-use Rattle.model.specs.Families.Bits.Reading.{is_set_of, is_clear_of, sets, clears, standing}
+use Rattle.laws_bits.proofs.Names.{◌≡◌, ℕ, ◌+◌, ◌<◌, ◌≤◌, cond, List, [], ◌∷◌, ◌++◌, ap, sym, ◌∙◌, append_assoc}
+use Rattle.laws_bits.proofs.Names.{sum_by-append, element_of, Event, Begun, Start, is_set_of, is_clear_of, sets}
+use Rattle.laws_bits.proofs.Names.{clears, standing}
+use Rattle.std.proofs.Common.{arith}
 
 module _ {T : Type 0} where
   pub sets_more : (b : ℕ) (xs ys : List (Event T)) → sets b (xs ++ ys) ≡ sets b xs + sets b ys

@@ -1,23 +1,14 @@
 -- What holds of a bit set's machine between any two turns beside what the frame says of every machine, and what a turn does
 -- to its words that keeps it.
-use Rattle.std.proofs.Common.{◌≡◌, ◌≢◌, ℕ, ◌+◌, ◌≤◌, List, ◌++◌, fold, length, get_or, refl, sym, ap, ◌∙◌, arith}
-use Rattle.std.proofs.lemmas.List.Sums.{fold-append}
-use Rattle.steps.specs.declared.bits.bit_set.SetStage.{SetStage}
-use Rattle.steps.specs.declared.bits.bit_set.ResetNextStage.{ResetNextStage}
+use Rattle.laws_bits.proofs.Names.{◌≡◌, ◌≢◌, ℕ, ◌+◌, ◌≤◌, List, ◌++◌, fold, length, get_or, refl, sym, ap, ◌∙◌}
+use Rattle.laws_bits.proofs.Names.{fold-append, SetStage, ResetNextStage, place_after, at_most, element_of, elements}
+use Rattle.laws_bits.proofs.Names.{stands, Event, BitsFlight, ResetNext, BitsAnswerRight, CameTo, bits_promise, sets}
+use Rattle.laws_bits.proofs.Names.{clears, standing, position_after, position_of, BeginsNone, Each, one_if}
+use Rattle.laws_bits.proofs.Names.{held_later, since_more, AreRight, Each-append}
+use Rattle.std.proofs.Common.{arith}
 use Rattle.steps.specs.declared.bits.bit_set.ResetNextStage as resetting
-use Rattle.steps.specs.Bits.BitSet.{place_after, at_most}
-use Rattle.steps.specs.Bits.Words.{element_of, elements, stands}
-use Rattle.model.specs.declared.event.Event.{Event}
-use Rattle.model.specs.declared.families.bits.calls.BitsFlight.{BitsFlight}
-use Rattle.model.specs.declared.families.bits.calls.BitsFlight.TheVariants.{Set, ResetNext, ResetAll}
+use Rattle.model.specs.declared.families.bits.calls.BitsFlight.TheVariants.{Set, ResetAll}
 use Rattle.model.specs.declared.turn.Kind as kinds
-use Rattle.model.specs.Families.Bits.Promises.{BitsAnswerRight, CameTo, bits_promise}
-use Rattle.model.specs.Families.Bits.Reading.{sets, clears, standing, position_after, position_of}
-use Rattle.model.specs.Moments.{BeginsNone}
-use Rattle.model.specs.Reading.{Each}
-use Rattle.model.specs.Turns.{one_if}
-use Rattle.model.proofs.Moments.{held_later, since_more}
-use Rattle.model.proofs.Readings.{AreRight, Each-append}
 use Rattle.laws_bits.proofs.Bits.Core.{ClearedBelow, cleared_still, sets_more, clears_more}
 use Rattle.laws_bits.proofs.Bits.Knows.{CallAt, KnowsCall, KnowsSet, KnowsNext, Paid, Passed, Began, call_wrote, number_of}
 use Rattle.laws_bits.proofs.Family.{SetKind}

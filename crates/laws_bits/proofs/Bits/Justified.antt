@@ -1,30 +1,17 @@
 -- What a step writes down, and with it all that a bit set owes of its machine.
+use Rattle.laws_bits.proofs.Names.{◌≡◌, ℕ, List, [], ◌∷◌, refl, sym, subst, AllByRecursion, SetStage, ResetNextStage}
+use Rattle.laws_bits.proofs.Names.{places_in, Event, BitsStart, BitsFlight, Next, Coding, set_events, reset_events}
+use Rattle.laws_bits.proofs.Names.{effects_of, IsEffectOf, Keeps, IsBitSet, IsReachedOn, Trace}
 use native.Mathlib.Omega.{arith}
-use Rattle.std.proofs.Common.{◌≡◌, ℕ, List, [], ◌∷◌, refl, sym, subst}
-use Rattle.std.specs.List.{AllByRecursion}
-use Rattle.steps.specs.declared.bits.bit_set.SetStage.{SetStage}
-use Rattle.steps.specs.declared.bits.bit_set.ResetNextStage.{ResetNextStage}
-use Rattle.steps.specs.Bits.Places.{places_in}
-use Rattle.model.specs.declared.event.Event.{Event}
-use Rattle.model.specs.declared.families.bits.BitsStart.{BitsStart}
 use Rattle.model.specs.declared.families.bits.BitsStart as starts
-use Rattle.model.specs.declared.families.bits.calls.BitsFlight.{BitsFlight}
 use Rattle.model.specs.declared.families.bits.calls.BitsFlight as calls
 use Rattle.model.specs.declared.turn.Kind as kinds
-use Rattle.model.specs.declared.turn.Turn.TheVariants.{Next}
-use Rattle.model.specs.Coding.{Coding}
-use Rattle.model.specs.Families.Bits.Steps.{set_events, reset_events, effects_of}
-use Rattle.model.specs.Promises.Turns.{IsEffectOf}
-use Rattle.model.proofs.Orders.{Keeps}
 use Rattle.laws_bits.proofs.Bits.Invariant.{bit_set, holds_more, call_still, Holds}
 use Rattle.laws_bits.proofs.Bits.Kept.{bits_kept, steps_most, backs_paid}
 use Rattle.laws_bits.proofs.Bits.Knows.{CallAt}
 use Rattle.laws_bits.proofs.Bits.Lists.{all_cleared}
 use Rattle.laws_bits.proofs.Bits.Sound.{opens, never_asks, step_shows, first_is, begins_own, begins_none}
 use Rattle.laws_bits.proofs.Laws.{SetLaws, sets_keep, sound_on}
-use Rattle.model.specs.Families.Bits.Promises.{IsBitSet}
-use Rattle.model.specs.Turns.{IsReachedOn}
-use Rattle.model.specs.World.{Trace}
 
 module _ (T : Type 0) where
   set_effects : (p bit old : ℕ) (stage : SetStage) → AllByRecursion (IsEffectOf {T = T} (Next p)) (set_events p bit stage old)

@@ -1,11 +1,7 @@
 -- What the invariant says of the events, in the promises' words.
-use Rattle.std.proofs.Common.{◌≡◌, ℕ, ◌-◌, ◌≤◌, List, subst, arith}
-use Rattle.model.specs.declared.event.Event.{Event}
-use Rattle.model.specs.declared.families.bits.BitsStart.{BitsStart}
-use Rattle.model.specs.declared.families.bits.calls.BitsFlight.{BitsFlight}
-use Rattle.model.specs.Families.Bits.Bounds.{most_bits_steps}
-use Rattle.model.specs.Families.Bits.Promises.{IsBitSet}
-use Rattle.model.specs.World.{Trace}
+use Rattle.laws_bits.proofs.Names.{◌≡◌, ℕ, ◌-◌, ◌≤◌, List, subst, Event, BitsStart, BitsFlight, most_bits_steps}
+use Rattle.laws_bits.proofs.Names.{IsBitSet, Trace}
+use Rattle.std.proofs.Common.{arith}
 use Rattle.laws_bits.proofs.Bits.Invariant.{Holds}
 use Rattle.laws_bits.proofs.Bits.Knows.{CallAt, KnowsCall, number_of}
 

@@ -1,21 +1,12 @@
 -- What a call of the bit set knows where it stands.
-use Rattle.std.proofs.Common.{◌≡◌, ◌≢◌, ℕ, ◌+◌, ◌-◌, ◌<◌, ◌≤◌, true, false, List, [], ◌∷◌, get_or}
-use Rattle.steps.specs.declared.bits.bit_set.SetStage.{SetStage}
+use Rattle.laws_bits.proofs.Names.{◌≡◌, ◌≢◌, ℕ, ◌+◌, ◌-◌, ◌<◌, ◌≤◌, true, false, List, [], ◌∷◌, get_or, SetStage}
+use Rattle.laws_bits.proofs.Names.{ResetNextStage, place_after, at_most, element_of, elements, has_flag, Event}
+use Rattle.laws_bits.proofs.Names.{Cleared, BitsStart, BitsFlight, ResetNext, CameTo, clears, standing, position_of}
+use Rattle.laws_bits.proofs.Names.{HeldSometime, SinceBegin, Span}
 use Rattle.steps.specs.declared.bits.bit_set.SetStage as setting
-use Rattle.steps.specs.declared.bits.bit_set.ResetNextStage.{ResetNextStage}
 use Rattle.steps.specs.declared.bits.bit_set.ResetNextStage as resetting
-use Rattle.steps.specs.Bits.BitSet.{place_after, at_most}
-use Rattle.steps.specs.Bits.Words.{element_of, elements, has_flag}
-use Rattle.model.specs.declared.event.Event.{Event}
-use Rattle.model.specs.declared.event.Event.TheVariants.{Cleared}
-use Rattle.model.specs.declared.families.bits.BitsStart.{BitsStart}
 use Rattle.model.specs.declared.families.bits.BitsStart as starts
-use Rattle.model.specs.declared.families.bits.calls.BitsFlight.{BitsFlight}
-use Rattle.model.specs.declared.families.bits.calls.BitsFlight.TheVariants.{Set, ResetNext, ResetAll}
-use Rattle.model.specs.Families.Bits.Promises.{CameTo}
-use Rattle.model.specs.Families.Bits.Reading.{clears, standing, position_of}
-use Rattle.model.specs.Moments.{HeldSometime, SinceBegin}
-use Rattle.model.specs.Reading.{Span}
+use Rattle.model.specs.declared.families.bits.calls.BitsFlight.TheVariants.{Set, ResetAll}
 use Rattle.laws_bits.proofs.Bits.Core.{ClearedBelow}
 use Rattle.laws_bits.proofs.Spans.{wrote_in}
 

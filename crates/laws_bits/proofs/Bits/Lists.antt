@@ -1,22 +1,12 @@
 -- The events of the places of one element that were cleared, as one list.
-use Rattle.std.proofs.Common.{◌≡◌, ℕ, zero, suc, ◌+◌, ◌≤◌, ◌==◌, Bool, true, false, cond, List, [], ◌∷◌, ◌++◌, fold}
-use Rattle.std.proofs.Common.{map, refl, sym, ap, subst, ◌∙◌, append_assoc, append-nil, arith}
-use Rattle.std.specs.List.{count_by, filter, range_with_len}
-use Rattle.std.proofs.lemmas.Bool.Decides.{nat_tests}
-use Rattle.std.proofs.lemmas.List.Sums.{sum_by-cons}
-use Rattle.steps.specs.Bits.Places.{first_place, places_in}
-use Rattle.steps.specs.Bits.Words.{has_flag}
-use Rattle.steps.proofs.Flags.Words.{none_stands}
-use Rattle.model.specs.declared.event.Event.{Event}
-use Rattle.model.specs.declared.event.Event.TheVariants.{Cleared}
-use Rattle.model.specs.declared.event.Start.TheVariants.{Bits}
+use Rattle.laws_bits.proofs.Names.{◌≡◌, ℕ, zero, suc, ◌+◌, ◌≤◌, ◌==◌, Bool, true, false, cond, List, [], ◌∷◌, ◌++◌}
+use Rattle.laws_bits.proofs.Names.{fold, map, refl, sym, ap, subst, ◌∙◌, append_assoc, append-nil, count_by, filter}
+use Rattle.laws_bits.proofs.Names.{range_with_len, nat_tests, sum_by-cons, first_place, places_in, has_flag}
+use Rattle.laws_bits.proofs.Names.{none_stands, Event, Cleared, Bits, BitsAnswerRight, bits_promise, is_clear_of}
+use Rattle.laws_bits.proofs.Names.{is_set_of, sets, clears, position_after, BeginsNone, Stands, Span, Open, own_after}
+use Rattle.laws_bits.proofs.Names.{AreRight, AreOwn, AllFollow}
+use Rattle.std.proofs.Common.{arith}
 use Rattle.model.specs.declared.families.bits.BitsStart.TheVariants.{ResetAll}
-use Rattle.model.specs.Families.Bits.Promises.{BitsAnswerRight, bits_promise}
-use Rattle.model.specs.Families.Bits.Reading.{is_clear_of, is_set_of, sets, clears, position_after}
-use Rattle.model.specs.Moments.{BeginsNone}
-use Rattle.model.specs.Promises.Spans.{Stands}
-use Rattle.model.specs.Reading.{Span, Open, own_after}
-use Rattle.model.proofs.Readings.{AreRight, AreOwn, AllFollow}
 use Rattle.laws_bits.proofs.Bits.Core.{clears_more}
 
 -- ---- lists that stand one after another

@@ -1,34 +1,17 @@
 -- The steps of a reset of the next bit.
-use Rattle.std.proofs.Common.{◌≡◌, ◌≢◌, ℕ, ◌+◌, ◌-◌, ◌<◌, ◌≤◌, ◌==◌, nat_lt, Bool, true, false, ⊎_elim, Option, Some}
-use Rattle.std.proofs.Common.{List, [], ◌∷◌, ◌++◌, length, get_or, set, refl, sym, ap, subst, ◌∙◌, arith}
-use Rattle.std.proofs.Common.{get_or-set_same, get_or-set_other}
-use Rattle.std.proofs.lemmas.Bool.{cases_lt}
-use Rattle.std.proofs.lemmas.Bool.Decides.{nat_tests}
-use Rattle.steps.specs.declared.ask.Ask.{Ask}
-use Rattle.steps.specs.declared.ask.Op.TheVariants.{Load, Store, Exchange}
-use Rattle.steps.specs.declared.ask.After.{After}
-use Rattle.steps.specs.declared.ask.After.TheVariants.{GoOn, Done}
-use Rattle.steps.specs.declared.bits.bit_set.ResetNextStage.{ResetNextStage}
+use Rattle.laws_bits.proofs.Names.{◌≡◌, ◌≢◌, ℕ, ◌+◌, ◌-◌, ◌<◌, ◌≤◌, ◌==◌, nat_lt, Bool, true, false, ⊎_elim, Option}
+use Rattle.laws_bits.proofs.Names.{Some, List, [], ◌∷◌, ◌++◌, length, get_or, set, refl, sym, ap, subst, ◌∙◌}
+use Rattle.laws_bits.proofs.Names.{get_or-set_same, get_or-set_other, cases_lt, nat_tests, Ask, Load, Store, Exchange}
+use Rattle.laws_bits.proofs.Names.{After, GoOn, Done, ResetNextStage, place_after, at_most, element_of, has_flag}
+use Rattle.laws_bits.proofs.Names.{without_flag, stands, cleared_clear, cleared_leaves, stands_elsewhere}
+use Rattle.laws_bits.proofs.Names.{elements_after, Answer, Event, Cleared, BitsStart, BitsFlight, Coding, after}
+use Rattle.laws_bits.proofs.Names.{goes_back, CameTo, clears, standing, position_of, effects_of, HeldSometime, one_if}
+use Rattle.laws_bits.proofs.Names.{words_after, held_now, held_later}
+use Rattle.std.proofs.Common.{arith}
 use Rattle.steps.specs.declared.bits.bit_set.ResetNextStage as resetting
-use Rattle.steps.specs.Bits.BitSet.{place_after, at_most}
-use Rattle.steps.specs.Bits.Words.{element_of, has_flag, without_flag, stands}
 use Rattle.steps.specs.Queues.Ring.{after_position}
-use Rattle.steps.proofs.Flags.Words.{cleared_clear, cleared_leaves, stands_elsewhere, elements_after}
-use Rattle.model.specs.declared.event.Answer.{Answer}
 use Rattle.model.specs.declared.event.Answer as answers
-use Rattle.model.specs.declared.event.Event.{Event}
-use Rattle.model.specs.declared.event.Event.TheVariants.{Cleared}
-use Rattle.model.specs.declared.families.bits.BitsStart.{BitsStart}
 use Rattle.model.specs.declared.families.bits.BitsStart as starts
-use Rattle.model.specs.declared.families.bits.calls.BitsFlight.{BitsFlight}
-use Rattle.model.specs.Coding.{Coding}
-use Rattle.model.specs.Families.Bits.Calls.{after, goes_back}
-use Rattle.model.specs.Families.Bits.Promises.{CameTo}
-use Rattle.model.specs.Families.Bits.Reading.{clears, standing, position_of}
-use Rattle.model.specs.Families.Bits.Steps.{effects_of}
-use Rattle.model.specs.Moments.{HeldSometime}
-use Rattle.model.specs.Turns.{one_if, words_after}
-use Rattle.model.proofs.Moments.{held_now, held_later}
 use Rattle.laws_bits.proofs.Bits.Invariant.{Holds, bit_set}
 use Rattle.laws_bits.proofs.Bits.Knows.{NextStands, KnowsNext, Passed, Began, next_at, next_number, next_wrote}
 use Rattle.laws_bits.proofs.Bits.Sets.{element_near}

@@ -1,29 +1,15 @@
 -- The steps of a set.
-use Rattle.std.proofs.Common.{◌≡◌, ◌≢◌, ℕ, ◌+◌, ◌<◌, ◌≤◌, ◌==◌, Bool, true, false, Option, Some, List, [], ◌∷◌, length}
-use Rattle.std.proofs.Common.{get_or, set, refl, sym, ap, ◌∙◌, arith, get_or-set_other}
-use Rattle.std.proofs.lemmas.Bool.Decides.{nat_tests}
-use Rattle.steps.specs.declared.ask.Ask.{Ask}
-use Rattle.steps.specs.declared.ask.Op.TheVariants.{Load, Exchange}
-use Rattle.steps.specs.declared.ask.After.{After}
-use Rattle.steps.specs.declared.ask.After.TheVariants.{GoOn, Done}
-use Rattle.steps.specs.declared.bits.bit_set.SetStage.{SetStage}
+use Rattle.laws_bits.proofs.Names.{◌≡◌, ◌≢◌, ℕ, ◌+◌, ◌<◌, ◌≤◌, ◌==◌, Bool, true, false, Option, Some, List, [], ◌∷◌}
+use Rattle.laws_bits.proofs.Names.{length, get_or, set, refl, sym, ap, ◌∙◌, get_or-set_other, nat_tests, Ask, Load}
+use Rattle.laws_bits.proofs.Names.{Exchange, After, GoOn, Done, SetStage, element_of, elements, has_flag, with_flag}
+use Rattle.laws_bits.proofs.Names.{stands, set_stands, set_leaves, elements_after, Answer, Event, Finished, Bits}
+use Rattle.laws_bits.proofs.Names.{BitsFlight, Coding, after, goes_back, sets, standing, effects_of, one_if}
+use Rattle.laws_bits.proofs.Names.{words_after, held_now}
+use Rattle.std.proofs.Common.{arith}
 use Rattle.steps.specs.declared.bits.bit_set.SetStage as setting
-use Rattle.steps.specs.Bits.Words.{element_of, elements, has_flag, with_flag, stands}
-use Rattle.steps.proofs.Flags.Words.{set_stands, set_leaves, elements_after}
-use Rattle.model.specs.declared.event.Answer.{Answer}
 use Rattle.model.specs.declared.event.Answer as answers
-use Rattle.model.specs.declared.event.Event.{Event}
 use Rattle.model.specs.declared.event.Event as told
-use Rattle.model.specs.declared.event.Event.TheVariants.{Finished}
-use Rattle.model.specs.declared.event.Start.TheVariants.{Bits}
 use Rattle.model.specs.declared.families.bits.BitsStart as starts
-use Rattle.model.specs.declared.families.bits.calls.BitsFlight.{BitsFlight}
-use Rattle.model.specs.Coding.{Coding}
-use Rattle.model.specs.Families.Bits.Calls.{after, goes_back}
-use Rattle.model.specs.Families.Bits.Reading.{sets, standing}
-use Rattle.model.specs.Families.Bits.Steps.{effects_of}
-use Rattle.model.specs.Turns.{one_if, words_after}
-use Rattle.model.proofs.Moments.{held_now}
 use Rattle.laws_bits.proofs.Bits.Invariant.{Holds, bit_set}
 use Rattle.laws_bits.proofs.Bits.Knows.{SetStands, KnowsSet, set_at, set_number}
 use Rattle.laws_bits.proofs.Bits.Steps.{same_bits, ends, pays_by, as_long}

@@ -1,26 +1,12 @@
 -- Where the machine of a bit set opens, where each of its calls begins, and what each step of them shows.
-use Rattle.std.proofs.Common.{◌≡◌, ℕ, ◌+◌, ◌≤◌, false, Some, List, [], ◌∷◌, replicate, refl, sym, ap, subst, ◌∙◌, arith}
-use Rattle.std.proofs.lemmas.List.{length-replicate}
-use Rattle.steps.specs.Bits.Words.{element_of, elements, has_flag, stands}
-use Rattle.steps.proofs.Flags.Words.{none_stands}
-use Rattle.model.specs.declared.event.Event.{Event}
-use Rattle.model.specs.declared.event.Event.TheVariants.{Begun}
-use Rattle.model.specs.declared.event.Start.{Start}
-use Rattle.model.specs.declared.event.Start.TheVariants.{Bits}
-use Rattle.model.specs.declared.families.Registry.{Registry}
-use Rattle.model.specs.declared.families.Flight.{Flight}
-use Rattle.model.specs.declared.families.bits.BitsStart.{BitsStart}
+use Rattle.laws_bits.proofs.Names.{◌≡◌, ℕ, ◌+◌, ◌≤◌, false, Some, List, [], ◌∷◌, replicate, refl, sym, ap, subst, ◌∙◌}
+use Rattle.laws_bits.proofs.Names.{length-replicate, element_of, elements, has_flag, stands, none_stands, Event}
+use Rattle.laws_bits.proofs.Names.{Begun, Start, Bits, Registry, Flight, BitsStart, BitsFlight, Coding, first_of}
+use Rattle.laws_bits.proofs.Names.{is_question, first, want, bits_words, is_past, clears, one_if, Each-nil}
+use Rattle.std.proofs.Common.{arith}
 use Rattle.model.specs.declared.families.bits.BitsStart as starts
-use Rattle.model.specs.declared.families.bits.calls.BitsFlight.{BitsFlight}
 use Rattle.model.specs.declared.families.bits.calls.BitsFlight as calls
 use Rattle.model.specs.declared.turn.Kind as kinds
-use Rattle.model.specs.Coding.{Coding}
-use Rattle.model.specs.Families.{first_of, is_question}
-use Rattle.model.specs.Families.Bits.Calls.{first, want}
-use Rattle.model.specs.Families.Bits.Opening.{bits_words, is_past}
-use Rattle.model.specs.Families.Bits.Reading.{clears}
-use Rattle.model.specs.Turns.{one_if}
-use Rattle.model.proofs.Readings.{Each-nil}
 use Rattle.laws_bits.proofs.Bits.Alls.{reset_all_step}
 use Rattle.laws_bits.proofs.Bits.Invariant.{Holds, Conserves, bit_set}
 use Rattle.laws_bits.proofs.Bits.Knows.{CallAt, KnowsSet, KnowsNext, next_number, set_at, next_at}

@@ -1,25 +1,11 @@
 -- What a step of a call of the bit set has to show: the common cases.
-use Rattle.std.proofs.Common.{◌≡◌, ℕ, ◌+◌, ◌≤◌, Bool, Option, Some, None, List, [], ◌∷◌, ◌++◌, fold, length, get_or, refl, ap, arith, length-set}
-use Rattle.steps.specs.declared.ask.Ask.{Ask}
-use Rattle.steps.specs.declared.ask.After.{After}
-use Rattle.steps.specs.declared.ask.After.TheVariants.{GoOn, Done}
-use Rattle.steps.specs.Bits.Words.{stands}
-use Rattle.model.specs.declared.event.Answer.{Answer}
-use Rattle.model.specs.declared.event.Event.{Event}
-use Rattle.model.specs.declared.event.Event.TheVariants.{Finished}
-use Rattle.model.specs.declared.event.Start.TheVariants.{Bits}
-use Rattle.model.specs.declared.families.bits.BitsStart.{BitsStart}
-use Rattle.model.specs.declared.families.bits.calls.BitsFlight.{BitsFlight}
-use Rattle.model.specs.Coding.{Coding}
-use Rattle.model.specs.Families.{ask_of}
-use Rattle.model.specs.Families.Bits.Bounds.{most_bits_steps}
-use Rattle.model.specs.Families.Bits.Calls.{want, after, goes_back}
-use Rattle.model.specs.Families.Bits.Promises.{BitsAnswerRight, BitsWrote}
-use Rattle.model.specs.Families.Bits.Reading.{sets, clears, position_after}
-use Rattle.model.specs.Families.Bits.Steps.{effects_of}
-use Rattle.model.specs.Reading.{Open, span_of}
-use Rattle.model.specs.Turns.{one_if, old_of, words_after, change_of, step_count}
-use Rattle.model.proofs.Readings.{AreRight}
+use Rattle.laws_bits.proofs.Names.{◌≡◌, ℕ, ◌+◌, ◌≤◌, Bool, Option, Some, None, List, [], ◌∷◌, ◌++◌, fold, length}
+use Rattle.laws_bits.proofs.Names.{get_or, refl, ap, length-set, Ask, After, GoOn, Done, stands, Answer, Event}
+use Rattle.laws_bits.proofs.Names.{Finished, Bits, BitsStart, BitsFlight, Coding, ask_of, most_bits_steps, want}
+use Rattle.laws_bits.proofs.Names.{after, goes_back, BitsAnswerRight, BitsWrote, sets, clears, position_after}
+use Rattle.laws_bits.proofs.Names.{effects_of, Open, span_of, one_if, old_of, words_after, change_of, step_count}
+use Rattle.laws_bits.proofs.Names.{AreRight}
+use Rattle.std.proofs.Common.{arith}
 use Rattle.laws_bits.proofs.Bits.Invariant.{Pays, Conserves, rest_conserves, bit_set}
 use Rattle.laws_bits.proofs.Bits.Knows.{CallAt, KnowsCall, call_wrote, number_of}
 use Rattle.laws_bits.proofs.Family.{SetState, StepShows, ShowsStep}

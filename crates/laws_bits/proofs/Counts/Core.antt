@@ -1,12 +1,8 @@
 -- What the events say of each count, and what came since a party's latest call began.
-use Rattle.std.proofs.Common.{◌≡◌, ◌⊎◌, inl, inr, ℕ, ◌+◌, ◌-◌, ◌*◌, ◌^◌, ◌==◌, ◌<◌, ◌≤◌, Bool, true, false, cond, List}
-use Rattle.std.proofs.Common.{[], ◌∷◌, ◌++◌, refl, sym, ap, ◌∙◌, append_assoc, arith}
-use Rattle.std.proofs.lemmas.Bool.Decides.{nat_tests}
-use Rattle.std.proofs.lemmas.List.Sums.{sum_by-append}
-use Rattle.model.specs.declared.event.Event.{Event}
-use Rattle.model.specs.declared.event.Event.TheVariants.{Begun}
-use Rattle.model.specs.declared.event.Start.{Start}
-use Rattle.model.specs.Families.Bits.Reading.{is_count_of, take_of, counts, takes, count_at}
+use Rattle.laws_bits.proofs.Names.{◌≡◌, ◌⊎◌, inl, inr, ℕ, ◌+◌, ◌-◌, ◌*◌, ◌^◌, ◌==◌, ◌<◌, ◌≤◌, Bool, true, false, cond}
+use Rattle.laws_bits.proofs.Names.{List, [], ◌∷◌, ◌++◌, refl, sym, ap, ◌∙◌, append_assoc, nat_tests, sum_by-append}
+use Rattle.laws_bits.proofs.Names.{Event, Begun, Start, is_count_of, take_of, counts, takes, count_at}
+use Rattle.std.proofs.Common.{arith}
 
 -- of what was counted and taken out before and since
 either_way : (c t c' t' wraps : ℕ) → 1 ≤ c - t → c + c' ≡ t + t' + 2 ^ 64 * wraps → (1 ≤ t') ⊎ (2 ^ 64 ≤ c + c')

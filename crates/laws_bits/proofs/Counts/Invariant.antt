@@ -1,18 +1,11 @@
 -- What holds of a counting bit set's machine between any two turns beside what the frame says of every machine, and what a
 -- turn does to its counts that keeps it.
-use Rattle.std.proofs.Common.{◌≡◌, ℕ, ◌+◌, ◌*◌, ◌^◌, ◌<◌, ◌≤◌, List, [], ◌++◌, length, get_or, refl, ◌∙◌, arith}
-use Rattle.model.specs.declared.event.Event.{Event}
-use Rattle.model.specs.declared.families.bits.BitsStart.{BitsStart}
+use Rattle.laws_bits.proofs.Names.{◌≡◌, ℕ, ◌+◌, ◌*◌, ◌^◌, ◌<◌, ◌≤◌, List, [], ◌++◌, length, get_or, refl, ◌∙◌, Event}
+use Rattle.laws_bits.proofs.Names.{BitsStart, BitsFlight, Count, TakeAll, CountsAnswerOn, counts_promise, counts}
+use Rattle.laws_bits.proofs.Names.{takes, SinceBegin, BeginsNone, Each, Span, since_more, AreRight, Each-append}
+use Rattle.std.proofs.Common.{arith}
 use Rattle.model.specs.declared.families.bits.BitsStart.TheVariants.{Set, ResetAll}
-use Rattle.model.specs.declared.families.bits.calls.BitsFlight.{BitsFlight}
-use Rattle.model.specs.declared.families.bits.calls.BitsFlight.TheVariants.{Count, TakeAll}
 use Rattle.model.specs.declared.turn.Kind as kinds
-use Rattle.model.specs.Families.Bits.Promises.{CountsAnswerOn, counts_promise}
-use Rattle.model.specs.Families.Bits.Reading.{counts, takes}
-use Rattle.model.specs.Moments.{SinceBegin, BeginsNone}
-use Rattle.model.specs.Reading.{Each, Span}
-use Rattle.model.proofs.Moments.{since_more}
-use Rattle.model.proofs.Readings.{AreRight, Each-append}
 use Rattle.laws_bits.proofs.Counts.Core.{TakenBelow, taken_still, counts_more, takes_more}
 use Rattle.laws_bits.proofs.Family.{SetKind}
 use Rattle.laws_bits.proofs.Spans.{wrote_in}

@@ -1,23 +1,12 @@
 -- What a step writes down, and with it all that a counting bit set owes of its machine.
+use Rattle.laws_bits.proofs.Names.{◌≡◌, ℕ, ◌-◌, List, refl, sym, subst, AllByRecursion, Event, BitsStart, BitsFlight}
+use Rattle.laws_bits.proofs.Names.{Next, Coding, effects_of, IsEffectOf, Keeps, IsCountingOn, IsReachedOn, Trace}
 use native.Mathlib.Omega.{arith}
-use Rattle.std.proofs.Common.{◌≡◌, ℕ, ◌-◌, List, refl, sym, subst}
-use Rattle.std.specs.List.{AllByRecursion}
-use Rattle.model.specs.declared.event.Event.{Event}
-use Rattle.model.specs.declared.families.bits.BitsStart.{BitsStart}
-use Rattle.model.specs.declared.families.bits.calls.BitsFlight.{BitsFlight}
 use Rattle.model.specs.declared.turn.Kind as kinds
-use Rattle.model.specs.declared.turn.Turn.TheVariants.{Next}
-use Rattle.model.specs.Coding.{Coding}
-use Rattle.model.specs.Families.Bits.Steps.{effects_of}
-use Rattle.model.specs.Promises.Turns.{IsEffectOf}
-use Rattle.model.proofs.Orders.{Keeps}
 use Rattle.laws_bits.proofs.Counts.Invariant.{Holds, CallAt, counting_set, holds_more, call_still}
 use Rattle.laws_bits.proofs.Counts.Kept.{counts_kept, counts_on, steps_most, backs_paid}
 use Rattle.laws_bits.proofs.Counts.Sound.{opens, never_asks, step_shows, first_is, begins_own, begins_none}
 use Rattle.laws_bits.proofs.Laws.{SetLaws, sets_keep, sound_on}
-use Rattle.model.specs.Families.Bits.Promises.{IsCountingOn}
-use Rattle.model.specs.Turns.{IsReachedOn}
-use Rattle.model.specs.World.{Trace}
 
 are_effects : (T : Type 0) (c p old : ℕ) (wrote : List (Event T)) (start : BitsStart) (flight : BitsFlight)
     → CallAt c wrote start flight → AllByRecursion (IsEffectOf {T = T} (Next p)) (effects_of p flight old)

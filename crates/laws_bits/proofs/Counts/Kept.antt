@@ -1,18 +1,12 @@
 -- What the invariant says of the events, in the promises' words.
-use Rattle.std.proofs.Common.{◌≡◌, ◌⊎◌, inl, inr, ℕ, ◌+◌, ◌-◌, ◌^◌, ◌<◌, ◌≤◌, List, [], ◌∷◌, ◌++◌, ap, subst, arith}
-use Rattle.model.specs.declared.event.Event.{Event}
-use Rattle.model.specs.declared.families.bits.BitsStart.{BitsStart}
+use Rattle.laws_bits.proofs.Names.{◌≡◌, ◌⊎◌, inl, inr, ℕ, ◌+◌, ◌-◌, ◌^◌, ◌<◌, ◌≤◌, List, [], ◌∷◌, ◌++◌, ap, subst}
+use Rattle.laws_bits.proofs.Names.{Event, BitsStart, BitsFlight, most_counts_steps, IsCountingSet, IsCountingOn}
+use Rattle.laws_bits.proofs.Names.{HasTaken, HasTakenOn, CountsAnswerRight, CountsAnswerOn, counts, takes, SinceBegin}
+use Rattle.laws_bits.proofs.Names.{Begun, Counted, Finished, Bits, Trace}
+use Rattle.std.proofs.Common.{arith}
 use Rattle.model.specs.declared.families.bits.BitsStart.TheVariants.{Set, ResetAll}
-use Rattle.model.specs.declared.families.bits.calls.BitsFlight.{BitsFlight}
-use Rattle.model.specs.Families.Bits.Bounds.{most_counts_steps}
-use Rattle.model.specs.Families.Bits.Promises.{IsCountingSet, IsCountingOn, HasTaken, HasTakenOn, CountsAnswerRight, CountsAnswerOn}
-use Rattle.model.specs.Families.Bits.Reading.{counts, takes}
-use Rattle.model.specs.Moments.{SinceBegin}
 use Rattle.model.specs.declared.event.Answer.TheVariants.{Number}
-use Rattle.model.specs.declared.event.Event.TheVariants.{Begun, Counted, Finished}
-use Rattle.model.specs.declared.event.Start.TheVariants.{Bits}
 use Rattle.laws_bits.proofs.Counts.Core.{counts_more}
-use Rattle.model.specs.World.{Trace}
 use Rattle.laws_bits.proofs.Counts.Invariant.{Holds, CallAt, KnowsCall, number_of}
 
 module _ {T : Type 0} where

@@ -1,33 +1,15 @@
 -- What each step of a reset of all counts shows: it swaps the next count with 0.
-use Rattle.std.proofs.Common.{◌≡◌, ◌≢◌, ℕ, ◌+◌, ◌*◌, ◌^◌, ◌<◌, ◌≤◌, ◌==◌, nat_lt, Bool, true, false, cond, Option}
-use Rattle.std.proofs.Common.{Some, List, [], ◌∷◌, ◌++◌, fold, length, get_or, set, refl, sym, ap, subst, ◌∙◌}
-use Rattle.std.proofs.Common.{append-nil, arith, length-set, get_or-set_same, get_or-set_other}
-use Rattle.std.proofs.lemmas.Bool.Decides.{nat_tests}
-use Rattle.steps.specs.declared.ask.Ask.{Ask}
-use Rattle.steps.specs.declared.ask.Op.TheVariants.{Swap}
-use Rattle.steps.specs.declared.ask.After.{After}
-use Rattle.steps.specs.declared.ask.After.TheVariants.{GoOn, Done}
-use Rattle.steps.specs.declared.copied.OneWord.{OneWord}
-use Rattle.model.specs.declared.event.Answer.{Answer}
+use Rattle.laws_bits.proofs.Names.{◌≡◌, ◌≢◌, ℕ, ◌+◌, ◌*◌, ◌^◌, ◌<◌, ◌≤◌, ◌==◌, nat_lt, Bool, true, false, cond}
+use Rattle.laws_bits.proofs.Names.{Option, Some, List, [], ◌∷◌, ◌++◌, fold, length, get_or, set, refl, sym, ap, subst}
+use Rattle.laws_bits.proofs.Names.{◌∙◌, append-nil, length-set, get_or-set_same, get_or-set_other, nat_tests, Ask}
+use Rattle.laws_bits.proofs.Names.{Swap, After, GoOn, Done, OneWord, Answer, Event, TakenOut, Bits, BitsFlight}
+use Rattle.laws_bits.proofs.Names.{TakeAll, Coding, ask_of, want, after, counts, takes, effects_of, take_events}
+use Rattle.laws_bits.proofs.Names.{SinceBegin, BeginsNone, Open, own_after, span_of, old_of, change_of}
+use Rattle.laws_bits.proofs.Names.{CountsAnswerOn, HasTakenOn, counts_promise, Stands, since_more, AreRight, AreOwn}
+use Rattle.laws_bits.proofs.Names.{AllFollow, span_of-own}
+use Rattle.std.proofs.Common.{arith}
 use Rattle.model.specs.declared.event.Answer as answers
-use Rattle.model.specs.declared.event.Event.{Event}
-use Rattle.model.specs.declared.event.Event.TheVariants.{TakenOut}
-use Rattle.model.specs.declared.event.Start.TheVariants.{Bits}
 use Rattle.model.specs.declared.families.bits.BitsStart.TheVariants.{ResetAll}
-use Rattle.model.specs.declared.families.bits.calls.BitsFlight.{BitsFlight}
-use Rattle.model.specs.declared.families.bits.calls.BitsFlight.TheVariants.{TakeAll}
-use Rattle.model.specs.Coding.{Coding}
-use Rattle.model.specs.Families.{ask_of}
-use Rattle.model.specs.Families.Bits.Calls.{want, after}
-use Rattle.model.specs.Families.Bits.Reading.{counts, takes}
-use Rattle.model.specs.Families.Bits.Steps.{effects_of, take_events}
-use Rattle.model.specs.Moments.{SinceBegin, BeginsNone}
-use Rattle.model.specs.Reading.{Open, own_after, span_of}
-use Rattle.model.specs.Turns.{old_of, change_of}
-use Rattle.model.specs.Families.Bits.Promises.{CountsAnswerOn, HasTakenOn, counts_promise}
-use Rattle.model.specs.Promises.Spans.{Stands}
-use Rattle.model.proofs.Moments.{since_more}
-use Rattle.model.proofs.Readings.{AreRight, AreOwn, AllFollow, span_of-own}
 use Rattle.laws_bits.proofs.Counts.Core.{TakenBelow, taken_next, counts_more, takes_more}
 use Rattle.laws_bits.proofs.Counts.Invariant.{Holds, counting_set}
 use Rattle.laws_bits.proofs.Family.{SetState, Shows, party_then, StepShows}

@@ -1,23 +1,10 @@
 -- Where the machine of a counting bit set opens, where each of its calls begins, and what each step of them shows.
-use Rattle.std.proofs.Common.{◌≡◌, ℕ, false, Some, List, [], ◌∷◌, refl, sym, subst, arith}
-use Rattle.std.proofs.lemmas.List.{length-replicate}
-use Rattle.model.specs.declared.event.Event.{Event}
-use Rattle.model.specs.declared.event.Event.TheVariants.{Begun}
-use Rattle.model.specs.declared.event.Start.{Start}
-use Rattle.model.specs.declared.event.Start.TheVariants.{Bits}
-use Rattle.model.specs.declared.families.Registry.{Registry}
-use Rattle.model.specs.declared.families.Flight.{Flight}
-use Rattle.model.specs.declared.families.bits.BitsStart.{BitsStart}
+use Rattle.laws_bits.proofs.Names.{◌≡◌, ℕ, false, Some, List, [], ◌∷◌, refl, sym, subst, length-replicate, Event}
+use Rattle.laws_bits.proofs.Names.{Begun, Start, Bits, Registry, Flight, BitsStart, BitsFlight, Count, TakeAll}
+use Rattle.laws_bits.proofs.Names.{Coding, first_of, is_question, first, want, counts_words, is_past, takes, Each-nil}
+use Rattle.std.proofs.Common.{arith}
 use Rattle.model.specs.declared.families.bits.BitsStart.TheVariants.{Set, ResetAll}
-use Rattle.model.specs.declared.families.bits.calls.BitsFlight.{BitsFlight}
-use Rattle.model.specs.declared.families.bits.calls.BitsFlight.TheVariants.{Count, TakeAll}
 use Rattle.model.specs.declared.turn.Kind as kinds
-use Rattle.model.specs.Coding.{Coding}
-use Rattle.model.specs.Families.{first_of, is_question}
-use Rattle.model.specs.Families.Bits.Calls.{first, want}
-use Rattle.model.specs.Families.Bits.Opening.{counts_words, is_past}
-use Rattle.model.specs.Families.Bits.Reading.{takes}
-use Rattle.model.proofs.Readings.{Each-nil}
 use Rattle.laws_bits.proofs.Counts.Invariant.{Holds, CallAt, Conserves, counting_set}
 use Rattle.laws_bits.proofs.Counts.Resets.{reset_step}
 use Rattle.laws_bits.proofs.Counts.Steps.{set_shows}

@@ -1,16 +1,11 @@
 -- What each step of a call shows: a set adds 1 to its count, and a reset of all swaps the next count with 0.
-use Rattle.std.proofs.Common.{◌≡◌, ◌≢◌, ℕ, ◌+◌, ◌*◌, ◌/◌, ◌%◌, ◌^◌, ◌<◌, ◌≤◌, ◌==◌, Bool, true, false, Some, List, []}
-use Rattle.std.proofs.Common.{◌∷◌, length, get_or, set, refl, sym, arith, length-set, get_or-set_same, get_or-set_other}
-use Rattle.std.proofs.lemmas.Bool.Decides.{nat_tests}
-use Rattle.steps.specs.declared.ask.Op.TheVariants.{Add}
-use Rattle.steps.specs.declared.ask.After.TheVariants.{Done}
+use Rattle.laws_bits.proofs.Names.{◌≡◌, ◌≢◌, ℕ, ◌+◌, ◌*◌, ◌/◌, ◌%◌, ◌^◌, ◌<◌, ◌≤◌, ◌==◌, Bool, true, false, Some}
+use Rattle.laws_bits.proofs.Names.{List, [], ◌∷◌, length, get_or, set, refl, sym, length-set, get_or-set_same}
+use Rattle.laws_bits.proofs.Names.{get_or-set_other, nat_tests, Add, Done, Event, Counted, Finished, Bits, Coding}
+use Rattle.laws_bits.proofs.Names.{counts, count_at}
+use Rattle.std.proofs.Common.{arith}
 use Rattle.model.specs.declared.event.Answer as answers
-use Rattle.model.specs.declared.event.Event.{Event}
-use Rattle.model.specs.declared.event.Event.TheVariants.{Counted, Finished}
-use Rattle.model.specs.declared.event.Start.TheVariants.{Bits}
 use Rattle.model.specs.declared.families.bits.BitsStart.TheVariants.{Set}
-use Rattle.model.specs.Coding.{Coding}
-use Rattle.model.specs.Families.Bits.Reading.{counts, count_at}
 use Rattle.laws_bits.proofs.Counts.Invariant.{Holds, counting_set}
 use Rattle.laws_bits.proofs.Family.{SetState, StepShows}
 

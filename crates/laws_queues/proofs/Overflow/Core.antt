@@ -1,16 +1,10 @@
 -- The overflowing list beside the values that wait: it is as many of them as the capacity, from the oldest on.
-use Rattle.std.proofs.Common.{◌≡◌, ℕ, suc, ◌+◌, ◌*◌, ◌%◌, ◌<◌, ◌≤◌, nat_lt, true, false, Some, None, List, [], ◌∷◌}
-use Rattle.std.proofs.Common.{◌++◌, length, get_or, map, take, drop, slice_get, refl, sym, ap, ◌∙◌, arith}
-use Rattle.std.proofs.Common.{length-append}
-use Rattle.std.proofs.lemmas.Bool.Decides.{nat_tests}
-use Rattle.std.proofs.lemmas.List.{map-append, length-map, take-append-le}
-use Rattle.std.proofs.Math.Seq.{take-append_seam}
-use Rattle.model.specs.declared.event.Item.{Item}
-use Rattle.model.specs.declared.event.Item.TheVariants.{Index}
+use Rattle.laws_queues.proofs.Names.{◌≡◌, ℕ, suc, ◌+◌, ◌*◌, ◌%◌, ◌<◌, ◌≤◌, nat_lt, true, false, Some, None, List, []}
+use Rattle.laws_queues.proofs.Names.{◌∷◌, ◌++◌, length, get_or, map, take, drop, slice_get, refl, sym, ap, ◌∙◌}
+use Rattle.laws_queues.proofs.Names.{length-append, nat_tests, map-append, length-map, take-append-le}
+use Rattle.laws_queues.proofs.Names.{take-append_seam, Item, Index, cut, cut_off, words_of_index, through_cells}
+use Rattle.std.proofs.Common.{arith}
 use Rattle.model.specs.declared.families.queues.QueueKind.TheVariants.{Overflow}
-use Rattle.model.specs.Families.Queues.Objects.{cut, cut_off}
-use Rattle.model.specs.Families.Queues.Calls.{words_of_index}
-use Rattle.model.specs.Families.Queues.Spans.{through_cells}
 use Rattle.laws_queues.proofs.Queues.Core.{Core, Good, take_all, front}
 use Rattle.laws_queues.proofs.Queues.Stages.{first_of_some}
 

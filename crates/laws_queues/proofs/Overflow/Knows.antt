@@ -1,18 +1,11 @@
 -- What a push and a pop of the overflowing queue know where they stand.
-use Rattle.std.proofs.Common.{◌≡◌, ◌-◌, ◌^◌, ℕ, ◌+◌, ◌%◌, ◌<◌, ◌≤◌, ◌==◌, Some, List, [], ◌∷◌, ◌++◌, if◌then◌else◌, get_or, arith}
-use Rattle.steps.specs.declared.copied.OneWord.{OneWord}
+use Rattle.laws_queues.proofs.Names.{◌≡◌, ◌-◌, ◌^◌, ℕ, ◌+◌, ◌%◌, ◌<◌, ◌≤◌, ◌==◌, Some, List, [], ◌∷◌, ◌++◌}
+use Rattle.laws_queues.proofs.Names.{if◌then◌else◌, get_or, OneWord, Index, QueueStart, PushIndex, Pop, PoppedNone}
+use Rattle.laws_queues.proofs.Names.{PoppedIndex, Event, Queues, Published, HandedOut, Acted, Roles, words_of_index}
+use Rattle.std.proofs.Common.{arith}
 use Rattle.steps.specs.declared.queues.overflow.PushStage as overflow_pushes
 use Rattle.steps.specs.declared.queues.overflow.PopStage as overflow_pops
 use Rattle.model.specs.declared.families.queues.calls.OverflowCall as overflows
-use Rattle.model.specs.declared.event.Item.TheVariants.{Index}
-use Rattle.model.specs.declared.families.queues.QueueStart.{QueueStart}
-use Rattle.model.specs.declared.families.queues.QueueStart.TheVariants.{PushIndex, Pop}
-use Rattle.model.specs.declared.event.Answer.TheVariants.{PoppedNone, PoppedIndex}
-use Rattle.model.specs.declared.event.Event.{Event}
-use Rattle.model.specs.declared.event.Start.TheVariants.{Queues}
-use Rattle.model.specs.declared.event.Event.TheVariants.{Published, HandedOut, Acted}
-use Rattle.model.specs.declared.families.queues.Roles.{Roles}
-use Rattle.model.specs.Families.Queues.Calls.{words_of_index}
 use Rattle.laws_queues.proofs.Queues.Core.{Core, Holds}
 use Rattle.laws_queues.proofs.Queues.Core.{GoesUp}
 pub use Rattle.laws_queues.specs.Fresh.{IsFreshOver}

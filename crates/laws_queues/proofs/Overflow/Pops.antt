@@ -1,41 +1,19 @@
 -- The steps of an overflowing queue's pop. The one that moves the read position can make a push of another party act.
-use Rattle.std.proofs.Common.{◌≡◌, ◌≢◌, ℕ, ◌+◌, ◌*◌, ◌%◌, ◌^◌, ◌<◌, ◌≤◌, ◌==◌, Bool, true, false, ⊎_elim, Option, Some}
-use Rattle.std.proofs.Common.{None, [], ◌∷◌, length, get_or, map, take, refl, sym, ap, subst, ◌∙◌, append-nil, arith}
-use Rattle.std.proofs.lemmas.Bool.{cases_lt}
-use Rattle.std.proofs.lemmas.Bool.Decides.{nat_tests}
-use Rattle.std.proofs.lemmas.List.{nil_from_length, set-get_or}
-use Rattle.std.proofs.Math.Seq.{take-nil}
-use Rattle.steps.specs.declared.ask.Ask.{Ask}
-use Rattle.steps.specs.declared.ask.Op.TheVariants.{Load, Exchange}
-use Rattle.steps.specs.declared.ask.After.{After}
-use Rattle.steps.specs.declared.ask.After.TheVariants.{GoOn, Done}
-use Rattle.steps.specs.declared.copied.OneWord.{OneWord}
+use Rattle.laws_queues.proofs.Names.{◌≡◌, ◌≢◌, ℕ, ◌+◌, ◌*◌, ◌%◌, ◌^◌, ◌<◌, ◌≤◌, ◌==◌, Bool, true, false, ⊎_elim}
+use Rattle.laws_queues.proofs.Names.{Option, Some, None, [], ◌∷◌, length, get_or, map, take, refl, sym, ap, subst}
+use Rattle.laws_queues.proofs.Names.{◌∙◌, append-nil, cases_lt, nat_tests, nil_from_length, set-get_or, take-nil, Ask}
+use Rattle.laws_queues.proofs.Names.{Load, Exchange, After, GoOn, Done, OneWord, after_position, QueueFlight, Effect}
+use Rattle.laws_queues.proofs.Names.{Quiet, Acts, Item, Index, Pop, Answer, PoppedNone, PoppedIndex, Queues, Acted}
+use Rattle.laws_queues.proofs.Names.{Flight, Party, Coding, read_word, after, goes_back, pending_at, pending, beside}
+use Rattle.laws_queues.proofs.Names.{takes_effect, effect_of, party_of, doing_of, flight_of, Open, span_of}
+use Rattle.laws_queues.proofs.Names.{words_after, step_count, load_of_write, load_of_read}
+use Rattle.std.proofs.Common.{arith}
 use Rattle.steps.specs.declared.queues.overflow.PopStage as overflow_pops
-use Rattle.steps.specs.Queues.Ring.{after_position}
 use Rattle.steps.specs.Queues.Overflow.{cell_word}
-use Rattle.model.specs.declared.families.queues.calls.QueueFlight.{QueueFlight}
 use Rattle.model.specs.declared.families.queues.calls.QueueFlight.TheVariants.{Overflow}
-use Rattle.model.specs.declared.families.queues.effects.Effect.{Effect}
-use Rattle.model.specs.declared.families.queues.effects.Effect.TheVariants.{Quiet, Acts}
-use Rattle.model.specs.declared.event.Item.{Item}
-use Rattle.model.specs.declared.event.Item.TheVariants.{Index}
-use Rattle.model.specs.declared.families.queues.QueueStart.TheVariants.{Pop}
-use Rattle.model.specs.declared.event.Answer.{Answer}
-use Rattle.model.specs.declared.event.Answer.TheVariants.{PoppedNone, PoppedIndex}
-use Rattle.model.specs.declared.event.Start.TheVariants.{Queues}
-use Rattle.model.specs.declared.event.Event.TheVariants.{Acted}
-use Rattle.model.specs.declared.families.Flight.{Flight}
 use Rattle.model.specs.declared.families.Flight as flights
-use Rattle.model.specs.declared.party.Party.{Party}
 use Rattle.model.specs.declared.families.queues.QueueKind as kinds
-use Rattle.model.specs.Coding.{Coding}
-use Rattle.model.specs.Families.Queues.Calls.{read_word, after, goes_back}
-use Rattle.model.specs.Families.Queues.Steps.{pending_at, pending, beside, takes_effect, effect_of}
-use Rattle.model.specs.Parties.{party_of, doing_of, flight_of}
-use Rattle.model.specs.Reading.{Open, span_of}
-use Rattle.model.specs.Turns.{words_after, step_count}
 use Rattle.laws_queues.proofs.Queues.Invariant.{Scene, Inv, waiting_is}
-use Rattle.model.specs.Families.Queues.Promises.{load_of_write, load_of_read}
 use Rattle.laws_queues.proofs.Overflow.Core.{oldest}
 use Rattle.laws_queues.proofs.Queues.Core.{word_at}
 use Rattle.laws_queues.proofs.Overflow.Knows.{overflow_pop_at, KnowsOverflowPop, KnowsBacks, overflow_pop_number}

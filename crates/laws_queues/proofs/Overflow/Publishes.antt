@@ -1,35 +1,15 @@
 -- The store of the next write position by a push of the overflowing queue.
-use Rattle.std.proofs.Common.{◌≡◌, ◌≢◌, ℕ, ◌+◌, ◌-◌, ◌^◌, ◌<◌, ◌≤◌, ◌==◌, Bool, true, false, Option, Some, None, List}
-use Rattle.std.proofs.Common.{[], ◌∷◌, ◌++◌, length, map, refl, sym, ap, subst, ◌∙◌, arith, length-append}
-use Rattle.std.proofs.lemmas.Bool.Decides.{nat_tests}
-use Rattle.std.proofs.lemmas.List.{map-append}
-use Rattle.steps.specs.declared.ask.Ask.{Ask}
-use Rattle.steps.specs.declared.ask.Op.TheVariants.{Store}
-use Rattle.steps.specs.declared.ask.After.{After}
-use Rattle.steps.specs.declared.ask.After.TheVariants.{GoOn, Done}
-use Rattle.steps.specs.declared.copied.OneWord.{OneWord}
+use Rattle.laws_queues.proofs.Names.{◌≡◌, ◌≢◌, ℕ, ◌+◌, ◌-◌, ◌^◌, ◌<◌, ◌≤◌, ◌==◌, Bool, true, false, Option, Some}
+use Rattle.laws_queues.proofs.Names.{None, List, [], ◌∷◌, ◌++◌, length, map, refl, sym, ap, subst, ◌∙◌, length-append}
+use Rattle.laws_queues.proofs.Names.{nat_tests, map-append, Ask, Store, After, GoOn, Done, OneWord, distance}
+use Rattle.laws_queues.proofs.Names.{after_position, QueueFlight, Effect, Publishes, PublishesAndActs, Item, Index}
+use Rattle.laws_queues.proofs.Names.{PushIndex, Answer, PoppedNone, Event, Queues, Published, Acted, Party, Coding}
+use Rattle.laws_queues.proofs.Names.{answer_of_item, write_word, after, words_of_index, pending, effect_of, put}
+use Rattle.laws_queues.proofs.Names.{words_after, change_of}
+use Rattle.std.proofs.Common.{arith}
 use Rattle.steps.specs.declared.queues.overflow.PushStage as overflow_pushes
-use Rattle.steps.specs.Queues.Ring.{distance, after_position}
-use Rattle.model.specs.declared.families.queues.calls.QueueFlight.{QueueFlight}
 use Rattle.model.specs.declared.families.queues.calls.QueueFlight.TheVariants.{Overflow}
-use Rattle.model.specs.declared.families.queues.effects.Effect.{Effect}
-use Rattle.model.specs.declared.families.queues.effects.Effect.TheVariants.{Publishes, PublishesAndActs}
-use Rattle.model.specs.declared.event.Item.{Item}
-use Rattle.model.specs.declared.event.Item.TheVariants.{Index}
-use Rattle.model.specs.declared.families.queues.QueueStart.TheVariants.{PushIndex}
-use Rattle.model.specs.declared.event.Answer.{Answer}
-use Rattle.model.specs.declared.event.Answer.TheVariants.{PoppedNone}
-use Rattle.model.specs.declared.event.Event.{Event}
-use Rattle.model.specs.declared.event.Start.TheVariants.{Queues}
-use Rattle.model.specs.declared.event.Event.TheVariants.{Published, Acted}
-use Rattle.model.specs.declared.party.Party.{Party}
 use Rattle.model.specs.declared.families.queues.QueueKind as kinds
-use Rattle.model.specs.Coding.{Coding}
-use Rattle.model.specs.Families.Queues.Objects.{answer_of_item}
-use Rattle.model.specs.Families.Queues.Calls.{write_word, after, words_of_index}
-use Rattle.model.specs.Families.Queues.Steps.{pending, effect_of}
-use Rattle.model.specs.Parties.{put}
-use Rattle.model.specs.Turns.{words_after, change_of}
 use Rattle.laws_queues.proofs.Queues.Invariant.{Scene, Inv}
 use Rattle.laws_queues.proofs.Overflow.Core.{one_passes, push_room, push_waits}
 use Rattle.laws_queues.proofs.Queues.Core as core

@@ -1,41 +1,20 @@
 -- The steps of an overflowing queue's push.
-use Rattle.std.proofs.Common.{◌≡◌, ◌≢◌, ℕ, suc, ◌+◌, ◌-◌, ◌*◌, ◌%◌, ◌^◌, ◌<◌, ◌≤◌, ◌==◌, Bool, true, false, inr}
-use Rattle.std.proofs.Common.{Option, Some, None, option_map, List, [], ◌∷◌, ◌++◌, length, get_or, map, refl, sym, ap}
-use Rattle.std.proofs.Common.{subst, ◌∙◌, append-nil, arith, length-append}
-use Rattle.std.proofs.lemmas.Bool.Decides.{nat_tests}
-use Rattle.std.proofs.lemmas.List.{set-get_or}
-use Rattle.steps.specs.declared.ask.Ask.{Ask}
-use Rattle.steps.specs.declared.ask.Op.TheVariants.{Load, Store, Exchange}
-use Rattle.steps.specs.declared.ask.After.{After}
-use Rattle.steps.specs.declared.ask.After.TheVariants.{GoOn, Done}
-use Rattle.steps.specs.declared.copied.OneWord.{OneWord}
+use Rattle.laws_queues.proofs.Names.{◌≡◌, ◌≢◌, ℕ, suc, ◌+◌, ◌-◌, ◌*◌, ◌%◌, ◌^◌, ◌<◌, ◌≤◌, ◌==◌, Bool, true, false}
+use Rattle.laws_queues.proofs.Names.{inr, Option, Some, None, option_map, List, [], ◌∷◌, ◌++◌, length, get_or, map}
+use Rattle.laws_queues.proofs.Names.{refl, sym, ap, subst, ◌∙◌, append-nil, length-append, nat_tests, set-get_or, Ask}
+use Rattle.laws_queues.proofs.Names.{Load, Store, Exchange, After, GoOn, Done, OneWord, after_position, QueueFlight}
+use Rattle.laws_queues.proofs.Names.{Effect, Quiet, Acts, TakesOut, Item, Index, PushIndex, Answer, PoppedNone}
+use Rattle.laws_queues.proofs.Names.{PoppedIndex, Event, Queues, Published, HandedOut, Acted, Party, Coding}
+use Rattle.laws_queues.proofs.Names.{answer_of_item, write_word, read_word, after, words_of_index, pending_at}
+use Rattle.laws_queues.proofs.Names.{pending, effect_of, party_of, doing_of, flight_of, Open, span_of, words_after}
+use Rattle.laws_queues.proofs.Names.{change_of, load_of_write, load_of_read}
+use Rattle.std.proofs.Common.{arith}
 use Rattle.steps.specs.declared.queues.overflow.PushStage as overflow_pushes
-use Rattle.steps.specs.Queues.Ring.{after_position}
 use Rattle.steps.specs.Queues.Overflow.{cell_word}
-use Rattle.model.specs.declared.families.queues.calls.QueueFlight.{QueueFlight}
 use Rattle.model.specs.declared.families.queues.calls.QueueFlight.TheVariants.{Overflow}
-use Rattle.model.specs.declared.families.queues.effects.Effect.{Effect}
-use Rattle.model.specs.declared.families.queues.effects.Effect.TheVariants.{Quiet, Acts, TakesOut}
-use Rattle.model.specs.declared.event.Item.{Item}
-use Rattle.model.specs.declared.event.Item.TheVariants.{Index}
-use Rattle.model.specs.declared.families.queues.QueueStart.TheVariants.{PushIndex}
-use Rattle.model.specs.declared.event.Answer.{Answer}
-use Rattle.model.specs.declared.event.Answer.TheVariants.{PoppedNone, PoppedIndex}
-use Rattle.model.specs.declared.event.Event.{Event}
-use Rattle.model.specs.declared.event.Start.TheVariants.{Queues}
-use Rattle.model.specs.declared.event.Event.TheVariants.{Published, HandedOut, Acted}
 use Rattle.model.specs.declared.families.Flight as flights
-use Rattle.model.specs.declared.party.Party.{Party}
 use Rattle.model.specs.declared.families.queues.QueueKind as kinds
-use Rattle.model.specs.Coding.{Coding}
-use Rattle.model.specs.Families.Queues.Objects.{answer_of_item}
-use Rattle.model.specs.Families.Queues.Calls.{write_word, read_word, after, words_of_index}
-use Rattle.model.specs.Families.Queues.Steps.{pending_at, pending, effect_of}
-use Rattle.model.specs.Parties.{party_of, doing_of, flight_of}
-use Rattle.model.specs.Reading.{Open, span_of}
-use Rattle.model.specs.Turns.{words_after, change_of}
 use Rattle.laws_queues.proofs.Queues.Invariant.{Scene, Inv}
-use Rattle.model.specs.Families.Queues.Promises.{load_of_write, load_of_read}
 use Rattle.laws_queues.proofs.Overflow.Core.{none_passes, one_passes, oldest, push_over}
 use Rattle.laws_queues.proofs.Queues.Core.{Holds, filled, taken, fills, one_filled, takes, word_at, set_at}
 use Rattle.laws_queues.proofs.Overflow.Knows.{overflow_push_at, IsFreshOver, KnowsOverflowPush, overflow_push_number}

@@ -1,45 +1,20 @@
 -- The move of the read position by a pop of the overflowing queue, alone or with a push that waits for it.
-use Rattle.std.proofs.Common.{Bool, ◌≡◌, ◌≢◌, ℕ, suc, ◌+◌, ◌*◌, ◌^◌, ◌<◌, ◌≤◌, ◌==◌, true, false, ⊎_elim, inl, Option}
-use Rattle.std.proofs.Common.{Some, None, List, [], ◌∷◌, ◌++◌, length, map, take, drop, fold, refl, sym, ap, subst}
-use Rattle.std.proofs.Common.{◌∙◌, append-nil, append_assoc, arith}
-use Rattle.std.proofs.lemmas.Bool.{cases_eq}
-use Rattle.std.proofs.lemmas.Bool.Decides.{nat_tests}
-use Rattle.steps.specs.declared.ask.Ask.{Ask}
-use Rattle.steps.specs.declared.ask.Op.TheVariants.{Exchange}
-use Rattle.steps.specs.declared.ask.After.{After}
-use Rattle.steps.specs.declared.ask.After.TheVariants.{Done}
-use Rattle.steps.specs.declared.copied.OneWord.{OneWord}
+use Rattle.laws_queues.proofs.Names.{Bool, ◌≡◌, ◌≢◌, ℕ, suc, ◌+◌, ◌*◌, ◌^◌, ◌<◌, ◌≤◌, ◌==◌, true, false, ⊎_elim, inl}
+use Rattle.laws_queues.proofs.Names.{Option, Some, None, List, [], ◌∷◌, ◌++◌, length, map, take, drop, fold, refl}
+use Rattle.laws_queues.proofs.Names.{sym, ap, subst, ◌∙◌, append-nil, append_assoc, cases_eq, nat_tests, Ask}
+use Rattle.laws_queues.proofs.Names.{Exchange, After, Done, OneWord, after_position, QueueFlight, Effect, MakesRoom}
+use Rattle.laws_queues.proofs.Names.{Item, Index, PushIndex, Pop, Answer, PoppedNone, PoppedIndex, Event, Queues}
+use Rattle.laws_queues.proofs.Names.{Published, HandedOut, Acted, Finished, Start, Flight, Party, Coding}
+use Rattle.laws_queues.proofs.Names.{answer_of_item, read_word, after, words_of_index, cut_off, promise, pending_at}
+use Rattle.laws_queues.proofs.Names.{pending, beside, takes_effect, party_of, put, doing_of, flight_of, Stands, Open}
+use Rattle.laws_queues.proofs.Names.{Ended, own_after, span_of, words_after, change_of, span_of-own, span_of-other}
+use Rattle.std.proofs.Common.{arith}
 use Rattle.steps.specs.declared.queues.overflow.PushStage as overflow_pushes
-use Rattle.steps.specs.Queues.Ring.{after_position}
 use Rattle.model.specs.declared.families.queues.calls.OverflowCall as overflows
-use Rattle.model.specs.declared.families.queues.calls.QueueFlight.{QueueFlight}
 use Rattle.model.specs.declared.families.queues.calls.QueueFlight.TheVariants.{Overflow}
-use Rattle.model.specs.declared.families.queues.effects.Effect.{Effect}
-use Rattle.model.specs.declared.families.queues.effects.Effect.TheVariants.{HandsOut, MakesRoom}
-use Rattle.model.specs.declared.event.Item.{Item}
-use Rattle.model.specs.declared.event.Item.TheVariants.{Index}
-use Rattle.model.specs.declared.families.queues.QueueStart.TheVariants.{PushIndex, Pop}
-use Rattle.model.specs.declared.event.Answer.{Answer}
-use Rattle.model.specs.declared.event.Answer.TheVariants.{PoppedNone, PoppedIndex}
-use Rattle.model.specs.declared.event.Event.{Event}
-use Rattle.model.specs.declared.event.Start.TheVariants.{Queues}
-use Rattle.model.specs.declared.event.Event.TheVariants.{Published, HandedOut, Acted, Finished}
-use Rattle.model.specs.declared.event.Start.{Start}
-use Rattle.model.specs.declared.families.Flight.{Flight}
+use Rattle.model.specs.declared.families.queues.effects.Effect.TheVariants.{HandsOut}
 use Rattle.model.specs.declared.families.Flight as flights
-use Rattle.model.specs.declared.party.Party.{Party}
 use Rattle.model.specs.declared.families.queues.QueueKind as kinds
-use Rattle.model.specs.Coding.{Coding}
-use Rattle.model.specs.Families.Queues.Objects.{answer_of_item}
-use Rattle.model.specs.Families.Queues.Calls.{read_word, after, words_of_index}
-use Rattle.model.specs.Families.Queues.Objects.{cut_off}
-use Rattle.model.specs.Families.Queues.Promises.{promise}
-use Rattle.model.specs.Families.Queues.Steps.{pending_at, pending, beside, takes_effect}
-use Rattle.model.specs.Parties.{party_of, put, doing_of, flight_of}
-use Rattle.model.specs.Promises.Spans.{Stands}
-use Rattle.model.specs.Reading.{Open, Ended, own_after, span_of}
-use Rattle.model.specs.Turns.{words_after, change_of}
-use Rattle.model.proofs.Readings.{span_of-own, span_of-other}
 use Rattle.model.proofs.Frame as frame
 use Rattle.laws_queues.proofs.Queues.Invariant.{Queue, Scene, Inv, family, queue_in, any_stays, any_knows}
 use Rattle.laws_queues.proofs.Overflow.Core.{one_passes, pop_front, pop_room}

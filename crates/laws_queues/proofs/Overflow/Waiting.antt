@@ -1,22 +1,14 @@
 -- Which push waits for the read position to go on.
-use Rattle.std.proofs.Common.{◌≡◌, ℕ, ◌<◌, Option, Some, None, option_map, List, refl, ap, subst, arith}
+use Rattle.laws_queues.proofs.Names.{◌≡◌, ℕ, ◌<◌, Option, Some, None, option_map, List, refl, ap, subst, OneWord}
+use Rattle.laws_queues.proofs.Names.{Running, Event, Going, Party, Flight, Roles, Coding, pending_at, pending}
+use Rattle.laws_queues.proofs.Names.{party_of, doing_of, flight_of, span_of}
+use Rattle.std.proofs.Common.{arith}
 use Rattle.steps.specs.declared.queues.overflow.Push as overflow_push
-use Rattle.steps.specs.declared.copied.OneWord.{OneWord}
 use Rattle.steps.specs.declared.queues.overflow.PushStage as overflow_pushes
-use Rattle.steps.specs.declared.routine.Running.{Running}
 use Rattle.model.specs.declared.families.queues.calls.OverflowCall as overflows
 use Rattle.model.specs.declared.families.queues.calls.QueueFlight.TheVariants.{Overflow}
-use Rattle.model.specs.declared.event.Event.{Event}
-use Rattle.model.specs.declared.party.Doing.TheVariants.{Going}
-use Rattle.model.specs.declared.party.Party.{Party}
-use Rattle.model.specs.declared.families.Flight.{Flight}
 use Rattle.model.specs.declared.families.Flight as flights
-use Rattle.model.specs.declared.families.queues.Roles.{Roles}
 use Rattle.model.specs.declared.families.queues.QueueKind as kinds
-use Rattle.model.specs.Coding.{Coding}
-use Rattle.model.specs.Families.Queues.Steps.{pending_at, pending}
-use Rattle.model.specs.Parties.{party_of, doing_of, flight_of}
-use Rattle.model.specs.Reading.{span_of}
 use Rattle.laws_queues.proofs.Queues.Core.{Core}
 use Rattle.model.proofs.Frame as frame
 use Rattle.laws_queues.proofs.Queues.Invariant.{family}

@@ -1,16 +1,8 @@
 -- What the first stage of a queue's call knows; it has written nothing.
-use Rattle.std.proofs.Common.{◌≡◌, ℕ, false, Some, None, List, [], arith}
-use Rattle.model.specs.declared.event.Event.{Event}
-use Rattle.model.specs.declared.families.Flight.{Flight}
+use Rattle.laws_queues.proofs.Names.{◌≡◌, ℕ, false, Some, None, List, [], Event, Flight, QueueStart, Roles}
+use Rattle.laws_queues.proofs.Names.{QueueFlight, QueueKind, Coding, IsCoding, first, lacks_role, pending_at}
+use Rattle.std.proofs.Common.{arith}
 use Rattle.model.specs.declared.families.Flight as flights
-use Rattle.model.specs.declared.families.queues.QueueStart.{QueueStart}
-use Rattle.model.specs.declared.families.queues.Roles.{Roles}
-use Rattle.model.specs.declared.families.queues.calls.QueueFlight.{QueueFlight}
-use Rattle.model.specs.declared.families.queues.QueueKind.{QueueKind}
-use Rattle.model.specs.Coding.{Coding, IsCoding}
-use Rattle.model.specs.Families.Queues.Calls.{first}
-use Rattle.model.specs.Families.Queues.Opening.{lacks_role}
-use Rattle.model.specs.Families.Queues.Steps.{pending_at}
 use Rattle.laws_queues.proofs.Queues.Core.{Core}
 use Rattle.laws_queues.proofs.Queues.Knows.{has_written, KnowsFlight, At}
 use Rattle.laws_queues.proofs.Queues.Values.{Val}

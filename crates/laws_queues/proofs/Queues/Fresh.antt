@@ -1,18 +1,10 @@
 -- Runs in which no push finds the last position, and no store of the single value the last version.
+use Rattle.laws_queues.proofs.Names.{◌≡◌, ℕ, None, List, [], ◌∷◌, ◌++◌, get_or, refl, sym, ap, subst, ◌∙◌, Flight}
+use Rattle.laws_queues.proofs.Names.{QueueFlight, Coding, want_of, ask_of, want, old_of, run_on, attempt_on}
+use Rattle.laws_queues.proofs.Names.{unless_refused, after_turn, call_refusal, Kind, Turn, Trace, opening}
 use native.Mathlib.Omega.{arith}
-use Rattle.std.proofs.Common.{◌≡◌, ℕ, None, List, [], ◌∷◌, ◌++◌, get_or, refl, sym, ap, subst, ◌∙◌}
-use Rattle.model.specs.declared.families.Flight.{Flight}
-use Rattle.model.specs.declared.families.queues.calls.QueueFlight.{QueueFlight}
-use Rattle.model.specs.Coding.{Coding}
-use Rattle.model.specs.Families.{want_of, ask_of}
-use Rattle.model.specs.Families.Queues.Calls.{want}
-use Rattle.model.specs.Turns.{old_of, run_on, attempt_on, unless_refused, after_turn}
-use Rattle.model.specs.Refusals.{call_refusal}
-use Rattle.model.specs.declared.turn.Kind.{Kind}
 use Rattle.model.proofs.Reached.{turn_making}
-use Rattle.model.specs.declared.turn.Turn.{Turn}
 use Rattle.laws_queues.proofs.Queues.Runs.{AllMay}
-use Rattle.model.specs.World.{Trace, opening}
 use Rattle.laws_queues.proofs.Queues.Knows.{IsFreshAt, IsFreshCall}
 pub use Rattle.laws_queues.specs.Fresh.{IsFreshTurn, IsFreshRun}
 

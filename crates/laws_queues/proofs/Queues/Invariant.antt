@@ -1,44 +1,22 @@
 -- What holds of a queue's machine between any two turns beside what the frame says of every machine, and what a turn
 -- must show to keep it. An overflowing queue with a capacity is, as far as its words go, a queue with one cell more.
-use Rattle.std.proofs.Common.{◌≡◌, ◌≢◌, ℕ, ◌+◌, ◌^◌, ◌<◌, ◌≤◌, Some, None, List, [], ◌++◌, length, drop, map, fold}
-use Rattle.std.proofs.Common.{refl, sym, ap, subst, ◌∙◌, append_assoc, length-append, arith}
-use Rattle.std.proofs.lemmas.List.{drop_at}
+use Rattle.laws_queues.proofs.Names.{◌≡◌, ◌≢◌, ℕ, ◌+◌, ◌^◌, ◌<◌, ◌≤◌, Some, None, List, [], ◌++◌, length, drop, map}
+use Rattle.laws_queues.proofs.Names.{fold, refl, sym, ap, subst, ◌∙◌, append_assoc, length-append, drop_at, Event}
+use Rattle.laws_queues.proofs.Names.{Item, Start, Flight, Registry, QueueStart, Roles, QueueFlight, Party, QueueKind}
+use Rattle.laws_queues.proofs.Names.{Kind, Coding, AnswersRight, TellsLength, list_of, cells_of, promise, publishes}
+use Rattle.laws_queues.proofs.Names.{hands_out, published, handed_out, waiting, producer_after, consumer_after}
+use Rattle.laws_queues.proofs.Names.{producer_of, consumer_of, GrantsRight, pending, BeginsNone, IsLegal, standing}
+use Rattle.laws_queues.proofs.Names.{answers_from, put, Stands, Each, acts, moments, Span, own_after, span_of, Family}
+use Rattle.laws_queues.proofs.Names.{others_begin_none, AreRight, Each-append, AreOwn, AllFollow}
+use Rattle.std.proofs.Common.{arith}
 use Rattle.std.proofs.lemmas.List.Concat.{flat_map-append}
 use Rattle.std.proofs.lemmas.List.Sums.{fold-append}
-use Rattle.model.specs.declared.event.Event.{Event}
-use Rattle.model.specs.declared.event.Item.{Item}
-use Rattle.model.specs.declared.event.Start.{Start}
 use Rattle.model.specs.declared.event.Start as starts
-use Rattle.model.specs.declared.families.Flight.{Flight}
 use Rattle.model.specs.declared.families.Flight as flights
-use Rattle.model.specs.declared.families.Registry.{Registry}
 use Rattle.model.specs.declared.families.Registry as registries
-use Rattle.model.specs.declared.families.queues.QueueStart.{QueueStart}
-use Rattle.model.specs.declared.families.queues.Roles.{Roles}
-use Rattle.model.specs.declared.families.queues.calls.QueueFlight.{QueueFlight}
-use Rattle.model.specs.declared.party.Party.{Party}
-use Rattle.model.specs.declared.families.queues.QueueKind.{QueueKind}
 use Rattle.model.specs.declared.families.queues.QueueKind as kinds
-use Rattle.model.specs.declared.turn.Kind.{Kind}
 use Rattle.model.specs.declared.turn.Kind as any_kinds
-use Rattle.model.specs.Coding.{Coding}
-use Rattle.model.specs.Families.Queues.Book.{AnswersRight}
-use Rattle.model.specs.Families.Queues.Lengths.{TellsLength}
-use Rattle.model.specs.Families.Queues.Objects.{list_of}
-use Rattle.model.specs.Families.Queues.Opening.{cells_of}
-use Rattle.model.specs.Families.Queues.Promises.{promise}
-use Rattle.model.specs.Families.Queues.Reading.{publishes, hands_out, published, handed_out, waiting, producer_after, consumer_after, producer_of, consumer_of}
-use Rattle.model.specs.Families.Queues.Roles.{GrantsRight}
-use Rattle.model.specs.Families.Queues.Steps.{pending}
-use Rattle.model.specs.Moments.{BeginsNone}
-use Rattle.model.specs.Objects.{IsLegal, standing, answers_from}
-use Rattle.model.specs.Parties.{put}
-use Rattle.model.specs.Promises.Spans.{Stands}
-use Rattle.model.specs.Reading.{Each, acts, moments, Span, own_after, span_of}
 use Rattle.model.proofs.Frame as frame
-use Rattle.model.proofs.Frame.{Family}
-use Rattle.model.proofs.Moments.{others_begin_none}
-use Rattle.model.proofs.Readings.{AreRight, Each-append, AreOwn, AllFollow}
 use Rattle.model.proofs.Replays.{calls_of, answers_of, standing_more, legal_more}
 use Rattle.laws_queues.proofs.Queues.Core.{Core, Good, GoesUp}
 use Rattle.laws_queues.proofs.Queues.Knows.{layout, number_of, Hangs, listed, has_written, KnowsFlight, flight_keeps, At}

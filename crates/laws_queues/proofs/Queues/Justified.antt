@@ -1,65 +1,36 @@
 -- What a turn writes down: what its step did to the queue, then the acts, then the end. A push that answers false, and a
 -- pop that answers None, did so in its own turn, as it loaded the other position; without capacity, an overflowing queue's
 -- pop loads none. A push that is taken, and a pop that answers a value, acts as its position goes on.
-use Rattle.std.proofs.Common.{◌≡◌, ℕ, ◌-◌, ◌^◌, ◌<◌, ◌≤◌, ◌==◌, Bool, true, false, cond, inr, Option, Some, None}
-use Rattle.std.proofs.Common.{List, [], ◌∷◌, ◌++◌, get_or, refl, sym, ap, subst, ◌∙◌, arith}
-use Rattle.std.proofs.lemmas.Bool.Decides.{nat_tests}
+use Rattle.laws_queues.proofs.Names.{◌≡◌, ℕ, ◌-◌, ◌^◌, ◌<◌, ◌≤◌, ◌==◌, Bool, true, false, cond, inr, Option, Some}
+use Rattle.laws_queues.proofs.Names.{None, List, [], ◌∷◌, ◌++◌, get_or, refl, sym, ap, subst, ◌∙◌, nat_tests, Ask}
+use Rattle.laws_queues.proofs.Names.{Exchange, After, GoOn, Done, OneWord, after_position, went_on, Answer, Event}
+use Rattle.laws_queues.proofs.Names.{Published, HandedOut, Acted, Item, Index, Start, Queues, Flight, Registry}
+use Rattle.laws_queues.proofs.Names.{QueueStart, PushIndex, Pop, Roles, QueueFlight, Role, Indices, Values, Length}
+use Rattle.laws_queues.proofs.Names.{Effect, Quiet, Acts, Publishes, PublishesAndActs, TakesOut, MakesRoom, Going}
+use Rattle.laws_queues.proofs.Names.{Party, QueueKind, Turn, Next, Coding, IsCoding, ask_of, beside_of, step_of}
+use Rattle.laws_queues.proofs.Names.{goes_of, AnswersRight, read_word, want, after, popped, load_of_write}
+use Rattle.laws_queues.proofs.Names.{finding_none, AddsOne, promise, pending_at, beside, takes_effect, effect_of}
+use Rattle.laws_queues.proofs.Names.{acts_if_done, effects_of, party_of, doing_of, flight_of, IsTurnBy, as_call}
+use Rattle.laws_queues.proofs.Names.{answer_in, old_of, ending_of, after_turn, Trace, AreRight, StandsThere}
+use Rattle.laws_queues.proofs.Names.{stands_there, InOrder, in_order_from}
+use Rattle.std.proofs.Common.{arith}
 use Rattle.std.specs.List.{AllByRecursion}
-use Rattle.steps.specs.declared.ask.Ask.{Ask}
-use Rattle.steps.specs.declared.ask.Op.TheVariants.{Exchange}
-use Rattle.steps.specs.declared.ask.After.{After}
-use Rattle.steps.specs.declared.ask.After.TheVariants.{GoOn, Done}
-use Rattle.steps.specs.declared.copied.OneWord.{OneWord}
 use Rattle.steps.specs.declared.queues.overflow.Pop as overflow_pop
 use Rattle.steps.specs.declared.queues.overflow.PushStage as overflow_pushes
 use Rattle.steps.specs.declared.queues.overflow.PopStage as overflow_pops
 use Rattle.steps.specs.declared.copied.Buffer as cells
-use Rattle.steps.specs.Queues.Ring.{after_position}
 use Rattle.steps.specs.Queues.Overflow.{cell_word, pop_answer}
-use Rattle.steps.specs.Routine.{went_on}
-use Rattle.model.specs.declared.event.Answer.{Answer}
 use Rattle.model.specs.declared.event.Answer as answers
-use Rattle.model.specs.declared.event.Event.{Event}
-use Rattle.model.specs.declared.event.Event.TheVariants.{Published, HandedOut, Acted}
-use Rattle.model.specs.declared.event.Item.{Item}
-use Rattle.model.specs.declared.event.Item.TheVariants.{Index}
-use Rattle.model.specs.declared.event.Start.{Start}
-use Rattle.model.specs.declared.event.Start.TheVariants.{Queues}
-use Rattle.model.specs.declared.families.Flight.{Flight}
 use Rattle.model.specs.declared.families.Flight as flights
-use Rattle.model.specs.declared.families.Registry.{Registry}
 use Rattle.model.specs.declared.families.Registry as registries
-use Rattle.model.specs.declared.families.queues.QueueStart.{QueueStart}
-use Rattle.model.specs.declared.families.queues.QueueStart.TheVariants.{PushIndex, Pop}
-use Rattle.model.specs.declared.families.queues.Roles.{Roles}
 use Rattle.model.specs.declared.families.queues.calls.OverflowCall as overflows
-use Rattle.model.specs.declared.families.queues.calls.QueueFlight.{QueueFlight}
-use Rattle.model.specs.declared.families.queues.calls.QueueFlight.TheVariants.{Role, Indices, Values, Overflow, Length}
+use Rattle.model.specs.declared.families.queues.calls.QueueFlight.TheVariants.{Overflow}
 use Rattle.model.specs.declared.families.queues.calls.RingCall as rings
-use Rattle.model.specs.declared.families.queues.effects.Effect.{Effect}
-use Rattle.model.specs.declared.families.queues.effects.Effect.TheVariants.{Quiet, Acts, Publishes, PublishesAndActs, HandsOut, TakesOut, MakesRoom}
-use Rattle.model.specs.declared.party.Doing.TheVariants.{Going}
-use Rattle.model.specs.declared.party.Party.{Party}
-use Rattle.model.specs.declared.families.queues.QueueKind.{QueueKind}
+use Rattle.model.specs.declared.families.queues.effects.Effect.TheVariants.{HandsOut}
 use Rattle.model.specs.declared.families.queues.QueueKind as kinds
-use Rattle.model.specs.declared.turn.Turn.{Turn}
-use Rattle.model.specs.declared.turn.Turn.TheVariants.{Next}
-use Rattle.model.specs.Coding.{Coding, IsCoding}
-use Rattle.model.specs.Families.{ask_of, beside_of, step_of, goes_of}
-use Rattle.model.specs.Families.Queues.Book.{AnswersRight}
-use Rattle.model.specs.Families.Queues.Calls.{read_word, want, after, popped}
-use Rattle.model.specs.Families.Queues.Promises.{load_of_write, finding_none, AddsOne, promise}
-use Rattle.model.specs.Families.Queues.Steps.{pending_at, beside, takes_effect, effect_of, acts_if_done, effects_of}
-use Rattle.model.specs.Parties.{party_of, doing_of, flight_of}
-use Rattle.model.specs.Promises.{IsTurnBy}
 use Rattle.model.specs.Promises.Turns.{ask_in, IsParty, IsEffectOf, IsAct, ActsRight}
-use Rattle.model.specs.Step.{as_call, answer_in}
-use Rattle.model.specs.Turns.{old_of, ending_of, after_turn}
-use Rattle.model.specs.World.{Trace}
 use Rattle.model.proofs.Frame as frame
 use Rattle.model.proofs.Orders.{Orders, Keeps, ends_end, turn_is}
-use Rattle.model.proofs.Readings.{AreRight}
-use Rattle.model.proofs.Scenes.{StandsThere, stands_there, InOrder, in_order_from}
 use Rattle.laws_queues.proofs.Overflow.Knows.{overflow_push_at, overflow_pop_at, KnowsOverflowPush, KnowsOverflowPop, OverflowAt}
 use Rattle.laws_queues.proofs.Queues.Core.{Core}
 use Rattle.laws_queues.proofs.Queues.Invariant.{Queue, Represents, machine_kind, family}

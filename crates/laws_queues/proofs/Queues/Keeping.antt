@@ -1,22 +1,16 @@
 -- What a step of one party keeps of what the calls of the others know.
+use Rattle.laws_queues.proofs.Names.{◌≡◌, ◌≢◌, ℕ, Option, Some, List, refl, sym, ◌∙◌, Buffer, OneWord, RoleCall}
+use Rattle.laws_queues.proofs.Names.{QueueFlight, Role, Indices, Values, Length, QueueStart, Roles, QueueKind, Coding}
+use Rattle.laws_queues.proofs.Names.{one_word}
 use native.Mathlib.Omega.{arith}
-use Rattle.std.proofs.Common.{◌≡◌, ◌≢◌, ℕ, Option, Some, List, refl, sym, ◌∙◌}
-use Rattle.steps.specs.declared.copied.Buffer.{Buffer}
-use Rattle.steps.specs.declared.copied.OneWord.{OneWord}
 use Rattle.steps.specs.declared.queues.ring.PushStage as pushes
 use Rattle.steps.specs.declared.queues.ring.PopStage as pops
 use Rattle.steps.specs.declared.queues.overflow.PushStage as overflow_pushes
 use Rattle.steps.specs.declared.queues.overflow.PopStage as overflow_pops
-use Rattle.model.specs.declared.families.queues.calls.RoleCall.{RoleCall}
 use Rattle.model.specs.declared.families.queues.calls.RingCall as rings
 use Rattle.model.specs.declared.families.queues.calls.OverflowCall as overflows
-use Rattle.model.specs.declared.families.queues.calls.QueueFlight.{QueueFlight}
-use Rattle.model.specs.declared.families.queues.calls.QueueFlight.TheVariants.{Role, Indices, Values, Overflow, Length}
-use Rattle.model.specs.declared.families.queues.QueueStart.{QueueStart}
-use Rattle.model.specs.declared.families.queues.Roles.{Roles}
-use Rattle.model.specs.declared.families.queues.QueueKind.{QueueKind}
+use Rattle.model.specs.declared.families.queues.calls.QueueFlight.TheVariants.{Overflow}
 use Rattle.model.specs.declared.families.queues.QueueKind as kinds
-use Rattle.model.specs.Coding.{Coding, one_word}
 use Rattle.laws_queues.proofs.Queues.Core.{Core}
 use Rattle.laws_queues.proofs.Queues.Values.{Val}
 use Rattle.laws_queues.proofs.Ring.Knows.{KnowsPush, KnowsPop}

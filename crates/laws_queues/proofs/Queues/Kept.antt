@@ -1,28 +1,16 @@
 -- What the invariant says of the events, in the promises' words.
 use lib.Seq.{get_or-drop}
+use Rattle.laws_queues.proofs.Names.{None, ◌≡◌, ℕ, suc, ◌+◌, ◌-◌, ◌%◌, ◌*◌, ◌<◌, ◌≤◌, Some, List, [], ◌∷◌, length}
+use Rattle.laws_queues.proofs.Names.{get_or, map, slice_get, take, drop, refl, sym, ap, subst, ◌∙◌, length-append}
+use Rattle.laws_queues.proofs.Names.{length-drop, length-map, take-map, Item, Index, Value, Roles, QueueKind}
+use Rattle.laws_queues.proofs.Names.{IndexQueue, Coding, IsCoding, item_at, cell_of, stored, waiting_in, cells_of}
+use Rattle.laws_queues.proofs.Names.{party_of, IsQueue, promise, KeepsHolders, published, handed_out, IsKeptBy}
+use Rattle.laws_queues.proofs.Names.{IsKept, span_of, IsReached, Trace, capacity_error}
 use native.Mathlib.Nat.{mul-le-mul_left}
-use Rattle.std.proofs.Common.{None, ◌≡◌, ℕ, suc, ◌+◌, ◌-◌, ◌%◌, ◌*◌, ◌<◌, ◌≤◌, Some, List, [], ◌∷◌, length, get_or}
-use Rattle.std.proofs.Common.{map, slice_get, take, drop, refl, sym, ap, subst, ◌∙◌, arith, length-append, length-drop}
-use Rattle.std.proofs.lemmas.List.{length-map, take-map}
+use Rattle.std.proofs.Common.{arith}
 use Rattle.steps.specs.Queues.Ring.{cell_word}
-use Rattle.model.specs.declared.event.Item.{Item}
-use Rattle.model.specs.declared.event.Item.TheVariants.{Index, Value}
-use Rattle.model.specs.declared.families.queues.Roles.{Roles}
-use Rattle.model.specs.declared.families.queues.QueueKind.{QueueKind}
-use Rattle.model.specs.declared.families.queues.QueueKind.TheVariants.{IndexQueue}
 use Rattle.model.specs.declared.families.queues.QueueKind as kinds
-use Rattle.model.specs.Coding.{Coding, IsCoding}
-use Rattle.model.specs.Families.Queues.Book.{item_at, cell_of, stored, waiting_in}
-use Rattle.model.specs.Families.Queues.Opening.{cells_of}
-use Rattle.model.specs.Parties.{party_of}
-use Rattle.model.specs.Families.Queues.Promises.{IsQueue, promise}
-use Rattle.model.specs.Families.Queues.Roles.{KeepsHolders}
-use Rattle.model.specs.Families.Queues.Reading.{published, handed_out}
-use Rattle.model.specs.Promises.{IsKeptBy, IsKept}
 use Rattle.model.specs.Promises.Families.{promise_of}
-use Rattle.model.specs.Reading.{span_of}
-use Rattle.model.specs.Turns.{IsReached}
-use Rattle.model.specs.World.{Trace}
 use Rattle.laws_queues.proofs.Queues.Core.{Core, Good, take_all, at_below, word_at}
 use Rattle.laws_queues.proofs.Queues.Knows.{free, layout, listed}
 use Rattle.model.proofs.Frame as frame
@@ -30,7 +18,6 @@ use Rattle.laws_queues.proofs.Queues.Invariant.{machine_kind, family, waiting_is
 use Rattle.laws_queues.proofs.Queues.Stages.{cell_place}
 use Rattle.laws_queues.proofs.Queues.Values.{Val, encoded, item}
 use Rattle.laws_queues.proofs.Ring.Pops.{same_words}
-use Rattle.model.specs.World.{capacity_error}
 use Rattle.laws_queues.proofs.Queues.Sound.{kept_is, cell_size, reached_sound, sound_on, IsFreshRun}
 
 module _ {T : Type 0} (en : Coding T) where

@@ -1,38 +1,21 @@
 -- What a call of a queue knows where it stands: of the words, of the events and of the counts.
-use Rattle.std.proofs.Common.{◌≡◌, ℕ, ◌+◌, ◌-◌, ◌*◌, ◌^◌, ◌<◌, ◌≤◌, Option, Some, None, List, [], ◌∷◌, ◌++◌, length, take, map, arith}
-use Rattle.steps.specs.declared.queues.lengths.Len.{Len}
-use Rattle.steps.specs.declared.queues.lengths.LenStage.{LenStage}
+use Rattle.laws_queues.proofs.Names.{◌≡◌, ℕ, ◌+◌, ◌-◌, ◌*◌, ◌^◌, ◌<◌, ◌≤◌, Option, Some, None, List, [], ◌∷◌, ◌++◌}
+use Rattle.laws_queues.proofs.Names.{length, take, map, Len, LenStage, Running, number_waiting, RoleCall, Acquire}
+use Rattle.laws_queues.proofs.Names.{Release, LengthOf, QueueFlight, Role, Indices, Values, Length, Item, Buffer}
+use Rattle.laws_queues.proofs.Names.{OneWord, QueueStart, AcquireProducer, ReleaseProducer, AcquireConsumer}
+use Rattle.laws_queues.proofs.Names.{ReleaseConsumer, PushIndex, Push, Pop, IsEmpty, IsFull, Event, Roles, QueueKind}
+use Rattle.laws_queues.proofs.Names.{Coding, one_word, waiting, BeginsNone, HeldSometime, held_later, Flight}
+use Rattle.std.proofs.Common.{arith}
 use Rattle.steps.specs.declared.queues.lengths.LenStage as lens
-use Rattle.steps.specs.declared.routine.Running.{Running}
-use Rattle.steps.specs.Queues.Lengths.{number_waiting}
-use Rattle.model.specs.declared.families.queues.calls.RoleCall.{RoleCall}
-use Rattle.model.specs.declared.families.queues.calls.RoleCall.TheVariants.{Acquire, Release}
 use Rattle.model.specs.declared.families.queues.calls.RingCall as rings
 use Rattle.model.specs.declared.families.queues.calls.OverflowCall as overflows
-use Rattle.model.specs.declared.families.queues.calls.LengthOf.{LengthOf}
 use Rattle.model.specs.declared.families.queues.calls.LengthOf as measures
-use Rattle.model.specs.declared.families.queues.calls.QueueFlight.{QueueFlight}
-use Rattle.model.specs.declared.families.queues.calls.QueueFlight.TheVariants.{Role, Indices, Values, Overflow, Length}
-use Rattle.model.specs.declared.event.Item.{Item}
-use Rattle.steps.specs.declared.copied.Buffer.{Buffer}
-use Rattle.steps.specs.declared.copied.OneWord.{OneWord}
-use Rattle.model.specs.declared.families.queues.QueueStart.{QueueStart}
+use Rattle.model.specs.declared.families.queues.calls.QueueFlight.TheVariants.{Overflow}
 use Rattle.model.specs.declared.families.queues.QueueStart as starts
-use Rattle.model.specs.declared.families.queues.QueueStart.TheVariants.{AcquireProducer, ReleaseProducer}
-use Rattle.model.specs.declared.families.queues.QueueStart.TheVariants.{AcquireConsumer, ReleaseConsumer, PushIndex}
-use Rattle.model.specs.declared.families.queues.QueueStart.TheVariants.{Push, Pop, IsEmpty, IsFull}
-use Rattle.model.specs.declared.event.Event.{Event}
-use Rattle.model.specs.declared.families.queues.Roles.{Roles}
-use Rattle.model.specs.declared.families.queues.QueueKind.{QueueKind}
 use Rattle.model.specs.declared.families.queues.QueueKind as kinds
-use Rattle.model.specs.Coding.{Coding, one_word}
-use Rattle.model.specs.Families.Queues.Reading.{waiting}
-use Rattle.model.specs.Moments.{BeginsNone, HeldSometime}
-use Rattle.model.proofs.Moments.{held_later}
 use Rattle.laws_queues.proofs.Queues.Core.{Core}
 use Rattle.laws_queues.proofs.Queues.Core.{GoesUp}
 use Rattle.laws_queues.proofs.Queues.Values.{Val, item}
-use Rattle.model.specs.declared.families.Flight.{Flight}
 use Rattle.laws_queues.proofs.Ring.Knows.{ring_number, PushAt, PopAt}
 use Rattle.laws_queues.proofs.Overflow.Knows.{KnowsBacks, backs_keep, overflow_wrote, overflow_push_number, overflow_pop_number, OverflowAt}
 pub use Rattle.laws_queues.specs.Fresh.{IsFreshStore, IsFreshAt, IsFreshCall}

@@ -1,43 +1,18 @@
 -- The steps of a call that tells how many values wait.
-use Rattle.std.proofs.Common.{◌≡◌, ◌≢◌, ℕ, ◌+◌, ◌*◌, ◌^◌, ◌<◌, ◌≤◌, ◌==◌, Bool, true, false, not, cond, Some, List, []}
-use Rattle.std.proofs.Common.{◌∷◌, ◌++◌, fold, length, map, refl, sym, ap, ◌∙◌, arith}
-use Rattle.std.proofs.lemmas.Bool.Decides.{nat_tests}
-use Rattle.std.proofs.lemmas.List.{length-map}
-use Rattle.steps.specs.declared.ask.After.{After}
-use Rattle.steps.specs.declared.ask.After.TheVariants.{GoOn, Done}
-use Rattle.steps.specs.declared.queues.lengths.Len.{Len}
-use Rattle.steps.specs.declared.queues.lengths.LenStage.{LenStage}
+use Rattle.laws_queues.proofs.Names.{◌≡◌, ◌≢◌, ℕ, ◌+◌, ◌*◌, ◌^◌, ◌<◌, ◌≤◌, ◌==◌, Bool, true, false, not, cond, Some}
+use Rattle.laws_queues.proofs.Names.{List, [], ◌∷◌, ◌++◌, fold, length, map, refl, sym, ap, ◌∙◌, nat_tests}
+use Rattle.laws_queues.proofs.Names.{length-map, After, GoOn, Done, Len, LenStage, went_on, number_waiting, first_len}
+use Rattle.laws_queues.proofs.Names.{LengthOf, QueueFlight, Length, Quiet, Item, QueueStart, Answer, Queues, Finished}
+use Rattle.laws_queues.proofs.Names.{QueueKind, Coding, ask_of, most_steps, want, after, goes_back, as_it_is}
+use Rattle.laws_queues.proofs.Names.{length_answer, TellsLength, cells_of, published, handed_out, waiting}
+use Rattle.laws_queues.proofs.Names.{producer_after, consumer_after, GrantsRight, Wrote, pending, as_call, old_of}
+use Rattle.laws_queues.proofs.Names.{held_now, held_so, load_of_write, load_of_read}
+use Rattle.std.proofs.Common.{arith}
 use Rattle.steps.specs.declared.queues.lengths.LenStage as lens
-use Rattle.steps.specs.Routine.{went_on}
-use Rattle.steps.specs.Queues.Lengths.{number_waiting, first_len}
-use Rattle.model.specs.declared.families.queues.calls.LengthOf.{LengthOf}
 use Rattle.model.specs.declared.families.queues.calls.LengthOf as measures
-use Rattle.model.specs.declared.families.queues.calls.QueueFlight.{QueueFlight}
-use Rattle.model.specs.declared.families.queues.calls.QueueFlight.TheVariants.{Length}
-use Rattle.model.specs.declared.families.queues.effects.Effect.TheVariants.{Quiet}
-use Rattle.model.specs.declared.event.Item.{Item}
-use Rattle.model.specs.declared.families.queues.QueueStart.{QueueStart}
 use Rattle.model.specs.declared.families.queues.QueueStart as starts
-use Rattle.model.specs.declared.event.Answer.{Answer}
 use Rattle.model.specs.declared.event.Answer as answers
-use Rattle.model.specs.declared.event.Start.TheVariants.{Queues}
-use Rattle.model.specs.declared.event.Event.TheVariants.{Finished}
-use Rattle.model.specs.declared.families.queues.QueueKind.{QueueKind}
-use Rattle.model.specs.Coding.{Coding}
-use Rattle.model.specs.Families.{ask_of}
-use Rattle.model.specs.Families.Queues.Bounds.{most_steps}
-use Rattle.model.specs.Families.Queues.Calls.{want, after, goes_back, as_it_is, length_answer}
-use Rattle.model.specs.Families.Queues.Lengths.{TellsLength}
-use Rattle.model.specs.Families.Queues.Opening.{cells_of}
-use Rattle.model.specs.Families.Queues.Reading.{published, handed_out, waiting, producer_after, consumer_after}
-use Rattle.model.specs.Families.Queues.Roles.{GrantsRight}
-use Rattle.model.specs.Families.Queues.Spans.{Wrote}
-use Rattle.model.specs.Families.Queues.Steps.{pending}
-use Rattle.model.specs.Step.{as_call}
-use Rattle.model.specs.Turns.{old_of}
-use Rattle.model.proofs.Moments.{held_now, held_so}
 use Rattle.laws_queues.proofs.Queues.Invariant.{Scene, Inv}
-use Rattle.model.specs.Families.Queues.Promises.{load_of_write, load_of_read}
 use Rattle.laws_queues.proofs.Queues.Core.{Core, Good}
 use Rattle.laws_queues.proofs.Queues.Knows.{layout, len_at, Hangs, Waited, KnowsLen, len_number, At}
 use Rattle.laws_queues.proofs.Queues.Invariant.{waiting_is}

@@ -1,13 +1,9 @@
 -- The push of an overflowing queue that has published and not acted, as parties and positions move.
-use Rattle.std.proofs.Common.{◌≡◌, ◌≢◌, ℕ, ◌≤◌, ⊎_elim, Option, Some, None, option_map, List, length, refl, sym, ap, subst, ◌∙◌, arith}
-use Rattle.std.proofs.lemmas.Bool.{cases_eq}
-use Rattle.model.specs.declared.party.Party.{Party}
-use Rattle.model.specs.declared.families.queues.QueueKind.{QueueKind}
+use Rattle.laws_queues.proofs.Names.{◌≡◌, ◌≢◌, ℕ, ◌≤◌, ⊎_elim, Option, Some, None, option_map, List, length, refl}
+use Rattle.laws_queues.proofs.Names.{sym, ap, subst, ◌∙◌, cases_eq, Party, QueueKind, Coding, cells_of, pending_at}
+use Rattle.laws_queues.proofs.Names.{pending, party_of, put, doing_of, flight_of}
+use Rattle.std.proofs.Common.{arith}
 use Rattle.model.specs.declared.families.queues.QueueKind as kinds
-use Rattle.model.specs.Coding.{Coding}
-use Rattle.model.specs.Families.Queues.Opening.{cells_of}
-use Rattle.model.specs.Families.Queues.Steps.{pending_at, pending}
-use Rattle.model.specs.Parties.{party_of, put, doing_of, flight_of}
 use Rattle.model.proofs.Parties.{party_put_same, party_put_other}
 use Rattle.laws_queues.proofs.Queues.Core.{Core, Good}
 use Rattle.laws_queues.proofs.Queues.Knows.{Hangs}

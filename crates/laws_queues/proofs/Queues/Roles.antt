@@ -1,14 +1,10 @@
 -- What the steps of the calls on roles show. A role's word is 1 while the role is free.
-use Rattle.std.proofs.Common.{◌≡◌, ℕ, ◌^◌, ◌<◌, ◌≤◌, true, false, Option, Some, None, option_map, refl, ap, subst, sym, ◌∙◌, arith}
-use Rattle.steps.specs.declared.ask.Ask.{Ask}
-use Rattle.steps.specs.declared.ask.Op.TheVariants.{Store, Exchange}
-use Rattle.model.specs.declared.event.Answer.{Answer}
+use Rattle.laws_queues.proofs.Names.{◌≡◌, ℕ, ◌^◌, ◌<◌, ◌≤◌, true, false, Option, Some, None, option_map, refl, ap}
+use Rattle.laws_queues.proofs.Names.{subst, sym, ◌∙◌, Ask, Store, Exchange, Answer, AcquireProducer, ReleaseProducer}
+use Rattle.laws_queues.proofs.Names.{AcquireConsumer, ReleaseConsumer, QueueKind, Coding, acquire_of, release_of}
+use Rattle.laws_queues.proofs.Names.{producer_word, consumer_word, pending}
+use Rattle.std.proofs.Common.{arith}
 use Rattle.model.specs.declared.event.Answer as answers
-use Rattle.model.specs.declared.families.queues.QueueStart.TheVariants.{AcquireProducer, ReleaseProducer, AcquireConsumer, ReleaseConsumer}
-use Rattle.model.specs.declared.families.queues.QueueKind.{QueueKind}
-use Rattle.model.specs.Coding.{Coding}
-use Rattle.model.specs.Families.Queues.Calls.{acquire_of, release_of, producer_word, consumer_word}
-use Rattle.model.specs.Families.Queues.Steps.{pending}
 use Rattle.laws_queues.proofs.Queues.Invariant.{Scene, Inv}
 use Rattle.laws_queues.proofs.Queues.Keeping.{clash, kept, keeps_same}
 use Rattle.laws_queues.proofs.Queues.Pending.{pending_here, few_wait, none_hangs}

@@ -1,33 +1,18 @@
 -- The laws of a family with a premise on the turn.
+use Rattle.laws_queues.proofs.Names.{◌≡◌, ℕ, ◌+◌, Bool, true, Option, Some, None, List, [], ◌∷◌, ◌++◌, refl, sym, ap}
+use Rattle.laws_queues.proofs.Names.{subst, ◌∙◌, append-nil, Ask, Event, Begun, Died, Start, Flight, Registry, Going}
+use Rattle.laws_queues.proofs.Names.{Over, Party, Turn, Begin, Next, Decide, Die, first_of, want_of, ask_of}
+use Rattle.laws_queues.proofs.Names.{is_question, going_rows, kept_after_begin, party_of, put, doing_of, flight_of}
+use Rattle.laws_queues.proofs.Names.{StandsRight, span_of, call_refusal, is_due, first_row, old_of, number_of}
+use Rattle.laws_queues.proofs.Names.{ask_of_doing, party_at_begin, after_begin, after_answer, after_next}
+use Rattle.laws_queues.proofs.Names.{after_decision, after_turn, events_of_answer, events_of_next, events_of_decision}
+use Rattle.laws_queues.proofs.Names.{Trace, flight_in, Each-append, span_of-death, may_begin, may_die, must_be_due}
+use Rattle.laws_queues.proofs.Names.{next_passes, decision_passes, MayBegin, MayDie, Family, Sound, is_true, run_on}
+use Rattle.laws_queues.proofs.Names.{attempt_on, unless_refused}
 use native.Mathlib.Omega.{arith}
-use Rattle.std.proofs.Common.{◌≡◌, ℕ, ◌+◌, Bool, true, Option, Some, None, List, [], ◌∷◌, ◌++◌, refl, sym, ap, subst, ◌∙◌, append-nil}
-use Rattle.steps.specs.declared.ask.Ask.{Ask}
-use Rattle.model.specs.declared.event.Event.{Event}
-use Rattle.model.specs.declared.event.Event.TheVariants.{Begun, Died}
-use Rattle.model.specs.declared.event.Start.{Start}
-use Rattle.model.specs.declared.families.Flight.{Flight}
-use Rattle.model.specs.declared.families.Registry.{Registry}
 use Rattle.model.specs.declared.party.Doing.{Doing}
-use Rattle.model.specs.declared.party.Doing.TheVariants.{Going, Over}
-use Rattle.model.specs.declared.party.Party.{Party}
-use Rattle.model.specs.declared.turn.Turn.{Turn}
-use Rattle.model.specs.declared.turn.Turn.TheVariants.{Begin, Next, Decide, Die}
-use Rattle.model.specs.Families.{first_of, want_of, ask_of, is_question, going_rows, kept_after_begin}
-use Rattle.model.specs.Parties.{party_of, put, doing_of, flight_of}
-use Rattle.model.specs.Promises.Spans.{StandsRight}
-use Rattle.model.specs.Reading.{span_of}
-use Rattle.model.specs.Refusals.{call_refusal, is_due}
-use Rattle.model.specs.Rows.{first_row}
-use Rattle.model.specs.Turns.{old_of, number_of, ask_of_doing, party_at_begin, after_begin}
-use Rattle.model.specs.Turns.{after_answer, after_next, after_decision, after_turn}
-use Rattle.model.specs.Turns.{events_of_answer, events_of_next, events_of_decision}
-use Rattle.model.specs.World.{Trace, flight_in}
-use Rattle.model.proofs.Readings.{Each-append, span_of-death}
-use Rattle.model.proofs.Rows.{may_begin, may_die, must_be_due, next_passes, decision_passes, MayBegin, MayDie}
 use Rattle.model.proofs.Frame as frame
-use Rattle.model.proofs.Frame.{Family, Sound, is_true}
 use Rattle.model.specs.declared.turn.Refusal.{Refusal}
-use Rattle.model.specs.Turns.{run_on, attempt_on, unless_refused}
 pub use Rattle.laws_queues.specs.Fresh.{AllMay}
 
 -- ---- runs of turns that may be taken

@@ -1,56 +1,30 @@
 -- Every turn keeps what holds of a queue's machine: the laws of the family.
-use Rattle.std.proofs.Common.{◌≡◌, ℕ, ◌-◌, ◌*◌, ◌^◌, ◌<◌, ◌≤◌, true, false, Option, Some, None, option_map, List, []}
-use Rattle.std.proofs.Common.{◌∷◌, ◌++◌, map, replicate, get_or, refl, sym, ap, subst, ◌∙◌, append-nil, arith}
-use Rattle.std.proofs.lemmas.List.{length-replicate}
-use Rattle.std.proofs.Math.Seq.{take-nil}
+use Rattle.laws_queues.proofs.Names.{◌≡◌, ℕ, ◌-◌, ◌*◌, ◌^◌, ◌<◌, ◌≤◌, true, false, Option, Some, None, option_map}
+use Rattle.laws_queues.proofs.Names.{List, [], ◌∷◌, ◌++◌, map, replicate, get_or, refl, sym, ap, subst, ◌∙◌}
+use Rattle.laws_queues.proofs.Names.{append-nil, length-replicate, take-nil, OneWord, Len, Running, Begun, Start}
+use Rattle.laws_queues.proofs.Names.{Queues, Flight, Registry, QueueStart, AcquireProducer, ReleaseProducer}
+use Rattle.laws_queues.proofs.Names.{AcquireConsumer, ReleaseConsumer, PushIndex, Push, Pop, IsEmpty, IsFull}
+use Rattle.laws_queues.proofs.Names.{RoleCall, Acquire, Release, LengthOf, QueueFlight, Role, Indices, Values, Length}
+use Rattle.laws_queues.proofs.Names.{Going, Party, QueueKind, IndexQueue, Coding, IsCoding, one_word, opening_of}
+use Rattle.laws_queues.proofs.Names.{first_of, want_of, ask_of, is_question, kept_after_begin, acquire_of, release_of}
+use Rattle.laws_queues.proofs.Names.{first, list_of, cells_of, words_of_cell, lacks_role, call_of, kept_rows}
+use Rattle.laws_queues.proofs.Names.{pending_at, party_of, doing_of, flight_of, Open, span_of, first_row, old_of}
+use Rattle.laws_queues.proofs.Names.{party_at_begin, IsReached, Next, Trace, opening, capacity_error, Each-nil}
+use Rattle.laws_queues.proofs.Names.{row_passed, MayBegin, asked, StandsThere, stands_there, ComesFrom, comes_from}
+use Rattle.std.proofs.Common.{arith}
 use Rattle.steps.specs.declared.copied.Buffer as cells
-use Rattle.steps.specs.declared.copied.OneWord.{OneWord}
-use Rattle.steps.specs.declared.queues.lengths.Len.{Len}
-use Rattle.steps.specs.declared.routine.Running.{Running}
-use Rattle.model.specs.declared.event.Event.TheVariants.{Begun}
-use Rattle.model.specs.declared.event.Start.{Start}
-use Rattle.model.specs.declared.event.Start.TheVariants.{Queues}
-use Rattle.model.specs.declared.families.Flight.{Flight}
 use Rattle.model.specs.declared.families.Flight as flights
-use Rattle.model.specs.declared.families.Registry.{Registry}
 use Rattle.model.specs.declared.families.Registry as registries
-use Rattle.model.specs.declared.families.queues.QueueStart.{QueueStart}
 use Rattle.model.specs.declared.families.queues.QueueStart as starts
-use Rattle.model.specs.declared.families.queues.QueueStart.TheVariants.{AcquireProducer, ReleaseProducer}
-use Rattle.model.specs.declared.families.queues.QueueStart.TheVariants.{AcquireConsumer, ReleaseConsumer, PushIndex}
-use Rattle.model.specs.declared.families.queues.QueueStart.TheVariants.{Push, Pop, IsEmpty, IsFull}
-use Rattle.model.specs.declared.families.queues.calls.RoleCall.{RoleCall}
-use Rattle.model.specs.declared.families.queues.calls.RoleCall.TheVariants.{Acquire, Release}
 use Rattle.model.specs.declared.families.queues.calls.RingCall as rings
 use Rattle.model.specs.declared.families.queues.calls.OverflowCall as overflows
-use Rattle.model.specs.declared.families.queues.calls.LengthOf.{LengthOf}
 use Rattle.model.specs.declared.families.queues.calls.LengthOf as measures
-use Rattle.model.specs.declared.families.queues.calls.QueueFlight.{QueueFlight}
-use Rattle.model.specs.declared.families.queues.calls.QueueFlight.TheVariants.{Role, Indices, Values, Overflow, Length}
-use Rattle.model.specs.declared.party.Doing.TheVariants.{Going}
-use Rattle.model.specs.declared.party.Party.{Party}
-use Rattle.model.specs.declared.families.queues.QueueKind.{QueueKind}
-use Rattle.model.specs.declared.families.queues.QueueKind.TheVariants.{IndexQueue}
+use Rattle.model.specs.declared.families.queues.calls.QueueFlight.TheVariants.{Overflow}
 use Rattle.model.specs.declared.families.queues.QueueKind as kinds
 use Rattle.model.specs.declared.turn.Refusal.TheVariants.{NoRole}
-use Rattle.model.specs.Coding.{Coding, IsCoding, one_word}
-use Rattle.model.specs.Families.{opening_of, first_of, want_of, ask_of, is_question, kept_after_begin}
 use Rattle.model.specs.Families.Loan.Opening.{is_loan}
-use Rattle.model.specs.Families.Queues.Calls.{acquire_of, release_of, first}
-use Rattle.model.specs.Families.Queues.Objects.{list_of}
-use Rattle.model.specs.Families.Queues.Opening.{cells_of, words_of_cell, lacks_role, call_of, kept_rows}
-use Rattle.model.specs.Families.Queues.Steps.{pending_at}
-use Rattle.model.specs.Parties.{party_of, doing_of, flight_of}
-use Rattle.model.specs.Reading.{Open, span_of}
-use Rattle.model.specs.Rows.{first_row}
-use Rattle.model.specs.Turns.{old_of, party_at_begin, IsReached}
-use Rattle.model.specs.declared.turn.Turn.TheVariants.{Next}
 use Rattle.laws_queues.proofs.Queues.Runs.{LawsAt, run_sound}
-use Rattle.model.specs.World.{Trace, opening, capacity_error}
 use Rattle.model.proofs.Frame as frame
-use Rattle.model.proofs.Readings.{Each-nil}
-use Rattle.model.proofs.Rows.{row_passed, MayBegin}
-use Rattle.model.proofs.Scenes.{asked, StandsThere, stands_there, ComesFrom, comes_from}
 use Rattle.laws_queues.proofs.Overflow.Knows.{overflow_push_at, overflow_pop_at, OverflowAt}
 use Rattle.laws_queues.proofs.Overflow.Pops.{overflow_pop_step}
 use Rattle.laws_queues.proofs.Overflow.Pushes.{overflow_push_step}

@@ -1,42 +1,18 @@
 -- What a step of a queue's call has to show.
-use Rattle.std.proofs.Common.{◌≡◌, ◌≢◌, ℕ, ◌+◌, ◌-◌, ◌*◌, ◌%◌, ◌^◌, ◌<◌, ◌≤◌, Bool, true, false, ◌||◌, ◌⊎◌, Option}
-use Rattle.std.proofs.Common.{Some, None, List, [], ◌∷◌, ◌++◌, fold, length, map, refl, sym, ap, subst, ◌∙◌}
-use Rattle.std.proofs.Common.{append-nil, arith}
+use Rattle.laws_queues.proofs.Names.{◌≡◌, ◌≢◌, ℕ, ◌+◌, ◌-◌, ◌*◌, ◌%◌, ◌^◌, ◌<◌, ◌≤◌, Bool, true, false, ◌||◌, ◌⊎◌}
+use Rattle.laws_queues.proofs.Names.{Option, Some, None, List, [], ◌∷◌, ◌++◌, fold, length, map, refl, sym, ap, subst}
+use Rattle.laws_queues.proofs.Names.{◌∙◌, append-nil, Ask, After, GoOn, Done, word_at, Answer, Event, Finished}
+use Rattle.laws_queues.proofs.Names.{Queues, Flight, Registry, QueueStart, Roles, QueueFlight, Effect, Quiet, Over}
+use Rattle.laws_queues.proofs.Names.{Party, QueueKind, Coding, ask_of, most_steps, want, after, goes_back}
+use Rattle.laws_queues.proofs.Names.{TellsLength, cells_of, producer_after, consumer_after, GrantsRight, Wrote}
+use Rattle.laws_queues.proofs.Names.{pending_at, pending, beside, effect_of, effects_of, roles_after, party_of, put}
+use Rattle.laws_queues.proofs.Names.{doing_of, flight_of, Open, span_of, as_call, answer_in, one_if, old_of}
+use Rattle.laws_queues.proofs.Names.{words_after, change_of, step_count, party_after, ending_of}
+use Rattle.std.proofs.Common.{arith}
 use native.Mathlib.Nat.{mul-le-mul_right}
-use Rattle.steps.specs.declared.ask.Ask.{Ask}
-use Rattle.steps.specs.declared.ask.After.{After}
-use Rattle.steps.specs.declared.ask.After.TheVariants.{GoOn, Done}
-use Rattle.steps.specs.Queues.Ring.{cell_word, word_at}
-use Rattle.model.specs.declared.event.Answer.{Answer}
-use Rattle.model.specs.declared.event.Event.{Event}
-use Rattle.model.specs.declared.event.Event.TheVariants.{Finished}
-use Rattle.model.specs.declared.event.Start.TheVariants.{Queues}
-use Rattle.model.specs.declared.families.Flight.{Flight}
+use Rattle.steps.specs.Queues.Ring.{cell_word}
 use Rattle.model.specs.declared.families.Flight as flights
-use Rattle.model.specs.declared.families.Registry.{Registry}
 use Rattle.model.specs.declared.families.Registry as registries
-use Rattle.model.specs.declared.families.queues.QueueStart.{QueueStart}
-use Rattle.model.specs.declared.families.queues.Roles.{Roles}
-use Rattle.model.specs.declared.families.queues.calls.QueueFlight.{QueueFlight}
-use Rattle.model.specs.declared.families.queues.effects.Effect.{Effect}
-use Rattle.model.specs.declared.families.queues.effects.Effect.TheVariants.{Quiet}
-use Rattle.model.specs.declared.party.Doing.TheVariants.{Over}
-use Rattle.model.specs.declared.party.Party.{Party}
-use Rattle.model.specs.declared.families.queues.QueueKind.{QueueKind}
-use Rattle.model.specs.Coding.{Coding}
-use Rattle.model.specs.Families.{ask_of}
-use Rattle.model.specs.Families.Queues.Bounds.{most_steps}
-use Rattle.model.specs.Families.Queues.Calls.{want, after, goes_back}
-use Rattle.model.specs.Families.Queues.Lengths.{TellsLength}
-use Rattle.model.specs.Families.Queues.Opening.{cells_of}
-use Rattle.model.specs.Families.Queues.Reading.{producer_after, consumer_after}
-use Rattle.model.specs.Families.Queues.Roles.{GrantsRight}
-use Rattle.model.specs.Families.Queues.Spans.{Wrote}
-use Rattle.model.specs.Families.Queues.Steps.{pending_at, pending, beside, effect_of, effects_of, roles_after}
-use Rattle.model.specs.Parties.{party_of, put, doing_of, flight_of}
-use Rattle.model.specs.Reading.{Open, span_of}
-use Rattle.model.specs.Step.{as_call, answer_in}
-use Rattle.model.specs.Turns.{one_if, old_of, words_after, change_of, step_count, party_after, ending_of}
 use Rattle.model.proofs.Frame as frame
 use Rattle.laws_queues.proofs.Queues.Core.{Core, Good, cell_within}
 use Rattle.laws_queues.proofs.Queues.Invariant.{Scene, Inv, ShowsQueue, Shows, family, owes, queue_part}
@@ -132,7 +108,8 @@ module _ {T : Type 0} (en : Coding T) (kd : QueueKind) (scene : Scene T kd) wher
         → pending_at k.read (flight_of (Some y.doing)) ≡ None → IsCalm k.read
         → Hangs T kd c k' (pending k'.read ro.producer (put p y scene.latest))
     still_hangs k' y same read after before =
-        hangs_same T kd c k k' _ _ same (ap (λ n. pending n ro.producer (put p y scene.latest)) read ∙ pending_put k.read ro.producer p y scene.latest after before)
+        hangs_same T kd c k k' _ _ same
+        (ap (λ n. pending n ro.producer (put p y scene.latest)) read ∙ pending_put k.read ro.producer p y scene.latest after before)
         inv.queue.hangs
 
     -- the call goes on, and the positions and what waits stay

@@ -1,10 +1,6 @@
 -- What the values of each kind of queue are, how they lie in words, and how events name them.
-use Rattle.std.proofs.Common.{ℕ}
-use Rattle.model.specs.declared.event.Item.{Item}
-use Rattle.model.specs.declared.event.Item.TheVariants.{Index, Value}
-use Rattle.model.specs.declared.families.queues.QueueKind.{QueueKind}
-use Rattle.model.specs.declared.families.queues.QueueKind.TheVariants.{IndexQueue, Overflow, Queue}
-use Rattle.model.specs.Coding.{Coding, one_word}
+use Rattle.laws_queues.proofs.Names.{ℕ, Item, Index, Value, QueueKind, IndexQueue, Queue, Coding, one_word}
+use Rattle.model.specs.declared.families.queues.QueueKind.TheVariants.{Overflow}
 
 abbrev pub Val : Type 0 → QueueKind → Type 0
 Val T IndexQueue = ℕ

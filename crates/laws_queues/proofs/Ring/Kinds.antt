@@ -1,40 +1,20 @@
 -- The two kinds of bounded queue, that of indices and that of values: what both have, and what is so of both.
-use Rattle.std.proofs.Common.{◌≡◌, ℕ, ◌+◌, nat_lt, Bool, true, false, Option, Some, None, List, [], ◌∷◌, length, set, fold, map, drop, slice_get, refl, arith}
-use Rattle.steps.specs.declared.ask.After.{After}
+use Rattle.laws_queues.proofs.Names.{◌≡◌, ℕ, ◌+◌, nat_lt, Bool, true, false, Option, Some, None, List, [], ◌∷◌}
+use Rattle.laws_queues.proofs.Names.{length, set, fold, map, drop, slice_get, refl, After, Buffer, OneWord, value_in}
+use Rattle.laws_queues.proofs.Names.{kept_in_one, one_put_in, push_want, push_after, pop_want, pop_after, pop_kept}
+use Rattle.laws_queues.proofs.Names.{went_on, Answer, Event, Published, HandedOut, Acted, Finished, Queues}
+use Rattle.laws_queues.proofs.Names.{QueueStart, PushIndex, Push, Pop, Roles, QueueFlight, Indices, Values, Effect}
+use Rattle.laws_queues.proofs.Names.{QueueKind, IndexQueue, Queue, Coding, IsCoding, AnswersRight, most_steps}
+use Rattle.laws_queues.proofs.Names.{kept_at, as_it_is, TellsLength, answer_of_item, appended, list_of, cells_of}
+use Rattle.laws_queues.proofs.Names.{waiting, producer_after, consumer_after, GrantsRight, Wrote, push_of}
+use Rattle.laws_queues.proofs.Names.{push_effect, pop_effect, roles_after, pending_at, answers_from, as_call}
+use Rattle.std.proofs.Common.{arith}
 use Rattle.steps.specs.declared.ask.Want.{Want}
-use Rattle.steps.specs.declared.copied.Buffer.{Buffer}
-use Rattle.steps.specs.declared.copied.OneWord.{OneWord}
-use Rattle.steps.specs.Copied.{value_in, kept_in_one, one_put_in}
-use Rattle.steps.specs.Queues.Ring.{push_want, push_after, pop_want, pop_after, pop_kept, pop_answer}
-use Rattle.steps.specs.Routine.{went_on}
-use Rattle.model.specs.declared.event.Answer.{Answer}
+use Rattle.steps.specs.Queues.Ring.{pop_answer}
 use Rattle.model.specs.declared.event.Answer as answers
-use Rattle.model.specs.declared.event.Event.{Event}
-use Rattle.model.specs.declared.event.Event.TheVariants.{Published, HandedOut, Acted, Finished}
-use Rattle.model.specs.declared.event.Start.TheVariants.{Queues}
 use Rattle.model.specs.declared.families.Flight as flights
-use Rattle.model.specs.declared.families.queues.QueueStart.{QueueStart}
-use Rattle.model.specs.declared.families.queues.QueueStart.TheVariants.{PushIndex, Push, Pop}
-use Rattle.model.specs.declared.families.queues.Roles.{Roles}
-use Rattle.model.specs.declared.families.queues.calls.QueueFlight.{QueueFlight}
-use Rattle.model.specs.declared.families.queues.calls.QueueFlight.TheVariants.{Indices, Values}
 use Rattle.model.specs.declared.families.queues.calls.RingCall as rings
-use Rattle.model.specs.declared.families.queues.effects.Effect.{Effect}
-use Rattle.model.specs.declared.families.queues.QueueKind.{QueueKind}
-use Rattle.model.specs.declared.families.queues.QueueKind.TheVariants.{IndexQueue, Queue}
-use Rattle.model.specs.Coding.{Coding, IsCoding}
-use Rattle.model.specs.Families.Queues.Book.{AnswersRight}
-use Rattle.model.specs.Families.Queues.Bounds.{most_steps}
-use Rattle.model.specs.Families.Queues.Calls.{kept_at, as_it_is}
-use Rattle.model.specs.Families.Queues.Lengths.{TellsLength}
-use Rattle.model.specs.Families.Queues.Objects.{answer_of_item, appended, list_of}
-use Rattle.model.specs.Families.Queues.Opening.{cells_of}
-use Rattle.model.specs.Families.Queues.Reading.{waiting, producer_after, consumer_after}
-use Rattle.model.specs.Families.Queues.Roles.{GrantsRight}
-use Rattle.model.specs.Families.Queues.Spans.{HandsOut, Wrote, push_of}
-use Rattle.model.specs.Families.Queues.Steps.{push_effect, pop_effect, roles_after, pending_at}
-use Rattle.model.specs.Objects.{answers_from}
-use Rattle.model.specs.Step.{as_call}
+use Rattle.model.specs.Families.Queues.Spans.{HandsOut}
 use Rattle.laws_queues.proofs.Queues.Core.{Core}
 use Rattle.laws_queues.proofs.Queues.Keeping.{RingKeeps, Keeps}
 use Rattle.laws_queues.proofs.Queues.Knows.{in_one, in_cell, has_written, Hangs, listed, KnowsFlight, number_of, At}

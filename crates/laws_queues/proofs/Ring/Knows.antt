@@ -1,12 +1,10 @@
 -- What a push and a pop of the bounded queue know where they stand. V is the type of the values, R of the rooms.
-use Rattle.std.proofs.Common.{◌≡◌, ℕ, ◌+◌, ◌-◌, ◌^◌, ◌<◌, ◌≤◌, Some, List, ◌∷◌, length, get_or}
-use Rattle.steps.specs.Copied.{value_in}
+use Rattle.laws_queues.proofs.Names.{◌≡◌, ℕ, ◌+◌, ◌-◌, ◌^◌, ◌<◌, ◌≤◌, Some, List, ◌∷◌, length, get_or, value_in}
+use Rattle.laws_queues.proofs.Names.{Roles, Coding}
 use Rattle.steps.specs.declared.queues.ring.PushStage as pushes
 use Rattle.steps.specs.declared.queues.ring.PopStage as pops
 use Rattle.steps.specs.Queues.Ring.{cell_word}
 use Rattle.model.specs.declared.families.queues.calls.RingCall as rings
-use Rattle.model.specs.declared.families.queues.Roles.{Roles}
-use Rattle.model.specs.Coding.{Coding}
 use Rattle.laws_queues.proofs.Queues.Core.{Core, Holds}
 pub use Rattle.laws_queues.specs.Fresh.{IsFresh}
 

@@ -1,35 +1,17 @@
 -- The steps of a pop of a bounded queue.
-use Rattle.std.proofs.Common.{◌≡◌, ℕ, suc, ◌+◌, ◌*◌, ◌%◌, ◌^◌, ◌<◌, ◌≤◌, ◌==◌, nat_lt, Bool, true, false, ◌||◌}
-use Rattle.std.proofs.Common.{⊎_elim, Option, Some, List, [], ◌∷◌, ◌++◌, length, get_or, set, take, map, drop}
-use Rattle.std.proofs.Common.{slice_get, refl, sym, ap, subst, ◌∙◌, append-nil, arith, length-set}
-use Rattle.std.proofs.lemmas.Bool.Decides.{nat_tests}
-use Rattle.std.proofs.lemmas.List.{nil_from_length, set-get_or}
-use Rattle.steps.specs.declared.ask.Ask.{Ask}
-use Rattle.steps.specs.declared.ask.Op.TheVariants.{Load, Store}
-use Rattle.steps.specs.declared.ask.After.{After}
-use Rattle.steps.specs.declared.ask.After.TheVariants.{GoOn, Done}
-use Rattle.steps.specs.Copied.{value_in}
+use Rattle.laws_queues.proofs.Names.{◌≡◌, ℕ, suc, ◌+◌, ◌*◌, ◌%◌, ◌^◌, ◌<◌, ◌≤◌, ◌==◌, nat_lt, Bool, true, false, ◌||◌}
+use Rattle.laws_queues.proofs.Names.{⊎_elim, Option, Some, List, [], ◌∷◌, ◌++◌, length, get_or, set, take, map, drop}
+use Rattle.laws_queues.proofs.Names.{slice_get, refl, sym, ap, subst, ◌∙◌, append-nil, length-set, nat_tests}
+use Rattle.laws_queues.proofs.Names.{nil_from_length, set-get_or, Ask, Load, Store, After, GoOn, Done, value_in}
+use Rattle.laws_queues.proofs.Names.{after_position, QueueFlight, RingCall, Effect, Quiet, Acts, Item, Pop, Answer}
+use Rattle.laws_queues.proofs.Names.{Queues, HandedOut, Acted, Coding, IsCoding, ask_of, read_word, answer_of_item}
+use Rattle.laws_queues.proofs.Names.{load_of_write, load_of_read, published, handed_out, Open, old_of, words_after}
+use Rattle.laws_queues.proofs.Names.{change_of, step_count}
+use Rattle.std.proofs.Common.{arith}
 use Rattle.steps.specs.declared.queues.ring.PopStage as pops
 use Rattle.steps.specs.declared.queues.ring.PushStage as pushes
-use Rattle.steps.specs.Queues.Ring.{cell_word, after_position}
-use Rattle.model.specs.declared.families.queues.calls.QueueFlight.{QueueFlight}
-use Rattle.model.specs.declared.families.queues.calls.RingCall.{RingCall}
-use Rattle.model.specs.declared.families.queues.effects.Effect.{Effect}
-use Rattle.model.specs.declared.families.queues.effects.Effect.TheVariants.{Quiet, Acts}
-use Rattle.model.specs.declared.event.Item.{Item}
-use Rattle.model.specs.declared.families.queues.QueueStart.TheVariants.{Pop}
-use Rattle.model.specs.declared.event.Answer.{Answer}
+use Rattle.steps.specs.Queues.Ring.{cell_word}
 use Rattle.model.specs.declared.event.Answer as answers
-use Rattle.model.specs.declared.event.Start.TheVariants.{Queues}
-use Rattle.model.specs.declared.event.Event.TheVariants.{HandedOut, Acted}
-use Rattle.model.specs.Coding.{Coding, IsCoding}
-use Rattle.model.specs.Families.{ask_of}
-use Rattle.model.specs.Families.Queues.Calls.{read_word}
-use Rattle.model.specs.Families.Queues.Objects.{answer_of_item}
-use Rattle.model.specs.Families.Queues.Promises.{load_of_write, load_of_read}
-use Rattle.model.specs.Families.Queues.Reading.{published, handed_out}
-use Rattle.model.specs.Reading.{Open}
-use Rattle.model.specs.Turns.{old_of, words_after, change_of, step_count}
 use Rattle.laws_queues.proofs.Queues.Core.{Core, Good, one_more, taken, takes, front, word_at}
 use Rattle.laws_queues.proofs.Queues.Invariant.{Scene, Inv, waiting_is}
 use Rattle.laws_queues.proofs.Queues.Keeping.{clash, kept}

@@ -1,35 +1,16 @@
 -- The steps of a push of a bounded queue.
-use Rattle.std.proofs.Common.{◌≡◌, ◌≢◌, ℕ, ◌+◌, ◌-◌, ◌*◌, ◌%◌, ◌^◌, ◌<◌, ◌≤◌, ◌==◌, nat_lt, Bool, true, false, ◌||◌}
-use Rattle.std.proofs.Common.{Option, Some, List, [], ◌∷◌, ◌++◌, length, get_or, map, refl, sym, ap, subst, ◌∙◌}
-use Rattle.std.proofs.Common.{append-nil, arith}
-use Rattle.std.proofs.lemmas.Bool.Decides.{nat_tests}
-use Rattle.std.proofs.lemmas.List.{map-append, length-map}
-use Rattle.steps.specs.declared.ask.Ask.{Ask}
-use Rattle.steps.specs.declared.ask.Op.TheVariants.{Store}
-use Rattle.steps.specs.declared.ask.After.{After}
-use Rattle.steps.specs.declared.ask.After.TheVariants.{GoOn, Done}
+use Rattle.laws_queues.proofs.Names.{◌≡◌, ◌≢◌, ℕ, ◌+◌, ◌-◌, ◌*◌, ◌%◌, ◌^◌, ◌<◌, ◌≤◌, ◌==◌, nat_lt, Bool, true, false}
+use Rattle.laws_queues.proofs.Names.{◌||◌, Option, Some, List, [], ◌∷◌, ◌++◌, length, get_or, map, refl, sym, ap}
+use Rattle.laws_queues.proofs.Names.{subst, ◌∙◌, append-nil, nat_tests, map-append, length-map, Ask, Store, After}
+use Rattle.laws_queues.proofs.Names.{GoOn, Done, distance, after_position, QueueFlight, RingCall, Effect, Quiet, Acts}
+use Rattle.laws_queues.proofs.Names.{Publishes, Item, QueueStart, Answer, Queues, Published, Acted, Coding, IsCoding}
+use Rattle.laws_queues.proofs.Names.{ask_of, write_word, appended, load_of_write, load_of_read, published, handed_out}
+use Rattle.laws_queues.proofs.Names.{Open, answer_in, old_of, words_after, change_of, step_count}
+use Rattle.std.proofs.Common.{arith}
 use Rattle.steps.specs.declared.queues.ring.PushStage as pushes
 use Rattle.steps.specs.declared.queues.ring.PopStage as pops
-use Rattle.steps.specs.Queues.Ring.{cell_word, distance, after_position}
-use Rattle.model.specs.declared.families.queues.calls.QueueFlight.{QueueFlight}
-use Rattle.model.specs.declared.families.queues.calls.RingCall.{RingCall}
-use Rattle.model.specs.declared.families.queues.effects.Effect.{Effect}
-use Rattle.model.specs.declared.families.queues.effects.Effect.TheVariants.{Quiet, Acts, Publishes}
-use Rattle.model.specs.declared.event.Item.{Item}
-use Rattle.model.specs.declared.families.queues.QueueStart.{QueueStart}
-use Rattle.model.specs.declared.event.Answer.{Answer}
+use Rattle.steps.specs.Queues.Ring.{cell_word}
 use Rattle.model.specs.declared.event.Answer as answers
-use Rattle.model.specs.declared.event.Start.TheVariants.{Queues}
-use Rattle.model.specs.declared.event.Event.TheVariants.{Published, Acted}
-use Rattle.model.specs.Coding.{Coding, IsCoding}
-use Rattle.model.specs.Families.{ask_of}
-use Rattle.model.specs.Families.Queues.Calls.{write_word}
-use Rattle.model.specs.Families.Queues.Objects.{appended}
-use Rattle.model.specs.Families.Queues.Promises.{load_of_write, load_of_read}
-use Rattle.model.specs.Families.Queues.Reading.{published, handed_out}
-use Rattle.model.specs.Reading.{Open}
-use Rattle.model.specs.Step.{answer_in}
-use Rattle.model.specs.Turns.{old_of, words_after, change_of, step_count}
 use Rattle.laws_queues.proofs.Queues.Core as core
 use Rattle.laws_queues.proofs.Queues.Core.{Core, Holds, Good, filled, fills, one_filled, publishes, set_at}
 use Rattle.laws_queues.proofs.Queues.Invariant.{Scene, Inv, waiting_is}

@@ -1,24 +1,11 @@
 -- What a call on a pass whose last one may rest leaves: of one that has ended, and of one that rests itself.
-use Rattle.std.proofs.Common.{◌≡◌, inl, inr, ℕ, false, Option, Some, None, IfSome, List, [], ◌∷◌, ◌++◌, sym, ap, subst, ◌∙◌, append_assoc, append-nil}
-use Rattle.model.specs.declared.event.Answer.{Answer}
-use Rattle.model.specs.declared.event.Event.{Event}
-use Rattle.model.specs.declared.event.Event.TheVariants.{Begun, Finished}
-use Rattle.model.specs.declared.event.Start.{Start}
-use Rattle.model.specs.declared.event.Start.TheVariants.{Container}
-use Rattle.model.specs.declared.families.container.ContainerStart.{ContainerStart}
+use Rattle.lock_free_owners.proofs.Names.{◌≡◌, inl, inr, ℕ, false, Option, Some, None, IfSome, List, [], ◌∷◌, ◌++◌}
+use Rattle.lock_free_owners.proofs.Names.{sym, ap, subst, ◌∙◌, append_assoc, append-nil, Answer, Event, Begun}
+use Rattle.lock_free_owners.proofs.Names.{Finished, Start, Container, ContainerStart, Coding, is_locked, IsUnlocked}
+use Rattle.lock_free_owners.proofs.Names.{HeldSometime, IsAll, View, IsHistory, Called, IsBeginning, Goes}
+use Rattle.lock_free_owners.proofs.Names.{SettledFrom, KeepsState, Calling, LeavesState, IsUnderWay, Ends, Since}
+use Rattle.lock_free_owners.proofs.Names.{opened, called}
 use Rattle.model.specs.declared.turn.Kind.TheVariants as kinds
-use Rattle.model.specs.Coding.{Coding}
-use Rattle.model.specs.Families.Indices.Reading.{is_locked}
-use Rattle.model.specs.Families.Indices.Robust.Promises.{IsUnlocked}
-use Rattle.model.specs.Moments.{HeldSometime}
-use Rattle.threaded.specs.Shares.{IsAll}
-use Rattle.history.specs.declared.view.View.{View}
-use Rattle.history.specs.History.{IsHistory, Called, IsBeginning}
-use Rattle.history.specs.Passes.{Goes}
-use Rattle.history.specs.Settled.{SettledFrom}
-use Rattle.history.specs.ContainerLooks.{KeepsState}
-use Rattle.history.specs.Stages.{Calling, LeavesState, IsUnderWay, Ends, Since, opened}
-use Rattle.history.proofs.Called.{called}
 use Rattle.lock_free_owners.specs.Container.Told.{Answered}
 use Rattle.lock_free_owners.proofs.ContainerSet.Sound.{sound_history}
 use Rattle.lock_free_owners.proofs.RobustSet.Events.{not_locked, covers}

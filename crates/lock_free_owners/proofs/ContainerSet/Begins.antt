@@ -1,37 +1,26 @@
 -- Each call on a container, also one that begins where the last of its pass rests: its steps, and its begin.
-use Rattle.std.proofs.Common.{◌≡◌, ◌⊎◌, inl, inr, ℕ, ◌+◌, ◌<◌, None, [], refl, sym, subst, arith, nat_lt, true}
-use Rattle.std.proofs.lemmas.Bool.Decides.{nat_tests}
-use Rattle.atomic_table.specs.Table.{Allows}
-use Rattle.steps.specs.Container.Add.{first_add, add_want, add_after}
-use Rattle.steps.specs.Container.Remove.{first_remove, remove_want, remove_after}
-use Rattle.steps.specs.Container.Replace.{first_replace, replace_want, replace_after}
-use Rattle.steps.specs.Indices.Robust.Parts.{empty}
-use Rattle.steps.specs.Indices.Robust.Looks.{first_borrowed, borrowed_want, borrowed_after, locked_after}
+use Rattle.lock_free_owners.proofs.Names.{◌≡◌, ◌⊎◌, inl, inr, ℕ, ◌+◌, ◌<◌, None, [], refl, sym, subst, arith, nat_lt}
+use Rattle.lock_free_owners.proofs.Names.{true, nat_tests, Allows, first_add, add_want, add_after, first_remove}
+use Rattle.lock_free_owners.proofs.Names.{remove_want, remove_after, first_replace, replace_want, replace_after}
+use Rattle.lock_free_owners.proofs.Names.{empty, first_borrowed, borrowed_want, borrowed_after, Owned, Replacement}
+use Rattle.lock_free_owners.proofs.Names.{GiveBack, CountOf, Coding, IsCoding, View, adds_value, removes_value}
+use Rattle.lock_free_owners.proofs.Names.{replaces_value, counts_values, sees_lock, IsMachine, SettledFrom, IsResting}
+use Rattle.lock_free_owners.proofs.Names.{Calling, At, AsksFor, container_words, Keeps, rested_keeps}
+use Rattle.lock_free_owners.proofs.Names.{container_settles}
+use Rattle.steps.specs.Indices.Robust.Looks.{locked_after}
 use Rattle.steps.specs.Queues.Ring.{load}
 use Rattle.steps.specs.declared.ask.Op.TheVariants as ops
 use Rattle.steps.specs.declared.container.add.Add.{Add as Adding}
-use Rattle.steps.specs.declared.container.add.Owned.{Owned}
 use Rattle.steps.specs.declared.container.remove.Remove.{Remove as Removing}
 use Rattle.steps.specs.declared.container.replace.Replace.{Replace as Replacing}
-use Rattle.steps.specs.declared.container.replace.Replacement.{Replacement}
 use Rattle.steps.specs.declared.indices.robust.looks.BorrowedIndices.{BorrowedIndices as Counting}
 use Rattle.steps.specs.declared.indices.robust.looks.IsLocked.{IsLocked as Looking}
-use Rattle.steps.specs.declared.indices.robust.release.GiveBack.{GiveBack}
-use Rattle.model.specs.declared.families.container.calls.CountOf.{CountOf}
 use Rattle.model.specs.declared.turn.Kind.TheVariants as kinds
-use Rattle.model.specs.Coding.{Coding, IsCoding}
-use Rattle.history.specs.declared.view.View.{View}
-use Rattle.history.specs.Container.{adds_value, removes_value, replaces_value, counts_values, sees_lock}
-use Rattle.history.specs.History.{IsMachine}
-use Rattle.history.specs.Settled.{SettledFrom, IsResting}
-use Rattle.history.specs.Stages.{Calling, At}
-use Rattle.history.proofs.CallsIn.{AsksFor}
-use Rattle.history.proofs.Containers.{container_words}
-use Rattle.history.proofs.ContainerAdds.{container_add_keeps, container_add_first, container_replace_keeps, container_replace_first}
+use Rattle.history.proofs.ContainerAdds.{container_add_keeps, container_add_first, container_replace_keeps}
+use Rattle.history.proofs.ContainerAdds.{container_replace_first}
 use Rattle.history.proofs.ContainerCalls.{container_count_keeps, container_count_first, container_lock_keeps}
 use Rattle.history.proofs.ContainerCalls.{container_lock_first, remove_call, container_remove_keeps}
 use Rattle.history.proofs.ContainerCalls.{container_remove_first}
-use Rattle.history.proofs.ContainerRests.{Keeps, rested_keeps, container_settles}
 use Rattle.lock_free_owners.specs.Container.Idle.{IsIdle}
 use Rattle.lock_free_owners.specs.Container.Turns.{CallAt, BeginsAdd, BeginsRemove, BeginsReplace, BeginsCount}
 use Rattle.lock_free_owners.specs.Container.Turns.{BeginsLock, AddAt, AddEnds, RemoveAt, RemoveEnds, ReplaceAt}

@@ -1,40 +1,20 @@
 -- What is known of whole calls on a container.
-use Rattle.std.proofs.Common.{Option, IfSome, ◌≡◌, ⊎_elim, ℕ, ◌<◌, ◌≤◌, ◌==◌, Bool, true, false, true≢false, Ok, Err}
-use Rattle.std.proofs.Common.{IfOk, OnOk, List, [], ◌∷◌, ◌++◌, refl, sym, ap, subst, ◌∙◌, append_assoc, arith}
-use Rattle.steps.specs.Container.Add.{Added}
-use Rattle.steps.specs.Container.Remove.{Removed}
-use Rattle.steps.specs.Container.Replace.{Replaced}
-use Rattle.steps.specs.declared.container.add.Owned.{Owned}
+use Rattle.lock_free_owners.proofs.Names.{Option, IfSome, ◌≡◌, ⊎_elim, ℕ, ◌<◌, ◌≤◌, ◌==◌, Bool, true, false}
+use Rattle.lock_free_owners.proofs.Names.{true≢false, Ok, Err, IfOk, OnOk, List, [], ◌∷◌, ◌++◌, refl, sym, ap, subst}
+use Rattle.lock_free_owners.proofs.Names.{◌∙◌, append_assoc, arith, Added, Removed, Replaced, Owned, Replacement}
+use Rattle.lock_free_owners.proofs.Names.{ReleaseMode, LockIfLastIndex, Default, ReleaseState, GiveBack, Answer}
+use Rattle.lock_free_owners.proofs.Names.{Number, Truth, Event, Begun, Filled, Granted, FreedOf, Hidden, Finished}
+use Rattle.lock_free_owners.proofs.Names.{Container, ContainerStart, Add, Remove, Replace, Len, IsEmpty, Coding}
+use Rattle.lock_free_owners.proofs.Names.{added, removed, replaced, is_locked, IsUnlocked, HeldSometime, count_most}
+use Rattle.lock_free_owners.proofs.Names.{View, adds_value, removes_value, replaces_value, counts_values, sees_lock}
+use Rattle.lock_free_owners.proofs.Names.{IsHistory, Called, IsBeginning, Goes, KeepsState, Calling, LeavesState}
 use Rattle.steps.specs.declared.container.enums.ContainerAddFailure.{ContainerAddFailure}
 use Rattle.steps.specs.declared.container.enums.ContainerAddFailure.TheVariants as failures
-use Rattle.steps.specs.declared.container.replace.Replacement.{Replacement}
-use Rattle.steps.specs.declared.indices.enums.ReleaseMode.{ReleaseMode}
-use Rattle.steps.specs.declared.indices.enums.ReleaseMode.TheVariants.{LockIfLastIndex, Default}
-use Rattle.steps.specs.declared.indices.enums.ReleaseState.{ReleaseState}
 use Rattle.steps.specs.declared.indices.enums.ReleaseState.TheVariants as states
-use Rattle.steps.specs.declared.indices.robust.release.GiveBack.{GiveBack}
-use Rattle.model.specs.declared.event.Answer.{Answer}
-use Rattle.model.specs.declared.event.Answer.TheVariants.{Number, Truth}
-use Rattle.model.specs.declared.event.Event.{Event}
-use Rattle.model.specs.declared.event.Event.TheVariants.{Begun, Filled, Granted, FreedOf, Hidden, Finished}
-use Rattle.model.specs.declared.event.Start.TheVariants.{Container}
-use Rattle.model.specs.declared.families.container.ContainerStart.{ContainerStart}
-use Rattle.model.specs.declared.families.container.ContainerStart.TheVariants.{Add, Remove, Replace, Len, IsEmpty, IsLocked}
+use Rattle.model.specs.declared.families.container.ContainerStart.TheVariants.{IsLocked}
 use Rattle.model.specs.declared.families.container.calls.CountOf.TheVariants as counts
 use Rattle.model.specs.declared.turn.Kind.TheVariants as kinds
-use Rattle.model.specs.Coding.{Coding}
-use Rattle.model.specs.Families.Container.Calls.{added, removed, replaced}
-use Rattle.model.specs.Families.Indices.Reading.{is_locked}
-use Rattle.model.specs.Families.Indices.Robust.Promises.{IsUnlocked}
-use Rattle.model.specs.Moments.{HeldSometime}
-use Rattle.laws_robust.proofs.Counting.{count_most}
-use Rattle.history.specs.declared.view.View.{View}
 use Rattle.history.specs.Container as container
-use Rattle.history.specs.Container.{adds_value, removes_value, replaces_value, counts_values, sees_lock}
-use Rattle.history.specs.History.{IsHistory, Called, IsBeginning}
-use Rattle.history.specs.Passes.{Goes}
-use Rattle.history.specs.ContainerLooks.{KeepsState}
-use Rattle.history.specs.Stages.{Calling, LeavesState}
 use Rattle.lock_free_owners.specs.Robust.Told.{WroteAt, WasFilled, WasGranted, WasFreed, HasReleased, FoundLock}
 use Rattle.lock_free_owners.specs.Container.Told.{IsSound, HasMade, HasAdded, HasRemoved, HasReplaced, HasCounted, HasTested, HasLooked, Answered, WasNotAdded}
 use Rattle.lock_free_owners.specs.Container.Turns.{CallEnds, AddEnds, RemoveEnds, ReplaceEnds, CountEnds, LockEnds}

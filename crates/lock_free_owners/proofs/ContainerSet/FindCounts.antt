@@ -1,39 +1,24 @@
 -- How many indices a find of a container has counted: one that a step has ended, and one that stands at its question.
-use Rattle.std.proofs.Common.{◌≡◌, ℕ, ◌+◌, true, false, Some, None, List, [], ◌∷◌, ◌++◌, refl, sym, ap, subst, ◌∙◌, append_assoc}
-use Rattle.std.proofs.lemmas.List.{append_cancel_left, same_from_push}
-use Rattle.steps.specs.declared.ask.After.{After}
-use Rattle.steps.specs.declared.ask.After.TheVariants.{Done}
+use Rattle.lock_free_owners.proofs.Names.{◌≡◌, ℕ, ◌+◌, true, false, Some, None, List, [], ◌∷◌, ◌++◌, refl, sym, ap}
+use Rattle.lock_free_owners.proofs.Names.{subst, ◌∙◌, append_assoc, append_cancel_left, same_from_push, After, Done}
+use Rattle.lock_free_owners.proofs.Names.{Buffer, Answer, Number, Event, Finished, Start, Container, Flight, Coding}
+use Rattle.lock_free_owners.proofs.Names.{want_of, goes_of, is_question, IsFilledWith, IsCount, read_in, Span, Open}
+use Rattle.lock_free_owners.proofs.Names.{span_of, after_turn, events_of, ending_of, number_of, count_later, IsRun}
+use Rattle.lock_free_owners.proofs.Names.{LastStep, call_in, refusal_as, container_effects, containers_owe}
 use Rattle.steps.specs.declared.container.find.FindStage.{FindStage}
 use Rattle.steps.specs.declared.container.find.FindStage.TheVariants as finds
-use Rattle.steps.specs.declared.copied.Buffer.{Buffer}
-use Rattle.model.specs.declared.event.Answer.{Answer}
-use Rattle.model.specs.declared.event.Answer.TheVariants.{Number}
-use Rattle.model.specs.declared.event.Event.{Event}
-use Rattle.model.specs.declared.event.Event.TheVariants.{Finished}
-use Rattle.model.specs.declared.event.Start.{Start}
-use Rattle.model.specs.declared.event.Start.TheVariants.{Container}
-use Rattle.model.specs.declared.families.Flight.{Flight}
 use Rattle.model.specs.declared.families.Flight.TheVariants as flights
 use Rattle.model.specs.declared.families.container.ContainerStart.TheVariants.{Find}
 use Rattle.model.specs.declared.families.container.calls.ContainerFlight.TheVariants as calls
 use Rattle.model.specs.declared.turn.Kind.TheVariants as kinds
 use Rattle.model.specs.declared.turn.Turn.TheVariants.{Next, Decide}
-use Rattle.model.specs.Coding.{Coding}
-use Rattle.model.specs.Families.{want_of, goes_of, is_question}
 use Rattle.model.specs.Families.Container.Questions.{question_in}
-use Rattle.model.specs.Families.Indices.Robust.Promises.{IsFilledWith, IsCount}
-use Rattle.model.specs.Families.Queues.Calls.{read_in}
-use Rattle.model.specs.Reading.{Span, Open, span_of}
 use Rattle.model.specs.Shape.{IsOpenFor}
 use Rattle.model.specs.Step.{answer_in}
-use Rattle.model.specs.Turns.{after_turn, events_of, ending_of, number_of}
 use Rattle.model.specs.World.{Trace, flight_in}
-use Rattle.laws_robust.proofs.Counting.{count_later}
 use Rattle.laws_container.specs.Tells.{StoppedIf}
 use Rattle.laws_container.proofs.OpenRuns.{reached_open_tells}
-use Rattle.history.specs.History.{IsRun, LastStep, call_in, refusal_as}
 use Rattle.history.proofs.Calls.{Stands, stands, flight_is, heard_events}
-use Rattle.history.proofs.Containers.{container_effects, containers_owe}
 use Rattle.history.proofs.Reached.{decide_as}
 use Rattle.lock_free_owners.specs.Container.FindTold.{below_question}
 

@@ -1,42 +1,22 @@
 -- A find of a container between two turns, as a call of the history.
-use Rattle.std.proofs.Common.{◌≡◌, ◌⊎◌, inl, inr, ℕ, ◌+◌, ◌<◌, ◌==◌, nat_lt, Bool, true, false, Option, Some}
-use Rattle.std.proofs.Common.{None, List, [], ◌∷◌, ◌++◌, slice_set, refl, sym, ap, subst, ◌∙◌, append-nil, fold, arith}
-use Rattle.steps.specs.Container.Find.{first_find, find_asks, find_want, find_keeps as keeps_of, find_takes}
-use Rattle.steps.specs.Indices.Robust.Parts.{empty}
-use Rattle.steps.specs.Picks.{by_test}
-use Rattle.steps.specs.declared.ask.After.{After}
-use Rattle.steps.specs.declared.ask.After.TheVariants.{GoOn, Done}
+use Rattle.lock_free_owners.proofs.Names.{◌≡◌, ◌⊎◌, inl, inr, ℕ, ◌+◌, ◌<◌, ◌==◌, nat_lt, Bool, true, false, Option}
+use Rattle.lock_free_owners.proofs.Names.{Some, None, List, [], ◌∷◌, ◌++◌, slice_set, refl, sym, ap, subst, ◌∙◌}
+use Rattle.lock_free_owners.proofs.Names.{append-nil, fold, arith, find_asks, find_want, empty, by_test, After, GoOn}
+use Rattle.lock_free_owners.proofs.Names.{Done, Buffer, Number, Event, Begun, Copied, Container, Coding, IsCoding}
+use Rattle.lock_free_owners.proofs.Names.{is_question, IsFilledWith, IsCount, fresh_cell, kept_at, Open, own_after}
+use Rattle.lock_free_owners.proofs.Names.{span_of, number_of, View, copies_of, copies_after, Called, room_of}
+use Rattle.lock_free_owners.proofs.Names.{IsResting, SettledFrom, Waits, RestsAt, IsUnderWay, Ends, value_of_room}
+use Rattle.lock_free_owners.proofs.Names.{AsksFor, span_since, container_words, rested_words, apart_asked, room_fresh}
+use Rattle.steps.specs.Container.Find.{first_find, find_keeps as keeps_of, find_takes}
 use Rattle.steps.specs.declared.container.find.Find.{Find}
 use Rattle.steps.specs.declared.container.find.FindStage.{FindStage}
 use Rattle.steps.specs.declared.container.find.FindStage.TheVariants as finds
-use Rattle.steps.specs.declared.copied.Buffer.{Buffer}
-use Rattle.model.specs.declared.event.Answer.TheVariants.{Number}
-use Rattle.model.specs.declared.event.Event.{Event}
-use Rattle.model.specs.declared.event.Event.TheVariants.{Begun, Copied}
-use Rattle.model.specs.declared.event.Start.TheVariants.{Container}
 use Rattle.model.specs.declared.families.container.ContainerStart.TheVariants as starts
 use Rattle.model.specs.declared.turn.Kind.TheVariants as kinds
-use Rattle.model.specs.Coding.{Coding, IsCoding}
-use Rattle.model.specs.Families.{is_question}
-use Rattle.model.specs.Families.Indices.Robust.Promises.{IsFilledWith, IsCount}
-use Rattle.model.specs.Families.Queues.Calls.{fresh_cell, kept_at}
-use Rattle.model.specs.Reading.{Open, own_after, span_of}
-use Rattle.model.specs.Turns.{number_of}
 use Rattle.threaded.specs.Driver.{Next, Told}
-use Rattle.history.specs.declared.view.View.{View}
-use Rattle.history.specs.ContainerFind.{copies_of, copies_after}
-use Rattle.history.specs.History.{Called}
-use Rattle.history.specs.Rooms.{room_of}
-use Rattle.history.specs.Settled.{IsResting, SettledFrom, Waits, RestsAt}
-use Rattle.history.specs.Stages.{IsUnderWay, Ends}
-use Rattle.history.specs.Value.{value_of_room}
-use Rattle.history.proofs.CallsIn.{AsksFor, span_since}
 use Rattle.history.proofs.ContainerFinds.{find_call, container_find_keeps, container_find_word, container_find_hears}
 use Rattle.history.proofs.ContainerFinds.{container_find_first, find_copied, find_rests_so, no_ends, copies_span}
-use Rattle.history.proofs.Containers.{container_words}
-use Rattle.history.proofs.ContainerRests.{rested_words, apart_asked}
 use Rattle.history.proofs.Settling.{KeepsWhere}
-use Rattle.history.proofs.Rooms.{room_fresh}
 use Rattle.lock_free_owners.specs.Container.FindTold.{copied, Rests, HasSearched, below_question, asked_below}
 use Rattle.lock_free_owners.specs.Container.FindTurns.{words_in, Copying, BeginsFind, finding, find_goes, find_copying}
 use Rattle.lock_free_owners.specs.Container.FindTurns.{FindBegun, FindOver, FindAt, FindDone, FindTells, IsAtWord, IsLeft}

@@ -1,22 +1,13 @@
 -- A find of a container between two turns: where it stands on the history, and what its closure was called with.
-use Rattle.std.proofs.Common.{◌≡◌, ℕ, ◌+◌, ◌^◌, ◌<◌, ◌≤◌, nat_lt, if◌then◌else◌, true, false, List, [], refl, sym, ap, subst, ◌∙◌, arith}
-use Rattle.std.proofs.lemmas.Bool.Decides.{nat_tests}
-use Rattle.steps.specs.Container.Find.{first_find, at_find, find_comes_to, find_takes, find_kept}
-use Rattle.history.proofs.CallsIn.{by_bool}
-use Rattle.steps.specs.declared.ask.After.{After}
-use Rattle.steps.specs.declared.ask.After.TheVariants.{GoOn, Done}
+use Rattle.lock_free_owners.proofs.Names.{◌≡◌, ℕ, ◌+◌, ◌^◌, ◌<◌, ◌≤◌, nat_lt, if◌then◌else◌, true, false, List, []}
+use Rattle.lock_free_owners.proofs.Names.{refl, sym, ap, subst, ◌∙◌, arith, nat_tests, find_kept, by_bool, After}
+use Rattle.lock_free_owners.proofs.Names.{GoOn, Done, ContainerHandle, Buffer, CallbackProgression, Continue, Stop}
+use Rattle.lock_free_owners.proofs.Names.{Coding, IsCoding, fresh_cell, kept_at, View, value_of_room}
+use Rattle.steps.specs.Container.Find.{first_find, at_find, find_comes_to, find_takes}
 use Rattle.steps.specs.declared.container.find.Find.{Find}
 use Rattle.steps.specs.declared.container.find.FindStage.{FindStage}
 use Rattle.steps.specs.declared.container.find.FindStage.TheVariants as finds
-use Rattle.steps.specs.declared.container.handle.ContainerHandle.{ContainerHandle}
-use Rattle.steps.specs.declared.copied.Buffer.{Buffer}
-use Rattle.steps.specs.declared.enums.CallbackProgression.{CallbackProgression}
-use Rattle.steps.specs.declared.enums.CallbackProgression.TheVariants.{Continue, Stop}
-use Rattle.model.specs.Coding.{Coding, IsCoding}
-use Rattle.model.specs.Families.Queues.Calls.{fresh_cell, kept_at}
 use Rattle.threaded.specs.Driver.{Next}
-use Rattle.history.specs.declared.view.View.{View}
-use Rattle.history.specs.Value.{value_of_room}
 use Rattle.lock_free_owners.specs.Robust.Stages.{says}
 use Rattle.lock_free_owners.specs.Container.Callable.{Visit, TakesVisits, HasFound}
 use Rattle.lock_free_owners.specs.Container.FindTold.{HasSearched}

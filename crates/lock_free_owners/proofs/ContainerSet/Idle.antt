@@ -1,21 +1,14 @@
 -- A pass between two of its calls has none under way, or its last one rests.
-use Rattle.std.proofs.Common.{◌≡◌, ◌⊎◌, inl, inr, ℕ, ◌<◌, true, false, true≢false, Option, Some, None, [], refl, sym, ap, ◌∙◌}
-use Rattle.steps.specs.declared.ask.After.TheVariants.{Done}
+use Rattle.lock_free_owners.proofs.Names.{◌≡◌, ◌⊎◌, inl, inr, ℕ, ◌<◌, true, false, true≢false, Option, Some, None, []}
+use Rattle.lock_free_owners.proofs.Names.{refl, sym, ap, ◌∙◌, Done, Number, Start, Flight, Coding, goes_of, number_of}
+use Rattle.lock_free_owners.proofs.Names.{View, IsResting}
 use Rattle.steps.specs.declared.container.find.FindStage.{FindStage}
 use Rattle.steps.specs.declared.container.find.FindStage as finds
-use Rattle.model.specs.declared.event.Answer.TheVariants.{Number}
-use Rattle.model.specs.declared.event.Start.{Start}
-use Rattle.model.specs.declared.families.Flight.{Flight}
 use Rattle.model.specs.declared.families.Flight as flights
 use Rattle.model.specs.declared.families.Registry.{Registry}
 use Rattle.model.specs.declared.families.Registry as registries
 use Rattle.model.specs.declared.families.container.calls.ContainerFlight.{ContainerFlight}
 use Rattle.model.specs.declared.families.container.calls.ContainerFlight as calls
-use Rattle.model.specs.Coding.{Coding}
-use Rattle.model.specs.Families.{goes_of}
-use Rattle.model.specs.Turns.{number_of}
-use Rattle.history.specs.declared.view.View.{View}
-use Rattle.history.specs.Settled.{IsResting}
 use Rattle.lock_free_owners.specs.Container.Idle.{asks, is_at_question, may_rest, IsIdle}
 
 module _ {T : Type 0} (code : Coding T) (v : View T) (fresh : v.other ≡ []) (some : 0 < v.share.part) where

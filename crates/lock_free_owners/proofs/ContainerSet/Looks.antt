@@ -1,36 +1,20 @@
 -- A look of a state on a pass: its steps, its begin, and what it leaves.
-use Rattle.std.proofs.Common.{◌≡◌, ◌⊎◌, inl, inr, ℕ, zero, suc, ◌+◌, ◌<◌, ◌==◌, nat_lt, Bool, true, false, Some, None}
-use Rattle.std.proofs.Common.{List, [], refl, sym, ap, subst, ◌∙◌, slice_index_or, arith}
-use Rattle.std.proofs.lemmas.Bool.Decides.{nat_tests}
-use Rattle.steps.specs.Container.Layout.{is_even}
-use Rattle.steps.specs.Container.Look.{first_look, look_want, look_comes_to, look_finds, look_takes, look_after, look_kept}
-use Rattle.steps.specs.Container.State.{Numbers, Showing}
-use Rattle.steps.specs.Picks.{by_test}
-use Rattle.steps.specs.declared.ask.After.{After}
-use Rattle.steps.specs.declared.ask.After.TheVariants.{GoOn, Done}
+use Rattle.lock_free_owners.proofs.Names.{◌≡◌, ◌⊎◌, inl, inr, ℕ, zero, suc, ◌+◌, ◌<◌, ◌==◌, nat_lt, Bool, true, false}
+use Rattle.lock_free_owners.proofs.Names.{Some, None, List, [], refl, sym, ap, subst, ◌∙◌, slice_index_or, arith}
+use Rattle.lock_free_owners.proofs.Names.{nat_tests, is_even, first_look, look_want, look_comes_to, look_finds}
+use Rattle.lock_free_owners.proofs.Names.{look_takes, look_after, look_kept, Numbers, Showing, by_test, After, GoOn}
+use Rattle.lock_free_owners.proofs.Names.{Done, ContainerState, Answer, Event, ContainerStart, UpdateState, Coding}
+use Rattle.lock_free_owners.proofs.Names.{IsCoding, looked, settled_if, weaker_owes, View, HasCopied, look_start}
+use Rattle.lock_free_owners.proofs.Names.{state_of_look, looking, HasLookedAll, RestedLooks, RestedLooked, IsMachine}
+use Rattle.lock_free_owners.proofs.Names.{Goes, IsResting, Keeps}
 use Rattle.steps.specs.declared.ask.Want.{Want}
 use Rattle.steps.specs.declared.container.look.Look.{Look as Looking}
 use Rattle.steps.specs.declared.container.look.LookStage.{LookStage}
 use Rattle.steps.specs.declared.container.look.LookStage.TheVariants as looks
-use Rattle.steps.specs.declared.container.state.ContainerState.{ContainerState}
-use Rattle.model.specs.declared.event.Answer.{Answer}
-use Rattle.model.specs.declared.event.Event.{Event}
-use Rattle.model.specs.declared.families.container.ContainerStart.{ContainerStart}
 use Rattle.model.specs.declared.families.container.calls.LookOf.{LookOf}
-use Rattle.model.specs.declared.families.container.calls.LookOf.TheVariants.{UpdateState}
 use Rattle.model.specs.declared.turn.Kind.TheVariants as kinds
-use Rattle.model.specs.Coding.{Coding, IsCoding}
-use Rattle.model.specs.Families.Container.Calls.{looked, settled_if}
 use Rattle.model.specs.Families.Container.States.{settled}
 use Rattle.threaded.specs.Driver.{Next, Told}
-use Rattle.threaded.proofs.Driving.{weaker_owes}
-use Rattle.history.specs.declared.view.View.{View}
-use Rattle.history.specs.ContainerFind.{HasCopied}
-use Rattle.history.specs.ContainerLooks.{look_start, state_of_look, looking, HasLookedAll, RestedLooks, RestedLooked}
-use Rattle.history.specs.History.{IsMachine}
-use Rattle.history.specs.Passes.{Goes}
-use Rattle.history.specs.Settled.{IsResting}
-use Rattle.history.proofs.ContainerRests.{Keeps}
 use Rattle.history.proofs.StateRests.{state_rests_keep, state_rests_idle, state_rests_rested}
 use Rattle.lock_free_owners.specs.Container.Bare.{Still, LookStands, LookEnds}
 use Rattle.lock_free_owners.specs.Container.Idle.{IsIdle}

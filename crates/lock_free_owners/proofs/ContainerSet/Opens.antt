@@ -1,15 +1,11 @@
 -- How a container's table opens.
-use Rattle.std.proofs.Common.{◌≡◌, ℕ, ◌+◌, ◌*◌, ◌-◌, ◌^◌, ◌<◌, nat_lt, false, List, [], ◌∷◌, ◌++◌, replicate, refl, sym, ap, ◌∙◌, append_assoc, arith}
-use Rattle.std.proofs.lemmas.Bool.Decides.{nat_tests}
-use Rattle.atomic_table.specs.Table.{opening}
-use Rattle.steps.specs.Container.Layout.{total_words}
-use Rattle.steps.specs.Indices.Robust.Parts.{empty}
+use Rattle.lock_free_owners.proofs.Names.{◌≡◌, ℕ, ◌+◌, ◌*◌, ◌-◌, ◌^◌, ◌<◌, nat_lt, false, List, [], ◌∷◌, ◌++◌, refl}
+use Rattle.lock_free_owners.proofs.Names.{sym, ap, ◌∙◌, append_assoc, arith, nat_tests, opening, total_words, empty}
+use Rattle.lock_free_owners.proofs.Names.{Coding, IsCoding, IsMachine, first_view, opens}
+use Rattle.std.proofs.Common.{replicate}
 use Rattle.model.specs.declared.turn.Kind.TheVariants as kinds
-use Rattle.model.specs.Coding.{Coding, IsCoding}
 use Rattle.model.specs.Families.Container.Opening.{opening_words}
-use Rattle.history.specs.History.{IsMachine}
-use Rattle.history.specs.Views.{first_view}
-use Rattle.history.proofs.Passes.{opens, one_more}
+use Rattle.history.proofs.Passes.{one_more}
 
 module _ (capacity size : ℕ) where
   -- the words as they are filled in

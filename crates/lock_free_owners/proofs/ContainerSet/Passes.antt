@@ -1,9 +1,7 @@
 -- What a split and a join leave of a pass.
-use Rattle.std.proofs.Common.{◌≡◌, inl, inr, ◌<◌, None, [], sym, ap, subst, ◌∙◌}
+use Rattle.lock_free_owners.proofs.Names.{◌≡◌, inl, inr, ◌<◌, None, [], sym, ap, subst, ◌∙◌, Coding, View}
+use Rattle.lock_free_owners.proofs.Names.{SettledFrom}
 use Rattle.model.specs.declared.turn.Kind.TheVariants as kinds
-use Rattle.model.specs.Coding.{Coding}
-use Rattle.history.specs.declared.view.View.{View}
-use Rattle.history.specs.Settled.{SettledFrom}
 
 -- what is known of a view that a load left settled
 pub record Settled {T : Type 0} (v w : View T) : Type 0 where

@@ -1,47 +1,27 @@
 -- A recovery of a container between two turns, as a call of the history.
-use Rattle.std.proofs.Common.{◌≡◌, ◌⊎◌, inl, inr, ℕ, ◌+◌, ◌<◌, ◌==◌, nat_lt, Bool, true, false, None, List, [], ◌∷◌}
-use Rattle.std.proofs.Common.{◌++◌, slice_set, refl, sym, ap, subst, ◌∙◌, append_assoc, append-nil, arith}
-use Rattle.steps.specs.Container.Recover.{first_recover, goes_to, recover_asks, recover_want, recover_keeps as keeps_of, recover_takes}
-use Rattle.steps.specs.Indices.Robust.Parts.{empty}
-use Rattle.steps.specs.Picks.{by_test}
-use Rattle.steps.specs.declared.ask.After.{After}
-use Rattle.steps.specs.declared.ask.After.TheVariants.{GoOn, Done}
-use Rattle.steps.specs.declared.container.recover.DeadOwner.{DeadOwner}
+use Rattle.lock_free_owners.proofs.Names.{◌≡◌, ◌⊎◌, inl, inr, ℕ, ◌+◌, ◌<◌, ◌==◌, nat_lt, Bool, true, false, None}
+use Rattle.lock_free_owners.proofs.Names.{List, [], ◌∷◌, ◌++◌, slice_set, refl, sym, ap, subst, ◌∙◌, append_assoc}
+use Rattle.lock_free_owners.proofs.Names.{append-nil, arith, goes_to, empty, by_test, After, GoOn, Done, DeadOwner}
+use Rattle.lock_free_owners.proofs.Names.{Buffer, ReleaseState, State, Event, Begun, Copied, Asked, Finished}
+use Rattle.lock_free_owners.proofs.Names.{Container, Coding, IsCoding, is_question, is_locked, fresh_cell, kept_at}
+use Rattle.lock_free_owners.proofs.Names.{Each, number_of, Word, DriverTold, View, wrote_visits, told_yet, Called}
+use Rattle.lock_free_owners.proofs.Names.{Goes, room_of, IsResting, SettledFrom, Waits, IsUnderWay, Ends, AsksFor}
+use Rattle.lock_free_owners.proofs.Names.{recover_call, container_recover_keeps, container_recover_hears}
+use Rattle.lock_free_owners.proofs.Names.{container_recover_first, recover_did, container_words, Keeps, rested_asks}
+use Rattle.lock_free_owners.proofs.Names.{apart_asked, room_fresh}
+use Rattle.steps.specs.Container.Recover.{first_recover, recover_asks, recover_want, recover_keeps as keeps_of}
+use Rattle.steps.specs.Container.Recover.{recover_takes}
 use Rattle.steps.specs.declared.container.recover.Recover.{Recover}
 use Rattle.steps.specs.declared.container.recover.RecoverStage.{RecoverStage}
 use Rattle.steps.specs.declared.container.recover.RecoverStage.TheVariants as recovers
-use Rattle.steps.specs.declared.copied.Buffer.{Buffer}
-use Rattle.steps.specs.declared.indices.enums.ReleaseState.{ReleaseState}
 use Rattle.steps.specs.declared.indices.enums.ReleaseState.TheVariants as states
-use Rattle.model.specs.declared.event.Answer.TheVariants.{State}
-use Rattle.model.specs.declared.event.Event.{Event}
-use Rattle.model.specs.declared.event.Event.TheVariants.{Begun, Copied, Asked, Finished}
-use Rattle.model.specs.declared.event.Start.TheVariants.{Container}
 use Rattle.model.specs.declared.families.container.ContainerStart.TheVariants as starts
 use Rattle.model.specs.declared.turn.Kind.TheVariants as kinds
-use Rattle.model.specs.Coding.{Coding, IsCoding}
-use Rattle.model.specs.Families.{is_question}
-use Rattle.model.specs.Families.Indices.Reading.{is_locked}
-use Rattle.model.specs.Families.Queues.Calls.{fresh_cell, kept_at}
-use Rattle.model.specs.Reading.{Each}
-use Rattle.model.specs.Turns.{number_of}
-use Rattle.laws_robust.specs.Gone.{Word}
 use Rattle.laws_robust.proofs.Sound.{raise_asks_none, lock_asks_none}
 use Rattle.laws_container.specs.Gone.{AsksBy}
-use Rattle.threaded.specs.Driver.{Next, Told as DriverTold}
-use Rattle.history.specs.declared.view.View.{View}
-use Rattle.history.specs.ContainerRecovery.{Came, visits_after, wrote_visits, VisitsAt, told_yet}
-use Rattle.history.specs.History.{Called}
-use Rattle.history.specs.Passes.{Goes}
-use Rattle.history.specs.Rooms.{room_of}
-use Rattle.history.specs.Settled.{IsResting, SettledFrom, Waits}
-use Rattle.history.specs.Stages.{IsUnderWay, Ends}
+use Rattle.threaded.specs.Driver.{Next}
+use Rattle.history.specs.ContainerRecovery.{Came, visits_after, VisitsAt}
 use Rattle.history.specs.ValueQueue.{value_there}
-use Rattle.history.proofs.CallsIn.{AsksFor}
-use Rattle.history.proofs.ContainerRecoveries.{recover_call, container_recover_keeps, container_recover_hears, container_recover_first, recover_did}
-use Rattle.history.proofs.Containers.{container_words}
-use Rattle.history.proofs.ContainerRests.{Keeps, rested_asks, apart_asked}
-use Rattle.history.proofs.Rooms.{room_fresh}
 use Rattle.lock_free_owners.specs.Robust.Told.{FoundState}
 use Rattle.lock_free_owners.specs.Container.FindTurns.{words_in}
 use Rattle.lock_free_owners.specs.Container.Idle.{IsIdle}

@@ -1,23 +1,14 @@
 -- A recovery of a container between two turns: where it stands on the history, and what its closure was asked.
-use Rattle.std.proofs.Common.{◌≡◌, ℕ, Bool, true, false, List, [], if◌then◌else◌, refl, sym, ap, subst}
-use Rattle.steps.specs.Container.Recover.{first_recover, recover_kept, recover_takes}
-use Rattle.steps.specs.declared.ask.After.{After}
-use Rattle.steps.specs.declared.ask.After.TheVariants.{GoOn, Done}
-use Rattle.steps.specs.declared.container.recover.DeadOwner.{DeadOwner}
+use Rattle.lock_free_owners.proofs.Names.{◌≡◌, ℕ, Bool, true, false, List, [], if◌then◌else◌, refl, sym, ap, subst}
+use Rattle.lock_free_owners.proofs.Names.{recover_kept, After, GoOn, Done, DeadOwner, Buffer, ReleaseState, Coding}
+use Rattle.lock_free_owners.proofs.Names.{IsCoding, is_locked, fresh_cell, kept_at, number_of, View, value_of_room}
+use Rattle.lock_free_owners.proofs.Names.{recover_call}
+use Rattle.steps.specs.Container.Recover.{first_recover, recover_takes}
 use Rattle.steps.specs.declared.container.recover.Recover.{Recover}
 use Rattle.steps.specs.declared.container.recover.RecoverStage.{RecoverStage}
 use Rattle.steps.specs.declared.container.recover.RecoverStage.TheVariants as recovers
-use Rattle.steps.specs.declared.copied.Buffer.{Buffer}
-use Rattle.steps.specs.declared.indices.enums.ReleaseState.{ReleaseState}
-use Rattle.model.specs.Coding.{Coding, IsCoding}
-use Rattle.model.specs.Families.Indices.Reading.{is_locked}
-use Rattle.model.specs.Families.Queues.Calls.{fresh_cell, kept_at}
-use Rattle.model.specs.Turns.{number_of}
 use Rattle.threaded.specs.Driver.{Next}
-use Rattle.history.specs.declared.view.View.{View}
 use Rattle.history.specs.ContainerRecovery.{RecoverIn, Came}
-use Rattle.history.specs.Value.{value_of_room}
-use Rattle.history.proofs.ContainerRecoveries.{recover_call}
 use Rattle.lock_free_owners.specs.Container.FindTurns.{words_in}
 use Rattle.lock_free_owners.specs.Container.Questions.{TakesValues}
 use Rattle.lock_free_owners.specs.Container.RecoverTold.{HasRecovered}

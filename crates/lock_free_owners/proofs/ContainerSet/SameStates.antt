@@ -1,13 +1,9 @@
 -- Whether a pass has a state is decided by its numbers and the words of its values.
-use Rattle.std.proofs.Common.{◌≡◌, ◌⊎◌, inl, inr, ℕ, Option, Some, None, List, [], ◌∷◌, refl, sym, ap, ◌∙◌}
+use Rattle.lock_free_owners.proofs.Names.{◌≡◌, ◌⊎◌, inl, inr, ℕ, Option, Some, None, List, [], ◌∷◌, refl, sym, ap}
+use Rattle.lock_free_owners.proofs.Names.{◌∙◌, Numbers, Showing, ContainerState, UpdateState, Coding, IsCoding, View}
+use Rattle.lock_free_owners.proofs.Names.{state_of_look, BeginsWith}
 use Rattle.std.proofs.lemmas.Bool.{cases_eq}
-use Rattle.steps.specs.Container.State.{Numbers, Showing}
-use Rattle.steps.specs.declared.container.state.ContainerState.{ContainerState}
 use Rattle.steps.specs.declared.container.state.Element.{Element}
-use Rattle.model.specs.declared.families.container.calls.LookOf.TheVariants.{UpdateState}
-use Rattle.model.specs.Coding.{Coding, IsCoding}
-use Rattle.history.specs.declared.view.View.{View}
-use Rattle.history.specs.ContainerLooks.{state_of_look, BeginsWith}
 
 abbrev pub Decided : Type 0 → Type 0
 Decided A = A ⊎ (A → ⊥)

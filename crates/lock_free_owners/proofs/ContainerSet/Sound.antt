@@ -1,24 +1,13 @@
 -- What holds of each history of a container: what the laws of its open runs say.
-use Rattle.std.proofs.Common.{◌≡◌, inl, inr, ⊎_elim, ℕ, List, slice_index, sym, subst, ◌∙◌}
-use Rattle.steps.specs.Indices.Robust.Parts.{greatest}
+use Rattle.lock_free_owners.proofs.Names.{◌≡◌, inl, inr, ⊎_elim, ℕ, List, slice_index, sym, subst, ◌∙◌, greatest}
+use Rattle.lock_free_owners.proofs.Names.{ReleaseMode, LockIfLastIndex, Default, Unlocked, NoPlace, State, Event}
+use Rattle.lock_free_owners.proofs.Names.{Finished, Container, Add, Remove, Coding, SetDoes, IsWellFormed, HoldsRight}
+use Rattle.lock_free_owners.proofs.Names.{Each, Word, IsHonest, IsHistory, is_open_container}
 use Rattle.steps.specs.declared.container.enums.ContainerAddFailure.TheVariants.{OutOfSpace}
-use Rattle.steps.specs.declared.indices.enums.ReleaseMode.{ReleaseMode}
-use Rattle.steps.specs.declared.indices.enums.ReleaseMode.TheVariants.{LockIfLastIndex, Default}
-use Rattle.steps.specs.declared.indices.enums.ReleaseState.TheVariants.{Unlocked}
-use Rattle.model.specs.declared.event.Answer.TheVariants.{NoPlace, State}
-use Rattle.model.specs.declared.event.Event.{Event}
-use Rattle.model.specs.declared.event.Event.TheVariants.{Finished}
-use Rattle.model.specs.declared.event.Start.TheVariants.{Container}
-use Rattle.model.specs.declared.families.container.ContainerStart.TheVariants.{Add, Remove, Recover}
+use Rattle.model.specs.declared.families.container.ContainerStart.TheVariants.{Recover}
 use Rattle.model.specs.declared.turn.Kind.TheVariants as kinds
-use Rattle.model.specs.Coding.{Coding}
-use Rattle.model.specs.Families.Indices.Robust.Promises.{SetDoes, IsWellFormed, HoldsRight}
-use Rattle.model.specs.Reading.{Each}
-use Rattle.laws_robust.specs.Gone.{Word, IsHonest}
 use Rattle.laws_container.specs.Gone.{AsksBy, RecoversBy, AnswersBy, FilledSinceEachBy}
 use Rattle.laws_container.specs.Open.{IsOpenContainer}
-use Rattle.history.specs.History.{IsHistory}
-use Rattle.history.proofs.Containers.{is_open_container}
 use Rattle.lock_free_owners.specs.Container.Told.{IsSound}
 
 module _ {T : Type 0} {worn other : Type 0} (may : worn → other) where

@@ -1,19 +1,8 @@
 -- That a call which is no look of a state leaves its pass the state that it has.
-use Rattle.std.proofs.Common.{ℕ, Bool, refl}
-use Rattle.steps.specs.Container.Add.{Added}
-use Rattle.steps.specs.Container.Remove.{Removed}
-use Rattle.steps.specs.Container.Replace.{Replaced}
-use Rattle.steps.specs.declared.container.add.Owned.{Owned}
-use Rattle.steps.specs.declared.container.recover.DeadOwner.{DeadOwner}
-use Rattle.steps.specs.declared.container.replace.Replacement.{Replacement}
-use Rattle.steps.specs.declared.indices.enums.ReleaseState.{ReleaseState}
-use Rattle.steps.specs.declared.indices.robust.release.GiveBack.{GiveBack}
-use Rattle.model.specs.declared.families.container.calls.CountOf.{CountOf}
+use Rattle.lock_free_owners.proofs.Names.{ℕ, Bool, refl, Added, Removed, Replaced, Owned, DeadOwner, Replacement}
+use Rattle.lock_free_owners.proofs.Names.{ReleaseState, GiveBack, CountOf, Coding, View, adds_value, removes_value}
+use Rattle.lock_free_owners.proofs.Names.{replaces_value, counts_values, sees_lock, KeepsState}
 use Rattle.model.specs.declared.families.container.calls.CountOf.TheVariants as counts
-use Rattle.model.specs.Coding.{Coding}
-use Rattle.history.specs.declared.view.View.{View}
-use Rattle.history.specs.Container.{adds_value, removes_value, replaces_value, counts_values, sees_lock}
-use Rattle.history.specs.ContainerLooks.{KeepsState}
 use Rattle.lock_free_owners.specs.Container.RecoverTurns.{Visiting, recovering, RecoverEnds}
 use Rattle.lock_free_owners.specs.Container.Turns.{AddEnds, RemoveEnds, ReplaceEnds, CountEnds, LockEnds, BeginsAdd}
 use Rattle.lock_free_owners.specs.Container.Turns.{BeginsRemove, BeginsReplace, BeginsCount, BeginsLock}

@@ -1,42 +1,29 @@
 -- Where a recovery asks about an index, or has been told to free it, the set was not locked when it began.
-use Rattle.std.proofs.Common.{◌≡◌, inl, inr, ℕ, ◌+◌, ◌<◌, ◌==◌, nat_lt, Bool, true, false, true≢false, refl, arith}
-use Rattle.std.proofs.Common.{Option, Some, None, List, [], ◌∷◌, ◌++◌, sym, ap, subst, ◌∙◌, append_assoc}
-use Rattle.steps.specs.Indices.Robust.Parts.{raise_want, lock_want}
-use Rattle.steps.specs.Indices.Robust.Recover.{at_recover, recover_asks, recover_comes_to, recover_takes}
-use Rattle.steps.specs.Picks.{by_test}
-use Rattle.steps.specs.declared.ask.After.{After}
-use Rattle.steps.specs.declared.ask.After.TheVariants.{GoOn, Done}
-use Rattle.steps.specs.declared.indices.enums.ReleaseMode.{ReleaseMode}
-use Rattle.steps.specs.declared.indices.enums.ReleaseState.{ReleaseState}
+use Rattle.lock_free_owners.proofs.Names.{◌≡◌, inl, inr, ℕ, ◌+◌, ◌<◌, ◌==◌, nat_lt, Bool, true, false, true≢false}
+use Rattle.lock_free_owners.proofs.Names.{refl, arith, Option, Some, None, List, [], ◌∷◌, ◌++◌, sym, ap, subst, ◌∙◌}
+use Rattle.lock_free_owners.proofs.Names.{append_assoc, raise_want, lock_want, at_recover, by_test, After, GoOn, Done}
+use Rattle.lock_free_owners.proofs.Names.{ReleaseMode, ReleaseState, Recovering, Event, Begun, Asked, Robust, Flight}
+use Rattle.lock_free_owners.proofs.Names.{one_word, is_question, is_locked, Each, number_of, Word, View, IsHistory}
+use Rattle.lock_free_owners.proofs.Names.{recovers_owned, HasAsked, WasTold, HasLocked, Visit, visit, visits_taken}
+use Rattle.lock_free_owners.proofs.Names.{wrote_to, wrote_by, wrote_now, wider, wrote_last, Since, opened, IsUnderWay}
+use Rattle.lock_free_owners.proofs.Names.{IsFirst, is_open_set}
+use Rattle.steps.specs.Indices.Robust.Recover.{recover_asks, recover_comes_to, recover_takes}
 use Rattle.steps.specs.declared.indices.robust.parts.Count.TheVariants as counts
 use Rattle.steps.specs.declared.indices.robust.parts.Lock.{Lock}
 use Rattle.steps.specs.declared.indices.robust.parts.Lock.TheVariants as locks
 use Rattle.steps.specs.declared.indices.robust.parts.Raise.{Raise}
 use Rattle.steps.specs.declared.indices.robust.parts.Raise.TheVariants as raises
-use Rattle.steps.specs.declared.indices.robust.recover.Recover.{Recover as Recovering}
 use Rattle.steps.specs.declared.indices.robust.recover.RecoverStage.{RecoverStage}
 use Rattle.steps.specs.declared.indices.robust.recover.RecoverStage.TheVariants as recovers
-use Rattle.model.specs.declared.event.Event.{Event}
-use Rattle.model.specs.declared.event.Event.TheVariants.{Begun, Asked, Told}
-use Rattle.model.specs.declared.event.Start.TheVariants.{Robust}
-use Rattle.model.specs.declared.families.Flight.{Flight}
+use Rattle.model.specs.declared.event.Event.TheVariants.{Told}
 use Rattle.model.specs.declared.families.Flight.TheVariants as flights
 use Rattle.model.specs.declared.families.indices.robust.RobustStart.TheVariants.{Recover}
 use Rattle.model.specs.declared.families.indices.robust.calls.RobustFlight.TheVariants as calls
 use Rattle.model.specs.declared.turn.Kind.TheVariants as kinds
-use Rattle.model.specs.Coding.{one_word}
-use Rattle.model.specs.Families.{is_question}
-use Rattle.model.specs.Families.Indices.Reading.{is_locked}
-use Rattle.model.specs.Reading.{Each}
-use Rattle.model.specs.Turns.{number_of}
-use Rattle.laws_robust.specs.Gone.{Word, AsksBy}
-use Rattle.history.specs.declared.view.View.{View}
-use Rattle.history.specs.History.{IsHistory}
-use Rattle.history.specs.Robust.{recovers_owned, RecoverIn, Came, HasAsked, WasTold, HasFreed, HasLocked, Visit, visit}
-use Rattle.history.specs.Robust.{VisitsAt, visits_taken, visits_after, wrote_to, wrote_by, wrote_now}
-use Rattle.history.proofs.RobustVisits.{one_more, wider, wrote_last}
-use Rattle.history.specs.Stages.{Since, opened, IsUnderWay, IsFirst}
-use Rattle.history.proofs.Robusts.{is_open_set}
+use Rattle.laws_robust.specs.Gone.{AsksBy}
+use Rattle.history.specs.Robust.{RecoverIn, Came, HasFreed}
+use Rattle.history.specs.Robust.{VisitsAt, visits_after}
+use Rattle.history.proofs.RobustVisits.{one_more}
 use Rattle.lock_free_owners.specs.Robust.Turns.{RecoverAt}
 use Rattle.lock_free_owners.proofs.RobustSet.Events.{find_own, not_locked, covers}
 use Rattle.lock_free_owners.proofs.Rules.Robust.Recovering.{IsOpenAt, Knows}

@@ -1,13 +1,10 @@
 -- Events in a history: where those of a party stand, and that the lock stays.
-use Rattle.std.proofs.Common.{◌≡◌, ℕ, Bool, true, false, true≢false, fold, List, [], ◌∷◌, ◌++◌, refl, sym, ap, subst, ◌∙◌, append_assoc}
+use Rattle.lock_free_owners.proofs.Names.{◌≡◌, ℕ, Bool, true, false, true≢false, fold, List, [], ◌∷◌, ◌++◌, refl, sym}
+use Rattle.lock_free_owners.proofs.Names.{ap, subst, ◌∙◌, append_assoc, Event, Begun, Start, is_locked, BeginsNone}
+use Rattle.lock_free_owners.proofs.Names.{whose, is_party, IsBeginning}
 use Rattle.std.proofs.lemmas.List.Sums.{fold-append}
-use Rattle.model.specs.declared.event.Event.{Event}
-use Rattle.model.specs.declared.event.Event.TheVariants.{Begun, Locked}
-use Rattle.model.specs.declared.event.Start.{Start}
-use Rattle.model.specs.Families.Indices.Reading.{locked_after, is_locked}
-use Rattle.model.specs.Moments.{BeginsNone}
-use Rattle.model.specs.Reading.{whose, is_party}
-use Rattle.history.specs.History.{IsBeginning}
+use Rattle.model.specs.declared.event.Event.TheVariants.{Locked}
+use Rattle.model.specs.Families.Indices.Reading.{locked_after}
 use Rattle.history.specs.Known.{events_by}
 
 module _ {T : Type 0} where

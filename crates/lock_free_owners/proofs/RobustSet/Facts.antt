@@ -1,35 +1,19 @@
 -- What is known of whole calls on a set.
-use Rattle.std.proofs.Common.{◌≡◌, ⊎_elim, ℕ, ◌<◌, ◌≤◌, Bool, true, false, true≢false, None, Ok, Err, IfOk, IfErr}
-use Rattle.std.proofs.Common.{OnOk, List, [], ◌∷◌, ◌++◌, refl, sym, ap, subst, ◌∙◌, append_assoc, arith}
-use Rattle.steps.specs.Indices.Robust.Acquire.{Acquired}
-use Rattle.steps.specs.Indices.Robust.Release.{Released}
-use Rattle.steps.specs.declared.indices.enums.ReleaseMode.{ReleaseMode}
-use Rattle.steps.specs.declared.indices.enums.ReleaseMode.TheVariants.{LockIfLastIndex, Default}
-use Rattle.steps.specs.declared.indices.enums.ReleaseState.{ReleaseState}
+use Rattle.lock_free_owners.proofs.Names.{◌≡◌, ⊎_elim, ℕ, ◌<◌, ◌≤◌, Bool, true, false, true≢false, None, Ok, Err}
+use Rattle.lock_free_owners.proofs.Names.{IfOk, IfErr, OnOk, List, [], ◌∷◌, ◌++◌, refl, sym, ap, subst, ◌∙◌}
+use Rattle.lock_free_owners.proofs.Names.{append_assoc, arith, Acquired, Released, ReleaseMode, LockIfLastIndex}
+use Rattle.lock_free_owners.proofs.Names.{Default, ReleaseState, OutOfIndices, WasLocked, GiveBack, Answer, State}
+use Rattle.lock_free_owners.proofs.Names.{Number, Truth, Event, Begun, Filled, Granted, FreedOf, Finished, Robust}
+use Rattle.lock_free_owners.proofs.Names.{Release, one_word, is_locked, count_most, IsAll, View, IsHistory, Called}
+use Rattle.lock_free_owners.proofs.Names.{IsBeginning, Goes, takes_owned, gives_owned, recovers_owned, counts_owned}
+use Rattle.lock_free_owners.proofs.Names.{looks_owned, Visit, wrote_by, Calling, Ends, opened, Looks, called}
 use Rattle.steps.specs.declared.indices.enums.ReleaseState.TheVariants as states
 use Rattle.steps.specs.declared.indices.enums.UniqueIndexSetAcquireFailure.{UniqueIndexSetAcquireFailure}
-use Rattle.steps.specs.declared.indices.enums.UniqueIndexSetAcquireFailure.TheVariants.{OutOfIndices, IsLocked as WasLocked}
-use Rattle.steps.specs.declared.indices.robust.release.GiveBack.{GiveBack}
-use Rattle.model.specs.declared.event.Answer.{Answer}
-use Rattle.model.specs.declared.event.Answer.TheVariants.{State, Number, Truth}
-use Rattle.model.specs.declared.event.Event.{Event}
-use Rattle.model.specs.declared.event.Event.TheVariants.{Begun, Filled, Granted, FreedOf, Finished}
-use Rattle.model.specs.declared.event.Start.TheVariants.{Robust}
 use Rattle.model.specs.declared.families.indices.robust.RobustStart.{RobustStart}
-use Rattle.model.specs.declared.families.indices.robust.RobustStart.TheVariants.{Acquire, Release, Recover, BorrowedIndices, IsLocked}
+use Rattle.model.specs.declared.families.indices.robust.RobustStart.TheVariants.{Acquire, Recover, BorrowedIndices}
+use Rattle.model.specs.declared.families.indices.robust.RobustStart.TheVariants.{IsLocked}
 use Rattle.model.specs.declared.turn.Kind.TheVariants as kinds
-use Rattle.model.specs.Coding.{one_word}
-use Rattle.model.specs.Families.Indices.Reading.{is_locked}
 use Rattle.model.specs.Families.Indices.Robust.Calls.{acquire_answer, release_answer}
-use Rattle.laws_robust.proofs.Counting.{count_most}
-use Rattle.threaded.specs.Shares.{IsAll}
-use Rattle.history.specs.declared.view.View.{View}
-use Rattle.history.specs.History.{IsHistory, Called, IsBeginning}
-use Rattle.history.specs.Passes.{Goes}
-use Rattle.history.specs.Robust.{takes_owned, gives_owned, recovers_owned, counts_owned, looks_owned, Visit, wrote_by}
-use Rattle.history.specs.Stages.{Calling, Ends, opened}
-use Rattle.history.specs.Views.{Looks}
-use Rattle.history.proofs.Called.{called}
 use Rattle.lock_free_owners.specs.Robust.Told.{HasTaken, HasGiven, HasRecovered, HasCounted, HasLooked, WroteAt}
 use Rattle.lock_free_owners.specs.Robust.Told.{WasFilled, WasGranted, WasFreed, IsSound, Answered, WasRefused}
 use Rattle.lock_free_owners.specs.Robust.Told.{HasReleased, FoundLock, FoundState}

@@ -1,28 +1,17 @@
 -- A find between two turns: one list of indices, with which its closure was called, and of which it tells what the
 -- history said.
-use Rattle.std.proofs.Common.{◌≡◌, ◌≢◌, ◌⊎◌, inl, inr, ℕ, ◌+◌, ◌-◌, ◌*◌, ◌^◌, ◌<◌, ◌≤◌, nat_lt, Some, List, [], ◌∷◌}
-use Rattle.std.proofs.Common.{◌++◌, refl, sym, ◌∙◌, subst, length-append, arith}
-use Rattle.std.proofs.lemmas.Bool.Decides.{nat_tests}
-use Rattle.std.proofs.lemmas.Fn.{FoldsTo-push}
-use Rattle.std.proofs.lemmas.List.Elements.{All-nil}
-use Rattle.steps.specs.Picks.{by_test, by_eq}
-use Rattle.steps.specs.declared.ask.After.{After}
-use Rattle.steps.specs.declared.ask.After.TheVariants.{GoOn, Done}
-use Rattle.steps.specs.declared.enums.CallbackProgression.{CallbackProgression}
-use Rattle.steps.specs.declared.enums.CallbackProgression.TheVariants.{Continue, Stop}
+use Rattle.lock_free_owners.proofs.Names.{◌≡◌, ◌≢◌, ◌⊎◌, inl, inr, ℕ, ◌+◌, ◌-◌, ◌*◌, ◌^◌, ◌<◌, ◌≤◌, nat_lt, Some}
+use Rattle.lock_free_owners.proofs.Names.{List, [], ◌∷◌, ◌++◌, refl, sym, ◌∙◌, subst, length-append, arith, nat_tests}
+use Rattle.lock_free_owners.proofs.Names.{FoldsTo-push, All-nil, by_test, by_eq, After, GoOn, Done}
+use Rattle.lock_free_owners.proofs.Names.{CallbackProgression, Continue, Stop, cell_word, empty, Event, one_word}
+use Rattle.lock_free_owners.proofs.Names.{TakesPlaces, View, IsBeginning, Looks, LooksAt}
 use Rattle.steps.specs.declared.indices.robust.find.Find.{Find}
 use Rattle.steps.specs.declared.indices.robust.find.FindStage.{FindStage}
 use Rattle.steps.specs.declared.indices.robust.find.FindStage.TheVariants as finds
-use Rattle.steps.specs.Indices.Robust.Parts.{cell_word, empty, one_more}
+use Rattle.steps.specs.Indices.Robust.Parts.{one_more}
 use Rattle.steps.specs.Indices.Robust.Find.{at_find, first_find, find_comes_to, find_takes, find_left}
-use Rattle.model.specs.declared.event.Event.{Event}
 use Rattle.model.specs.declared.turn.Kind.TheVariants as kinds
-use Rattle.model.specs.Coding.{one_word}
 use Rattle.model.specs.Families.Indices.Robust.Reading.{filled_of}
-use Rattle.threaded.specs.Callable.{TakesPlaces}
-use Rattle.history.specs.declared.view.View.{View}
-use Rattle.history.specs.History.{IsBeginning}
-use Rattle.history.specs.Views.{Looks, LooksAt}
 use Rattle.history.proofs.Finds.{tells_owner, tells_other, owned_none, owned_later, owned_more, owned_past}
 use Rattle.history.proofs.Looking.{looks_then}
 use Rattle.lock_free_owners.specs.Robust.Callable.{HasFound}

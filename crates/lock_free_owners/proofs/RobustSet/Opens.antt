@@ -1,13 +1,8 @@
 -- How a set's table opens.
-use Rattle.std.proofs.Common.{◌≡◌, ℕ, ◌-◌, ◌^◌, ◌<◌, nat_lt, false, List, [], ◌∷◌, ◌++◌, refl, arith}
-use Rattle.std.proofs.lemmas.Bool.Decides.{nat_tests}
-use Rattle.atomic_table.specs.Table.{opening}
+use Rattle.lock_free_owners.proofs.Names.{◌≡◌, ℕ, ◌-◌, ◌^◌, ◌<◌, nat_lt, false, List, [], ◌∷◌, ◌++◌, refl, arith}
+use Rattle.lock_free_owners.proofs.Names.{nat_tests, opening, one_word, IsMachine, first_view, opens}
 use Rattle.model.specs.declared.turn.Kind.TheVariants as kinds
-use Rattle.model.specs.Coding.{one_word}
 use Rattle.model.specs.Families.Indices.Robust.Opening.{opening_words}
-use Rattle.history.specs.History.{IsMachine}
-use Rattle.history.specs.Views.{first_view}
-use Rattle.history.proofs.Passes.{opens}
 
 module _ (capacity : ℕ) (some : 0 < capacity) (small : capacity < 2 ^ 32) where
   most : nat_lt (2 ^ 32 - 1) capacity ≡ false

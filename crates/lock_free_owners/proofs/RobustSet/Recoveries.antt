@@ -1,20 +1,11 @@
 -- A recovery between two turns: where it stands on the history with its visits, and what its closures were called with.
-use Rattle.std.proofs.Common.{◌≡◌, ℕ, Bool, true, false, None, List, [], refl, sym, ap, subst, ◌∙◌}
-use Rattle.steps.specs.Indices.Robust.Recover.{first_recover, recover_asks, recover_takes, recover_after}
-use Rattle.steps.specs.declared.ask.After.{After}
-use Rattle.steps.specs.declared.ask.After.TheVariants.{GoOn, Done}
-use Rattle.steps.specs.declared.indices.enums.ReleaseMode.{ReleaseMode}
-use Rattle.steps.specs.declared.indices.enums.ReleaseState.{ReleaseState}
-use Rattle.steps.specs.declared.indices.robust.recover.Recover.{Recover as Recovering}
+use Rattle.lock_free_owners.proofs.Names.{◌≡◌, ℕ, Bool, true, false, None, List, [], refl, sym, ap, subst, ◌∙◌}
+use Rattle.lock_free_owners.proofs.Names.{recover_after, After, GoOn, Done, ReleaseMode, ReleaseState, Recovering}
+use Rattle.lock_free_owners.proofs.Names.{one_word, is_question, number_of, is_locked, View, Visit, recover_hears}
+use Rattle.steps.specs.Indices.Robust.Recover.{first_recover, recover_asks, recover_takes}
 use Rattle.steps.specs.declared.indices.robust.recover.RecoverStage.TheVariants as recovers
-use Rattle.model.specs.Coding.{one_word}
-use Rattle.model.specs.Families.{is_question}
-use Rattle.model.specs.Turns.{number_of}
-use Rattle.model.specs.Families.Indices.Reading.{is_locked}
 use Rattle.threaded.specs.Driver.{Next}
-use Rattle.history.specs.declared.view.View.{View}
-use Rattle.history.specs.Robust.{Visit, visits_after}
-use Rattle.history.proofs.RobustRecoveries.{recover_hears}
+use Rattle.history.specs.Robust.{visits_after}
 use Rattle.lock_free_owners.specs.Robust.Callable.{TakesQuestions, TakesFreed, HasVisited}
 use Rattle.lock_free_owners.specs.Robust.Stages.{RecoverAsks, RecoverMoves}
 use Rattle.lock_free_owners.specs.Robust.Turns.{RecoverAt, RecoverEnds, RecoverGoes, RecoverSteps}

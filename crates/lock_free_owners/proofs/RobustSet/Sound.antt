@@ -1,22 +1,12 @@
 -- What holds of each history of a set: what the laws of its open runs say.
-use Rattle.std.proofs.Common.{◌≡◌, inl, inr, ⊎_elim, ℕ, List, slice_index, sym, subst, ◌∙◌}
-use Rattle.steps.specs.Indices.Robust.Parts.{greatest}
-use Rattle.steps.specs.declared.indices.enums.ReleaseMode.TheVariants.{LockIfLastIndex}
-use Rattle.steps.specs.declared.indices.enums.ReleaseState.TheVariants.{Unlocked}
-use Rattle.steps.specs.declared.indices.enums.UniqueIndexSetAcquireFailure.TheVariants.{OutOfIndices}
-use Rattle.model.specs.declared.event.Answer.TheVariants.{NoIndex, State}
-use Rattle.model.specs.declared.event.Event.{Event}
-use Rattle.model.specs.declared.event.Event.TheVariants.{Finished}
-use Rattle.model.specs.declared.event.Start.TheVariants.{Robust}
-use Rattle.model.specs.declared.families.indices.robust.RobustStart.TheVariants.{Acquire, Release, Recover}
+use Rattle.lock_free_owners.proofs.Names.{◌≡◌, inl, inr, ⊎_elim, ℕ, List, slice_index, sym, subst, ◌∙◌, greatest}
+use Rattle.lock_free_owners.proofs.Names.{LockIfLastIndex, Unlocked, OutOfIndices, NoIndex, State, Event, Finished}
+use Rattle.lock_free_owners.proofs.Names.{Robust, Release, one_word, SetDoes, IsWellFormed, HoldsRight, Each, Word}
+use Rattle.lock_free_owners.proofs.Names.{IsHonest, IsHistory, is_open_set}
+use Rattle.model.specs.declared.families.indices.robust.RobustStart.TheVariants.{Acquire, Recover}
 use Rattle.model.specs.declared.turn.Kind.TheVariants as kinds
-use Rattle.model.specs.Coding.{one_word}
-use Rattle.model.specs.Families.Indices.Robust.Promises.{SetDoes, IsWellFormed, HoldsRight}
-use Rattle.model.specs.Reading.{Each}
-use Rattle.laws_robust.specs.Gone.{Word, IsHonest, AsksBy, AnswersBy}
+use Rattle.laws_robust.specs.Gone.{AsksBy, AnswersBy}
 use Rattle.laws_robust.specs.Open.{IsOpenSet}
-use Rattle.history.specs.History.{IsHistory}
-use Rattle.history.proofs.Robusts.{is_open_set}
 use Rattle.lock_free_owners.specs.Robust.Told.{IsSound}
 
 -- what an answer says where its counter may be worn it says where that may be for another reason

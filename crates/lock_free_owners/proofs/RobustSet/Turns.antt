@@ -1,12 +1,9 @@
 -- Between two turns of a call: how it has gone on, and where the loops of its own lead.
-use Rattle.std.proofs.Common.{◌≡◌, ℕ, ◌+◌, ◌<◌, ◌==◌, nat_lt, if◌then◌else◌, sym, ap, subst, ◌∙◌, arith}
-use Rattle.std.proofs.lemmas.Bool.Decides.{nat_tests}
-use Rattle.steps.specs.Indices.Robust.Acquire.{Acquired, at_acquire, acquire_tries, acquire_after}
-use Rattle.steps.specs.Indices.Robust.Looks.{borrowed_counted, borrowed_after}
-use Rattle.steps.specs.Indices.Robust.Parts.{empty, greatest, one_more, count_comes_to}
-use Rattle.steps.specs.Picks.{by_test}
-use Rattle.steps.specs.declared.ask.After.{After}
-use Rattle.steps.specs.declared.ask.After.TheVariants.{GoOn, Done}
+use Rattle.lock_free_owners.proofs.Names.{◌≡◌, ℕ, ◌+◌, ◌<◌, ◌==◌, nat_lt, if◌then◌else◌, sym, ap, subst, ◌∙◌, arith}
+use Rattle.lock_free_owners.proofs.Names.{nat_tests, Acquired, at_acquire, acquire_tries, acquire_after}
+use Rattle.lock_free_owners.proofs.Names.{borrowed_counted, borrowed_after, empty, greatest, count_comes_to, by_test}
+use Rattle.lock_free_owners.proofs.Names.{After, GoOn, Done, View}
+use Rattle.steps.specs.Indices.Robust.Parts.{one_more}
 use Rattle.steps.specs.declared.indices.robust.acquire.Acquire.{Acquire}
 use Rattle.steps.specs.declared.indices.robust.acquire.AcquireStage.{AcquireStage}
 use Rattle.steps.specs.declared.indices.robust.acquire.AcquireStage.TheVariants as acquires
@@ -19,7 +16,6 @@ use Rattle.steps.specs.declared.indices.robust.parts.Raise.TheVariants as raises
 use Rattle.steps.specs.declared.indices.robust.recover.Recover.{Recover}
 use Rattle.steps.specs.declared.indices.robust.recover.RecoverStage.TheVariants as recovers
 use Rattle.threaded.specs.Driver.{Next}
-use Rattle.history.specs.declared.view.View.{View}
 use Rattle.lock_free_owners.specs.Robust.Turns.{Goes}
 
 module _ {T C E : Type 0} (at : View T → View T → C → Unit {0} → Type 0) (ends : View T → E → Unit {0} → View T → Type 0) where

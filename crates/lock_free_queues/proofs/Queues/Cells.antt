@@ -1,24 +1,12 @@
 -- What the words of a cell are, by the history of a queue: those of the value that was published there, while nobody
 -- has taken it out.
-use Rattle.std.proofs.Common.{◌≡◌, ℕ, suc, ◌+◌, ◌-◌, ◌*◌, ◌%◌, ◌<◌, ◌≤◌, Option, Some, None, List, [], ◌∷◌, ◌++◌}
-use Rattle.std.proofs.Common.{length, map, get_or, slice_get, slice_index, refl, sym, ap, subst, ◌∙◌, arith}
-use Rattle.std.proofs.lemmas.Option.{slice_get-map}
-use Rattle.std.specs.Option.{option_map}
-use Rattle.model.specs.declared.event.Item.{Item}
-use Rattle.model.specs.declared.families.queues.QueueKind.{QueueKind}
-use Rattle.model.specs.declared.families.queues.QueueKind.TheVariants.{IndexQueue, Overflow, Queue}
-use Rattle.model.specs.Coding.{Coding}
-use Rattle.model.specs.Families.Queues.Opening.{cells_of}
-use Rattle.model.specs.Families.Queues.Reading.{published, handed_out}
-use Rattle.model.specs.World.{Trace}
+use Rattle.lock_free_queues.proofs.Names.{◌≡◌, ℕ, suc, ◌+◌, ◌-◌, ◌*◌, ◌%◌, ◌<◌, ◌≤◌, Option, Some, None, List, []}
+use Rattle.lock_free_queues.proofs.Names.{◌∷◌, ◌++◌, length, map, get_or, slice_get, slice_index, refl, sym, ap}
+use Rattle.lock_free_queues.proofs.Names.{subst, ◌∙◌, arith, slice_get-map, option_map, Item, QueueKind, IndexQueue}
+use Rattle.lock_free_queues.proofs.Names.{Overflow, Queue, Coding, cells_of, published, handed_out, Trace, family}
+use Rattle.lock_free_queues.proofs.Names.{machine_kind, free, kept_is, Val, encoded, item, IsRun, sound_of}
 use Rattle.model.proofs.Frame as frame
 use Rattle.laws_queues.proofs.Queues.Core as core
-use Rattle.laws_queues.proofs.Queues.Invariant.{family, machine_kind}
-use Rattle.laws_queues.proofs.Queues.Knows.{free}
-use Rattle.laws_queues.proofs.Queues.Sound.{kept_is}
-use Rattle.laws_queues.proofs.Queues.Values.{Val, encoded, item}
-use Rattle.history.specs.History.{IsRun}
-use Rattle.history.proofs.Queues.{sound_of}
 
 pub get_behind : {A : Type 0} (xs ys : List A) (k : ℕ) → slice_get (xs ++ ys) (length xs + k) ≡ slice_get ys k
 get_behind [] ys k = (let same : 0 + k ≡ k = omega arith in ap (slice_get ys) same)

@@ -1,30 +1,15 @@
 -- What the words that were read say of the list that is made of them.
-use Rattle.std.proofs.Common.{◌≡◌, inl, inr, ⊎_elim, ℕ, zero, suc, ◌+◌, ◌-◌, ◌*◌, ◌%◌, ◌<◌, ◌≤◌, Some, List, [], ◌∷◌}
-use Rattle.std.proofs.Common.{◌++◌, length, map, max, get_or, slice_get, slice_index, refl, sym, ap, subst, ◌∙◌}
-use Rattle.std.proofs.Common.{length-append, append-nil, arith}
-use Rattle.std.proofs.lemmas.Bool.{cases_lt}
-use Rattle.std.proofs.lemmas.Grind.{flat_map-append}
-use Rattle.std.proofs.lemmas.List.{length-map}
-use Rattle.std.proofs.lemmas.Option.{slice_get-map, slice_get_within}
-use Rattle.std.specs.Option.{option_map}
+use Rattle.lock_free_queues.proofs.Names.{◌≡◌, inl, inr, ⊎_elim, ℕ, zero, suc, ◌+◌, ◌-◌, ◌*◌, ◌%◌, ◌<◌, ◌≤◌, Some}
+use Rattle.lock_free_queues.proofs.Names.{List, [], ◌∷◌, ◌++◌, length, map, max, get_or, slice_get, slice_index, refl}
+use Rattle.lock_free_queues.proofs.Names.{sym, ap, subst, ◌∙◌, append-nil, arith, cases_lt, flat_map-append}
+use Rattle.lock_free_queues.proofs.Names.{length-map, slice_get-map, slice_get_within, option_map, Item, QueueKind}
+use Rattle.lock_free_queues.proofs.Names.{IndexQueue, Overflow, Queue, Kind, Coding, IsCoding, cells_of, published}
+use Rattle.lock_free_queues.proofs.Names.{handed_out, waiting, publishes, hands_out, IsAll, cell_within, machine_kind}
+use Rattle.lock_free_queues.proofs.Names.{Val, encoded, item, View, first_view, IsListed, queue_goes_on}
+use Rattle.std.proofs.Common.{length-append}
 use Rattle.plain.specs.Queues.{words_from, value_at, values_from, Represents}
 use Rattle.plain.proofs.Lists.Cells.{values_length}
 use Rattle.plain.proofs.Words.{words_all}
-use Rattle.model.specs.declared.event.Item.{Item}
-use Rattle.model.specs.declared.families.queues.QueueKind.{QueueKind}
-use Rattle.model.specs.declared.families.queues.QueueKind.TheVariants.{IndexQueue, Overflow, Queue}
-use Rattle.model.specs.declared.turn.Kind.{Kind}
-use Rattle.model.specs.Coding.{Coding, IsCoding}
-use Rattle.model.specs.Families.Queues.Opening.{cells_of}
-use Rattle.model.specs.Families.Queues.Reading.{published, handed_out, waiting, publishes, hands_out}
-use Rattle.threaded.specs.Shares.{IsAll}
-use Rattle.laws_queues.proofs.Queues.Core.{cell_within}
-use Rattle.laws_queues.proofs.Queues.Invariant.{machine_kind}
-use Rattle.laws_queues.proofs.Queues.Values.{Val, encoded, item}
-use Rattle.history.specs.declared.view.View.{View}
-use Rattle.history.specs.Views.{first_view}
-use Rattle.history.proofs.Holders.{IsListed}
-use Rattle.history.proofs.Queues.{queue_goes_on}
 use Rattle.lock_free_queues.specs.Queues.Closes.{Closes}
 use Rattle.lock_free_queues.specs.Queues.Kinds.{words_in_cells}
 use Rattle.lock_free_queues.specs.Queues.Reads.{WasRead, LastWords}

@@ -1,31 +1,12 @@
 -- What a push and a pop say once they have ended, on a queue of indices or of values.
-use Rattle.std.proofs.Common.{◌≡◌, ◌⊎◌, inl, inr, ℕ, Bool, true, false, Option, Some, None, IfSome, IfNone, List, []}
-use Rattle.std.proofs.Common.{length, sym, ap, subst, ◌∙◌, slice_index, ◌-◌, ◌^◌, ◌<◌}
-use Rattle.std.specs.Option.{option_map}
+use Rattle.lock_free_queues.proofs.Names.{◌≡◌, ◌⊎◌, inl, inr, ℕ, Bool, true, false, Option, Some, None, IfSome}
+use Rattle.lock_free_queues.proofs.Names.{IfNone, List, [], length, sym, ap, subst, ◌∙◌, slice_index, ◌-◌, ◌^◌, ◌<◌}
+use Rattle.lock_free_queues.proofs.Names.{option_map, Ask, Producer, Answer, Truth, Event, Item, Start, Queues}
+use Rattle.lock_free_queues.proofs.Names.{Flight, QueueKind, Pop, Coding, want_of, published, machine_kind, Ring}
+use Rattle.lock_free_queues.proofs.Names.{kind_of, View, Called, IsHistory, HasRole, Calling, Ends, Over, LeftOut}
+use Rattle.lock_free_queues.proofs.Names.{called, queue_goes_on}
 use Rattle.steps.specs.Queues.Ring.{pop_answer}
-use Rattle.steps.specs.declared.ask.Ask.{Ask}
 use Rattle.steps.specs.declared.ask.Want.TheVariants as wants
-use Rattle.steps.specs.declared.queues.roles.Role.TheVariants.{Producer}
-use Rattle.model.specs.declared.event.Answer.{Answer}
-use Rattle.model.specs.declared.event.Answer.TheVariants.{Truth}
-use Rattle.model.specs.declared.event.Event.{Event}
-use Rattle.model.specs.declared.event.Item.{Item}
-use Rattle.model.specs.declared.event.Start.{Start}
-use Rattle.model.specs.declared.event.Start.TheVariants.{Queues}
-use Rattle.model.specs.declared.families.Flight.{Flight}
-use Rattle.model.specs.declared.families.queues.QueueKind.{QueueKind}
-use Rattle.model.specs.declared.families.queues.QueueStart.TheVariants.{Pop}
-use Rattle.model.specs.Coding.{Coding}
-use Rattle.model.specs.Families.{want_of}
-use Rattle.model.specs.Families.Queues.Reading.{published}
-use Rattle.laws_queues.proofs.Queues.Invariant.{machine_kind}
-use Rattle.laws_queues.proofs.Ring.Kinds.{Ring, kind_of}
-use Rattle.history.specs.declared.view.View.{View}
-use Rattle.history.specs.History.{Called, IsHistory}
-use Rattle.history.specs.Roles.{HasRole}
-use Rattle.history.specs.Stages.{Calling, Ends, Over, LeftOut}
-use Rattle.history.proofs.Drives.{called}
-use Rattle.history.proofs.Queues.{queue_goes_on}
 use Rattle.lock_free_queues.specs.Queues.Told.{push_of, push_told, popped_item, pop_told, HasPushed, HasPublished}
 use Rattle.lock_free_queues.specs.Queues.Told.{HasTakenOut, WasAtEnd, WasFull, HasPopped, WasEmpty}
 use Rattle.lock_free_queues.proofs.Queues.Facts.{was_full, has_published, was_empty, has_taken_out, looked_alone, role_alone, IsAlone}

@@ -1,52 +1,25 @@
 -- What is known of whole calls on a queue.
-use Rattle.std.proofs.Common.{◌≡◌, ◌≤◌, inl, inr, ℕ, Bool, true, false, Some, None, List, [], ◌∷◌, ◌++◌, length, refl}
-use Rattle.std.proofs.Common.{sym, ap, subst, ◌∙◌, append_assoc, append-nil, arith, sum_by, ◌<◌}
-use Rattle.std.proofs.lemmas.Grind.{flat_map-append}
-use Rattle.std.specs.List.{flat_map}
-use Rattle.steps.specs.declared.queues.roles.Role.{Role}
-use Rattle.steps.specs.declared.queues.roles.Role.TheVariants.{Producer, Consumer}
-use Rattle.history.specs.Roles.{ByHolder, ByHolderOf, HasRole, marks, acquire_start, release_start}
-use Rattle.history.proofs.Holders.{history_by_holders, back_over_of, always_listed, IsListed, IsPlain, ArePlain}
-use Rattle.history.proofs.OverflowHolders.{history_by_producers, over_listed}
-use Rattle.model.specs.Families.Queues.Roles.{GrantsRight}
-use Rattle.model.specs.declared.event.Answer.{Answer}
-use Rattle.model.specs.declared.event.Answer.TheVariants.{Truth, Done}
-use Rattle.model.specs.declared.event.Event.{Event}
-use Rattle.model.specs.declared.event.Event.TheVariants.{Begun, Published, HandedOut, Acted, Finished}
-use Rattle.model.specs.declared.event.Item.TheVariants.{Index}
-use Rattle.model.specs.declared.event.Start.{Start}
-use Rattle.model.specs.declared.event.Start.TheVariants.{Queues}
-use Rattle.model.specs.declared.families.queues.QueueStart.TheVariants.{Pop}
-use Rattle.model.specs.declared.families.queues.QueueKind.{QueueKind}
-use Rattle.model.specs.declared.families.queues.QueueKind.TheVariants.{IndexQueue, Overflow, Queue}
-use Rattle.model.specs.declared.families.queues.calls.LengthOf.{LengthOf}
+use Rattle.lock_free_queues.proofs.Names.{◌≡◌, ◌≤◌, inl, inr, ℕ, Bool, true, false, Some, None, List, [], ◌∷◌, ◌++◌}
+use Rattle.lock_free_queues.proofs.Names.{length, refl, sym, ap, subst, ◌∙◌, append_assoc, append-nil, arith, sum_by}
+use Rattle.lock_free_queues.proofs.Names.{◌<◌, flat_map-append, flat_map, Role, Producer, Consumer, ByHolder}
+use Rattle.lock_free_queues.proofs.Names.{ByHolderOf, HasRole, marks, acquire_start, release_start}
+use Rattle.lock_free_queues.proofs.Names.{history_by_holders, back_over_of, always_listed, IsListed, IsPlain}
+use Rattle.lock_free_queues.proofs.Names.{ArePlain, history_by_producers, over_listed, GrantsRight, Answer, Truth}
+use Rattle.lock_free_queues.proofs.Names.{Event, Begun, Published, HandedOut, Acted, Finished, Index, Start, Queues}
+use Rattle.lock_free_queues.proofs.Names.{Pop, QueueKind, IndexQueue, Overflow, Queue, LengthOf, length_answer}
+use Rattle.lock_free_queues.proofs.Names.{waiting, published, handed_out, Each, View, IsHistory, Called, IsBeginning}
+use Rattle.lock_free_queues.proofs.Names.{length_start, counts_waiting, takes_role, gives_role, Calling, Since}
+use Rattle.lock_free_queues.proofs.Names.{opened, Ends, Over, first_view, Looks, called, queue_goes_on, role_by}
+use Rattle.lock_free_queues.proofs.Names.{IsAll, Item, Value, Kind, Coding, producer_of, machine_kind, Ring}
+use Rattle.lock_free_queues.proofs.Names.{of_indices, of_values, kind_of, Goes}
+use Rattle.model.specs.declared.event.Answer.TheVariants.{Done}
 use Rattle.model.specs.declared.families.queues.calls.LengthOf.TheVariants as measures
-use Rattle.model.specs.Families.Queues.Calls.{length_answer}
 use Rattle.model.specs.Families.Queues.Promises.{IsQueue}
 use Rattle.model.specs.Families.Queues.Lengths.{TellsLength}
-use Rattle.model.specs.Families.Queues.Reading.{waiting, published, handed_out}
 use Rattle.model.specs.Moments.{HeldSometime}
-use Rattle.model.specs.Reading.{Each}
-use Rattle.history.specs.declared.view.View.{View}
-use Rattle.history.specs.History.{IsHistory, Called, IsBeginning}
-use Rattle.history.specs.Queues.{length_start, counts_waiting, takes_role, gives_role}
-use Rattle.history.specs.Stages.{Calling, Since, opened, Ends, Over}
-use Rattle.history.specs.Views.{first_view, Looks}
-use Rattle.history.proofs.Drives.{called}
-use Rattle.history.proofs.Queues.{queue_goes_on}
-use Rattle.history.proofs.Roles.{role_by}
-use Rattle.threaded.specs.Shares.{IsAll}
 use Rattle.lock_free_queues.specs.Queues.Told.{HasPushed, HasPublished, HasTakenOut, WasFull, HasPopped, WasEmpty}
 use Rattle.lock_free_queues.specs.Queues.Told.{HasMeasured, HasAcquired, HasReleased, FoundNone}
-use Rattle.model.specs.declared.event.Item.{Item}
-use Rattle.model.specs.declared.event.Item.TheVariants.{Value}
-use Rattle.model.specs.declared.turn.Kind.{Kind}
-use Rattle.model.specs.Coding.{Coding}
 use Rattle.model.specs.Families.Queues.Book.{AnswersRight}
-use Rattle.model.specs.Families.Queues.Reading.{producer_of}
-use Rattle.laws_queues.proofs.Queues.Invariant.{machine_kind}
-use Rattle.laws_queues.proofs.Ring.Kinds.{Ring, of_indices, of_values, kind_of}
-use Rattle.history.specs.Passes.{Goes}
 use Rattle.lock_free_queues.specs.Queues.Kinds.{NoneTaken, NoneMarked, most_waiting}
 use Rattle.lock_free_queues.specs.Queues.Told.{push_of, popped_item}
 use Rattle.lock_free_queues.proofs.Queues.Wrote.{held, each_left, first_wrote, listed, none_between}

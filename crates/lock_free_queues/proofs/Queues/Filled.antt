@@ -1,13 +1,9 @@
 -- Words of the cells of a queue, of which so many hold those of one value, again and again.
-use Rattle.std.proofs.Common.{◌≡◌, ⊎_elim, ℕ, zero, suc, ◌+◌, ◌*◌, ◌%◌, ◌<◌, ◌≤◌, List, [], ◌∷◌, ◌++◌, length, get_or}
-use Rattle.std.proofs.Common.{set, replicate, refl, sym, ap, ◌∙◌, length-set, take, get_or-set_same, get_or-set_other}
-use Rattle.std.proofs.Common.{arith}
-use Rattle.std.proofs.lemmas.Bool.{cases_lt}
-use Rattle.std.proofs.lemmas.List.{length-replicate, take-replicate}
-use Rattle.steps.specs.Copied.{value_in}
+use Rattle.lock_free_queues.proofs.Names.{◌≡◌, ⊎_elim, ℕ, zero, suc, ◌+◌, ◌*◌, ◌%◌, ◌<◌, ◌≤◌, List, [], ◌∷◌, ◌++◌}
+use Rattle.lock_free_queues.proofs.Names.{length, get_or, set, replicate, refl, sym, ap, ◌∙◌, length-set, take}
+use Rattle.lock_free_queues.proofs.Names.{get_or-set_same, get_or-set_other, arith, cases_lt, length-replicate}
+use Rattle.lock_free_queues.proofs.Names.{take-replicate, value_in, set_left, set_same}
 use Rattle.laws_queues.proofs.Queues.Core as core
-use Rattle.history.proofs.Calls.{set_left}
-use Rattle.history.proofs.Passes.{set_same}
 use Rattle.lock_free_queues.proofs.Queues.Tests.{not_below}
 
 -- the value of words that are zeros

@@ -1,32 +1,13 @@
 -- A role that was given back as often as it was taken is free, and an overflowing queue whose producer's role is free
 -- has no more than its capacity.
-use Rattle.std.proofs.Common.{◌≡◌, ◌≤◌, ℕ, ◌+◌, true, Option, Some, None, List, [], ◌∷◌, ◌++◌, length, map, refl, sym}
-use Rattle.std.proofs.Common.{ap, subst, ◌∙◌, append_assoc, append-nil, sum_by, arith}
-use Rattle.std.proofs.lemmas.List.{length-map}
-use Rattle.std.proofs.lemmas.List.Sums.{fold-append}
-use Rattle.steps.specs.declared.queues.roles.Role.{Role}
-use Rattle.steps.specs.declared.queues.roles.Role.TheVariants.{Producer, Consumer}
-use Rattle.model.specs.declared.event.Answer.TheVariants.{Truth}
-use Rattle.model.specs.declared.event.Event.{Event}
-use Rattle.model.specs.declared.event.Event.TheVariants.{Finished}
-use Rattle.model.specs.declared.event.Item.TheVariants.{Index}
-use Rattle.model.specs.declared.event.Start.TheVariants.{Queues}
-use Rattle.model.specs.declared.families.queues.QueueKind.TheVariants.{Overflow}
-use Rattle.model.specs.declared.families.queues.QueueStart.TheVariants.{AcquireProducer, ReleaseProducer, AcquireConsumer, ReleaseConsumer}
+use Rattle.lock_free_queues.proofs.Names.{◌≡◌, ◌≤◌, ℕ, ◌+◌, true, Option, Some, None, List, [], ◌∷◌, ◌++◌, length}
+use Rattle.lock_free_queues.proofs.Names.{map, refl, sym, ap, subst, ◌∙◌, append_assoc, append-nil, sum_by, arith}
+use Rattle.lock_free_queues.proofs.Names.{length-map, fold-append, Role, Producer, Consumer, Truth, Event, Finished}
+use Rattle.lock_free_queues.proofs.Names.{Index, Queues, Overflow, AcquireProducer, ReleaseProducer, AcquireConsumer}
+use Rattle.lock_free_queues.proofs.Names.{ReleaseConsumer, Coding, producer_of, consumer_of, waiting, pending}
+use Rattle.lock_free_queues.proofs.Names.{GrantsRight, Each, Trace, waiting_is, Hangs, IsRun, takes, gives}
+use Rattle.lock_free_queues.proofs.Names.{role_after, sum_first, sound_of, granted}
 use Rattle.model.specs.declared.turn.Kind.TheVariants as kinds
-use Rattle.model.specs.Coding.{Coding}
-use Rattle.model.specs.Families.Queues.Reading.{producer_of, consumer_of, waiting}
-use Rattle.model.specs.Families.Queues.Steps.{pending}
-use Rattle.model.specs.Families.Queues.Roles.{GrantsRight}
-use Rattle.model.specs.Reading.{Each}
-use Rattle.model.specs.World.{Trace}
-use Rattle.laws_queues.proofs.Queues.Invariant.{waiting_is}
-use Rattle.laws_queues.proofs.Queues.Knows.{Hangs}
-use Rattle.history.specs.History.{IsRun}
-use Rattle.history.specs.Roles.{takes, gives, role_after}
-use Rattle.history.proofs.Known.{sum_first}
-use Rattle.history.proofs.Queues.{sound_of}
-use Rattle.history.proofs.Roles.{granted}
 use Rattle.lock_free_queues.proofs.Queues.Wrote.{held}
 
 abbrev one : Option ℕ → ℕ

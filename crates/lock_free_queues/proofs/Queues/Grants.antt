@@ -1,14 +1,7 @@
 -- What a party has made that pushes and pops one item again and again: its roles.
-use Rattle.std.proofs.Common.{◌≡◌, true, ℕ, zero, suc, List, ◌++◌, sum_by, refl, subst, append_assoc, arith}
-use Rattle.std.proofs.lemmas.List.Sums.{sum_by-append}
-use Rattle.steps.specs.declared.queues.roles.Role.{Role}
-use Rattle.steps.specs.declared.queues.roles.Role.TheVariants.{Producer, Consumer}
-use Rattle.model.specs.declared.event.Answer.{Answer}
-use Rattle.model.specs.declared.event.Answer.TheVariants.{Truth, PoppedNone}
-use Rattle.model.specs.declared.event.Event.{Event}
-use Rattle.model.specs.declared.event.Item.{Item}
-use Rattle.model.specs.declared.event.Item.TheVariants.{Index, Value}
-use Rattle.history.specs.Roles.{HasRole, takes, gives}
+use Rattle.lock_free_queues.proofs.Names.{◌≡◌, true, ℕ, zero, suc, List, ◌++◌, sum_by, refl, subst, append_assoc}
+use Rattle.lock_free_queues.proofs.Names.{arith, sum_by-append, Role, Producer, Consumer, Answer, Truth, PoppedNone}
+use Rattle.lock_free_queues.proofs.Names.{Event, Item, Index, Value, HasRole, takes, gives}
 use Rattle.lock_free_queues.specs.Queues.Roles.{LacksRole}
 use Rattle.lock_free_queues.specs.Queues.Opened.{pushed_once, popped_once, given_roles, rounds, opened}
 

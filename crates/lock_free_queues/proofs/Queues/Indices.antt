@@ -1,18 +1,11 @@
 -- The push and the pop of an index queue.
-use Rattle.std.proofs.Common.{◌≡◌, ℕ, Bool, true, false, Option, Some, None, List, refl, sym, ap, ◌∙◌, ◌-◌, ◌^◌, arith}
-use Rattle.std.proofs.lemmas.Bool.Decides.{nat_tests}
-use Rattle.std.specs.Option.{option_map}
-use Rattle.steps.specs.declared.ask.Ask.{Ask}
-use Rattle.steps.specs.declared.ask.Op.TheVariants.{Load}
+use Rattle.lock_free_queues.proofs.Names.{◌≡◌, ℕ, Bool, true, false, Option, Some, None, List, refl, sym, ap, ◌∙◌}
+use Rattle.lock_free_queues.proofs.Names.{◌-◌, ◌^◌, arith, nat_tests, option_map, Ask, Load, OneWord, Item, Index}
+use Rattle.lock_free_queues.proofs.Names.{IsCoding, one_word, popped, push_skips, push_wrote, pop_wrote, pushes_index}
+use Rattle.lock_free_queues.proofs.Names.{pops_index}
 use Rattle.steps.specs.declared.ask.Want.TheVariants as wants
-use Rattle.steps.specs.declared.copied.OneWord.{OneWord}
 use Rattle.steps.specs.declared.queues.ring.PushStage as pushes
 use Rattle.steps.specs.Queues.Ring.{pop_answer, push_asks}
-use Rattle.model.specs.declared.event.Item.{Item}
-use Rattle.model.specs.declared.event.Item.TheVariants.{Index}
-use Rattle.model.specs.Coding.{IsCoding, one_word}
-use Rattle.model.specs.Families.Queues.Calls.{popped}
-use Rattle.history.specs.Queues.{push_skips, push_wrote, pop_wrote, pushes_index, pops_index}
 use Rattle.lock_free_queues.specs.Queues.Told.{push_told, popped_item, pop_told}
 use Rattle.lock_free_queues.proofs.Queues.Ended.{IsPush, IsPop}
 

@@ -1,31 +1,14 @@
 -- The calls on roles and lengths, and what a look tells, of a queue of each kind.
-use Rattle.std.proofs.Common.{◌≡◌, ℕ, ◌+◌, true, Option, None, length, replicate}
-use Rattle.steps.specs.declared.ask.After.{After}
+use Rattle.lock_free_queues.proofs.Names.{◌≡◌, ℕ, ◌+◌, true, Option, None, length, replicate, After, Role, Producer}
+use Rattle.lock_free_queues.proofs.Names.{Consumer, len_want, len_after, Truth, PoppedNone, Index, Value, Start}
+use Rattle.lock_free_queues.proofs.Names.{Flight, QueueKind, IndexQueue, Overflow, Queue, LengthOf, Coding, IsCoding}
+use Rattle.lock_free_queues.proofs.Names.{Trace, machine_kind, KeepsRule, View, IsMachine, IsRun, takes_role}
+use Rattle.lock_free_queues.proofs.Names.{gives_role, counts_waiting, Calling, At, Ends, WhenIdle, overflow_owes}
+use Rattle.lock_free_queues.proofs.Names.{index_owes, values_owe}
 use Rattle.steps.specs.declared.ask.Want.{Want}
-use Rattle.steps.specs.declared.queues.roles.Role.{Role}
-use Rattle.steps.specs.declared.queues.roles.Role.TheVariants.{Producer, Consumer}
-use Rattle.steps.specs.Queues.Lengths.{len_want, len_after}
 use Rattle.steps.specs.Queues.Roles.{acquire_want, acquire_after, release_want, release_after}
-use Rattle.model.specs.declared.event.Answer.TheVariants.{Truth, PoppedNone}
-use Rattle.model.specs.declared.event.Item.TheVariants.{Index, Value}
-use Rattle.model.specs.declared.event.Start.{Start}
-use Rattle.model.specs.declared.families.Flight.{Flight}
-use Rattle.model.specs.declared.families.queues.QueueKind.{QueueKind}
-use Rattle.model.specs.declared.families.queues.QueueKind.TheVariants.{IndexQueue, Overflow, Queue}
-use Rattle.model.specs.declared.families.queues.calls.LengthOf.{LengthOf}
-use Rattle.model.specs.Coding.{Coding, IsCoding}
-use Rattle.model.specs.World.{Trace}
-use Rattle.laws_queues.proofs.Queues.Invariant.{machine_kind}
-use Rattle.threaded.specs.Driver.{KeepsRule}
-use Rattle.history.specs.declared.view.View.{View}
-use Rattle.history.specs.History.{IsMachine, IsRun}
-use Rattle.history.specs.Queues.{takes_role, gives_role, counts_waiting}
-use Rattle.history.specs.Stages.{Calling, At, Ends}
-use Rattle.history.specs.Views.{WhenIdle}
 use Rattle.history.proofs.OverflowRoles.{over_acquire_keeps, over_release_keeps, over_lens_keep}
-use Rattle.history.proofs.Overflows.{overflow_owes}
 use Rattle.history.proofs.QueueRoles.{acquire_keeps, release_keeps, lens_keep}
-use Rattle.history.proofs.Queues.{index_owes, values_owe}
 use Rattle.history.proofs.ValueQueueRoles.{value_acquire_keeps, value_release_keeps, value_lens_keep}
 use Rattle.lock_free_queues.specs.Queues.Kinds.{words_in_cells, opened_by}
 use Rattle.lock_free_queues.specs.Queues.Opened.{position_at}

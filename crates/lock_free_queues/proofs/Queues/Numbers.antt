@@ -1,11 +1,7 @@
 -- How a queue of numbers opens, of any kind: so many zeros, and one word more.
-use Rattle.std.proofs.Common.{◌≡◌, ℕ, ◌*◌, ◌^◌, ◌<◌, min, List, [], ◌∷◌, ◌++◌, replicate, sym, ap, ◌∙◌, arith}
-use Rattle.atomic_table.specs.Table.{opening}
-use Rattle.model.specs.declared.families.queues.QueueKind.{QueueKind}
-use Rattle.model.specs.declared.families.queues.QueueKind.TheVariants.{IndexQueue, Overflow, Queue}
-use Rattle.model.specs.Coding.{one_word}
-use Rattle.laws_queues.proofs.Ring.Kinds.{of_indices, of_values}
-use Rattle.history.specs.History.{IsMachine}
+use Rattle.lock_free_queues.proofs.Names.{◌≡◌, ℕ, ◌*◌, ◌^◌, ◌<◌, min, List, [], ◌∷◌, ◌++◌, replicate, sym, ap, ◌∙◌}
+use Rattle.lock_free_queues.proofs.Names.{arith, opening, QueueKind, IndexQueue, Overflow, Queue, one_word}
+use Rattle.lock_free_queues.proofs.Names.{of_indices, of_values, IsMachine}
 use Rattle.lock_free_queues.specs.Queues.Bounded.{machine_of}
 use Rattle.lock_free_queues.specs.Queues.Kinds.{words_in_cells, opened_by}
 use Rattle.lock_free_queues.specs.Queues.Opened.{position_at}

@@ -1,57 +1,27 @@
 -- How a queue's table opens, also at a position: one party has pushed and popped one value as often, alone.
-use Rattle.std.proofs.Common.{◌≡◌, ⊎_elim, ℕ, zero, suc, ◌+◌, ◌*◌, ◌-◌, ◌%◌, ◌^◌, ◌<◌, ◌≤◌, ◌==◌, min, true, false}
-use Rattle.std.proofs.Common.{Option, Some, None, List, [], ◌∷◌, ◌++◌, length, get_or, set, replicate, slice_index}
-use Rattle.std.proofs.Common.{slice_set, sum_by, refl, sym, ap, subst, ◌∙◌, append_assoc, length-append, take, drop}
-use Rattle.std.proofs.Common.{arith}
-use Rattle.std.proofs.lemmas.Bool.{cases_lt}
-use Rattle.std.proofs.lemmas.List.{get_or_append_left, take-append-le}
-use Rattle.std.proofs.Math.Nat.{mul-add-mod_self_left, mod-eq_of_lt, mul-le-mul_left}
-use Rattle.atomic_table.specs.Table.{opening}
-use Rattle.steps.specs.Queues.Ring.{first_push, first_pop, cell_word, word_at, after_position}
-use Rattle.steps.specs.declared.ask.Ask.{Ask}
-use Rattle.steps.specs.declared.ask.Op.TheVariants.{Load, Store}
-use Rattle.steps.specs.Ask.{written}
-use Rattle.steps.specs.Copied.{value_in}
+use Rattle.lock_free_queues.proofs.Names.{◌≡◌, ⊎_elim, ℕ, zero, suc, ◌+◌, ◌*◌, ◌-◌, ◌%◌, ◌^◌, ◌<◌, ◌≤◌, ◌==◌, min}
+use Rattle.lock_free_queues.proofs.Names.{true, false, Option, Some, None, List, [], ◌∷◌, ◌++◌, length, get_or, set}
+use Rattle.lock_free_queues.proofs.Names.{replicate, slice_index, slice_set, sum_by, refl, sym, ap, subst, ◌∙◌}
+use Rattle.lock_free_queues.proofs.Names.{append_assoc, take, drop, arith, cases_lt, get_or_append_left}
+use Rattle.lock_free_queues.proofs.Names.{take-append-le, mul-add-mod_self_left, mod-eq_of_lt, mul-le-mul_left}
+use Rattle.lock_free_queues.proofs.Names.{opening, word_at, after_position, Ask, Load, Store, written, value_in}
+use Rattle.lock_free_queues.proofs.Names.{Producer, Consumer, Answer, Truth, Event, Begun, Item, Start, Queues}
+use Rattle.lock_free_queues.proofs.Names.{Flight, Pop, Kind, Coding, IsCoding, want_of, words_of_cell, World}
+use Rattle.lock_free_queues.proofs.Names.{cell_within, take_all, machine_kind, IsFreshCall, Val, encoded, item, Ring}
+use Rattle.lock_free_queues.proofs.Names.{kind_of, Room, words_in, with_word, put_in, flight, read_in, are_words}
+use Rattle.lock_free_queues.proofs.Names.{View, IsMachine, owned, HasRole, Calling, first_view, same_seat, set_left}
+use Rattle.lock_free_queues.proofs.Names.{set_same, holds_it, queue_effects, ring_owes, role_starts, MachineLaws}
+use Rattle.lock_free_queues.proofs.Names.{machine_laws}
+use Rattle.std.proofs.Common.{length-append}
+use Rattle.steps.specs.Queues.Ring.{first_push, first_pop, cell_word}
 use Rattle.steps.specs.declared.ask.Want.TheVariants as wants
 use Rattle.steps.specs.declared.queues.ring.Pop as pop_calls
 use Rattle.steps.specs.declared.queues.ring.PopStage as pops
 use Rattle.steps.specs.declared.queues.ring.Push as push_calls
 use Rattle.steps.specs.declared.queues.ring.PushStage as pushes
-use Rattle.steps.specs.declared.queues.roles.Role.TheVariants.{Producer, Consumer}
-use Rattle.model.specs.declared.event.Answer.{Answer}
-use Rattle.model.specs.declared.event.Answer.TheVariants.{Truth}
-use Rattle.model.specs.declared.event.Event.{Event}
-use Rattle.model.specs.declared.event.Event.TheVariants.{Begun}
-use Rattle.model.specs.declared.event.Item.{Item}
-use Rattle.model.specs.declared.event.Start.{Start}
-use Rattle.model.specs.declared.event.Start.TheVariants.{Queues}
-use Rattle.model.specs.declared.families.Flight.{Flight}
-use Rattle.model.specs.declared.families.queues.QueueStart.TheVariants.{Pop}
-use Rattle.model.specs.declared.turn.Kind.{Kind}
-use Rattle.model.specs.Coding.{Coding, IsCoding}
-use Rattle.model.specs.Families.{want_of}
-use Rattle.model.specs.Families.Queues.Opening.{words_of_cell}
-use Rattle.model.specs.World.{World}
 use Rattle.laws_queues.proofs.Queues.Core as core
-use Rattle.laws_queues.proofs.Queues.Core.{cell_within, take_all}
-use Rattle.laws_queues.proofs.Queues.Invariant.{machine_kind}
-use Rattle.laws_queues.proofs.Queues.Knows.{IsFreshCall}
 use Rattle.laws_queues.proofs.Queues.Stages.{asked_place}
-use Rattle.laws_queues.proofs.Queues.Values.{Val, encoded, item}
-use Rattle.laws_queues.proofs.Ring.Kinds.{Ring, kind_of, Room, words_in, with_word, put_in, flight, read_in, are_words}
-use Rattle.history.specs.declared.view.View.{View}
-use Rattle.history.specs.History.{IsMachine}
-use Rattle.history.specs.Known.{owned}
-use Rattle.history.specs.Roles.{HasRole}
-use Rattle.history.specs.Stages.{Calling}
-use Rattle.history.specs.Views.{first_view}
 use Rattle.history.proofs.Alone as alone
-use Rattle.history.proofs.Alone.{same_seat}
-use Rattle.history.proofs.Calls.{set_left}
-use Rattle.history.proofs.Passes.{set_same}
-use Rattle.history.proofs.QueueCalls.{holds_it}
-use Rattle.history.proofs.Queues.{queue_effects, ring_owes, role_starts}
-use Rattle.history.proofs.Turns.{MachineLaws, machine_laws}
 use Rattle.history.proofs.ValueOpened.{mix, mix_step}
 use Rattle.lock_free_queues.specs.Queues.Told.{push_of, popped_item}
 use Rattle.lock_free_queues.specs.Queues.Opened.{pushed_once, popped_once, rounds, opened, position_at, opened_view, opened_with}

@@ -1,20 +1,13 @@
 -- What the words that were read of an overflowing queue say of the list that is made of them: it begins later where one
 -- value more than the capacity stands there.
-use Rattle.std.proofs.Common.{◌≡◌, ℕ, ◌+◌, ◌-◌, ◌<◌, ◌≤◌, max, List, [], length, set, slice_index, refl, sym, ap}
-use Rattle.std.proofs.Common.{subst, ◌∙◌, length-set, length-append, append-nil, get_or-set_same, get_or-set_other}
-use Rattle.std.proofs.Common.{sum_by, arith}
-use Rattle.plain.specs.Overflowing.{Represents, list_in}
-use Rattle.steps.specs.declared.queues.roles.Role.TheVariants.{Producer}
-use Rattle.model.specs.declared.event.Event.{Event}
-use Rattle.model.specs.declared.event.Item.TheVariants.{Index}
-use Rattle.model.specs.declared.families.queues.QueueKind.TheVariants.{Overflow}
+use Rattle.lock_free_queues.proofs.Names.{◌≡◌, ℕ, ◌+◌, ◌-◌, ◌<◌, ◌≤◌, max, List, [], length, set, slice_index, refl}
+use Rattle.lock_free_queues.proofs.Names.{sym, ap, subst, ◌∙◌, length-set, append-nil, get_or-set_same}
+use Rattle.lock_free_queues.proofs.Names.{get_or-set_other, sum_by, arith, list_in, Producer, Event, Index, Overflow}
+use Rattle.lock_free_queues.proofs.Names.{one_word, published, handed_out, waiting, IsAll, View, IsHistory, takes}
+use Rattle.lock_free_queues.proofs.Names.{gives}
+use Rattle.std.proofs.Common.{length-append}
+use Rattle.plain.specs.Overflowing.{Represents}
 use Rattle.model.specs.declared.turn.Kind.TheVariants as kinds
-use Rattle.model.specs.Coding.{one_word}
-use Rattle.model.specs.Families.Queues.Reading.{published, handed_out, waiting}
-use Rattle.threaded.specs.Shares.{IsAll}
-use Rattle.history.specs.declared.view.View.{View}
-use Rattle.history.specs.History.{IsHistory}
-use Rattle.history.specs.Roles.{takes, gives}
 use Rattle.lock_free_queues.specs.Queues.Closes.{Closes}
 use Rattle.lock_free_queues.specs.Queues.Reads.{LastWords}
 use Rattle.lock_free_queues.specs.Queues.Roles.{LacksRole}

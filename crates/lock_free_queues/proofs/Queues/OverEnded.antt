@@ -1,33 +1,14 @@
 -- What a push and a pop say once they have ended, on an overflowing queue.
-use Rattle.std.proofs.Common.{◌≡◌, ◌⊎◌, inl, inr, ℕ, Bool, true, false, Option, Some, None, IfSome, IfNone, List, []}
-use Rattle.std.proofs.Common.{◌∷◌, ◌++◌, refl, sym, ap, subst, ◌∙◌, append_assoc, ◌<◌}
-use Rattle.std.specs.Option.{option_map}
-use Rattle.steps.specs.declared.copied.OneWord.{OneWord}
-use Rattle.steps.specs.declared.queues.overflow.PushEnd.{PushEnd}
-use Rattle.steps.specs.declared.queues.overflow.PushEnd.TheVariants.{Added, Own, Oldest}
-use Rattle.steps.specs.declared.queues.roles.Role.TheVariants.{Producer}
-use Rattle.steps.specs.Queues.Overflow.{push_answer, pop_answer}
+use Rattle.lock_free_queues.proofs.Names.{◌≡◌, ◌⊎◌, inl, inr, ℕ, Bool, true, false, Option, Some, None, IfSome}
+use Rattle.lock_free_queues.proofs.Names.{IfNone, List, [], ◌∷◌, ◌++◌, refl, sym, ap, subst, ◌∙◌, append_assoc, ◌<◌}
+use Rattle.lock_free_queues.proofs.Names.{option_map, OneWord, PushEnd, Added, Own, Oldest, Producer, push_answer}
+use Rattle.lock_free_queues.proofs.Names.{PoppedNone, PoppedIndex, Event, Published, HandedOut, Acted, Finished, Item}
+use Rattle.lock_free_queues.proofs.Names.{Index, Queues, Overflow, PushIndex, Pop, Coding, popped, waiting, View}
+use Rattle.lock_free_queues.proofs.Names.{Called, IsHistory, over_push_wrote, pops_over, pop_wrote, HasRole, Ends}
+use Rattle.lock_free_queues.proofs.Names.{Over, called, over_lists_kept}
+use Rattle.steps.specs.Queues.Overflow.{pop_answer}
 use Rattle.steps.specs.Queues.Ring as rings
-use Rattle.model.specs.declared.event.Answer.TheVariants.{PoppedNone, PoppedIndex}
-use Rattle.model.specs.declared.event.Event.{Event}
-use Rattle.model.specs.declared.event.Event.TheVariants.{Published, HandedOut, Acted, Finished}
-use Rattle.model.specs.declared.event.Item.{Item}
-use Rattle.model.specs.declared.event.Item.TheVariants.{Index}
-use Rattle.model.specs.declared.event.Start.TheVariants.{Queues}
-use Rattle.model.specs.declared.families.queues.QueueKind.TheVariants.{Overflow}
-use Rattle.model.specs.declared.families.queues.QueueStart.TheVariants.{PushIndex, Pop}
 use Rattle.model.specs.declared.turn.Kind.TheVariants as kinds
-use Rattle.model.specs.Coding.{Coding}
-use Rattle.model.specs.Families.Queues.Calls.{popped}
-use Rattle.model.specs.Families.Queues.Reading.{waiting}
-use Rattle.history.specs.declared.view.View.{View}
-use Rattle.history.specs.History.{Called, IsHistory}
-use Rattle.history.specs.Overflow.{over_push_wrote, pops_over}
-use Rattle.history.specs.Queues.{pop_wrote}
-use Rattle.history.specs.Roles.{HasRole}
-use Rattle.history.specs.Stages.{Ends, Over}
-use Rattle.history.proofs.Drives.{called}
-use Rattle.history.proofs.OverflowHolders.{over_lists_kept}
 use Rattle.lock_free_queues.specs.Queues.Overflowing.{HasActed, HasOverflowed, over_push_told, pushes_told}
 use Rattle.lock_free_queues.specs.Queues.Told.{HasPublished, HasPopped, WasAtEnd, popped_item, pop_told, HasTakenFirst, FoundNone}
 use Rattle.lock_free_queues.proofs.Queues.Ended.{was_at_end, has_popped, IsPop}

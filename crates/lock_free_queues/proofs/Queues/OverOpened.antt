@@ -1,55 +1,27 @@
 -- How an overflowing queue's table opens at a position: one party has pushed and popped the number 0 as often, alone.
-use Rattle.std.proofs.Common.{◌≡◌, ◌≢◌, ⊎_elim, ℕ, zero, suc, ◌+◌, ◌*◌, ◌-◌, ◌%◌, ◌^◌, ◌<◌, ◌≤◌, ◌==◌, nat_lt, true}
-use Rattle.std.proofs.Common.{false, Option, Some, None, List, [], ◌∷◌, ◌++◌, get_or, replicate, slice_index}
-use Rattle.std.proofs.Common.{slice_set, sum_by, refl, sym, ap, subst, ◌∙◌, append_assoc, arith}
-use Rattle.std.proofs.lemmas.Bool.{cases_eq}
-use Rattle.std.proofs.lemmas.Bool.Decides.{nat_tests}
-use Rattle.std.proofs.lemmas.List.{length-replicate, get_or_append_left}
-use Rattle.atomic_table.specs.Table.{opening}
-use Rattle.steps.specs.Ask.{written}
-use Rattle.steps.specs.declared.ask.Ask.{Ask}
-use Rattle.steps.specs.declared.ask.After.TheVariants.{GoOn, Done}
-use Rattle.steps.specs.declared.ask.Op.TheVariants.{Load, Store, Exchange}
+use Rattle.lock_free_queues.proofs.Names.{◌≡◌, ◌≢◌, ⊎_elim, ℕ, zero, suc, ◌+◌, ◌*◌, ◌-◌, ◌%◌, ◌^◌, ◌<◌, ◌≤◌, ◌==◌}
+use Rattle.lock_free_queues.proofs.Names.{nat_lt, true, false, Option, Some, None, List, [], ◌∷◌, ◌++◌, get_or}
+use Rattle.lock_free_queues.proofs.Names.{replicate, slice_index, slice_set, sum_by, refl, sym, ap, subst, ◌∙◌}
+use Rattle.lock_free_queues.proofs.Names.{append_assoc, arith, cases_eq, nat_tests, length-replicate}
+use Rattle.lock_free_queues.proofs.Names.{get_or_append_left, opening, written, Ask, GoOn, Load, Store, Exchange}
+use Rattle.lock_free_queues.proofs.Names.{Role, Producer, Consumer, after_position, distance, Event, Begun, Published}
+use Rattle.lock_free_queues.proofs.Names.{HandedOut, Acted, Finished, Item, Index, Start, Queues, Flight, Overflow}
+use Rattle.lock_free_queues.proofs.Names.{PushIndex, Pop, Coding, IsCoding, want_of, after_of, beside_of, effects_of}
+use Rattle.lock_free_queues.proofs.Names.{takes_effect, World, IsFreshCall, kept_is, View, IsMachine, call_in, owned}
+use Rattle.lock_free_queues.proofs.Names.{pushes_over, pops_over, HasRole, same_seat, get_left, over_effects}
+use Rattle.lock_free_queues.proofs.Names.{overflow_owes, beside_waits, set_same, holds_it, role_starts, sound_of}
+use Rattle.steps.specs.declared.ask.After.TheVariants.{Done}
 use Rattle.steps.specs.declared.ask.Want.TheVariants as wants
 use Rattle.steps.specs.declared.queues.overflow.PopStage as pops
 use Rattle.steps.specs.declared.queues.overflow.PushStage as pushes
-use Rattle.steps.specs.declared.queues.roles.Role.{Role}
-use Rattle.steps.specs.declared.queues.roles.Role.TheVariants.{Producer, Consumer}
-use Rattle.steps.specs.Queues.Ring.{after_position, distance}
 use Rattle.steps.specs.Queues.Overflow.{cell_word, first_push, at_push, first_pop, at_pop}
 use Rattle.model.specs.declared.event.Answer.TheVariants as answers
-use Rattle.model.specs.declared.event.Event.{Event}
-use Rattle.model.specs.declared.event.Event.TheVariants.{Begun, Published, HandedOut, Acted, Finished}
-use Rattle.model.specs.declared.event.Item.{Item}
-use Rattle.model.specs.declared.event.Item.TheVariants.{Index}
-use Rattle.model.specs.declared.event.Start.{Start}
-use Rattle.model.specs.declared.event.Start.TheVariants.{Queues}
 use Rattle.model.specs.declared.families.Flight as flights
-use Rattle.model.specs.declared.families.Flight.{Flight}
-use Rattle.model.specs.declared.families.queues.QueueKind.TheVariants.{Overflow}
-use Rattle.model.specs.declared.families.queues.QueueStart.TheVariants.{PushIndex, Pop}
 use Rattle.model.specs.declared.families.queues.calls.OverflowCall as overflows
 use Rattle.model.specs.declared.families.queues.calls.QueueFlight as flying
 use Rattle.model.specs.declared.turn.Kind.TheVariants as kinds
-use Rattle.model.specs.Coding.{Coding, IsCoding}
-use Rattle.model.specs.Families.{want_of, after_of, beside_of}
-use Rattle.model.specs.Families.Queues.Steps.{effects_of, takes_effect}
-use Rattle.model.specs.World.{World}
 use Rattle.laws_queues.proofs.Queues.Core as core
-use Rattle.laws_queues.proofs.Queues.Knows.{IsFreshCall}
-use Rattle.laws_queues.proofs.Queues.Sound.{kept_is}
-use Rattle.history.specs.declared.view.View.{View}
-use Rattle.history.specs.History.{IsMachine, call_in}
-use Rattle.history.specs.Known.{owned}
-use Rattle.history.specs.Overflow.{pushes_over, pops_over}
-use Rattle.history.specs.Roles.{HasRole}
 use Rattle.history.proofs.Alone as alone
-use Rattle.history.proofs.Alone.{same_seat}
-use Rattle.history.proofs.Calls.{get_left}
-use Rattle.history.proofs.Overflows.{over_effects, overflow_owes, beside_waits}
-use Rattle.history.proofs.Passes.{set_same}
-use Rattle.history.proofs.QueueCalls.{holds_it}
-use Rattle.history.proofs.Queues.{role_starts, sound_of}
 use Rattle.lock_free_queues.specs.Queues.Opened.{pushed_once, popped_once, rounds, opened, position_at, over_opened_view}
 use Rattle.lock_free_queues.proofs.Queues.Grants.{after_push, has_it, quiet_none}
 use Rattle.lock_free_queues.proofs.Queues.Roles.{QuietRoles, takes_both, gives_both}

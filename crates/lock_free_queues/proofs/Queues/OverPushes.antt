@@ -1,34 +1,18 @@
 -- The push of an overflowing queue, which is a call of the history but where its own number comes back: that is a look.
-use Rattle.std.proofs.Common.{inl, ◌≡◌, ℕ, ◌+◌, ◌-◌, ◌^◌, ◌<◌, ◌==◌, Bool, true, false, cond, None, [], refl, sym, ap, subst, ◌∙◌, arith}
-use Rattle.std.proofs.lemmas.Bool.Decides.{nat_tests}
-use Rattle.steps.specs.declared.ask.Ask.{Ask}
-use Rattle.steps.specs.declared.ask.After.{After}
-use Rattle.steps.specs.declared.ask.After.TheVariants.{GoOn, Done}
-use Rattle.steps.specs.declared.ask.Op.TheVariants.{Load}
+use Rattle.lock_free_queues.proofs.Names.{inl, ◌≡◌, ℕ, ◌+◌, ◌-◌, ◌^◌, ◌<◌, ◌==◌, Bool, true, false, cond, None, []}
+use Rattle.lock_free_queues.proofs.Names.{refl, sym, ap, subst, ◌∙◌, arith, nat_tests, Ask, After, GoOn, Load}
+use Rattle.lock_free_queues.proofs.Names.{OneWord, PushEnd, Added, Oldest, Producer, distance, push_want, push_takes}
+use Rattle.lock_free_queues.proofs.Names.{push_after, push_kept, Overflow, PushIndex, Coding, KeepsRule, View}
+use Rattle.lock_free_queues.proofs.Names.{IsMachine, over_push_skips, HasPushWord, pushes_over, HasRole, Calling, At}
+use Rattle.lock_free_queues.proofs.Names.{Over, IsCallIn, goes, keeps_in, over_effects, overflow_owes, holds_it}
+use Rattle.lock_free_queues.proofs.Names.{role_starts}
+use Rattle.steps.specs.declared.ask.After.TheVariants.{Done}
 use Rattle.steps.specs.declared.ask.Want.TheVariants as wants
-use Rattle.steps.specs.declared.copied.OneWord.{OneWord}
 use Rattle.steps.specs.declared.queues.overflow.Push.{Push}
-use Rattle.steps.specs.declared.queues.overflow.PushEnd.{PushEnd}
-use Rattle.steps.specs.declared.queues.overflow.PushEnd.TheVariants.{Added, Oldest}
 use Rattle.steps.specs.declared.queues.overflow.PushStage as pushes
-use Rattle.steps.specs.declared.queues.roles.Role.TheVariants.{Producer}
-use Rattle.steps.specs.Queues.Ring.{distance}
-use Rattle.steps.specs.Queues.Overflow.{first_push, at_push, push_asks, push_want, push_takes, push_after, push_kept}
-use Rattle.model.specs.declared.families.queues.QueueKind.TheVariants.{Overflow}
-use Rattle.model.specs.declared.families.queues.QueueStart.TheVariants.{PushIndex}
+use Rattle.steps.specs.Queues.Overflow.{first_push, at_push, push_asks}
 use Rattle.model.specs.declared.turn.Kind.TheVariants as kinds
-use Rattle.model.specs.Coding.{Coding}
-use Rattle.threaded.specs.Driver.{KeepsRule}
-use Rattle.history.specs.declared.view.View.{View}
-use Rattle.history.specs.History.{IsMachine}
-use Rattle.history.specs.Overflow.{over_push_skips, HasPushWord, pushes_over}
-use Rattle.history.specs.Roles.{HasRole}
-use Rattle.history.specs.Stages.{Calling, At, Over}
-use Rattle.history.proofs.Drives.{IsCallIn, goes, keeps_in}
 use Rattle.history.proofs.OverflowCalls.{push_is_call}
-use Rattle.history.proofs.Overflows.{over_effects, overflow_owes}
-use Rattle.history.proofs.QueueCalls.{holds_it}
-use Rattle.history.proofs.Queues.{role_starts}
 use Rattle.lock_free_queues.specs.Queues.Overflowing.{HasActed, pushes_told}
 
 -- it ends as a call where it is not left out

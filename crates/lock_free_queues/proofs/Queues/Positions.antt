@@ -1,21 +1,10 @@
 -- The laws of positions.
-use Rattle.std.proofs.Common.{◌≡◌, ℕ, zero, suc, ◌+◌, ◌<◌, ◌≤◌, Some, List, [], ◌∷◌, ◌++◌, length, drop, slice_get}
-use Rattle.std.proofs.Common.{refl, sym, ap, ◌∙◌, append_assoc, false, arith}
-use Rattle.std.specs.List.{flat_map}
-use Rattle.std.proofs.lemmas.List.{length-append, length-drop}
-use Rattle.std.proofs.lemmas.Grind.{flat_map-append}
-use Rattle.model.specs.declared.event.Event.{Event}
-use Rattle.model.specs.declared.event.Answer.TheVariants.{Truth}
-use Rattle.model.specs.declared.event.Event.TheVariants.{Published, HandedOut, Acted}
-use Rattle.model.specs.declared.event.Start.TheVariants.{Queues}
-use Rattle.model.specs.declared.event.Item.{Item}
-use Rattle.model.specs.Coding.{Coding}
-use Rattle.model.specs.Families.Queues.Reading.{published, handed_out, waiting, publishes, hands_out}
-use Rattle.history.specs.declared.view.View.{View}
-use Rattle.history.specs.History.{IsBeginning, IsHistory}
-use Rattle.laws_queues.proofs.Queues.Invariant.{machine_kind}
-use Rattle.laws_queues.proofs.Ring.Kinds.{Ring, kind_of}
-use Rattle.history.proofs.Holders.{always_listed}
+use Rattle.lock_free_queues.proofs.Names.{◌≡◌, ℕ, zero, suc, ◌+◌, ◌<◌, ◌≤◌, Some, List, [], ◌∷◌, ◌++◌, length, drop}
+use Rattle.lock_free_queues.proofs.Names.{slice_get, refl, sym, ap, ◌∙◌, append_assoc, false, arith, flat_map}
+use Rattle.lock_free_queues.proofs.Names.{length-drop, flat_map-append, Event, Truth, Published, HandedOut, Acted}
+use Rattle.lock_free_queues.proofs.Names.{Queues, Item, Coding, published, handed_out, waiting, publishes, hands_out}
+use Rattle.lock_free_queues.proofs.Names.{View, IsBeginning, IsHistory, machine_kind, Ring, kind_of, always_listed}
+use Rattle.std.proofs.lemmas.List.{length-append}
 use Rattle.lock_free_queues.proofs.Queues.Facts.{answers_right, tells_lengths, grants, by_holder}
 use Rattle.lock_free_queues.specs.Queues.Positions.{IsPublished, IsTaken, IsSound}
 use Rattle.lock_free_queues.specs.Queues.Told.{push_of, HasPublished, HasTakenOut, WasEmpty, FoundNone, WasFull}

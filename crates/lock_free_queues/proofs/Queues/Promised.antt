@@ -1,27 +1,17 @@
 -- The laws in the forms in which they are promised.
-use Rattle.std.proofs.Common.{◌≡◌, ℕ, ◌+◌, ◌<◌, ◌≤◌, List, [], ◌∷◌, length, refl, sym, ap, subst, append-nil}
-use Rattle.model.specs.declared.event.Answer.TheVariants.{PoppedNone}
-use Rattle.model.specs.declared.event.Event.{Event}
-use Rattle.model.specs.declared.event.Event.TheVariants.{HandedOut, Acted}
-use Rattle.model.specs.declared.event.Item.{Item}
-use Rattle.model.specs.declared.event.Start.TheVariants.{Queues}
-use Rattle.model.specs.declared.families.queues.QueueKind.{QueueKind}
+use Rattle.lock_free_queues.proofs.Names.{◌≡◌, ℕ, ◌+◌, ◌<◌, ◌≤◌, List, [], ◌∷◌, length, refl, sym, ap, subst}
+use Rattle.lock_free_queues.proofs.Names.{append-nil, PoppedNone, Event, HandedOut, Acted, Item, Queues, QueueKind}
+use Rattle.lock_free_queues.proofs.Names.{Pop, Coding, published, handed_out, hands_out, machine_kind, of_indices}
+use Rattle.lock_free_queues.proofs.Names.{of_values, View, IsHistory, history_by_over_holders, over_lists_kept}
+use Rattle.lock_free_queues.proofs.Names.{over_listed}
 use Rattle.model.specs.declared.families.queues.QueueKind as queues
-use Rattle.model.specs.declared.families.queues.QueueStart.TheVariants.{Pop}
-use Rattle.model.specs.Coding.{Coding}
-use Rattle.model.specs.Families.Queues.Reading.{published, handed_out, hands_out}
 use Rattle.model.specs.Linearizable.{IsLinearizable}
 use Rattle.model.specs.Linearized.{as_list, IsLinearized}
 use Rattle.model.specs.Progress.{KeepsGuarantees}
 use Rattle.model.proofs.Linearizable.Kinds.{run_linearizable}
 use Rattle.model.proofs.Progress.{keeps_guarantees}
-use Rattle.laws_queues.proofs.Queues.Invariant.{machine_kind}
 use Rattle.laws_queues.proofs.Queues.Kept.{kept_on}
-use Rattle.laws_queues.proofs.Ring.Kinds.{of_indices, of_values}
-use Rattle.history.specs.declared.view.View.{View}
-use Rattle.history.specs.History.{IsHistory}
 use Rattle.history.proofs.Reached.{queue_run}
-use Rattle.history.proofs.OverflowHolders.{history_by_over_holders, over_lists_kept, over_listed}
 use Rattle.lock_free_queues.specs.Queues.Bounded.{IsBounded, machine_of}
 use Rattle.lock_free_queues.specs.Queues.Positions.{IsPublished, IsTaken, IsSound, IsOverSound}
 use Rattle.lock_free_queues.specs.Queues.Told.{HasPublished, HasTakenOut, HasTakenFirst, WasEmpty, FoundNone, WasFull}

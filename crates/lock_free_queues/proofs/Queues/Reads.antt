@@ -1,20 +1,11 @@
 -- What one load of a queue's word tells, and what the loads of all words tell together.
-use Rattle.std.proofs.Common.{◌≡◌, ⊎_elim, ℕ, None, ◌+◌, ◌<◌, ◌≤◌, ◌^◌, List, [], ◌∷◌, ◌++◌, length, max, set}
-use Rattle.std.proofs.Common.{slice_index, refl, sym, ap, subst, ◌∙◌, append_assoc, append-nil, length-set}
-use Rattle.std.proofs.Common.{length-append, get_or-set_same, get_or-set_other, arith}
-use Rattle.std.proofs.lemmas.Bool.{cases_lt}
-use Rattle.std.proofs.lemmas.List.{get_or_append_left}
+use Rattle.lock_free_queues.proofs.Names.{◌≡◌, ⊎_elim, ℕ, None, ◌+◌, ◌<◌, ◌≤◌, ◌^◌, List, [], ◌∷◌, ◌++◌, length, max}
+use Rattle.lock_free_queues.proofs.Names.{set, slice_index, refl, sym, ap, subst, ◌∙◌, append_assoc, append-nil}
+use Rattle.lock_free_queues.proofs.Names.{length-set, get_or-set_same, get_or-set_other, arith, cases_lt}
+use Rattle.lock_free_queues.proofs.Names.{get_or_append_left, Me, Allows, Event, QueueKind, Kind, Coding, IsAll}
+use Rattle.lock_free_queues.proofs.Names.{machine_kind, View, IsBeginning, IsMachine, IsRun, Looks, LooksAt}
+use Rattle.std.proofs.Common.{length-append}
 use Rattle.std.proofs.Math.Seq.{get_or-append_seam}
-use Rattle.atomic_table.specs.Table.{Me, Allows}
-use Rattle.model.specs.declared.event.Event.{Event}
-use Rattle.model.specs.declared.families.queues.QueueKind.{QueueKind}
-use Rattle.model.specs.declared.turn.Kind.{Kind}
-use Rattle.model.specs.Coding.{Coding}
-use Rattle.threaded.specs.Shares.{IsAll}
-use Rattle.laws_queues.proofs.Queues.Invariant.{machine_kind}
-use Rattle.history.specs.declared.view.View.{View}
-use Rattle.history.specs.History.{IsBeginning, IsMachine, IsRun}
-use Rattle.history.specs.Views.{Looks, LooksAt}
 use Rattle.history.proofs.PassLooks.{looks_word}
 use Rattle.lock_free_queues.specs.Queues.Kinds.{words_in_cells}
 use Rattle.lock_free_queues.specs.Queues.Told.{HasLooked}

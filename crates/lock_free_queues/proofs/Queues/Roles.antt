@@ -1,26 +1,13 @@
 -- The one party takes both roles of a queue, and gives them back, where a role's calls write nothing but their begin and
 -- end.
-use Rattle.std.proofs.Common.{◌≡◌, ℕ, ◌<◌, ◌≤◌, ◌==◌, true, None, List, [], ◌∷◌, ◌++◌, slice_index, slice_set, refl, ap, subst, ◌∙◌, append_assoc, arith}
-use Rattle.steps.specs.Ask.{written}
+use Rattle.lock_free_queues.proofs.Names.{◌≡◌, ℕ, ◌<◌, ◌≤◌, ◌==◌, true, None, List, [], ◌∷◌, ◌++◌, slice_index}
+use Rattle.lock_free_queues.proofs.Names.{slice_set, refl, ap, subst, ◌∙◌, append_assoc, arith, written, Store}
+use Rattle.lock_free_queues.proofs.Names.{Exchange, Role, Producer, Consumer, Truth, Event, Begun, Finished, Queues}
+use Rattle.lock_free_queues.proofs.Names.{Flight, QueueKind, Coding, World, machine_kind, takes_role, gives_role}
+use Rattle.lock_free_queues.proofs.Names.{HasRole, role_word, acquire_start, release_start, same_seat, Here, maker}
+use Rattle.lock_free_queues.proofs.Names.{sums, begins, ends, plain_starts, role_starts, MachineLaws}
 use Rattle.steps.specs.declared.ask.After.TheVariants.{Done}
-use Rattle.steps.specs.declared.ask.Op.TheVariants.{Store, Exchange}
-use Rattle.steps.specs.declared.queues.roles.Role.{Role}
-use Rattle.steps.specs.declared.queues.roles.Role.TheVariants.{Producer, Consumer}
 use Rattle.model.specs.declared.event.Answer.TheVariants as answers
-use Rattle.model.specs.declared.event.Answer.TheVariants.{Truth}
-use Rattle.model.specs.declared.event.Event.{Event}
-use Rattle.model.specs.declared.event.Event.TheVariants.{Begun, Finished}
-use Rattle.model.specs.declared.event.Start.TheVariants.{Queues}
-use Rattle.model.specs.declared.families.Flight.{Flight}
-use Rattle.model.specs.declared.families.queues.QueueKind.{QueueKind}
-use Rattle.model.specs.Coding.{Coding}
-use Rattle.model.specs.World.{World}
-use Rattle.laws_queues.proofs.Queues.Invariant.{machine_kind}
-use Rattle.history.specs.Queues.{takes_role, gives_role}
-use Rattle.history.specs.Roles.{HasRole, role_word, acquire_start, release_start}
-use Rattle.history.proofs.Alone.{same_seat, Here, maker, sums, begins, ends}
-use Rattle.history.proofs.Queues.{plain_starts, role_starts}
-use Rattle.history.proofs.Turns.{MachineLaws}
 use Rattle.lock_free_queues.specs.Queues.Opened.{taken_roles, given_roles}
 use Rattle.lock_free_queues.proofs.Queues.Grants.{still_has}
 use Rattle.lock_free_queues.proofs.Queues.Single.{acquire_named, release_named, acquire_lacks, release_lacks}

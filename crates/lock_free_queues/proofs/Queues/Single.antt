@@ -1,43 +1,24 @@
 -- A push and a pop of either kind, step by step, by a party that is alone.
-use Rattle.std.proofs.Common.{◌≡◌, ℕ, ◌+◌, ◌*◌, ◌-◌, ◌^◌, ◌<◌, ◌≤◌, ◌==◌, nat_lt, true, false, Option, Some, None}
-use Rattle.std.proofs.Common.{List, [], ◌∷◌, ◌++◌, length, replicate, refl, ap, arith}
-use Rattle.std.proofs.lemmas.Bool.Decides.{nat_tests}
-use Rattle.std.proofs.lemmas.List.{length-replicate}
-use Rattle.steps.specs.Queues.Ring.{first_push, first_pop, at_push, at_pop, push_asks, pop_asks, cell_word, distance}
-use Rattle.steps.specs.declared.ask.After.TheVariants.{GoOn, Done}
+use Rattle.lock_free_queues.proofs.Names.{◌≡◌, ℕ, ◌+◌, ◌*◌, ◌-◌, ◌^◌, ◌<◌, ◌≤◌, ◌==◌, nat_lt, true, false, Option}
+use Rattle.lock_free_queues.proofs.Names.{Some, None, List, [], ◌∷◌, ◌++◌, length, replicate, refl, ap, arith}
+use Rattle.lock_free_queues.proofs.Names.{nat_tests, length-replicate, pop_asks, distance, GoOn, Role, Producer}
+use Rattle.lock_free_queues.proofs.Names.{Consumer, Truth, Event, Published, HandedOut, Acted, Finished, Item, Index}
+use Rattle.lock_free_queues.proofs.Names.{Value, Queues, Flight, Pop, QueueKind, IndexQueue, Overflow, Queue, Coding}
+use Rattle.lock_free_queues.proofs.Names.{IsCoding, first_of, want_of, after_of, opening_of, fresh_cell, lacks_role}
+use Rattle.lock_free_queues.proofs.Names.{words_of_cell, capacity_error, machine_kind, IsFreshCall, Val, encoded}
+use Rattle.lock_free_queues.proofs.Names.{item, Ring, of_indices, of_values, kind_of, Room, words_in, with_word}
+use Rattle.lock_free_queues.proofs.Names.{flight, read_in, takes_role, gives_role, role_word, acquire_start}
+use Rattle.lock_free_queues.proofs.Names.{release_start, holder, holds_it, queue_effects}
+use Rattle.steps.specs.Queues.Ring.{first_push, first_pop, at_push, at_pop, push_asks, cell_word}
+use Rattle.steps.specs.declared.ask.After.TheVariants.{Done}
 use Rattle.steps.specs.declared.queues.ring.PopStage as pops
 use Rattle.steps.specs.declared.queues.ring.PushStage as pushes
-use Rattle.steps.specs.declared.queues.roles.Role.{Role}
-use Rattle.steps.specs.declared.queues.roles.Role.TheVariants.{Producer, Consumer}
 use Rattle.model.specs.declared.event.Answer.TheVariants as answers
-use Rattle.model.specs.declared.event.Answer.TheVariants.{Truth}
-use Rattle.model.specs.declared.event.Event.{Event}
-use Rattle.model.specs.declared.event.Event.TheVariants.{Published, HandedOut, Acted, Finished}
-use Rattle.model.specs.declared.event.Item.{Item}
-use Rattle.model.specs.declared.event.Item.TheVariants.{Index, Value}
-use Rattle.model.specs.declared.event.Start.TheVariants.{Queues}
 use Rattle.model.specs.declared.families.Flight as flights
-use Rattle.model.specs.declared.families.Flight.{Flight}
 use Rattle.model.specs.declared.families.Registry.{Registry}
-use Rattle.model.specs.declared.families.queues.QueueStart.TheVariants.{Pop}
-use Rattle.model.specs.declared.families.queues.QueueKind.{QueueKind}
-use Rattle.model.specs.declared.families.queues.QueueKind.TheVariants.{IndexQueue, Overflow, Queue}
 use Rattle.model.specs.declared.families.queues.Roles.{Roles}
 use Rattle.model.specs.declared.families.queues.calls.RingCall as rings
-use Rattle.model.specs.Coding.{Coding, IsCoding}
-use Rattle.model.specs.Families.{first_of, want_of, after_of, opening_of}
-use Rattle.model.specs.Families.Queues.Calls.{fresh_cell}
-use Rattle.model.specs.Families.Queues.Opening.{lacks_role, words_of_cell}
-use Rattle.model.specs.World.{capacity_error}
-use Rattle.laws_queues.proofs.Queues.Invariant.{machine_kind}
-use Rattle.laws_queues.proofs.Queues.Knows.{IsFreshCall}
-use Rattle.laws_queues.proofs.Queues.Values.{Val, encoded, item}
-use Rattle.laws_queues.proofs.Ring.Kinds.{Ring, of_indices, of_values, kind_of, Room, words_in, with_word, flight, read_in}
 use Rattle.laws_queues.proofs.Ring.Knows.{IsFresh}
-use Rattle.history.specs.Queues.{takes_role, gives_role}
-use Rattle.history.specs.Roles.{role_word, acquire_start, release_start, holder}
-use Rattle.history.proofs.QueueCalls.{holds_it}
-use Rattle.history.proofs.Queues.{queue_effects}
 use Rattle.lock_free_queues.specs.Queues.Told.{push_of, popped_item}
 
 -- a room in which nothing was put

@@ -1,23 +1,11 @@
 -- What each call adds to how much its pass has published and taken out itself, what that says to who has the whole, and
 -- which roles a call moves.
-use Rattle.std.proofs.Common.{◌≡◌, ◌⊎◌, inl, inr, ℕ, ◌+◌, Bool, true, false, Some, None, List, [], ◌∷◌, ◌++◌, length}
-use Rattle.std.proofs.Common.{refl, sym, ap, subst, ◌∙◌, length-append, sum_by, arith}
-use Rattle.std.proofs.lemmas.List.Sums.{sum_by-append}
-use Rattle.steps.specs.declared.queues.roles.Role.{Role}
-use Rattle.steps.specs.declared.queues.roles.Role.TheVariants.{Producer, Consumer}
-use Rattle.model.specs.declared.event.Answer.{Answer}
-use Rattle.model.specs.declared.event.Event.{Event}
-use Rattle.model.specs.declared.event.Event.TheVariants.{Begun, Published, HandedOut, Finished}
-use Rattle.model.specs.declared.event.Item.{Item}
-use Rattle.model.specs.declared.event.Start.{Start}
-use Rattle.model.specs.declared.families.queues.calls.LengthOf.{LengthOf}
-use Rattle.model.specs.Families.Queues.Reading.{publishes, hands_out, published, handed_out}
-use Rattle.history.specs.declared.view.View.{View}
-use Rattle.history.specs.History.{Called}
-use Rattle.history.specs.Roles.{takes, gives}
-use Rattle.history.proofs.Known.{sum_first}
-use Rattle.threaded.specs.Shares.{IsAll}
-use Rattle.history.specs.Passes.{MissesNothing}
+use Rattle.lock_free_queues.proofs.Names.{◌≡◌, ◌⊎◌, inl, inr, ℕ, ◌+◌, Bool, true, false, Some, None, List, [], ◌∷◌}
+use Rattle.lock_free_queues.proofs.Names.{◌++◌, length, refl, sym, ap, subst, ◌∙◌, sum_by, arith, sum_by-append, Role}
+use Rattle.lock_free_queues.proofs.Names.{Producer, Consumer, Answer, Event, Begun, Published, HandedOut, Finished}
+use Rattle.lock_free_queues.proofs.Names.{Item, Start, LengthOf, publishes, hands_out, published, handed_out, View}
+use Rattle.lock_free_queues.proofs.Names.{Called, takes, gives, sum_first, IsAll, MissesNothing}
+use Rattle.std.proofs.Common.{length-append}
 use Rattle.lock_free_queues.specs.Queues.Overflowing.{HasOverflowed}
 use Rattle.lock_free_queues.specs.Queues.Roles.{Moved, other_role}
 use Rattle.lock_free_queues.specs.Queues.Sums.{puts, gets, HasDone}

@@ -1,12 +1,8 @@
 -- The push and the pop of a queue of values.
-use Rattle.std.proofs.Common.{◌≡◌, ℕ, Bool, true, false, Option, Some, None, List, refl, ◌∙◌}
-use Rattle.std.specs.Option.{option_map}
+use Rattle.lock_free_queues.proofs.Names.{◌≡◌, ℕ, Bool, true, false, Option, Some, None, List, refl, ◌∙◌, option_map}
+use Rattle.lock_free_queues.proofs.Names.{Item, Value, Coding, popped_value, value_push_wrote, value_pop_wrote}
+use Rattle.lock_free_queues.proofs.Names.{pushes_value, value_there, pops_value}
 use Rattle.steps.specs.Queues.Ring.{pop_answer}
-use Rattle.model.specs.declared.event.Item.{Item}
-use Rattle.model.specs.declared.event.Item.TheVariants.{Value}
-use Rattle.model.specs.Coding.{Coding}
-use Rattle.model.specs.Families.Queues.Calls.{popped_value}
-use Rattle.history.specs.ValueQueue.{value_push_wrote, value_pop_wrote, pushes_value, value_there, pops_value}
 use Rattle.lock_free_queues.specs.Queues.Told.{push_told, popped_item, pop_told}
 use Rattle.lock_free_queues.proofs.Queues.Ended.{IsPush, IsPop}
 use Rattle.lock_free_queues.proofs.Queues.Indices.{ends_at}

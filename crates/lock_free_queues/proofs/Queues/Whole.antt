@@ -1,24 +1,10 @@
 -- What the history says to who has the whole share: nobody else published or took out anything.
-use Rattle.std.proofs.Common.{◌≡◌, ℕ, ◌+◌, List, [], ◌∷◌, ◌++◌, length, None, refl, sym, ap, subst, ◌∙◌, append-nil, length-append, sum_by, arith}
-use Rattle.std.proofs.lemmas.Grind.{flat_map-append}
-use Rattle.std.proofs.lemmas.List.Sums.{sum_by-append}
-use Rattle.std.specs.List.{flat_map}
-use Rattle.model.specs.declared.event.Answer.TheVariants.{PoppedNone}
-use Rattle.model.specs.declared.event.Event.{Event}
-use Rattle.model.specs.declared.event.Event.TheVariants.{Begun, Acted, Finished}
-use Rattle.model.specs.declared.event.Item.{Item}
-use Rattle.model.specs.declared.event.Start.TheVariants.{Queues}
-use Rattle.model.specs.declared.families.queues.QueueKind.{QueueKind}
-use Rattle.model.specs.declared.families.queues.QueueStart.TheVariants.{Pop}
-use Rattle.model.specs.Families.Queues.Reading.{publishes, hands_out, published, handed_out}
-use Rattle.threaded.specs.Shares.{IsAll}
-use Rattle.history.specs.declared.view.View.{View}
-use Rattle.history.specs.History.{IsBeginning}
-use Rattle.history.proofs.Known.{sum_first}
-use Rattle.model.specs.declared.turn.Kind.{Kind}
-use Rattle.model.specs.Coding.{Coding}
-use Rattle.laws_queues.proofs.Queues.Invariant.{machine_kind}
-use Rattle.history.specs.Passes.{Goes, MissesNothing}
+use Rattle.lock_free_queues.proofs.Names.{◌≡◌, ℕ, ◌+◌, List, [], ◌∷◌, ◌++◌, length, None, refl, sym, ap, subst, ◌∙◌}
+use Rattle.lock_free_queues.proofs.Names.{append-nil, sum_by, arith, flat_map-append, sum_by-append, flat_map}
+use Rattle.lock_free_queues.proofs.Names.{PoppedNone, Event, Begun, Acted, Finished, Item, Queues, QueueKind, Pop}
+use Rattle.lock_free_queues.proofs.Names.{publishes, hands_out, published, handed_out, IsAll, View, IsBeginning}
+use Rattle.lock_free_queues.proofs.Names.{sum_first, Kind, Coding, machine_kind, Goes, MissesNothing}
+use Rattle.std.proofs.Common.{length-append}
 use Rattle.lock_free_queues.specs.Queues.Told.{HasPopped, FoundNone}
 use Rattle.lock_free_queues.proofs.Queues.Facts.{found_none, listed_always}
 

@@ -1,24 +1,10 @@
 -- Where an event of a call stands in the history, and that nobody else wrote what the holder of a role writes.
-use Rattle.std.proofs.Common.{◌≡◌, ℕ, Bool, true, false, Option, Some, None, List, [], ◌∷◌, ◌++◌, refl, sym, ap, subst}
-use Rattle.std.proofs.Common.{◌∙◌, append_assoc, append-nil, ◌==◌, fold, arith}
-use Rattle.std.proofs.lemmas.Grind.{flat_map-append}
-use Rattle.std.proofs.lemmas.List.Sums.{fold-append}
-use Rattle.std.specs.List.{flat_map}
-use Rattle.steps.specs.declared.queues.roles.Role.{Role}
-use Rattle.steps.specs.declared.queues.roles.Role.TheVariants.{Producer, Consumer}
-use Rattle.history.specs.Roles.{ByHolderOf, role_after, marks}
-use Rattle.history.proofs.Holders.{back_over_of, forth_over_of, ArePlain}
-use Rattle.history.proofs.Known.{by_more}
-use Rattle.model.specs.Families.Queues.Roles.{GrantsRight}
-use Rattle.std.proofs.lemmas.Bool.Decides.{nat_tests}
-use Rattle.model.specs.declared.event.Answer.{Answer}
-use Rattle.model.specs.declared.event.Event.{Event}
-use Rattle.model.specs.declared.event.Event.TheVariants.{Begun, Finished}
-use Rattle.model.specs.declared.event.Start.{Start}
-use Rattle.model.specs.Reading.{Each, whose, is_party}
-use Rattle.history.specs.declared.view.View.{View}
-use Rattle.history.specs.History.{Called, IsBeginning}
-use Rattle.history.specs.Known.{events_by}
+use Rattle.lock_free_queues.proofs.Names.{◌≡◌, ℕ, Bool, true, false, Option, Some, None, List, [], ◌∷◌, ◌++◌, refl}
+use Rattle.lock_free_queues.proofs.Names.{sym, ap, subst, ◌∙◌, append_assoc, append-nil, ◌==◌, fold, arith}
+use Rattle.lock_free_queues.proofs.Names.{flat_map-append, fold-append, flat_map, Role, Producer, Consumer}
+use Rattle.lock_free_queues.proofs.Names.{ByHolderOf, role_after, marks, back_over_of, forth_over_of, ArePlain}
+use Rattle.lock_free_queues.proofs.Names.{by_more, GrantsRight, nat_tests, Answer, Event, Begun, Finished, Start}
+use Rattle.lock_free_queues.proofs.Names.{Each, whose, is_party, View, Called, IsBeginning, events_by}
 
 module _ {T : Type 0} where
   -- the first event of the party stands somewhere

@@ -1,4 +1,4 @@
-use Rattle.plain.specs.States.{snapshot_of}
+use Rattle.laws_turns.proofs.Names.{snapshot_of}
 use Rattle.laws_turns.proofs.Called.{shown_then}
 use Rattle.laws_turns.proofs.state.add_and_show.Goals as goal
 

@@ -1,18 +1,12 @@
 -- A step of a container's table that leaves each word as it is may leave what its seat knows.
-use Rattle.std.proofs.Common.{◌≡◌, ℕ, zero, suc, List, [], ◌∷◌, set, slice_index, refl, sym, ap, subst, ◌∙◌}
+use Rattle.lock_free_owners.proofs.Names.{◌≡◌, ℕ, zero, suc, List, [], ◌∷◌, set, slice_index, refl, sym, ap, subst}
+use Rattle.lock_free_owners.proofs.Names.{◌∙◌, Allows, keeps, written, by_eq, After, Coding, moves, View, IsMachine}
+use Rattle.lock_free_owners.proofs.Names.{set_same}
 use mathlib.Core.Option.{some, some-injective}
 use lib.ListN.{get_elem?}
-use Rattle.atomic_table.specs.Table.{Allows, keeps}
-use Rattle.steps.specs.Ask.{written}
-use Rattle.steps.specs.Picks.{by_eq}
-use Rattle.steps.specs.declared.ask.After.{After}
 use Rattle.steps.specs.declared.ask.Op.TheVariants as ops
 use Rattle.model.specs.declared.turn.Kind.TheVariants as kinds
-use Rattle.model.specs.Coding.{Coding}
-use Rattle.threaded.specs.Driver.{Next, Told, moves}
-use Rattle.history.specs.declared.view.View.{View}
-use Rattle.history.specs.History.{IsMachine}
-use Rattle.history.proofs.Passes.{set_same}
+use Rattle.threaded.specs.Driver.{Next, Told}
 use Rattle.lock_free_owners.specs.Container.Bare.{Still}
 
 -- a list in which what stands there is put there

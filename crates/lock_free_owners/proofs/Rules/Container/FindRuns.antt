@@ -1,13 +1,9 @@
 -- Where a find of a container stands after each step.
-use Rattle.std.proofs.Common.{◌≡◌, ℕ, ◌+◌, ◌<◌, ◌≤◌, nat_lt, arith}
-use Rattle.std.proofs.lemmas.Bool.Decides.{nat_tests}
-use Rattle.steps.specs.Picks.{by_test, by_eq}
-use Rattle.steps.specs.declared.ask.After.{After}
-use Rattle.steps.specs.declared.ask.After.TheVariants.{GoOn, Done}
+use Rattle.lock_free_owners.proofs.Names.{◌≡◌, ℕ, ◌+◌, ◌<◌, ◌≤◌, nat_lt, arith, nat_tests, by_test, by_eq, After}
+use Rattle.lock_free_owners.proofs.Names.{GoOn, Done, is_even}
 use Rattle.steps.specs.declared.container.find.Find.{Find}
 use Rattle.steps.specs.declared.container.find.FindStage as finds
 use Rattle.steps.specs.Indices.Robust.Parts.{one_more}
-use Rattle.steps.specs.Container.Layout.{is_even}
 use Rattle.steps.specs.Container.Find.{at_find, find_comes_to, find_takes, find_after}
 use Rattle.lock_free_owners.specs.Container.Visits.{FindStage, FindStands}
 

@@ -1,25 +1,14 @@
 -- What the closure of a find on a container was called with so far.
-use Rattle.std.proofs.Common.{◌≡◌, ℕ, ◌+◌, ◌^◌, ◌<◌, ◌≤◌, ◌==◌, nat_lt, Bool, true, false, inl, inr, List, [], ◌∷◌}
-use Rattle.std.proofs.Common.{◌++◌, length, refl, sym, ap, subst, ◌∙◌, arith, length-append}
-use Rattle.std.specs.Prelude.{Contains}
-use Rattle.std.specs.List.{All, FoldsTo}
-use Rattle.std.proofs.lemmas.Fn.{FoldsTo-push}
-use Rattle.std.proofs.lemmas.List.{map-append}
-use Rattle.std.proofs.lemmas.List.Elements.{All-nil, All-push, All-weaker, Contains-push, Contains-append_left}
-use Rattle.std.proofs.lemmas.List.Quantifiers.{all_pairs_push}
-use Rattle.steps.specs.Picks.{by_test, by_eq}
-use Rattle.steps.specs.declared.ask.After.{After}
-use Rattle.steps.specs.declared.ask.After.TheVariants.{GoOn, Done}
-use Rattle.steps.specs.declared.enums.CallbackProgression.{CallbackProgression}
-use Rattle.steps.specs.declared.enums.CallbackProgression.TheVariants.{Continue, Stop}
-use Rattle.steps.specs.declared.container.handle.ContainerHandle.{ContainerHandle}
+use Rattle.lock_free_owners.proofs.Names.{◌≡◌, ℕ, ◌+◌, ◌^◌, ◌<◌, ◌≤◌, ◌==◌, nat_lt, Bool, true, false, inl, inr, List}
+use Rattle.lock_free_owners.proofs.Names.{[], ◌∷◌, ◌++◌, length, refl, sym, ap, subst, ◌∙◌, arith, length-append}
+use Rattle.lock_free_owners.proofs.Names.{Contains, All, FoldsTo, FoldsTo-push, map-append, All-nil, All-push}
+use Rattle.lock_free_owners.proofs.Names.{All-weaker, Contains-push, Contains-append_left, all_pairs_push, by_test}
+use Rattle.lock_free_owners.proofs.Names.{by_eq, After, GoOn, Done, CallbackProgression, Continue, Stop}
+use Rattle.lock_free_owners.proofs.Names.{ContainerHandle, is_even, find_keeps, copies_after, Ascends}
 use Rattle.steps.specs.declared.container.find.Find.{Find}
 use Rattle.steps.specs.declared.container.find.FindStage as finds
 use Rattle.steps.specs.Indices.Robust.Parts.{one_more}
-use Rattle.steps.specs.Container.Layout.{is_even}
-use Rattle.steps.specs.Container.Find.{at_find, find_comes_to, find_keeps, find_takes}
-use Rattle.history.specs.ContainerFind.{copies_after}
-use Rattle.threaded.specs.Callable.{Ascends}
+use Rattle.steps.specs.Container.Find.{at_find, find_comes_to, find_takes}
 use Rattle.lock_free_owners.specs.Container.Callable.{Visit, VisitsAscend, goes_on, TakesVisits, HasFound}
 use Rattle.lock_free_owners.specs.Container.Visits.{FindStage, FindAsks, IsNamed, named, visits_of}
 use Rattle.lock_free_owners.proofs.Rules.Robust.Finding.{ascend_push, below_push, below_more}

@@ -1,21 +1,14 @@
 -- A look of a state keeps the rule of a container at each of its stages.
-use Rattle.std.proofs.Common.{◌≡◌, ℕ, ◌+◌, ◌<◌, ◌≤◌, nat_lt, Bool, true, false, List, [], slice_index_or, refl, sym, subst, ◌∙◌, arith}
-use Rattle.std.proofs.lemmas.Bool.Decides.{nat_tests}
-use Rattle.steps.specs.Ask.{written}
-use Rattle.steps.specs.Picks.{by_test, by_eq}
+use Rattle.lock_free_owners.proofs.Names.{◌≡◌, ℕ, ◌+◌, ◌<◌, ◌≤◌, nat_lt, Bool, true, false, List, [], slice_index_or}
+use Rattle.lock_free_owners.proofs.Names.{refl, sym, subst, ◌∙◌, arith, nat_tests, written, by_test, by_eq, After}
+use Rattle.lock_free_owners.proofs.Names.{GoOn, Done, change_word, count_word, element_word, total_words, is_even}
+use Rattle.lock_free_owners.proofs.Names.{Numbers, Showing, at_look, look_asks, look_want, look_comes_to, look_finds}
+use Rattle.lock_free_owners.proofs.Names.{look_takes, look_after, look_kept, Owes, KeepsRule, View, IsMachine, Coding}
 use Rattle.steps.specs.declared.ask.Op.TheVariants as ops
-use Rattle.steps.specs.declared.ask.After.{After}
-use Rattle.steps.specs.declared.ask.After.TheVariants.{GoOn, Done}
 use Rattle.steps.specs.declared.container.look.Look.{Look}
 use Rattle.steps.specs.declared.container.look.LookStage as looks
-use Rattle.steps.specs.Container.Layout.{change_word, count_word, element_word, total_words, is_even}
-use Rattle.steps.specs.Container.State.{Numbers, Showing}
-use Rattle.steps.specs.Container.Look.{at_look, look_asks, look_want, look_comes_to, look_finds, look_takes, look_after, look_kept}
-use Rattle.threaded.specs.Driver.{Next, Owes, Told, KeepsRule}
-use Rattle.history.specs.declared.view.View.{View}
-use Rattle.history.specs.History.{IsMachine}
+use Rattle.threaded.specs.Driver.{Next, Told}
 use Rattle.model.specs.declared.turn.Kind.TheVariants as kinds
-use Rattle.model.specs.Coding.{Coding}
 use Rattle.lock_free_owners.specs.Container.Bare.{Still, LookStage, LookStands, LookEnds}
 use Rattle.lock_free_owners.proofs.Rules.Container.Bare.{Stays, still_tells, leaves, unchanged}
 use Rattle.lock_free_owners.proofs.Rules.Container.Places.{change_fits, count_fits, element_fits}

@@ -1,7 +1,7 @@
 -- The words of a container's elements lie in its table.
-use Rattle.std.proofs.Common.{◌≡◌, ℕ, suc, ◌+◌, ◌*◌, ◌<◌, ◌≤◌, arith}
+use Rattle.lock_free_owners.proofs.Names.{◌≡◌, ℕ, suc, ◌+◌, ◌*◌, ◌<◌, ◌≤◌, arith, change_word, count_word}
+use Rattle.lock_free_owners.proofs.Names.{element_word, total_words}
 use Rattle.std.proofs.Math.Nat.{mul-suc, mul-le-mul_left}
-use Rattle.steps.specs.Container.Layout.{change_word, count_word, element_word, total_words}
 
 in_counts : (cap m index words : ℕ) → words ≡ 2 + (cap + cap) + m + 1 → index < cap → 2 + cap + index < words
 in_counts cap m index words e l = omega arith

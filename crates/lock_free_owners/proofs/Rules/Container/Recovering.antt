@@ -1,31 +1,22 @@
 -- What the closure of a recovery on a container was asked so far.
-use Rattle.std.proofs.Common.{◌≡◌, ℕ, ◌+◌, ◌<◌, ◌≤◌, nat_lt, Bool, true, false, true≢false, ◌==◌, Some, None, List, []}
-use Rattle.std.proofs.Common.{◌∷◌, ◌++◌, length, append-nil, refl, sym, ap, ◌∙◌, subst, arith, if◌then◌else◌}
-use Rattle.std.proofs.Common.{length-append}
-use Rattle.std.specs.List.{All, FoldsTo}
-use Rattle.std.proofs.lemmas.Fn.{FoldsTo-push}
-use Rattle.std.proofs.lemmas.List.Elements.{All-nil, All-push, All-weaker}
-use Rattle.std.proofs.lemmas.List.Quantifiers.{all_pairs_push}
-use Rattle.steps.specs.Picks.{by_test, by_eq}
-use Rattle.steps.specs.declared.ask.After.{After}
-use Rattle.steps.specs.declared.ask.After.TheVariants.{GoOn, Done}
-use Rattle.steps.specs.declared.indices.enums.ReleaseMode.{ReleaseMode}
-use Rattle.steps.specs.declared.indices.enums.ReleaseMode.TheVariants.{LockIfLastIndex, Default}
-use Rattle.steps.specs.declared.indices.enums.ReleaseState.{ReleaseState}
-use Rattle.steps.specs.declared.indices.enums.ReleaseState.TheVariants.{Locked, Unlocked}
+use Rattle.lock_free_owners.proofs.Names.{◌≡◌, ℕ, ◌+◌, ◌<◌, ◌≤◌, nat_lt, Bool, true, false, true≢false, ◌==◌, Some}
+use Rattle.lock_free_owners.proofs.Names.{None, List, [], ◌∷◌, ◌++◌, length, append-nil, refl, sym, ap, ◌∙◌, subst}
+use Rattle.lock_free_owners.proofs.Names.{arith, if◌then◌else◌, length-append, All, FoldsTo, FoldsTo-push, All-nil}
+use Rattle.lock_free_owners.proofs.Names.{All-push, All-weaker, all_pairs_push, by_test, by_eq, After, GoOn, Done}
+use Rattle.lock_free_owners.proofs.Names.{ReleaseMode, LockIfLastIndex, Default, ReleaseState, Unlocked, DeadOwner}
+use Rattle.lock_free_owners.proofs.Names.{locked, raise_after, first_lock, lock_after, is_even, goes_to, recover_sees}
+use Rattle.lock_free_owners.proofs.Names.{recover_ends, recover_raises, recover_keeps, HasFound, MayCome, with_last}
+use Rattle.lock_free_owners.proofs.Names.{told, freed, hides, came_locked, seen_under, IsToFree, IsFreed, by_bool}
+use Rattle.steps.specs.declared.indices.enums.ReleaseState.TheVariants.{Locked}
 use Rattle.steps.specs.declared.indices.robust.parts.Raise as raises
 use Rattle.steps.specs.declared.indices.robust.parts.Lock as locks
 use Rattle.steps.specs.declared.container.recover.Recover.{Recover}
-use Rattle.steps.specs.declared.container.recover.DeadOwner.{DeadOwner}
 use Rattle.steps.specs.declared.container.recover.RecoverStage as recovers
-use Rattle.steps.specs.Indices.Robust.Parts.{locked, raise_after, first_lock, lock_after}
-use Rattle.steps.specs.Container.Layout.{is_even}
-use Rattle.steps.specs.Container.Recover.{goes_to, recover_comes_to, recover_sees, recover_ends, recover_raised}
-use Rattle.steps.specs.Container.Recover.{recover_locked, recover_raises, recover_keeps, recover_takes}
-use Rattle.history.specs.ContainerRecovery.{RecoverIn, Came, HasFound, HasFreed, MayCome, with_last, told, freed}
-use Rattle.history.specs.ContainerRecovery.{hides, came_locked, seen_under, visits_after, IsToFree, IsFreed}
+use Rattle.steps.specs.Container.Recover.{recover_comes_to, recover_raised}
+use Rattle.steps.specs.Container.Recover.{recover_locked, recover_takes}
+use Rattle.history.specs.ContainerRecovery.{RecoverIn, Came, HasFreed}
+use Rattle.history.specs.ContainerRecovery.{visits_after}
 use Rattle.history.specs.ContainerRecovery as came
-use Rattle.history.proofs.CallsIn.{by_bool}
 use Rattle.lock_free_owners.specs.Container.Questions.{Answered, AnswersAscend, asks, TakesValues}
 use Rattle.lock_free_owners.specs.Container.RecoverTold.{question_at, questions_of, AreVisits}
 use Rattle.lock_free_owners.specs.Container.RecoverTurns.{RecoverAsks}

@@ -1,9 +1,6 @@
 -- Indices that ascend, as those that a find comes to.
-use Rattle.std.proofs.Common.{ℕ, ◌+◌, ◌<◌, List, [], ◌∷◌, ◌++◌, arith}
-use Rattle.std.specs.List.{All}
-use Rattle.std.proofs.lemmas.List.Elements.{All-push, All-weaker}
-use Rattle.std.proofs.lemmas.List.Quantifiers.{all_pairs_push}
-use Rattle.threaded.specs.Callable.{Ascends}
+use Rattle.lock_free_owners.proofs.Names.{ℕ, ◌+◌, ◌<◌, List, [], ◌∷◌, ◌++◌, arith, All, All-push, All-weaker}
+use Rattle.lock_free_owners.proofs.Names.{all_pairs_push, Ascends}
 
 pub ascend_push : (cap : ℕ) (xs : List ℕ) (x : ℕ) → Ascends cap xs → All (λ y. y < x) xs → x < cap → Ascends cap (xs ++ x ∷ [])
 ascend_push cap xs x h below within = (all_pairs_push (λ y z. y < z) xs x h.0 below, All-push (λ y. y < cap) xs x h.1 within)

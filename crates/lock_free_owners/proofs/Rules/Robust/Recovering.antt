@@ -1,29 +1,21 @@
 -- What the closures of a recovery were called with so far.
 use mathlib.Core.List.{map-append}
-use Rattle.std.proofs.Common.{◌≡◌, ℕ, ◌+◌, ◌<◌, ◌≤◌, ◌==◌, nat_lt, Bool, true, false, List, [], ◌∷◌, ◌++◌, map, filter}
-use Rattle.std.proofs.Common.{append-nil, refl, sym, ap, ◌∙◌, subst, arith}
-use Rattle.std.specs.List.{All, FoldsTo}
-use Rattle.std.proofs.lemmas.Fn.{FoldsTo-push}
-use Rattle.std.proofs.lemmas.List.{length-map, get_or-map}
-use Rattle.std.proofs.lemmas.List.Elements.{All-nil, All-push, All-weaker, Contains-push, filter-append}
-use Rattle.std.proofs.lemmas.List.Quantifiers.{all_pairs_push}
-use Rattle.steps.specs.Picks.{by_test, by_eq}
-use Rattle.steps.specs.declared.ask.After.{After}
-use Rattle.steps.specs.declared.ask.After.TheVariants.{GoOn, Done}
-use Rattle.steps.specs.declared.indices.enums.ReleaseMode.{ReleaseMode}
-use Rattle.steps.specs.declared.indices.enums.ReleaseMode.TheVariants.{LockIfLastIndex, Default}
-use Rattle.steps.specs.declared.indices.enums.ReleaseState.{ReleaseState}
-use Rattle.steps.specs.declared.indices.enums.ReleaseState.TheVariants.{Locked, Unlocked}
+use Rattle.lock_free_owners.proofs.Names.{◌≡◌, ℕ, ◌+◌, ◌<◌, ◌≤◌, ◌==◌, nat_lt, Bool, true, false, List, [], ◌∷◌, ◌++◌}
+use Rattle.lock_free_owners.proofs.Names.{map, filter, append-nil, refl, sym, ap, ◌∙◌, subst, arith, All, FoldsTo}
+use Rattle.lock_free_owners.proofs.Names.{FoldsTo-push, length-map, get_or-map, All-nil, All-push, All-weaker}
+use Rattle.lock_free_owners.proofs.Names.{Contains-push, filter-append, all_pairs_push, by_test, by_eq, After, GoOn}
+use Rattle.lock_free_owners.proofs.Names.{Done, ReleaseMode, LockIfLastIndex, Default, ReleaseState, Unlocked, empty}
+use Rattle.lock_free_owners.proofs.Names.{locked, raise_after, lock_after, at_recover, number_of, HasAsked, WasTold}
+use Rattle.lock_free_owners.proofs.Names.{HasLocked, Visit, visit, came_to, HasCome, visits_locked, visits_taken}
+use Rattle.lock_free_owners.proofs.Names.{came_last}
+use Rattle.steps.specs.declared.indices.enums.ReleaseState.TheVariants.{Locked}
 use Rattle.steps.specs.declared.indices.robust.parts.Raise as raises
 use Rattle.steps.specs.declared.indices.robust.parts.Lock as locks
 use Rattle.steps.specs.declared.indices.robust.recover.Recover.{Recover}
 use Rattle.steps.specs.declared.indices.robust.recover.RecoverStage as recovers
-use Rattle.steps.specs.Indices.Robust.Parts.{empty, locked, raise_after, lock_after}
-use Rattle.steps.specs.Indices.Robust.Recover.{at_recover, recover_comes_to, recover_raised, recover_locked, recover_takes}
-use Rattle.model.specs.Turns.{number_of}
-use Rattle.history.specs.Robust.{Came, HasAsked, WasTold, HasFreed, HasLocked, Visit, visit, came_to, HasCome}
-use Rattle.history.specs.Robust.{VisitsAt, visits_locked, visits_taken, visits_after}
-use Rattle.history.proofs.RobustVisits.{came_last}
+use Rattle.steps.specs.Indices.Robust.Recover.{recover_comes_to, recover_raised, recover_locked, recover_takes}
+use Rattle.history.specs.Robust.{Came, HasFreed}
+use Rattle.history.specs.Robust.{VisitsAt, visits_after}
 use Rattle.lock_free_owners.specs.Robust.Callable.{Owned, Asked, IsOwned, TheyAscend, QuestionsAscend, WasAgreed, asks}
 use Rattle.lock_free_owners.specs.Robust.Callable.{tells, TakesQuestions, TakesFreed, was_freed, owned_at, question_at}
 use Rattle.lock_free_owners.specs.Robust.Callable.{questions_of, freed_of}

@@ -1,4 +1,4 @@
-use Rattle.history.proofs.Containers.{is_open_container}
+use Rattle.lock_free_owners.proofs.Names.{is_open_container}
 use Rattle.lock_free_owners.proofs.laws.container_histories_are_contained.Goals as goal
 
 pub returns : goal.returns

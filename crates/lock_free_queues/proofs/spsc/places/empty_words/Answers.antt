@@ -1,6 +1,5 @@
-use Rattle.std.proofs.Common.{◌≡◌, ℕ, ◌+◌, suc, List, [], ◌∷◌, ◌++◌, set, replicate, ap, ◌∙◌, arith}
-use Rattle.std.proofs.lemmas.Grind.{common_steps}
-use Rattle.history.proofs.Passes.{one_more}
+use Rattle.lock_free_queues.proofs.Names.{◌≡◌, ℕ, ◌+◌, suc, List, [], ◌∷◌, ◌++◌, set, replicate, ap, ◌∙◌, arith}
+use Rattle.lock_free_queues.proofs.Names.{common_steps, one_more}
 use Rattle.lock_free_queues.proofs.spsc.places.empty_words.Goals as goal
 
 -- the words with the positions and the roles

@@ -1,11 +1,7 @@
-use Rattle.std.proofs.Common.{◌<◌, [], rules, sym, ap, subst}
+use Rattle.lock_free_owners.proofs.Names.{◌<◌, [], rules, sym, ap, subst, Coding, IsCoding, coding_of, fresh_cell}
+use Rattle.lock_free_owners.proofs.Names.{seen, SetId, Goes}
 use Rattle.steps.specs.Container.Find.{first_find}
-use Rattle.model.specs.Coding.{Coding, IsCoding, coding_of}
-use Rattle.model.specs.Families.Queues.Calls.{fresh_cell}
 use Rattle.model.specs.declared.turn.Kind.TheVariants as kinds
-use Rattle.threaded.specs.Seats.{seen}
-use Rattle.threaded.specs.Sets.{SetId}
-use Rattle.history.specs.Passes.{Goes}
 use Rattle.lock_free_owners.specs.Container.Callable.{TakesVisits, HasFound}
 use Rattle.lock_free_owners.specs.Container.FindTold.{HasSearched}
 use Rattle.lock_free_owners.specs.Container.FindTurns.{FindAt}

@@ -1,16 +1,8 @@
-use Rattle.std.proofs.Common.{◌≡◌, ℕ, rules, sym, ap, subst, ◌∙◌}
-use Rattle.steps.specs.Container.Look.{first_look}
-use Rattle.steps.specs.Container.State.{no_numbers, shows_nothing, shown_number}
-use Rattle.model.specs.Coding.{Coding, IsCoding, coding_of}
-use Rattle.model.specs.declared.event.Answer.TheVariants.{Number}
+use Rattle.lock_free_owners.proofs.Names.{◌≡◌, ℕ, rules, sym, ap, subst, ◌∙◌, first_look, no_numbers, shows_nothing}
+use Rattle.lock_free_owners.proofs.Names.{shown_number, Coding, IsCoding, coding_of, Number, GetState, seen, SetId}
+use Rattle.lock_free_owners.proofs.Names.{HasCopied, HasLookedAll, Goes}
 use Rattle.model.specs.declared.families.container.ContainerStart.TheVariants as starts
-use Rattle.model.specs.declared.families.container.calls.LookOf.TheVariants.{GetState}
 use Rattle.model.specs.declared.turn.Kind.TheVariants as kinds
-use Rattle.threaded.specs.Seats.{seen}
-use Rattle.threaded.specs.Sets.{SetId}
-use Rattle.history.specs.ContainerFind.{HasCopied}
-use Rattle.history.specs.ContainerLooks.{HasLookedAll}
-use Rattle.history.specs.Passes.{Goes}
 use Rattle.lock_free_owners.specs.Container.LookTurns.{IsOnHistory, LookAt}
 use Rattle.lock_free_owners.proofs.ContainerSet.Looks.{look_begins, look_idle, look_goes, look_made, made_as, some_copied, latest_so}
 use Rattle.lock_free_owners.proofs.mpmc.container.Container.get_state.Goals as goal

@@ -1,5 +1,4 @@
-use Rattle.model.specs.declared.families.container.calls.LookOf.TheVariants.{GetState}
-use Rattle.threaded.specs.Seats.{seen}
+use Rattle.lock_free_owners.proofs.Names.{GetState, seen}
 use Rattle.lock_free_owners.proofs.mpmc.container.Container.get_state.Given as goal
 
 -- the new state begins it

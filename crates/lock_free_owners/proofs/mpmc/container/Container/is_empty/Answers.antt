@@ -1,11 +1,6 @@
-use Rattle.std.proofs.Common.{rules, subst}
-use Rattle.steps.specs.Indices.Robust.Looks.{first_borrowed}
-use Rattle.model.specs.Coding.{Coding, coding_of}
+use Rattle.lock_free_owners.proofs.Names.{rules, subst, first_borrowed, Coding, coding_of, seen, counts_values, Goes}
 use Rattle.model.specs.declared.families.container.calls.CountOf.TheVariants as counts
 use Rattle.model.specs.declared.turn.Kind.TheVariants as kinds
-use Rattle.threaded.specs.Seats.{seen}
-use Rattle.history.specs.Container.{counts_values}
-use Rattle.history.specs.Passes.{Goes}
 use Rattle.lock_free_owners.specs.Container.Turns.{BeginsCount, CountAt}
 use Rattle.lock_free_owners.proofs.ContainerSet.Begins.{count_begins}
 use Rattle.lock_free_owners.proofs.ContainerSet.Facts.{goes, tested, tested_answered, tested_none}

@@ -1,9 +1,5 @@
-use Rattle.std.proofs.Common.{rules, subst}
-use Rattle.model.specs.Coding.{Coding, coding_of}
+use Rattle.lock_free_owners.proofs.Names.{rules, subst, Coding, coding_of, seen, sees_lock, Goes}
 use Rattle.model.specs.declared.turn.Kind.TheVariants as kinds
-use Rattle.threaded.specs.Seats.{seen}
-use Rattle.history.specs.Container.{sees_lock}
-use Rattle.history.specs.Passes.{Goes}
 use Rattle.lock_free_owners.specs.Container.Turns.{BeginsLock}
 use Rattle.lock_free_owners.proofs.ContainerSet.Begins.{lock_keeps, lock_begins}
 use Rattle.lock_free_owners.proofs.ContainerSet.Facts.{goes, looked, looked_answered, looked_lock}

@@ -1,12 +1,7 @@
-use Rattle.std.proofs.Common.{◌≤◌, rules, ap, subst, ◌∙◌}
-use Rattle.steps.specs.Indices.Robust.Looks.{first_borrowed}
-use Rattle.model.specs.Coding.{Coding, coding_of}
+use Rattle.lock_free_owners.proofs.Names.{◌≤◌, rules, ap, subst, ◌∙◌, first_borrowed, Coding, coding_of, seen, SetId}
+use Rattle.lock_free_owners.proofs.Names.{counts_values, Goes}
 use Rattle.model.specs.declared.families.container.calls.CountOf.TheVariants as counts
 use Rattle.model.specs.declared.turn.Kind.TheVariants as kinds
-use Rattle.threaded.specs.Seats.{seen}
-use Rattle.threaded.specs.Sets.{SetId}
-use Rattle.history.specs.Container.{counts_values}
-use Rattle.history.specs.Passes.{Goes}
 use Rattle.lock_free_owners.specs.Container.Turns.{BeginsCount, CountAt}
 use Rattle.lock_free_owners.proofs.ContainerSet.Begins.{count_begins}
 use Rattle.lock_free_owners.proofs.ContainerSet.Facts.{goes, counted, counted_answered, counted_most, counted_none}

@@ -1,12 +1,7 @@
-use Rattle.std.proofs.Common.{[], rules, sym, ap, subst}
+use Rattle.lock_free_owners.proofs.Names.{[], rules, sym, ap, subst, DeadOwner, Coding, IsCoding, coding_of}
+use Rattle.lock_free_owners.proofs.Names.{fresh_cell, seen, SetId, Goes}
 use Rattle.steps.specs.Container.Recover.{first_recover}
-use Rattle.steps.specs.declared.container.recover.DeadOwner.{DeadOwner}
-use Rattle.model.specs.Coding.{Coding, IsCoding, coding_of}
-use Rattle.model.specs.Families.Queues.Calls.{fresh_cell}
 use Rattle.model.specs.declared.turn.Kind.TheVariants as kinds
-use Rattle.threaded.specs.Seats.{seen}
-use Rattle.threaded.specs.Sets.{SetId}
-use Rattle.history.specs.Passes.{Goes}
 use Rattle.lock_free_owners.specs.Container.Questions.{TakesValues}
 use Rattle.lock_free_owners.specs.Container.RecoverTold.{HasRecovered}
 use Rattle.lock_free_owners.specs.Container.RecoverTurns.{RecoverAt}

@@ -1,12 +1,6 @@
-use Rattle.std.proofs.Common.{◌<◌, rules, sym, ap, subst, ◌∙◌, arith}
-use Rattle.steps.specs.Container.Remove.{first_remove}
-use Rattle.steps.specs.declared.indices.robust.release.GiveBack.{GiveBack}
-use Rattle.model.specs.Coding.{Coding, coding_of}
+use Rattle.lock_free_owners.proofs.Names.{◌<◌, rules, sym, ap, subst, ◌∙◌, arith, first_remove, GiveBack, Coding}
+use Rattle.lock_free_owners.proofs.Names.{coding_of, seen, SetId, removes_value, Goes}
 use Rattle.model.specs.declared.turn.Kind.TheVariants as kinds
-use Rattle.threaded.specs.Seats.{seen}
-use Rattle.threaded.specs.Sets.{SetId}
-use Rattle.history.specs.Container.{removes_value}
-use Rattle.history.specs.Passes.{Goes}
 use Rattle.lock_free_owners.specs.Container.Turns.{BeginsRemove, RemoveAt}
 use Rattle.lock_free_owners.proofs.ContainerSet.Begins.{remove_keeps, remove_begins}
 use Rattle.lock_free_owners.proofs.ContainerSet.Facts.{goes, has_removed, removed_answered, freed, released}

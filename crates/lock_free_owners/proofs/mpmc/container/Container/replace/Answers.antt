@@ -1,12 +1,6 @@
-use Rattle.std.proofs.Common.{◌<◌, rules, sym, ap, subst, ◌∙◌, arith}
-use Rattle.steps.specs.Container.Replace.{first_replace}
-use Rattle.steps.specs.declared.container.replace.Replacement.{Replacement}
-use Rattle.model.specs.Coding.{Coding, IsCoding, coding_of}
+use Rattle.lock_free_owners.proofs.Names.{◌<◌, rules, sym, ap, subst, ◌∙◌, arith, first_replace, Replacement, Coding}
+use Rattle.lock_free_owners.proofs.Names.{IsCoding, coding_of, seen, SetId, replaces_value, Goes}
 use Rattle.model.specs.declared.turn.Kind.TheVariants as kinds
-use Rattle.threaded.specs.Seats.{seen}
-use Rattle.threaded.specs.Sets.{SetId}
-use Rattle.history.specs.Container.{replaces_value}
-use Rattle.history.specs.Passes.{Goes}
 use Rattle.lock_free_owners.specs.Container.Turns.{BeginsReplace, ReplaceAt}
 use Rattle.lock_free_owners.proofs.ContainerSet.Begins.{replace_keeps, replace_begins}
 use Rattle.lock_free_owners.proofs.ContainerSet.Facts.{goes, has_replaced, replaced_answered}

@@ -1,12 +1,7 @@
-use Rattle.std.proofs.Common.{◌<◌, ℕ, rules, sym, ap, subst, ◌∙◌}
-use Rattle.steps.specs.Container.Look.{first_look}
-use Rattle.model.specs.Coding.{Coding, IsCoding, coding_of}
-use Rattle.model.specs.declared.families.container.calls.LookOf.TheVariants.{UpdateState}
+use Rattle.lock_free_owners.proofs.Names.{◌<◌, ℕ, rules, sym, ap, subst, ◌∙◌, first_look, Coding, IsCoding, coding_of}
+use Rattle.lock_free_owners.proofs.Names.{UpdateState, seen, SetId, Goes}
 use Rattle.model.specs.declared.turn.Kind.TheVariants as kinds
-use Rattle.threaded.specs.Seats.{seen}
-use Rattle.threaded.specs.Sets.{SetId}
 use Rattle.threaded.specs.declared.share.Share.{Share}
-use Rattle.history.specs.Passes.{Goes}
 use Rattle.lock_free_owners.specs.Container.LookTurns.{LookAt}
 use Rattle.lock_free_owners.proofs.ContainerSet.Looks.{look_begins, look_idle, look_goes, look_made, latest_so, on_history, of_history, left_so}
 use Rattle.lock_free_owners.proofs.ContainerSet.SameStates.{decide}

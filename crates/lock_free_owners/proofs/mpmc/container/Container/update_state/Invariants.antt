@@ -1,5 +1,4 @@
-use Rattle.model.specs.declared.families.container.calls.LookOf.TheVariants.{UpdateState}
-use Rattle.threaded.specs.Seats.{seen}
+use Rattle.lock_free_owners.proofs.Names.{UpdateState, seen}
 use Rattle.lock_free_owners.proofs.mpmc.container.Container.update_state.Given as goal
 
 -- the state as it is given begins it

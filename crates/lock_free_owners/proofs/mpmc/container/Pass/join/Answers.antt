@@ -1,16 +1,7 @@
-use Rattle.std.proofs.Common.{◌≡◌, ◌<◌, ℕ, List, [], rules, sym, ap, subst, ◌∙◌, arith}
-use Rattle.atomic_table.specs.Seated.{TableId}
-use Rattle.atomic_table.specs.Table.{Me, Allows}
-use Rattle.model.specs.Coding.{Coding, coding_of}
+use Rattle.lock_free_owners.proofs.Names.{◌≡◌, ◌<◌, ℕ, List, [], rules, sym, ap, subst, ◌∙◌, arith, TableId, Me}
+use Rattle.lock_free_owners.proofs.Names.{Allows, Coding, coding_of, View, IsAll, IsMachine, IsHistory, SettledFrom}
+use Rattle.lock_free_owners.proofs.Names.{joined_view, Looks, positive, joins, looks}
 use Rattle.model.specs.declared.turn.Kind.TheVariants as kinds
-use Rattle.history.specs.declared.view.View.{View}
-use Rattle.threaded.specs.Shares.{IsAll}
-use Rattle.history.specs.History.{IsMachine, IsHistory}
-use Rattle.history.specs.Settled.{SettledFrom}
-use Rattle.history.specs.Views.{joined_view, Looks}
-use Rattle.threaded.proofs.Shares.{positive}
-use Rattle.history.proofs.Passes.{joins}
-use Rattle.history.proofs.PassLooks.{looks}
 use Rattle.lock_free_owners.proofs.ContainerSet.Begins.{settles_or_stays}
 use Rattle.lock_free_owners.proofs.ContainerSet.Passes.{settled}
 use Rattle.lock_free_owners.proofs.mpmc.container.Pass.join.Goals as goal

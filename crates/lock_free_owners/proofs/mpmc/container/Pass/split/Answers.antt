@@ -1,8 +1,5 @@
-use Rattle.std.proofs.Common.{◌≡◌, ◌<◌, rules, subst, arith}
-use Rattle.atomic_table.specs.Seated.{TableId}
-use Rattle.model.specs.Coding.{coding_of}
+use Rattle.lock_free_owners.proofs.Names.{◌≡◌, ◌<◌, rules, subst, arith, TableId, coding_of, splits}
 use Rattle.model.specs.declared.turn.Kind.TheVariants as kinds
-use Rattle.history.proofs.Passes.{splits}
 use Rattle.lock_free_owners.proofs.mpmc.container.Pass.split.Goals as goal
 
 pub split_seat-seat-requires : goal.split_seat-seat-requires

@@ -1,6 +1,4 @@
-use Rattle.std.proofs.Common.{◌∙◌, sym, subst}
-use Rattle.model.specs.Coding.{Coding, coding_of}
-use Rattle.threaded.specs.Seats.{seen}
+use Rattle.lock_free_owners.proofs.Names.{◌∙◌, sym, subst, Coding, coding_of, seen}
 use Rattle.lock_free_owners.specs.Container.Turns.{CountAt, CountEnds}
 use Rattle.lock_free_owners.proofs.RobustSet.Turns.{gone_on, has_ended}
 use Rattle.lock_free_owners.proofs.mpmc.container.counts.count_all.Goals as goal

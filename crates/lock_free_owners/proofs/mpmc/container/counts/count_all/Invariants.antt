@@ -1,5 +1,4 @@
-use Rattle.model.specs.Coding.{coding_of}
-use Rattle.threaded.specs.Seats.{seen, IsSame}
+use Rattle.lock_free_owners.proofs.Names.{coding_of, seen, IsSame}
 use Rattle.lock_free_owners.specs.Container.Turns.{IsBoard, CountAt}
 use Rattle.lock_free_owners.proofs.mpmc.container.counts.count_all.Given as goal
 

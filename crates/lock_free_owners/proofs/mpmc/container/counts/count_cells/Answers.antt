@@ -1,7 +1,5 @@
-use Rattle.std.proofs.Common.{◌∙◌, sym, subst}
+use Rattle.lock_free_owners.proofs.Names.{◌∙◌, sym, subst, Coding, coding_of, seen}
 use Rattle.steps.specs.declared.indices.robust.looks.BorrowedIndices.{BorrowedIndices}
-use Rattle.model.specs.Coding.{Coding, coding_of}
-use Rattle.threaded.specs.Seats.{seen}
 use Rattle.lock_free_owners.specs.Container.Turns.{CountAt, CountEnds}
 use Rattle.lock_free_owners.proofs.RobustSet.Turns.{gone_on, has_ended, loads_next, loads}
 use Rattle.lock_free_owners.proofs.mpmc.container.counts.count_cells.Goals as goal

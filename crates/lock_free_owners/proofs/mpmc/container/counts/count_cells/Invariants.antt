@@ -1,8 +1,5 @@
-use Rattle.std.proofs.Common.{◌-◌}
+use Rattle.lock_free_owners.proofs.Names.{◌-◌, View, coding_of, seen, IsSame}
 use Rattle.steps.specs.declared.indices.robust.parts.Count.TheVariants as stages
-use Rattle.history.specs.declared.view.View.{View}
-use Rattle.model.specs.Coding.{coding_of}
-use Rattle.threaded.specs.Seats.{seen, IsSame}
 use Rattle.lock_free_owners.specs.Container.Turns.{IsBoard, CountAt}
 use Rattle.lock_free_owners.proofs.mpmc.container.counts.count_cells.Given as goal
 

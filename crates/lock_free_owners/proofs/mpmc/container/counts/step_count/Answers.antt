@@ -1,4 +1,4 @@
-use Rattle.model.specs.Coding.{coding_of}
+use Rattle.lock_free_owners.proofs.Names.{coding_of}
 use Rattle.lock_free_owners.proofs.ContainerSet.Begins.{count_keeps}
 use Rattle.lock_free_owners.proofs.mpmc.container.counts.step_count.Goals as goal
 

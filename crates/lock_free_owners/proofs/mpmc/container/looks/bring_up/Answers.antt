@@ -1,7 +1,5 @@
-use Rattle.std.proofs.Common.{◌≡◌, false, sym, ap, subst, ◌∙◌}
-use Rattle.steps.specs.Container.Look.{look_after}
-use Rattle.model.specs.Coding.{Coding, IsCoding, coding_of}
-use Rattle.threaded.specs.Seats.{seen}
+use Rattle.lock_free_owners.proofs.Names.{◌≡◌, false, sym, ap, subst, ◌∙◌, look_after, Coding, IsCoding, coding_of}
+use Rattle.lock_free_owners.proofs.Names.{seen}
 use Rattle.lock_free_owners.specs.Container.LookTurns.{LookAt, LookOver}
 use Rattle.lock_free_owners.proofs.ContainerSet.Looks.{look_keeps, look_on_keeps, first_leads, goes_from, ends_from, past_from, false_from}
 use Rattle.lock_free_owners.proofs.mpmc.container.looks.bring_up.Goals as goal

@@ -1,9 +1,7 @@
-use Rattle.std.proofs.Common.{◌≡◌, ◌+◌, ◌*◌, ◌-◌, [], ◌∷◌, ◌++◌, take, length, rules, ap, ◌∙◌, arith}
-use Rattle.std.proofs.lemmas.List.{take_all, length-replicate}
-use Rattle.std.specs.Prelude.{vec_len, replicate}
-use Rattle.steps.specs.Container.Layout.{total_words}
-use Rattle.steps.specs.Indices.Robust.Parts.{empty}
-use Rattle.model.specs.Coding.{Coding, IsCoding, coding_of}
+use Rattle.lock_free_owners.proofs.Names.{◌≡◌, ◌+◌, ◌*◌, ◌-◌, [], ◌∷◌, ◌++◌, take, length, rules, ap, ◌∙◌, arith}
+use Rattle.lock_free_owners.proofs.Names.{take_all, length-replicate, vec_len, total_words, empty, Coding, IsCoding}
+use Rattle.lock_free_owners.proofs.Names.{coding_of}
+use Rattle.std.specs.Prelude.{replicate}
 use Rattle.lock_free_owners.proofs.ContainerSet.Opens.{container_opens, filled}
 use Rattle.lock_free_owners.proofs.mpmc.container.make.open.Goals as goal
 

@@ -1,7 +1,4 @@
-use Rattle.std.proofs.Common.{refl, subst, ◌∙◌}
-use Rattle.model.specs.Coding.{Coding, IsCoding, coding_of}
-use Rattle.model.specs.Families.Queues.Calls.{fresh_cell}
-use Rattle.threaded.specs.Seats.{seen}
+use Rattle.lock_free_owners.proofs.Names.{refl, subst, ◌∙◌, Coding, IsCoding, coding_of, fresh_cell, seen}
 use Rattle.lock_free_owners.proofs.ContainerSet.Recoveries.{Further, starts, further, may_go}
 use Rattle.lock_free_owners.proofs.mpmc.container.recovery.free_all.Goals as goal
 use Rattle.lock_free_owners.proofs.mpmc.container.recovery.free_all.Given as given

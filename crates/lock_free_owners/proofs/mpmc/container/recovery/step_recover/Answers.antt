@@ -1,13 +1,8 @@
-use Rattle.std.proofs.Common.{◌≡◌, ℕ, ◌+◌, List, [], sym, ap, subst, ◌∙◌}
-use Rattle.steps.specs.Container.Layout.{total_words}
+use Rattle.lock_free_owners.proofs.Names.{◌≡◌, ℕ, ◌+◌, List, [], sym, ap, subst, ◌∙◌, total_words, Coding, IsCoding}
+use Rattle.lock_free_owners.proofs.Names.{coding_of, Owes, seen, table_of, key_of, weaker_owes, View, IsMachine}
 use Rattle.steps.specs.Container.Recover.{recover_want}
-use Rattle.model.specs.Coding.{Coding, IsCoding, coding_of}
 use Rattle.model.specs.declared.turn.Kind.TheVariants as kinds
-use Rattle.threaded.specs.Driver.{Owes, Told}
-use Rattle.threaded.specs.Seats.{seen, table_of, key_of}
-use Rattle.threaded.proofs.Driving.{weaker_owes}
-use Rattle.history.specs.declared.view.View.{View}
-use Rattle.history.specs.History.{IsMachine}
+use Rattle.threaded.specs.Driver.{Told}
 use Rattle.lock_free_owners.specs.Container.RecoverTurns.{RecoverAt, RecoverEnds, recover_goes, recover_visiting, RecoverTells}
 use Rattle.lock_free_owners.proofs.ContainerSet.RecoverTurns.{recover_keeps, recover_tells}
 use Rattle.lock_free_owners.proofs.mpmc.container.recovery.step_recover.Goals as goal

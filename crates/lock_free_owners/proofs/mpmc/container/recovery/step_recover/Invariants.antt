@@ -1,5 +1,4 @@
-use Rattle.std.proofs.Common.{◌≡◌}
-use Rattle.model.specs.Coding.{coding_of}
+use Rattle.lock_free_owners.proofs.Names.{◌≡◌, coding_of}
 use Rattle.lock_free_owners.specs.Container.RecoverTurns.{RecoverTells}
 use Rattle.lock_free_owners.proofs.mpmc.container.recovery.step_recover.Given as goal
 

@@ -1,7 +1,5 @@
-use Rattle.std.proofs.Common.{◌<◌, ◌^◌, rules, refl, sym, subst, ◌∙◌}
-use Rattle.model.specs.Coding.{Coding, IsCoding, coding_of}
-use Rattle.model.specs.Families.Queues.Calls.{fresh_cell}
-use Rattle.threaded.specs.Seats.{seen}
+use Rattle.lock_free_owners.proofs.Names.{◌<◌, ◌^◌, rules, refl, sym, subst, ◌∙◌, Coding, IsCoding, coding_of}
+use Rattle.lock_free_owners.proofs.Names.{fresh_cell, seen}
 use Rattle.lock_free_owners.proofs.ContainerSet.Finds.{Over, Further, starts, further, may_go}
 use Rattle.lock_free_owners.proofs.mpmc.container.visits.find_all.Goals as goal
 use Rattle.lock_free_owners.proofs.mpmc.container.visits.find_all.Given as given

@@ -1,6 +1,5 @@
+use Rattle.lock_free_owners.proofs.Names.{coding_of, seen, IsSame}
 use Rattle.steps.specs.Container.Find.{find_left}
-use Rattle.model.specs.Coding.{coding_of}
-use Rattle.threaded.specs.Seats.{seen, IsSame}
 use Rattle.lock_free_owners.specs.Container.Turns.{IsBoard}
 use Rattle.lock_free_owners.proofs.ContainerSet.Finds.{Searching}
 use Rattle.lock_free_owners.proofs.mpmc.container.visits.find_all.Given as goal

@@ -1,13 +1,8 @@
-use Rattle.std.proofs.Common.{◌≡◌, ℕ, ◌+◌, List, [], sym, ap, subst, ◌∙◌}
-use Rattle.steps.specs.Container.Find.{find_want}
-use Rattle.steps.specs.Container.Layout.{total_words}
-use Rattle.model.specs.Coding.{Coding, IsCoding, coding_of}
+use Rattle.lock_free_owners.proofs.Names.{◌≡◌, ℕ, ◌+◌, List, [], sym, ap, subst, ◌∙◌, find_want, total_words, Coding}
+use Rattle.lock_free_owners.proofs.Names.{IsCoding, coding_of, Owes, seen, table_of, key_of, weaker_owes, View}
+use Rattle.lock_free_owners.proofs.Names.{IsMachine}
 use Rattle.model.specs.declared.turn.Kind.TheVariants as kinds
-use Rattle.threaded.specs.Driver.{Owes, Told}
-use Rattle.threaded.specs.Seats.{seen, table_of, key_of}
-use Rattle.threaded.proofs.Driving.{weaker_owes}
-use Rattle.history.specs.declared.view.View.{View}
-use Rattle.history.specs.History.{IsMachine}
+use Rattle.threaded.specs.Driver.{Told}
 use Rattle.lock_free_owners.specs.Container.FindTurns.{FindAt, FindDone, find_goes, find_copying, FindTells}
 use Rattle.lock_free_owners.proofs.ContainerSet.FindTurns.{find_keeps, find_tells, at_its_word}
 use Rattle.lock_free_owners.proofs.mpmc.container.visits.step_find.Goals as goal

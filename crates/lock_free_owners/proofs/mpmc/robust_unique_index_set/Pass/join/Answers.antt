@@ -1,14 +1,6 @@
-use Rattle.std.proofs.Common.{◌≡◌, ◌<◌, ℕ, [], rules, sym, ap, subst, ◌∙◌, arith}
-use Rattle.atomic_table.specs.Seated.{TableId}
-use Rattle.atomic_table.specs.Table.{Me, Allows}
-use Rattle.model.specs.Coding.{one_word}
+use Rattle.lock_free_owners.proofs.Names.{◌≡◌, ◌<◌, ℕ, [], rules, sym, ap, subst, ◌∙◌, arith, TableId, Me, Allows}
+use Rattle.lock_free_owners.proofs.Names.{one_word, View, IsMachine, joined_view, Looks, positive, joins, looks}
 use Rattle.model.specs.declared.turn.Kind.TheVariants as kinds
-use Rattle.history.specs.declared.view.View.{View}
-use Rattle.history.specs.History.{IsMachine}
-use Rattle.history.specs.Views.{joined_view, Looks}
-use Rattle.threaded.proofs.Shares.{positive}
-use Rattle.history.proofs.Passes.{joins}
-use Rattle.history.proofs.PassLooks.{looks}
 use Rattle.lock_free_owners.proofs.mpmc.robust_unique_index_set.Pass.join.Goals as goal
 
 pub join_seat-requires : goal.join_seat-requires

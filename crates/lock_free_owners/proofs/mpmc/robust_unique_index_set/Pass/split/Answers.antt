@@ -1,8 +1,5 @@
-use Rattle.std.proofs.Common.{◌≡◌, ◌<◌, rules, subst, arith}
-use Rattle.atomic_table.specs.Seated.{TableId}
-use Rattle.model.specs.Coding.{one_word}
+use Rattle.lock_free_owners.proofs.Names.{◌≡◌, ◌<◌, rules, subst, arith, TableId, one_word, splits}
 use Rattle.model.specs.declared.turn.Kind.TheVariants as kinds
-use Rattle.history.proofs.Passes.{splits}
 use Rattle.lock_free_owners.proofs.mpmc.robust_unique_index_set.Pass.split.Goals as goal
 
 pub split_seat-seat-requires : goal.split_seat-seat-requires

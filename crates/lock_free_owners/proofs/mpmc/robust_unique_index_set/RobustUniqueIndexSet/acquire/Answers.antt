@@ -1,8 +1,5 @@
-use Rattle.std.proofs.Common.{◌≡◌, Err, IfOk, IfErr, rules, subst}
-use Rattle.steps.specs.Indices.Robust.Acquire.{Acquired, first_acquire}
-use Rattle.model.specs.Coding.{one_word}
-use Rattle.threaded.specs.Seats.{seen}
-use Rattle.history.proofs.RobustCalls.{acquire_first}
+use Rattle.lock_free_owners.proofs.Names.{◌≡◌, Err, IfOk, IfErr, rules, subst, Acquired, first_acquire, one_word}
+use Rattle.lock_free_owners.proofs.Names.{seen, acquire_first}
 use Rattle.lock_free_owners.specs.Robust.Turns.{AcquireAt}
 use Rattle.steps.specs.declared.indices.enums.UniqueIndexSetAcquireFailure.TheVariants.{IsLocked as Locked}
 use Rattle.lock_free_owners.specs.Robust.Told.{WasFilled, WasGranted, WasRefused}

@@ -1,12 +1,6 @@
-use Rattle.std.proofs.Common.{◌≤◌, rules, ap, subst, ◌∙◌}
-use Rattle.steps.specs.Indices.Robust.Looks.{first_borrowed}
-use Rattle.model.specs.Coding.{one_word}
+use Rattle.lock_free_owners.proofs.Names.{◌≤◌, rules, ap, subst, ◌∙◌, first_borrowed, one_word, seen, SetId, Goes}
+use Rattle.lock_free_owners.proofs.Names.{counts_owned, count_first}
 use Rattle.model.specs.declared.turn.Kind.TheVariants as kinds
-use Rattle.threaded.specs.Seats.{seen}
-use Rattle.threaded.specs.Sets.{SetId}
-use Rattle.history.specs.Passes.{Goes}
-use Rattle.history.specs.Robust.{counts_owned}
-use Rattle.history.proofs.RobustCalls.{count_first}
 use Rattle.lock_free_owners.specs.Robust.Turns.{CountAt}
 use Rattle.lock_free_owners.proofs.RobustSet.Facts.{goes, counted, counted_answered, counted_most, counted_none}
 use Rattle.lock_free_owners.proofs.mpmc.robust_unique_index_set.RobustUniqueIndexSet.borrowed_indices.Goals as goal

@@ -1,10 +1,6 @@
-use Rattle.std.proofs.Common.{rules, sym, ap, subst}
-use Rattle.model.specs.Coding.{one_word}
+use Rattle.lock_free_owners.proofs.Names.{rules, sym, ap, subst, one_word, seen, SetId, Looks}
 use Rattle.model.specs.declared.turn.Kind.TheVariants as kinds
-use Rattle.threaded.specs.Seats.{seen}
-use Rattle.threaded.specs.Sets.{SetId}
 use Rattle.threaded.proofs.Callable.{takes_places_at}
-use Rattle.history.specs.Views.{Looks}
 use Rattle.lock_free_owners.specs.Robust.Callable.{HasFound}
 use Rattle.lock_free_owners.proofs.RobustSet.Facts.{looks_goes}
 use Rattle.lock_free_owners.proofs.mpmc.robust_unique_index_set.RobustUniqueIndexSet.find.Goals as goal

@@ -1,10 +1,5 @@
-use Rattle.std.proofs.Common.{rules, subst}
-use Rattle.model.specs.Coding.{one_word}
+use Rattle.lock_free_owners.proofs.Names.{rules, subst, one_word, seen, Goes, looks_owned, look_keeps, look_first}
 use Rattle.model.specs.declared.turn.Kind.TheVariants as kinds
-use Rattle.threaded.specs.Seats.{seen}
-use Rattle.history.specs.Passes.{Goes}
-use Rattle.history.specs.Robust.{looks_owned}
-use Rattle.history.proofs.RobustCalls.{look_keeps, look_first}
 use Rattle.lock_free_owners.proofs.RobustSet.Facts.{goes, looked, looked_answered, looked_lock}
 use Rattle.lock_free_owners.proofs.mpmc.robust_unique_index_set.RobustUniqueIndexSet.is_locked.Goals as goal
 

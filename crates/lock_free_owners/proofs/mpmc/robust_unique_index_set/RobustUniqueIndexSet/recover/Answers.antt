@@ -1,12 +1,7 @@
-use Rattle.std.proofs.Common.{[], rules, sym, ap, subst}
+use Rattle.lock_free_owners.proofs.Names.{[], rules, sym, ap, subst, one_word, seen, SetId, Goes, recovers_owned}
+use Rattle.lock_free_owners.proofs.Names.{recover_first}
 use Rattle.steps.specs.Indices.Robust.Recover.{first_recover}
-use Rattle.model.specs.Coding.{one_word}
 use Rattle.model.specs.declared.turn.Kind.TheVariants as kinds
-use Rattle.threaded.specs.Seats.{seen}
-use Rattle.threaded.specs.Sets.{SetId}
-use Rattle.history.specs.Passes.{Goes}
-use Rattle.history.specs.Robust.{recovers_owned}
-use Rattle.history.proofs.RobustRecoveries.{recover_first}
 use Rattle.lock_free_owners.specs.Robust.Turns.{RecoverAt}
 use Rattle.lock_free_owners.proofs.RobustSet.Facts.{goes, recovered, recovered_answered, recovered_lock}
 use Rattle.lock_free_owners.proofs.Rules.Robust.Recovering.{questions_at, freed_at}

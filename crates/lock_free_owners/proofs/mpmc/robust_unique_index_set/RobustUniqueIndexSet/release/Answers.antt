@@ -1,14 +1,6 @@
-use Rattle.std.proofs.Common.{◌<◌, rules, sym, ap, subst, ◌∙◌}
-use Rattle.steps.specs.Indices.Robust.Release.{first_release}
-use Rattle.steps.specs.declared.indices.robust.release.GiveBack.{GiveBack}
-use Rattle.model.specs.Coding.{one_word}
+use Rattle.lock_free_owners.proofs.Names.{◌<◌, rules, sym, ap, subst, ◌∙◌, first_release, GiveBack, one_word, seen}
+use Rattle.lock_free_owners.proofs.Names.{SetId, Goes, gives_owned, At, release_keeps, release_first}
 use Rattle.model.specs.declared.turn.Kind.TheVariants as kinds
-use Rattle.threaded.specs.Seats.{seen}
-use Rattle.threaded.specs.Sets.{SetId}
-use Rattle.history.specs.Passes.{Goes}
-use Rattle.history.specs.Robust.{gives_owned}
-use Rattle.history.specs.Stages.{At}
-use Rattle.history.proofs.RobustCalls.{release_keeps, release_first}
 use Rattle.lock_free_owners.proofs.RobustSet.Facts.{goes, given, given_of, given_answered, freed, released}
 use Rattle.lock_free_owners.proofs.mpmc.robust_unique_index_set.RobustUniqueIndexSet.release.Goals as goal
 

@@ -1,5 +1,4 @@
-use Rattle.std.proofs.Common.{◌∙◌, sym, subst}
-use Rattle.threaded.specs.Seats.{seen}
+use Rattle.lock_free_owners.proofs.Names.{◌∙◌, sym, subst, seen}
 use Rattle.lock_free_owners.specs.Robust.Turns.{AcquireAt, AcquireEnds}
 use Rattle.lock_free_owners.proofs.RobustSet.Turns.{gone_on, has_ended}
 use Rattle.lock_free_owners.proofs.mpmc.robust_unique_index_set.acquires.acquire_all.Goals as goal

@@ -1,4 +1,4 @@
-use Rattle.threaded.specs.Seats.{seen, IsSame}
+use Rattle.lock_free_owners.proofs.Names.{seen, IsSame}
 use Rattle.lock_free_owners.specs.Robust.Turns.{IsBoard, AcquireAt}
 use Rattle.lock_free_owners.proofs.mpmc.robust_unique_index_set.acquires.acquire_all.Given as goal
 

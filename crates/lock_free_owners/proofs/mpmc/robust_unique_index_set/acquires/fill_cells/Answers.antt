@@ -1,6 +1,5 @@
-use Rattle.std.proofs.Common.{◌∙◌, sym, subst}
+use Rattle.lock_free_owners.proofs.Names.{◌∙◌, sym, subst, seen}
 use Rattle.steps.specs.declared.indices.robust.acquire.Acquire.{Acquire}
-use Rattle.threaded.specs.Seats.{seen}
 use Rattle.lock_free_owners.specs.Robust.Turns.{AcquireAt, AcquireEnds}
 use Rattle.lock_free_owners.proofs.RobustSet.Turns.{gone_on, has_ended, fills_next, fills}
 use Rattle.lock_free_owners.proofs.mpmc.robust_unique_index_set.acquires.fill_cells.Goals as goal

@@ -1,5 +1,4 @@
-use Rattle.model.specs.Coding.{one_word}
-use Rattle.history.proofs.RobustCalls.{acquire_keeps}
+use Rattle.lock_free_owners.proofs.Names.{one_word, acquire_keeps}
 use Rattle.lock_free_owners.proofs.mpmc.robust_unique_index_set.acquires.step_acquire.Goals as goal
 
 pub step-requires-clause-rule : goal.step-requires-clause-rule

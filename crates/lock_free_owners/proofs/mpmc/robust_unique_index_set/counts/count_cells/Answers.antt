@@ -1,6 +1,5 @@
-use Rattle.std.proofs.Common.{◌∙◌, sym, subst}
+use Rattle.lock_free_owners.proofs.Names.{◌∙◌, sym, subst, seen}
 use Rattle.steps.specs.declared.indices.robust.looks.BorrowedIndices.{BorrowedIndices}
-use Rattle.threaded.specs.Seats.{seen}
 use Rattle.lock_free_owners.specs.Robust.Turns.{CountAt, CountEnds}
 use Rattle.lock_free_owners.proofs.RobustSet.Turns.{gone_on, has_ended, loads_next, loads}
 use Rattle.lock_free_owners.proofs.mpmc.robust_unique_index_set.counts.count_cells.Goals as goal

@@ -1,5 +1,4 @@
-use Rattle.model.specs.Coding.{one_word}
-use Rattle.history.proofs.RobustCalls.{count_keeps}
+use Rattle.lock_free_owners.proofs.Names.{one_word, count_keeps}
 use Rattle.lock_free_owners.proofs.mpmc.robust_unique_index_set.counts.step_count.Goals as goal
 
 pub step-requires-clause-rule : goal.step-requires-clause-rule

@@ -1,5 +1,4 @@
-use Rattle.std.proofs.Common.{refl, ◌∙◌, subst}
-use Rattle.threaded.specs.Seats.{seen}
+use Rattle.lock_free_owners.proofs.Names.{refl, ◌∙◌, subst, seen}
 use Rattle.lock_free_owners.specs.Robust.Finding.{GoesDown, Onward}
 use Rattle.lock_free_owners.proofs.RobustSet.Finding.{starts, may_go}
 use Rattle.lock_free_owners.proofs.mpmc.robust_unique_index_set.finds.find_all.Goals as goal

@@ -1,5 +1,5 @@
+use Rattle.lock_free_owners.proofs.Names.{seen, IsSame}
 use Rattle.steps.specs.Indices.Robust.Find.{find_left}
-use Rattle.threaded.specs.Seats.{seen, IsSame}
 use Rattle.lock_free_owners.specs.Robust.Finding.{Searching}
 use Rattle.lock_free_owners.specs.Robust.Turns.{IsBoard}
 use Rattle.lock_free_owners.proofs.mpmc.robust_unique_index_set.finds.find_all.Given as goal

@@ -1,11 +1,8 @@
-use Rattle.std.proofs.Common.{◌≡◌, ◌<◌, ◌^◌, ℕ, ◌∙◌, sym, ap, subst, rules}
+use Rattle.lock_free_owners.proofs.Names.{◌≡◌, ◌<◌, ◌^◌, ℕ, ◌∙◌, sym, ap, subst, rules, empty, After, seen}
 use Rattle.steps.specs.Indices.Robust.Find.{find_takes}
-use Rattle.steps.specs.Indices.Robust.Parts.{empty}
-use Rattle.steps.specs.declared.ask.After.{After}
 use Rattle.steps.specs.declared.indices.robust.find.Find.{Find}
 use Rattle.steps.specs.declared.indices.robust.find.FindStage.{FindStage}
 use Rattle.steps.specs.declared.indices.robust.find.FindStage.TheVariants as finds
-use Rattle.threaded.specs.Seats.{seen}
 use Rattle.lock_free_owners.specs.Robust.Finding.{Onward, Searching, SoFar}
 use Rattle.lock_free_owners.proofs.RobustSet.Finding.{heard}
 use Rattle.lock_free_owners.proofs.mpmc.robust_unique_index_set.finds.find_next.Goals as goal

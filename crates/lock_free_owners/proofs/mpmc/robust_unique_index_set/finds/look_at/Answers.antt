@@ -1,13 +1,6 @@
-use Rattle.std.proofs.Common.{◌≡◌, ◌<◌, ◌+◌, ℕ, List, [], rules, sym, subst, arith}
-use Rattle.atomic_table.specs.Seated.{TableId}
-use Rattle.atomic_table.specs.Table.{Me, Allows}
-use Rattle.model.specs.Coding.{one_word}
+use Rattle.lock_free_owners.proofs.Names.{◌≡◌, ◌<◌, ◌+◌, ℕ, List, [], rules, sym, subst, arith, TableId, Me, Allows}
+use Rattle.lock_free_owners.proofs.Names.{one_word, seen, View, IsMachine, LooksAt, looks_word}
 use Rattle.model.specs.declared.turn.Kind.TheVariants as kinds
-use Rattle.threaded.specs.Seats.{seen}
-use Rattle.history.specs.declared.view.View.{View}
-use Rattle.history.specs.History.{IsMachine}
-use Rattle.history.specs.Views.{LooksAt}
-use Rattle.history.proofs.PassLooks.{looks_word}
 use Rattle.lock_free_owners.proofs.mpmc.robust_unique_index_set.finds.look_at.Goals as goal
 
 -- what the load owes, where the seat knows this

@@ -1,10 +1,8 @@
-use Rattle.std.proofs.Common.{◌≡◌, ◌<◌, ◌^◌, ◌-◌, ℕ, ◌∙◌, sym, ap, refl, subst, rules, arith}
+use Rattle.lock_free_owners.proofs.Names.{◌≡◌, ◌<◌, ◌^◌, ◌-◌, ℕ, ◌∙◌, sym, ap, refl, subst, rules, arith, empty}
+use Rattle.lock_free_owners.proofs.Names.{After, seen}
 use Rattle.steps.specs.Indices.Robust.Find.{find_after, find_left}
-use Rattle.steps.specs.Indices.Robust.Parts.{empty}
-use Rattle.steps.specs.declared.ask.After.{After}
 use Rattle.steps.specs.declared.indices.robust.find.Find.{Find}
 use Rattle.steps.specs.declared.indices.robust.find.FindStage.TheVariants as stages
-use Rattle.threaded.specs.Seats.{seen}
 use Rattle.lock_free_owners.specs.Robust.Finding.{GoesDown, Onward}
 use Rattle.lock_free_owners.proofs.RobustSet.Finding.{at_cell, load_down, loaded}
 use Rattle.lock_free_owners.proofs.mpmc.robust_unique_index_set.finds.pass_over.Goals as goal

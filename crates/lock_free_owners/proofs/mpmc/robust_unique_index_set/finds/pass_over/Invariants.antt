@@ -1,7 +1,5 @@
-use Rattle.std.proofs.Common.{◌≡◌, ◌-◌, ℕ, ◌≤◌, ◌<◌}
+use Rattle.lock_free_owners.proofs.Names.{◌≡◌, ◌-◌, ℕ, ◌≤◌, ◌<◌, View, seen, IsSame}
 use Rattle.steps.specs.declared.indices.robust.find.FindStage.TheVariants as stages
-use Rattle.history.specs.declared.view.View.{View}
-use Rattle.threaded.specs.Seats.{seen, IsSame}
 use Rattle.lock_free_owners.specs.Robust.Finding.{Searching}
 use Rattle.lock_free_owners.specs.Robust.Turns.{IsBoard}
 use Rattle.lock_free_owners.proofs.mpmc.robust_unique_index_set.finds.pass_over.Given as goal

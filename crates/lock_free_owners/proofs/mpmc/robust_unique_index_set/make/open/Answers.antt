@@ -1,7 +1,6 @@
-use Rattle.std.proofs.Common.{◌≡◌, ◌+◌, ◌-◌, [], ◌∷◌, ◌++◌, take, rules, ap, ◌∙◌, arith}
-use Rattle.std.proofs.lemmas.List.{take_all}
-use Rattle.std.specs.Prelude.{vec_len, replicate}
-use Rattle.steps.specs.Indices.Robust.Parts.{empty}
+use Rattle.lock_free_owners.proofs.Names.{◌≡◌, ◌+◌, ◌-◌, [], ◌∷◌, ◌++◌, take, rules, ap, ◌∙◌, arith, take_all}
+use Rattle.lock_free_owners.proofs.Names.{vec_len, empty}
+use Rattle.std.specs.Prelude.{replicate}
 use Rattle.lock_free_owners.proofs.RobustSet.Opens.{robust_opens}
 use Rattle.lock_free_owners.proofs.mpmc.robust_unique_index_set.make.open.Goals as goal
 

@@ -1,11 +1,7 @@
-use Rattle.std.proofs.Common.{◌+◌, ℕ, List, sym, ap, subst, ◌∙◌}
+use Rattle.lock_free_owners.proofs.Names.{◌+◌, ℕ, List, sym, ap, subst, ◌∙◌, one_word, OwesAsk, seen, table_of}
+use Rattle.lock_free_owners.proofs.Names.{key_of, IsMachine, recover_tells}
 use Rattle.steps.specs.declared.ask.Op.TheVariants.{Load}
 use Rattle.model.specs.declared.turn.Kind.TheVariants as kinds
-use Rattle.model.specs.Coding.{one_word}
-use Rattle.threaded.specs.Driver.{OwesAsk}
-use Rattle.threaded.specs.Seats.{seen, table_of, key_of}
-use Rattle.history.specs.History.{IsMachine}
-use Rattle.history.proofs.RobustRecoveries.{recover_tells}
 use Rattle.lock_free_owners.specs.Robust.Turns.{size, RecoverTells}
 use Rattle.lock_free_owners.proofs.RobustSet.Turns.{passes}
 use Rattle.lock_free_owners.proofs.mpmc.robust_unique_index_set.recovers.load_cell.Goals as goal

@@ -1,9 +1,6 @@
-use Rattle.std.proofs.Common.{ℕ, subst}
+use Rattle.lock_free_owners.proofs.Names.{ℕ, subst, seen, View, visits_taken}
 use Rattle.steps.specs.declared.indices.robust.recover.RecoverStage.{RecoverStage}
 use Rattle.threaded.specs.Driver.{Next}
-use Rattle.threaded.specs.Seats.{seen}
-use Rattle.history.specs.declared.view.View.{View}
-use Rattle.history.specs.Robust.{visits_taken}
 use Rattle.lock_free_owners.specs.Robust.Turns.{RecoverAt, RecoverEnds}
 use Rattle.lock_free_owners.proofs.mpmc.robust_unique_index_set.recovers.look_again.Goals as goal
 

@@ -1,7 +1,5 @@
-use Rattle.std.proofs.Common.{sym, subst}
-use Rattle.steps.specs.Indices.Robust.Recover.{at_recover}
+use Rattle.lock_free_owners.proofs.Names.{sym, subst, at_recover, seen}
 use Rattle.steps.specs.declared.indices.robust.recover.RecoverStage.{RecoverStage}
-use Rattle.threaded.specs.Seats.{seen}
 use Rattle.lock_free_owners.specs.Robust.Turns.{RecoverAt, RecoverGoes}
 use Rattle.lock_free_owners.proofs.mpmc.robust_unique_index_set.recovers.pass_first.Goals as goal
 

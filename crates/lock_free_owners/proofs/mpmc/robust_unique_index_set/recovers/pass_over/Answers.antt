@@ -1,11 +1,7 @@
-use Rattle.std.proofs.Common.{◌≡◌, ◌-◌, ℕ, ◌∙◌, sym, ap, subst, arith}
-use Rattle.steps.specs.Indices.Robust.Recover.{recover_after}
-use Rattle.steps.specs.declared.ask.After.{After}
-use Rattle.steps.specs.declared.indices.enums.ReleaseState.{ReleaseState}
+use Rattle.lock_free_owners.proofs.Names.{◌≡◌, ◌-◌, ℕ, ◌∙◌, sym, ap, subst, arith, recover_after, After, ReleaseState}
+use Rattle.lock_free_owners.proofs.Names.{View, seen}
 use Rattle.steps.specs.declared.indices.robust.recover.Recover.{Recover}
-use Rattle.history.specs.declared.view.View.{View}
 use Rattle.threaded.specs.Driver.{Next}
-use Rattle.threaded.specs.Seats.{seen}
 use Rattle.lock_free_owners.specs.Robust.Turns.{RecoverAt, RecoverEnds}
 use Rattle.lock_free_owners.proofs.RobustSet.Turns.{passes}
 use Rattle.lock_free_owners.proofs.mpmc.robust_unique_index_set.recovers.pass_over.Goals as goal

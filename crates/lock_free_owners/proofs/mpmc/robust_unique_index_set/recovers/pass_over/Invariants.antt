@@ -1,6 +1,4 @@
-use Rattle.std.proofs.Common.{◌-◌, ◌≤◌, ◌<◌}
-use Rattle.steps.specs.declared.ask.After.TheVariants.{GoOn}
-use Rattle.threaded.specs.Seats.{seen, IsSame}
+use Rattle.lock_free_owners.proofs.Names.{◌-◌, ◌≤◌, ◌<◌, GoOn, seen, IsSame}
 use Rattle.lock_free_owners.specs.Robust.Turns.{IsBoard, RecoverGoes}
 use Rattle.lock_free_owners.proofs.RobustSet.Turns.{passes}
 use Rattle.lock_free_owners.proofs.mpmc.robust_unique_index_set.recovers.pass_over.Given as goal

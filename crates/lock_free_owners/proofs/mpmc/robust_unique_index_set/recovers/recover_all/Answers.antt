@@ -1,6 +1,4 @@
-use Rattle.std.proofs.Common.{refl, ◌∙◌}
-use Rattle.model.specs.Families.Indices.Reading.{is_locked}
-use Rattle.threaded.specs.Seats.{seen}
+use Rattle.lock_free_owners.proofs.Names.{refl, ◌∙◌, is_locked, seen}
 use Rattle.lock_free_owners.proofs.RobustSet.Recoveries.{stands_first, counter_moves, moves_on, moves_end, stays_on, stays_end, asks_there}
 use Rattle.lock_free_owners.proofs.Rules.Robust.Recovering.{passes_on, looks_on}
 use Rattle.lock_free_owners.proofs.mpmc.robust_unique_index_set.recovers.recover_all.Goals as goal

@@ -1,4 +1,4 @@
-use Rattle.threaded.specs.Seats.{seen, IsSame}
+use Rattle.lock_free_owners.proofs.Names.{seen, IsSame}
 use Rattle.lock_free_owners.specs.Robust.Turns.{IsBoard}
 use Rattle.lock_free_owners.proofs.RobustSet.Recoveries.{StandsSo}
 use Rattle.lock_free_owners.proofs.mpmc.robust_unique_index_set.recovers.recover_all.Given as goal

@@ -1,15 +1,9 @@
-use Rattle.std.proofs.Common.{◌≡◌, ℕ, ◌<◌, rules, refl, sym, ap, subst, ◌∙◌}
-use Rattle.steps.specs.Indices.Robust.Parts.{empty}
-use Rattle.steps.specs.Indices.Robust.Recover.{at_recover, recover_after}
-use Rattle.steps.specs.declared.ask.After.{After}
-use Rattle.steps.specs.declared.indices.enums.ReleaseState.{ReleaseState}
+use Rattle.lock_free_owners.proofs.Names.{◌≡◌, ℕ, ◌<◌, rules, refl, sym, ap, subst, ◌∙◌, empty, at_recover}
+use Rattle.lock_free_owners.proofs.Names.{recover_after, After, ReleaseState, number_of, seen, View, visits_taken}
 use Rattle.steps.specs.declared.indices.robust.recover.Recover.{Recover}
 use Rattle.steps.specs.declared.indices.robust.recover.RecoverStage.{RecoverStage}
-use Rattle.model.specs.Turns.{number_of}
 use Rattle.threaded.specs.Driver.{Next}
-use Rattle.threaded.specs.Seats.{seen}
-use Rattle.history.specs.declared.view.View.{View}
-use Rattle.history.specs.Robust.{visits_taken, visits_after}
+use Rattle.history.specs.Robust.{visits_after}
 use Rattle.lock_free_owners.specs.Robust.Stages.{RecoverMoves}
 use Rattle.lock_free_owners.specs.Robust.Turns.{RecoverAt, RecoverEnds}
 use Rattle.lock_free_owners.proofs.RobustSet.Recoveries.{said_goes}

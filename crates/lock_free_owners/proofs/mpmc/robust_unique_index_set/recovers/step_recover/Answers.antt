@@ -1,14 +1,8 @@
-use Rattle.std.proofs.Common.{◌+◌, ℕ, List, sym, ap, subst, ◌∙◌}
+use Rattle.lock_free_owners.proofs.Names.{◌+◌, ℕ, List, sym, ap, subst, ◌∙◌, After, ReleaseState, one_word, Owes}
+use Rattle.lock_free_owners.proofs.Names.{seen, table_of, key_of, IsMachine, recover_tells}
 use Rattle.steps.specs.Indices.Robust.Recover.{recover_want}
-use Rattle.steps.specs.declared.ask.After.{After}
-use Rattle.steps.specs.declared.indices.enums.ReleaseState.{ReleaseState}
 use Rattle.steps.specs.declared.indices.robust.recover.Recover.{Recover}
 use Rattle.model.specs.declared.turn.Kind.TheVariants as kinds
-use Rattle.model.specs.Coding.{one_word}
-use Rattle.threaded.specs.Driver.{Owes}
-use Rattle.threaded.specs.Seats.{seen, table_of, key_of}
-use Rattle.history.specs.History.{IsMachine}
-use Rattle.history.proofs.RobustRecoveries.{recover_tells}
 use Rattle.lock_free_owners.specs.Robust.Turns.{size, RecoverSteps, RecoverTells}
 use Rattle.lock_free_owners.proofs.mpmc.robust_unique_index_set.recovers.step_recover.Goals as goal
 

@@ -1,4 +1,4 @@
-use Rattle.std.proofs.Common.{◌∙◌}
+use Rattle.lock_free_queues.proofs.Names.{◌∙◌}
 use Rattle.lock_free_queues.proofs.Queues.Filled.{zeros_in}
 use Rattle.lock_free_queues.proofs.spsc.queue.make.of_zeros.Goals as goal
 

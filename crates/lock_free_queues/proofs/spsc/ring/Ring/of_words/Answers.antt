@@ -1,8 +1,5 @@
-use Rattle.std.proofs.Common.{rules, ◌≡◌, [], sym, subst}
-use Rattle.atomic_table.specs.Table.{opening}
-use Rattle.model.specs.Coding.{Coding, coding_of}
-use Rattle.steps.specs.declared.queues.roles.Role.TheVariants.{Producer, Consumer}
-use Rattle.history.specs.History.{IsMachine}
+use Rattle.lock_free_queues.proofs.Names.{rules, ◌≡◌, [], sym, subst, opening, Coding, coding_of, Producer, Consumer}
+use Rattle.lock_free_queues.proofs.Names.{IsMachine}
 use Rattle.lock_free_queues.specs.Queues.Bounded.{machine_of}
 use Rattle.lock_free_queues.specs.Queues.Kinds.{opened_by}
 use Rattle.lock_free_queues.specs.Queues.Roles.{LacksRole}

@@ -1,15 +1,7 @@
-use Rattle.std.proofs.Common.{◌<◌, ◌^◌, IfSome, IfNone, sym, ap, subst, ◌∙◌}
-use Rattle.std.specs.Option.{option_map}
+use Rattle.lock_free_queues.proofs.Names.{◌<◌, ◌^◌, IfSome, IfNone, sym, ap, subst, ◌∙◌, option_map, one_word, Index}
+use Rattle.lock_free_queues.proofs.Names.{IndexQueue, seen, of_indices, At, pops_index, pop_keep_all, pop_first}
 use Rattle.steps.specs.Queues.Ring.{first_pop, pop_answer}
-use Rattle.model.specs.Coding.{one_word}
 use Rattle.model.specs.declared.turn.Kind.TheVariants as kinds
-use Rattle.model.specs.declared.event.Item.TheVariants.{Index}
-use Rattle.model.specs.declared.families.queues.QueueKind.TheVariants.{IndexQueue}
-use Rattle.threaded.specs.Seats.{seen}
-use Rattle.laws_queues.proofs.Ring.Kinds.{of_indices}
-use Rattle.history.specs.Stages.{At}
-use Rattle.history.specs.Queues.{pops_index}
-use Rattle.history.proofs.QueueCalls.{pop_keep_all, pop_first}
 use Rattle.lock_free_queues.proofs.Queues.Ended.{has_popped, taken_if, empty_if}
 use Rattle.lock_free_queues.proofs.Queues.Indices.{index_of, in_room, index_pop}
 use Rattle.lock_free_queues.specs.Queues.Told.{HasPopped, HasTakenOut, WasEmpty}

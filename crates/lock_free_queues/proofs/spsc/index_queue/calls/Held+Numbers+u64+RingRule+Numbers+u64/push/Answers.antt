@@ -1,14 +1,7 @@
-use Rattle.std.proofs.Common.{rules, ◌≡◌, ◌<◌, ◌^◌, ◌⊎◌, false, sym, ap, subst, ◌∙◌}
+use Rattle.lock_free_queues.proofs.Names.{rules, ◌≡◌, ◌<◌, ◌^◌, ◌⊎◌, false, sym, ap, subst, ◌∙◌, one_word, Index}
+use Rattle.lock_free_queues.proofs.Names.{seen, of_indices, At, Goes, pushes_index, push_keeps, push_first}
 use Rattle.steps.specs.Queues.Ring.{first_push}
-use Rattle.model.specs.Coding.{one_word}
 use Rattle.model.specs.declared.turn.Kind.TheVariants as kinds
-use Rattle.model.specs.declared.event.Item.TheVariants.{Index}
-use Rattle.threaded.specs.Seats.{seen}
-use Rattle.laws_queues.proofs.Ring.Kinds.{of_indices}
-use Rattle.history.specs.Stages.{At}
-use Rattle.history.specs.Passes.{Goes}
-use Rattle.history.specs.Queues.{pushes_index}
-use Rattle.history.proofs.QueueCalls.{push_keeps, push_first}
 use Rattle.lock_free_queues.proofs.Queues.Facts.{goes_over}
 use Rattle.lock_free_queues.proofs.Queues.Ended.{pushed, published_if, full}
 use Rattle.lock_free_queues.proofs.Queues.Indices.{index_push}

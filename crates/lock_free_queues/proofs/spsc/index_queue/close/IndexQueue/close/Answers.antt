@@ -1,7 +1,4 @@
-use Rattle.std.proofs.Common.{refl, sym, subst}
-use Rattle.model.specs.declared.event.Item.TheVariants.{Index}
-use Rattle.model.specs.declared.families.queues.QueueKind.TheVariants.{IndexQueue}
-use Rattle.model.specs.Coding.{one_word}
+use Rattle.lock_free_queues.proofs.Names.{refl, sym, subst, Index, IndexQueue, one_word}
 use Rattle.lock_free_queues.specs.Queues.Calls.{view}
 use Rattle.lock_free_queues.specs.Queues.Closes.{Closes}
 use Rattle.lock_free_queues.proofs.Queues.Closes.{fits, closes}

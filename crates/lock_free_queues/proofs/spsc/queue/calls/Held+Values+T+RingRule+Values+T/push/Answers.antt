@@ -1,13 +1,8 @@
-use Rattle.std.proofs.Common.{rules, ◌≡◌, ◌<◌, ◌^◌, ◌⊎◌, false, sym, ap, subst, ◌∙◌}
+use Rattle.lock_free_queues.proofs.Names.{rules, ◌≡◌, ◌<◌, ◌^◌, ◌⊎◌, false, sym, ap, subst, ◌∙◌, Coding, IsCoding}
+use Rattle.lock_free_queues.proofs.Names.{coding_of, Value, of_values, At, pushes_value, value_push_keeps}
+use Rattle.lock_free_queues.proofs.Names.{value_push_first, Goes}
 use Rattle.steps.specs.Queues.Ring.{first_push}
-use Rattle.model.specs.Coding.{Coding, IsCoding, coding_of}
 use Rattle.model.specs.declared.turn.Kind.TheVariants as kinds
-use Rattle.model.specs.declared.event.Item.TheVariants.{Value}
-use Rattle.laws_queues.proofs.Ring.Kinds.{of_values}
-use Rattle.history.specs.Stages.{At}
-use Rattle.history.specs.ValueQueue.{pushes_value}
-use Rattle.history.proofs.ValueQueueCalls.{value_push_keeps, value_push_first}
-use Rattle.history.specs.Passes.{Goes}
 use Rattle.lock_free_queues.specs.Queues.Values.{token_view}
 use Rattle.lock_free_queues.specs.Queues.Told.{HasPushed, WasFull, WasAtEnd}
 use Rattle.lock_free_queues.proofs.Queues.Ended.{pushed, published_if, full}

@@ -1,7 +1,4 @@
-use Rattle.std.proofs.Common.{refl, sym, subst}
-use Rattle.model.specs.declared.event.Item.TheVariants.{Value}
-use Rattle.model.specs.declared.families.queues.QueueKind.TheVariants.{Queue}
-use Rattle.model.specs.Coding.{Coding, IsCoding, coding_of}
+use Rattle.lock_free_queues.proofs.Names.{refl, sym, subst, Value, Queue, Coding, IsCoding, coding_of}
 use Rattle.lock_free_queues.specs.Queues.Values.{view}
 use Rattle.lock_free_queues.specs.Queues.Closes.{Closes}
 use Rattle.lock_free_queues.proofs.Queues.Closes.{fits, closes}

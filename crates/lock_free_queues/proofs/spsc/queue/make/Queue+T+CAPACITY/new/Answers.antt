@@ -1,6 +1,4 @@
-use Rattle.std.proofs.Common.{◌≡◌, true, IfOk, replicate, subst}
-use Rattle.model.specs.declared.event.Answer.TheVariants.{Truth}
-use Rattle.model.specs.declared.event.Item.TheVariants.{Value}
+use Rattle.lock_free_queues.proofs.Names.{◌≡◌, true, IfOk, replicate, subst, Truth, Value}
 use Rattle.lock_free_queues.specs.Queues.Values.{inner, IsPassOf, view}
 use Rattle.lock_free_queues.proofs.Queues.Opened.{opens_at_first}
 use Rattle.lock_free_queues.proofs.spsc.queue.make.Queue+T+CAPACITY.new.Goals as goal

@@ -1,7 +1,6 @@
-use Rattle.std.proofs.Common.{rules, ◌≡◌, ◌≤◌, ◌+◌, ◌*◌, ◌%◌, min, slice_index, [], ◌∷◌, ◌++◌, set, replicate, refl, ap, ◌∙◌, arith}
-use Rattle.std.proofs.Math.Nat.{mul-le-mul_left}
-use Rattle.model.specs.Coding.{Coding, IsCoding, coding_of}
-use Rattle.laws_queues.proofs.Ring.Kinds.{of_values}
+use Rattle.lock_free_queues.proofs.Names.{rules, ◌≡◌, ◌≤◌, ◌+◌, ◌*◌, ◌%◌, min, slice_index, [], ◌∷◌, ◌++◌, set}
+use Rattle.lock_free_queues.proofs.Names.{replicate, refl, ap, ◌∙◌, arith, mul-le-mul_left, Coding, IsCoding}
+use Rattle.lock_free_queues.proofs.Names.{coding_of, of_values}
 use Rattle.lock_free_queues.specs.Queues.Opened.{position_at}
 use Rattle.lock_free_queues.proofs.Queues.Filled.{filled, fills_more}
 use Rattle.lock_free_queues.proofs.Queues.Opened.{queue_opens}

@@ -1,4 +1,4 @@
-use Rattle.std.proofs.Common.{rules, refl, arith}
+use Rattle.lock_free_queues.proofs.Names.{rules, refl, arith}
 use Rattle.lock_free_queues.proofs.spsc.queue.pops.Held+Values+T+RingRule+Values+T.pop.Goals as goal
 
 pub pop_by-requires-clause-room : goal.pop_by-requires-clause-room

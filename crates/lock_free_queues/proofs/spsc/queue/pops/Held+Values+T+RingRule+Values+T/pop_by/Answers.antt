@@ -1,16 +1,10 @@
-use Rattle.std.proofs.Common.{◌<◌, ◌^◌, IfSome, IfNone, sym, ap, subst, ◌∙◌}
-use Rattle.std.specs.Option.{option_map}
+use Rattle.lock_free_queues.proofs.Names.{◌<◌, ◌^◌, IfSome, IfNone, sym, ap, subst, ◌∙◌, option_map, Coding, IsCoding}
+use Rattle.lock_free_queues.proofs.Names.{coding_of, Value, Queue, of_values, At, value_there, pops_value}
+use Rattle.lock_free_queues.proofs.Names.{value_pop_keeps, value_pop_first}
 use Rattle.steps.specs.Queues.Ring.{first_pop, pop_answer}
-use Rattle.model.specs.Coding.{Coding, IsCoding, coding_of}
 use Rattle.model.specs.declared.turn.Kind.TheVariants as kinds
-use Rattle.model.specs.declared.event.Item.TheVariants.{Value}
-use Rattle.model.specs.declared.families.queues.QueueKind.TheVariants.{Queue}
-use Rattle.laws_queues.proofs.Ring.Kinds.{of_values}
 use Rattle.history.specs.Rooms.{room_of}
-use Rattle.history.specs.Stages.{At}
-use Rattle.history.specs.ValueQueue.{value_there, pops_value}
 use Rattle.history.proofs.Rooms.{room_fresh}
-use Rattle.history.proofs.ValueQueueCalls.{value_pop_keeps, value_pop_first}
 use Rattle.lock_free_queues.specs.Queues.Values.{token_view}
 use Rattle.lock_free_queues.specs.Queues.Told.{HasPopped, HasTakenOut, WasEmpty}
 use Rattle.lock_free_queues.proofs.Queues.Ended.{has_popped, taken_if, empty_if}

@@ -1,9 +1,6 @@
-use Rattle.std.proofs.Common.{sym, subst, ◌∙◌}
+use Rattle.lock_free_queues.proofs.Names.{sym, subst, ◌∙◌, Coding, IsCoding, coding_of, takes_role, At}
+use Rattle.lock_free_queues.proofs.Names.{acquire_first_on}
 use Rattle.lock_free_queues.specs.Queues.Bounded.{machine_of}
-use Rattle.model.specs.Coding.{Coding, IsCoding, coding_of}
-use Rattle.history.specs.Queues.{takes_role}
-use Rattle.history.specs.Stages.{At}
-use Rattle.history.proofs.AnyRoles.{acquire_first_on}
 use Rattle.lock_free_queues.proofs.Queues.Kinds.{acquires_keep}
 use Rattle.lock_free_queues.specs.Queues.Rings.{token_view}
 use Rattle.lock_free_queues.proofs.Queues.Facts.{acquired}

@@ -1,11 +1,6 @@
-use Rattle.std.proofs.Common.{◌≤◌, refl, sym, ap, subst, ◌∙◌}
-use Rattle.steps.specs.Queues.Lengths.{first_len}
-use Rattle.model.specs.Coding.{Coding, IsCoding, coding_of}
-use Rattle.model.specs.Families.Queues.Calls.{length_answer}
+use Rattle.lock_free_queues.proofs.Names.{◌≤◌, refl, sym, ap, subst, ◌∙◌, first_len, Coding, IsCoding, coding_of}
+use Rattle.lock_free_queues.proofs.Names.{length_answer, At, counts_waiting, len_first_on}
 use Rattle.lock_free_queues.specs.Queues.Bounded.{machine_of}
-use Rattle.history.specs.Stages.{At}
-use Rattle.history.specs.Queues.{counts_waiting}
-use Rattle.history.proofs.AnyRoles.{len_first_on}
 use Rattle.lock_free_queues.proofs.Queues.Kinds.{lengths_keep}
 use Rattle.lock_free_queues.specs.Queues.Rings.{token_view}
 use Rattle.lock_free_queues.specs.Queues.Kinds.{most_waiting}

@@ -1,4 +1,4 @@
-use Rattle.std.proofs.Common.{rules, ◌<◌, ◌^◌}
+use Rattle.lock_free_queues.proofs.Names.{rules, ◌<◌, ◌^◌}
 use Rattle.lock_free_queues.proofs.Queues.Numbers.{numbers_open}
 use Rattle.lock_free_queues.proofs.spsc.ring.make.Ring+E+u64.of_numbers.Goals as goal
 

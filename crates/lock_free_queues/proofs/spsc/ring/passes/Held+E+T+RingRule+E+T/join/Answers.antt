@@ -1,10 +1,7 @@
-use Rattle.std.proofs.Common.{◌≡◌, ◌<◌, rules, sym, subst, ◌∙◌, arith}
-use Rattle.atomic_table.specs.Seated.{TableId}
+use Rattle.lock_free_queues.proofs.Names.{◌≡◌, ◌<◌, rules, sym, subst, ◌∙◌, arith, TableId, coding_of, joined_view}
+use Rattle.lock_free_queues.proofs.Names.{joins}
 use Rattle.lock_free_queues.specs.Queues.Bounded.{machine_of}
-use Rattle.model.specs.Coding.{coding_of}
-use Rattle.history.specs.Views.{joined_view}
 use Rattle.threaded.proofs.Shares.{positive}
-use Rattle.history.proofs.Passes.{joins}
 use Rattle.lock_free_queues.proofs.Queues.Reads.{owed}
 use Rattle.lock_free_queues.proofs.spsc.ring.passes.Held+E+T+RingRule+E+T.join.Goals as goal
 

@@ -1,8 +1,5 @@
-use Rattle.std.proofs.Common.{rules, ◌≡◌, ◌<◌, subst, arith}
-use Rattle.atomic_table.specs.Seated.{TableId}
+use Rattle.lock_free_queues.proofs.Names.{rules, ◌≡◌, ◌<◌, subst, arith, TableId, coding_of, LooksAt}
 use Rattle.lock_free_queues.specs.Queues.Bounded.{machine_of}
-use Rattle.model.specs.Coding.{coding_of}
-use Rattle.history.specs.Views.{LooksAt}
 use Rattle.lock_free_queues.proofs.Queues.Reads.{owed, has_looked}
 use Rattle.lock_free_queues.proofs.spsc.ring.passes.Held+E+T+RingRule+E+T.look.Goals as goal
 

@@ -1,8 +1,5 @@
-use Rattle.std.proofs.Common.{◌≡◌, ◌<◌, rules, subst, arith}
-use Rattle.atomic_table.specs.Seated.{TableId}
+use Rattle.lock_free_queues.proofs.Names.{◌≡◌, ◌<◌, rules, subst, arith, TableId, coding_of, splits}
 use Rattle.lock_free_queues.specs.Queues.Bounded.{machine_of}
-use Rattle.model.specs.Coding.{coding_of}
-use Rattle.history.proofs.Passes.{splits}
 use Rattle.lock_free_queues.proofs.spsc.ring.passes.Held+E+T+RingRule+E+T.split.Goals as goal
 
 pub split_seat-seat-requires : goal.split_seat-seat-requires

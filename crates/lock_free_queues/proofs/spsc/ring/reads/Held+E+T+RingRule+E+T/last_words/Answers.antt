@@ -1,5 +1,5 @@
-use Rattle.std.proofs.Common.{rules, ◌≡◌, ◌<◌, ◌+◌, length, sym, ap, subst, ◌∙◌, set, arith}
-use Rattle.model.specs.Coding.{Coding, coding_of}
+use Rattle.lock_free_queues.proofs.Names.{rules, ◌≡◌, ◌<◌, ◌+◌, length, sym, ap, subst, ◌∙◌, set, arith, Coding}
+use Rattle.lock_free_queues.proofs.Names.{coding_of}
 use Rattle.lock_free_queues.specs.Queues.Bounded.{machine_of}
 use Rattle.lock_free_queues.specs.Queues.Calls.{QueueId}
 use Rattle.lock_free_queues.specs.Queues.Rings.{token_view}

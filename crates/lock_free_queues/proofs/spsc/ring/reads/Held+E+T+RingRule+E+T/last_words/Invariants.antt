@@ -1,6 +1,5 @@
-use Rattle.std.proofs.Common.{◌≡◌, ◌≤◌}
+use Rattle.lock_free_queues.proofs.Names.{◌≡◌, ◌≤◌, coding_of}
 use Rattle.std.specs.Prelude.{vec_len, vec_capacity}
-use Rattle.model.specs.Coding.{coding_of}
 use Rattle.lock_free_queues.specs.Queues.Bounded.{machine_of}
 use Rattle.lock_free_queues.specs.Queues.Rings.{token_queue, token_view}
 use Rattle.lock_free_queues.specs.Queues.Reads.{WasRead, CellsRead, HasRead}

@@ -1,6 +1,4 @@
-use Rattle.std.proofs.Common.{rules, ◌≡◌, ◌<◌, subst, arith}
-use Rattle.atomic_table.specs.Seated.{TableId}
-use Rattle.model.specs.Coding.{coding_of}
+use Rattle.lock_free_queues.proofs.Names.{rules, ◌≡◌, ◌<◌, subst, arith, TableId, coding_of}
 use Rattle.lock_free_queues.proofs.Queues.Reads.{owed, was_read, was_read_last, has_read}
 use Rattle.lock_free_queues.proofs.spsc.ring.reads.Held+E+T+RingRule+E+T.read.Goals as goal
 

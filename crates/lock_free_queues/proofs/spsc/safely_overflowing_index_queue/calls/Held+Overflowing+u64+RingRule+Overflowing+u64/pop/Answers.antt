@@ -1,11 +1,7 @@
-use Rattle.std.proofs.Common.{◌<◌, ◌^◌, IfSome, IfNone, sym, ap, subst, ◌∙◌}
-use Rattle.std.specs.Option.{option_map}
+use Rattle.lock_free_queues.proofs.Names.{◌<◌, ◌^◌, IfSome, IfNone, sym, ap, subst, ◌∙◌, option_map, one_word, Index}
+use Rattle.lock_free_queues.proofs.Names.{pops_over, At}
 use Rattle.steps.specs.Queues.Overflow.{first_pop, pop_answer}
-use Rattle.model.specs.Coding.{one_word}
 use Rattle.model.specs.declared.turn.Kind.TheVariants as kinds
-use Rattle.model.specs.declared.event.Item.TheVariants.{Index}
-use Rattle.history.specs.Overflow.{pops_over}
-use Rattle.history.specs.Stages.{At}
 use Rattle.history.proofs.OverflowPops.{over_pop_keeps, over_pop_first}
 use Rattle.lock_free_queues.specs.Queues.Overflowing.{token_view}
 use Rattle.lock_free_queues.specs.Queues.Told.{HasPopped, HasTakenFirst, FoundNone}

@@ -1,10 +1,7 @@
-use Rattle.std.proofs.Common.{rules, ◌≡◌, ◌<◌, ◌^◌, ◌⊎◌, Some, IfSome, IfNone, sym, ap, subst, ◌∙◌}
-use Rattle.steps.specs.Queues.Overflow.{first_push, push_answer}
-use Rattle.model.specs.Coding.{one_word}
+use Rattle.lock_free_queues.proofs.Names.{rules, ◌≡◌, ◌<◌, ◌^◌, ◌⊎◌, Some, IfSome, IfNone, sym, ap, subst, ◌∙◌}
+use Rattle.lock_free_queues.proofs.Names.{push_answer, one_word, Index, At, Goes}
+use Rattle.steps.specs.Queues.Overflow.{first_push}
 use Rattle.model.specs.declared.turn.Kind.TheVariants as kinds
-use Rattle.model.specs.declared.event.Item.TheVariants.{Index}
-use Rattle.history.specs.Stages.{At}
-use Rattle.history.specs.Passes.{Goes}
 use Rattle.lock_free_queues.specs.Queues.Overflowing.{token_view, HasOverflowed, pushes_told}
 use Rattle.lock_free_queues.specs.Queues.Told.{HasPublished, WasAtEnd, HasTakenFirst}
 use Rattle.lock_free_queues.proofs.Queues.Facts.{goes_over}

@@ -1,6 +1,5 @@
-use Rattle.std.proofs.Common.{rules, ◌≡◌, ◌-◌, max, set, slice_index, sym, ap, subst, ◌∙◌}
-use Rattle.plain.specs.Overflowing.{Represents, list_in}
-use Rattle.model.specs.declared.event.Item.TheVariants.{Index}
+use Rattle.lock_free_queues.proofs.Names.{rules, ◌≡◌, ◌-◌, max, set, slice_index, sym, ap, subst, ◌∙◌, list_in, Index}
+use Rattle.plain.specs.Overflowing.{Represents}
 use Rattle.lock_free_queues.specs.Queues.Closes.{Closes}
 use Rattle.lock_free_queues.specs.Queues.Overflowing.{view}
 use Rattle.lock_free_queues.proofs.Queues.OverCloses.{over_fits, over_closes}

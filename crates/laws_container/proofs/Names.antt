@@ -1,0 +1,170 @@
+-- The names of the standard library and of the crates below that proofs here use.
+pub use Rattle.laws_robust.proofs.Alive.{AllLive, StepsLeave, all_live_on, end_leaves}
+pub use Rattle.laws_robust.proofs.Core.{cell, counter_of}
+pub use Rattle.laws_robust.proofs.Counting.{chosen_with, count_later, count_next, count_none, count_with}
+pub use Rattle.laws_robust.proofs.Counting.{count_within, still_once, still_through, times_below, with_here}
+pub use Rattle.laws_robust.proofs.Counting.{with_there}
+pub use Rattle.laws_robust.proofs.Effects.{Quiet, Stays, at_other, at_same, both_ways, filled_by, is_shut, not_shut}
+pub use Rattle.laws_robust.proofs.Effects.{one_owner, quiet_end, quiet_none, quietly, some_none, stays_raised}
+pub use Rattle.laws_robust.proofs.Effects.{stays_same, unlocked}
+pub use Rattle.laws_robust.proofs.Gone.{calm_less, gone_begun, gone_less, gone_more, honest_less, lives_freed}
+pub use Rattle.laws_robust.proofs.Gone.{lives_settled, stays_lost}
+pub use Rattle.laws_robust.proofs.Grants.{gives, grants_alone, owns_then}
+pub use Rattle.laws_robust.proofs.Invariant.{Does, Good, Inv, IsWorn, Scene, worn_on}
+pub use Rattle.laws_robust.proofs.Knows.{Goes, IsSeen, LockSays, Spares, held_paid, knows_later, still_scanned}
+pub use Rattle.laws_robust.proofs.Opening.{admitted_is, opening_cell}
+pub use Rattle.laws_robust.proofs.Parts.{IsSaid, count_ask, count_step as part_step, lock_ask, lock_step, none_beyond}
+pub use Rattle.laws_robust.proofs.Parts.{raise_ask, raise_step}
+pub use Rattle.laws_robust.proofs.Past.{began_earlier, since_begun, since_less, through_less, through_now, through_so}
+pub use Rattle.laws_robust.proofs.Rights.{AreOwned, IsBy, Right, right_after}
+pub use Rattle.laws_robust.proofs.SetActs.{all_so, by_latest, last_one, was_one}
+pub use Rattle.laws_robust.proofs.Sound.{count_asks_none, lock_asks_none, raise_asks_none}
+pub use Rattle.laws_robust.proofs.Stages.{exchange_sets, exchanges, fails_same, is_seen, loads, loads_same}
+pub use Rattle.laws_robust.proofs.Standing.{AcquireAt, CountAt, LockAt, ReleaseAt, acquire_at, acquire_number}
+pub use Rattle.laws_robust.proofs.Standing.{borrowed_at, count_number, lock_number, looking, raise_number, release_at}
+pub use Rattle.laws_robust.proofs.Standing.{release_number}
+pub use Rattle.laws_robust.specs.Gone.{ActsForRight, AnswersBy, Death, GivesBackRight, GoneBy, IsCalm, IsHonest}
+pub use Rattle.laws_robust.specs.Gone.{IsHonestBy, Word, gone_after, is_gone}
+pub use Rattle.laws_robust.specs.Open.{IsReachedOpen, attempt_open, open_refusal, run_open}
+pub use Rattle.model.proofs.Moments.{held_later, held_now, held_so, others_begin_none}
+pub use Rattle.model.proofs.Orders.{Keeps, Orders, ends_end, turn_is}
+pub use Rattle.model.proofs.Parties.{apart, found_put_other, found_put_same, itself, party_put_other, party_put_same}
+pub use Rattle.model.proofs.Readings.{AllFollow, AreOwn, AreRight, Each-append, Each-nil, Earlier, Last, SplitAt}
+pub use Rattle.model.proofs.Readings.{no_more, span_of-death, span_of-other, span_of-own, split_last}
+pub use Rattle.model.proofs.Rows.{MayBegin, MayDie, may_begin, must_be_due, next_passes, passes, row_passed}
+pub use Rattle.model.proofs.Scenes.{ComesFrom, StandsThere, asked, comes_from, stands_there}
+pub use Rattle.model.specs.Coding.{Coding, IsCoding}
+pub use Rattle.model.specs.Families.{ask_of, beside_of, first_of, goes_of, going_rows, is_question, kept_after_begin}
+pub use Rattle.model.specs.Families.{kept_after_death, step_of, want_of}
+pub use Rattle.model.specs.Families.Container.Bounds.{most_steps}
+pub use Rattle.model.specs.Families.Container.Calls.{acts_for_dead, added, after, after as goes_after, first}
+pub use Rattle.model.specs.Families.Container.Calls.{goes_back, look_came, look_goes, look_shows, looked, place_of}
+pub use Rattle.model.specs.Families.Container.Calls.{removed, replaced, settled_if, states_after, want, writes_state}
+pub use Rattle.model.specs.Families.Container.Keeping.{BeginsWithState, KeepsStates, MovesInLooks, ShowsOwnCopies}
+pub use Rattle.model.specs.Families.Container.Keeping.{is_look_of, steps_of}
+pub use Rattle.model.specs.Families.Container.Looks.{AnswersOfState, EndsLook, IsCurrent, IsLook, IsOwnOrDeath}
+pub use Rattle.model.specs.Families.Container.Looks.{MomentsOfState, ShowsCopies, ShowsMoments, StoodThrough}
+pub use Rattle.model.specs.Families.Container.Looks.{WasAlone, WasAnnounced, WasCopied, is_looking, shows, state_in}
+pub use Rattle.model.specs.Families.Container.Opening.{keeps, names_owner, opening_words, states_at_begin}
+pub use Rattle.model.specs.Families.Container.Promises.{AnswersRight, AsksRight, ContainsRight, FreedRight}
+pub use Rattle.model.specs.Families.Container.Promises.{HasElements, IsContained, IsContainer, IsFoundWhole, IsLength}
+pub use Rattle.model.specs.Families.Container.Promises.{IsWellFormedRun, KeepsDead, LeavesState, PlacesRight}
+pub use Rattle.model.specs.Families.Container.Promises.{RecoversRight, ReplacesRight, StandsWellFormed, WasShown}
+pub use Rattle.model.specs.Families.Container.Promises.{most, promise}
+pub use Rattle.model.specs.Families.Container.Questions.{AllRight, AsksCopies, AsksOnce, HasWritten, IsAnswered}
+pub use Rattle.model.specs.Families.Container.Questions.{IsTold, NoTells, QuestionsRight, WritesRight, YesTells}
+pub use Rattle.model.specs.Families.Container.Questions.{question_at, question_in}
+pub use Rattle.model.specs.Families.Container.Reading.{Act, Copies, Hides, Hides as HidesOne, MayReplace, NoneTakes}
+pub use Rattle.model.specs.Families.Container.Reading.{Places, Sees, TakesNot, act, acts, acts_of, announced_after}
+pub use Rattle.model.specs.Families.Container.Reading.{announced_of, contents_after, contents_of, index_seen, places}
+pub use Rattle.model.specs.Families.Container.Reading.{seen_in}
+pub use Rattle.model.specs.Families.Container.Recoveries.{BeganUnlocked, FilledSinceEach, UnlockedAtLast, VisitsRight}
+pub use Rattle.model.specs.Families.Container.Recoveries.{VisitsUnlocked}
+pub use Rattle.model.specs.Families.Container.Removals.{EmptySinceFreed, HidesRight}
+pub use Rattle.model.specs.Families.Container.Spans.{HasDone, may_stand}
+pub use Rattle.model.specs.Families.Container.States.{fresh, set_state, settled, state_of, with_state}
+pub use Rattle.model.specs.Families.Container.Steps.{copy_in, effects, look_effects, look_effects_of, question_of}
+pub use Rattle.model.specs.Families.Container.Steps.{questions}
+pub use Rattle.model.specs.Families.Indices.Reading.{is_locked, locked_after}
+pub use Rattle.model.specs.Families.Indices.Robust.Dead.{dead_with, has_died}
+pub use Rattle.model.specs.Families.Indices.Robust.Promises.{FilledSinceFreed, HeldThroughout, HoldsRight, IsCount}
+pub use Rattle.model.specs.Families.Indices.Robust.Promises.{IsFilled, IsFilledWith, IsIn, IsUnlocked, LivesToRelease}
+pub use Rattle.model.specs.Families.Indices.Robust.Promises.{MayGiveBack, SetDoes, StillToFree, cell_of, count_below}
+pub use Rattle.model.specs.Families.Indices.Robust.Reading.{Asks, Fills, Frees, Grants, IsLatest, IsOneOf, Locks}
+pub use Rattle.model.specs.Families.Indices.Robust.Reading.{SetAct, Yes, asked_in, dead_after, filled_after}
+pub use Rattle.model.specs.Families.Indices.Robust.Reading.{filled_of, holder_after, holder_of, index_asked, is_dead}
+pub use Rattle.model.specs.Families.Indices.Robust.Reading.{set_act, set_acts, set_acts_of, settled_after, settled_of}
+pub use Rattle.model.specs.Families.Indices.Robust.Reading.{wrote_in}
+pub use Rattle.model.specs.Families.Indices.Robust.Spans.{HasJustFreed}
+pub use Rattle.model.specs.Families.Loan.Opening.{is_loan, keeps as loan_keeps}
+pub use Rattle.model.specs.Families.Queues.Calls.{as_it_is, kept_at, read_in}
+pub use Rattle.model.specs.Moments.{BeginsNone, HeldSometime, SinceBegin}
+pub use Rattle.model.specs.Parties.{doing_of, flight_of, party_of, progress_after, put}
+pub use Rattle.model.specs.Promises.{IsKept, IsKeptBy, IsTurnBy}
+pub use Rattle.model.specs.Promises.Families.{promise_of}
+pub use Rattle.model.specs.Promises.Spans.{Stands, StandsRight}
+pub use Rattle.model.specs.Promises.Turns.{IsEffectOf, IsParty, WritesInOrder}
+pub use Rattle.model.specs.Reading.{Each, Ended, Never, Open, Span, is_party, own_after, span_after, span_of, whose}
+pub use Rattle.model.specs.Refusals.{call_refusal, is_due, refusal_of}
+pub use Rattle.model.specs.Rows.{first_row}
+pub use Rattle.model.specs.Shape.{IsShut}
+pub use Rattle.model.specs.Step.{Step, answer_in, as_call}
+pub use Rattle.model.specs.Turns.{IsReached, after_answer, after_begin, after_decision, after_next, after_step}
+pub use Rattle.model.specs.Turns.{after_turn, ask_of_doing, change_of, doing_after, ending_of, events_of}
+pub use Rattle.model.specs.Turns.{events_of_answer, events_of_decision, events_of_next, events_of_step, number_of}
+pub use Rattle.model.specs.Turns.{number_of as said_is, old_of, one_if, party_after, party_at_begin, step_count}
+pub use Rattle.model.specs.Turns.{step_in, unless_refused, words_after}
+pub use Rattle.model.specs.World.{Trace, World, capacity_error, flight_in, opening, progress_in}
+pub use Rattle.model.specs.declared.event.Answer.{Answer}
+pub use Rattle.model.specs.declared.event.Answer.TheVariants.{Index, NoPlace, Number, State, Truth}
+pub use Rattle.model.specs.declared.event.Event.{Event}
+pub use Rattle.model.specs.declared.event.Event.TheVariants.{Asked, Begun, Copied, Died, Filled, Finished, FreedOf}
+pub use Rattle.model.specs.declared.event.Event.TheVariants.{Granted, Hidden, Locked, Placed, Shown, Told}
+pub use Rattle.model.specs.declared.event.Start.{Start}
+pub use Rattle.model.specs.declared.event.Start.TheVariants.{Container, Loan}
+pub use Rattle.model.specs.declared.families.Flight.{Flight}
+pub use Rattle.model.specs.declared.families.Registry.{Registry}
+pub use Rattle.model.specs.declared.families.container.ContainerStart.{ContainerStart}
+pub use Rattle.model.specs.declared.families.container.ContainerStart.TheVariants.{GetState, UpdateState}
+pub use Rattle.model.specs.declared.families.container.calls.ContainerFlight.{ContainerFlight}
+pub use Rattle.model.specs.declared.families.container.calls.ContainerFlight.TheVariants.{Count, IsLocked}
+pub use Rattle.model.specs.declared.families.container.calls.CountOf.{CountOf}
+pub use Rattle.model.specs.declared.families.container.calls.LookOf.{LookOf}
+pub use Rattle.model.specs.declared.party.Doing.{Doing}
+pub use Rattle.model.specs.declared.party.Doing.TheVariants.{Going, Over}
+pub use Rattle.model.specs.declared.party.Party.{Party}
+pub use Rattle.model.specs.declared.turn.Refusal.TheVariants.{Busy, Idle, OwnerIsDead, Undecided, WrongCall}
+pub use Rattle.model.specs.declared.turn.Turn.{Turn}
+pub use Rattle.model.specs.declared.turn.Turn.TheVariants.{Begin, Decide, Die, Next}
+pub use Rattle.std.proofs.Common.{Bool, IfSome, List, None, Option, Some, [], ap, append-nil, append_assoc, arith}
+pub use Rattle.std.proofs.Common.{cond, eq-eqb, ext_get_or, false, fold, get_or, get_or-set_other, get_or-set_same}
+pub use Rattle.std.proofs.Common.{get_or-take, if◌then◌else◌, inl, inr, is_none, is_some, length, length-append}
+pub use Rattle.std.proofs.Common.{length-take-le, nat_lt, ne_eqb, not, option_map, refl, replicate, set, slice_get}
+pub use Rattle.std.proofs.Common.{slice_index, slice_index_or, subst, suc, sym, take, true, zero, ℕ, ⊎_elim, ◌%◌}
+pub use Rattle.std.proofs.Common.{◌&&◌, ◌*◌, ◌++◌, ◌+◌, ◌-◌, ◌<◌, ◌==◌, ◌^◌, ◌∙◌, ◌∷◌, ◌≡◌, ◌≢◌, ◌≤◌, ◌⊎◌}
+pub use Rattle.std.proofs.lemmas.Bool.{cases_eq, cases_lt}
+pub use Rattle.std.proofs.lemmas.Bool.Decides.{nat_tests}
+pub use Rattle.std.proofs.lemmas.List.{append_cancel_left, get_or-append-add, get_or-replicate, length-replicate}
+pub use Rattle.std.proofs.lemmas.List.{length-set, set-get_or}
+pub use Rattle.std.proofs.lemmas.List.Concat.{flat_map-append}
+pub use Rattle.std.proofs.lemmas.List.Sums.{fold-append}
+pub use Rattle.std.proofs.lemmas.Option.{slice_get-get_or, slice_get_past}
+pub use Rattle.std.specs.List.{AllByRecursion}
+pub use Rattle.std.specs.Prelude.{Err, Ok}
+pub use Rattle.steps.specs.Container.Add.{Added, add_acquired, add_asks, at_add, first_add}
+pub use Rattle.steps.specs.Container.Find.{at_find, find_comes_to}
+pub use Rattle.steps.specs.Container.Layout.{change_word, count_word, element_word, is_even, total_words}
+pub use Rattle.steps.specs.Container.Look.{look_after, look_asks, look_comes_to, look_finds, look_goes_back}
+pub use Rattle.steps.specs.Container.Recover.{recover_comes_to, recover_ends, recover_locked, recover_raised}
+pub use Rattle.steps.specs.Container.Recover.{recover_raises, recover_sees}
+pub use Rattle.steps.specs.Container.Remove.{Removed, at_remove, remove_asks, remove_released}
+pub use Rattle.steps.specs.Container.Replace.{Replaced, at_replace, replace_asks}
+pub use Rattle.steps.specs.Container.State.{no_element, numbers_over, value_if, with_change, with_count, with_value}
+pub use Rattle.steps.specs.Container.State.{with_word}
+pub use Rattle.steps.specs.Copied.{value_in}
+pub use Rattle.steps.specs.Indices.Robust.Parts.{cell_word, count_after, count_goes_back, empty, first_lock, greatest}
+pub use Rattle.steps.specs.Indices.Robust.Parts.{lock_after, lock_goes_back, lock_want, locked, one_more, raise_after}
+pub use Rattle.steps.specs.Indices.Robust.Parts.{raise_goes_back, raise_want}
+pub use Rattle.steps.specs.Routine.{went_on}
+pub use Rattle.steps.specs.declared.ask.After.{After}
+pub use Rattle.steps.specs.declared.ask.After.TheVariants.{GoOn}
+pub use Rattle.steps.specs.declared.ask.Ask.{Ask}
+pub use Rattle.steps.specs.declared.container.add.AddStage.{AddStage}
+pub use Rattle.steps.specs.declared.container.enums.ContainerRemoveError.TheVariants.{ContainerHandleNotOwnedByContainer}
+pub use Rattle.steps.specs.declared.container.find.FindStage.{FindStage}
+pub use Rattle.steps.specs.declared.container.look.LookStage.{LookStage}
+pub use Rattle.steps.specs.declared.container.recover.DeadOwner.{DeadOwner}
+pub use Rattle.steps.specs.declared.container.recover.RecoverStage.{RecoverStage}
+pub use Rattle.steps.specs.declared.container.remove.RemoveStage.{RemoveStage}
+pub use Rattle.steps.specs.declared.container.replace.ReplaceStage.{ReplaceStage}
+pub use Rattle.steps.specs.declared.container.replace.Replacement.{Replacement}
+pub use Rattle.steps.specs.declared.container.state.ContainerState.{ContainerState}
+pub use Rattle.steps.specs.declared.container.state.Element.{Element}
+pub use Rattle.steps.specs.declared.indices.enums.ReleaseMode.{ReleaseMode}
+pub use Rattle.steps.specs.declared.indices.enums.ReleaseMode.TheVariants.{Default, LockIfLastIndex}
+pub use Rattle.steps.specs.declared.indices.enums.ReleaseState.{ReleaseState}
+pub use Rattle.steps.specs.declared.indices.robust.parts.Count.{Count as Counting}
+pub use Rattle.steps.specs.declared.indices.robust.parts.Lock.{Lock}
+pub use Rattle.steps.specs.declared.indices.robust.parts.Raise.{Raise}
+pub use Rattle.steps.specs.declared.indices.robust.release.GiveBack.{GiveBack}
+pub use Rattle.steps.specs.declared.indices.robust.release.ReleaseStage.{ReleaseStage}
