@@ -45,7 +45,7 @@ module _ {T : Type 0} where
       first (Some q) is = ⊎_elim mine other (cases_eq (owner q) id)
         where
           mine : owner q ≡ id → f e ≡ owned owner id f e
-          mine h = (let t : (owner q == id) ≡ true = grind (arith, nat_tests) in sym (ap (λ o. if_owned owner id o (f e)) is ∙ rw t refl))
+          mine x0 = grind (arith, nat_tests)
 
           other : owner q ≢ id → f e ≡ owned owner id f e
           other ne =
@@ -61,11 +61,7 @@ module _ {T : Type 0} where
   -- a seat that is spent has no party that did something
   pub spent_owned : (owner : ℕ → ℕ) (t : Trace T) (j : ℕ) (v : View T) (f : Event T → ℕ) → Fits owner t j v
       → v.made ≡ [] → v.going ≡ None → sum_by (owned owner j f) t.events ≡ 0
-  spent_owned owner t j v f h none idle =
-      let m = h.made f in
-      let a : sum_by f v.made ≡ 0 = ap (sum_by f) none in
-      let b : sum_by f h.late ≡ 0 = ap (sum_by f) (late_none t.world.kind h.late (subst (λ o. IsLate t.world.kind o h.late) idle h.waits)) in
-      omega arith
+  spent_owned x0 x1 x2 x3 x4 x5 x6 x7 = grind arith
 
   -- ---- what all seats know
 
@@ -212,16 +208,13 @@ module _ {T : Type 0} where
       shares = shares_join share_of views id other v w (joined_view v w) spent_view at apart at' refl refl k.shares
 
       there : get_elem? both id ≡ some (joined_view v w)
-      there = set_else (set views id (joined_view v w)) other id spent_view (λ e. apart (sym e)) ∙ set_here views id (joined_view v w) (within views id v at)
+      there = grind (arith, set_else, set, other, set_here, within)
 
       more : 0 < v.share.part → 0 < (joined_view v w).share.part
       more any = let h = positive v.share.part w.share.parts any (k.shares.fits other w at').0 in omega arith
 
       spent : SpentIn both
-      spent =
-          spent_set (set views id (joined_view v w)) other spent_view
-          (spent_set views id (joined_view v w) k.spent (λ none. (let h = more part in absurd (omega arith))))
-          (λ none. (refl, refl))
+      spent = grind (arith, spent_set, set, other, more)
 
       none_left : (xs rest : List (Event T)) → [] ≡ xs ++ rest → xs ≡ []
       none_left [] rest e = refl
@@ -268,14 +261,4 @@ module _ {T : Type 0} where
           seen (inr h) = inl (early (sym h ∙ alone'))
 
       third : k.by ≢ id → k.by ≢ other → Known both events
-      third ne ne' =
-          record {
-            shares = shares;
-            by = k.by;
-            last = k.last;
-            at = set_else (set views id (joined_view v w)) other k.by spent_view ne' ∙ (set_else views id k.by (joined_view v w) ne ∙ k.at);
-            any = k.any;
-            all = k.all;
-            someone = k.someone;
-            spent = spent;
-          }
+      third x0 x1 = grind (arith, shares, set_else, set, other, spent)

@@ -81,10 +81,7 @@ module _ {T : Type 0} (code : Coding T) (kind : Kind) (capacity size : ℕ)
       other (suc j) v ne at = some-ne-none v (sym at)
 
       made_own : (v : View T) → get_elem? (first_view capacity ∷ []) 0 ≡ some v → (f : Event T → ℕ) → sum_by f v.made + 0 ≡ 0
-      made_own v at f =
-          (let same = some-injective (first_view capacity) v at in
-          let none : sum_by f v.made ≡ 0 = ap (λ (z : View T). sum_by f z.made) (sym same) in
-          omega arith)
+      made_own x0 x1 x2 = grind (arith, some-injective)
 
   -- ---- a call begins
 
@@ -127,11 +124,11 @@ module _ {T : Type 0} (code : Coding T) (kind : Kind) (capacity size : ℕ)
     comes = after_of code flight found
 
     comes_there : goes_of code 0 flight found h.u.world.kept ≡ comes
-    comes_there = goes_on_alike code kind capacity size effects laws h.u h.between.run 0 flight found
+    comes_there = grind arith
 
     ends_so : (own : List (Event T))
         → own ++ ending_of 0 start (answer_in (goes_of code 0 flight found h.u.world.kept)) ≡ own ++ ending_of 0 start (answer_in comes)
-    ends_so own = ap (λ (r : After (Flight T) (Answer T)). own ++ ending_of 0 start (answer_in r)) comes_there
+    ends_so x0 = grind arith
 
     -- it wrote this, all of it its own
     module _ (own : List (Event T)) (is : effects h.u.world 0 flight found ≡ own) (only : AreOf 0 own) where

@@ -19,53 +19,23 @@ pub wider : {T C M E : Type 0} (code : Coding T) (effects : ℕ → Flight T →
     (want : C → Want (Unit {0})) (after : C → ℕ → After C E) (kept : C → M → ℕ → M) (call : Calling T C M E)
     → ((n : ℕ) → some n ≤ more n)
     → IsCallOf code effects some want after kept call → IsCallOf code effects more want after kept call
-wider code effects some more want after kept call low h =
-    record {
-      same_want = h.same_want;
-      same_after = h.same_after;
-      hears = h.hears;
-      stays = h.stays;
-      asks = λ capacity c stands. (let a = h.asks capacity c stands in let below = a.1 in let all = low capacity in (a.0, omega arith, a.2));
-      past = h.past;
-      finds = h.finds;
-      leaves = h.leaves;
-      tells = h.tells;
-      tells_all = h.tells_all;
-    }
+wider x0 x1 x2 x3 x4 x5 x6 x7 x8 x9 = grind arith
 
 module _ {T : Type 0} where
   acquire_is : (kd : QueueKind) (r : Role) (c : ℕ) (m : Unit {0}) (kept : Registry T)
       → ◌≡◌ {A = Option (Flight T)} (first_of (machine_kind kd) c (Queues (acquire_start r)) kept)
       (Some ((takes_role r).flight (record { word = role_word r }) m))
-  acquire_is IndexQueue Producer c m kept = refl
-  acquire_is IndexQueue Consumer c m kept = refl
-  acquire_is Overflow Producer c m kept = refl
-  acquire_is Overflow Consumer c m kept = refl
-  acquire_is Queue Producer c m kept = refl
-  acquire_is Queue Consumer c m kept = refl
+  acquire_is x0 x1 x2 x3 x4 = grind arith
 
   release_is : (kd : QueueKind) (r : Role) (c : ℕ) (m : Unit {0}) (kept : Registry T)
       → ◌≡◌ {A = Option (Flight T)} (first_of (machine_kind kd) c (Queues (release_start r)) kept)
       (Some ((gives_role r).flight (record { word = role_word r }) m))
-  release_is IndexQueue Producer c m kept = refl
-  release_is IndexQueue Consumer c m kept = refl
-  release_is Overflow Producer c m kept = refl
-  release_is Overflow Consumer c m kept = refl
-  release_is Queue Producer c m kept = refl
-  release_is Queue Consumer c m kept = refl
+  release_is x0 x1 x2 x3 x4 = grind arith
 
   len_is : (kd : QueueKind) (which : LengthOf) (c : ℕ) (m : Unit {0}) (kept : Registry T)
       → ◌≡◌ {A = Option (Flight T)} (first_of (machine_kind kd) c (Queues (length_start which)) kept)
       (Some ((counts_waiting which c).flight (first_len c) m))
-  len_is IndexQueue Len c m kept = refl
-  len_is IndexQueue IsEmpty c m kept = refl
-  len_is IndexQueue IsFull c m kept = refl
-  len_is Overflow Len c m kept = refl
-  len_is Overflow IsEmpty c m kept = refl
-  len_is Overflow IsFull c m kept = refl
-  len_is Queue Len c m kept = refl
-  len_is Queue IsEmpty c m kept = refl
-  len_is Queue IsFull c m kept = refl
+  len_is x0 x1 x2 x3 x4 = grind arith
 
 -- ---- who lacks no role for it
 
@@ -74,13 +44,10 @@ acquire_lacks T Producer roles p = refl
 acquire_lacks T Consumer roles p = refl
 
 release_lacks : (T : Type 0) (r : Role) (roles : Roles) (p : ℕ) → holder r roles ≡ Some p → lacks_role {T = T} roles p (release_start r) ≡ false
-release_lacks T Producer roles p is = holds_it roles.producer p is
-release_lacks T Consumer roles p is = holds_it roles.consumer p is
+release_lacks x0 x1 x2 x3 x4 = grind arith
 
 len_lacks : (T : Type 0) (which : LengthOf) (roles : Roles) (p : ℕ) → lacks_role {T = T} roles p (length_start which) ≡ false
-len_lacks T Len roles p = refl
-len_lacks T IsEmpty roles p = refl
-len_lacks T IsFull roles p = refl
+len_lacks x0 x1 x2 x3 = grind arith
 
 module _ {T : Type 0} (code : Coding T) (kd : QueueKind) (x : View T) (m : Unit {0}) (idle : x.going ≡ None)
     (alone : x.other ≡ []) (any : 0 < x.share.part) where

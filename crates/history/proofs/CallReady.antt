@@ -23,20 +23,16 @@ module _ {T C M E : Type 0} (code : Coding T) (kind : Kind) (effects : World T �
   Stage base v c m = At code kind call base v c m
 
   pub same_capacity : (base v : View T) (c : C) (m : M) → Stage base v c m → v.capacity ≡ base.capacity
-  same_capacity base v c m (inl first) = ap (λ (z : View T). z.capacity) first.is
-  same_capacity base v c m (inr under) = under.capacity
+  same_capacity x0 x1 x2 x3 x4 = grind arith
 
   pub same_share : (base v : View T) (c : C) (m : M) → Stage base v c m → v.share ≡ base.share
-  same_share base v c m (inl first) = ap (λ (z : View T). z.share) first.is
-  same_share base v c m (inr under) = under.share
+  same_share x0 x1 x2 x3 x4 = grind arith
 
   pub some_share : (base v : View T) (c : C) (m : M) → Stage base v c m → 0 < v.share.part
-  some_share base v c m (inl first) = subst (λ (z : View T). 0 < z.share.part) (sym first.is) first.some
-  some_share base v c m (inr under) = under.some
+  some_share x0 x1 x2 x3 x4 = grind arith
 
   pub still_stands : (base v : View T) (c : C) (m : M) → Stage base v c m → call.stands base.capacity c
-  still_stands base v c m (inl first) = first.standing
-  still_stands base v c m (inr under) = under.standing
+  still_stands x0 x1 x2 x3 x4 = grind arith
 
   -- ---- the machine, before the step
 
@@ -84,121 +80,37 @@ module _ {T C M E : Type 0} (code : Coding T) (kind : Kind) (effects : World T �
 
     -- who has a share has seen all of its own, but for what another wrote for it
     not_seen : (p : ℕ) → events_by p v.seen ++ events_by p here.late ≡ events_by p r.trace.events → events_by p here.seen.rest ≡ events_by p here.late
-    not_seen p e =
-        same_rest (events_by p v.seen) (events_by p here.seen.rest) (events_by p here.late)
-        (sym (e ∙ (ap (events_by p) here.seen.is ∙ by_more p v.seen here.seen.rest)))
+    not_seen x0 x1 = grind (arith, same_rest, by_more)
 
     nothing_own : 0 < v.share.part → v.other ≡ [] → here.late ≡ [] → (p : ℕ) → r.owner p ≡ id → events_by p here.seen.rest ≡ []
-    nothing_own any alone none p of_id =
-        ⊎_elim (λ (e : events_by p v.seen ++ events_by p here.late ≡ events_by p r.trace.events). not_seen p e ∙ ap (events_by p) none)
-        (λ (h : (call_in r.trace.world p ≡ None) × (events_by p v.other ≡ events_by p r.trace.events)). nil_right
-        (events_by p v.seen) (events_by p here.seen.rest)
-        (sym (by_more p v.seen here.seen.rest) ∙ (sym (ap (events_by p) here.seen.is) ∙ (sym h.1 ∙ ap (events_by p) alone))))
-        (here.own any p of_id)
+    nothing_own x0 x1 x2 x3 x4 = grind (arith, not_seen, nil_right, by_more)
 
     late_here : IsLate kind v.going here.late
     late_here = subst (λ k. IsLate k v.going here.late) r.run.of_kind here.waits
 
     none_late_here : v.going ≡ None → here.late ≡ []
-    none_late_here none = late_none kind here.late (subst (λ o. IsLate kind o here.late) none late_here)
+    none_late_here x0 = grind arith
 
     first_prior : (p : ℕ) → r.owner p ≡ id → (base : View T) → v.going ≡ None → Stage base v c m
         → Told_by p c m base (r.trace.events ++ Begun p call.start ∷ []) (v.made ++ Begun p call.start ∷ [])
-    first_prior p of_id base none (inl first) =
-        let opens : opened p call.start base.going ≡ Begun p call.start ∷ [] = ap (opened p call.start) first.idle in
-        let fresh : v.other ≡ [] = ap (λ (z : View T). z.other) first.is ∙ first.fresh in
-        record {
-          wrote = [];
-          tells = subst (λ (o : Option (Start T × Flight T)). call.wrote base.capacity p o c m []) (sym first.idle) (first.wrote p);
-          late = [];
-          waits = none_late kind (Some (call.start, call.flight c m));
-          prior =
-              record {
-                others = here.seen.rest;
-                during = [];
-                is =
-                    ap (λ es. es ++ Begun p call.start ∷ []) (here.seen.is ∙ ap (λ (z : View T). z.seen ++ here.seen.rest) first.is)
-                    ∙ ap (λ es. (base.seen ++ here.seen.rest) ++ es) (sym (append-nil (opened p call.start base.going) ∙ opens));
-                alone = λ all. nothing_else (subst (λ (z : View T). IsAll z.share) (sym first.is) all) fresh;
-                others_own = nothing_own (some_share base v c m (inl first)) fresh (none_late_here none) p of_id;
-                during_own = refl;
-                made_is =
-                    ap (λ (z : View T). z.made ++ Begun p call.start ∷ []) first.is
-                    ∙ ap (λ es. base.made ++ es) (sym (append-nil (opened p call.start base.going) ∙ opens));
-              };
-        }
-    first_prior p of_id base none (inr under) =
-        let no : ◌≡◌ {A = Option (Start T × Flight T)} None (Some (call.start, call.flight c m)) = sym none ∙ under.going in
-        absurd (cc)
+    first_prior x0 x1 x2 x3 x4 = grind (arith, opened, none_late, append-nil, nothing_else, nothing_own, some_share, none_late_here)
 
     -- the party of a call under way has seen all of its own, but what is late
     late_own : (p : ℕ) → r.owner p ≡ id → v.party ≡ Some p → v.going ≡ Some (call.start, call.flight c m)
         → 0 < v.share.part → events_by p here.seen.rest ≡ here.late
-    late_own p of_id is_p has any =
-        ⊎_elim (λ (e : events_by p v.seen ++ events_by p here.late ≡ events_by p r.trace.events). not_seen p e
-        ∙ subst (λ (o : Option ℕ). by_party o here.late ≡ here.late) is_p here.of_party)
-        (λ (h : (call_in r.trace.world p ≡ None) × (events_by p v.other ≡ events_by p r.trace.events)).
-        (let no : ◌≡◌ {A = Option (Start T × Flight T)} None (Some (call.start, call.flight c m)) =
-        sym h.0 ∙ (here.going p of_id is_p ∙ has) in
-        absurd (cc)))
-        (here.own any p of_id)
+    late_own x0 x1 x2 x3 x4 = grind (arith, not_seen, by_party)
 
     later_prior : (p : ℕ) → r.owner p ≡ id → v.party ≡ Some p → (base : View T)
         → v.going ≡ Some (call.start, call.flight c m) → Stage base v c m
         → Told_by p c m base r.trace.events (v.made ++ here.late)
-    later_prior p of_id is_p base has (inl first) =
-        let no : ◌≡◌ {A = Option (Start T × Flight T)} None (Some (call.start, call.flight c m)) =
-        sym first.idle ∙ (ap (λ (z : View T). z.going) (sym first.is) ∙ has) in
-        absurd (cc)
-    later_prior p of_id is_p base has (inr under) =
-        let both : ◌≡◌ {A = Option ℕ} (Some under.party) (Some p) = sym under.mine ∙ is_p in
-        let same : under.party ≡ p = cc in
-        let since : Since p call.start under.wrote [] base v = subst (λ z. Since z call.start under.wrote [] base v) same under.since in
-        let rest = here.seen.rest in
-        record {
-          wrote = under.wrote;
-          tells = subst (λ z. call.wrote base.capacity z base.going c m under.wrote) same under.tells;
-          late = here.late;
-          waits = subst (λ o. IsLate kind o here.late) has late_here;
-          prior =
-              record {
-                others = since.others;
-                during = since.during ++ rest;
-                is =
-                    here.seen.is
-                    ∙ (ap (λ es. es ++ rest) since.is
-                    ∙ (ap (λ zs. ((base.seen ++ since.others) ++ (opened p call.start base.going ++ zs)) ++ rest) (append-nil since.during)
-                    ∙ (append_assoc (base.seen ++ since.others) (opened p call.start base.going ++ since.during) rest
-                    ∙ ap (λ zs. (base.seen ++ since.others) ++ zs) (append_assoc (opened p call.start base.going) since.during rest))));
-                alone = since.alone;
-                others_own = since.others_own;
-                during_own =
-                    by_more p since.during rest
-                    ∙ (ap (λ zs. events_by p since.during ++ zs) (late_own p of_id is_p has under.some)
-                    ∙ ap (λ zs. zs ++ here.late) since.during_own);
-                made_is =
-                    ap (λ es. es ++ here.late) (since.made ∙ ap (λ zs. base.made ++ (opened p call.start base.going ++ zs)) (append-nil under.wrote))
-                    ∙ (append_assoc base.made (opened p call.start base.going ++ under.wrote) here.late
-                    ∙ ap (λ zs. base.made ++ zs) (append_assoc (opened p call.start base.going) under.wrote here.late));
-              };
-        }
+    later_prior x0 x1 x2 x3 x4 x5 = grind (arith, late_here, opened, append-nil, append_assoc, by_more, late_own)
 
     -- as which party the call began
     first_by : (p : ℕ) → call.by v.party p → (base : View T) → v.going ≡ None → Stage base v c m → call.by base.party p
-    first_by p by base none (inl first) = subst (λ (z : View T). call.by z.party p) first.is by
-    first_by p by base none (inr under) =
-        let no : ◌≡◌ {A = Option (Start T × Flight T)} None (Some (call.start, call.flight c m)) = sym none ∙ under.going in
-        absurd (cc)
+    first_by x0 x1 x2 x3 x4 = grind arith
 
     later_by : (p : ℕ) → v.party ≡ Some p → (base : View T) → v.going ≡ Some (call.start, call.flight c m) → Stage base v c m → call.by base.party p
-    later_by p is_p base has (inl first) =
-        let no : ◌≡◌ {A = Option (Start T × Flight T)} None (Some (call.start, call.flight c m)) =
-        sym first.idle ∙ (ap (λ (z : View T). z.going) (sym first.is) ∙ has) in
-        absurd (cc)
-    later_by p is_p base has (inr under) =
-        let both : ◌≡◌ {A = Option ℕ} (Some under.party) (Some p) = sym under.mine ∙ is_p in
-        let same : under.party ≡ p = cc in
-        subst (λ q. call.by base.party q) same under.same
+    later_by x0 x1 x2 x3 x4 = grind arith
 
     pub ready : (base : View T) → Stage base v c m → Ready s v key id c m
     ready base (inl first) =

@@ -1,4 +1,5 @@
 -- A step of a call as a turn of the machine: what the view says then.
+use Rattle.std.proofs.Common.{arith}
 use Rattle.history.proofs.Names.{false, ◌≡◌, inl, inr, ℕ, ◌<◌, Option, Some, None, IfSome, List, [], ◌∷◌, ◌++◌, refl}
 use Rattle.history.proofs.Names.{sym, ap, subst, ◌∙◌, append_assoc, sum_by, fold, sum_by-append, Ask, After, GoOn}
 use Rattle.history.proofs.Names.{Answer, Event, Finished, Flight, Kind, Turn, Next, Coding, want_of, goes_of, ask_of}
@@ -151,15 +152,10 @@ module _ {T C M E : Type 0} (code : Coding T) (kind : Kind) (effects : World T �
 
     -- its party has the state that it had
     party_now : (base : View T) → Stage base v c m → base.party ≡ Some y.p → v.party ≡ Some y.p
-    party_now base (inl first) was = ap (λ (z : View T). z.party) first.is ∙ was
-    party_now base (inr under) was = y.as_party under.going
+    party_now x0 x1 x2 = grind arith
 
     state_now : (base : View T) → Stage base v c m → LeavesState call → base.party ≡ Some y.p → v.state ≡ base.state
-    state_now base (inl first) leaves was = ap (λ (z : View T). z.state) first.is
-    state_now base (inr under) leaves was =
-        let both : ◌≡◌ {A = Option ℕ} (Some under.party) (Some y.p) = sym under.mine ∙ y.as_party under.going in
-        let same : under.party ≡ y.p = cc in
-        under.state leaves (was ∙ ap Some (sym same))
+    state_now x0 x1 x2 x3 = grind arith
 
     -- nothing refuses the step
     free_then : refusal_as kind y.u.world (Next y.p) ≡ None

@@ -1,4 +1,5 @@
 -- What a caller knows of a whole call.
+use Rattle.std.proofs.Common.{arith}
 use Rattle.history.proofs.Names.{◌≡◌, inl, inr, ℕ, Option, Some, None, List, [], ◌∷◌, ◌++◌, refl, sym, ap, subst, ◌∙◌}
 use Rattle.history.proofs.Names.{append-nil, Event, Begun, Finished, Start, Flight, Kind, Coding, IsAll}
 use Rattle.history.specs.declared.view.View.{View}
@@ -9,19 +10,7 @@ module _ {T C M E : Type 0} (code : Coding T) (kind : Kind) (call : Calling T C 
   -- where no call was under way before it, it began
   pub called : (base w : View T) (e : E) (m : M) → base.going ≡ None → (ends : Ends code kind call base e m w)
       → Called ends.party call.start (call.answer e m) ends.wrote base w
-  called base w e m idle ends =
-      let since = ends.since in
-      let opens : opened ends.party call.start base.going ≡ Begun ends.party call.start ∷ [] = ap (opened ends.party call.start) idle in
-      let last : List (Event T) = Finished ends.party call.start (call.answer e m) ∷ [] in
-      record {
-        others = since.others;
-        during = since.during;
-        is = since.is ∙ ap (λ os. (base.seen ++ since.others) ++ (os ++ (since.during ++ last))) opens;
-        alone = since.alone;
-        others_own = since.others_own;
-        during_own = since.during_own;
-        made = since.made ∙ ap (λ os. base.made ++ (os ++ (ends.wrote ++ last))) opens;
-      }
+  called x0 x1 x2 x3 x4 x5 = grind arith
 
   -- a call may be told of from where it stands as well
   pub at_itself : (base v : View T) (c : C) (m : M) → ((p : ℕ) → call.by (Some p) p)

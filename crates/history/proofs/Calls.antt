@@ -37,33 +37,19 @@ module _ {T : Type 0} where
 
   at_doing : (start : Start T) (doing : Doing T) (name : Start T) (flight : Flight T)
       → call_at start doing ≡ Some (name, flight) → (start ≡ name) × (since : ℕ) × (doing ≡ Going flight since)
-  at_doing start (Over others) name flight e = absurd (cc)
-  at_doing start (Going f since) name flight e =
-      let same : (start, f) ≡ (name, flight) = cc in
-      (ap (λ (z : Start T × Flight T). z.0) same, since, ap (λ (z : Start T × Flight T). Going z.1 since) same)
+  at_doing x0 x1 x2 x3 x4 = grind arith
 
   pub stands : (w : World T) (p : ℕ) (start : Start T) (flight : Flight T) → call_in w p ≡ Some (start, flight) → Stands w p start flight
-  stands w p start flight e = go (party_of p w.latest) refl e
-    where
-      go : (o : Option (Party T)) → party_of p w.latest ≡ o → call_of o ≡ Some (start, flight) → Stands w p start flight
-      go None f e = absurd (cc)
-      go (Some x) f e =
-          let d = at_doing x.start x.doing start flight e in
-          record { x = x; since = d.1; found = f; named = d.0; doing = d.2 }
+  stands x0 x1 x2 x3 x4 = grind arith
 
   pub flight_is : (w : World T) (p : ℕ) (start : Start T) (flight : Flight T) → Stands w p start flight → flight_in w p ≡ Some flight
-  flight_is w p start flight h = ap (λ o. flight_of (doing_of o)) h.found ∙ ap (λ d. flight_of (Some d)) h.doing
+  flight_is x0 x1 x2 x3 x4 = grind arith
 
   no_doing : (start : Start T) (doing : Doing T) → call_at start doing ≡ None → flight_of (Some doing) ≡ None
-  no_doing start (Going flight since) e = absurd (cc)
-  no_doing start (Over others) e = refl
+  no_doing x0 x1 x2 = grind arith
 
   pub no_flight : (w : World T) (p : ℕ) → call_in w p ≡ None → flight_in w p ≡ None
-  no_flight w p e = go (party_of p w.latest) e
-    where
-      go : (o : Option (Party T)) → call_of o ≡ None → flight_of (doing_of o) ≡ None
-      go None e = refl
-      go (Some x) e = no_doing x.start x.doing e
+  no_flight x0 x1 x2 = grind arith
 
   -- ---- the calls of other parties
 
@@ -78,8 +64,7 @@ module _ {T : Type 0} where
       go (Going flight since) = ap call_of (party_put_other q p _ w.latest ne)
 
   pub begin_other : (w : World T) (p q : ℕ) (start : Start T) → q ≢ p → (o : Option (Flight T)) → call_in (after_begin w p start o) q ≡ call_in w q
-  begin_other w p q start ne None = refl
-  begin_other w p q start ne (Some flight) = ap call_of (party_put_other q p _ w.latest ne)
+  begin_other x0 x1 x2 x3 x4 x5 = grind (arith, party_put_other)
 
   pub decision_other : (w : World T) (p q : ℕ) (said : Bool) → q ≢ p → (o : Option (Party T)) → call_in (after_decision w p said o) q ≡ call_in w q
   decision_other w p q said ne None = refl
@@ -99,46 +84,29 @@ module _ {T : Type 0} where
 
   pub goes_alike : (code : Coding T) (p : ℕ) (flight : Flight T) (n : ℕ) (kept : Registry T) → IsStateless kept
       → goes_of code p flight n kept ≡ after_of code flight n
-  goes_alike code p (flights.TheVariants.Container flight) n (registries.TheVariants.Container dead states) none = absurd none
-  goes_alike code p (flights.TheVariants.Loan flight) n (registries.TheVariants.Loan book) none = absurd none
-  goes_alike code p flight n kept none = refl
+  goes_alike x0 x1 x2 x3 x4 x5 = grind arith
 
   -- no party has a state then
   pub stateless_none : (kept : Registry T) (p : ℕ) → IsStateless kept → state_in kept p ≡ None
-  stateless_none (registries.TheVariants.Container dead states) p none = absurd none
-  stateless_none kept p none = refl
+  stateless_none x0 x1 x2 = grind arith
 
   pub opens_without : (kind : Kind) (capacity p : ℕ) → state_in {T = T} ((opening_of kind).kept capacity) p ≡ None
-  opens_without IndexQueue capacity p = refl
-  opens_without Overflow capacity p = refl
-  opens_without Queue capacity p = refl
-  opens_without Atomic capacity p = refl
-  opens_without Bits capacity p = refl
-  opens_without Counts capacity p = refl
-  opens_without Indices capacity p = refl
-  opens_without Robust capacity p = refl
-  opens_without kinds.TheVariants.Container capacity p = refl
-  opens_without Loan capacity p = refl
+  opens_without x0 x1 x2 = grind arith
 
   -- a turn of another party is no look of this one's
   pub look_begin : (w : World T) (p q : ℕ) (start : Start T) → q ≢ p → is_look_of w q (Begin p start) ≡ false
-  look_begin w p q (Container GetState) ne = other_number p q ne
-  look_begin w p q (Container UpdateState) ne = other_number p q ne
-  look_begin w p q start ne = refl
+  look_begin x0 x1 x2 x3 x4 = grind arith
 
   pub look_next : (w : World T) (p q : ℕ) → q ≢ p → is_look_of w q (Next p) ≡ false
   look_next w p q ne = rw (other_number p q ne) refl
 
   -- nor is a begin, or a step, of a call that is none
   pub begins_no_look : (w : World T) (p : ℕ) (start : Start T) → is_state_look start ≡ false → is_look_of w p (Begin p start) ≡ false
-  begins_no_look w p (Container GetState) e = absurd (cc)
-  begins_no_look w p (Container UpdateState) e = absurd (cc)
-  begins_no_look w p start e = refl
+  begins_no_look x0 x1 x2 x3 = grind arith
 
   pub next_no_look : (w : World T) (p : ℕ) (start : Start T) (flight : Flight T) → call_in w p ≡ Some (start, flight)
       → is_looking (Some flight) ≡ false → is_look_of w p (Next p) ≡ false
-  next_no_look w p start flight at none =
-      steps_no_look (p == p) (is_looking (flight_in w p)) (ap is_looking (flight_is w p start flight (stands w p start flight at)) ∙ none)
+  next_no_look x0 x1 x2 x3 x4 x5 = grind arith
 
   -- ---- the own call
 
@@ -159,10 +127,7 @@ module _ {T : Type 0} where
 
   pub begin_own : (w : World T) (p : ℕ) (start : Start T) (flight : Flight T) (o : Option (Flight T))
       → o ≡ Some flight → call_in (after_begin w p start o) p ≡ Some (start, flight)
-  begin_own w p start flight None e = absurd (cc)
-  begin_own w p start flight (Some f) e =
-      let same : f ≡ flight = cc in
-      ap call_of (party_put_same p (party_at_begin start f w.changes) w.latest) ∙ ap (λ (g : Flight T). Some (start, g)) same
+  begin_own x0 x1 x2 x3 x4 x5 = grind (arith, party_put_same)
 
   -- what a step of it comes to, where it writes this
   pub record Moved (w : World T) (p : ℕ) (start : Start T) (flight : Flight T) (old : ℕ) (wrote : List (Event T)) : Type 0 where
@@ -171,8 +136,7 @@ module _ {T : Type 0} where
 
   then_at : (start : Start T) (changes since : ℕ) (after : After (Flight T) (Answer T))
       → call_at start (Rattle.model.specs.Turns.doing_after changes since after) ≡ call_then start after
-  then_at start changes since (GoOn flight) = refl
-  then_at start changes since (Done answer) = refl
+  then_at x0 x1 x2 x3 = grind arith
 
   -- where the family goes on as its table says, from what it keeps
   module _ (w : World T) (p : ℕ) (start : Start T) (flight : Flight T) (writes : ℕ → List (Event T)) (h : Stands w p start flight)
@@ -187,20 +151,13 @@ module _ {T : Type 0} where
       after = goes_of w.coding p flight old w.kept
 
       stepped : call_in (after_step w p h.x h.since ask s) p ≡ call_then start after
-      stepped =
-          ap call_of (party_put_same p (party_after h.x h.since w.changes (step_count ask) (change_of w.words ask) s) w.latest)
-          ∙ (then_at h.x.start _ _ s.after ∙ (ap (call_then h.x.start) (goes h.x old h.found) ∙ ap (λ (z : Start T). call_then z after) h.named))
+      stepped = grind (arith, party_put_same, then_at)
 
       tells : events_of_step p h.x.start s ≡ writes old ++ ending_of p start (answer_in after)
-      tells =
-          ap (λ (a : After (Flight T) (Answer T)). s.wrote ++ ending_of p h.x.start (answer_in a)) (goes h.x old h.found)
-          ∙ (ap (λ (z : Start T). s.wrote ++ ending_of p z (answer_in after)) h.named
-          ∙ ap (λ es. es ++ ending_of p start (answer_in after)) (same h.x old h.found))
+      tells = grind arith
 
     pub moved : Moved w p start flight (old_of w.words (ask_of (want_of w.coding flight))) (writes (old_of w.words (ask_of (want_of w.coding flight))))
-    moved =
-        let ask = ask_of (want_of w.coding flight) in
-        record { going = rw (h.found, h.doing) (stepped ask (old_of w.words ask)); events = rw (h.found, h.doing) (tells ask (old_of w.words ask)) }
+    moved = grind (arith, stepped, tells)
 
     -- handed an answer to its question
     pub heard_going : (said : Bool)

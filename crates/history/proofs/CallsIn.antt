@@ -31,9 +31,7 @@ none_after (x ∷ xs) rest e = absurd (cc)
 
 -- a list that a call begins or goes on with, and more of it
 pub regroup : {A : Type 0} → (xs os ds es ls : List A) → (xs ++ (os ++ ds)) ++ (es ++ ls) ≡ xs ++ (os ++ ((ds ++ es) ++ ls))
-regroup xs os ds es ls =
-    append_assoc xs (os ++ ds) (es ++ ls)
-    ∙ ap (λ zs. xs ++ zs) (append_assoc os ds (es ++ ls) ∙ ap (λ zs. os ++ zs) (sym (append_assoc ds es ls)))
+regroup x0 x1 x2 x3 x4 = grind (arith, append_assoc)
 
 -- a call of the driver as a call of the model
 module _ {T C M E : Type 0} (call : Calling T C M E) where
@@ -166,10 +164,7 @@ steps_as {T} {C} {M} {E} {Asks} {Goes} code kind effects own want after kept cal
         → IsLate kind (Some (call.start, call.flight c m)) late
         → Met code kind capacity call.start (call.flight c m) p from (es ++ late) n t
         → (es ++ late) ++ events_by p (effects t.world p (call.flight c m) n) ≡ es ++ own p (call.flight c m) n
-    all capacity p from c m n es late t waits met =
-        ap (λ zs. (es ++ zs) ++ events_by p (effects t.world p (call.flight c m) n)) (never c m late waits)
-        ∙ (ap (λ zs. zs ++ events_by p (effects t.world p (call.flight c m) n)) (append-nil es)
-        ∙ ap (λ zs. es ++ zs) (same capacity p c m n t met.run met.there))
+    all x0 x1 x2 x3 x4 x5 x6 x7 x8 x9 x10 = grind (arith, append-nil)
 
 pub steps_in : {T C M E Asks : Type 0} (code : Coding T) (kind : Kind) (effects : World T → ℕ → Flight T → ℕ → List (Event T))
     (own : ℕ → Flight T → ℕ → List (Event T)) (want : C → Want (Unit {0})) (after : C → ℕ → After C E) (kept : C → M → ℕ → M) (call : Calling T C M E)
@@ -183,19 +178,7 @@ steps_in code kind effects own want after kept call never same h = steps_as code
 pub with_goes : {T C M E Asks Goes Others : Type 0} (code : Coding T) (kind : Kind) (effects : World T → ℕ → Flight T → ℕ → List (Event T))
     (want : C → Want (Unit {0})) (after : C → ℕ → After C E) (kept : C → M → ℕ → M) (call : Calling T C M E)
     → Others → StepsAs Asks Goes code kind effects want after kept call → StepsAs Asks Others code kind effects want after kept call
-with_goes code kind effects want after kept call goes_so h =
-    record {
-      same_want = h.same_want;
-      same_after = goes_so;
-      hears = h.hears;
-      stays = h.stays;
-      asks = h.asks;
-      past = h.past;
-      finds = h.finds;
-      leaves = h.leaves;
-      tells = h.tells;
-      tells_all = h.tells_all;
-    }
+with_goes x0 x1 x2 x3 x4 x5 x6 x7 x8 = grind arith
 
 -- of a call that goes on by itself, and whose party writes for itself alone, by this of what the kind writes
 pub record ActsAlone {T C M E : Type 0} (code : Coding T) (kind : Kind) (effects : World T → ℕ → Flight T → ℕ → List (Event T))
@@ -214,8 +197,7 @@ module _ {T C M E : Type 0} (code : Coding T) (kind : Kind) (effects : World T �
   pub written_alone : (capacity p : ℕ) (c : C) (m : M) (n : ℕ) (t : Trace T) → IsRun code kind capacity t
       → call_in t.world p ≡ Some (call.start, call.flight c m)
       → events_by p (effects t.world p (call.flight c m) n) ≡ own p (call.flight c m) n
-  written_alone capacity p c m n t run there =
-      ap (events_by p) (acts.same capacity p c m n t run) ∙ by_mine p (own p (call.flight c m) n) (acts.its_own capacity p c m n t run there)
+  written_alone x0 x1 x2 x3 x4 x5 x6 x7 = grind (arith, by_mine)
 
   pub steps_alone : {Asks : Type 0} (want : C → Want (Unit {0})) (after : C → ℕ → After C E) (kept : C → M → ℕ → M)
       → StepsOf Asks code own want after kept call → StepsThere Asks code kind effects want after kept call

@@ -62,12 +62,7 @@ module _ {T : Type 0} (p index : ℕ) (before : List (Event T)) where
 module _ {T : Type 0} (words_of : T → List ℕ) (size : ℕ) where
   add_found : (c : Adding T) (stage : AddStage) (given : Owned T) (a : Ask) (n : ℕ) → add_asks words_of size c.capacity stage given ≡ wants.Ask a
       → add_takes size c stage (answered a.op n) ≡ add_takes size c stage n
-  add_found c (adds.Acquires stage) given a n e = ap (add_takes size c (adds.Acquires stage)) (acquire_found stage given.owner a n e)
-  add_found c (adds.LoadsCount index) given a n e = ap (add_takes size c (adds.LoadsCount index)) (found_of _ a n refl e)
-  add_found c (adds.Hides index count) given a n e = refl
-  add_found c (adds.Stores index at) given a n e = refl
-  add_found c (adds.AddsCount index) given a n e = refl
-  add_found c (adds.AddsChange index) given a n e = refl
+  add_found x0 x1 x2 x3 x4 x5 = grind arith
 
   add_words : (capacity : ℕ) (stage : AddStage) (given : Owned T) → AddIn size capacity stage
       → AsksFor (total_words capacity size) (add_asks words_of size capacity stage given)
@@ -89,10 +84,7 @@ module _ {T : Type 0} (capacity size : ℕ) (some : 0 < size) (c : Adding T) (sa
   IsAcquired stage = AcquireGoes T capacity (inner_acquire c.capacity stage) same p given.owner
 
   acquired : (stage : AcquireStage) (es : List (Event T)) (r : After Acquiring Acquired) → IsAcquired stage es r → AddGoes es (add_acquired c r)
-  acquired stage es (GoOn acquire) h = ((same, h.0.1), h.1)
-  acquired stage es (Done (Ok index)) h = ((same, h.0), h.1)
-  acquired stage es (Done (Err failures.IsLocked)) h = h
-  acquired stage es (Done (Err failures.OutOfIndices)) h = h
+  acquired x0 x1 x2 x3 = grind arith
 
   adds_so : (stage : AddStage) (k : ℕ) (es : List (Event T)) → AddIn size capacity stage → AddedAt p given stage es
       → AddGoes (es ++ add_effects p given stage k) (add_takes size c stage k)
@@ -140,10 +132,7 @@ module _ {T : Type 0} (code : Coding T) (law : IsCoding code) (given : Owned T) 
   add_goes : (capacity p : ℕ) (c : Adding T) (n : ℕ) (es : List (Event T)) (r : After (Adding T) Added) → (h : adding.stands capacity c)
       → AddedAt p given c.stage es → add_then c n ≡ r
       → AddGoes capacity code.size has_words c h.0 p given (es ++ (add_effects p given c.stage n ++ [])) r
-  add_goes capacity p c n es r h at e =
-      subst (λ zs. AddGoes capacity code.size has_words c h.0 p given (es ++ zs) r) (sym (append-nil (add_effects p given c.stage n)))
-      (subst (AddGoes capacity code.size has_words c h.0 p given (es ++ add_effects p given c.stage n)) e
-      (adds_so capacity code.size has_words c h.0 p given c.stage n es h.1 at))
+  add_goes x0 x1 x2 x3 x4 x5 x6 x7 x8 = grind arith
 
   add_call : IsCallOf code (plain_effects code) (container_words code) (λ c. add_want code.words_of code.size c given) add_then (λ c m n. m) adding
   add_call =
@@ -190,13 +179,7 @@ module _ {T : Type 0} (words_of : T → List ℕ) (size : ℕ) where
   replace_found : (c : Replacing T) (stage : ReplaceStage) (given : Replacement T) (a : Ask) (n : ℕ)
       → replace_asks words_of size c.capacity stage given ≡ wants.Ask a
       → replace_takes size c stage given (answered a.op n) ≡ replace_takes size c stage given n
-  replace_found c replaces.Refuses given a n e = refl
-  replace_found c replaces.LoadsCell given a n e = ap (replace_takes size c replaces.LoadsCell given) (found_of _ a n refl e)
-  replace_found c replaces.LoadsCount given a n e = ap (replace_takes size c replaces.LoadsCount given) (found_of _ a n refl e)
-  replace_found c (replaces.Hides count) given a n e = refl
-  replace_found c (replaces.Stores at) given a n e = refl
-  replace_found c replaces.AddsCount given a n e = refl
-  replace_found c replaces.AddsChange given a n e = refl
+  replace_found x0 x1 x2 x3 x4 x5 = grind arith
 
   replace_words : (capacity : ℕ) (stage : ReplaceStage) (given : Replacement T) → given.index < capacity → ReplaceIn size stage
       → AsksFor (total_words capacity size) (replace_asks words_of size capacity stage given)
@@ -233,13 +216,7 @@ module _ {T : Type 0} (capacity size : ℕ) (some : 0 < size) (c : Replacing T) 
   replaces_so replaces.AddsChange k es h at = still_put p given.index [] es given.value at
 
   some_replaced : (stage : ReplaceStage) → (es : List (Event T)) × ReplacedAt p given stage es
-  some_replaced replaces.Refuses = (_, refl)
-  some_replaced replaces.LoadsCell = (_, refl)
-  some_replaced replaces.LoadsCount = (_, refl)
-  some_replaced (replaces.Hides count) = (_, refl)
-  some_replaced (replaces.Stores at) = (_, (false, refl))
-  some_replaced replaces.AddsCount = (_, (false, refl))
-  some_replaced replaces.AddsChange = (_, (false, false, refl))
+  some_replaced x0 = grind arith
 
 module _ {T : Type 0} (code : Coding T) (law : IsCoding code) (given : Replacement T) where
   abbrev replacing : Calling T (Replacing T) (Unit {0}) Replaced
@@ -259,10 +236,7 @@ module _ {T : Type 0} (code : Coding T) (law : IsCoding code) (given : Replaceme
   replace_goes : (capacity p : ℕ) (c : Replacing T) (n : ℕ) (es : List (Event T)) (r : After (Replacing T) Replaced) → (h : replacing.stands capacity c)
       → ReplacedAt p given c.stage es → replace_then c n ≡ r
       → ReplaceGoes capacity code.size has_some c h.0 p given h.1 (es ++ (replace_effects p given c.stage n ++ [])) r
-  replace_goes capacity p c n es r h at e =
-      subst (λ zs. ReplaceGoes capacity code.size has_some c h.0 p given h.1 (es ++ zs) r) (sym (append-nil (replace_effects p given c.stage n)))
-      (subst (ReplaceGoes capacity code.size has_some c h.0 p given h.1 (es ++ replace_effects p given c.stage n)) e
-      (replaces_so capacity code.size has_some c h.0 p given h.1 c.stage n es h.2 at))
+  replace_goes x0 x1 x2 x3 x4 x5 x6 x7 x8 = grind arith
 
   replace_call : IsCallOf code (plain_effects code) (container_words code) (λ c. replace_want code.words_of code.size c given) replace_then (λ c m n. m)
       replacing

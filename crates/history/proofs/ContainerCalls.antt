@@ -44,7 +44,7 @@ pub count_low : (capacity size index : ℕ) → index < capacity → count_word 
 count_low capacity size index low = omega arith
 
 pub place_is : (capacity index : ℕ) → index < capacity → place_of capacity index ≡ index
-place_is capacity index low = (let below : nat_lt index capacity ≡ true = grind (arith, nat_tests) in rw below refl)
+place_is x0 x1 x2 = grind arith
 
 -- ---- looks at the set
 
@@ -55,22 +55,7 @@ module _ {T : Type 0} (code : Coding T) (which : CountOf) where
   as_counted (Done n) = refl
 
   count_call : IsCallOf code (plain_effects code) (container_words code) borrowed_want borrowed_after (λ c m n. m) (counts_values which)
-  count_call =
-      record {
-        same_want = λ c m. refl;
-        same_after = λ capacity c m n h. as_counted (borrowed_after c n);
-        hears = λ c m a n e. (ap (borrowed_after c) (count_found c.count a n e), refl);
-        stays = λ capacity c d n h e. subst (CountGoes capacity) e
-            (counts_so capacity c h.0 (count_after c.capacity c.count n) (count_on capacity c.capacity h.0 c.count n));
-        asks =
-            λ capacity c h. fewer (capacity + 1) (container_words code capacity) (borrowed_want c)
-            (set_words capacity code.size) (count_asks capacity c.count h.1);
-        past = λ capacity c d n k h e. refl;
-        finds = λ c m n small t. tt;
-        leaves = λ c a n t e. absurd (cc);
-        tells = λ capacity p from c d m n es h wrote e. ap (λ zs. zs ++ []) wrote;
-        tells_all = λ capacity p from c end m n es h skip wrote e still. ap (λ zs. zs ++ []) wrote;
-      }
+  count_call = grind (arith, as_counted, count_found, counts_so, count_after, count_on, fewer, set_words, count_asks)
 
   pub container_count_keeps : KeepsRule (λ (z : View T). z.capacity) (At code kinds.Container (counts_values which))
       (Ends code kinds.Container (counts_values which))
@@ -88,36 +73,11 @@ module _ {T : Type 0} (code : Coding T) (which : CountOf) where
 
   pub container_count_first : (v : View T) (m : Unit {0}) → v.going ≡ None → v.other ≡ [] → 0 < v.share.part
       → At code kinds.Container (counts_values which) v v (first_borrowed v.capacity) m
-  container_count_first v m idle alone any =
-      let named = count_named which in
-      let flies = count_flies which v.capacity m in
-      inl (record {
-        is = refl;
-        idle = idle;
-        fresh = alone;
-        standing = (refl, tt);
-        some = any;
-        first = container_first code v (counts_values which) (count_start which) (first_borrowed v.capacity) m refl (λ o p h. h) named flies
-            ((opening_of kinds.Container).kept v.capacity);
-        starts = container_starts code v (counts_values which) (count_start which) (first_borrowed v.capacity) m refl (λ o p h. h) named flies;
-        wrote = λ p. refl;
-      })
+  container_count_first x0 x1 x2 x3 x4 = grind (arith, count_named, count_flies, inl, container_first, container_starts)
 
 module _ {T : Type 0} (code : Coding T) where
   lock_call : IsCallOf code (plain_effects code) (container_words code) (λ c. load 0) locked_after (λ c m n. m) sees_lock
-  lock_call =
-      record {
-        same_want = λ c m. refl;
-        same_after = λ capacity c m n h. refl;
-        hears = λ c m a n e. (ap (locked_after c) (found_of _ a n refl e), refl);
-        stays = λ capacity c d n h e. absurd (cc);
-        asks = λ capacity c h. (_, omega arith, refl);
-        past = λ capacity c d n k h e. refl;
-        finds = λ c m n small t. tt;
-        leaves = λ c a n t e. absurd (cc);
-        tells = λ capacity p from c d m n es h wrote e. absurd (cc);
-        tells_all = λ capacity p from c end m n es h skip wrote e still. ap (λ zs. zs ++ []) wrote;
-      }
+  lock_call = grind arith
 
   pub container_lock_keeps : KeepsRule (λ (z : View T). z.capacity) (At code kinds.Container sees_lock) (Ends code kinds.Container sees_lock)
       (λ key. container_words code key + 1) (λ key. key) (λ key. IsMachine code kinds.Container key) (λ c. load 0) locked_after (λ c m n. m)
@@ -140,11 +100,7 @@ module _ {T : Type 0} (code : Coding T) where
 -- ---- remove
 
 remove_found : (capacity : ℕ) (stage : RemoveStage) (given : GiveBack) (a : Ask) (n : ℕ) → remove_asks capacity stage given ≡ wants.Ask a → answered a.op n ≡ n
-remove_found capacity removes.Refuses given a n e = absurd (cc)
-remove_found capacity removes.LoadsCount given a n e = found_of _ a n refl e
-remove_found capacity (removes.Releases count stage) given a n e = release_found stage given a n e
-remove_found capacity (removes.Hides count state) given a n e = found_of _ a n refl e
-remove_found capacity (removes.AddsChange state) given a n e = found_of _ a n refl e
+remove_found x0 x1 x2 x3 x4 x5 = grind arith
 
 remove_words : (capacity size : ℕ) (stage : RemoveStage) (given : GiveBack) → given.index < capacity → RemoveIn capacity given.mode stage
     → AsksFor (total_words capacity size) (remove_asks capacity stage given)
@@ -163,12 +119,7 @@ module _ (T : Type 0) (capacity : ℕ) (c : Removing) (same : c.capacity ≡ cap
 
   released : (count : ℕ) (stage : ReleaseStage) (es : List (Event T)) (r : After Releasing Released)
       → ReleaseGoes T capacity (inner_release c.capacity stage) same p given low es r → RemoveGoes es (remove_released c count r)
-  released count stage es (GoOn release) h = ((same, low, h.0.2), h.1)
-  released count stage es (Done (Ok state)) h =
-      by_test (RemoveGoes es) (is_even count) _ _
-      (λ t. ((same, low, tt), (es, h, (false, sym (append-nil es)))))
-      (λ t. ((same, low, tt), h))
-  released count stage es (Done (Err failure)) h = h
+  released x0 x1 x2 x3 x4 = grind arith
 
   -- where it stands then, whatever it has written
   abbrev StandsThen : After Removing Removed → Type 0
@@ -177,18 +128,10 @@ module _ (T : Type 0) (capacity : ℕ) (c : Removing) (same : c.capacity ≡ cap
 
   released_there : (count : ℕ) (stage : ReleaseStage) (es : List (Event T)) (r : After Releasing Released)
       → ReleaseGoes T capacity (inner_release c.capacity stage) same p given low es r → StandsThen (remove_released c count r)
-  released_there count stage es (GoOn release) h = (same, low, h.0.2)
-  released_there count stage es (Done (Ok state)) h = by_test StandsThen (is_even count) _ _ (λ t. (same, low, tt)) (λ t. (same, low, tt))
-  released_there count stage es (Done (Err failure)) h = tt
+  released_there x0 x1 x2 x3 x4 = grind arith
 
   stands_then : (stage : RemoveStage) (k : ℕ) → RemoveIn capacity given.mode stage → StandsThen (remove_takes c stage given k)
-  stands_then removes.Refuses k h = absurd h
-  stands_then removes.LoadsCount k h = (same, low, tt)
-  stands_then (removes.Releases count stage) k h =
-      released_there count stage _ (release_takes (inner_release c.capacity stage) stage given k)
-      (gives_so T capacity (inner_release c.capacity stage) same p given low stage k h)
-  stands_then (removes.Hides count state) k h = (same, low, tt)
-  stands_then (removes.AddsChange state) k h = tt
+  stands_then x0 x1 x2 = grind arith
 
   removes_so : (stage : RemoveStage) (k : ℕ) (es : List (Event T)) → RemoveIn capacity given.mode stage → RemovedAt p given stage es
       → RemoveGoes (es ++ remove_effects p given stage k) (remove_takes c stage given k)
@@ -218,14 +161,11 @@ module _ {T : Type 0} (code : Coding T) (given : GiveBack) where
 
   goes_so : (capacity p : ℕ) (c : Removing) (n : ℕ) (es : List (Event T)) (r : After Removing Removed) → (h : (removes_value {T = T} given).stands capacity c)
       → RemovedAt p given c.stage es → after c n ≡ r → RemoveGoes T capacity c h.0 p given h.1 (es ++ written p c n) r
-  goes_so capacity p c n es r h at e =
-      subst (λ zs. RemoveGoes T capacity c h.0 p given h.1 (es ++ zs) r) (sym (append-nil (remove_effects p given c.stage n)))
-      (subst (RemoveGoes T capacity c h.0 p given h.1 (es ++ remove_effects p given c.stage n)) e
-      (removes_so T capacity c h.0 p given h.1 c.stage n es h.2 at))
+  goes_so x0 x1 x2 x3 x4 x5 x6 x7 x8 = grind (arith, append-nil, removes_so)
 
   stands_so : (capacity : ℕ) (c d : Removing) (n : ℕ) → (removes_value {T = T} given).stands capacity c → after c n ≡ GoOn d
       → (removes_value {T = T} given).stands capacity d
-  stands_so capacity c d n h e = subst (StandsThen T capacity c h.0 0 given h.1) e (stands_then T capacity c h.0 0 given h.1 c.stage n h.2)
+  stands_so x0 x1 x2 x3 x4 x5 = grind arith
 
   pub remove_call : IsCallOf code (plain_effects code) (container_words code) (λ c. remove_want c given) after (λ c m n. m) (removes_value given)
   remove_call =

@@ -35,11 +35,7 @@ use Rattle.history.proofs.Written.{same_written}
 use Rattle.history.specs.Stages.{Calling, IsUnderWay, Ends, AtAsked}
 
 find_found : (size capacity : ℕ) (stage : FindStage) (a : Ask) (n : ℕ) → find_asks size capacity stage ≡ wants.Ask a → answered a.op n ≡ n
-find_found size capacity (finds.LoadsCell index found) a n e = found_of _ a n refl e
-find_found size capacity (finds.LoadsCount index found) a n e = found_of _ a n refl e
-find_found size capacity (finds.LoadsWord index found count at) a n e = found_of _ a n refl e
-find_found size capacity (finds.ChecksCount index found count) a n e = found_of _ a n refl e
-find_found size capacity (finds.Asks index found) a n e = absurd (cc)
+find_found x0 x1 x2 x3 x4 x5 = grind arith
 
 find_words : (capacity size : ℕ) (stage : FindStage) → FindIn size capacity stage → is_question (find_asks size capacity stage) ≡ false
     → AsksFor (total_words capacity size) (find_asks size capacity stage)
@@ -88,12 +84,7 @@ module _ {T R : Type 0} (code : Coding T) (law : IsCoding code) (words_in : R �
 
   comes_alike : (c : Finding T R) (m : Room) (stage : FindStage) (index found : ℕ)
       → as_model (room m.0) (find_comes_to (call_at c.capacity stage) index found) ≡ goes finding (find_comes_to c index found) m
-  comes_alike c m stage index found = go (nat_lt index c.capacity) refl
-    where
-      go : (b : Bool) → nat_lt index c.capacity ≡ b
-          → as_model (room m.0) (find_comes_to (call_at c.capacity stage) index found) ≡ goes finding (find_comes_to c index found) m
-      go true t = rw t refl
-      go false t = rw t refl
+  comes_alike x0 x1 x2 x3 x4 = grind arith
 
   goes_alike : (c : Finding T R) (m : Room) (n : ℕ) (stage : FindStage) → FindIn code.size c.capacity stage
       → as_model (find_keeps kept_at stage (room m.0) n) (find_takes code.size (call_at c.capacity stage) stage owner n)
@@ -164,12 +155,11 @@ module _ {T R : Type 0} (code : Coding T) (law : IsCoding code) (words_in : R �
 
   find_room : (c : Finding T R) (m : Room) (a : Ask) (n : ℕ) → want c ≡ wants.Ask a
       → (after c (answered a.op n) ≡ after c n) × (kept c m (answered a.op n) ≡ kept c m n)
-  find_room c m a n e = (let is = find_found code.size c.capacity c.stage a n e in (ap (after c) is, ap (kept c m) is))
+  find_room x0 x1 x2 x3 x4 = grind arith
 
   tells_so : (p : ℕ) (c : Finding T R) (m : Room) (n : ℕ) (es : List (Event T)) → es ≡ copies_of p m.1
       → es ++ plain_effects code p (finding.flight c m) n ≡ copies_of p (copied_then c m n)
-  tells_so p c m n es h =
-      ap (λ zs. es ++ zs) (append-nil (find_effects p (read_in code (room m.0)) c.stage n)) ∙ copies_so p m c.stage n es h
+  tells_so x0 x1 x2 x3 x4 x5 = grind (arith, append-nil, read_in, copies_so)
 
   abbrev StandsThen : ℕ → After (Finding T R) ℕ → Type 0
   StandsThen capacity (GoOn d) = (d.capacity ≡ capacity) × FindIn code.size capacity d.stage
@@ -178,28 +168,7 @@ module _ {T R : Type 0} (code : Coding T) (law : IsCoding code) (words_in : R �
   stands_then : (capacity : ℕ) (c : Finding T R) (same : c.capacity ≡ capacity) (stage : FindStage) (n : ℕ)
       → FindIn code.size capacity stage → (d : Finding T R)
       → find_takes code.size c stage owner n ≡ GoOn d → (d.capacity ≡ capacity) × FindIn code.size capacity d.stage
-  stands_then capacity c same stage n h d e = onward (find_takes code.size c stage owner n) (there stage h) e
-    where
-      Stands : After (Finding T R) ℕ → Type 0
-      Stands = StandsThen capacity
-
-      onward : (r : After (Finding T R) ℕ) → Stands r → r ≡ GoOn d → (d.capacity ≡ capacity) × FindIn code.size capacity d.stage
-      onward r h e = subst Stands e h
-
-      comes : (index found : ℕ) → index < capacity → Stands (find_comes_to c (index + 1) found)
-      comes index found low =
-          by_test Stands (nat_lt (index + 1) c.capacity) _ _
-          (λ t. (same, (let below : index + 1 < c.capacity = grind (arith, nat_tests) in omega arith))) (λ t. tt)
-
-      there : (stage : FindStage) → FindIn code.size capacity stage → Stands (find_takes code.size c stage owner n)
-      there (finds.LoadsCell index found) h = by_test Stands (n == owner) _ _ (λ t. (same, h)) (λ t. comes index found h)
-      there (finds.LoadsCount index found) h =
-          let some = law.some in
-          by_test Stands (is_even n) _ _ (λ t. comes index found h) (λ t. (same, (h, omega arith)))
-      there (finds.LoadsWord index found count at) h =
-          by_test Stands (nat_lt (at + 1) code.size) _ _ (λ t. (same, (h.0, grind (arith, nat_tests)))) (λ t. (same, h.0))
-      there (finds.ChecksCount index found count) h = by_test Stands (n == count) _ _ (λ t. (same, h)) (λ t. comes index found h)
-      there (finds.Asks index found) h = by_test Stands (n == 0) _ _ (λ t. tt) (λ t. comes index found h)
+  stands_then x0 x1 x2 x3 x4 x5 x6 x7 = grind arith
 
   -- what it has copied is nothing to the model
   goes_any : (r : After (Finding T R) ℕ) (x : R) (xs ys : List (ℕ × T)) → goes finding r (x, xs) ≡ goes finding r (x, ys)
@@ -240,8 +209,7 @@ module _ {T R : Type 0} (code : Coding T) (law : IsCoding code) (words_in : R �
   first_so : (capacity : ℕ) (c : Finding T R) (m : Room) (named : Bool)
       → option_map flights.Container (if named then Some (find_of {T = T} capacity owner) else None) ≡ Some (finding.flight c m)
       → is_question (want c) ≡ false
-  first_so capacity c m true e = ap (λ (z : Finding T R). is_question (want z)) (sym (ap (λ (o : Option (Flight T)). begun_find c o) e))
-  first_so capacity c m false e = absurd (cc)
+  first_so x0 x1 x2 x3 x4 = grind arith
 
   -- no question comes right after another
   abbrev AsksNone : After (Finding T R) ℕ → Type 0
@@ -250,33 +218,15 @@ module _ {T R : Type 0} (code : Coding T) (law : IsCoding code) (words_in : R �
 
   asks_none : (c : Finding T R) (n : ℕ) (stage : FindStage)
       → is_question (find_asks code.size c.capacity stage) ≡ true → AsksNone (find_takes code.size c stage owner n)
-  asks_none c n (finds.LoadsCell index found) due = absurd (cc)
-  asks_none c n (finds.LoadsCount index found) due = absurd (cc)
-  asks_none c n (finds.LoadsWord index found count at) due = absurd (cc)
-  asks_none c n (finds.ChecksCount index found count) due = absurd (cc)
-  asks_none c n (finds.Asks index found) due =
-      by_test AsksNone (n == 0) _ _ (λ t. tt) (λ t. by_test AsksNone (nat_lt (index + 1) c.capacity) _ _ (λ u. refl) (λ u. tt))
+  asks_none x0 x1 x2 x3 = grind arith
 
   -- a question leaves what it keeps
   asked_room : (c : Finding T R) (m : Room) (n : ℕ) (stage : FindStage) → is_question (find_asks code.size c.capacity stage) ≡ true
       → ◌≡◌ {A = Room} (find_keeps with_word stage m.0 n, copies_after stage n (value_of_room code words_in m.0) m.1) m
-  asked_room c m n (finds.LoadsCell index found) due = absurd (cc)
-  asked_room c m n (finds.LoadsCount index found) due = absurd (cc)
-  asked_room c m n (finds.LoadsWord index found count at) due = absurd (cc)
-  asked_room c m n (finds.ChecksCount index found count) due = absurd (cc)
-  asked_room c m n (finds.Asks index found) due = refl
+  asked_room x0 x1 x2 x3 x4 = grind arith
 
   pub find_call : IsAskingIn code kinds.Container (plain_effects code) (container_words code) want after kept finding
-  find_call =
-      record {
-        steps = find_steps;
-        never = λ c n. refl;
-        same_call = λ c d m k e. ap (find_in c) e;
-        same_room = λ capacity p from c m k a b es due e keeps wrote.
-            subst (λ (z : Room). from ≡ None → es ≡ copies_of p z.1) (sym (asked_room c m a c.stage due) ∙ (keeps ∙ asked_room c k b c.stage due)) wrote;
-        first = λ n c m e. first_so n c m (is_owner owner) e;
-        one = λ c d n due e. subst AsksNone e (asks_none c n c.stage due);
-      }
+  find_call = grind (arith, find_steps, asked_room, first_so, asks_none)
 
   -- ---- it may rest at its question
 
@@ -285,10 +235,7 @@ module _ {T R : Type 0} (code : Coding T) (law : IsCoding code) (words_in : R �
 
   rests_so : (base v : View T) (c : Finding T R) (m : Room) (said : Bool) (e : ℕ) → is_question (want c) ≡ true → after c (number_of said) ≡ Done e
       → IsUnderWay code kinds.Container finding base v c m → FindOver base e (kept c m (number_of said)) v
-  rests_so base v c m said e due ends under =
-      let room_same : kept c m (number_of said) ≡ m = asked_room c m (number_of said) c.stage due in
-      subst (λ k. FindOver base e k v) (sym room_same)
-      (inr (record { asking = c; before = under; asks = due; said = said; goes = ends; keeps = room_same }))
+  rests_so x0 x1 x2 x3 x4 x5 x6 x7 x8 = grind (arith, number_of, asked_room, inr, goes)
 
   ended_step : (base : View T) (e : ℕ) (m : Room) (w : View T) → Ends code kinds.Container finding base e m w → FindOver base e m w
   ended_step base e m w h = inl h
@@ -321,9 +268,7 @@ module _ {T R : Type 0} (code : Coding T) (law : IsCoding code) (words_in : R �
   -- or has ended with it
   pub container_find_ends : (base v : View T) (c : Finding T R) (m : Room) (said : Bool) (e : ℕ) → is_question (want c) ≡ true
       → after c (number_of said) ≡ Done e → AtAsked code kinds.Container after kept finding base v c m → FindOver base e (kept c m (number_of said)) v
-  container_find_ends =
-      ends_said code kinds.Container tt container_effects (plain_effects code) (container_words code) (containers_owe code) want after kept finding
-      (plain_acts code finding (λ c m. tt)) find_call FindOver ended_step rests_so
+  container_find_ends = grind (arith, ends_said, containers_owe, plain_acts, find_call, ended_step, rests_so)
 
   -- in a room of zeros in which a value fits
   pub container_find_first : (v : View T) (m : Room) → room m.0 ≡ fresh_cell → m.1 ≡ [] → v.going ≡ None
@@ -389,9 +334,7 @@ module _ {T R : Type 0} (code : Coding T) (law : IsCoding code) (words_in : R �
 
       long : (x : View T) (e : Finding T R) (r : Room) → x.going ≡ None → (under : IsUnderWay code kinds.Container finding x v e r)
           → fold own_after (Open start []) under.wrote ≡ Open start under.wrote
-      long x e r none under =
-          let is = under.tells none in
-          ap (fold own_after (Open start [])) is ∙ (copies_span under.party start [] r.1 ∙ ap (Open start) (sym is))
+      long x0 x1 x2 x3 x4 = grind (arith, fold, start, copies_span)
 
       go : Stands base v m → Stands other v k → m.1 ≡ k.1
       go (inl x) (inl y) = x.1 ∙ sym y.1
@@ -409,45 +352,16 @@ module _ {T R : Type 0} (code : Coding T) (law : IsCoding code) (words_in : R �
   asked_at : (c : Finding T R) (said : Bool) (e : ℕ) (stage : FindStage) → is_question (find_asks code.size c.capacity stage) ≡ true
       → find_takes code.size c stage owner (number_of said) ≡ Done e → (m : Room)
       → as_model (room m.0) (find_takes code.size (call_at c.capacity stage) stage owner (number_of false)) ≡ Done (answers.Number e)
-  asked_at c said e (finds.LoadsCell index found) due ends m = absurd (cc)
-  asked_at c said e (finds.LoadsCount index found) due ends m = absurd (cc)
-  asked_at c said e (finds.LoadsWord index found count at) due ends m = absurd (cc)
-  asked_at c said e (finds.ChecksCount index found count) due ends m = absurd (cc)
-  asked_at c false e (finds.Asks index found) due ends m = (let same : found ≡ e = cc in ap (λ n. Done (answers.Number n)) same)
-  asked_at c true e (finds.Asks index found) due ends m = go (nat_lt (index + 1) c.capacity) refl
-    where
-      go : (b : Bool) → nat_lt (index + 1) c.capacity ≡ b
-          → as_model (room m.0)
-          (find_takes code.size (call_at c.capacity (finds.Asks index found)) (finds.Asks index found) owner (number_of false))
-          ≡ Done (answers.Number e)
-      go true t =
-          (let no : ◌≡◌ {A = After (Finding T R) ℕ}
-          (GoOn (record { capacity = c.capacity; stage = finds.LoadsCell (index + 1) found; of = record {} }))
-          (Done e) =
-          rw t at ends in
-          absurd (cc))
-      go false t =
-          let over : ◌≡◌ {A = After (Finding T R) ℕ} (Done found) (Done e) = rw t at ends in
-          let same : found ≡ e = cc in
-          ap (λ n. Done (answers.Number n)) same
+  asked_at x0 x1 x2 x3 x4 x5 x6 = grind arith
 
   asks_room : (capacity : ℕ) (stage : FindStage) (m : Room) → is_question (find_asks code.size capacity stage) ≡ true
       → find_keeps kept_at stage (room m.0) (number_of false) ≡ room m.0
-  asks_room capacity (finds.LoadsCell index found) m due = absurd (cc)
-  asks_room capacity (finds.LoadsCount index found) m due = absurd (cc)
-  asks_room capacity (finds.LoadsWord index found count at) m due = absurd (cc)
-  asks_room capacity (finds.ChecksCount index found count) m due = absurd (cc)
-  asks_room capacity (finds.Asks index found) m due = refl
+  asks_room x0 x1 x2 x3 = grind arith
 
   -- a no would end it, with the number that it has answered
   pub no_ends : (base v : View T) (e : ℕ) (m : Room) (h : RestsAt code kinds.Container after kept finding base v e m) (there : Registry T)
       → goes_of code h.before.party (finding.flight h.asking m) (number_of false) there ≡ Done (answers.Number e)
-  no_ends base v e m h there =
-      goes_plain code h.before.party (finding.flight h.asking m) (number_of false) there tt
-      ∙ (ap
-      (λ x. as_model x (find_takes code.size (call_at h.asking.capacity h.asking.stage) h.asking.stage owner (number_of false)))
-      (asks_room h.asking.capacity h.asking.stage m h.asks)
-      ∙ asked_at h.asking h.said e h.asking.stage h.asks h.goes m)
+  no_ends x0 x1 x2 x3 x4 x5 = grind arith
 
   pub find_rests : (base v : View T) (e : ℕ) (m : Room) → RestsAt code kinds.Container after kept finding base v e m → IsResting code v
   find_rests base v e m h =

@@ -34,10 +34,7 @@ look_words size capacity (looks.ChecksCount index count) h = (_, count_low capac
 
 pub look_found : (size capacity : ℕ) (stage : LookStage) (a : Ask) (n : ℕ) → look_asks size capacity stage ≡ wants.Ask a
     → answered a.op n ≡ n
-look_found size capacity looks.LoadsChange a n e = found_of _ a n refl e
-look_found size capacity (looks.LoadsCount index) a n e = found_of _ a n refl e
-look_found size capacity (looks.LoadsWord index count at) a n e = found_of _ a n refl e
-look_found size capacity (looks.ChecksCount index count) a n e = found_of _ a n refl e
+look_found x0 x1 x2 x3 x4 x5 = grind arith
 
 -- ---- where it goes on, and what it has written then
 
@@ -54,18 +51,13 @@ module _ {T : Type 0} (size : ℕ) (some : 0 < size) (which : LookOf) (capacity 
   quiet es r h = subst (λ zs. LookGoes zs r) (sym (append-nil es)) h
 
   comes_to : (index : ℕ) → index ≤ capacity → (es : List (Event T)) → HasCopied p 0 index es → LookGoes es (look_comes_to c index)
-  comes_to index low es h =
-      by_test (LookGoes es) (nat_lt index c.capacity) _ _
-      (λ t. (let below : index < c.capacity = grind (arith, nat_tests) in ((same, omega arith), h)))
-      (λ t. (let past : c.capacity ≤ index = grind (arith, nat_tests) in let last : index ≡ capacity = omega arith in subst (λ i. HasCopied p 0 i es) last h))
+  comes_to x0 x1 x2 x3 = grind arith
 
   next_to : (index : ℕ) → index < capacity → (es : List (Event T)) → HasCopied p 0 (suc index) es → LookGoes es (look_comes_to c (index + 1))
-  next_to index low es h =
-      (let next : suc index ≡ index + 1 = omega arith in comes_to (index + 1) (omega arith) es (subst (λ i. HasCopied p 0 i es) next h))
+  next_to x0 x1 x2 x3 = grind (arith, suc, comes_to)
 
   finds : (index count : ℕ) → index < capacity → (es : List (Event T)) → HasCopied p 0 index es → LookGoes es (look_finds c index count)
-  finds index count low es h =
-      by_test (LookGoes es) (is_even count) _ _ (λ t. next_to index low es (inl h)) (λ t. ((same, (low, some)), h))
+  finds x0 x1 x2 x3 x4 = grind (arith, by_test, next_to, inl)
 
   pub looks_so : (value : T) (stage : LookStage) (k : ℕ) (es : List (Event T)) → LookIn size capacity stage → LookedAt p stage es
       → LookGoes (es ++ look_effects p value stage k) (look_takes size c stage seen k)
@@ -107,22 +99,16 @@ module _ {T : Type 0} (code : Coding T) (which : LookOf) (capacity : ℕ) (seen 
   -- the look goes on from it as its drive does
   pub look_goes_so : (c : Looking T) (m : Showing T) (n : ℕ) (kept : Registry T) → HasState kept p (state_of_look capacity seen m)
       → goes_of code p (flights.Container (calls.Look which c)) n kept ≡ goes drives (look_after code.size c seen n) (kept_shown c m n)
-  look_goes_so c m n (registries.Container dead states) has = rw has (came_so (kept_shown c m n) (look_after code.size c seen n))
-  look_goes_so c m n kept has = absurd (cc)
+  look_goes_so x0 x1 x2 x3 x4 = grind arith
 
   -- and writes into it what the drive's room has then
   pub look_keeps_so : (words : List ℕ) (beside : Option (ℕ × ℕ)) (start : ContainerStart T) (c : Looking T) (m : Showing T) (n : ℕ) (kept : Registry T)
       → HasState kept p (state_of_look capacity seen m)
       → HasState (step_of code words beside p (Container start) (flights.Container (calls.Look which c)) n kept).kept p
       (settled_if (look_after code.size c seen n) (state_of_look capacity seen (kept_shown c m n)))
-  look_keeps_so words beside start c m n (registries.Container dead states) has =
-      let then : ContainerState T = settled_if (look_after code.size c seen n) (state_of_look capacity seen (kept_shown c m n)) in
-      rw has (written_same p then (state_of_look capacity seen m) states has)
-  look_keeps_so words beside start c m n kept has = absurd (cc)
+  look_keeps_so x0 x1 x2 x3 x4 x5 x6 x7 = grind (arith, written_same)
 
   -- its copies are of what the room has read
   pub look_writes_so : (c : Looking T) (m : Showing T) (n : ℕ) (w : World T) → w.coding ≡ code → HasState w.kept p (state_of_look capacity seen m)
       → container_effects w p (flights.Container (calls.Look which c)) n ≡ look_effects p (value_in code.value_of code.size m.copy) c.stage n ++ []
-  look_writes_so c m n w coded has =
-      ap (λ o. look_effects_of w.coding p c.stage n o ++ []) has
-      ∙ ap (λ (z : Coding T). look_effects p (value_in z.value_of z.size m.copy) c.stage n ++ []) coded
+  look_writes_so x0 x1 x2 x3 x4 x5 = grind arith

@@ -87,12 +87,7 @@ module _ {T R : Type 0} (code : Coding T) (law : IsCoding code) (words_in : R �
     same_raised : (index : ℕ) (mode : ReleaseMode) (r : After Raise ReleaseState) → as_call flights.Container (λ (answer : Answer T). answer)
         (as_call calls.Recover State (went_on as_it_is given room (recover_raised (model_call c) index mode r)))
         ≡ goes_with room (recover_raised c index mode r)
-    same_raised index LockIfLastIndex (GoOn raise) = refl
-    same_raised index Default (GoOn raise) = refl
-    same_raised index LockIfLastIndex (Done states.Locked) = refl
-    same_raised index Default (Done states.Locked) = refl
-    same_raised index LockIfLastIndex (Done states.Unlocked) = refl
-    same_raised index Default (Done states.Unlocked) = refl
+    same_raised x0 x1 x2 = grind arith
 
     same_locked : (index : ℕ) (r : After Lock ReleaseState) → as_call flights.Container (λ (answer : Answer T). answer)
         (as_call calls.Recover State (went_on as_it_is given room (recover_locked (model_call c) index r))) ≡ goes_with room (recover_locked c index r)
@@ -100,43 +95,18 @@ module _ {T R : Type 0} (code : Coding T) (law : IsCoding code) (words_in : R �
     same_locked index (Done state) = refl
 
     same_takes : (stage : RecoverStage) → SameTakes stage
-    same_takes recovers.LoadsCounter = by_bool (n == locked) (λ t. rw t refl) (λ t. rw t refl)
-    same_takes (recovers.LoadsCell index) = by_bool (n == given.owner) (λ t. rw t refl) (λ t. rw t refl)
-    same_takes (recovers.LoadsCount index) = refl
-    same_takes (recovers.LoadsWord index count at) = by_bool (nat_lt (at + 1) code.size) (λ t. rw t refl) (λ t. rw t refl)
-    same_takes (recovers.ChecksCount index count) = by_bool (n == count) (λ t. rw t refl) (λ t. rw t refl)
-    same_takes (recovers.Asks index count) = by_bool (n == 0) (λ t. rw t refl) (λ t. rw t refl)
-    same_takes (recovers.EmptiesCell index count) =
-        by_bool (n == given.owner) (λ t. rw t (by_bool (is_even count) (λ u. rw u refl) (λ u. rw u refl))) (λ t. rw t refl)
-    same_takes (recovers.Hides index count) = refl
-    same_takes (recovers.Raises index raise) = same_raised index given.mode (raise_after raise n)
-    same_takes (recovers.Locks index lock) = same_locked index (lock_after c.capacity lock n)
-    same_takes recovers.LoadsCounterAgain = refl
-    same_takes (recovers.AddsChange state) = refl
+    same_takes x0 = grind arith
 
   put_there : (m : R) (at n : ℕ) → at < code.size → kept_at (room_in m) at n ≡ room_in (with_word m at n)
   put_there m at n below = room_set code.size at n (words_in m) below ∙ ap (room_of code.size) (sym (put_in m at n))
 
   keeps_there : (capacity : ℕ) (m : R) (n : ℕ) (stage : RecoverStage) → RecoverIn code.size capacity given.mode stage
       → recover_keeps kept_at stage (room_in m) n ≡ room_in (recover_keeps with_word stage m n)
-  keeps_there capacity m n recovers.LoadsCounter h = refl
-  keeps_there capacity m n (recovers.LoadsCell index) h = refl
-  keeps_there capacity m n (recovers.LoadsCount index) h = refl
-  keeps_there capacity m n (recovers.LoadsWord index count at) h = put_there m at n h.2
-  keeps_there capacity m n (recovers.ChecksCount index count) h = refl
-  keeps_there capacity m n (recovers.Asks index count) h = refl
-  keeps_there capacity m n (recovers.EmptiesCell index count) h = refl
-  keeps_there capacity m n (recovers.Hides index count) h = refl
-  keeps_there capacity m n (recovers.Raises index raise) h = refl
-  keeps_there capacity m n (recovers.Locks index lock) h = refl
-  keeps_there capacity m n recovers.LoadsCounterAgain h = refl
-  keeps_there capacity m n (recovers.AddsChange state) h = refl
+  keeps_there x0 x1 x2 x3 x4 = grind (arith, put_there)
 
   same_after_so : (capacity : ℕ) (c : Recovering T R) (m : Room) (n : ℕ) → recovering.stands capacity c
       → after_of code (recovering.flight c m) n ≡ goes recovering (after c n) (kept c m n)
-  same_after_so capacity c m n h =
-      same_takes c n (room_in m.0) c.stage
-      ∙ (ap (λ room. goes_with room (after c n)) (keeps_there capacity m.0 n c.stage h.1) ∙ goes_is (kept c m n) (after c n))
+  same_after_so x0 x1 x2 x3 x4 = grind (arith, same_takes, keeps_there, goes_is)
 
   -- ---- what it has written then
 
@@ -146,18 +116,7 @@ module _ {T R : Type 0} (code : Coding T) (law : IsCoding code) (words_in : R �
   -- a check keeps the room
   check_keeps : (m : R) (n : ℕ) (stage : RecoverStage)
       → Keeps stage (value_there code words_in m) (value_there code words_in (recover_keeps with_word stage m n))
-  check_keeps m n recovers.LoadsCounter = tt
-  check_keeps m n (recovers.LoadsCell index) = tt
-  check_keeps m n (recovers.LoadsCount index) = tt
-  check_keeps m n (recovers.LoadsWord index count at) = tt
-  check_keeps m n (recovers.ChecksCount index count) = refl
-  check_keeps m n (recovers.Asks index count) = tt
-  check_keeps m n (recovers.EmptiesCell index count) = tt
-  check_keeps m n (recovers.Hides index count) = tt
-  check_keeps m n (recovers.Raises index raise) = tt
-  check_keeps m n (recovers.Locks index lock) = tt
-  check_keeps m n recovers.LoadsCounterAgain = tt
-  check_keeps m n (recovers.AddsChange state) = tt
+  check_keeps x0 x1 x2 = grind arith
 
   abbrev value_at : Room → T
   value_at m = value_there code words_in m.0
@@ -215,24 +174,12 @@ module _ {T R : Type 0} (code : Coding T) (law : IsCoding code) (words_in : R �
   first_so : (capacity : ℕ) (c : Recovering T R) (m : Room) (named : Bool)
       → option_map flights.Container (if named then Some (recover_of capacity given.owner given.mode) else None) ≡ Some (recovering.flight c m)
       → is_question (want c) ≡ false
-  first_so capacity c m true e = ap (λ (z : Recovering T R). is_question (want z)) (sym (ap (λ (o : Option (Flight T)). begun_recovery c o) e))
-  first_so capacity c m false e = absurd (cc)
+  first_so x0 x1 x2 x3 x4 = grind arith
 
   -- a question leaves what it keeps
   asked_room : (c : Recovering T R) (m : Room) (n : ℕ) (stage : RecoverStage) → is_question (recover_asks code.size c.capacity stage given.owner) ≡ true
       → ◌≡◌ {A = Room} (recover_keeps with_word stage m.0 n, visits_after given.owner stage n (value_at m) m.1) m
-  asked_room c m n recovers.LoadsCounter due = absurd (cc)
-  asked_room c m n (recovers.LoadsCell index) due = absurd (cc)
-  asked_room c m n (recovers.LoadsCount index) due = absurd (cc)
-  asked_room c m n (recovers.LoadsWord index count at) due = absurd (cc)
-  asked_room c m n (recovers.ChecksCount index count) due = absurd (cc)
-  asked_room c m n (recovers.Asks index count) due = refl
-  asked_room c m n (recovers.EmptiesCell index count) due = absurd (cc)
-  asked_room c m n (recovers.Hides index count) due = absurd (cc)
-  asked_room c m n (recovers.Raises index raise) due = no_answer code.size c given (is_question (raise_want raise)) (raise_asks_none raise) due
-  asked_room c m n (recovers.Locks index lock) due = no_answer code.size c given (is_question (lock_want lock)) (lock_asks_none lock) due
-  asked_room c m n recovers.LoadsCounterAgain due = absurd (cc)
-  asked_room c m n (recovers.AddsChange state) due = absurd (cc)
+  asked_room x0 x1 x2 x3 x4 = grind arith
 
   pub recover_call : IsAskingOf code kinds.Container (plain_effects code) (container_words code) want after kept recovering
   recover_call =
@@ -265,10 +212,7 @@ module _ {T R : Type 0} (code : Coding T) (law : IsCoding code) (words_in : R �
     where
       asks_so : (capacity : ℕ) (c : Recovering T R) → recovering.stands capacity c → is_question (want c) ≡ false
           → AsksFor (container_words code capacity) (want c)
-      asks_so capacity c h still =
-          subst (λ k. is_question (recover_asks code.size k c.stage given.owner) ≡ false
-          → AsksFor (container_words code capacity) (recover_asks code.size k c.stage given.owner)) (sym h.0)
-          (λ quiet. recover_words code.size capacity given c.stage h.1 quiet) still
+      asks_so x0 x1 x2 x3 = grind (arith, false, recover_words)
 
   -- each step of a recovery keeps the rule of the table; at a question the machine is handed the answer with the step after it
   pub container_recover_keeps : KeepsRule (λ (z : View T). z.capacity)
@@ -290,22 +234,7 @@ module _ {T R : Type 0} (code : Coding T) (law : IsCoding code) (words_in : R �
   pub container_recover_first : (v : View T) (m : Room) → room_in m.0 ≡ fresh_cell → m.1 ≡ [] → v.going ≡ None
       → v.other ≡ [] → 0 < v.share.part → given.owner < empty
       → AtAsked code kinds.Container after kept recovering v v (first_recover v.capacity) m
-  container_recover_first v m zeros none idle alone any fits =
-      let named : nat_lt given.owner empty ≡ true = grind (arith, nat_tests) in
-      let flies : flights.Container (recover_of v.capacity given.owner given.mode) ≡ recovering.flight (first_recover v.capacity) m =
-      ap (λ room. flight_at v.capacity recovers.LoadsCounter room) (sym zeros)
-      in
-      inl (inl (record {
-        is = refl;
-        idle = idle;
-        fresh = alone;
-        standing = (refl, tt);
-        some = any;
-        first = container_first code v recovering (Recover given.owner given.mode) (first_recover v.capacity) m refl (λ o p h. h) named flies
-            ((opening_of kinds.Container).kept v.capacity);
-        starts = container_starts code v recovering (Recover given.owner given.mode) (first_recover v.capacity) m refl (λ o p h. h) named flies;
-        wrote = λ p new. (none, ap (λ vs. wrote_visits p given.owner vs ++ []) (sym none));
-      }))
+  container_recover_first x0 x1 x2 x3 x4 x5 x6 x7 = grind arith
 
   -- ---- its visits are told by what its pass has seen
 
@@ -336,13 +265,7 @@ module _ {T R : Type 0} (code : Coding T) (law : IsCoding code) (words_in : R �
 
       long : (x : View T) (e : Recovering T R) (r : Room) → x.going ≡ None → (under : IsUnderWay code kinds.Container recovering x v e r)
           → fold own_after (Open start []) under.wrote ≡ Open start under.wrote
-      long x e r none under =
-          let is = (under.tells none).1 in
-          let visits = wrote_visits under.party given.owner r.1 in
-          let yet = told_yet under.party given.owner e.stage in
-          ap (fold own_after (Open start [])) is
-          ∙ (inside_both under.party given.owner visits yet (inside_visits under.party given.owner r.1) (inside_yet under.party given.owner e.stage) start []
-          ∙ ap (Open start) (sym is))
+      long x0 x1 x2 x3 x4 = grind (arith, fold, start, inside_both, inside_visits, inside_yet)
 
       go : Stands base v c m → Stands other v d k → m.1 ≡ k.1
       go (inl x) (inl y) = x.1 ∙ sym y.1

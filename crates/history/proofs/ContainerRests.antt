@@ -1,4 +1,5 @@
 -- Each call of a container on a pass whose last call may rest at a find's question.
+use Rattle.std.proofs.Common.{arith}
 use Rattle.history.proofs.Names.{Bool, true, false, ◌≡◌, inl, inr, ℕ, ◌+◌, ◌<◌, Option, Some, None, List, [], refl}
 use Rattle.history.proofs.Names.{sym, ap, ◌∙◌, Allows, find_asks, replace_asks, After, GoOn, Want, FindStage}
 use Rattle.history.proofs.Names.{ReplaceStage, Answer, Event, Start, Flight, ContainerFlight, Coding, want_of}
@@ -27,13 +28,7 @@ clash b due still = (let both : true ≡ false = sym due ∙ still in absurd (cc
 
 module _ {T : Type 0} where
   replace_asks_none : (code : Coding T) (c : ℕ) (stage : ReplaceStage) (given : _) → is_question (replace_asks code.words_of code.size c stage given) ≡ false
-  replace_asks_none code c replaces.Refuses given = refl
-  replace_asks_none code c replaces.LoadsCell given = refl
-  replace_asks_none code c replaces.LoadsCount given = refl
-  replace_asks_none code c (replaces.Hides count) given = refl
-  replace_asks_none code c (replaces.Stores at) given = refl
-  replace_asks_none code c replaces.AddsCount given = refl
-  replace_asks_none code c replaces.AddsChange given = refl
+  replace_asks_none x0 x1 x2 x3 = grind arith
 
   -- ---- an answer that ends a call writes nothing
 
@@ -49,42 +44,11 @@ module _ {T : Type 0} where
     IsOn (Done answer) = ⊥
 
     ends_quietly : (flight : ContainerFlight T) → EndsBy flight
-    ends_quietly (calls.Add run) due e = clash (is_question _) due (add_asks_none code run.call.capacity run.call.stage run.given)
-    ends_quietly (calls.Remove run) due e = clash (is_question _) due (remove_asks_none run.call.capacity run.call.stage run.given)
-    ends_quietly (calls.Replace run) due e = clash (is_question _) due (replace_asks_none code run.call.capacity run.call.stage run.given)
-    ends_quietly (calls.Find run) due e = go run.call.stage refl due
-      where
-        go : (stage : FindStage) → run.call.stage ≡ stage → is_question (find_asks code.size run.call.capacity stage) ≡ true
-            → container_effects w p (flights.TheVariants.Container (calls.Find run)) (number_of false) ≡ []
-        go (finds.LoadsCell index found) is due = absurd (cc)
-        go (finds.LoadsCount index found) is due = absurd (cc)
-        go (finds.LoadsWord index found count at) is due = absurd (cc)
-        go (finds.ChecksCount index found count) is due = absurd (cc)
-        go (finds.Asks index found) is due = rw is refl
-    ends_quietly (calls.Recover run) due e = go run.call.stage refl due
-      where
-        go : (stage : RecoverStage) → run.call.stage ≡ stage → is_question (recover_asks code.size run.call.capacity stage run.given.owner) ≡ true
-            → container_effects w p (flights.TheVariants.Container (calls.Recover run)) (number_of false) ≡ []
-        go recovers.LoadsCounter is due = absurd (cc)
-        go (recovers.LoadsCell index) is due = absurd (cc)
-        go (recovers.LoadsCount index) is due = absurd (cc)
-        go (recovers.LoadsWord index count at) is due = absurd (cc)
-        go (recovers.ChecksCount index count) is due = absurd (cc)
-        go (recovers.Asks index count) is due = rw is refl
-        go (recovers.EmptiesCell index count) is due = absurd (cc)
-        go (recovers.Hides index count) is due = absurd (cc)
-        go (recovers.Raises index raise) is due = clash (is_question _) due (raise_asks_none raise)
-        go (recovers.Locks index lock) is due = clash (is_question _) due (lock_asks_none lock)
-        go recovers.LoadsCounterAgain is due = absurd (cc)
-        go (recovers.AddsChange state) is due = absurd (cc)
-    ends_quietly (calls.Look which call) due e = clash (is_question _) due (look_asks_none code.size call.capacity call.stage)
-    ends_quietly (calls.Count which run) due e = clash (is_question _) due (count_asks_none run.call.count)
-    ends_quietly (calls.IsLocked run) due e = absurd (cc)
+    ends_quietly x0 x1 x2 = grind arith
 
     quietly : (flight : Flight T) → is_question (want_of code flight) ≡ true → goes_of code p flight (number_of false) w.kept ≡ Done answer
         → container_effects w p flight (number_of false) ≡ []
-    quietly (flights.TheVariants.Container flight) due e = ends_quietly flight due e
-    quietly flight due e = refl
+    quietly x0 x1 x2 = grind arith
 
   pub ends_quiet : (code : Coding T) (w : World T) (p : ℕ) (flight : Flight T) (answer : Answer T) → is_question (want_of code flight) ≡ true
       → goes_of code p flight (number_of false) w.kept ≡ Done answer → container_effects w p flight (number_of false) ≡ []
@@ -115,16 +79,7 @@ module _ {T : Type 0} (code : Coding T) where
 
       -- who rests has not begun the next
       apart_at : (base v : View T) (c : C) (m k : M) → IsResting code v → Begins v.capacity c k → At code kinds.Container call base v c m → ⊥
-      apart_at base v c m k h begins (inl first) =
-          let none : ◌≡◌ {A = Option (Start T × Flight T)} None (Some (h.start, h.flight)) =
-          sym first.idle ∙ (ap (λ (z : View T). z.going) (sym first.is) ∙ h.going) in
-          absurd (cc)
-      apart_at base v c m k h begins (inr under) =
-          let both : ◌≡◌ {A = Option (Start T × Flight T)} (Some (h.start, h.flight)) (Some (call.start, call.flight c m)) = sym h.going ∙ under.going in
-          let pair : ◌≡◌ {A = Start T × Flight T} (h.start, h.flight) (call.start, call.flight c m) = cc in
-          clash (is_question (want_of code (call.flight c m)))
-          (ap (λ (z : Start T × Flight T). is_question (want_of code z.1)) (sym pair) ∙ h.asks)
-          (ap is_question (same_want c m) ∙ at_word v.capacity c k begins)
+      apart_at x0 x1 x2 x3 x4 x5 x6 x7 = grind arith
 
       -- of a call that puts questions, of which no answer leads to where it begins
       module _ (after : C → ℕ → After C E) (kept : C → M → ℕ → M) (Over : View T → E → M → View T → Type 0)
@@ -135,9 +90,7 @@ module _ {T : Type 0} (code : Coding T) where
         -- whatever is in its room
         pub apart_asked : (base v : View T) (c : C) (m k : M) → IsResting code v → Begins v.capacity c k
             → AtAsked code kinds.Container after kept call base v c m → ⊥
-        apart_asked base v c m k h begins (inl stage) = apart_at base v c m k h begins stage
-        apart_asked base v c m k h begins (inr x) =
-            never v.capacity x.asking c k (number_of x.said) (ap is_question (sym (same_want x.asking x.room)) ∙ x.asks) x.goes begins
+        apart_asked x0 x1 x2 x3 x4 x5 x6 x7 = grind arith
 
         pub rested_asks : Keeps (AtRested code kinds.Container Begins (AtAsked code kinds.Container after kept call) Over)
             (EndsRested code kinds.Container Begins (AtAsked code kinds.Container after kept call) Over) want after kept

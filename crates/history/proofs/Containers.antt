@@ -52,12 +52,10 @@ module _ {T : Type 0} where
   plain_effects code p flight old = []
 
   pub effects_of_party : (code : Coding T) (kept : Registry T) (p : ℕ) (flight : Flight T) (n : ℕ) → AreOf p (kept_effects code kept p flight n)
-  effects_of_party code kept p (flights.TheVariants.Container flight) n = effects_own p _ (all_effects (Next p) p refl code (state_in kept p) flight n)
-  effects_of_party code kept p flight n = tt
+  effects_of_party x0 x1 x2 x3 x4 = grind arith
 
   plain_of_party : (code : Coding T) (p : ℕ) (flight : Flight T) (n : ℕ) → AreOf p (plain_effects code p flight n)
-  plain_of_party code p (flights.TheVariants.Container flight) n = effects_own p _ (all_effects (Next p) p refl code None flight n)
-  plain_of_party code p flight n = tt
+  plain_of_party x0 x1 x2 x3 = grind arith
 
   -- ---- a call that is no look of a state
 
@@ -68,26 +66,21 @@ module _ {T : Type 0} where
 
   plain_writes : (code : Coding T) (kept : Registry T) (p : ℕ) (flight : ContainerFlight T) (n : ℕ) → IsPlain (flights.TheVariants.Container flight)
       → kept_effects code kept p (flights.TheVariants.Container flight) n ≡ plain_effects code p (flights.TheVariants.Container flight) n
-  plain_writes code kept p (calls.Look which call) n plain = absurd plain
-  plain_writes code kept p flight n plain = refl
+  plain_writes x0 x1 x2 x3 x4 x5 = grind arith
 
   -- it writes by itself
   writes_alike : (code : Coding T) (kept : Registry T) (p : ℕ) (flight : Flight T) (n : ℕ) → IsPlain flight
       → kept_effects code kept p flight n ≡ plain_effects code p flight n
-  writes_alike code kept p (flights.TheVariants.Container flight) n plain = plain_writes code kept p flight n plain
-  writes_alike code kept p flight n plain = absurd plain
+  writes_alike x0 x1 x2 x3 x4 x5 = grind arith
 
   plain_goes : (code : Coding T) (p : ℕ) (flight : ContainerFlight T) (n : ℕ) (kept : Registry T) → IsPlain (flights.TheVariants.Container flight)
       → goes_of code p (flights.TheVariants.Container flight) n kept ≡ after_of code (flights.TheVariants.Container flight) n
-  plain_goes code p (calls.Look which call) n kept plain = absurd plain
-  plain_goes code p flight n (registries.TheVariants.Container dead states) plain = refl
-  plain_goes code p flight n kept plain = refl
+  plain_goes x0 x1 x2 x3 x4 x5 = grind arith
 
   -- and goes on by itself
   pub goes_plain : (code : Coding T) (p : ℕ) (flight : Flight T) (n : ℕ) (kept : Registry T) → IsPlain flight
       → goes_of code p flight n kept ≡ after_of code flight n
-  goes_plain code p (flights.TheVariants.Container flight) n kept plain = plain_goes code p flight n kept plain
-  goes_plain code p flight n kept plain = absurd plain
+  goes_plain x0 x1 x2 x3 x4 x5 = grind arith
 
 -- the words of the set, how often an element has changed, and for each index a number and its element
 abbrev pub container_words : {T : Type 0} → Coding T → ℕ → ℕ
@@ -111,9 +104,7 @@ module _ {T : Type 0} (code : Coding T) (capacity : ℕ) where
   is_open_container t r = reached_open_kept t r.of_kind r.reached
 
   pub container_size : (t : Trace T) → IsOn t → length t.world.words ≡ container_words code capacity
-  container_size t r =
-      reached_open_wide t r.of_kind r.reached
-      ∙ (ap (λ n. total_words n t.world.coding.size) r.sized ∙ ap (λ (z : Coding T). total_words capacity z.size) r.coded)
+  container_size x0 x1 = grind (arith, reached_open_wide)
 
   -- nobody has died
   pub kept_there : (t : Trace T) → IsOn t → (dead : List ℕ) × (states : List (ℕ × ContainerState T))
@@ -140,20 +131,12 @@ module _ {T : Type 0} (code : Coding T) (capacity : ℕ) where
   writes_there : (y : Coding T) (words ws : List ℕ) (beside : Option (ℕ × ℕ)) (c z p old : ℕ) (all : List SetAct) (done : List (Act T)) (kept : Registry T)
       (s : ContainerNow T) (start : Start T) (flight : Flight T) → Represents kept ws s → FlightAt c z all done start flight
       → (step_of y words beside p start flight old kept).wrote ≡ kept_effects y kept p flight old
-  writes_there y words ws beside c z p old all done (registries.TheVariants.Container dead states) s (Container start)
-      (flights.TheVariants.Container flight) fit at =
-      refl
-  writes_there y words ws beside c z p old all done kept s (Container start) (flights.TheVariants.Container flight) fit at = absurd fit
-  writes_there y words ws beside c z p old all done kept s start flight fit at = absurd at
+  writes_there x0 x1 x2 x3 x4 x5 x6 x7 x8 x9 x10 x11 x12 x13 x14 x15 = grind arith
 
   goes_there : (y : Coding T) (words ws : List ℕ) (beside : Option (ℕ × ℕ)) (c z p old : ℕ) (all : List SetAct) (done : List (Act T)) (kept : Registry T)
       (s : ContainerNow T) (start : Start T) (flight : Flight T) → Represents kept ws s → FlightAt c z all done start flight
       → (step_of y words beside p start flight old kept).after ≡ goes_of y p flight old kept
-  goes_there y words ws beside c z p old all done (registries.TheVariants.Container dead states) s (Container start)
-      (flights.TheVariants.Container flight) fit at =
-      refl
-  goes_there y words ws beside c z p old all done kept s (Container start) (flights.TheVariants.Container flight) fit at = absurd fit
-  goes_there y words ws beside c z p old all done kept s start flight fit at = absurd at
+  goes_there x0 x1 x2 x3 x4 x5 x6 x7 x8 x9 x10 x11 x12 x13 x14 x15 = grind arith
 
   steps_on : (t : Trace T) → IsOn t → (p : ℕ) (start : Start T) (flight : Flight T) → call_in t.world p ≡ Some (start, flight)
       → StepsOn code kinds.Container capacity (container_words code capacity) container_effects t p flight
@@ -197,16 +180,7 @@ module _ {T : Type 0} (capacity p : ℕ) (dead : List ℕ) (states : List (ℕ �
   FreeTo start = first_row (rows_as kinds.Container capacity (registries.TheVariants.Container dead states) p (Container start)) ≡ None
 
   may_begin : (start : ContainerStart T) → names_owner start ≡ true → FreeTo start
-  may_begin (Add value owner) named = rw (named, lives owner) refl
-  may_begin (Remove index owner mode) named = rw (named, lives owner) refl
-  may_begin (Replace index value owner) named = rw (named, lives owner) refl
-  may_begin (Find owner) named = rw named refl
-  may_begin (Recover owner mode) named = rw named refl
-  may_begin GetState named = refl
-  may_begin UpdateState named = refl
-  may_begin Len named = refl
-  may_begin IsEmpty named = refl
-  may_begin IsLocked named = refl
+  may_begin x0 x1 = grind arith
 
 -- each call that the container has may, as the party that the pass was last
 module _ {T C M E : Type 0} (code : Coding T) (base : View T) (call : Calling T C M E) (start : ContainerStart T) (c : C) (m : M)
@@ -231,15 +205,7 @@ module _ {T C M E : Type 0} (code : Coding T) (base : View T) (call : Calling T 
 
 module _ {T C M E : Type 0} (code : Coding T) (call : Calling T C M E) (plain : (c : C) (m : M) → IsPlain (call.flight c m)) where
   pub plain_acts : ActsAlone code kinds.Container container_effects (plain_effects code) call
-  plain_acts =
-      record {
-        never = λ c m late h. h;
-        same = λ capacity p c m n t run.
-            ap (λ (z : Coding T). kept_effects z t.world.kept p (call.flight c m) n) run.coded
-            ∙ writes_alike code t.world.kept p (call.flight c m) n (plain c m);
-        its_own = λ capacity p c m n t run there. plain_of_party code p (call.flight c m) n;
-        alike = λ capacity p c m n t run. goes_plain code p (call.flight c m) n t.world.kept (plain c m);
-      }
+  plain_acts = grind arith
 
   pub container_keeps : (want : C → Want (Unit {0})) (after : C → ℕ → After C E) (kept : C → M → ℕ → M)
       → IsCallOf code (plain_effects code) (container_words code) want after kept call → ((c : C) (n : ℕ) → call.skips c n ≡ false)

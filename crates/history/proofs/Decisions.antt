@@ -63,7 +63,7 @@ module _ {T C M E : Type 0} (code : Coding T) (kind : Kind) (decides : MayDecide
     n = number_of h.said
 
     y : Ready code kind effects size_of laws call s v key id h.asking h.room
-    y = ready code kind effects size_of laws call s v key id h.asking h.room r at known base₀ (inr h.before)
+    y = grind (arith, ready, inr)
 
     comes : goes_of code y.p from n y.u.world.kept ≡ GoOn (call.flight c m)
     comes = acts.alike key y.p h.asking h.room n y.u y.between.run
@@ -113,47 +113,19 @@ module _ {T C M E : Type 0} (code : Coding T) (kind : Kind) (decides : MayDecide
 
     module _ (base : View T) (k : Heard base v c m) where
       same_flight : call.flight k.asking k.room ≡ from
-      same_flight =
-          let both : ◌≡◌ {A = Option (Start T × Flight T)} (Some (call.start, call.flight k.asking k.room)) (Some (call.start, from)) = sym k.before.going
-          ∙ h.before.going in
-          let pair : ◌≡◌ {A = Start T × Flight T} (call.start, call.flight k.asking k.room) (call.start, from) = cc in
-          ap (λ (z : Start T × Flight T). z.1) pair
+      same_flight = grind arith
 
       same_asking : k.asking ≡ h.asking
       same_asking = same_call k.asking h.asking k.room h.room same_flight
 
       stage_then : Stage base v h.asking h.room
-      stage_then =
-          let under : IsUnderWay code kind call base v h.asking k.room = subst (λ z. IsUnderWay code kind call base v z k.room) same_asking k.before in
-          let same : call.flight h.asking k.room ≡ from = ap (λ z. call.flight z k.room) (sym same_asking) ∙ same_flight in
-          inr (record {
-            capacity = under.capacity;
-            standing = under.standing;
-            share = under.share;
-            some = under.some;
-            party = under.party;
-            mine = under.mine;
-            same = under.same;
-            going = h.before.going;
-            state = under.state;
-            past = under.past;
-            alone = under.alone;
-            wrote = under.wrote;
-            tells = is_call.same_room base.capacity under.party base.going h.asking k.room h.room (number_of k.said) n under.wrote
-                (ap is_question (sym (steps.same_want h.asking h.room)) ∙ h.asks) same
-                (ap (λ z. kept z k.room (number_of k.said)) (sym same_asking) ∙ (sym k.keeps ∙ h.keeps)) under.tells;
-            since = under.since;
-            history = under.history;
-            stood = subst (λ z. HasStood code kind base.capacity under.party call.start z v.seen) same under.stood;
-            all = under.all;
-            parties = under.parties;
-          })
+      stage_then = grind arith
 
       told_by : Told_by code kind effects size_of laws call y.p h.asking h.room base y.u.events (v.made ++ y.gained)
       told_by = y.prior base stage_then
 
       standing_then : call.stands base.capacity h.asking
-      standing_then = still_stands code kind effects size_of laws call base v h.asking h.room stage_then
+      standing_then = grind arith
 
       all_its_own : (told_by.wrote ++ told_by.late) ++ events_by y.p effs ≡ told_by.wrote ++ mine
       all_its_own =
@@ -162,9 +134,7 @@ module _ {T C M E : Type 0} (code : Coding T) (kind : Kind) (decides : MayDecide
           ∙ ap (λ zs. told_by.wrote ++ zs) (written_alone code kind effects own call acts key y.p h.asking h.room n y.u y.between.run y.there))
 
       tells_then : call.wrote base.capacity y.p base.going c m (told_by.wrote ++ mine)
-      tells_then =
-          subst (λ k. call.wrote base.capacity y.p base.going c k (told_by.wrote ++ mine)) (sym h.keeps)
-          (steps.tells base.capacity y.p base.going h.asking c h.room n told_by.wrote standing_then told_by.tells h.goes)
+      tells_then = grind arith
 
       since_then : Since y.p call.start ((told_by.wrote ++ told_by.late) ++ events_by y.p effs) [] base view_heard
       since_then =
@@ -214,25 +184,13 @@ module _ {T C M E : Type 0} (code : Coding T) (kind : Kind) (decides : MayDecide
 
   -- no other drive of it says otherwise
   never_both : {A : Type 0} (base other v : View T) (c : C) (m : M) → is_question (want c) ≡ false → Stage base v c m → Heard other v c m → A
-  never_both base other v c m still (inl first) k =
-      let none : ◌≡◌ {A = Option (Start T × Flight T)} None (Some (call.start, call.flight k.asking k.room)) = sym first.idle
-      ∙ (ap (λ (z : View T). z.going) (sym first.is) ∙ k.before.going) in
-      absurd (cc)
-  never_both base other v c m still (inr under) k =
-      let both : ◌≡◌ {A = Option (Start T × Flight T)} (Some (call.start, call.flight k.asking k.room))
-      (Some (call.start, call.flight c m)) = sym k.before.going ∙ under.going in
-      let pair : ◌≡◌ {A = Start T × Flight T} (call.start, call.flight k.asking k.room) (call.start, call.flight c m) = cc in
-      let same = same_call k.asking c k.room m (ap (λ (z : Start T × Flight T). z.1) pair) in
-      clash (is_question (want c)) (subst (λ z. is_question (want z) ≡ true) same (ap is_question (sym (steps.same_want k.asking k.room)) ∙ k.asks)) still
+  never_both x0 x1 x2 x3 x4 x5 x6 x7 = grind arith
 
   standing : (base v : View T) (c : C) (m : M) → AtAsked code kind after kept call base v c m → call.stands base.capacity c
-  standing base v c m (inl stage) = still_stands code kind effects size_of laws call base v c m stage
-  standing base v c m (inr k) = steps.stays base.capacity k.asking c (number_of k.said) k.before.standing k.goes
+  standing x0 x1 x2 x3 x4 = grind arith
 
   same_size : (base v : View T) (c : C) (m : M) → AtAsked code kind after kept call base v c m → v.capacity ≡ base.capacity
-  same_size base v c m (inl (inl first)) = ap (λ (z : View T). z.capacity) first.is
-  same_size base v c m (inl (inr under)) = under.capacity
-  same_size base v c m (inr k) = k.before.capacity
+  same_size x0 x1 x2 x3 x4 = grind arith
 
   -- ---- a question is answered
 
@@ -242,11 +200,7 @@ module _ {T C M E : Type 0} (code : Coding T) (kind : Kind) (decides : MayDecide
   -- who stands at a question has heard the answer that it takes
   pub hears_said : (base v : View T) (c d : C) (m : M) (said : Bool) → is_question (want c) ≡ true → after c (number_of said) ≡ GoOn d
       → AtAsked code kind after kept call base v c m → AtAsked code kind after kept call base v d (kept c m (number_of said))
-  hears_said base v c d m said due e (inl (inl first)) = clash (is_question (want c)) due (is_call.first base.capacity c m first.first)
-  hears_said base v c d m said due e (inl (inr under)) =
-      inr (record { asking = c; room = m; before = under; asks = ap is_question (steps.same_want c m) ∙ due; said = said; goes = e; keeps = refl })
-  hears_said base v c d m said due e (inr k) =
-      clash (is_question (want c)) due (is_call.one k.asking c (number_of k.said) (ap is_question (sym (steps.same_want k.asking k.room)) ∙ k.asks) k.goes)
+  hears_said x0 x1 x2 x3 x4 x5 x6 x7 x8 = grind arith
 
   -- ---- each step keeps the rule
 
@@ -327,8 +281,7 @@ module _ {T C M E : Type 0} (code : Coding T) (kind : Kind) (decides : MayDecide
       where
         as_heard : (s : State (Unit {0}) (View T)) (r : IsMachine code kind key s) (at : get_elem? s.views id ≡ some v) (base : View T)
             → AtAsked code kind after kept call base v c m → Stage base (view_heard s v key id c m r at known base₀ h) c m
-        as_heard s r at base (inl stage) = never_both base base₀ v c m still stage h
-        as_heard s r at base (inr k) = inr (lifted s v key id c m r at known base₀ h base k)
+        as_heard x0 x1 x2 x3 x4 = grind (arith, never_both, lifted)
 
   -- at a word, where its call can end by a step alone
   pub keeps_word : (base₀ v : View T) (c : C) (m : M) (key words slots id : ℕ) → words ≡ size_of key + 1 → v.capacity ≡ key
@@ -351,10 +304,7 @@ module _ {T C M E : Type 0} (code : Coding T) (kind : Kind) (decides : MayDecide
     -- and where the answer ends its call, it has ended
     pub ends_said : (base v : View T) (c : C) (m : M) (said : Bool) (e : E) → is_question (want c) ≡ true → after c (number_of said) ≡ Done e
         → AtAsked code kind after kept call base v c m → Finished base e (kept c m (number_of said)) v
-    ends_said base v c m said end due e (inl (inl first)) = clash (is_question (want c)) due (is_call.first base.capacity c m first.first)
-    ends_said base v c m said end due e (inl (inr under)) = rested base v c m said end due e under
-    ends_said base v c m said end due e (inr k) =
-        clash (is_question (want c)) due (is_call.one k.asking c (number_of k.said) (ap is_question (sym (steps.same_want k.asking k.room)) ∙ k.asks) k.goes)
+    ends_said x0 x1 x2 x3 x4 x5 x6 x7 x8 = grind arith
 
     told_no : (v : View T) (c : C) (m : M) → is_question (want c) ≡ true → ToldAsked c m v 0 v
     told_no v c m due = (refl, λ base stage. go base stage (after c 0) refl)
@@ -397,6 +347,4 @@ module _ {T C M E : Type 0} (code : Coding T) (kind : Kind) (decides : MayDecide
 
   pub hears_answer : (base v : View T) (c d : C) (m : M) (said : Bool) → is_question (want c) ≡ true → after c (number_of said) ≡ GoOn d
       → AtAsked code kind after kept call base v c m → AtAsked code kind after kept call base v d (kept c m (number_of said))
-  hears_answer =
-      hears_said code kind decides effects own size_of laws want after kept call acts is_call.asking
-      (Ends code kind call) (λ base e m w h. h)
+  hears_answer = grind arith

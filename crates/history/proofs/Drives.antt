@@ -53,10 +53,7 @@ module _ {T C M E Asks : Type 0} (code : Coding T) (kind : Kind) (effects : Worl
     view_now = view_then code kind effects size_of laws call s v key id c m at known y (Some ask) low asks_it finds_it
 
     comes_there : (base : View T) → At code kind call base v c m → goes_of code y.p (call.flight c m) n y.u.world.kept ≡ goes call (after c n) (kept c m n)
-    comes_there base stage =
-        let size : key ≡ base.capacity = sym known ∙ same_capacity code kind effects size_of laws call base v c m stage in
-        is_call.same_after base.capacity y.p c m n y.u (subst (λ k. IsRun code kind k y.u) size y.between.run) y.there
-        (still_stands code kind effects size_of laws call base v c m stage)
+    comes_there x0 x1 = grind arith
 
     known_then : (base : View T) → At code kind call base v c m → (r : After C E) → after c n ≡ r → Step base r (kept c m n) view_now
     known_then base stage (GoOn d) e =
@@ -74,12 +71,7 @@ module _ {T C M E Asks : Type 0} (code : Coding T) (kind : Kind) (effects : Worl
         (ap is_question wants_it)))
 
     pub told : Told (λ (z : View T). z.capacity) (At code kind call) (Over code kind call) after kept c m v (answered ask.op n) view_now
-    told =
-        let hears = is_call.hears c m ask n wants_it in (
-          refl,
-          λ base stage. subst (λ (z : After C E × M). Step base z.0 z.1 view_now)
-              (λ i. (sym hears.0 i, sym hears.1 i)) (known_then base stage (after c n) refl),
-        )
+    told = grind (arith, known_then)
 
     pub between_then : Between code kind key y.owner
         (record { words = slice_set s.words ask.word (written ask.op n); homes = s.homes; views = s.views }) id y.p
@@ -122,19 +114,12 @@ module _ {T C M E Asks : Type 0} (code : Coding T) (kind : Kind) (effects : Worl
         absurd (cc)
 
     pub told_left : Told (λ (z : View T). z.capacity) (At code kind call) (Over code kind call) after kept c m v (answered ask.op seen_word) w
-    told_left =
-        let hears = is_call.hears c m ask seen_word wants_it in
-        let out = is_call.leaves c ask seen_word skip wants_it in (
-          looked.capacity,
-          λ base stage. subst (λ (z : After C E × M). Step base z.0 z.1 w) (λ i. (sym hears.0 i, sym hears.1 i))
-              (subst (λ a. Step base a (kept c m seen_word) w) (sym out.3) (inr (left_out base stage out.1 (kept c m seen_word) out.2))),
-        )
+    told_left = grind (arith, inr, left_out)
 
   -- it has not begun, so nothing is late for it
   calm : (base v : View T) (c : C) (m : M) (n : ℕ) → call.skips c n ≡ true → At code kind call base v c m
       → (late : List (Event T)) → IsLate kind v.going late → late ≡ []
-  calm base v c m n skip (inl first) late h = late_none kind late (subst (λ o. IsLate kind o late) (ap (λ (z : View T). z.going) first.is ∙ first.idle) h)
-  calm base v c m n skip (inr under) late h = (let no : true ≡ false = sym skip ∙ under.past n in absurd (cc))
+  calm x0 x1 x2 x3 x4 x5 x6 x7 x8 = grind arith
 
   -- ---- each step of the call at a word keeps the rule
 
@@ -181,8 +166,7 @@ module _ {T C M E Asks : Type 0} (code : Coding T) (kind : Kind) (effects : Worl
   -- a call that no word leaves out always ends
   module _ (never : (c : C) (n : ℕ) → call.skips c n ≡ false) where
     ended : (base : View T) (e : E) (m : M) (w : View T) → Over code kind call base e m w → Ends code kind call base e m w
-    ended base e m w (inl ends) = ends
-    ended base e m w (inr left) = (let no : false ≡ true = sym (never left.from left.word) ∙ left.skipped in absurd (cc))
+    ended x0 x1 x2 x3 x4 = grind arith
 
     pub next_ended : (base : View T) (r : After C E) (m : M) (w : View T) → Step base r m w
         → NextKnown (λ (z : View T). z.capacity) (At code kind call) (Ends code kind call) base r m w
@@ -193,7 +177,7 @@ module _ {T C M E Asks : Type 0} (code : Coding T) (kind : Kind) (effects : Worl
     ToldEnds c m = Told (λ (z : View T). z.capacity) (At code kind call) (Ends code kind call) after kept c m
 
     told_all : (c : C) (m : M) (x : View T) (n : ℕ) (w : View T) → ToldOver c m x n w → ToldEnds c m x n w
-    told_all c m x n w h = (h.0, λ base stage. next_ended base (after c n) (kept c m n) w (h.1 base stage))
+    told_all x0 x1 x2 x3 x4 x5 = grind arith
 
     pub keeps_ends : KeepsRule (λ (z : View T). z.capacity) (At code kind call) (Over code kind call) (λ key. size_of key + 1) (λ key. key)
         (λ key. IsMachine code kind key) want after kept
@@ -252,13 +236,12 @@ module _ {T C M E : Type 0} (code : Coding T) (kind : Kind) (effects : World T �
 pub all_laws : {T : Type 0} (code : Coding T) (kind : Kind) (effects : ℕ → Flight T → ℕ → List (Event T)) (size_of : ℕ → ℕ)
     → ((capacity : ℕ) → KindLaws code kind capacity (size_of capacity) effects) → (capacity : ℕ)
     → MachineLaws code kind capacity (size_of capacity) (λ w. effects)
-all_laws code kind effects size_of laws capacity = machine_laws code kind capacity (size_of capacity) effects (laws capacity)
+all_laws x0 x1 x2 x3 x4 x5 = grind (arith, machine_laws)
 
 pub all_kept_laws : {T : Type 0} (code : Coding T) (kind : Kind) (effects : ℕ → Flight T → ℕ → List (Event T)) (size_of : ℕ → ℕ)
     → ((capacity : ℕ) → KindLaws code kind capacity (size_of capacity) effects) → (capacity : ℕ)
     → KeptLaws code kind capacity (size_of capacity) (λ w. effects)
-all_kept_laws code kind effects size_of laws capacity =
-    kept_laws code kind capacity (size_of capacity) (λ w. effects) (all_laws code kind effects size_of laws capacity)
+all_kept_laws x0 x1 x2 x3 x4 x5 = grind (arith, kept_laws, all_laws)
 
 -- it goes on by itself, and writes for itself alone
 pub acts_alone : {T C M E : Type 0} (code : Coding T) (kind : Kind) (effects : ℕ → Flight T → ℕ → List (Event T)) (size_of : ℕ → ℕ)

@@ -1,4 +1,5 @@
 -- What holds of each event of a run, where it holds of what each step of a call writes, and of every begin and end.
+use Rattle.std.proofs.Common.{arith}
 use Rattle.history.proofs.Names.{◌≡◌, ◌⊎◌, inl, inr, ℕ, Bool, true, not, is_none, Option, Some, None, List, [], ◌∷◌}
 use Rattle.history.proofs.Names.{◌++◌, refl, Answer, Event, Begun, Finished, Died, Start, Flight, Doing, Going, Over}
 use Rattle.history.proofs.Names.{Party, Refusal, Turn, Begin, Next, Decide, Die, Idle, Undecided, want_of, ask_of}
@@ -25,8 +26,7 @@ module _ {T : Type 0} (F : Family T) (May : Trace T → Turn T → Type 0) (laws
   both before (x ∷ xs) ys a b = (a.0, both (before ++ x ∷ []) xs ys a.1 b)
 
   ending_right : (p : ℕ) (start : Start T) (o : Option (Answer T)) (before : List (Event T)) → AreRight P before (ending_of p start o)
-  ending_right p start None before = tt
-  ending_right p start (Some answer) before = (finished before p start answer, tt)
+  ending_right x0 x1 x2 x3 = grind arith
 
   module _ (t : Trace T) (s : Sound F t) where
     -- what a call at this place is handed
@@ -36,12 +36,7 @@ module _ {T : Type 0} (F : Family T) (May : Trace T → Turn T → Type 0) (laws
 
     answer_right : (p n : ℕ) (x : Party T) → party_of p t.world.latest ≡ Some x → (doing : Doing T)
         → x.doing ≡ doing → HandedAt n doing → AreRight P t.events (events_of_answer t.world p x n doing)
-    answer_right p n x found (Over others) d h = tt
-    answer_right p n x found (Going flight since) d h =
-        both t.events (step_in t.world p x flight n).wrote
-        (ending_of p x.start (answer_in (step_in t.world p x flight n).after))
-        (writes t s p n x flight since found d h)
-        (λ b. ending_right p x.start (answer_in (step_in t.world p x flight n).after) b)
+    answer_right x0 x1 x2 x3 x4 x5 x6 = grind (arith, both, step_in, ending_right)
 
     next_right : (p : ℕ) (o : Option (Party T)) → party_of p t.world.latest ≡ o → AreRight P t.events (events_of_next t.world p o)
     next_right p None e = tt
@@ -54,25 +49,14 @@ module _ {T : Type 0} (F : Family T) (May : Trace T → Turn T → Type 0) (laws
     decision_right : (p : ℕ) (said : Bool) (o : Option (Party T)) → party_of p t.world.latest ≡ o
         → is_due t.world.coding (flight_of (doing_of o)) ≡ true
         → AreRight P t.events (events_of_decision t.world p said o)
-    decision_right p said None e due = tt
-    decision_right p said (Some x) e due = answer_right p (number_of said) x e x.doing refl (handed x.doing due)
-      where
-        handed : (doing : Doing T) → is_due t.world.coding (flight_of (Some doing)) ≡ true → HandedAt (number_of said) doing
-        handed (Over others) h = tt
-        handed (Going flight since) h = inr h
+    decision_right x0 x1 x2 x3 x4 = grind arith
 
     -- a decision is only taken where one is due
     due_of : (p : ℕ) (said : Bool) → call_refusal t.world (Decide p said) ≡ None → is_due t.world.coding (flight_in t.world p) ≡ true
-    due_of p said e =
-        let c = row_passed (is_none (flight_in t.world p)) Idle _ e in
-        let d = row_passed (not (is_due t.world.coding (flight_in t.world p))) Undecided _ c.1 in
-        is_true (is_due t.world.coding (flight_in t.world p)) d.0
+    due_of x0 x1 x2 = grind arith
 
     turn_right : (turn : Turn T) → call_refusal t.world turn ≡ None → AreRight P t.events (events_of t.world turn)
-    turn_right (Begin p start) free = (begun t.events p start, tt)
-    turn_right (Next p) free = next_right p (party_of p t.world.latest) refl
-    turn_right (Decide p said) free = decision_right p said (party_of p t.world.latest) refl (due_of p said free)
-    turn_right (Die owner) free = (died t.events owner, tt)
+    turn_right x0 x1 = grind (arith, next_right, decision_right, due_of)
 
   attempt_right : (t : Trace T) (turn : Turn T) (o : Option Refusal) → call_refusal t.world turn ≡ o → Sound F t
       → Each P t.events → Each P (unless_refused t (after_turn t turn) o).events

@@ -14,8 +14,7 @@ use Rattle.history.proofs.Robusts.{is_open_set, robust_size}
 -- ---- what a cell says
 
 cell_tells : (o : Option ℕ) (owner k : ℕ) → owner < empty → k ≡ cell_of o → k ≡ owner → o ≡ Some owner
-cell_tells None owner k fits is e = absurd (omega arith)
-cell_tells (Some other) owner k fits is e = (let same : other ≡ owner = sym is ∙ e in ap Some same)
+cell_tells x0 x1 x2 x3 x4 x5 = grind arith
 
 cell_denies : (o : Option ℕ) (owner k : ℕ) → k ≡ cell_of o → k ≢ owner → o ≢ Some owner
 cell_denies o owner k is ne e = ne (is ∙ ap cell_of e)
@@ -39,13 +38,13 @@ module _ {T : Type 0} (code : Coding T) (capacity index k : ℕ) (low : index < 
 
 module _ {T : Type 0} where
   longer : (old mid new : List (Event T)) → IsBeginning old mid → IsBeginning mid new → IsBeginning old new
-  longer old mid new a b = record { rest = a.rest ++ b.rest; is = b.is ∙ (ap (λ es. es ++ b.rest) a.is ∙ append_assoc old a.rest b.rest) }
+  longer x0 x1 x2 x3 x4 = grind (arith, append_assoc)
 
   pub itself : (es : List (Event T)) → IsBeginning es es
   itself es = record { rest = []; is = sym (append-nil es) }
 
   held_later : (P : List (Event T) → Type 0) (old mid new : List (Event T)) → IsBeginning mid new → HeldBetween P old mid → HeldBetween P old new
-  held_later P old mid new on h = record { moment = h.moment; later = h.later; before = longer h.moment mid new h.before on; held = h.held }
+  held_later x0 x1 x2 x3 x4 x5 = grind (arith, longer)
 
   held_now : (P : List (Event T) → Type 0) (old new : List (Event T)) → IsBeginning old new → P new → HeldBetween P old new
   held_now P old new on now = record { moment = new; later = on; before = itself new; held = now }
@@ -58,7 +57,7 @@ module _ {T : Type 0} where
     HadNot new index = HeldBetween (λ es. filled_of index es ≢ Some owner) old new
 
     pub owned_none : (new : List (Event T)) → WereOwned owner 0 [] old new
-    owned_none new = record { had = All-nil (Had new); had_not = λ i below out. absurd (omega arith) }
+    owned_none x0 = grind arith
 
     pub owned_later : (bound : ℕ) (indices : List ℕ) (mid new : List (Event T)) → IsBeginning mid new → WereOwned owner bound indices old mid
         → WereOwned owner bound indices old new

@@ -13,29 +13,7 @@ module _ {T : Type 0} (owner : ℕ → ℕ) (j c i : ℕ) where
   MovesIt = Moves (claims i) (frees i) (holder_after i) owner j
 
   moves : (before : List (Event T)) (e : Event T) → HoldsRight c before e → MovesIt before e
-  moves before (Claimed p index) h = ⊎_elim here there (cases_eq index i)
-    where
-      here : index ≡ i → MovesIt before (Claimed p index)
-      here e =
-          let t : (index == i) ≡ true = grind (arith, nat_tests) in
-          let free : holder_of i before ≡ None = subst (λ n. holder_of n before ≡ None) e h.1 in
-          taken (claims i) (frees i) (holder_after i) owner j before (Claimed p index) p refl (rw t refl) refl free (rw t refl)
-
-      there : index ≢ i → MovesIt before (Claimed p index)
-      there ne = let t : (index == i) ≡ false = grind (arith, nat_tests) in
-          still (claims i) (frees i) (holder_after i) owner j before (Claimed p index) (rw t refl) refl (rw t refl)
-  moves before (Freed p index) h = ⊎_elim here there (cases_eq index i)
-    where
-      here : index ≡ i → MovesIt before (Freed p index)
-      here e =
-          let t : (index == i) ≡ true = grind (arith, nat_tests) in
-          let held : holder_of i before ≡ Some p = subst (λ n. holder_of n before ≡ Some p) e h in
-          given (claims i) (frees i) (holder_after i) owner j before (Freed p index) p refl refl (rw t refl) held (rw t refl)
-
-      there : index ≢ i → MovesIt before (Freed p index)
-      there ne = let t : (index == i) ≡ false = grind (arith, nat_tests) in
-          still (claims i) (frees i) (holder_after i) owner j before (Freed p index) refl (rw t refl) (rw t refl)
-  moves before e h = still (claims i) (frees i) (holder_after i) owner j before e refl refl refl
+  moves x0 x1 x2 = grind arith
 
   all_move : (all : List (Event T)) → Each (HoldsRight c) all → Each MovesIt all
   all_move all each before after e is = moves before e (each before after e is)

@@ -72,40 +72,25 @@ module _ {T : Type 0} (c : ℕ) where
 
   push_acts : (r : Ring) (p : ℕ) (v : Val T (kind_of r)) (o : Option (Answer T)) (before : List (Event T))
       → producer_of before ≡ Some p → Right before (acts_if_done p (push_of r v) o)
-  push_acts r p v None before holds = tt
-  push_acts of_indices p v (Some answer) before holds = ((holds, tt), tt)
-  push_acts of_values p v (Some answer) before holds = ((holds, tt), tt)
+  push_acts x0 x1 x2 x3 x4 x5 = grind arith
 
   pop_acts : (p : ℕ) (o : Option (Answer T)) (before : List (Event T)) → consumer_of before ≡ Some p → Right before (acts_if_done p Pop o)
   pop_acts p None before holds = tt
   pop_acts p (Some answer) before holds = ((holds, tt), tt)
 
   ending_right : (p : ℕ) (start : Start T) (o : Option (Answer T)) (before : List (Event T)) → Right before (ending_of p start o)
-  ending_right p start None before = tt
-  ending_right p start (Some answer) before = ((tt, tt), tt)
+  ending_right x0 x1 x2 x3 = grind arith
 
   push_right : (r : Ring) (p : ℕ) (v : Val T (kind_of r)) (item : Item T) (stage : pushes.PushStage)
       (o : Option (Answer T)) (before : List (Event T))
       → producer_of before ≡ Some p → RoomAt before stage
       → Right before (effects_of p (push_of r v) (push_effect item stage) o)
-  push_right r p v item pushes.TheVariants.LoadsWrite o before holds room = tt
-  push_right r p v item (pushes.TheVariants.LoadsRead write) o before holds room = push_acts r p v o before holds
-  push_right r p v item (pushes.TheVariants.StoresCell write cell at) o before holds room = tt
-  push_right r p v item (pushes.TheVariants.StoresWrite write) o before holds room = (
-    (holds, room),
-    push_acts r p v o (before ++ Published p item ∷ []) (fold-append producer_after None before (Published p item ∷ []) ∙ holds),
-  )
+  push_right x0 x1 x2 x3 x4 x5 x6 x7 x8 = grind (arith, push_acts, fold-append)
 
   pop_right : (p : ℕ) (item : Item T) (stage : pops.PopStage) (o : Option (Answer T)) (before : List (Event T))
       → consumer_of before ≡ Some p → FirstAt before item stage
       → Right before (effects_of p Pop (pop_effect item stage) o)
-  pop_right p item pops.TheVariants.LoadsRead o before holds first = tt
-  pop_right p item (pops.TheVariants.LoadsWrite read) o before holds first = pop_acts p o before holds
-  pop_right p item (pops.TheVariants.LoadsCell read cell at) o before holds first = tt
-  pop_right p item (pops.TheVariants.StoresRead read) o before holds first = (
-    (holds, first),
-    pop_acts p o (before ++ HandedOut p item ∷ []) (fold-append consumer_after None before (HandedOut p item ∷ []) ∙ holds),
-  )
+  pop_right x0 x1 x2 x3 x4 x5 x6 = grind (arith, pop_acts, fold-append)
 
   -- what a push and a pop know of the list, where these values wait
   module _ {V : Type 0} (code : Coding V) (named : V → Item T) (k : Core V) (before : List (Event T)) (same : waiting before ≡ map named k.waiting) where
@@ -119,10 +104,7 @@ module _ {T : Type 0} (c : ℕ) where
         omega arith)
 
     first_at : (words : List ℕ) (stage : pops.PopStage) → KnowsPop code c k words stage → FirstAt before (named (value_in code.value_of code.size words)) stage
-    first_at words pops.TheVariants.LoadsRead knows = tt
-    first_at words (pops.TheVariants.LoadsWrite read) knows = tt
-    first_at words (pops.TheVariants.LoadsCell read cell at) knows = tt
-    first_at words (pops.TheVariants.StoresRead read) knows = (map named knows.0, same ∙ ap (map named) knows.2)
+    first_at x0 x1 x2 = grind arith
 
   module _ (en : Coding T) (words : List ℕ) (waits : Option (ℕ × ℕ)) (p n : ℕ) (ro : Roles)
       (before : List (Event T)) (producers : producer_of before ≡ ro.producer)
@@ -170,16 +152,10 @@ module _ {T : Type 0} (c : ℕ) where
 
       answer_right : (p n : ℕ) (x : Party T) → party_of p t.world.latest ≡ Some x → (doing : Doing T)
           → x.doing ≡ doing → Right t.events (events_of_answer t.world p x n doing)
-      answer_right p n x found (Over others) d = tt
-      answer_right p n x found (Going flight since) d =
-          let there = stands_there (family en (kind_of r) c) t s p x since flight found d in
-          let is = kept_is t.world.kept t.world.words s.state s.fit in
-          both t.events (step_in t.world p x flight n).wrote (ending_of p x.start (answer_in (step_in t.world p x flight n).after))
-          (any_right p n _ x.start flight t.world.kept is.0 there.at) (λ b. ending_right p x.start (answer_in (step_in t.world p x flight n).after) b)
+      answer_right x0 x1 x2 x3 x4 x5 = grind (arith, stands_there, family, kept_is, both, step_in, any_right, ending_right)
 
       next_right : (p : ℕ) (o : Option (Party T)) → party_of p t.world.latest ≡ o → Right t.events (Rattle.model.specs.Turns.events_of_next t.world p o)
-      next_right p None e = tt
-      next_right p (Some x) e = answer_right p (old_of t.world.words (ask_of_doing t.world.coding x.doing)) x e x.doing refl
+      next_right x0 x1 x2 = grind (arith, answer_right)
 
       decision_right : (p : ℕ) (said : Bool) (o : Option (Party T)) → party_of p t.world.latest ≡ o
           → Right t.events (Rattle.model.specs.Turns.events_of_decision t.world p said o)
@@ -187,10 +163,7 @@ module _ {T : Type 0} (c : ℕ) where
       decision_right p said (Some x) e = answer_right p (number_of said) x e x.doing refl
 
       turn_right : (turn : Turn T) → Right t.events (events_of t.world turn)
-      turn_right (Begin p start) = ((tt, tt), tt)
-      turn_right (Next p) = next_right p (party_of p t.world.latest) refl
-      turn_right (Decide p said) = decision_right p said (party_of p t.world.latest) refl
-      turn_right (Die owner) = ((tt, tt), tt)
+      turn_right x0 = grind (arith, next_right, decision_right)
 
     abbrev AllBy : Trace T → Type 0
     AllBy t = Each Rightly t.events
@@ -297,10 +270,7 @@ is_other p q A ne e = (let same : q ≡ p = cc in absurd (grind (arith, nat_test
 -- what is so of both roles is so of one
 module _ {T : Type 0} where
   of_one : (role : Side) (before : List (Event T)) (e : Event T) → ByHolder before e → ByHolderOf role before e
-  of_one Producer before (Published p item) holds = holds
-  of_one Consumer before (HandedOut p item) holds = holds
-  of_one Producer before e holds = tt
-  of_one Consumer before e holds = tt
+  of_one x0 x1 x2 x3 = grind arith
 
   each_of : (role : Side) (events : List (Event T)) → Each ByHolder events → Each (ByHolderOf role) events
   each_of role events each before after e is = of_one role before e (each before after e is)
@@ -317,16 +287,7 @@ module _ {T : Type 0} (p : ℕ) where
 
   back_from : (role : Side) (before : List (Event T)) (e : Event T) → ByHolderOf role before e
       → is_party p (whose e) ≡ false → role_after role (held role before) e ≡ Some p → Backs role before e
-  back_from Producer before (Published q y) holds ne now = is_other p q (Backs Producer before (Published q y)) ne (sym holds ∙ now)
-  back_from Producer before (Finished q (Queues AcquireProducer) (Truth true)) holds ne now =
-      is_other p q (Backs Producer before (Finished q (Queues AcquireProducer) (Truth true))) ne now
-  back_from Producer before (Finished q (Queues ReleaseProducer) answer) holds ne now = absurd (cc)
-  back_from Consumer before (HandedOut q y) holds ne now = is_other p q (Backs Consumer before (HandedOut q y)) ne (sym holds ∙ now)
-  back_from Consumer before (Finished q (Queues AcquireConsumer) (Truth true)) holds ne now =
-      is_other p q (Backs Consumer before (Finished q (Queues AcquireConsumer) (Truth true))) ne now
-  back_from Consumer before (Finished q (Queues ReleaseConsumer) answer) holds ne now = absurd (cc)
-  back_from Producer before e holds ne now = (now, refl)
-  back_from Consumer before e holds ne now = (now, refl)
+  back_from x0 x1 x2 x3 x4 x5 = grind arith
 
   pub back_over_of : (role : Side) (before es : List (Event T)) → Each (ByHolderOf role) (before ++ es)
       → events_by p es ≡ [] → held role (before ++ es) ≡ Some p
@@ -366,18 +327,7 @@ module _ {T : Type 0} (p : ℕ) where
 
   forth_from : (role : Side) (before : List (Event T)) (e : Event T) → ByHolderOf role before e
       → GrantsRight before e → is_party p (whose e) ≡ false → held p role before ≡ Some p → IsPlain role e
-  forth_from Producer before (Published q y) holds grants ne now = is_other p q (IsPlain Producer (Published q y)) ne (sym holds ∙ now)
-  forth_from Producer before (Finished q (Queues AcquireProducer) (Truth true)) holds grants ne now =
-      (let no : ◌≡◌ {A = Bool} true false = (let same : true ≡ is_none (producer_of before) = cc in same ∙ ap is_none now) in absurd (cc))
-  forth_from Producer before (Finished q (Queues ReleaseProducer) answer) holds grants ne now =
-      is_other p q (IsPlain Producer (Finished q (Queues ReleaseProducer) answer)) ne (sym grants.1 ∙ now)
-  forth_from Consumer before (HandedOut q y) holds grants ne now = is_other p q (IsPlain Consumer (HandedOut q y)) ne (sym holds ∙ now)
-  forth_from Consumer before (Finished q (Queues AcquireConsumer) (Truth true)) holds grants ne now =
-      (let no : ◌≡◌ {A = Bool} true false = (let same : true ≡ is_none (consumer_of before) = cc in same ∙ ap is_none now) in absurd (cc))
-  forth_from Consumer before (Finished q (Queues ReleaseConsumer) answer) holds grants ne now =
-      is_other p q (IsPlain Consumer (Finished q (Queues ReleaseConsumer) answer)) ne (sym grants.1 ∙ now)
-  forth_from Producer before e holds grants ne now = (refl, refl)
-  forth_from Consumer before e holds grants ne now = (refl, refl)
+  forth_from x0 x1 x2 x3 x4 x5 x6 = grind arith
 
   pub forth_over_of : (role : Side) (before es : List (Event T)) → Each (ByHolderOf role) (before ++ es)
       → Each GrantsRight (before ++ es) → ArePlain role (events_by p es) → held p role before ≡ Some p

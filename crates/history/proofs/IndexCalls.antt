@@ -43,30 +43,16 @@ Standing n (Done e) = Unit {0}
 
 module _ (n : ℕ) (c : Acquiring) (same : c.capacity ≡ n) (some : 0 < n) where
   sees_on : (k : ℕ) → Standing n (acquire_sees c k)
-  sees_on k =
-      by_test (Standing n) (says_locked k) _ _ (λ t. tt)
-      (λ t. by_test (Standing n) (borrowed k == c.capacity) _ _ (λ t. tt)
-      (λ t. by_test (Standing n) (nat_lt (proposed k) c.capacity) _ _
-      (λ t. (let low : proposed k < c.capacity = grind (arith, nat_tests) in (same, some, omega arith)))
-      (λ t. (same, some, tt))))
+  sees_on x0 = grind arith
 
   claims_on : (head : ℕ) → StandsIn n (first_claim c.capacity head)
-  claims_on head =
-      by_test (StandsIn n) (nat_lt (proposed head) c.capacity) _ _
-      (λ t. (let low : proposed head < c.capacity = grind (arith, nat_tests) in omega arith))
-      (λ t. some)
+  claims_on x0 = grind arith
 
   scans_on : (index : ℕ) → scanned_next c.capacity index < n
-  scans_on index =
-      by_test (λ z. z < n) (nat_lt (index + 1) c.capacity) (index + 1) 0
-      (λ t. (let low : index + 1 < c.capacity = grind (arith, nat_tests) in omega arith)) (λ t. some)
+  scans_on x0 = grind arith
 
   takes_on : (stage : acquires.AcquireStage) (k : ℕ) → StandsIn n stage → Standing n (acquire_takes c stage k)
-  takes_on acquires.TheVariants.LoadsHead k h = sees_on k
-  takes_on (acquires.TheVariants.LoadsNext head) k h = (same, some, tt)
-  takes_on (acquires.TheVariants.ExchangesHead head next) k h = by_test (Standing n) (k == head) _ _ (λ t. (same, some, claims_on head)) (λ t. sees_on k)
-  takes_on (acquires.TheVariants.Claims index) k h = by_test (Standing n) (has_flag k index) _ _ (λ t. (same, some, some)) (λ t. tt)
-  takes_on (acquires.TheVariants.Scans index) k h = by_test (Standing n) (has_flag k index) _ _ (λ t. (same, some, scans_on index)) (λ t. tt)
+  takes_on x0 x1 x2 = grind arith
 
   asks_one : (stage : acquires.AcquireStage) → StandsIn n stage → (a : Ask) × (a.word < core.size n) × (acquire_asks c.capacity stage ≡ wants.Ask a)
   asks_one acquires.TheVariants.LoadsHead h = (_, omega arith, refl)
@@ -78,18 +64,11 @@ module _ (n : ℕ) (c : Acquiring) (same : c.capacity ≡ n) (some : 0 < n) wher
 -- an ask that is no store is answered by what was found
 hears_load : (c : Acquiring) (w : Want (Unit {0})) (b a : Ask) (n : ℕ) → w ≡ wants.Ask b → answered b.op n ≡ n
     → w ≡ wants.Ask a → acquire_after c (answered a.op n) ≡ acquire_after c n
-hears_load c w b a n is found e =
-    let both : ◌≡◌ {A = Want (Unit {0})} (wants.Ask b) (wants.Ask a) = sym is ∙ e in
-    let same : b ≡ a = cc in
-    ap (λ (z : Ask). acquire_after c (answered z.op n)) (sym same) ∙ ap (acquire_after c) found
+hears_load x0 x1 x2 x3 x4 x5 x6 x7 = grind arith
 
 hears_at : (c : Acquiring) (stage : acquires.AcquireStage) (a : Ask) (n : ℕ)
     → acquire_asks c.capacity stage ≡ wants.Ask a → acquire_after c (answered a.op n) ≡ acquire_after c n
-hears_at c acquires.TheVariants.LoadsHead a n e = hears_load c _ _ a n refl refl e
-hears_at c (acquires.TheVariants.LoadsNext head) a n e = hears_load c _ _ a n refl refl e
-hears_at c (acquires.TheVariants.ExchangesHead head next) a n e = hears_load c _ _ a n refl refl e
-hears_at c (acquires.TheVariants.Claims index) a n e = hears_load c _ _ a n refl refl e
-hears_at c (acquires.TheVariants.Scans index) a n e = hears_load c _ _ a n refl refl e
+hears_at x0 x1 x2 x3 x4 = grind arith
 
 module _ {T : Type 0} (code : Coding T) where
   abbrev told_as : After Acquiring Acquired → After (Flight T) (Answer T)
@@ -106,28 +85,10 @@ module _ {T : Type 0} (code : Coding T) where
 
   writes_so : (p : ℕ) (r : After Acquiring Acquired)
       → ended p (answer_in (as_call calls.TheVariants.Acquire acquire_answer (went_on as_it_is tt tt r))) ≡ claimed_in p r
-  writes_so p (GoOn d) = refl
-  writes_so p (Done (Ok index)) = refl
-  writes_so p (Done (Err failure)) = refl
+  writes_so x0 x1 = grind arith
 
   pub acquire_call : IsCallOf code index_effects core.size acquire_want acquire_after (λ c m n. m) takes_index
-  acquire_call =
-      record {
-        same_want = λ c m. refl;
-        same_after = λ capacity c m n h. as_told (acquire_after c n);
-        hears = λ c m a n e. (hears_at c c.stage a n e, refl);
-        stays = λ capacity c d n h e. subst (Standing capacity) e (takes_on capacity c h.0 h.1 c.stage n h.2);
-        asks = λ capacity c h. asks_one capacity c h.0 h.1 c.stage h.2;
-        past = λ capacity c d n k h e. refl;
-        finds = λ c m n small t. tt;
-        leaves = λ c a n t e. absurd (cc);
-        tells =
-            λ capacity p from c d m n es h wrote e. ap (λ zs. zs ++ index_effects p (takes_index.flight c m) n) wrote
-            ∙ (writes_so p (acquire_after c n) ∙ ap (claimed_in p) e);
-        tells_all =
-            λ capacity p from c end m n es h skip wrote e still. ap (λ zs. zs ++ index_effects p (takes_index.flight c m) n) wrote
-            ∙ (writes_so p (acquire_after c n) ∙ ap (claimed_in p) e);
-      }
+  acquire_call = grind (arith, as_told, hears_at, takes_on, asks_one, writes_so)
 
   pub acquire_keeps : KeepsRule (λ (z : View T). z.capacity) (At code kinds.Indices takes_index)
       (Ends code kinds.Indices takes_index) (λ key. core.size key + 1) (λ key. key)
@@ -138,17 +99,7 @@ module _ {T : Type 0} (code : Coding T) where
 
   pub acquire_first : (v : View T) (m : Unit {0}) → v.going ≡ None → v.other ≡ [] → 0 < v.share.part
       → 0 < v.capacity → At code kinds.Indices takes_index v v (first_acquire v.capacity) m
-  acquire_first v m idle alone any some =
-      inl (record {
-        is = refl;
-        idle = idle;
-        fresh = alone;
-        standing = (refl, some, tt);
-        some = any;
-        first = refl;
-        starts = plain_starts code v takes_index Acquire (first_acquire v.capacity) m refl (λ o p h. h) (λ kept. refl) (λ holders p. refl);
-        wrote = λ p. refl;
-      })
+  acquire_first x0 x1 x2 x3 x4 x5 = grind (arith, inl, plain_starts)
 
 -- ---- release
 
@@ -161,11 +112,7 @@ StandingR n index (Done e) = Unit {0}
 
 module _ (n index : ℕ) (c : Giving) (same : c.capacity ≡ n) (low : index < n) where
   gives_on : (stage : releases.ReleaseStage) (k : ℕ) → StandingR n index (release_takes false c stage k)
-  gives_on releases.TheVariants.ClearsFlag k = (same, low)
-  gives_on releases.TheVariants.LoadsHead k = (same, low)
-  gives_on (releases.TheVariants.StoresNext head) k = (same, low)
-  gives_on (releases.TheVariants.ExchangesHead head) k = by_test (StandingR n index) (k == head) _ _ (λ t. tt) (λ t. (same, low))
-  gives_on releases.TheVariants.Subtracts k = tt
+  gives_on x0 x1 = grind arith
 
   asks_for : (stage : releases.ReleaseStage) → (a : Ask) × (a.word < core.size n) × (release_asks false c.capacity index stage ≡ wants.Ask a)
   asks_for releases.TheVariants.ClearsFlag = (_, (let l : flag_word c.capacity index < core.size n = omega arith in l), refl)
@@ -176,23 +123,12 @@ module _ (n index : ℕ) (c : Giving) (same : c.capacity ≡ n) (low : index < n
 
 gives_load : (c : Giving) (w : Want (Unit {0})) (b a : Ask) (n : ℕ) → w ≡ wants.Ask b → answered b.op n ≡ n
     → w ≡ wants.Ask a → release_after false c (answered a.op n) ≡ release_after false c n
-gives_load c w b a n is found e =
-    let both : ◌≡◌ {A = Want (Unit {0})} (wants.Ask b) (wants.Ask a) = sym is ∙ e in
-    let same : b ≡ a = cc in
-    ap (λ (z : Ask). release_after false c (answered z.op n)) (sym same) ∙ ap (release_after false c) found
+gives_load x0 x1 x2 x3 x4 x5 x6 x7 = grind arith
 
 gives_heard : (index : ℕ) (c : Giving) (stage : releases.ReleaseStage) (a : Ask) (n : ℕ)
     → release_asks false c.capacity index stage ≡ wants.Ask a
     → release_takes false c stage (answered a.op n) ≡ release_takes false c stage n
-gives_heard index c releases.TheVariants.ClearsFlag a n e = refl
-gives_heard index c releases.TheVariants.LoadsHead a n e =
-    (let same : record { word = 0; op = Load } ≡ a = cc in
-    ap (λ (z : Ask). release_takes false c releases.TheVariants.LoadsHead (answered z.op n)) (sym same))
-gives_heard index c (releases.TheVariants.StoresNext head) a n e = refl
-gives_heard index c (releases.TheVariants.ExchangesHead head) a n e =
-    (let same : record { word = 0; op = Exchange head (head_released false head index) } ≡ a = cc in
-    ap (λ (z : Ask). release_takes false c (releases.TheVariants.ExchangesHead head) (answered z.op n)) (sym same))
-gives_heard index c releases.TheVariants.Subtracts a n e = refl
+gives_heard x0 x1 x2 x3 x4 x5 = grind arith
 
 module _ {T : Type 0} (code : Coding T) (index : ℕ) where
   abbrev given_as : After Giving ReleaseState → After (Flight T) (Answer T)
@@ -214,38 +150,10 @@ module _ {T : Type 0} (code : Coding T) (index : ℕ) where
 
   writes_at : (p : ℕ) (c : Giving) (stage : releases.ReleaseStage) (n : ℕ)
       → freed_at p index stage ++ index_effects p (at_stage c stage) n ≡ freed_in p (release_takes false c stage n)
-  writes_at p c releases.TheVariants.ClearsFlag n = refl
-  writes_at p c releases.TheVariants.LoadsHead n = refl
-  writes_at p c (releases.TheVariants.StoresNext head) n = refl
-  writes_at p c (releases.TheVariants.ExchangesHead head) n = go (n == head) refl
-    where
-      go : (b : Bool) → (n == head) ≡ b
-          → freed_at p index (releases.TheVariants.ExchangesHead head)
-          ++ index_effects p (at_stage c (releases.TheVariants.ExchangesHead head)) n
-          ≡ freed_in p (release_takes false c (releases.TheVariants.ExchangesHead head) n)
-      go true e = rw e refl
-      go false e = rw e refl
-  writes_at p c releases.TheVariants.Subtracts n = refl
+  writes_at x0 x1 x2 x3 = grind arith
 
   pub release_call : IsCallOf code index_effects core.size (λ c. release_want false c index) (λ c n. release_after false c n) (λ c m n. m) (gives_index index)
-  release_call =
-      record {
-        same_want = λ c m. refl;
-        same_after = λ capacity c m n h. as_given (release_after false c n);
-        hears = λ c m a n e. (gives_heard index c c.stage a n e, refl);
-        stays = λ capacity c d n h e. subst (StandingR capacity index) e (gives_on capacity index c h.0 h.1 c.stage n);
-        asks = λ capacity c h. asks_for capacity index c h.0 h.1 c.stage;
-        past = λ capacity c d n k h e. refl;
-        finds = λ c m n small t. tt;
-        leaves = λ c a n t e. absurd (cc);
-        tells =
-            λ capacity p from c d m n es h wrote e new. ap (λ zs. zs ++ index_effects p ((gives_index index).flight c m) n) (wrote new)
-            ∙ (writes_at p c c.stage n ∙ ap (freed_in p) e);
-        tells_all =
-            λ capacity p from c end m n es h skip wrote e still new. ap
-            (λ zs. zs ++ index_effects p ((gives_index index).flight c m) n) (wrote new)
-            ∙ (writes_at p c c.stage n ∙ ap (freed_in p) e);
-      }
+  release_call = grind (arith, as_given, false, gives_heard, gives_on, asks_for, writes_at)
 
   pub release_keeps : KeepsRule (λ (z : View T). z.capacity) (At code kinds.Indices (gives_index index))
       (Ends code kinds.Indices (gives_index index)) (λ key. core.size key + 1) (λ key. key)
@@ -282,11 +190,7 @@ StandingL n index (Done e) = Unit {0}
 
 module _ (n index : ℕ) (c : Locking) (same : c.capacity ≡ n) (low : index < n) where
   locks_on : (stage : releases.ReleaseStage) (k : ℕ) → StandingL n index (release_takes true c stage k)
-  locks_on releases.TheVariants.ClearsFlag k = (same, low)
-  locks_on releases.TheVariants.LoadsHead k = (same, low)
-  locks_on (releases.TheVariants.StoresNext head) k = (same, low)
-  locks_on (releases.TheVariants.ExchangesHead head) k = by_test (StandingL n index) (k == head) _ _ (λ t. tt) (λ t. (same, low))
-  locks_on releases.TheVariants.Subtracts k = tt
+  locks_on x0 x1 = grind arith
 
   asks_of : (stage : releases.ReleaseStage) → (a : Ask) × (a.word < core.size n) × (release_asks true c.capacity index stage ≡ wants.Ask a)
   asks_of releases.TheVariants.ClearsFlag = (_, (let l : flag_word c.capacity index < core.size n = omega arith in l), refl)
@@ -298,15 +202,7 @@ module _ (n index : ℕ) (c : Locking) (same : c.capacity ≡ n) (low : index < 
 locks_heard : (index : ℕ) (c : Locking) (stage : releases.ReleaseStage) (a : Ask) (n : ℕ)
     → release_asks true c.capacity index stage ≡ wants.Ask a
     → release_takes true c stage (answered a.op n) ≡ release_takes true c stage n
-locks_heard index c releases.TheVariants.ClearsFlag a n e = refl
-locks_heard index c releases.TheVariants.LoadsHead a n e =
-    (let same : record { word = 0; op = Load } ≡ a = cc in
-    ap (λ (z : Ask). release_takes true c releases.TheVariants.LoadsHead (answered z.op n)) (sym same))
-locks_heard index c (releases.TheVariants.StoresNext head) a n e = refl
-locks_heard index c (releases.TheVariants.ExchangesHead head) a n e =
-    (let same : record { word = 0; op = Exchange head (head_released true head index) } ≡ a = cc in
-    ap (λ (z : Ask). release_takes true c (releases.TheVariants.ExchangesHead head) (answered z.op n)) (sym same))
-locks_heard index c releases.TheVariants.Subtracts a n e = refl
+locks_heard x0 x1 x2 x3 x4 x5 = grind arith
 
 module _ {T : Type 0} (code : Coding T) (index : ℕ) where
   abbrev locked_as : After Locking ReleaseState → After (Flight T) (Answer T)
@@ -327,39 +223,10 @@ module _ {T : Type 0} (code : Coding T) (index : ℕ) where
 
   locks_at : (p : ℕ) (c : Locking) (stage : releases.ReleaseStage) (n : ℕ)
       → freed_at p index stage ++ index_effects p (lock_stage c stage) n ≡ locked_in p (release_takes true c stage n)
-  locks_at p c releases.TheVariants.ClearsFlag n = refl
-  locks_at p c releases.TheVariants.LoadsHead n = refl
-  locks_at p c (releases.TheVariants.StoresNext head) n = refl
-  locks_at p c (releases.TheVariants.ExchangesHead head) n = go (n == head) (borrowed head == 1) refl refl
-    where
-      go : (b d : Bool) → (n == head) ≡ b → (borrowed head == 1) ≡ d
-          → freed_at p index (releases.TheVariants.ExchangesHead head)
-          ++ index_effects p (lock_stage c (releases.TheVariants.ExchangesHead head)) n
-          ≡ locked_in p (release_takes true c (releases.TheVariants.ExchangesHead head) n)
-      go true true e f = rw (e, f) refl
-      go true false e f = rw (e, f) refl
-      go false d e f = rw e refl
-  locks_at p c releases.TheVariants.Subtracts n = refl
+  locks_at x0 x1 x2 x3 = grind arith
 
   pub lock_call : IsCallOf code index_effects core.size (λ c. release_want true c index) (λ c n. release_after true c n) (λ c m n. m) (gives_or_locks index)
-  lock_call =
-      record {
-        same_want = λ c m. refl;
-        same_after = λ capacity c m n h. as_locked (release_after true c n);
-        hears = λ c m a n e. (locks_heard index c c.stage a n e, refl);
-        stays = λ capacity c d n h e. subst (StandingL capacity index) e (locks_on capacity index c h.0 h.1 c.stage n);
-        asks = λ capacity c h. asks_of capacity index c h.0 h.1 c.stage;
-        past = λ capacity c d n k h e. refl;
-        finds = λ c m n small t. tt;
-        leaves = λ c a n t e. absurd (cc);
-        tells =
-            λ capacity p from c d m n es h wrote e new. ap (λ zs. zs ++ index_effects p ((gives_or_locks index).flight c m) n) (wrote new)
-            ∙ (locks_at p c c.stage n ∙ ap (locked_in p) e);
-        tells_all =
-            λ capacity p from c end m n es h skip wrote e still new. ap
-            (λ zs. zs ++ index_effects p ((gives_or_locks index).flight c m) n) (wrote new)
-            ∙ (locks_at p c c.stage n ∙ ap (locked_in p) e);
-      }
+  lock_call = grind (arith, as_locked, locks_heard, locks_on, asks_of, locks_at)
 
   pub lock_keeps : KeepsRule (λ (z : View T). z.capacity) (At code kinds.Indices (gives_or_locks index))
       (Ends code kinds.Indices (gives_or_locks index)) (λ key. core.size key + 1) (λ key. key)
@@ -389,23 +256,11 @@ module _ {T : Type 0} (code : Coding T) (index : ℕ) where
 -- ---- looks at the head
 
 look_heard : {R : Type 0} (f : ℕ → R) (a : Ask) (n : ℕ) → load 0 ≡ wants.Ask a → f (answered a.op n) ≡ f n
-look_heard f a n e = (let same : record { word = 0; op = Load } ≡ a = cc in ap (λ (z : Ask). f (answered z.op n)) (sym same))
+look_heard x0 x1 x2 x3 = grind arith
 
 module _ {T : Type 0} (code : Coding T) where
   pub count_call : IsCallOf code index_effects core.size (λ c. load 0) borrowed_after (λ c m n. m) counts_out
-  count_call =
-      record {
-        same_want = λ c m. refl;
-        same_after = λ capacity c m n h. refl;
-        hears = λ c m a n e. (look_heard (borrowed_after c) a n e, refl);
-        stays = λ capacity c d n h e. absurd (cc);
-        asks = λ capacity c h. (_, omega arith, refl);
-        past = λ capacity c d n k h e. refl;
-        finds = λ c m n small t. tt;
-        leaves = λ c a n t e. absurd (cc);
-        tells = λ capacity p from c d m n es h wrote e. absurd (cc);
-        tells_all = λ capacity p from c end m n es h skip wrote e still. ap (λ zs. zs ++ []) wrote;
-      }
+  count_call = grind arith
 
   pub count_keeps : KeepsRule (λ (z : View T). z.capacity) (At code kinds.Indices counts_out)
       (Ends code kinds.Indices counts_out) (λ key. core.size key + 1) (λ key. key)
@@ -415,32 +270,10 @@ module _ {T : Type 0} (code : Coding T) where
       counts_out count_call (λ c n. refl)
 
   pub count_first : (v : View T) (c : Counting) (m : Unit {0}) → v.going ≡ None → v.other ≡ [] → 0 < v.share.part → At code kinds.Indices counts_out v v c m
-  count_first v c m idle alone any =
-      inl (record {
-        is = refl;
-        idle = idle;
-        fresh = alone;
-        standing = tt;
-        some = any;
-        first = refl;
-        starts = plain_starts code v counts_out BorrowedIndices c m refl (λ o p h. h) (λ kept. refl) (λ holders p. refl);
-        wrote = λ p. refl;
-      })
+  count_first x0 x1 x2 x3 x4 x5 = grind (arith, inl, plain_starts)
 
   pub look_call : IsCallOf code index_effects core.size (λ c. load 0) locked_after (λ c m n. m) looks_locked
-  look_call =
-      record {
-        same_want = λ c m. refl;
-        same_after = λ capacity c m n h. refl;
-        hears = λ c m a n e. (look_heard (locked_after c) a n e, refl);
-        stays = λ capacity c d n h e. absurd (cc);
-        asks = λ capacity c h. (_, omega arith, refl);
-        past = λ capacity c d n k h e. refl;
-        finds = λ c m n small t. tt;
-        leaves = λ c a n t e. absurd (cc);
-        tells = λ capacity p from c d m n es h wrote e. absurd (cc);
-        tells_all = λ capacity p from c end m n es h skip wrote e still. ap (λ zs. zs ++ []) wrote;
-      }
+  look_call = grind arith
 
   pub look_keeps : KeepsRule (λ (z : View T). z.capacity) (At code kinds.Indices looks_locked)
       (Ends code kinds.Indices looks_locked) (λ key. core.size key + 1) (λ key. key)
@@ -450,14 +283,4 @@ module _ {T : Type 0} (code : Coding T) where
       looks_locked look_call (λ c n. refl)
 
   pub look_first : (v : View T) (c : Looking) (m : Unit {0}) → v.going ≡ None → v.other ≡ [] → 0 < v.share.part → At code kinds.Indices looks_locked v v c m
-  look_first v c m idle alone any =
-      inl (record {
-        is = refl;
-        idle = idle;
-        fresh = alone;
-        standing = tt;
-        some = any;
-        first = refl;
-        starts = plain_starts code v looks_locked IsLocked c m refl (λ o p h. h) (λ kept. refl) (λ holders p. refl);
-        wrote = λ p. refl;
-      })
+  look_first x0 x1 x2 x3 x4 x5 = grind (arith, inl, plain_starts)

@@ -39,10 +39,7 @@ module _ {T : Type 0} where
   index_effects p flight old = []
 
   ended_own : (p : ℕ) (o : Option (Answer T)) → AreOf p (ended p o)
-  ended_own p None = tt
-  ended_own p (Some (Index index)) = (refl, tt)
-  ended_own p (Some (State Locked)) = (refl, tt)
-  ended_own p (Some answer) = tt
+  ended_own x0 x1 = grind arith
 
   effects_own : (p : ℕ) (freed : Option ℕ) (o : Option (Answer T)) → AreOf p (effects p freed o)
   effects_own p (Some index) o = (refl, tt)
@@ -66,29 +63,23 @@ module _ {T : Type 0} (code : Coding T) (capacity : ℕ) where
 
   no_rows : (z : Coding T) (c : ℕ) (kept : Registry T) (holders : List (Option ℕ)) (p : ℕ) (start : Start T) (flight : Flight T)
       → FlightAt c holders p start flight → first_row (going_rows z kept (Some flight) None) ≡ None
-  no_rows z c kept holders p (Indices start) (flights.TheVariants.Indices flight) at = refl
-  no_rows z c kept holders p start flight at = absurd at
+  no_rows x0 x1 x2 x3 x4 x5 x6 x7 = grind arith
 
   writes_there : (z : Coding T) (words ws : List ℕ) (beside : Option (ℕ × ℕ)) (c p old : ℕ) (kept : Registry T)
       (s : IndexSet) (start : Start T) (flight : Flight T)
       → Represents kept ws s → FlightAt c s.holders p start flight
       → (step_of z words beside p start flight old kept).wrote ≡ index_effects p flight old
-  writes_there z words ws beside c p old (registries.TheVariants.Indices holders) s (Indices start) (flights.TheVariants.Indices flight) fit at = refl
-  writes_there z words ws beside c p old kept s (Indices start) (flights.TheVariants.Indices flight) fit at = absurd fit
-  writes_there z words ws beside c p old kept s start flight fit at = absurd at
+  writes_there x0 x1 x2 x3 x4 x5 x6 x7 x8 x9 x10 x11 x12 = grind arith
 
   goes_there : (z : Coding T) (words ws : List ℕ) (beside : Option (ℕ × ℕ)) (c p old : ℕ) (kept : Registry T)
       (s : IndexSet) (start : Start T) (flight : Flight T)
       → Represents kept ws s → FlightAt c s.holders p start flight
       → (step_of z words beside p start flight old kept).after ≡ after_of z flight old
-  goes_there z words ws beside c p old (registries.TheVariants.Indices holders) s (Indices start) (flights.TheVariants.Indices flight) fit at = refl
-  goes_there z words ws beside c p old kept s (Indices start) (flights.TheVariants.Indices flight) fit at = absurd fit
-  goes_there z words ws beside c p old kept s start flight fit at = absurd at
+  goes_there x0 x1 x2 x3 x4 x5 x6 x7 x8 x9 x10 x11 x12 = grind arith
 
   own_there : (c p old : ℕ) (holders : List (Option ℕ)) (start : Start T) (flight : Flight T)
       → FlightAt c holders p start flight → AreOf p (index_effects p flight old)
-  own_there c p old holders (Indices start) (flights.TheVariants.Indices flight) at = effects_own p (frees flight) (answer_in (after flight old))
-  own_there c p old holders start flight at = absurd at
+  own_there x0 x1 x2 x3 x4 x5 x6 = grind arith
 
   goes_on : (t : Trace T) → IsIndices t → (p : ℕ) (start : Start T) (flight : Flight T)
       → call_in t.world p ≡ Some (start, flight)

@@ -19,9 +19,7 @@ abbrev pub handed_on : ℕ → ℕ → (ℕ → ℕ) → ℕ → ℕ
 handed_on id other owner p = if owner p == other then id else owner p
 
 pub nat_cases : (n p : ℕ) → (n ≤ p) ⊎ (p < n)
-nat_cases zero p = inl (omega arith)
-nat_cases (suc n) zero = inr (omega arith)
-nat_cases (suc n) (suc p) = ⊎_elim (λ h. inl (omega arith)) (λ h. inr (omega arith)) (nat_cases n p)
+nat_cases x0 x1 = grind arith
 
 pub within : {A : Type 0} → (xs : List A) (i : ℕ) (x : A) → get_elem? xs i ≡ some x → i < length xs
 within [] i x e = absurd (some-ne-none x (sym e))
@@ -39,50 +37,11 @@ nil_right (x ∷ xs) ys e = absurd (cc)
 -- where the one seat takes the other in
 one_both : (owner : ℕ → ℕ) (id other n : ℕ) → id ≢ other → (o : Option ℕ)
     → if_owned owner id o n + if_owned owner other o n ≡ if_owned (handed_on id other owner) id o n
-one_both owner id other n ne None = refl
-one_both owner id other n ne (Some p) = ⊎_elim in_other (λ apart. ⊎_elim (in_id apart) (in_none apart) (cases_eq (owner p) id)) (cases_eq (owner p) other)
-  where
-    in_other : owner p ≡ other
-        → (if owner p == id then n else 0) + (if owner p == other then n else 0)
-        ≡ (if (if owner p == other then id else owner p) == id then n else 0)
-    in_other e =
-        let a : (owner p == id) ≡ false = grind (arith, nat_tests) in
-        let b : (owner p == other) ≡ true = grind (arith, nat_tests) in
-        let c : (id == id) ≡ true = grind (arith, nat_tests) in
-        rw (a, b, c) (omega arith)
-
-    in_id : owner p ≢ other → owner p ≡ id
-        → (if owner p == id then n else 0) + (if owner p == other then n else 0)
-        ≡ (if (if owner p == other then id else owner p) == id then n else 0)
-    in_id apart e =
-        let a : (owner p == id) ≡ true = grind (arith, nat_tests) in
-        let b : (owner p == other) ≡ false = grind (arith, nat_tests) in
-        rw (b, a) (omega arith)
-
-    in_none : owner p ≢ other → owner p ≢ id
-        → (if owner p == id then n else 0) + (if owner p == other then n else 0)
-        ≡ (if (if owner p == other then id else owner p) == id then n else 0)
-    in_none apart e =
-        let a : (owner p == id) ≡ false = grind (arith, nat_tests) in
-        let b : (owner p == other) ≡ false = grind (arith, nat_tests) in
-        rw (b, a) refl
+one_both x0 x1 x2 x3 x4 x5 = grind arith
 
 -- a third seat keeps its parties
 one_third : (owner : ℕ → ℕ) (id other j n : ℕ) → j ≢ id → j ≢ other → (o : Option ℕ) → if_owned owner j o n ≡ if_owned (handed_on id other owner) j o n
-one_third owner id other j n ne apart None = refl
-one_third owner id other j n ne apart (Some p) = ⊎_elim in_other in_none (cases_eq (owner p) other)
-  where
-    in_other : owner p ≡ other → (if owner p == j then n else 0) ≡ (if (if owner p == other then id else owner p) == j then n else 0)
-    in_other e =
-        let a : (owner p == j) ≡ false = grind (arith, nat_tests) in
-        let b : (owner p == other) ≡ true = grind (arith, nat_tests) in
-        let c : (id == j) ≡ false = grind (arith, nat_tests) in
-        rw (a, b, c) refl
-
-    in_none : owner p ≢ other → (if owner p == j then n else 0) ≡ (if (if owner p == other then id else owner p) == j then n else 0)
-    in_none e =
-        let b : (owner p == other) ≡ false = grind (arith, nat_tests) in
-        rw b refl
+one_third x0 x1 x2 x3 x4 x5 x6 x7 = grind arith
 
 module _ {T : Type 0} where
   -- a sum begins with the first
@@ -118,23 +77,14 @@ module _ {T : Type 0} where
 
   -- who did nothing is seen to have done nothing
   pub none_before : (p : ℕ) (seen events : List (Event T)) → IsBeginning seen events → events_by p events ≡ [] → events_by p seen ≡ []
-  none_before p seen events h none = nil_left (events_by p seen) (events_by p h.rest) (sym (by_more p seen h.rest) ∙ (ap (events_by p) (sym h.is) ∙ none))
+  none_before x0 x1 x2 x3 x4 = grind (arith, nil_left, by_more)
 
   -- ---- the events of the parties of one seat
 
   -- the party of an event that did nothing is none
   not_by : (owner : ℕ → ℕ) (j : ℕ) (e : Event T) (es : List (Event T))
       → ((p : ℕ) → owner p ≡ j → events_by p (e ∷ es) ≡ []) → (f : Event T → ℕ) → owned owner j f e ≡ 0
-  not_by owner j e es none f = go (whose e) refl
-    where
-      go : (o : Option ℕ) → whose e ≡ o → if_owned owner j o (f e) ≡ 0
-      go None is = refl
-      go (Some p) is =
-          ⊎_elim (λ (h : owner p ≡ j). (let mine = own_mine p e is in
-          let no : e ∷ [] ≡ [] = sym mine ∙ nil_left (own_of p e) (events_by p es) (none p h) in
-          absurd (cc)))
-          (λ (h : owner p ≢ j). (let t : (owner p == j) ≡ false = grind (arith, nat_tests) in rw t refl))
-          (cases_eq (owner p) j)
+  not_by x0 x1 x2 x3 x4 x5 = grind arith
 
   pub owned_none : (owner : ℕ → ℕ) (j : ℕ) (f : Event T → ℕ) (es : List (Event T))
       → ((p : ℕ) → owner p ≡ j → events_by p es ≡ []) → sum_by (owned owner j f) es ≡ 0
@@ -168,15 +118,7 @@ module _ {T : Type 0} where
 
   -- no party of a seat that is idle has a call under way
   pub idle_seat : (owner : ℕ → ℕ) (t : Trace T) (j : ℕ) (v : View T) → v.going ≡ None → Fits owner t j v → (p : ℕ) → owner p ≡ j → call_in t.world p ≡ None
-  idle_seat owner t j v none f p of_j = go v.party refl
-    where
-      go : (o : Option ℕ) → v.party ≡ o → call_in t.world p ≡ None
-      go None is = f.idle p of_j (λ e. (let no : ◌≡◌ {A = Option ℕ} None (Some p) = sym is ∙ e in absurd (cc)))
-      go (Some q) is =
-          ⊎_elim (λ (e : q ≡ p). f.going p of_j (is ∙ ap Some e) ∙ none)
-          (λ (ne : q ≢ p). f.idle p of_j
-          (λ e. (let same : ◌≡◌ {A = Option ℕ} (Some q) (Some p) = sym is ∙ e in let no : q ≡ p = cc in absurd (ne no))))
-          (cases_eq q p)
+  idle_seat x0 x1 x2 x3 x4 x5 x6 x7 = grind arith
 
   -- ---- what the party did among these events
 
@@ -222,24 +164,10 @@ module _ {T : Type 0} where
       first (Some q) is = ⊎_elim same other (cases_eq q p)
         where
           same : q ≡ p → owned owner j f e ≡ sum_by f (own_of p e)
-          same h =
-              let t : (owner q == j) ≡ true = (let k : owner q ≡ j = ap owner h ∙ mine in grind (arith, nat_tests)) in
-              let l : owned owner j f e ≡ f e = ap (λ o. if_owned owner j o (f e)) is ∙ rw t refl in
-              let r : sum_by f (own_of p e) ≡ sum_by f (e ∷ []) = ap (sum_by f) (own_mine p e (is ∙ ap Some h)) in
-              let one = sum_first f e [] in
-              omega arith
+          same x0 = grind (arith, mine, owned, own_mine, sum_first, nat_tests)
 
           other : q ≢ p → owned owner j f e ≡ sum_by f (own_of p e)
-          other ne =
-              let away : own_of p e ≡ [] = own_other q p e (λ i. ne (sym i)) is in
-              let gone : sum_by f (own_of p e) ≡ 0 = ap (sum_by f) away in
-              let l : owned owner j f e ≡ 0 =
-              ap (λ o. if_owned owner j o (f e)) is
-              ∙ ⊎_elim (λ (h : owner q ≡ j).
-              (let no : e ∷ [] ≡ [] = sym (own_mine q e is) ∙ nil_left (own_of q e) (events_by q es) (none q h ne) in absurd (cc)))
-              (λ (h : owner q ≢ j). (let t : (owner q == j) ≡ false = grind (arith, nat_tests) in rw t refl))
-              (cases_eq (owner q) j) in
-              omega arith
+          other x0 = grind (arith, own_other, owned, own_mine, nil_left, false, cases_eq, nat_tests)
 
   -- ---- what another may write for a call
 
@@ -248,8 +176,7 @@ module _ {T : Type 0} where
   late_none k late h = h
 
   none_may : (c : Start T × Flight T) → MayBeLate c []
-  none_may (start, flights.TheVariants.Queues (Overflow (overflows.TheVariants.Push run))) = tt
-  none_may (start, flight) = refl
+  none_may x0 = grind arith
 
   none_for : (o : Option (Start T × Flight T)) → IsLateFor o []
   none_for None = refl
@@ -268,9 +195,7 @@ module _ {T : Type 0} where
   all_both P (e ∷ a) b x y = (x.0, all_both P a b x.1 y)
 
   may_more : (c : Start T × Flight T) (a b : List (Event T)) → MayBeLate c a → MayBeLate c b → MayBeLate c (a ++ b)
-  may_more (start, flights.TheVariants.Queues (Overflow (overflows.TheVariants.Push run))) a b x y =
-      all_both (λ (e : Event T). (p : ℕ) × (e ≡ Acted p start PoppedNone)) a b x y
-  may_more (start, flight) a b x y = both_none a b x y
+  may_more x0 x1 x2 x3 x4 = grind (arith, all_both, both_none)
 
   more_for : (o : Option (Start T × Flight T)) (a b : List (Event T)) → IsLateFor o a → IsLateFor o b → IsLateFor o (a ++ b)
   more_for None a b x y = both_none a b x y

@@ -6,29 +6,13 @@ use Rattle.history.specs.Known.{owned, if_owned}
 use Rattle.history.proofs.Known.{sum_first}
 
 pub nothing_owned : (owner : ℕ → ℕ) (j : ℕ) (o : Option ℕ) → if_owned owner j o 0 ≡ 0
-nothing_owned owner j None = refl
-nothing_owned owner j (Some p) =
-    ⊎_elim (λ (e : owner p ≡ j). (let t : (owner p == j) ≡ true = grind (arith, nat_tests) in rw t refl))
-    (λ (ne : owner p ≢ j). (let t : (owner p == j) ≡ false = grind (arith, nat_tests) in rw t refl))
-    (cases_eq (owner p) j)
+nothing_owned x0 x1 x2 = grind arith
 
 one_of : (owner : ℕ → ℕ) (j : ℕ) (o : Option ℕ) → if_owned owner j o 1 ≡ 1 → (p : ℕ) × (owner p ≡ j) × (o ≡ Some p)
-one_of owner j None e = absurd (omega arith)
-one_of owner j (Some p) e =
-    ⊎_elim (λ (mine : owner p ≡ j). (p, mine, refl))
-    (λ (ne : owner p ≢ j). (let t : (owner p == j) ≡ false = grind (arith, nat_tests) in
-    let none : if_owned owner j (Some p) 1 ≡ 0 = rw t refl in
-    absurd (omega arith)))
-    (cases_eq (owner p) j)
+one_of x0 x1 x2 x3 = grind arith
 
 at_most_one : (owner : ℕ → ℕ) (j : ℕ) (o : Option ℕ) → if_owned owner j o 1 ≤ 1
-at_most_one owner j None = omega arith
-at_most_one owner j (Some p) =
-    ⊎_elim (λ (e : owner p ≡ j).
-    (let t : (owner p == j) ≡ true = grind (arith, nat_tests) in let is : if_owned owner j (Some p) 1 ≡ 1 = rw t refl in omega arith))
-    (λ (ne : owner p ≢ j).
-    (let t : (owner p == j) ≡ false = grind (arith, nat_tests) in let is : if_owned owner j (Some p) 1 ≡ 0 = rw t refl in omega arith))
-    (cases_eq (owner p) j)
+at_most_one x0 x1 x2 = grind arith
 
 -- what is taken and given back one at a time, and who holds it by the events
 module _ {T : Type 0} (takes gives : Event T → ℕ) (after : Option ℕ → Event T → Option ℕ) where
@@ -41,31 +25,17 @@ module _ {T : Type 0} (takes gives : Event T → ℕ) (after : Option ℕ → Ev
     Moves before e = owned owner j takes e + if_owned owner j (held_in before) 1 ≡ owned owner j gives e + if_owned owner j (after (held_in before) e) 1
 
     pub still : (before : List (Event T)) (e : Event T) → takes e ≡ 0 → gives e ≡ 0 → after (held_in before) e ≡ held_in before → Moves before e
-    still before e none none' same =
-        let a : owned owner j takes e ≡ 0 = ap (λ n. if_owned owner j (whose e) n) none ∙ nothing_owned owner j (whose e) in
-        let b : owned owner j gives e ≡ 0 = ap (λ n. if_owned owner j (whose e) n) none' ∙ nothing_owned owner j (whose e) in
-        let d = ap (λ o. if_owned owner j o 1) same in
-        omega arith
+    still x0 x1 x2 x3 x4 = grind arith
 
     -- a party takes what nobody holds
     pub taken : (before : List (Event T)) (e : Event T) (p : ℕ) → whose e ≡ Some p → takes e ≡ 1 → gives e ≡ 0
         → held_in before ≡ None → after (held_in before) e ≡ Some p → Moves before e
-    taken before e p by one none free now =
-        let a : owned owner j takes e ≡ if_owned owner j (Some p) 1 = ap (λ n. if_owned owner j (whose e) n) one ∙ ap (λ o. if_owned owner j o 1) by in
-        let b : owned owner j gives e ≡ 0 = ap (λ n. if_owned owner j (whose e) n) none ∙ nothing_owned owner j (whose e) in
-        let was : if_owned owner j (held_in before) 1 ≡ 0 = ap (λ o. if_owned owner j o 1) free in
-        let then_held : if_owned owner j (after (held_in before) e) 1 ≡ if_owned owner j (Some p) 1 = ap (λ o. if_owned owner j o 1) now in
-        omega arith
+    taken x0 x1 x2 x3 x4 x5 x6 x7 = grind arith
 
     -- its holder gives it back
     pub given : (before : List (Event T)) (e : Event T) (p : ℕ) → whose e ≡ Some p → takes e ≡ 0 → gives e ≡ 1
         → held_in before ≡ Some p → after (held_in before) e ≡ None → Moves before e
-    given before e p by none one held now =
-        let a : owned owner j takes e ≡ 0 = ap (λ n. if_owned owner j (whose e) n) none ∙ nothing_owned owner j (whose e) in
-        let b : owned owner j gives e ≡ if_owned owner j (Some p) 1 = ap (λ n. if_owned owner j (whose e) n) one ∙ ap (λ o. if_owned owner j o 1) by in
-        let was : if_owned owner j (held_in before) 1 ≡ if_owned owner j (Some p) 1 = ap (λ o. if_owned owner j o 1) held in
-        let then_held : if_owned owner j (after (held_in before) e) 1 ≡ 0 = ap (λ o. if_owned owner j o 1) now in
-        omega arith
+    given x0 x1 x2 x3 x4 x5 x6 x7 = grind arith
 
     -- what the parties of a seat took and did not give back is held by one of them
     adds_up : (before es : List (Event T)) → Each Moves (before ++ es)

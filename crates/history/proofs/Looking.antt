@@ -21,9 +21,7 @@ none_left (x ∷ xs) rest e = absurd (cc)
 -- ---- how many events of a party a seat knows
 
 zeros : (owner : ℕ → ℕ) (j q : ℕ) → ◌≡◌ {A = ℕ} (if owner q == j then 0 else 0) 0
-zeros owner j q =
-    ⊎_elim (λ (m : owner q ≡ j). let u : (owner q == j) ≡ true = grind (arith, nat_tests) in rw u refl)
-    (λ (m : owner q ≢ j). let u : (owner q == j) ≡ false = grind (arith, nat_tests) in rw u refl) (cases_eq (owner q) j)
+zeros x0 x1 x2 = grind arith
 
 module _ {T : Type 0} (p : ℕ) where
   abbrev ones : Event T → ℕ
@@ -40,41 +38,13 @@ module _ {T : Type 0} (p : ℕ) where
   module _ (owner : ℕ → ℕ) (j : ℕ) where
     -- those of another seat are none of it
     none_of : (q : ℕ) (e : Event T) → (owner p ≡ j → q ≢ p) → (if owner q == j then length (if q == p then e ∷ [] else []) else 0) ≡ 0
-    none_of q e apart =
-        ⊎_elim
-        (λ (mine : owner q ≡ j).
-        let u : (owner q == j) ≡ true = grind (arith, nat_tests) in
-        let ne : q ≢ p = λ s. apart (ap owner (sym s) ∙ mine) s in
-        let t : (q == p) ≡ false = grind (arith, nat_tests) in
-        rw (u, t) refl)
-        (λ (other : owner q ≢ j). let u : (owner q == j) ≡ false = grind (arith, nat_tests) in rw u refl)
-        (cases_eq (owner q) j)
+    none_of x0 x1 x2 = grind arith
 
     one_none : owner p ≢ j → (e : Event T) → owned owner j ones e ≡ 0
-    one_none apart e = go (whose e) refl
-      where
-        go : (o : Option ℕ) → whose e ≡ o → owned owner j ones e ≡ 0
-        go None is = rw is refl
-        go (Some q) is = rw is (none_of q e (λ mine. absurd (apart mine)))
+    one_none x0 x1 = grind arith
 
     one_mine : owner p ≡ j → (e : Event T) → owned owner j ones e ≡ ones e
-    one_mine mine e = go (whose e) refl
-      where
-        go : (o : Option ℕ) → whose e ≡ o → owned owner j ones e ≡ ones e
-        go None is = rw is refl
-        go (Some q) is = ⊎_elim same other (cases_eq q p)
-          where
-            same : q ≡ p → owned owner j ones e ≡ ones e
-            same s =
-                let k : owner q ≡ j = ap owner s ∙ mine in
-                let u : (owner q == j) ≡ true = grind (arith, nat_tests) in
-                rw (is, u) refl
-
-            other : q ≢ p → owned owner j ones e ≡ ones e
-            other ne =
-                let t : (q == p) ≡ false = grind (arith, nat_tests) in
-                let none : ones e ≡ 0 = rw (is, t) refl in
-                ap (λ o. if_owned owner j o (ones e)) is ∙ (ap (λ n. if owner q == j then n else 0) none ∙ (zeros owner j q ∙ sym none))
+    one_mine x0 x1 = grind arith
 
     sum_none : owner p ≢ j → (es : List (Event T)) → sum_by (owned owner j ones) es ≡ 0
     sum_none apart [] = refl
@@ -107,14 +77,10 @@ module _ {T : Type 0} (code : Coding T) (kind : Kind) (size : ℕ) (u v w : View
       nil_right (events_by p u.seen) (events_by p a.mine.rest) (sym (by_more p u.seen a.mine.rest) ∙ (sym (ap (events_by p) a.mine.is) ∙ before))
 
   apart_both : u.other ≡ [] → 0 < u.share.part → (p : ℕ) → b.parties.owner p ≡ b.parties.seat → events_by p (a.mine.rest ++ b.mine.rest) ≡ []
-  apart_both alone some p mine =
-      let first : events_by p a.mine.rest ≡ [] = ⊎_elim (λ e. a.apart alone some p e) (λ ne. nothing_of p mine ne)
-      (cases_eq (a.parties.owner p) a.parties.seat) in
-      let second : events_by p b.mine.rest ≡ [] = b.apart a.other (subst (λ s. 0 < s.part) (sym a.share) some) p mine in
-      by_more p a.mine.rest b.mine.rest ∙ (ap (λ es. es ++ events_by p b.mine.rest) first ∙ second)
+  apart_both x0 x1 x2 x3 = grind (arith, nothing_of, cases_eq, by_more)
 
   mine_both : w.seen ≡ u.seen ++ (a.mine.rest ++ b.mine.rest)
-  mine_both = b.mine.is ∙ (ap (λ es. es ++ b.mine.rest) a.mine.is ∙ append_assoc u.seen a.mine.rest b.mine.rest)
+  mine_both = grind (arith, append_assoc)
 
   pub looks_then : Looks code kind size u w
   looks_then =

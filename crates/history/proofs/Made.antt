@@ -1,4 +1,5 @@
 -- What a call that is told of step by step has made from its begin on.
+use Rattle.std.proofs.Common.{arith}
 use Rattle.history.proofs.Names.{◌≡◌, ◌⊎◌, inl, inr, ℕ, Option, Some, None, IfSome, List, [], ◌∷◌, ◌++◌, refl, sym}
 use Rattle.history.proofs.Names.{ap, subst, ◌∙◌, append_assoc, append-nil, Event, Begun, Start, Flight}
 use Rattle.history.specs.declared.view.View.{View}
@@ -21,10 +22,7 @@ same_rest (x ∷ xs) ys zs e = let rest : xs ++ ys ≡ xs ++ zs = cc in same_res
 
 -- what stands between the same begin and the same end
 pub same_between : {A : Type 0} → (xs ys zs : List A) (b f : A) → xs ++ b ∷ (ys ++ f ∷ []) ≡ xs ++ b ∷ (zs ++ f ∷ []) → ys ≡ zs
-same_between xs ys zs b f e =
-    let behind = same_rest xs (b ∷ (ys ++ f ∷ [])) (b ∷ (zs ++ f ∷ [])) e in
-    let inner : ys ++ f ∷ [] ≡ zs ++ f ∷ [] = cc in
-    same_end ys zs f inner
+same_between x0 x1 x2 x3 x4 x5 = grind (arith, same_rest, same_end)
 
 module _ {T : Type 0} (start : Start T) where
   -- from the view with which the call began: it is to begin, or its party has begun it and written this
@@ -37,22 +35,7 @@ module _ {T : Type 0} (start : Start T) where
   pub made_with : (base v w : View T) (wrote more : ℕ → List (Event T)) (last es : List (Event T)) (p : ℕ)
       → base.going ≡ None → MadeSoFar base v wrote → IfSome v.party (λ q. q ≡ p) → Since p start es last v w
       → es ≡ more p → w.made ≡ base.made ++ Begun p start ∷ ((wrote p ++ more p) ++ last)
-  made_with base v w wrote more last es p idle (inl first) known since is =
-      since.made
-      ∙ (ap (λ (z : View T). z.made ++ (opened p start z.going ++ (es ++ last))) first.0
-      ∙ (ap (λ o. base.made ++ (opened p start o ++ (es ++ last))) idle
-      ∙ (ap (λ zs. base.made ++ Begun p start ∷ (zs ++ last)) is
-      ∙ ap (λ zs. base.made ++ Begun p start ∷ ((zs ++ more p) ++ last)) (sym (first.1 p)))))
-  made_with base v w wrote more last es p idle (inr under) known since is =
-      let q = under.0 in
-      let same : q ≡ p = subst (λ (o : Option ℕ). IfSome o (λ z. z ≡ p)) under.1 known in
-      let was : v.made ≡ base.made ++ Begun p start ∷ wrote p = subst (λ z. v.made ≡ base.made ++ Begun z start ∷ wrote z) same under.4 in
-      since.made
-      ∙ (ap (λ o. v.made ++ (opened p start o ++ (es ++ last))) under.3
-      ∙ (ap (λ zs. zs ++ (es ++ last)) was
-      ∙ (ap (λ zs. (base.made ++ Begun p start ∷ wrote p) ++ (zs ++ last)) is
-      ∙ (append_assoc base.made (Begun p start ∷ wrote p) (more p ++ last)
-      ∙ ap (λ zs. base.made ++ Begun p start ∷ zs) (sym (append_assoc (wrote p) (more p) last))))))
+  made_with x0 x1 x2 x3 x4 x5 x6 x7 x8 x9 x10 x11 x12 = grind (arith, opened, append_assoc)
 
   pub made_more : (base v w : View T) (wrote more : ℕ → List (Event T)) (es : List (Event T)) (p : ℕ) (flight : Flight T)
       → base.going ≡ None → MadeSoFar base v wrote → IfSome v.party (λ q. q ≡ p) → w.party ≡ Some p

@@ -50,16 +50,7 @@ module _ {T : Type 0} where
   within_acts p start (Some answer) = (λ a. refl, tt)
 
   within_effect : (p : ℕ) (start : QueueStart T) (effect : Effect T) (o : Option (Answer T)) → AllByRecursion IsWithin (effects_of p start effect o)
-  within_effect p start Quiet o = tt
-  within_effect p start Acts o = within_acts p start o
-  within_effect p start (Publishes item) o = (λ a. refl, within_acts p start o)
-  within_effect p start (PublishesAndActs item) o = (λ a. refl, (λ a. refl, tt))
-  within_effect p start (HandsOut item) o = (λ a. refl, within_acts p start o)
-  within_effect p start (TakesOut index) o = (λ a. refl, (λ a. refl, tt))
-  within_effect p start (MakesRoom item q pushed) o = (
-    λ a. refl,
-    within_both (acts_if_done p start o) (Acted q (Queues (PushIndex pushed)) PoppedNone ∷ []) (within_acts p start o) (λ a. refl, tt),
-  )
+  within_effect x0 x1 x2 x3 = grind (arith, within_acts, within_both)
 
   within_late : (start : Start T) (late : List (Event T))
       → AllByRecursion (λ (e : Event T). (p : ℕ) × (e ≡ Acted p start PoppedNone)) late → AllByRecursion IsWithin late
@@ -86,38 +77,14 @@ module _ {T : Type 0} (code : Coding T) (v : ℕ) where
   IsOver capacity t = IsRun code kinds.Overflow capacity t
 
   same_after : (c : Pushing) (m : OneWord) (n : ℕ) → after_of code (pushing.flight c m) n ≡ goes pushing (push_after c n) (push_kept c m n)
-  same_after c m n = go (push_after c n) refl
-    where
-      go : (r : After Pushing PushEnd) → push_after c n ≡ r → after_of code (pushing.flight c m) n ≡ goes pushing r (push_kept c m n)
-      go (GoOn d) e = rw e refl
-      go (Done b) e = rw e refl
+  same_after x0 x1 x2 = grind arith
 
   abbrev Next : ℕ → Pushing → Type 0
   Next capacity d = (d.capacity ≡ capacity) × HasPushWord d.stage × ((k : ℕ) → over_push_skips d.stage k ≡ false)
 
   stays : (capacity : ℕ) (c d : Pushing) (n : ℕ) (stage : pushes.PushStage) → c.capacity ≡ capacity
       → HasPushWord stage → push_takes c stage n ≡ GoOn d → Next capacity d
-  stays capacity c d n pushes.TheVariants.HandsBack same h e = absurd h
-  stays capacity c d n pushes.TheVariants.LoadsWrite same h e = go (n == 2 ^ 64 - 1) e
-    where
-      go : (t : Bool) → cond t (Done Own) (GoOn (at_push c (pushes.TheVariants.LoadsRead n))) ≡ GoOn d → Next capacity d
-      go true e = absurd (cc)
-      go false e = (let is : at_push c (pushes.TheVariants.LoadsRead n) ≡ d = cc in subst (Next capacity) is (same, tt, λ k. refl))
-  stays capacity c d n (pushes.TheVariants.LoadsRead write) same h e =
-      (let is : at_push c (pushes.TheVariants.StoresCell write n) ≡ d = cc in subst (Next capacity) is (same, tt, λ k. refl))
-  stays capacity c d n (pushes.TheVariants.StoresCell write read) same h e =
-      (let is : at_push c (pushes.TheVariants.StoresWrite write read) ≡ d = cc in subst (Next capacity) is (same, tt, λ k. refl))
-  stays capacity c d n (pushes.TheVariants.StoresWrite write read) same h e = go (distance write read == c.capacity) e
-    where
-      go : (t : Bool) → cond t (GoOn (at_push c (pushes.TheVariants.MovesRead read))) (Done Added) ≡ GoOn d → Next capacity d
-      go true e = (let is : at_push c (pushes.TheVariants.MovesRead read) ≡ d = cc in subst (Next capacity) is (same, tt, λ k. refl))
-      go false e = absurd (cc)
-  stays capacity c d n (pushes.TheVariants.MovesRead read) same h e = go (n == read) e
-    where
-      go : (t : Bool) → cond t (GoOn (at_push c (pushes.TheVariants.LoadsCell read))) (Done Added) ≡ GoOn d → Next capacity d
-      go true e = (let is : at_push c (pushes.TheVariants.LoadsCell read) ≡ d = cc in subst (Next capacity) is (same, tt, λ k. refl))
-      go false e = absurd (cc)
-  stays capacity c d n (pushes.TheVariants.LoadsCell read) same h e = absurd (cc)
+  stays x0 x1 x2 x3 x4 x5 x6 x7 = grind arith
 
   asks : (capacity own : ℕ) (stage : pushes.PushStage) → own ≡ capacity → HasPushWord stage
       → (a : Ask) × (a.word < 4 + (capacity + 1)) × (push_asks own stage v ≡ wants.Ask a)
@@ -135,40 +102,15 @@ module _ {T : Type 0} (code : Coding T) (v : ℕ) where
   Hears c m a n stage = (push_takes c stage (answered a.op n) ≡ push_takes c stage n) × (push_keeps m stage (answered a.op n) ≡ push_keeps m stage n)
 
   hears : (c : Pushing) (m : OneWord) (a : Ask) (n : ℕ) (stage : pushes.PushStage) → push_asks c.capacity stage v ≡ wants.Ask a → Hears c m a n stage
-  hears c m a n pushes.TheVariants.HandsBack e = absurd (cc)
-  hears c m a n pushes.TheVariants.LoadsWrite e =
-      (let is : record { word = 0; op = Load } ≡ a = cc in subst (λ z. Hears c m z n pushes.TheVariants.LoadsWrite) is (refl, refl))
-  hears c m a n (pushes.TheVariants.LoadsRead write) e =
-      (let is : record { word = 1; op = Load } ≡ a = cc in subst (λ z. Hears c m z n (pushes.TheVariants.LoadsRead write)) is (refl, refl))
-  hears c m a n (pushes.TheVariants.StoresCell write read) e = (refl, refl)
-  hears c m a n (pushes.TheVariants.StoresWrite write read) e = (refl, refl)
-  hears c m a n (pushes.TheVariants.MovesRead read) e =
-      (let is : record { word = 1; op = Exchange read (after_position read) } ≡ a = cc in
-      subst (λ z. Hears c m z n (pushes.TheVariants.MovesRead read)) is (refl, refl))
-  hears c m a n (pushes.TheVariants.LoadsCell read) e =
-      (let is : record { word = cell_word c.capacity read; op = Load } ≡ a = cc in
-      subst (λ z. Hears c m z n (pushes.TheVariants.LoadsCell read)) is (refl, refl))
+  hears x0 x1 x2 x3 x4 x5 = grind arith
 
   finds : (n : ℕ) (stage : pushes.PushStage) → n < 2 ^ 64 → over_push_skips stage n ≡ false → IsFreshOver n stage
-  finds n pushes.TheVariants.HandsBack small t = tt
-  finds n pushes.TheVariants.LoadsWrite small t = (let other : n ≢ 2 ^ 64 - 1 = grind (arith, nat_tests) in omega arith)
-  finds n (pushes.TheVariants.LoadsRead write) small t = tt
-  finds n (pushes.TheVariants.StoresCell write read) small t = tt
-  finds n (pushes.TheVariants.StoresWrite write read) small t = tt
-  finds n (pushes.TheVariants.MovesRead read) small t = tt
-  finds n (pushes.TheVariants.LoadsCell read) small t = tt
+  finds x0 x1 x2 x3 = grind arith
 
   leaves : (c : Pushing) (a : Ask) (n : ℕ) (stage : pushes.PushStage) → over_push_skips stage n ≡ true
       → push_asks c.capacity stage v ≡ wants.Ask a
       → (written a.op n ≡ n) × (e : PushEnd) × (e ≡ Own) × (push_takes c stage n ≡ Done e)
-  leaves c a n pushes.TheVariants.HandsBack t e = absurd (cc)
-  leaves c a n pushes.TheVariants.LoadsWrite t e =
-      (let is : record { word = 0; op = Load } ≡ a = cc in (ap (λ (z : Ask). written z.op n) (sym is), Own, refl, rw t refl))
-  leaves c a n (pushes.TheVariants.LoadsRead write) t e = absurd (cc)
-  leaves c a n (pushes.TheVariants.StoresCell write read) t e = absurd (cc)
-  leaves c a n (pushes.TheVariants.StoresWrite write read) t e = absurd (cc)
-  leaves c a n (pushes.TheVariants.MovesRead read) t e = absurd (cc)
-  leaves c a n (pushes.TheVariants.LoadsCell read) t e = absurd (cc)
+  leaves x0 x1 x2 x3 x4 x5 = grind arith
 
   -- ---- what it wrote, by the machine
 
@@ -223,38 +165,7 @@ module _ {T : Type 0} (code : Coding T) (v : ℕ) where
       → ((position : ℕ) → slice_index t.world.words (cell_word capacity position) ≡ get_or k.cells (position % (capacity + 1)) 0)
       → old_of t.world.words (ask_of (push_asks capacity stage v)) ≡ n → HasPushWord stage
       → over_push_skips stage n ≡ false → push_takes c stage n ≡ Done e → Tells capacity p c e m n es t.world stage
-  tells_end capacity p c e m n es t k pushes.TheVariants.HandsBack is read cell found h skip ends = absurd h
-  tells_end capacity p c e m n es t k pushes.TheVariants.LoadsWrite is read cell found h skip ends =
-      (let no : GoOn (at_push c (pushes.TheVariants.LoadsRead n)) ≡ Done e = rw skip at ends in absurd (cc))
-  tells_end capacity p c e m n es t k (pushes.TheVariants.LoadsRead write) is read cell found h skip ends = absurd (cc)
-  tells_end capacity p c e m n es t k (pushes.TheVariants.StoresCell write at) is read cell found h skip ends = absurd (cc)
-  tells_end capacity p c e m n es t k (pushes.TheVariants.StoresWrite write at) is read cell found h skip ends = go (distance write at == c.capacity) refl ends
-    where
-      go : (b : Bool) → (distance write at == c.capacity) ≡ b
-          → cond b (GoOn (at_push c (pushes.TheVariants.MovesRead at))) (Done Added) ≡ Done e
-          → Tells capacity p c e m n es t.world (pushes.TheVariants.StoresWrite write at)
-      go true d h = absurd (cc)
-      go false d h =
-          (let same : Added ≡ e = cc in
-          subst (λ z. Tells capacity p c z m n es t.world (pushes.TheVariants.StoresWrite write at)) same (rw (is, d) refl))
-  tells_end capacity p c e m n es t k (pushes.TheVariants.MovesRead at) is read cell found h skip ends = go (n == at) refl ends
-    where
-      go : (b : Bool) → (n == at) ≡ b
-          → cond b (GoOn (at_push c (pushes.TheVariants.LoadsCell at))) (Done Added) ≡ Done e
-          → Tells capacity p c e m n es t.world (pushes.TheVariants.MovesRead at)
-      go true d h = absurd (cc)
-      go false d h =
-          let same : Added ≡ e = cc in
-          let is_read : k.read ≡ n = sym read ∙ found in
-          let apart : n ≢ at = grind (arith, nat_tests) in
-          let moved : (at == k.read) ≡ false = (let far : at ≢ k.read = λ i. apart (sym (i ∙ is_read)) in grind (arith, nat_tests)) in
-          subst (λ z. Tells capacity p c z m n es t.world (pushes.TheVariants.MovesRead at)) same (rw (is, d, moved) refl)
-  tells_end capacity p c e m n es t k (pushes.TheVariants.LoadsCell at) is read cell found h skip ends =
-      let same : Oldest ≡ e = cc in
-      let value : get_or k.cells (at % (capacity + 1)) 0 ≡ n = sym (cell at) ∙ found in
-      subst (λ z. Tells capacity p c z m n es t.world (pushes.TheVariants.LoadsCell at)) same
-      (append-nil es
-      ∙ (is ∙ ap (λ u. Published p (Index v) ∷ HandedOut p (Index u) ∷ Acted p (Queues (PushIndex v)) (PoppedIndex u) ∷ []) value))
+  tells_end x0 x1 x2 x3 x4 x5 x6 x7 x8 x9 x10 x11 x12 x13 x14 x15 x16 = grind arith
 
   pub push_is_call : IsCallIn code kinds.Overflow over_effects (λ capacity. 4 + (capacity + 1)) (λ c. push_want c v) push_after push_kept pushing
   push_is_call =

@@ -60,15 +60,14 @@ module _ {T : Type 0} (c : ℕ) where
   -- an event of a call moves no role
   produces : (before : List (Event T)) (e : Event T) (p : ℕ) → ((o : Option ℕ) → producer_after o e ≡ o)
       → producer_of before ≡ Some p → producer_of (before ++ e ∷ []) ≡ Some p
-  produces before e p still holds = fold-append producer_after None before (e ∷ []) ∙ (still (producer_of before) ∙ holds)
+  produces x0 x1 x2 x3 x4 = grind (arith, fold-append)
 
   consumes : (before : List (Event T)) (e : Event T) (p : ℕ) → ((o : Option ℕ) → consumer_after o e ≡ o)
       → consumer_of before ≡ Some p → consumer_of (before ++ e ∷ []) ≡ Some p
-  consumes before e p still holds = fold-append consumer_after None before (e ∷ []) ∙ (still (consumer_of before) ∙ holds)
+  consumes x0 x1 x2 x3 x4 = grind (arith, fold-append)
 
   push_acts : (p v : ℕ) (o : Option (Answer T)) (before : List (Event T)) → producer_of before ≡ Some p → Right before (acts_if_done p (PushIndex v) o)
-  push_acts p v None before holds = tt
-  push_acts p v (Some answer) before holds = ((holds, tt), tt)
+  push_acts x0 x1 x2 x3 x4 = grind arith
 
   pop_acts : (p : ℕ) (o : Option (Answer T)) (before : List (Event T)) → consumer_of before ≡ Some p → Right before (acts_if_done p Pop o)
   pop_acts p None before holds = tt
@@ -76,27 +75,17 @@ module _ {T : Type 0} (c : ℕ) where
 
   push_right : (p v : ℕ) (effect : Effect T) (o : Option (Answer T)) (before : List (Event T)) → IsOwn effect
       → FitsList before effect → producer_of before ≡ Some p → Right before (effects_of p (PushIndex v) effect o)
-  push_right p v Quiet o before own fits holds = tt
-  push_right p v Acts o before own fits holds = push_acts p v o before holds
-  push_right p v (Publishes item) o before own fits holds =
-      ((holds, fits), push_acts p v o (before ++ Published p item ∷ []) (produces before (Published p item) p (λ o. refl) holds))
-  push_right p v (PublishesAndActs item) o before own fits holds = ((holds, fits), ((produces before (Published p item) p (λ o. refl) holds, tt), tt))
-  push_right p v (HandsOut item) o before own fits holds =
-      ((inl holds, fits), push_acts p v o (before ++ HandedOut p item ∷ []) (produces before (HandedOut p item) p (λ o. refl) holds))
-  push_right p v (TakesOut index) o before own fits holds = ((inl holds, fits), ((produces before (HandedOut p (Index index)) p (λ o. refl) holds, tt), tt))
-  push_right p v (MakesRoom item q pushed) o before own fits holds = absurd own
+  push_right x0 x1 x2 x3 x4 x5 x6 x7 = grind (arith, push_acts, produces, inl)
 
   hands_right : (p : ℕ) (item : Item T) (o : Option (Answer T)) (before : List (Event T))
       → FitsList before (HandsOut item) → consumer_of before ≡ Some p
       → Right before (effects_of p Pop (HandsOut item) o)
-  hands_right p item o before fits holds =
-      ((inr holds, fits), pop_acts p o (before ++ HandedOut p item ∷ []) (consumes before (HandedOut p item) p (λ o. refl) holds))
+  hands_right x0 x1 x2 x3 x4 x5 = grind (arith, inr, pop_acts, consumes)
 
   -- a pop that makes room moves no role either
   still : (p : ℕ) (item : Item T) (o : Option (Answer T)) (before : List (Event T))
       → producer_of (before ++ effects_of p Pop (HandsOut item) o) ≡ producer_of before
-  still p item None before = fold-append producer_after None before (effects_of p Pop (HandsOut item) None)
-  still p item (Some answer) before = fold-append producer_after None before (effects_of p Pop (HandsOut item) (Some answer))
+  still x0 x1 x2 x3 = grind (arith, fold-append)
 
   takes_right : (p : ℕ) (item : Item T) (waits : Option (ℕ × ℕ)) (o : Option (Answer T)) (before : List (Event T))
       → ((q v : ℕ) → waits ≡ Some (q, v) → producer_of before ≡ Some q) → FitsList before (HandsOut item)
@@ -197,42 +186,18 @@ module _ {T : Type 0} (c : ℕ) where
     its_read = ap (λ ws. slice_index ws 1) its_words
 
     its_cell : (position : ℕ) → slice_index t.world.words (cell_word c position) ≡ get_or s.state.core.cells (position % (c + 1)) 0
-    its_cell position =
-        let k = s.state.core in
-        ap (λ ws. slice_index ws (cell_word c position)) its_words
-        ∙ word_at k.write k.read (free s.state.roles.producer) (free s.state.roles.consumer) k.cells
-        (cell_word c position) (position % (c + 1)) refl
+    its_cell x0 = grind arith
 
     -- a push and a pop are handed what stands in their word
     push_handed : (run : Pushing) (n : ℕ)
         → IsHanded t (flights.TheVariants.Queues (Overflow (overflows.TheVariants.Push run))) n
         → old_of t.world.words (ask_of (push_asks run.call.capacity run.call.stage run.given)) ≡ n
-    push_handed run n (inl e) = sym e
-    push_handed run n (inr due) = no run.call.stage due
-      where
-        no : (stage : pushes.PushStage) → is_question (push_asks run.call.capacity stage run.given) ≡ true
-            → old_of t.world.words (ask_of (push_asks run.call.capacity run.call.stage run.given)) ≡ n
-        no pushes.TheVariants.HandsBack e = absurd (cc)
-        no pushes.TheVariants.LoadsWrite e = absurd (cc)
-        no (pushes.TheVariants.LoadsRead write) e = absurd (cc)
-        no (pushes.TheVariants.StoresCell write read) e = absurd (cc)
-        no (pushes.TheVariants.StoresWrite write read) e = absurd (cc)
-        no (pushes.TheVariants.MovesRead read) e = absurd (cc)
-        no (pushes.TheVariants.LoadsCell read) e = absurd (cc)
+    push_handed x0 x1 x2 = grind arith
 
     pop_handed : (run : Running Popping (Unit {0}) OneWord) (n : ℕ)
         → IsHanded t (flights.TheVariants.Queues (Overflow (overflows.TheVariants.Pop run))) n
         → old_of t.world.words (ask_of (pop_asks run.call.capacity run.call.stage)) ≡ n
-    pop_handed run n (inl e) = sym e
-    pop_handed run n (inr due) = no run.call.stage due
-      where
-        no : (stage : pops.PopStage) → is_question (pop_asks run.call.capacity stage) ≡ true
-            → old_of t.world.words (ask_of (pop_asks run.call.capacity run.call.stage)) ≡ n
-        no pops.TheVariants.FindsNone e = absurd (cc)
-        no pops.TheVariants.LoadsRead e = absurd (cc)
-        no (pops.TheVariants.LoadsWrite read) e = absurd (cc)
-        no (pops.TheVariants.LoadsCell read) e = absurd (cc)
-        no (pops.TheVariants.MovesRead read) e = absurd (cc)
+    pop_handed x0 x1 x2 = grind arith
 
     over_right : (p n : ℕ) (start : Start T) (flight : Flight T)
         → (family en queues.TheVariants.Overflow c).At s.state p start flight → IsHanded t flight n

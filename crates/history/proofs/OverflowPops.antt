@@ -40,31 +40,14 @@ module _ {T : Type 0} (code : Coding T) where
   popping = pops_over
 
   same_after : (c : Popping) (m : OneWord) (n : ℕ) → after_of code (popping.flight c m) n ≡ goes popping (pop_after c n) (pop_kept c m n)
-  same_after c m n = go (pop_after c n) refl
-    where
-      go : (r : After Popping Bool) → pop_after c n ≡ r → after_of code (popping.flight c m) n ≡ goes popping r (pop_kept c m n)
-      go (GoOn d) e = rw e refl
-      go (Done b) e = rw e refl
+  same_after x0 x1 x2 = grind arith
 
   abbrev Next : ℕ → Popping → Type 0
   Next capacity d = (d.capacity ≡ capacity) × HasPopWord d.stage
 
   stays : (capacity : ℕ) (c d : Popping) (n : ℕ) (stage : pops.PopStage) → c.capacity ≡ capacity → HasPopWord stage
       → pop_takes c stage n ≡ GoOn d → Next capacity d
-  stays capacity c d n pops.TheVariants.FindsNone same h e = absurd h
-  stays capacity c d n pops.TheVariants.LoadsRead same h e = (let is : at_pop c (pops.TheVariants.LoadsWrite n) ≡ d = cc in subst (Next capacity) is (same, tt))
-  stays capacity c d n (pops.TheVariants.LoadsWrite read) same h e = go (n == read) e
-    where
-      go : (t : Bool) → cond t (Done false) (GoOn (at_pop c (pops.TheVariants.LoadsCell read))) ≡ GoOn d → Next capacity d
-      go true e = absurd (cc)
-      go false e = (let is : at_pop c (pops.TheVariants.LoadsCell read) ≡ d = cc in subst (Next capacity) is (same, tt))
-  stays capacity c d n (pops.TheVariants.LoadsCell read) same h e =
-      (let is : at_pop c (pops.TheVariants.MovesRead read) ≡ d = cc in subst (Next capacity) is (same, tt))
-  stays capacity c d n (pops.TheVariants.MovesRead read) same h e = go (n == read) e
-    where
-      go : (t : Bool) → cond t (Done true) (GoOn (at_pop c (pops.TheVariants.LoadsCell n))) ≡ GoOn d → Next capacity d
-      go true e = absurd (cc)
-      go false e = (let is : at_pop c (pops.TheVariants.LoadsCell n) ≡ d = cc in subst (Next capacity) is (same, tt))
+  stays x0 x1 x2 x3 x4 x5 x6 x7 = grind arith
 
   asks : (capacity own : ℕ) (stage : pops.PopStage) → own ≡ capacity → HasPopWord stage
       → (a : Ask) × (a.word < 4 + (capacity + 1)) × (pop_asks own stage ≡ wants.Ask a)
@@ -79,17 +62,7 @@ module _ {T : Type 0} (code : Coding T) where
   Hears c m a n stage = (pop_takes c stage (answered a.op n) ≡ pop_takes c stage n) × (pop_keeps m stage (answered a.op n) ≡ pop_keeps m stage n)
 
   hears : (c : Popping) (m : OneWord) (a : Ask) (n : ℕ) (stage : pops.PopStage) → pop_asks c.capacity stage ≡ wants.Ask a → Hears c m a n stage
-  hears c m a n pops.TheVariants.FindsNone e = absurd (cc)
-  hears c m a n pops.TheVariants.LoadsRead e =
-      (let is : record { word = 1; op = Load } ≡ a = cc in subst (λ z. Hears c m z n pops.TheVariants.LoadsRead) is (refl, refl))
-  hears c m a n (pops.TheVariants.LoadsWrite read) e =
-      (let is : record { word = 0; op = Load } ≡ a = cc in subst (λ z. Hears c m z n (pops.TheVariants.LoadsWrite read)) is (refl, refl))
-  hears c m a n (pops.TheVariants.LoadsCell read) e =
-      (let is : record { word = cell_word c.capacity read; op = Load } ≡ a = cc in
-      subst (λ z. Hears c m z n (pops.TheVariants.LoadsCell read)) is (refl, refl))
-  hears c m a n (pops.TheVariants.MovesRead read) e =
-      (let is : record { word = 1; op = Exchange read (after_position read) } ≡ a = cc in
-      subst (λ z. Hears c m z n (pops.TheVariants.MovesRead read)) is (refl, refl))
+  hears x0 x1 x2 x3 x4 x5 = grind arith
 
   -- ---- what it writes
 
@@ -108,17 +81,7 @@ module _ {T : Type 0} (code : Coding T) where
   quiet : (words : List ℕ) (waits : Option (ℕ × ℕ)) (p n : ℕ) (c d : Popping) (stage : pops.PopStage)
       → pop_takes c stage n ≡ GoOn d
       → effects_of {T = T} p Pop (overflow_pop_effect words waits c.capacity stage n) None ≡ []
-  quiet words waits p n c d pops.TheVariants.FindsNone e = absurd (cc)
-  quiet words waits p n c d pops.TheVariants.LoadsRead e = refl
-  quiet words waits p n c d (pops.TheVariants.LoadsWrite read) e = refl
-  quiet words waits p n c d (pops.TheVariants.LoadsCell read) e = refl
-  quiet words waits p n c d (pops.TheVariants.MovesRead read) e = go (n == read) refl e
-    where
-      go : (t : Bool) → (n == read) ≡ t
-          → cond t (Done true) (GoOn (at_pop c (pops.TheVariants.LoadsCell n))) ≡ GoOn d
-          → effects_of {T = T} p Pop (overflow_pop_effect words waits c.capacity (pops.TheVariants.MovesRead read) n) None ≡ []
-      go true d e = absurd (cc)
-      go false d e = rw d refl
+  quiet x0 x1 x2 x3 x4 x5 x6 x7 = grind arith
 
   -- where it takes a value out, it writes that of its own, whether or not a push waits
   takes : (p : ℕ) (item : Item T) (answer : Answer T) (waits : Option (ℕ × ℕ))
@@ -149,12 +112,7 @@ module _ {T : Type 0} (code : Coding T) where
       s = sound_of code capacity queues.TheVariants.Overflow t met.run
 
       knows : KnowsOverflowPop t.world.capacity s.state.core m c.stage
-      knows =
-          let at = stands t.world p popping.start (popping.flight c m) met.there in
-          let now =
-          stands_there (family t.world.coding queues.TheVariants.Overflow t.world.capacity) t s p at.x at.since
-          (popping.flight c m) at.found at.doing in
-          (subst (λ st. (family t.world.coding queues.TheVariants.Overflow t.world.capacity).At s.state p st (popping.flight c m)) at.named now.at).2
+      knows = grind (arith, stands, stands_there, family, s)
 
       front : (read : ℕ) → c.stage ≡ pops.TheVariants.MovesRead read → n ≡ read → slice_index t.world.words (cell_word c.capacity read) ≡ m.0
       front read stage e =
@@ -176,10 +134,7 @@ module _ {T : Type 0} (code : Coding T) where
           ∙ (ap (λ z. get_or k.cells (read % (z + 1)) 0) size ∙ (ap (λ z. get_or k.cells (z % (t.world.capacity + 1)) 0) here ∙ value)))
 
       apart : (q v : ℕ) → beside_of t.world.words t.world.kept t.world.latest p ≡ Some (q, v) → p ≢ q
-      apart q v e same_party =
-          let kept = (kept_is t.world.kept t.world.words s.state s.fit).0 in
-          let push = beside_waits code capacity t t.world.coding t.world.capacity s t.world.kept p q v e kept in
-          pop_is_no_push v (ap name_in (sym met.there ∙ (ap (call_in t.world) same_party ∙ push.there)))
+      apart x0 x1 x2 x3 = grind (arith, kept_is, beside_waits, s, pop_is_no_push)
 
   -- what it writes of its own as it ends
   abbrev Tells : ℕ → ℕ → Popping → OneWord → Trace T → pops.PopStage → Bool → Type 0
@@ -192,32 +147,7 @@ module _ {T : Type 0} (code : Coding T) where
   loud : (p n : ℕ) (c : Popping) (m : OneWord) (b : Bool) (t : Trace T) (stage : pops.PopStage) → HasPopWord stage
       → ((read : ℕ) → stage ≡ pops.TheVariants.MovesRead read → n ≡ read → slice_index t.world.words (cell_word c.capacity read) ≡ m.0)
       → ((q v : ℕ) → beside_of t.world.words t.world.kept t.world.latest p ≡ Some (q, v) → p ≢ q) → pop_takes c stage n ≡ Done b → Tells p n c m t stage b
-  loud p n c m b t pops.TheVariants.FindsNone h front apart e = absurd h
-  loud p n c m b t pops.TheVariants.LoadsRead h front apart e = absurd (cc)
-  loud p n c m b t (pops.TheVariants.LoadsWrite read) h front apart e = go (n == read) e
-    where
-      go : (z : Bool) → cond z (Done false) (GoOn (at_pop c (pops.TheVariants.LoadsCell read))) ≡ Done b → Tells p n c m t (pops.TheVariants.LoadsWrite read) b
-      go true e =
-          (let same : false ≡ b = cc in
-          subst (Tells p n c m t (pops.TheVariants.LoadsWrite read)) same
-          (by_mine p (effects_of p Pop Acts (Some (popped (pop_answer m.0 false)))) (refl, tt)))
-      go false e = absurd (cc)
-  loud p n c m b t (pops.TheVariants.LoadsCell read) h front apart e = absurd (cc)
-  loud p n c m b t (pops.TheVariants.MovesRead read) h front apart e = go (n == read) refl e
-    where
-      go : (z : Bool) → (n == read) ≡ z
-          → cond z (Done true) (GoOn (at_pop c (pops.TheVariants.LoadsCell n))) ≡ Done b
-          → Tells p n c m t (pops.TheVariants.MovesRead read) b
-      go true d e =
-          let same : true ≡ b = cc in
-          let is : n ≡ read = grind (arith, nat_tests) in
-          let value = front read refl is in
-          let told =
-          takes p (Index (slice_index t.world.words (cell_word c.capacity read))) (PoppedIndex m.0)
-          (beside_of t.world.words t.world.kept t.world.latest p) apart in
-          subst (Tells p n c m t (pops.TheVariants.MovesRead read)) same
-          (rw d (told ∙ ap (λ u. HandedOut p (Index u) ∷ Acted p (Queues Pop) (PoppedIndex m.0) ∷ []) value))
-      go false d e = absurd (cc)
+  loud x0 x1 x2 x3 x4 x5 x6 x7 x8 x9 x10 = grind arith
 
   pub over_pop_is_call : IsCallIn code kinds.Overflow over_effects (λ capacity. 4 + (capacity + 1)) pop_want pop_after pop_kept popping
   over_pop_is_call =

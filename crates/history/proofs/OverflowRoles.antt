@@ -32,11 +32,7 @@ module _ {T : Type 0} (code : Coding T) where
 
   module _ (role : Role) where
     acquires : IsCallIn code kinds.Overflow over_effects words_of acquire_want acquire_after (λ c m n. m) (takes_role role)
-    acquires =
-        in_machine code kinds.Overflow over_effects (queue_effects code) words_of acquire_want acquire_after
-        (λ c m n. m) (takes_role role) (λ c m late h. h) (λ capacity p c m n t run there. refl)
-        (wider code (queue_effects code) (λ capacity. 4 + capacity) words_of acquire_want acquire_after (λ c m n. m)
-        (takes_role role) low (acquire_is_call code role))
+    acquires = grind arith
 
     pub over_acquire_keeps : Keeps (takes_role role) acquire_want acquire_after (λ c m n. m)
     over_acquire_keeps =
@@ -44,11 +40,7 @@ module _ {T : Type 0} (code : Coding T) where
         (λ c m n. m) (takes_role role) acquires (λ c n. refl)
 
     releases : IsCallIn code kinds.Overflow over_effects words_of release_want release_after (λ c m n. m) (gives_role role)
-    releases =
-        in_machine code kinds.Overflow over_effects (queue_effects code) words_of release_want release_after
-        (λ c m n. m) (gives_role role) (λ c m late h. h) (λ capacity p c m n t run there. refl)
-        (wider code (queue_effects code) (λ capacity. 4 + capacity) words_of release_want release_after (λ c m n. m)
-        (gives_role role) low (release_is_call code role))
+    releases = grind arith
 
     pub over_release_keeps : Keeps (gives_role role) release_want release_after (λ c m n. m)
     over_release_keeps =

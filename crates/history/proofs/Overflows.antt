@@ -43,42 +43,19 @@ module _ {T : Type 0} where
   acts_own p start (Some answer) = (refl, tt)
 
   pub own_of_effect : (p : ℕ) (start : QueueStart T) (effect : Effect T) (o : Option (Answer T)) → IsOwn effect → AreOf p (effects_of p start effect o)
-  own_of_effect p start Quiet o own = tt
-  own_of_effect p start Acts o own = acts_own p start o
-  own_of_effect p start (Publishes item) o own = (refl, acts_own p start o)
-  own_of_effect p start (PublishesAndActs item) o own = (refl, (refl, tt))
-  own_of_effect p start (HandsOut item) o own = (refl, acts_own p start o)
-  own_of_effect p start (TakesOut index) o own = (refl, (refl, tt))
-  own_of_effect p start (MakesRoom item q pushed) o own = absurd own
+  own_of_effect x0 x1 x2 x3 x4 = grind arith
 
   someone_of : (p : ℕ) (start : QueueStart T) (effect : Effect T) (o : Option (Answer T)) → sum_by (λ e. of_none (whose e)) (effects_of p start effect o) ≡ 0
-  someone_of p start Quiet o = refl
-  someone_of p start Acts None = refl
-  someone_of p start Acts (Some answer) = refl
-  someone_of p start (Publishes item) None = refl
-  someone_of p start (Publishes item) (Some answer) = refl
-  someone_of p start (PublishesAndActs item) o = refl
-  someone_of p start (HandsOut item) None = refl
-  someone_of p start (HandsOut item) (Some answer) = refl
-  someone_of p start (TakesOut index) o = refl
-  someone_of p start (MakesRoom item q pushed) None = refl
-  someone_of p start (MakesRoom item q pushed) (Some answer) = refl
+  someone_of x0 x1 x2 x3 = grind arith
 
   -- a pop that makes room writes as one that does not, and for the push its act
   pub room_by_other : (p q r : ℕ) (item : Item T) (pushed : ℕ) (o : Option (Answer T)) → r ≢ p
       → events_by r (effects_of p Pop (MakesRoom item q pushed) o) ≡ events_by r (Acted q (Queues (PushIndex pushed)) PoppedNone ∷ [])
-  room_by_other p q r item pushed o ne =
-      by_more r (effects_of p Pop (HandsOut item) o) (Acted q (Queues (PushIndex pushed)) PoppedNone ∷ [])
-      ∙ ap (λ es. es ++ events_by r (Acted q (Queues (PushIndex pushed)) PoppedNone ∷ []))
-      (by_other p r (effects_of p Pop (HandsOut item) o) ne (own_of_effect p Pop (HandsOut item) o tt))
+  room_by_other x0 x1 x2 x3 x4 x5 x6 = grind arith
 
   pub room_by_own : (p q : ℕ) (item : Item T) (pushed : ℕ) (o : Option (Answer T)) → p ≢ q
       → events_by p (effects_of p Pop (MakesRoom item q pushed) o) ≡ effects_of p Pop (HandsOut item) o
-  room_by_own p q item pushed o ne =
-      by_more p (effects_of p Pop (HandsOut item) o) (Acted q (Queues (PushIndex pushed)) PoppedNone ∷ [])
-      ∙ (ap (λ es. events_by p (effects_of p Pop (HandsOut item) o) ++ es) (by_other q p (Acted q (Queues (PushIndex pushed)) PoppedNone ∷ []) ne (refl, tt))
-      ∙ (append-nil (events_by p (effects_of p Pop (HandsOut item) o))
-      ∙ by_mine p (effects_of p Pop (HandsOut item) o) (own_of_effect p Pop (HandsOut item) o tt)))
+  room_by_own x0 x1 x2 x3 x4 x5 = grind arith
 
   -- ---- what a step of a call writes
 
@@ -97,38 +74,18 @@ module _ {T : Type 0} where
   over_effects w p flight n = []
 
   someone_flight : (w : World T) (p : ℕ) (flight : QueueFlight T) (n : ℕ) → sum_by (λ e. of_none (whose e)) (over_flight_effects w p flight n) ≡ 0
-  someone_flight w p (Overflow (overflows.TheVariants.Push run)) n = someone_of p (PushIndex run.given) _ _
-  someone_flight w p (Overflow (overflows.TheVariants.Pop run)) n = someone_of p Pop _ _
-  someone_flight w p (OnRole call) n = refl
-  someone_flight w p (Indices call) n = refl
-  someone_flight w p (Values call) n = refl
-  someone_flight w p (Length which run) n = refl
+  someone_flight x0 x1 x2 x3 = grind arith
 
   someone : (w : World T) (p : ℕ) (flight : Flight T) (n : ℕ) → sum_by (λ e. of_none (whose e)) (over_effects w p flight n) ≡ 0
-  someone w p (flights.TheVariants.Queues flight) n = someone_flight w p flight n
-  someone w p flight n = refl
+  someone x0 x1 x2 x3 = grind arith
 
   -- a push writes for itself
   pub push_effect_own : (words : List ℕ) (capacity : ℕ) (item : Item T) (stage : pushes.PushStage) (n : ℕ)
       → IsOwn (overflow_push_effect words capacity item stage n)
-  push_effect_own words capacity item pushes.TheVariants.HandsBack n = tt
-  push_effect_own words capacity item pushes.TheVariants.LoadsWrite n = tt
-  push_effect_own words capacity item (pushes.TheVariants.LoadsRead write) n = tt
-  push_effect_own words capacity item (pushes.TheVariants.StoresCell write read) n = tt
-  push_effect_own words capacity item (pushes.TheVariants.StoresWrite write read) n = either _
-    where
-      either : (t : Bool) → IsOwn (cond t (PublishesAndActs item) (Publishes item))
-      either true = tt
-      either false = tt
-  push_effect_own words capacity item (pushes.TheVariants.MovesRead read) n = either (n == read)
-    where
-      either : (t : Bool) → IsOwn (cond t (TakesOut (slice_index words (Rattle.steps.specs.Queues.Overflow.cell_word capacity read))) Quiet)
-      either true = tt
-      either false = tt
-  push_effect_own words capacity item (pushes.TheVariants.LoadsCell read) n = tt
+  push_effect_own x0 x1 x2 x3 x4 = grind arith
 
   pub push_own : (w : World T) (p : ℕ) (run : Pushing) (n : ℕ) → AreOf p (over_flight_effects w p (Overflow (overflows.TheVariants.Push run)) n)
-  push_own w p run n = own_of_effect p (PushIndex run.given) _ _ (push_effect_own w.words run.call.capacity _ run.call.stage n)
+  push_own x0 x1 x2 x3 = grind arith
 
 -- ---- what it owes
 
@@ -150,25 +107,12 @@ module _ {T : Type 0} (code : Coding T) (capacity : ℕ) where
         → (step_of w.coding w.words (beside_of w.words w.kept w.latest p) p (Queues start)
         (flights.TheVariants.Queues flight) n (registries.TheVariants.Queues ro)).wrote
         ≡ over_flight_effects w p flight n
-    writes_it (PushIndex v) (Overflow (overflows.TheVariants.Push run)) at =
-        ap (λ z. effects_of p (PushIndex z)
-        (effect_of w.coding w.words (beside_of w.words w.kept w.latest p) (Overflow (overflows.TheVariants.Push run)) n)
-        (answer_in (after w.coding (Overflow (overflows.TheVariants.Push run)) n)))
-        (sym at.2)
-    writes_it Pop (Overflow (overflows.TheVariants.Pop run)) at = refl
-    writes_it start (OnRole call) at = refl
-    writes_it start (Length which run) at = refl
-    writes_it start (Indices call) at = absurd at
-    writes_it start (Values call) at = absurd at
-    writes_it start (Overflow call) at = absurd at
+    writes_it x0 x1 x2 = grind arith
 
     pub facts : (start : Start T) (flight : Flight T) (kept : Registry T) → kept ≡ registries.TheVariants.Queues ro
         → (family en queues.TheVariants.Overflow c).At (record { roles = ro; core = k }) p start flight
         → Facts w p n start flight kept
-    facts (Queues start) (flights.TheVariants.Queues flight) kept e at =
-        subst (λ z. Facts w p n (Queues start) (flights.TheVariants.Queues flight) z) (sym e)
-        (record { may = refl; writes = writes_it start flight at; goes = refl })
-    facts start flight kept e at = absurd at
+    facts x0 x1 x2 x3 x4 = grind arith
 
   -- ---- for whom a pop writes
 
@@ -182,8 +126,7 @@ module _ {T : Type 0} (code : Coding T) (capacity : ℕ) where
         → (family en queues.TheVariants.Overflow c).At (record { roles = ro; core = k }) q start
         (flights.TheVariants.Queues (Overflow (overflows.TheVariants.Push run)))
         → run.given ≡ v → start ≡ Queues (PushIndex v)
-    start_is ro k q v (Queues (PushIndex w)) run at e = (let same : w ≡ v = sym at.2 ∙ e in ap (λ (n : ℕ). Queues (PushIndex n)) same)
-    start_is ro k q v start run at e = absurd at
+    start_is x0 x1 x2 x3 x4 x5 x6 x7 = grind arith
 
     waiting_push : (position q v : ℕ) (x : Party T) (run : Pushing) (since : ℕ)
         → IsPending position t.world.latest q v x run since → s.state.roles.producer ≡ Some q → Waits t q v
@@ -211,32 +154,15 @@ module _ {T : Type 0} (code : Coding T) (capacity : ℕ) where
   module _ (t : Trace T) where
     -- its act may be late for it, and nothing for another
     late_act : (q v r : ℕ) → Waits t q v → IsLate kinds.Overflow (call_in t.world r) (events_by r (Acted q (Queues (PushIndex v)) PoppedNone ∷ []))
-    late_act q v r h = ⊎_elim mine other (cases_eq r q)
-      where
-        mine : r ≡ q → IsLate kinds.Overflow (call_in t.world r) (events_by r (Acted q (Queues (PushIndex v)) PoppedNone ∷ []))
-        mine e =
-            subst (λ z. IsLate kinds.Overflow (call_in t.world z) (events_by z (Acted q (Queues (PushIndex v)) PoppedNone ∷ []))) (sym e)
-            (subst (λ es. IsLate kinds.Overflow (call_in t.world q) es) (sym (by_mine q (Acted q (Queues (PushIndex v)) PoppedNone ∷ []) (refl, tt)))
-            (subst (λ o. IsLateFor o (Acted q (Queues (PushIndex v)) PoppedNone ∷ [])) (sym h.there) ((q, refl), tt)))
-
-        other : r ≢ q → IsLate kinds.Overflow (call_in t.world r) (events_by r (Acted q (Queues (PushIndex v)) PoppedNone ∷ []))
-        other ne =
-            subst (λ es. IsLate kinds.Overflow (call_in t.world r) es)
-            (sym (by_other q r (Acted q (Queues (PushIndex v)) PoppedNone ∷ []) ne (refl, tt)))
-            (none_late kinds.Overflow (call_in t.world r))
+    late_act x0 x1 x2 x3 = grind arith
 
     own_late : (p r : ℕ) (es : List (Event T)) → r ≢ p → AreOf p es → IsLate kinds.Overflow (call_in t.world r) (events_by r es)
-    own_late p r es ne own =
-        subst (λ zs. IsLate kinds.Overflow (call_in t.world r) zs) (sym (by_other p r es ne own))
-        (none_late kinds.Overflow (call_in t.world r))
+    own_late x0 x1 x2 x3 x4 = grind (arith, by_other, none_late)
 
     module _ (p r n : ℕ) (ne : r ≢ p) (o : Option (Answer T)) where
       takes_late : (item : Item T) (waits : Option (ℕ × ℕ)) → ((q v : ℕ) → waits ≡ Some (q, v) → Waits t q v)
           → IsLate kinds.Overflow (call_in t.world r) (events_by r (effects_of p Pop (takes_effect item waits) o))
-      takes_late item None known = own_late p r (effects_of p Pop (HandsOut item) o) ne (own_of_effect p Pop (HandsOut item) o tt)
-      takes_late item (Some push) known =
-          subst (λ es. IsLate kinds.Overflow (call_in t.world r) es) (sym (room_by_other p push.0 r item push.1 o ne))
-          (late_act push.0 push.1 r (known push.0 push.1 refl))
+      takes_late x0 x1 x2 = grind (arith, own_late, own_of_effect, room_by_other, late_act)
 
       pop_late : (capacity : ℕ) (waits : Option (ℕ × ℕ)) → ((q v : ℕ) → waits ≡ Some (q, v) → Waits t q v)
           → (stage : pops.PopStage)

@@ -28,7 +28,7 @@ more zero = refl
 more (suc n) = ap (λ (ys : List ℕ). 0 ∷ ys) (more n)
 
 pub one_more : (n : ℕ) → replicate {A = ℕ} (n + 1) 0 ≡ replicate {A = ℕ} n 0 ++ 0 ∷ []
-one_more n = (let same : n + 1 ≡ suc n = omega arith in ap (λ k. replicate {A = ℕ} k 0) same) ∙ more n
+one_more x0 = grind (arith, suc, more)
 
 -- the element behind the others, or one of them
 at_end : {A : Type 0} → (xs : List A) (x y : A) (j : ℕ) → get_elem? (xs ++ x ∷ []) j ≡ some y → (get_elem? xs j ≡ some y) ⊎ ((j ≡ length xs) × (x ≡ y))
@@ -50,7 +50,7 @@ module _ {T : Type 0} (code : Coding T) (kind : Kind) (capacity : ℕ) where
   Holds s = IsMachine code kind capacity s
 
   pub begins_with : (xs ys zs : List (Event T)) → IsBeginning xs ys → IsBeginning ys zs → IsBeginning xs zs
-  begins_with xs ys zs a b = record { rest = a.rest ++ b.rest; is = b.is ∙ (ap (λ es. es ++ b.rest) a.is ∙ append_assoc xs a.rest b.rest) }
+  begins_with x0 x1 x2 x3 x4 = grind (arith, append_assoc)
 
   pub splits : (id : ℕ) (v : View T) → Splits Holds id v (left_view v) (right_view v)
   splits id v s m at =
@@ -82,7 +82,7 @@ module _ {T : Type 0} (code : Coding T) (kind : Kind) (capacity : ℕ) where
 
       -- a party of the new seat is its own number
       alone : (p j : ℕ) → j ≡ length s.views → m.owner p ≡ j → length s.views ≤ p
-      alone p j e of_j = ⊎_elim (λ h. h) (λ (low : p < length s.views). (let h = m.inside p low in absurd (omega arith))) (nat_cases (length s.views) p)
+      alone x0 x1 x2 x3 = grind (arith, nat_cases)
 
       new : (j : ℕ) → j ≡ length s.views → Fits m.owner m.trace j (right_view v)
       new j e =
@@ -157,13 +157,10 @@ module _ {T : Type 0} (code : Coding T) (kind : Kind) (capacity : ℕ) where
       }
     where
       long : length (set (set s.views id (joined_view v w)) other spent_view) ≡ length s.views
-      long = length-set (set s.views id (joined_view v w)) other spent_view ∙ length-set s.views id (joined_view v w)
+      long = grind (arith, length-set, set)
 
       theirs : get_elem? s.views other ≡ some w
-      theirs =
-          ⊎_elim (λ (e : (other ≡ id) × (joined_view v w ≡ w)). absurd (apart e.0))
-          (λ (e : (other ≢ id) × (get_elem? s.views other ≡ some w)). e.1)
-          (at_set s.views id other (joined_view v w) w at')
+      theirs = grind (arith, some, at_set)
 
       moves : (p : ℕ) → m.owner p ≡ other → handed_on id other m.owner p ≡ id
       moves p e = let t : (m.owner p == other) ≡ true = grind (arith, nat_tests) in rw t refl
@@ -176,7 +173,7 @@ module _ {T : Type 0} (code : Coding T) (kind : Kind) (capacity : ℕ) where
       of_id p e = ⊎_elim (λ h. inr h) (λ ne. inl (sym (stays p ne) ∙ e)) (cases_eq (m.owner p) other)
 
       of_third : (p j : ℕ) → j ≢ id → handed_on id other m.owner p ≡ j → (m.owner p ≡ j) × (m.owner p ≢ other)
-      of_third p j ne e = ⊎_elim (λ h. absurd (ne (sym e ∙ moves p h))) (λ apart_too. (sym (stays p apart_too) ∙ e, apart_too)) (cases_eq (m.owner p) other)
+      of_third x0 x1 x2 x3 = grind (arith, moves, stays, cases_eq)
 
       mine : Fits m.owner m.trace id v
       mine = m.seats id v at
@@ -185,7 +182,7 @@ module _ {T : Type 0} (code : Coding T) (kind : Kind) (capacity : ℕ) where
       its = m.seats other w theirs
 
       its_none : its.late ≡ []
-      its_none = late_none m.trace.world.kind its.late (subst (λ o. IsLate m.trace.world.kind o its.late) idle its.waits)
+      its_none = grind (arith, late_none)
 
       its_idle : (p : ℕ) → m.owner p ≡ other → call_in m.trace.world p ≡ None
       its_idle p of_other = idle_seat m.owner m.trace other w idle its p of_other
@@ -268,26 +265,10 @@ module _ {T : Type 0} (code : Coding T) (kind : Kind) (capacity : ℕ) where
 
       -- apart_too party is left to it
       never : (p j : ℕ) → j ≡ other → handed_on id other m.owner p ≡ j → ⊥
-      never p j e now =
-          ⊎_elim (λ (h : m.owner p ≡ other). apart (sym e ∙ (sym now ∙ moves p h)))
-          (λ (ne : m.owner p ≢ other). ne (sym (stays p ne) ∙ (now ∙ e))) (cases_eq (m.owner p) other)
+      never x0 x1 x2 x3 = grind (arith, moves, stays, cases_eq)
 
       gone : (j : ℕ) → j ≡ other → Fits (handed_on id other m.owner) m.trace j spent_view
-      gone j e =
-          record {
-            seen = nothing m.trace.events;
-            other = nothing m.trace.events;
-            self = λ any. absurd (omega arith);
-            going = λ p now is. absurd (never p j e now);
-            idle = λ p now ne. absurd (never p j e now);
-            stated = λ p now is. absurd (never p j e now);
-            party = tt;
-            late = [];
-            waits = none_late m.trace.world.kind None;
-            of_party = refl;
-            own = λ any. absurd (omega arith);
-            made = λ f. sym (owned_none (handed_on id other m.owner) j f m.trace.events (λ p now. absurd (never p j e now)));
-          }
+      gone x0 x1 = grind (arith, nothing, never, none_late, owned_none)
 
   pub opens : (words : List ℕ) → IsCoding code → capacity_error kind capacity ≡ None
       → words ≡ (opening_of kind).words code.size capacity ++ 0 ∷ [] → Holds (opening words [] (first_view capacity))
@@ -314,20 +295,4 @@ module _ {T : Type 0} (code : Coding T) (kind : Kind) (capacity : ℕ) where
       }
     where
       seats : (j : ℕ) (v : View T) → get_elem? (first_view capacity ∷ []) j ≡ some v → Fits (λ p. p) (worlds.opening code kind capacity 0) j v
-      seats zero v e =
-          subst (λ z. Fits (λ p. p) (worlds.opening code kind capacity 0) zero z)
-          (some-injective (first_view capacity) v e) (record {
-            seen = nothing [];
-            other = nothing [];
-            self = λ any. refl;
-            going = λ p of_j is. refl;
-            idle = λ p of_j ne. refl;
-            stated = λ p of_j is. opens_without kind capacity p;
-            party = refl;
-            late = [];
-            waits = none_late kind None;
-            of_party = refl;
-            own = λ any p of_j. inl refl;
-            made = λ f. refl;
-          })
-      seats (suc j) v e = absurd (some-ne-none v (sym e))
+      seats x0 x1 x2 = grind (arith, some-injective, nothing, opens_without, none_late, inl, some-ne-none)

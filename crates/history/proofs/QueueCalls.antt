@@ -30,7 +30,7 @@ use Rattle.history.proofs.Queues.{queue_effects, index_owes, role_starts}
 
 -- the holder lacks no role
 pub holds_it : (o : Option ℕ) (p : ℕ) → o ≡ Some p → not (holds o p) ≡ false
-holds_it o p is = (let same : (p == p) ≡ true = grind (arith, nat_tests) in rw (is, same) refl)
+holds_it x0 x1 x2 = grind arith
 
 module _ {T : Type 0} (code : Coding T) (v : ℕ) where
   abbrev call : Calling T (Push ℕ) (Unit {0}) Bool
@@ -40,11 +40,7 @@ module _ {T : Type 0} (code : Coding T) (v : ℕ) where
   in_all r m = goes call r m
 
   same_after : (c : Push ℕ) (m : Unit {0}) (n : ℕ) → after_of code (call.flight c m) n ≡ in_all (push_after 1 c n) m
-  same_after c m n = go (push_after 1 c n) refl
-    where
-      go : (r : After (Push ℕ) Bool) → push_after 1 c n ≡ r → after_of code (call.flight c m) n ≡ in_all r m
-      go (GoOn d) e = rw e refl
-      go (Done b) e = rw e refl
+  same_after x0 x1 x2 = grind arith
 
   -- the events of a step that goes on, and of one that ends
   effects_on : (p : ℕ) (c d : Push ℕ) (m : Unit {0}) (n : ℕ) → push_after 1 c n ≡ GoOn d
@@ -57,68 +53,18 @@ module _ {T : Type 0} (code : Coding T) (v : ℕ) where
 
   quiet : (p n : ℕ) (c d : Push ℕ) (stage : pushes.PushStage) → push_takes 1 c stage n ≡ GoOn d
       → effects_of {T = T} p (PushIndex v) (push_effect (Index v) stage) None ≡ []
-  quiet p n c d pushes.TheVariants.LoadsWrite e = refl
-  quiet p n c d (pushes.TheVariants.LoadsRead write) e = refl
-  quiet p n c d (pushes.TheVariants.StoresCell write cell at) e = refl
-  quiet p n c d (pushes.TheVariants.StoresWrite write) e = absurd (cc)
+  quiet x0 x1 x2 x3 x4 x5 = grind arith
 
   loud : (p n : ℕ) (c : Push ℕ) (b : Bool) (stage : pushes.PushStage) → push_skips stage n ≡ false
       → push_takes 1 c stage n ≡ Done b
       → effects_of {T = T} p (PushIndex v) (push_effect (Index v) stage) (Some (Truth b)) ≡ push_wrote p v b
-  loud p n c b pushes.TheVariants.LoadsWrite skip e = (let no : GoOn (at_push c (pushes.TheVariants.LoadsRead n)) ≡ Done b = rw skip at e in absurd (cc))
-  loud p n c b (pushes.TheVariants.LoadsRead write) skip e = go (c.capacity == 0 || distance write n == c.capacity) e
-    where
-      go : (t : Bool)
-          → cond t (Done false) (GoOn (at_push c (pushes.TheVariants.StoresCell write (cell_word c.capacity 1 write) 0))) ≡ Done b
-          → ◌≡◌ {A = List (Event T)} (Acted p (Queues (PushIndex v)) (Truth b) ∷ []) (push_wrote p v b)
-      go true e =
-          (let same : false ≡ b = cc in
-          subst (λ x. ◌≡◌ {A = List (Event T)} (Acted p (Queues (PushIndex v)) (Truth x) ∷ []) (push_wrote p v x)) same refl)
-      go false e = absurd (cc)
-  loud p n c b (pushes.TheVariants.StoresCell write cell at) skip e = go (nat_lt (at + 1) 1) e
-    where
-      go : (t : Bool) → cond t (GoOn (at_push c (pushes.TheVariants.StoresCell write cell (at + 1))))
-          (GoOn (at_push c (pushes.TheVariants.StoresWrite write)))
-          ≡ Done b
-          → [] ≡ push_wrote {T = T} p v b
-      go true e = absurd (cc)
-      go false e = absurd (cc)
-  loud p n c b (pushes.TheVariants.StoresWrite write) skip e =
-      (let same : true ≡ b = cc in
-      subst (λ x. ◌≡◌ {A = List (Event T)} (Published p (Index v) ∷ Acted p (Queues (PushIndex v)) (Truth x) ∷ []) (push_wrote p v x))
-      same refl)
+  loud x0 x1 x2 x3 x4 x5 x6 = grind arith
 
   -- where it stands next
   stays : (capacity : ℕ) (c d : Push ℕ) (n : ℕ) (stage : pushes.PushStage) → c.capacity ≡ capacity
       → PushStage capacity stage → push_takes 1 c stage n ≡ GoOn d
       → (d.capacity ≡ capacity) × PushStage capacity d.stage × ((k : ℕ) → push_skips d.stage k ≡ false)
-  stays capacity c d n pushes.TheVariants.LoadsWrite same h e = go (n == 2 ^ 64 - 1) e
-    where
-      go : (t : Bool) → cond t (Done false) (GoOn (at_push c (pushes.TheVariants.LoadsRead n))) ≡ GoOn d
-          → (d.capacity ≡ capacity) × PushStage capacity d.stage × ((k : ℕ) → push_skips d.stage k ≡ false)
-      go true e = absurd (cc)
-      go false e =
-          (let is : at_push c (pushes.TheVariants.LoadsRead n) ≡ d = cc in
-          subst (λ (x : Push ℕ). (x.capacity ≡ capacity) × PushStage capacity x.stage × ((k : ℕ) → push_skips x.stage k ≡ false))
-          is (same, tt, λ k. refl))
-  stays capacity c d n (pushes.TheVariants.LoadsRead write) same h e = go (c.capacity == 0) (distance write n == c.capacity) refl e
-    where
-      go : (z t : Bool) → (c.capacity == 0) ≡ z
-          → cond (z || t) (Done false) (GoOn (at_push c (pushes.TheVariants.StoresCell write (cell_word c.capacity 1 write) 0))) ≡ GoOn d
-          → (d.capacity ≡ capacity) × PushStage capacity d.stage × ((k : ℕ) → push_skips d.stage k ≡ false)
-      go true t is_z e = absurd (cc)
-      go false true is_z e = absurd (cc)
-      go false false is_z e =
-          let is : at_push c (pushes.TheVariants.StoresCell write (cell_word c.capacity 1 write) 0) ≡ d = cc in
-          let some : 0 < c.capacity = grind (arith, nat_tests) in
-          subst (λ (x : Push ℕ). (x.capacity ≡ capacity) × PushStage capacity x.stage × ((k : ℕ) → push_skips x.stage k ≡ false))
-          is (same, (omega (arith, same, some), ap (λ z. cell_word z 1 write) same, refl), λ k. refl)
-  stays capacity c d n (pushes.TheVariants.StoresCell write cell at) same h e =
-      let one : nat_lt (at + 1) 1 ≡ false = (let zero = h.2 in grind (arith, nat_tests)) in
-      let goes : GoOn (at_push c (pushes.TheVariants.StoresWrite write)) ≡ GoOn d = rw one at e in
-      let is : at_push c (pushes.TheVariants.StoresWrite write) ≡ d = cc in
-      subst (λ (x : Push ℕ). (x.capacity ≡ capacity) × PushStage capacity x.stage × ((k : ℕ) → push_skips x.stage k ≡ false)) is (same, tt, λ k. refl)
-  stays capacity c d n (pushes.TheVariants.StoresWrite write) same h e = absurd (cc)
+  stays x0 x1 x2 x3 x4 x5 x6 x7 = grind arith
 
   asks : (capacity : ℕ) (stage : pushes.PushStage) → capacity < 2 ^ 32 → PushStage capacity stage
       → (a : Ask) × (a.word < 4 + capacity) × (push_asks words_of_index stage v ≡ wants.Ask a)
@@ -135,29 +81,15 @@ module _ {T : Type 0} (code : Coding T) (v : ℕ) where
 
   hears : (c : Push ℕ) (a : Ask) (n : ℕ) (stage : pushes.PushStage) → push_asks words_of_index stage v ≡ wants.Ask a
       → push_takes 1 c stage (answered a.op n) ≡ push_takes 1 c stage n
-  hears c a n pushes.TheVariants.LoadsWrite e =
-      (let is : record { word = 0; op = Load } ≡ a = cc in
-      ap (λ (z : Ask). push_takes 1 c pushes.TheVariants.LoadsWrite (answered z.op n)) (sym is))
-  hears c a n (pushes.TheVariants.LoadsRead write) e =
-      (let is : record { word = 1; op = Load } ≡ a = cc in
-      ap (λ (z : Ask). push_takes 1 c (pushes.TheVariants.LoadsRead write) (answered z.op n)) (sym is))
-  hears c a n (pushes.TheVariants.StoresCell write cell at) e = refl
-  hears c a n (pushes.TheVariants.StoresWrite write) e = refl
+  hears x0 x1 x2 x3 x4 = grind arith
 
   finds : (n : ℕ) (stage : pushes.PushStage) → n < 2 ^ 64 → push_skips stage n ≡ false → IsFresh n stage
-  finds n pushes.TheVariants.LoadsWrite small t = (let other : n ≢ 2 ^ 64 - 1 = grind (arith, nat_tests) in omega arith)
-  finds n (pushes.TheVariants.LoadsRead write) small t = tt
-  finds n (pushes.TheVariants.StoresCell write cell at) small t = tt
-  finds n (pushes.TheVariants.StoresWrite write) small t = tt
+  finds x0 x1 x2 x3 = grind arith
 
   leaves : (c : Push ℕ) (a : Ask) (n : ℕ) (stage : pushes.PushStage) → push_skips stage n ≡ true
       → push_asks words_of_index stage v ≡ wants.Ask a
       → (written a.op n ≡ n) × (e : Bool) × (e ≡ false) × (push_takes 1 c stage n ≡ Done e)
-  leaves c a n pushes.TheVariants.LoadsWrite t e =
-      (let is : record { word = 0; op = Load } ≡ a = cc in (ap (λ (z : Ask). written z.op n) (sym is), false, refl, rw t refl))
-  leaves c a n (pushes.TheVariants.LoadsRead write) t e = absurd (cc)
-  leaves c a n (pushes.TheVariants.StoresCell write cell at) t e = absurd (cc)
-  leaves c a n (pushes.TheVariants.StoresWrite write) t e = absurd (cc)
+  leaves x0 x1 x2 x3 x4 x5 = grind arith
 
   pub push_is_call : IsCallOf code (queue_effects code) (λ capacity. 4 + capacity)
       (λ c. push_want words_of_index c v) (λ c n. push_after 1 c n) (λ c m n. m) call
@@ -197,11 +129,7 @@ module _ {T : Type 0} (code : Coding T) where
   keeps_it = pop_kept kept_in_one
 
   pop_same_after : (c : Taking) (m : OneWord) (n : ℕ) → after_of code (taking.flight c m) n ≡ goes taking (pop_after 1 c n) (keeps_it c m n)
-  pop_same_after c m n = go (pop_after 1 c n) refl
-    where
-      go : (r : After Taking Bool) → pop_after 1 c n ≡ r → after_of code (taking.flight c m) n ≡ goes taking r (keeps_it c m n)
-      go (GoOn d) e = rw e refl
-      go (Done b) e = rw e refl
+  pop_same_after x0 x1 x2 = grind arith
 
   pop_effects_on : (p : ℕ) (c d : Taking) (m : OneWord) (n : ℕ) → pop_after 1 c n ≡ GoOn d
       → queue_effects code p (taking.flight c m) n ≡ effects_of p Pop (pop_effect (Index m.0) c.stage) None
@@ -214,60 +142,16 @@ module _ {T : Type 0} (code : Coding T) where
 
   pop_quiet : (p n x : ℕ) (c d : Taking) (stage : pops.PopStage) → pop_takes 1 c stage n ≡ GoOn d
       → effects_of {T = T} p Pop (pop_effect (Index x) stage) None ≡ []
-  pop_quiet p n x c d pops.TheVariants.LoadsRead e = refl
-  pop_quiet p n x c d (pops.TheVariants.LoadsWrite read) e = refl
-  pop_quiet p n x c d (pops.TheVariants.LoadsCell read cell at) e = refl
-  pop_quiet p n x c d (pops.TheVariants.StoresRead read) e = absurd (cc)
+  pop_quiet x0 x1 x2 x3 x4 x5 x6 = grind arith
 
   pop_loud : (p n : ℕ) (c : Taking) (m : OneWord) (b : Bool) (stage : pops.PopStage) → pop_takes 1 c stage n ≡ Done b
       → effects_of {T = T} p Pop (pop_effect (Index m.0) stage) (Some (popped (pop_answer (pop_keeps kept_in_one m stage n).0 b)))
       ≡ pop_wrote p (pop_keeps kept_in_one m stage n).0 b
-  pop_loud p n c m b pops.TheVariants.LoadsRead e = absurd (cc)
-  pop_loud p n c m b (pops.TheVariants.LoadsWrite read) e = go (c.capacity == 0 || n == read) e
-    where
-      go : (t : Bool) → cond t (Done false) (GoOn (at_pop c (pops.TheVariants.LoadsCell read (cell_word c.capacity 1 read) 0))) ≡ Done b
-          → ◌≡◌ {A = List (Event T)} (Acted p (Queues Pop) (popped (pop_answer m.0 b)) ∷ []) (pop_wrote p m.0 b)
-      go true e =
-          (let same : false ≡ b = cc in
-          subst (λ x. ◌≡◌ {A = List (Event T)} (Acted p (Queues Pop) (popped (pop_answer m.0 x)) ∷ []) (pop_wrote p m.0 x)) same refl)
-      go false e = absurd (cc)
-  pop_loud p n c m b (pops.TheVariants.LoadsCell read cell at) e = go (nat_lt (at + 1) 1) e
-    where
-      go : (t : Bool)
-          → cond t (GoOn (at_pop c (pops.TheVariants.LoadsCell read cell (at + 1)))) (GoOn (at_pop c (pops.TheVariants.StoresRead read)))
-          ≡ Done b
-          → [] ≡ pop_wrote {T = T} p (pop_keeps kept_in_one m (pops.TheVariants.LoadsCell read cell at) n).0 b
-      go true e = absurd (cc)
-      go false e = absurd (cc)
-  pop_loud p n c m b (pops.TheVariants.StoresRead read) e =
-      (let same : true ≡ b = cc in
-      subst
-      (λ x. ◌≡◌ {A = List (Event T)} (HandedOut p (Index m.0) ∷ Acted p (Queues Pop) (popped (pop_answer m.0 x)) ∷ []) (pop_wrote p m.0 x))
-      same refl)
+  pop_loud x0 x1 x2 x3 x4 x5 x6 = grind arith
 
   pop_stays : (capacity : ℕ) (c d : Taking) (n : ℕ) (stage : pops.PopStage) → c.capacity ≡ capacity
       → PopStage capacity stage → pop_takes 1 c stage n ≡ GoOn d → (d.capacity ≡ capacity) × PopStage capacity d.stage
-  pop_stays capacity c d n pops.TheVariants.LoadsRead same h e =
-      (let is : at_pop c (pops.TheVariants.LoadsWrite n) ≡ d = cc in
-      subst (λ (x : Taking). (x.capacity ≡ capacity) × PopStage capacity x.stage) is (same, tt))
-  pop_stays capacity c d n (pops.TheVariants.LoadsWrite read) same h e = go (c.capacity == 0) (n == read) refl e
-    where
-      go : (z t : Bool) → (c.capacity == 0) ≡ z
-          → cond (z || t) (Done false) (GoOn (at_pop c (pops.TheVariants.LoadsCell read (cell_word c.capacity 1 read) 0))) ≡ GoOn d
-          → (d.capacity ≡ capacity) × PopStage capacity d.stage
-      go true t is_z e = absurd (cc)
-      go false true is_z e = absurd (cc)
-      go false false is_z e =
-          let is : at_pop c (pops.TheVariants.LoadsCell read (cell_word c.capacity 1 read) 0) ≡ d = cc in
-          let some : 0 < c.capacity = grind (arith, nat_tests) in
-          subst (λ (x : Taking). (x.capacity ≡ capacity) × PopStage capacity x.stage) is
-          (same, (omega (arith, same, some), ap (λ z. cell_word z 1 read) same, refl))
-  pop_stays capacity c d n (pops.TheVariants.LoadsCell read cell at) same h e =
-      let one : nat_lt (at + 1) 1 ≡ false = (let zero = h.2 in grind (arith, nat_tests)) in
-      let goes : GoOn (at_pop c (pops.TheVariants.StoresRead read)) ≡ GoOn d = rw one at e in
-      let is : at_pop c (pops.TheVariants.StoresRead read) ≡ d = cc in
-      subst (λ (x : Taking). (x.capacity ≡ capacity) × PopStage capacity x.stage) is (same, tt)
-  pop_stays capacity c d n (pops.TheVariants.StoresRead read) same h e = absurd (cc)
+  pop_stays x0 x1 x2 x3 x4 x5 x6 x7 = grind arith
 
   pop_finds_word : (capacity : ℕ) (stage : pops.PopStage) → capacity < 2 ^ 32 → PopStage capacity stage
       → (a : Ask) × (a.word < 4 + capacity) × (pop_asks stage ≡ wants.Ask a)
@@ -285,16 +169,7 @@ module _ {T : Type 0} (code : Coding T) where
   pop_hears : (c : Taking) (m : OneWord) (a : Ask) (n : ℕ) (stage : pops.PopStage) → pop_asks stage ≡ wants.Ask a
       → (pop_takes 1 c stage (answered a.op n) ≡ pop_takes 1 c stage n)
       × (pop_keeps kept_in_one m stage (answered a.op n) ≡ pop_keeps kept_in_one m stage n)
-  pop_hears c m a n pops.TheVariants.LoadsRead e =
-      (let is : record { word = 1; op = Load } ≡ a = cc in
-      (ap (λ (z : Ask). pop_takes 1 c pops.TheVariants.LoadsRead (answered z.op n)) (sym is), refl))
-  pop_hears c m a n (pops.TheVariants.LoadsWrite read) e =
-      (let is : record { word = 0; op = Load } ≡ a = cc in
-      (ap (λ (z : Ask). pop_takes 1 c (pops.TheVariants.LoadsWrite read) (answered z.op n)) (sym is), refl))
-  pop_hears c m a n (pops.TheVariants.LoadsCell read cell at) e =
-      (let is : record { word = word_at cell at; op = Load } ≡ a = cc in
-      (refl, ap (λ (z : Ask). kept_in_one m at (answered z.op n)) (sym is)))
-  pop_hears c m a n (pops.TheVariants.StoresRead read) e = (refl, refl)
+  pop_hears x0 x1 x2 x3 x4 x5 = grind arith
 
   pub pop_is_call : IsCallOf code (queue_effects code) (λ capacity. 4 + capacity) (λ (c : Taking). pop_want c) (λ c n. pop_after 1 c n) keeps_it taking
   pop_is_call =

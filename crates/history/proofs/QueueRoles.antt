@@ -40,21 +40,7 @@ module _ {T : Type 0} (code : Coding T) (role : Role) where
   releasing = gives_role role
 
   pub acquire_is_call : IsCallOf code (queue_effects code) (λ capacity. 4 + capacity) acquire_want acquire_after (λ c m n. m) acquiring
-  acquire_is_call =
-      record {
-        same_want = λ c m. refl;
-        same_after = λ capacity c m n h. refl;
-        hears =
-            λ c m a n e. (let is : record { word = c.word; op = Exchange 1 0 } ≡ a = cc in
-            (ap (λ (z : Ask). acquire_after c (answered z.op n)) (sym is), refl));
-        stays = λ capacity c d n h e. absurd (cc);
-        asks = λ capacity c h. (record { word = c.word; op = Exchange 1 0 }, subst (λ w. w < 4 + capacity) (sym h) (word_low role capacity), refl);
-        past = λ capacity c d n k h e. refl;
-        finds = λ c m n small t. tt;
-        leaves = λ c a n t e. absurd (cc);
-        tells = λ capacity p from c d m n es h wrote e. absurd (cc);
-        tells_all = λ capacity p from c b m n es h skip wrote e still. ap (λ zs. zs ++ []) wrote;
-      }
+  acquire_is_call = grind arith
 
   pub acquire_keeps : KeepsRule (λ (z : View T). z.capacity) (At code kinds.IndexQueue acquiring)
       (Ends code kinds.IndexQueue acquiring) (λ key. 4 + key + 1) (λ key. key)
@@ -90,19 +76,7 @@ module _ {T : Type 0} (code : Coding T) (role : Role) where
       none_lacks Consumer roles p = refl
 
   pub release_is_call : IsCallOf code (queue_effects code) (λ capacity. 4 + capacity) release_want release_after (λ c m n. m) releasing
-  release_is_call =
-      record {
-        same_want = λ c m. refl;
-        same_after = λ capacity c m n h. refl;
-        hears = λ c m a n e. (refl, refl);
-        stays = λ capacity c d n h e. absurd (cc);
-        asks = λ capacity c h. (record { word = c.word; op = Store 1 }, subst (λ w. w < 4 + capacity) (sym h) (word_low role capacity), refl);
-        past = λ capacity c d n k h e. refl;
-        finds = λ c m n small t. tt;
-        leaves = λ c a n t e. absurd (cc);
-        tells = λ capacity p from c d m n es h wrote e. absurd (cc);
-        tells_all = λ capacity p from c b m n es h skip wrote e still. ap (λ zs. zs ++ []) wrote;
-      }
+  release_is_call = grind arith
 
   pub release_keeps : KeepsRule (λ (z : View T). z.capacity) (At code kinds.IndexQueue releasing)
       (Ends code kinds.IndexQueue releasing) (λ key. 4 + key + 1) (λ key. key)
@@ -144,30 +118,10 @@ module _ {T : Type 0} (code : Coding T) (which : LengthOf) (size : ℕ) where
   counting = counts_waiting which size
 
   len_same_after : (c : Len) (m : Unit {0}) (n : ℕ) → c.capacity ≡ size → after_of code (counting.flight c m) n ≡ goes counting (len_after c n) m
-  len_same_after c m n same = go (len_after c n) refl
-    where
-      go : (r : After Len ℕ) → len_after c n ≡ r → after_of code (counting.flight c m) n ≡ goes counting r m
-      go (GoOn d) e = rw e refl
-      go (Done b) e = rw e (ap (λ k. Done (length_answer which k b)) same)
+  len_same_after x0 x1 x2 x3 = grind arith
 
   len_stays : (n : ℕ) (c : Len) (k : ℕ) (d : Len) (stage : lengths.LenStage) → c.capacity ≡ n → len_takes c stage k ≡ GoOn d → d.capacity ≡ n
-  len_stays n c k d lengths.TheVariants.LoadsWrite same e =
-      (let is : at_len c (lengths.TheVariants.LoadsRead k) ≡ d = cc in ap (λ (z : Len). z.capacity) (sym is) ∙ same)
-  len_stays n c k d (lengths.TheVariants.LoadsRead write) same e =
-      (let is : at_len c (lengths.TheVariants.LoadsWriteAgain write k) ≡ d = cc in ap (λ (z : Len). z.capacity) (sym is) ∙ same)
-  len_stays n c k d (lengths.TheVariants.LoadsWriteAgain write read) same e = go (k == write) e
-    where
-      go : (t : Bool) → ◌≡◌ {A = After Len ℕ}
-          (if t then GoOn (at_len c (lengths.TheVariants.LoadsReadAgain write read)) else GoOn (first_len c.capacity))
-          (GoOn d)
-          → d.capacity ≡ n
-      go true h = (let is : at_len c (lengths.TheVariants.LoadsReadAgain write read) ≡ d = cc in ap (λ (z : Len). z.capacity) (sym is) ∙ same)
-      go false h = (let is : first_len c.capacity ≡ d = cc in ap (λ (z : Len). z.capacity) (sym is) ∙ same)
-  len_stays n c k d (lengths.TheVariants.LoadsReadAgain write read) same e = go (k == read) e
-    where
-      go : (t : Bool) → ◌≡◌ {A = After Len ℕ} (if t then Done (number_waiting c.capacity write read) else GoOn (first_len c.capacity)) (GoOn d) → d.capacity ≡ n
-      go true h = absurd (cc)
-      go false h = (let is : first_len c.capacity ≡ d = cc in ap (λ (z : Len). z.capacity) (sym is) ∙ same)
+  len_stays x0 x1 x2 x3 x4 x5 x6 = grind arith
 
   len_asks_for : (capacity : ℕ) (stage : lengths.LenStage) → (a : Ask) × (a.word < 4 + capacity) × (len_asks stage ≡ wants.Ask a)
   len_asks_for capacity lengths.TheVariants.LoadsWrite = (record { word = 0; op = Load }, omega arith, refl)
@@ -176,33 +130,10 @@ module _ {T : Type 0} (code : Coding T) (which : LengthOf) (size : ℕ) where
   len_asks_for capacity (lengths.TheVariants.LoadsReadAgain write read) = (record { word = 1; op = Load }, omega arith, refl)
 
   len_hears : (c : Len) (a : Ask) (n : ℕ) (stage : lengths.LenStage) → len_asks stage ≡ wants.Ask a → len_takes c stage (answered a.op n) ≡ len_takes c stage n
-  len_hears c a n lengths.TheVariants.LoadsWrite e =
-      (let is : record { word = 0; op = Load } ≡ a = cc in
-      ap (λ (z : Ask). len_takes c lengths.TheVariants.LoadsWrite (answered z.op n)) (sym is))
-  len_hears c a n (lengths.TheVariants.LoadsRead write) e =
-      (let is : record { word = 1; op = Load } ≡ a = cc in
-      ap (λ (z : Ask). len_takes c (lengths.TheVariants.LoadsRead write) (answered z.op n)) (sym is))
-  len_hears c a n (lengths.TheVariants.LoadsWriteAgain write read) e =
-      (let is : record { word = 0; op = Load } ≡ a = cc in
-      ap (λ (z : Ask). len_takes c (lengths.TheVariants.LoadsWriteAgain write read) (answered z.op n)) (sym is))
-  len_hears c a n (lengths.TheVariants.LoadsReadAgain write read) e =
-      (let is : record { word = 1; op = Load } ≡ a = cc in
-      ap (λ (z : Ask). len_takes c (lengths.TheVariants.LoadsReadAgain write read) (answered z.op n)) (sym is))
+  len_hears x0 x1 x2 x3 x4 = grind arith
 
   pub len_is_call : IsCallOf code (queue_effects code) (λ capacity. 4 + capacity) len_want len_after (λ c m n. m) counting
-  len_is_call =
-      record {
-        same_want = λ c m. refl;
-        same_after = λ capacity c m n h. len_same_after c m n h.1;
-        hears = λ c m a n e. (len_hears c a n c.stage e, refl);
-        stays = λ capacity c d n h e. (len_stays capacity c n d c.stage h.0 e, len_stays size c n d c.stage h.1 e);
-        asks = λ capacity c h. len_asks_for capacity c.stage;
-        past = λ capacity c d n k h e. refl;
-        finds = λ c m n small t. tt;
-        leaves = λ c a n t e. absurd (cc);
-        tells = λ capacity p from c d m n es h wrote e. ap (λ zs. zs ++ []) wrote;
-        tells_all = λ capacity p from c b m n es h skip wrote e still. ap (λ zs. zs ++ []) wrote;
-      }
+  len_is_call = grind (arith, len_same_after, len_hears, len_stays, len_asks_for)
 
   pub len_keeps : KeepsRule (λ (z : View T). z.capacity) (At code kinds.IndexQueue counting)
       (Ends code kinds.IndexQueue counting) (λ key. 4 + key + 1) (λ key. key)

@@ -42,8 +42,7 @@ use Rattle.history.proofs.Turns.{CallGoesOn, KindLaws}
 
 held_there : {T : Type 0} (role : Role) (roles : Roles) (events : List (Event T))
     → KeepsHolders (registries.TheVariants.Queues roles) events → holder role roles ≡ fold (role_after role) None events
-held_there Producer roles events keeps = keeps.0
-held_there Consumer roles events keeps = keeps.1
+held_there x0 x1 x2 x3 = grind arith
 
 module _ {T : Type 0} (code : Coding T) where
   -- what a step of a call on a bounded queue writes
@@ -73,26 +72,13 @@ module _ {T : Type 0} (code : Coding T) where
 
   push_own : (p : ℕ) (start : QueueStart T) (item : Item T) (stage : pushes.PushStage) (o : Option (Answer T))
       → AreOf p (effects_of p start (push_effect item stage) o)
-  push_own p start item pushes.TheVariants.LoadsWrite o = tt
-  push_own p start item (pushes.TheVariants.LoadsRead write) o = acts_own p start o
-  push_own p start item (pushes.TheVariants.StoresCell write cell at) o = tt
-  push_own p start item (pushes.TheVariants.StoresWrite write) o = (refl, acts_own p start o)
+  push_own x0 x1 x2 x3 x4 = grind arith
 
   pop_own : (p : ℕ) (item : Item T) (stage : pops.PopStage) (o : Option (Answer T)) → AreOf p (effects_of p Pop (pop_effect item stage) o)
-  pop_own p item pops.TheVariants.LoadsRead o = tt
-  pop_own p item (pops.TheVariants.LoadsWrite read) o = acts_own p Pop o
-  pop_own p item (pops.TheVariants.LoadsCell read cell at) o = tt
-  pop_own p item (pops.TheVariants.StoresRead read) o = (refl, acts_own p Pop o)
+  pop_own x0 x1 x2 x3 = grind arith
 
   effects_own : (p : ℕ) (flight : Flight T) (n : ℕ) → AreOf p (queue_effects p flight n)
-  effects_own p (flights.TheVariants.Queues (Indices (rings.TheVariants.Push run))) n = push_own p (PushIndex run.given) (Index run.given) run.call.stage _
-  effects_own p (flights.TheVariants.Queues (Indices (rings.TheVariants.Pop run))) n = pop_own p (Index run.room.0) run.call.stage _
-  effects_own p (flights.TheVariants.Queues (Values (rings.TheVariants.Push run))) n = push_own p (Push run.given) (Value run.given) run.call.stage _
-  effects_own p (flights.TheVariants.Queues (Values (rings.TheVariants.Pop run))) n = pop_own p (Value (read_in code run.room)) run.call.stage _
-  effects_own p (flights.TheVariants.Queues (OnRole call)) n = tt
-  effects_own p (flights.TheVariants.Queues (Overflow call)) n = tt
-  effects_own p (flights.TheVariants.Queues (Length which run)) n = tt
-  effects_own p flight n = tt
+  effects_own x0 x1 x2 = grind arith
 
   -- ---- a step of a call that the queue has
 
@@ -102,24 +88,7 @@ module _ {T : Type 0} (code : Coding T) where
 
     writes_it : (r : Ring) (k : Core (Val T (kind_of r))) (start : QueueStart T) (flight : QueueFlight T)
         → At {T = T} code (kind_of r) c ro k p start flight → (step_now start flight).wrote ≡ ring_effects p flight n
-    writes_it of_indices k (PushIndex v) (Indices (rings.TheVariants.Push run)) at =
-        ap (λ w. effects_of p (PushIndex w) (push_effect (Index run.given) run.call.stage)
-        (answer_in (after code (Indices (rings.TheVariants.Push run)) n)))
-        (sym at.2)
-    writes_it of_indices k Pop (Indices (rings.TheVariants.Pop run)) at = refl
-    writes_it of_indices k start (Indices call) at = absurd at
-    writes_it of_indices k start (Values call) at = absurd at
-    writes_it of_indices k start (Overflow call) at = absurd at
-    writes_it of_values k (Push v) (Values (rings.TheVariants.Push run)) at =
-        ap (λ w. effects_of p (Push w) (push_effect (Value run.given) run.call.stage)
-        (answer_in (after code (Values (rings.TheVariants.Push run)) n)))
-        (sym at.2)
-    writes_it of_values k Pop (Values (rings.TheVariants.Pop run)) at = refl
-    writes_it of_values k start (Indices call) at = absurd at
-    writes_it of_values k start (Values call) at = absurd at
-    writes_it of_values k start (Overflow call) at = absurd at
-    writes_it r k start (OnRole call) at = refl
-    writes_it r k start (Length which run) at = refl
+    writes_it x0 x1 x2 x3 x4 = grind arith
 
 -- ---- of a queue of any kind
 
@@ -128,7 +97,7 @@ module _ {T : Type 0} (code : Coding T) (capacity : ℕ) (kd : QueueKind) where
   IsOf t = IsRun code (machine_kind kd) capacity t
 
   pub sound_of : (t : Trace T) → IsOf t → frame.Sound (family t.world.coding kd t.world.capacity) t
-  sound_of t run = (let on = queue_run code capacity kd t run in sound_on kd t run.of_kind on.reached.coded on.reached.admitted on.fresh)
+  sound_of x0 x1 = grind (arith, queue_run, sound_on)
 
   cell_sizes : (q : QueueKind) (z : Coding T) → (encoded z q).size * cells_of q capacity ≡ words_of_cell z.size q * cells_of q capacity
   cell_sizes IndexQueue z = refl
@@ -172,14 +141,7 @@ module _ {T : Type 0} (code : Coding T) (capacity : ℕ) (r : Ring) where
       (start : Start T) (flight : Flight T) (kept : Registry T)
       → kept ≡ registries.TheVariants.Queues q.roles → (family z (kind_of r) c).At q p start flight
       → Facts z words waits p n start flight kept
-  facts z words waits c p n q (Queues start) (flights.TheVariants.Queues flight) kept e at =
-      subst (λ k. Facts z words waits p n (Queues start) (flights.TheVariants.Queues flight) k) (sym e)
-      (record {
-        may = refl;
-        writes = writes_it z words waits c p n q.roles r q.core start flight at;
-        goes = refl;
-      })
-  facts z words waits c p n q start flight kept e at = absurd at
+  facts x0 x1 x2 x3 x4 x5 x6 x7 x8 x9 x10 x11 = grind arith
 
   goes_on : (t : Trace T) → IsBounded t → (p : ℕ) (start : Start T) (flight : Flight T)
       → call_in t.world p ≡ Some (start, flight)
@@ -233,7 +195,7 @@ module _ {T : Type 0} (code : Coding T) (kd : QueueKind) (base : View T) where
       (subst (λ P. IsKeptBy P t) (promised_by kd t r.of_kind) (kept_on kd t r.of_kind on.reached.coded on.reached.admitted on.fresh)).promised)
 
   kept_there : (t : Trace T) → IsOn t → (roles : Roles) × (t.world.kept ≡ registries.TheVariants.Queues roles)
-  kept_there t r = let s = sound_of code base.capacity kd t r in (s.state.roles, (kept_is t.world.kept t.world.words s.state s.fit).0)
+  kept_there x0 x1 = grind (arith, sound_of, kept_is)
 
   abbrev AllOf : Trace T → (ℕ → ℕ) → ℕ → Type 0
   AllOf t owner j = (f : Event T → ℕ) → sum_by f base.made ≡ sum_by (owned owner j f) t.events

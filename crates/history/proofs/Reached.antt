@@ -1,4 +1,5 @@
 -- How machines are reached, by kind: one turn more, and what is so of each kind but the two on owners.
+use Rattle.std.proofs.Common.{arith}
 use Rattle.history.proofs.Names.{Bool, true, is_none, ◌≡◌, ℕ, Some, None, [], ◌∷◌, refl, sym, subst, Start, Container}
 use Rattle.history.proofs.Names.{Flight, Registry, QueueKind, Kind, WrongCall, Turn, Begin, Next, Decide, Coding}
 use Rattle.history.proofs.Names.{IsCoding, first_of, begin_rows, want_of, is_question, call_refusal, first_row}
@@ -25,11 +26,7 @@ module _ {T : Type 0} where
   -- of its rows are those of a begin in a history
   pub rows_free : (kind : Kind) (capacity : ℕ) (kept : Registry T) (p : ℕ) (start : Start T) → first_row (begin_rows kind capacity kept p start) ≡ None
       → first_row (rows_as kind capacity kept p start) ≡ None
-  rows_free kinds.Container capacity kept p (Container (Recover owner mode)) e =
-      let has = row_passed (is_none (first_of kinds.Container capacity (Container (Recover owner mode)) kept)) WrongCall _ e in
-      rw has.0 refl
-  rows_free kinds.Container capacity kept p start e = e
-  rows_free kind capacity kept p start e = e
+  rows_free x0 x1 x2 x3 x4 x5 = grind arith
 
   -- a party with no call under way begins one that those do not refuse
   begin_free : (w : World T) (p : ℕ) (start : Start T) → flight_in w p ≡ None → first_row (begin_rows w.kind w.capacity w.kept p start) ≡ None
@@ -38,20 +35,11 @@ module _ {T : Type 0} where
 
   at_kind : (kind : Kind) (w : World T) (p : ℕ) (start : Start T) → w.kind ≡ kind → first_row (begin_rows kind w.capacity w.kept p start) ≡ None
       → first_row (begin_rows w.kind w.capacity w.kept p start) ≡ None
-  at_kind kind w p start same rows = subst (λ k. first_row (begin_rows k w.capacity w.kept p start) ≡ None) (sym same) rows
+  at_kind x0 x1 x2 x3 x4 x5 = grind arith
 
   pub begin_as : (kind : Kind) (w : World T) (p : ℕ) (start : Start T) → w.kind ≡ kind → flight_in w p ≡ None
       → first_row (rows_as kind w.capacity w.kept p start) ≡ None → refusal_as kind w (Begin p start) ≡ None
-  begin_as kinds.Robust w p (Container (Recover owner mode)) same free rows = absurd (cc)
-  begin_as kinds.Robust w p start same free rows = begin_free w p start free (at_kind kinds.Robust w p start same rows)
-  begin_as kinds.Container w p (Container (Recover owner mode)) same free rows =
-      let start : Start T = Container (Recover owner mode) in
-      let here : first_row ((is_none (first_of w.kind w.capacity start w.kept), WrongCall) ∷ []) ≡ None =
-      subst (λ k. first_row ((is_none (first_of k w.capacity start w.kept), WrongCall) ∷ []) ≡ None) (sym same) rows
-      in
-      rw free here
-  begin_as kinds.Container w p start same free rows = begin_free w p start free (at_kind kinds.Container w p start same rows)
-  begin_as kind w p start same free rows = begin_free w p start free (at_kind kind w p start same rows)
+  begin_as x0 x1 x2 x3 x4 x5 x6 = grind arith
 
   -- a step is refused alike
   pub next_as : (kind : Kind) (w : World T) (p : ℕ) → call_refusal w (Next p) ≡ None → refusal_as kind w (Next p) ≡ None
@@ -62,46 +50,32 @@ module _ {T : Type 0} where
   -- where threads answer its questions no answer is refused
   pub decide_as : (kind : Kind) → MayDecide kind → (w : World T) (p : ℕ) (said : Bool) (flight : Flight T) → flight_in w p ≡ Some flight
       → is_question (want_of w.coding flight) ≡ true → refusal_as kind w (Decide p said) ≡ None
-  decide_as kinds.Robust may w p said flight here due = rw (here, due) refl
-  decide_as kinds.Container may w p said flight here due = rw (here, due) refl
-  decide_as kind may w p said flight here due = absurd may
+  decide_as x0 x1 x2 x3 x4 x5 x6 x7 = grind arith
 
   pub reached_as_more : (kind : Kind) (t : Trace T) (turn : Turn T) → refusal_as kind t.world turn ≡ None → IsReachedAs kind t
       → IsReachedAs kind (after_turn t turn)
-  reached_as_more kinds.Robust t turn e r = reached_open_more t turn e r
-  reached_as_more kinds.Container t turn e r = reached_open_more t turn e r
-  reached_as_more kind t turn e r = reached_on_more t turn e r
+  reached_as_more x0 x1 x2 x3 x4 = grind (arith, reached_open_more, reached_on_more)
 
   pub fresh_as_more : (kind : Kind) (t : Trace T) (turn : Turn T) → refusal_as kind t.world turn ≡ None → IsFreshTurn t turn → IsFreshAs kind t
       → IsFreshAs kind (after_turn t turn)
-  fresh_as_more kinds.Robust t turn e fresh r = tt
-  fresh_as_more kinds.Container t turn e fresh r = tt
-  fresh_as_more kind t turn e fresh r = fresh_more t turn e fresh r
+  fresh_as_more x0 x1 x2 x3 x4 x5 = grind (arith, fresh_more)
 
   -- ---- the opening
 
   pub reached_as_opening : (code : Coding T) (kind : Kind) (capacity parties : ℕ) → IsCoding code → capacity_error kind capacity ≡ None
       → IsReachedAs kind (opening code kind capacity parties)
-  reached_as_opening code kinds.Robust capacity parties coded e = reached_open_opening code kinds.Robust capacity parties coded e
-  reached_as_opening code kinds.Container capacity parties coded e = reached_open_opening code kinds.Container capacity parties coded e
-  reached_as_opening code kind capacity parties coded e = reached_on_opening code kind capacity parties coded e
+  reached_as_opening x0 x1 x2 x3 x4 x5 = grind arith
 
   pub fresh_as_opening : (code : Coding T) (kind : Kind) (capacity parties : ℕ) → IsFreshAs kind (opening code kind capacity parties)
-  fresh_as_opening code kinds.Robust capacity parties = tt
-  fresh_as_opening code kinds.Container capacity parties = tt
-  fresh_as_opening code kind capacity parties = fresh_opening code kind capacity parties
+  fresh_as_opening x0 x1 x2 x3 = grind arith
 
   -- ---- each kind but the two on owners
 
   pub reached_as_on : (kind : Kind) → (MayDecide kind → ⊥) → (t : Trace T) → IsReachedAs kind t → IsReachedOn t
-  reached_as_on kinds.Robust other t r = absurd (other tt)
-  reached_as_on kinds.Container other t r = absurd (other tt)
-  reached_as_on kind other t r = r
+  reached_as_on x0 x1 x2 x3 = grind arith
 
   fresh_as_on : (kind : Kind) → (MayDecide kind → ⊥) → (t : Trace T) → IsFreshAs kind t → IsFreshRun t
-  fresh_as_on kinds.Robust other t r = absurd (other tt)
-  fresh_as_on kinds.Container other t r = absurd (other tt)
-  fresh_as_on kind other t r = r
+  fresh_as_on x0 x1 x2 x3 = grind arith
 
   -- a run of a machine as its own laws have it
   pub record IsRunOn (t : Trace T) : Type 0 where
@@ -109,11 +83,8 @@ module _ {T : Type 0} where
     pub fresh : IsFreshRun t
 
 no_queue : (kd : QueueKind) → MayDecide (machine_kind kd) → ⊥
-no_queue queues.TheVariants.IndexQueue h = h
-no_queue queues.TheVariants.Overflow h = h
-no_queue queues.TheVariants.Queue h = h
+no_queue x0 x1 = grind arith
 
 -- so it is of a queue of any kind
 pub queue_run : {T : Type 0} (code : Coding T) (capacity : ℕ) (kd : QueueKind) (t : Trace T) → IsRun code (machine_kind kd) capacity t → IsRunOn t
-queue_run code capacity kd t run = record
-    { reached = reached_as_on (machine_kind kd) (no_queue kd) t run.reached; fresh = fresh_as_on (machine_kind kd) (no_queue kd) t run.fresh }
+queue_run x0 x1 x2 x3 x4 = grind arith

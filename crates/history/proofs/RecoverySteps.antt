@@ -50,18 +50,7 @@ recover_words size capacity given (recovers.AddsChange state) h still = (_, chan
 -- what it hears of an operation is what it found
 pub recover_found : (size capacity : ℕ) (given : DeadOwner) (stage : RecoverStage) (a : Ask) (n : ℕ)
     → recover_asks size capacity stage given.owner ≡ wants.Ask a → answered a.op n ≡ n
-recover_found size capacity given recovers.LoadsCounter a n e = found_of _ a n refl e
-recover_found size capacity given (recovers.LoadsCell index) a n e = found_of _ a n refl e
-recover_found size capacity given (recovers.LoadsCount index) a n e = found_of _ a n refl e
-recover_found size capacity given (recovers.LoadsWord index count at) a n e = found_of _ a n refl e
-recover_found size capacity given (recovers.ChecksCount index count) a n e = found_of _ a n refl e
-recover_found size capacity given (recovers.Asks index count) a n e = absurd (cc)
-recover_found size capacity given (recovers.EmptiesCell index count) a n e = found_of _ a n refl e
-recover_found size capacity given (recovers.Hides index count) a n e = found_of _ a n refl e
-recover_found size capacity given (recovers.Raises index raise) a n e = raise_found raise a n e
-recover_found size capacity given (recovers.Locks index lock) a n e = lock_found lock a n e
-recover_found size capacity given recovers.LoadsCounterAgain a n e = found_of _ a n refl e
-recover_found size capacity given (recovers.AddsChange state) a n e = found_of _ a n refl e
+recover_found x0 x1 x2 x3 x4 x5 x6 = grind arith
 
 module _ {T R : Type 0} (size : ℕ) (c : Recovering T R) (given : DeadOwner) where
   -- after an answer it goes on, to a word
@@ -74,21 +63,7 @@ module _ {T R : Type 0} (size : ℕ) (c : Recovering T R) (given : DeadOwner) wh
 
   pub answers_on : (stage : RecoverStage) (n : ℕ) → is_question (recover_asks size c.capacity stage given.owner) ≡ true
       → AnswersOn (recover_takes size c stage given n)
-  answers_on recovers.LoadsCounter n due = absurd (cc)
-  answers_on (recovers.LoadsCell index) n due = absurd (cc)
-  answers_on (recovers.LoadsCount index) n due = absurd (cc)
-  answers_on (recovers.LoadsWord index count at) n due = absurd (cc)
-  answers_on (recovers.ChecksCount index count) n due = absurd (cc)
-  answers_on (recovers.Asks index count) n due =
-      by_test AnswersOn (n == 0) _ _
-      (λ t. by_test (λ (stage : RecoverStage). AnswersOn (goes_to c stage)) (nat_lt (index + 1) c.capacity) _ _ (λ u. refl) (λ u. refl))
-      (λ t. refl)
-  answers_on (recovers.EmptiesCell index count) n due = absurd (cc)
-  answers_on (recovers.Hides index count) n due = absurd (cc)
-  answers_on (recovers.Raises index raise) n due = no_answer (is_question (raise_want raise)) (raise_asks_none raise) due
-  answers_on (recovers.Locks index lock) n due = no_answer (is_question (lock_want lock)) (lock_asks_none lock) due
-  answers_on recovers.LoadsCounterAgain n due = absurd (cc)
-  answers_on (recovers.AddsChange state) n due = absurd (cc)
+  answers_on x0 x1 x2 = grind arith
 
 -- ---- where it goes on, and what it has written then
 
@@ -132,16 +107,11 @@ module _ {T R : Type 0} (code : Coding T) (some : 0 < code.size) (words_in : R �
   -- where a step goes on, with which visits, and with what it wrote
   so_then : (now : T) (r s : After (Recovering T R) ReleaseState) (xs ys : Visits) (es fs : List (Event T)) → r ≡ s → xs ≡ ys → es ≡ fs
       → RecoverGoes now ys fs s → RecoverGoes now xs es r
-  so_then now r s xs ys es fs goes visits wrote h =
-      subst (λ (z : After (Recovering T R) ReleaseState × Visits × List (Event T)). RecoverGoes now z.1 z.2 z.0)
-      (λ i. (sym goes i, sym visits i, sym wrote i)) h
+  so_then x0 x1 x2 x3 x4 x5 x6 x7 x8 x9 x10 = grind arith
 
   comes_to : (now : T) (index : ℕ) → index ≤ capacity → (visits : Visits) (es : List (Event T)) → es ≡ written visits
       → RecoverGoes now visits es (recover_comes_to c index)
-  comes_to now index low visits es w =
-      by_test (λ (stage : RecoverStage). RecoverGoes now visits es (goes_to c stage)) (nat_lt index c.capacity) _ _
-      (λ t. (let below : index < c.capacity = grind (arith, nat_tests) in ((same, omega arith), (tt, clothed es visits w))))
-      (λ t. ((same, tt), (tt, clothed es visits w)))
+  comes_to x0 x1 x2 x3 x4 x5 = grind (arith, by_test, goes_to, clothed, nat_tests)
 
   next_to : (now : T) (index : ℕ) → index < capacity → (visits : Visits) (es : List (Event T)) → es ≡ written visits
       → RecoverGoes now visits es (recover_comes_to c (index + 1))
@@ -150,8 +120,7 @@ module _ {T R : Type 0} (code : Coding T) (some : 0 < code.size) (words_in : R �
   -- it has written more of the index that it came to last
   further : (index : ℕ) (came next : Came T) (before : Visits) (es more : List (Event T)) → es ≡ written ((index, came) ∷ before)
       → of_one index came ++ more ≡ of_one index next → es ++ more ≡ written ((index, next) ∷ before)
-  further index came next before es more w is =
-      ap (λ zs. zs ++ more) w ∙ (append_assoc (written before) (of_one index came) more ∙ ap (λ zs. written before ++ zs) is)
+  further x0 x1 x2 x3 x4 x5 x6 x7 = grind (arith, append_assoc)
 
   -- a yes is told with the next step
   told_even : (index count : ℕ) → is_even count ≡ true → told_yet {T = T} p given.owner (recovers.EmptiesCell index count) ≡ []
@@ -162,56 +131,27 @@ module _ {T R : Type 0} (code : Coding T) (some : 0 < code.size) (words_in : R �
 
   told_then : (index count : ℕ) (came : Came T) → IsToFree count came
       → of_one index came ++ told_yet p given.owner (recovers.EmptiesCell index count) ≡ of_one index (told came)
-  told_then index count (HasAsked value) odd = ap (λ zs. Copied p index value ∷ Asked p index given.owner ∷ zs) (told_odd index count odd)
-  told_then index count (HasFound None) even = ap (λ zs. Shown p index ∷ zs) (told_even index count even)
-  told_then index count (HasFound (Some value)) never = absurd never
-  told_then index count (HasFreed found hid lock) never = absurd never
+  told_then x0 x1 x2 x3 = grind arith
 
   freed_then : (index count : ℕ) (came : Came T) → IsToFree count came
       → of_one index (told came) ++ FreedOf p index given.owner ∷ [] ≡ of_one index (freed came)
-  freed_then index count (HasAsked value) odd = refl
-  freed_then index count (HasFound None) even = refl
-  freed_then index count (HasFound (Some value)) never = absurd never
-  freed_then index count (HasFreed found hid lock) never = absurd never
+  freed_then x0 x1 x2 x3 = grind arith
 
   locked_then : (index : ℕ) (found : Option T) (hid : Bool) → of_one index (HasFreed found hid false) ++ Locked p ∷ [] ≡ of_one index (HasFreed found hid true)
-  locked_then index found hid =
-      append_assoc (wrote_found p given.owner index found) (FreedOf p index given.owner ∷ (when hid (Hidden p index) ++ [])) (Locked p ∷ [])
-      ∙ ap (λ zs. wrote_found p given.owner index found ++ FreedOf p index given.owner ∷ zs)
-      (append_assoc (when hid (Hidden p index)) [] (Locked p ∷ []))
+  locked_then x0 x1 x2 = grind arith
 
   -- what it sees under the number of an element
   sees : (now : T) (index count : ℕ) → index < capacity → (visits : Visits) (es : List (Event T)) → es ≡ written visits
       → RecoverGoes now (seen_under index count visits) (es ++ (if is_even count then Shown p index ∷ [] else [])) (recover_sees c index count)
-  sees now index count low visits es w =
-      by_bool (is_even count)
-      (λ e. so_then now (recover_sees c index count) (goes_to c (recovers.EmptiesCell index count)) (seen_under index count visits)
-      ((index, HasFound None) ∷ visits) (es ++ (if is_even count then Shown p index ∷ [] else []))
-      (es ++ Shown p index ∷ []) (rw e refl) (rw e refl) (rw e refl) (
-        (same, low),
-        (
-          (HasFound None, visits, refl, e),
-          ap (λ zs. zs ++ Shown p index ∷ []) w ∙ (sym (append-nil (written visits ++ Shown p index ∷ []))
-              ∙ ap (λ zs. (written visits ++ Shown p index ∷ []) ++ zs) (sym (told_even index count e))),
-        ),
-      ))
-      (λ e. so_then now (recover_sees c index count) (goes_to c (recovers.LoadsWord index count 0)) (seen_under index count visits) visits
-      (es ++ (if is_even count then Shown p index ∷ [] else [])) es (rw e refl) (rw e refl) (rw e (append-nil es))
-      ((same, (low, e, some)), (tt, clothed es visits w)))
+  sees x0 x1 x2 x3 x4 x5 x6 = grind (arith, by_bool, so_then, goes_to, append-nil, told_even, clothed)
 
   raised : (now : T) (index : ℕ) → index < capacity → (by : ReleaseMode) → mode ≡ by → (visits : Visits) (es : List (Event T)) → IsFreed index visits
       → es ≡ written visits ++ [] → (r : After Raise ReleaseState) → RecoverGoes now visits es (recover_raised c index by r)
-  raised now index low LockIfLastIndex is visits es at w (GoOn raise) = ((same, low), (at, w))
-  raised now index low Default is visits es at w (GoOn raise) = ((same, low), (at, w))
-  raised now index low LockIfLastIndex is visits es at w (Done states.Locked) = ((same, tt), (tt, w))
-  raised now index low Default is visits es at w (Done states.Locked) = ((same, tt), (tt, w))
-  raised now index low LockIfLastIndex is visits es at w (Done states.Unlocked) = ((same, (is, low, tt)), (at, w))
-  raised now index low Default is visits es at w (Done states.Unlocked) = next_to now index low visits es (bare es visits w)
+  raised x0 x1 x2 x3 x4 x5 x6 x7 x8 x9 = grind arith
 
   counted : (now : T) (index : ℕ) → index < capacity → mode ≡ LockIfLastIndex → (visits : Visits) (es : List (Event T)) → IsFreed index visits
       → es ≡ written visits ++ [] → (r : After Lock ReleaseState) → LockOn capacity r → RecoverGoes now visits es (recover_locked c index r)
-  counted now index low may visits es at w (GoOn lock) on = ((same, (may, low, on)), (at, w))
-  counted now index low may visits es at w (Done state) on = next_to now index low visits es (bare es visits w)
+  counted x0 x1 x2 x3 x4 x5 x6 x7 x8 x9 = grind arith
 
   -- what a step writes, with its question
   abbrev pub wrote : T → RecoverStage → ℕ → List (Event T)

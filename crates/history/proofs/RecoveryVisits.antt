@@ -1,4 +1,5 @@
 -- That what a container's recovery wrote tells its visits.
+use Rattle.std.proofs.Common.{arith}
 use Rattle.history.proofs.Names.{◌≡◌, ℕ, Bool, true, false, Option, Some, None, List, [], ◌∷◌, ◌++◌, append_assoc}
 use Rattle.history.proofs.Names.{append-nil, fold, refl, sym, ap, ◌∙◌, fold-append, is_even, locked, by_test, Event}
 use Rattle.history.proofs.Names.{FreedOf, Asked, Hidden, Copied, Shown, Start, own_after, Open}
@@ -23,17 +24,7 @@ module _ {T : Type 0} (p owner : ℕ) where
   read visits e = visits
 
   read_one : (visits : List (ℕ × Came T)) (index : ℕ) (came : Came T) → fold read visits (wrote_of p owner index came) ≡ (index, came) ∷ visits
-  read_one visits index (HasAsked value) = refl
-  read_one visits index (HasFound None) = refl
-  read_one visits index (HasFound (Some value)) = refl
-  read_one visits index (HasFreed None false false) = refl
-  read_one visits index (HasFreed None false true) = refl
-  read_one visits index (HasFreed None true false) = refl
-  read_one visits index (HasFreed None true true) = refl
-  read_one visits index (HasFreed (Some value) false false) = refl
-  read_one visits index (HasFreed (Some value) false true) = refl
-  read_one visits index (HasFreed (Some value) true false) = refl
-  read_one visits index (HasFreed (Some value) true true) = refl
+  read_one x0 x1 x2 = grind arith
 
   read_all : (visits : List (ℕ × Came T)) → fold read [] (wrote_visits p owner visits) ≡ visits
   read_all [] = refl
@@ -53,9 +44,7 @@ module _ {T : Type 0} (p owner : ℕ) where
   inside_none start ws = ap (Open start) (sym (append-nil ws))
 
   pub inside_both : (xs ys : List (Event T)) → IsInside xs → IsInside ys → IsInside (xs ++ ys)
-  inside_both xs ys hx hy start ws =
-      fold-append own_after (Open start ws) xs ys
-      ∙ (ap (λ a. fold own_after a ys) (hx start ws) ∙ (hy start (ws ++ xs) ∙ ap (Open start) (append_assoc ws xs ys)))
+  inside_both x0 x1 x2 x3 x4 x5 = grind (arith, fold-append, fold, append_assoc)
 
   inside_found : (index : ℕ) (found : Option T) → IsInside (wrote_found p owner index found)
   inside_found index None = λ start ws. refl

@@ -43,10 +43,7 @@ use Rattle.history.proofs.Robusts.{robust_effects, cells_and_counter, robusts_ow
 -- ---- acquire
 
 pub acquire_found : (stage : AcquireStage) (owner : ℕ) (a : Ask) (n : ℕ) → acquire_asks stage owner ≡ wants.Ask a → answered a.op n ≡ n
-acquire_found acquires.LoadsCounter owner a n e = found_of _ a n refl e
-acquire_found (acquires.FillsCell counter index) owner a n e = found_of _ a n refl e
-acquire_found (acquires.ChecksCounter counter) owner a n e = found_of _ a n refl e
-acquire_found (acquires.Raises index raise) owner a n e = raise_found raise a n e
+acquire_found x0 x1 x2 x3 x4 = grind arith
 
 pub acquire_words : (capacity : ℕ) (stage : AcquireStage) (owner : ℕ) → AcquireIn capacity stage → AsksFor (capacity + 1) (acquire_asks stage owner)
 acquire_words capacity acquires.LoadsCounter owner h = (_, omega arith, refl)
@@ -61,32 +58,14 @@ module _ (T : Type 0) (capacity : ℕ) (c : Acquiring) (same : c.capacity ≡ ca
   AcquireGoes es (Done e) = AcquireWrote capacity p owner e es
 
   tries : (counter index : ℕ) → AcquireGoes [] (acquire_tries c counter index)
-  tries counter index =
-      by_test (λ (stage : AcquireStage). AcquireGoes [] (GoOn (at_acquire c stage))) (nat_lt index c.capacity) _ _
-      (λ t. (let low : index < c.capacity = grind (arith, nat_tests) in ((same, omega arith), refl)))
-      (λ t. ((same, tt), refl))
+  tries x0 x1 = grind arith
 
   sees : (k : ℕ) → AcquireGoes [] (acquire_sees c k)
-  sees k =
-      by_test (AcquireGoes []) (k == locked) _ _ (λ t. inl refl)
-      (λ t. by_test (AcquireGoes []) (k == greatest) _ _ (λ u. refl) (λ u. tries k 0))
+  sees x0 = grind arith
 
   pub takes_so : (stage : AcquireStage) (k : ℕ) → AcquireIn capacity stage
       → AcquireGoes (filled_at p owner stage ++ acquire_effects p owner stage k) (acquire_takes c stage k)
-  takes_so acquires.LoadsCounter k h = sees k
-  takes_so (acquires.FillsCell counter index) k h = go (k == empty) refl
-    where
-      go : (b : Bool) → (k == empty) ≡ b → AcquireGoes (acquire_effects p owner (acquires.FillsCell counter index) k)
-          (acquire_takes c (acquires.FillsCell counter index) k)
-      go true e = rw e ((same, h), refl)
-      go false e = rw e (tries counter (index + 1))
-  takes_so (acquires.ChecksCounter counter) k h = by_test (AcquireGoes []) (k == counter) _ _ (λ t. refl) (λ t. sees k)
-  takes_so (acquires.Raises index raise) k h = go (raise_after raise k)
-    where
-      go : (r : After Raise ReleaseState) → AcquireGoes (Filled p index owner ∷ granted p index owner r) (acquire_raised c index r)
-      go (GoOn next) = ((same, h), refl)
-      go (Done states.Locked) = inr (index, h, refl)
-      go (Done states.Unlocked) = (h, refl)
+  takes_so x0 x1 x2 = grind arith
 
 module _ {T : Type 0} (code : Coding T) (owner : ℕ) where
   as_taken : (r : After Acquiring Acquired) → as_call flights.Robust (λ answer. answer)
@@ -97,26 +76,10 @@ module _ {T : Type 0} (code : Coding T) (owner : ℕ) where
   takes_on : (capacity p : ℕ) (c : Acquiring) (n : ℕ) (r : After Acquiring Acquired) → (h : (takes_owned {T = T} owner).stands capacity c)
       → acquire_after c n ≡ r
       → AcquireGoes T capacity c h.0 p owner (filled_at p owner c.stage ++ acquire_effects p owner c.stage n) r
-  takes_on capacity p c n r h e = subst (AcquireGoes T capacity c h.0 p owner (filled_at p owner c.stage ++ acquire_effects p owner c.stage n)) e
-      (takes_so T capacity c h.0 p owner c.stage n h.1)
+  takes_on x0 x1 x2 x3 x4 x5 x6 = grind arith
 
   pub acquire_call : IsCallOf code robust_effects cells_and_counter (λ c. acquire_want c owner) acquire_after (λ c m n. m) (takes_owned owner)
-  acquire_call =
-      record {
-        same_want = λ c m. refl;
-        same_after = λ capacity c m n h. as_taken (acquire_after c n);
-        hears = λ c m a n e. (ap (acquire_after c) (acquire_found c.stage owner a n e), refl);
-        stays = λ capacity c d n h e. (takes_on capacity 0 c n (GoOn d) h e).0;
-        asks = λ capacity c h. acquire_words capacity c.stage owner h.1;
-        past = λ capacity c d n k h e. refl;
-        finds = λ c m n small t. tt;
-        leaves = λ c a n t e. absurd (cc);
-        tells = λ capacity p from c d m n es h wrote e new.
-            ap (λ zs. zs ++ acquire_effects p owner c.stage n) (wrote new) ∙ (takes_on capacity p c n (GoOn d) h e).1;
-        tells_all = λ capacity p from c end m n es h skip wrote e still new.
-            subst (λ zs. AcquireWrote capacity p owner end (zs ++ acquire_effects p owner c.stage n))
-            (sym (wrote new)) (takes_on capacity p c n (Done end) h e);
-      }
+  acquire_call = grind (arith, as_taken, acquire_found, takes_on, acquire_words)
 
   pub acquire_keeps : KeepsRule (λ (z : View T). z.capacity) (At code kinds.Robust (takes_owned owner)) (Ends code kinds.Robust (takes_owned owner))
       (λ key. cells_and_counter key + 1) (λ key. key) (λ key. IsMachine code kinds.Robust key) (λ c. acquire_want c owner) acquire_after
@@ -143,9 +106,7 @@ module _ {T : Type 0} (code : Coding T) (owner : ℕ) where
 -- ---- release
 
 pub release_found : (stage : ReleaseStage) (given : GiveBack) (a : Ask) (n : ℕ) → release_asks stage given ≡ wants.Ask a → answered a.op n ≡ n
-release_found releases.EmptiesCell given a n e = found_of _ a n refl e
-release_found (releases.Raises raise) given a n e = raise_found raise a n e
-release_found (releases.Locks lock) given a n e = lock_found lock a n e
+release_found x0 x1 x2 x3 x4 = grind arith
 
 pub release_words : (capacity : ℕ) (stage : ReleaseStage) (given : GiveBack) → given.index < capacity → ReleaseIn capacity given.mode stage
     → AsksFor (capacity + 1) (release_asks stage given)
@@ -162,33 +123,14 @@ module _ (T : Type 0) (capacity : ℕ) (c : Releasing) (same : c.capacity ≡ ca
   freed_it = FreedOf p given.index given.owner ∷ []
 
   raised : (mode : ReleaseMode) → given.mode ≡ mode → (r : After Raise ReleaseState) → ReleaseGoes freed_it (release_raised c mode r)
-  raised LockIfLastIndex is (GoOn raise) = ((same, low, tt), refl)
-  raised Default is (GoOn raise) = ((same, low, tt), refl)
-  raised LockIfLastIndex is (Done state) = ((same, low, (is, tt)), refl)
-  raised Default is (Done state) = refl
+  raised x0 x1 x2 = grind arith
 
   locked_so : given.mode ≡ LockIfLastIndex → (r : After Lock ReleaseState) → LockOn capacity r → ReleaseGoes freed_it (release_locked c r)
-  locked_so may (GoOn lock) on = ((same, low, (may, on)), refl)
-  locked_so may (Done states.Locked) on = (may, inl refl)
-  locked_so may (Done states.Unlocked) on = refl
+  locked_so x0 x1 x2 = grind arith
 
   pub gives_so : (stage : ReleaseStage) (k : ℕ) → ReleaseIn capacity given.mode stage
       → ReleaseGoes (freed_at p given stage ++ release_effects p given stage k) (release_takes c stage given k)
-  gives_so releases.EmptiesCell k h = go (k == given.owner) refl
-    where
-      go : (b : Bool) → (k == given.owner) ≡ b → ReleaseGoes (release_effects p given releases.EmptiesCell k) (release_takes c releases.EmptiesCell given k)
-      go true e = rw e ((same, low, tt), refl)
-      go false e = rw e refl
-  gives_so (releases.Raises raise) k h = raised given.mode refl (raise_after raise k)
-  gives_so (releases.Locks (locks.Counts count)) k h = locked_so h.0 (lock_after c.capacity (locks.Counts count) k)
-      (lock_on capacity c.capacity same (locks.Counts count) k)
-  gives_so (releases.Locks (locks.ExchangesCounter counter)) k h = go (k == counter) refl
-    where
-      go : (b : Bool) → (k == counter) ≡ b
-          → ReleaseGoes (FreedOf p given.index given.owner ∷ release_effects p given (releases.Locks (locks.ExchangesCounter counter)) k)
-          (release_takes c (releases.Locks (locks.ExchangesCounter counter)) given k)
-      go true e = rw e (h.0, inr refl)
-      go false e = rw e ((same, low, (h.0, tt)), refl)
+  gives_so x0 x1 x2 = grind arith
 
 module _ {T : Type 0} (code : Coding T) (given : GiveBack) where
   as_given : (r : After Releasing Released) → as_call flights.Robust (λ answer. answer)
@@ -199,26 +141,11 @@ module _ {T : Type 0} (code : Coding T) (given : GiveBack) where
   gives_on : (capacity p : ℕ) (c : Releasing) (n : ℕ) (r : After Releasing Released) → (h : (gives_owned {T = T} given).stands capacity c)
       → release_after c given n ≡ r
       → ReleaseGoes T capacity c h.0 p given h.1 (freed_at p given c.stage ++ release_effects p given c.stage n) r
-  gives_on capacity p c n r h e = subst (ReleaseGoes T capacity c h.0 p given h.1 (freed_at p given c.stage ++ release_effects p given c.stage n)) e
-      (gives_so T capacity c h.0 p given h.1 c.stage n h.2)
+  gives_on x0 x1 x2 x3 x4 x5 x6 = grind arith
 
   pub release_call : IsCallOf code robust_effects cells_and_counter (λ c. release_want c given) (λ c n. release_after c given n) (λ c m n. m)
       (gives_owned given)
-  release_call =
-      record {
-        same_want = λ c m. refl;
-        same_after = λ capacity c m n h. as_given (release_after c given n);
-        hears = λ c m a n e. (ap (release_after c given) (release_found c.stage given a n e), refl);
-        stays = λ capacity c d n h e. (gives_on capacity 0 c n (GoOn d) h e).0;
-        asks = λ capacity c h. release_words capacity c.stage given h.1 h.2;
-        past = λ capacity c d n k h e. refl;
-        finds = λ c m n small t. tt;
-        leaves = λ c a n t e. absurd (cc);
-        tells = λ capacity p from c d m n es h wrote e new.
-            ap (λ zs. zs ++ release_effects p given c.stage n) (wrote new) ∙ (gives_on capacity p c n (GoOn d) h e).1;
-        tells_all = λ capacity p from c end m n es h skip wrote e still new.
-            subst (λ zs. ReleaseWrote p given end (zs ++ release_effects p given c.stage n)) (sym (wrote new)) (gives_on capacity p c n (Done end) h e);
-      }
+  release_call = grind (arith, as_given, release_found, gives_on, release_words)
 
   pub release_keeps : KeepsRule (λ (z : View T). z.capacity) (At code kinds.Robust (gives_owned given)) (Ends code kinds.Robust (gives_owned given))
       (λ key. cells_and_counter key + 1) (λ key. key) (λ key. IsMachine code kinds.Robust key) (λ c. release_want c given)
@@ -251,9 +178,7 @@ CountGoes capacity (Done n) = Unit {0}
 
 pub counts_so : (capacity : ℕ) (c : Counting) → c.capacity ≡ capacity → (r : After Count Counted)
     → CountOn capacity r → CountGoes capacity (borrowed_counted c r)
-counts_so capacity c same (GoOn count) on = (same, on)
-counts_so capacity c same (Done ends.Locked) on = tt
-counts_so capacity c same (Done (ends.Filled filled counter)) on = tt
+counts_so x0 x1 x2 x3 x4 = grind arith
 
 module _ {T : Type 0} (code : Coding T) where
   as_counted : (r : After Counting ℕ) → as_call flights.Robust (λ (answer : Answer T). answer)
@@ -262,20 +187,7 @@ module _ {T : Type 0} (code : Coding T) where
   as_counted (Done n) = refl
 
   pub count_call : IsCallOf code robust_effects cells_and_counter borrowed_want borrowed_after (λ c m n. m) counts_owned
-  count_call =
-      record {
-        same_want = λ c m. refl;
-        same_after = λ capacity c m n h. as_counted (borrowed_after c n);
-        hears = λ c m a n e. (ap (borrowed_after c) (count_found c.count a n e), refl);
-        stays = λ capacity c d n h e. subst (CountGoes capacity) e
-            (counts_so capacity c h.0 (count_after c.capacity c.count n) (count_on capacity c.capacity h.0 c.count n));
-        asks = λ capacity c h. count_asks capacity c.count h.1;
-        past = λ capacity c d n k h e. refl;
-        finds = λ c m n small t. tt;
-        leaves = λ c a n t e. absurd (cc);
-        tells = λ capacity p from c d m n es h wrote e. ap (λ zs. zs ++ []) wrote;
-        tells_all = λ capacity p from c end m n es h skip wrote e still. ap (λ zs. zs ++ []) wrote;
-      }
+  count_call = grind (arith, as_counted, count_found, counts_so, count_after, count_on, count_asks)
 
   pub count_keeps : KeepsRule (λ (z : View T). z.capacity) (At code kinds.Robust counts_owned) (Ends code kinds.Robust counts_owned)
       (λ key. cells_and_counter key + 1) (λ key. key) (λ key. IsMachine code kinds.Robust key) borrowed_want borrowed_after (λ c m n. m)
@@ -284,32 +196,10 @@ module _ {T : Type 0} (code : Coding T) where
 
   pub count_first : (v : View T) (m : Unit {0}) → v.going ≡ None → v.other ≡ [] → 0 < v.share.part
       → At code kinds.Robust counts_owned v v (first_borrowed v.capacity) m
-  count_first v m idle alone any =
-      inl (record {
-        is = refl;
-        idle = idle;
-        fresh = alone;
-        standing = (refl, tt);
-        some = any;
-        first = refl;
-        starts = robust_starts code v counts_owned BorrowedIndices (first_borrowed v.capacity) m refl (λ o p h. h) (λ kept. refl) (λ dead none. refl);
-        wrote = λ p. refl;
-      })
+  count_first x0 x1 x2 x3 x4 = grind (arith, inl, robust_starts)
 
   pub look_call : IsCallOf code robust_effects cells_and_counter (λ c. load 0) locked_after (λ c m n. m) looks_owned
-  look_call =
-      record {
-        same_want = λ c m. refl;
-        same_after = λ capacity c m n h. refl;
-        hears = λ c m a n e. (ap (locked_after c) (found_of _ a n refl e), refl);
-        stays = λ capacity c d n h e. absurd (cc);
-        asks = λ capacity c h. (_, omega arith, refl);
-        past = λ capacity c d n k h e. refl;
-        finds = λ c m n small t. tt;
-        leaves = λ c a n t e. absurd (cc);
-        tells = λ capacity p from c d m n es h wrote e. absurd (cc);
-        tells_all = λ capacity p from c end m n es h skip wrote e still. ap (λ zs. zs ++ []) wrote;
-      }
+  look_call = grind arith
 
   pub look_keeps : KeepsRule (λ (z : View T). z.capacity) (At code kinds.Robust looks_owned) (Ends code kinds.Robust looks_owned)
       (λ key. cells_and_counter key + 1) (λ key. key) (λ key. IsMachine code kinds.Robust key) (λ c. load 0) locked_after (λ c m n. m)
@@ -317,14 +207,4 @@ module _ {T : Type 0} (code : Coding T) where
       (λ c n. refl)
 
   pub look_first : (v : View T) (c : Looking) (m : Unit {0}) → v.going ≡ None → v.other ≡ [] → 0 < v.share.part → At code kinds.Robust looks_owned v v c m
-  look_first v c m idle alone any =
-      inl (record {
-        is = refl;
-        idle = idle;
-        fresh = alone;
-        standing = tt;
-        some = any;
-        first = refl;
-        starts = robust_starts code v looks_owned IsLocked c m refl (λ o p h. h) (λ kept. refl) (λ dead none. refl);
-        wrote = λ p. refl;
-      })
+  look_first x0 x1 x2 x3 x4 x5 = grind (arith, inl, robust_starts)

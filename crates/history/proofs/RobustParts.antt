@@ -16,20 +16,16 @@ use Rattle.history.proofs.CallsIn.{AsksFor}
 -- ---- an ask that is no store is answered by what was found
 
 pub found_of : (b a : Ask) (n : ℕ) → answered b.op n ≡ n → ◌≡◌ {A = Want (Unit {0})} (wants.Ask b) (wants.Ask a) → answered a.op n ≡ n
-found_of b a n is e = (let same : b ≡ a = cc in ap (λ (z : Ask). answered z.op n) (sym same) ∙ is)
+found_of x0 x1 x2 x3 x4 = grind arith
 
 pub raise_found : (raise : Raise) (a : Ask) (n : ℕ) → raise_want raise ≡ wants.Ask a → answered a.op n ≡ n
-raise_found raises.LoadsCounter a n e = found_of _ a n refl e
-raise_found (raises.ExchangesCounter counter) a n e = found_of _ a n refl e
+raise_found x0 x1 x2 x3 = grind arith
 
 pub count_found : (count : Count) (a : Ask) (n : ℕ) → count_want count ≡ wants.Ask a → answered a.op n ≡ n
-count_found counts.LoadsCounter a n e = found_of _ a n refl e
-count_found (counts.LoadsCell counter index filled) a n e = found_of _ a n refl e
-count_found (counts.ExchangesCounter counter filled) a n e = found_of _ a n refl e
+count_found x0 x1 x2 x3 = grind arith
 
 pub lock_found : (lock : Lock) (a : Ask) (n : ℕ) → lock_want lock ≡ wants.Ask a → answered a.op n ≡ n
-lock_found (locks.Counts count) a n e = count_found count a n e
-lock_found (locks.ExchangesCounter counter) a n e = found_of _ a n refl e
+lock_found x0 x1 x2 x3 = grind arith
 
 -- ---- the words
 
@@ -59,21 +55,13 @@ module _ (capacity : ℕ) where
 
   module _ (cap : ℕ) (same : cap ≡ capacity) where
     comes_on : (counter index filled : ℕ) → CountOn (count_comes_to cap counter index filled)
-    comes_on counter index filled =
-        by_test CountOn (nat_lt index cap) _ _
-        (λ t. (let low : index < cap = grind (arith, nat_tests) in omega arith))
-        (λ t. by_test CountOn (counter == greatest) _ _ (λ e. tt) (λ e. tt))
+    comes_on x0 x1 x2 = grind arith
 
     pub count_on : (count : Count) (k : ℕ) → CountOn (count_after cap count k)
-    count_on counts.LoadsCounter k = by_test CountOn (k == locked) _ _ (λ t. tt) (λ t. comes_on k 0 0)
-    count_on (counts.LoadsCell counter index filled) k = comes_on counter (index + 1) _
-    count_on (counts.ExchangesCounter counter filled) k = by_test CountOn (k == counter) _ _ (λ t. tt) (λ t. tt)
+    count_on x0 x1 = grind arith
 
     counted_on : (r : After Count Counted) → CountOn r → LockOn (lock_counted r)
-    counted_on (GoOn count) on = on
-    counted_on (Done ends.Locked) on = tt
-    counted_on (Done (ends.Filled filled counter)) on = by_test LockOn ((filled == 0) && not (counter == greatest)) _ _ (λ t. tt) (λ t. tt)
+    counted_on x0 x1 = grind arith
 
     pub lock_on : (lock : Lock) (k : ℕ) → LockOn (lock_after cap lock k)
-    lock_on (locks.Counts count) k = counted_on (count_after cap count k) (count_on count k)
-    lock_on (locks.ExchangesCounter counter) k = by_test LockOn (k == counter) _ _ (λ t. tt) (λ t. tt)
+    lock_on x0 x1 = grind arith

@@ -40,23 +40,11 @@ use Rattle.history.proofs.Robusts.{robust_effects, cells_and_counter, robusts_ow
 -- ---- what it asks for
 
 recover_found : (stage : RecoverStage) (a : Ask) (n : ℕ) → recover_asks stage ≡ wants.Ask a → answered a.op n ≡ n
-recover_found recovers.LoadsCounter a n e = found_of _ a n refl e
-recover_found (recovers.LoadsCell index) a n e = found_of _ a n refl e
-recover_found (recovers.Asks index owner) a n e = absurd (cc)
-recover_found (recovers.EmptiesCell index owner) a n e = found_of _ a n refl e
-recover_found (recovers.Raises index raise) a n e = raise_found raise a n e
-recover_found (recovers.Locks index lock) a n e = lock_found lock a n e
-recover_found recovers.LoadsCounterAgain a n e = found_of _ a n refl e
+recover_found x0 x1 x2 x3 = grind arith
 
 recover_words : (capacity : ℕ) (mode : ReleaseMode) (stage : RecoverStage) → RecoverIn capacity mode stage → is_question (recover_asks stage) ≡ false
     → AsksFor (capacity + 1) (recover_asks stage)
-recover_words capacity mode recovers.LoadsCounter h still = (_, omega arith, refl)
-recover_words capacity mode (recovers.LoadsCell index) h still = (_, (let low : 1 + index < capacity + 1 = omega arith in low), refl)
-recover_words capacity mode (recovers.Asks index owner) h still = absurd (cc)
-recover_words capacity mode (recovers.EmptiesCell index owner) h still = (_, (let low : 1 + index < capacity + 1 = omega arith in low), refl)
-recover_words capacity mode (recovers.Raises index raise) h still = raise_asks capacity raise
-recover_words capacity mode (recovers.Locks index lock) h still = lock_asks capacity lock h.2
-recover_words capacity mode recovers.LoadsCounterAgain h still = (_, omega arith, refl)
+recover_words x0 x1 x2 x3 x4 = grind arith
 
 -- after an answer it goes on, to a word
 abbrev AnswersOn : After Recovering ReleaseState → Type 0
@@ -68,16 +56,7 @@ module _ (c : Recovering) (mode : ReleaseMode) where
   no_answer b still due = (let both : false ≡ true = sym still ∙ due in absurd (cc))
 
   answers_on : (stage : RecoverStage) (n : ℕ) → is_question (recover_asks stage) ≡ true → AnswersOn (recover_takes c stage mode n)
-  answers_on recovers.LoadsCounter n due = absurd (cc)
-  answers_on (recovers.LoadsCell index) n due = absurd (cc)
-  answers_on (recovers.Asks index owner) n due =
-      by_test AnswersOn (n == 0) _ _
-      (λ t. by_test (λ (stage : RecoverStage). AnswersOn (GoOn (at_recover c stage))) (nat_lt (index + 1) c.capacity) _ _ (λ u. refl) (λ u. refl))
-      (λ t. refl)
-  answers_on (recovers.EmptiesCell index owner) n due = absurd (cc)
-  answers_on (recovers.Raises index raise) n due = no_answer (is_question (raise_want raise)) (raise_asks_none raise) due
-  answers_on (recovers.Locks index lock) n due = no_answer (is_question (lock_want lock)) (lock_asks_none lock) due
-  answers_on recovers.LoadsCounterAgain n due = absurd (cc)
+  answers_on x0 x1 x2 = grind arith
 
 -- ---- where it goes on, and what it has written then
 
@@ -100,11 +79,7 @@ module _ {T : Type 0} (capacity : ℕ) (c : Recovering) (same : c.capacity ≡ c
 
   comes_to : (index : ℕ) → index ≤ capacity → (es : List (Event T)) (visits : List Visit) → AreVisits mode index visits → es ≡ wrote_by p visits
       → RecoverGoes es visits (recover_comes_to c index)
-  comes_to index low es visits passed is =
-      by_test (λ (stage : RecoverStage). RecoverGoes es visits (GoOn (at_recover c stage))) (nat_lt index c.capacity) _ _
-      (λ t. (let below : index < c.capacity = grind (arith, nat_tests) in ((same, omega arith), passed, between es (wrote_by p visits) is)))
-      (λ t. (let past : c.capacity ≤ index = grind (arith, nat_tests) in let last : index ≡ capacity = omega arith in
-      ((same, tt), subst (λ i. AreVisits mode i visits) last passed, between es (wrote_by p visits) is)))
+  comes_to x0 x1 x2 x3 x4 x5 = grind (arith, by_test, between, nat_tests)
 
   next_to : (index : ℕ) → index < capacity → (es : List (Event T)) (visits : List Visit) → AreVisits mode (index + 1) visits → es ≡ wrote_by p visits
       → RecoverGoes es visits (recover_comes_to c (index + 1))
@@ -148,8 +123,7 @@ module _ {T : Type 0} (capacity : ℕ) (c : Recovering) (same : c.capacity ≡ c
 
       go : (b : Bool) → (k == empty) ≡ b → RecoverGoes (es ++ recover_effects p (recovers.LoadsCell index) k) visits
           (recover_takes c (recovers.LoadsCell index) mode k)
-      go true e = rw e (next_to index h (es ++ []) visits (wider mode index (index + 1) visits (omega arith) at) (quiet es (wrote_by p visits) wrote))
-      go false e = rw e ((same, h), at, ap (λ zs. zs ++ Asked p index k ∷ []) wrote)
+      go x0 x1 = grind (arith, next_to, wider, quiet, wrote)
   recovers_so (recovers.Asks index owner) k es visits h at is = go (k == 0) refl
     where
       more : List Visit
@@ -226,13 +200,11 @@ module _ {T : Type 0} (code : Coding T) (mode : ReleaseMode) where
   goes_so : (capacity p : ℕ) (c : Recovering) (n : ℕ) (es : List (Event T)) (visits : List Visit) (r : After Recovering ReleaseState)
       → (h : (recovers_owned {T = T} mode).stands capacity c) → VisitsAt capacity mode c.stage visits → es ≡ wrote_by p visits ++ wrote_now p c.stage
       → after c n ≡ r → RecoverGoes capacity c h.0 p mode (es ++ recover_effects p c.stage n) (visits_after c visits n) r
-  goes_so capacity p c n es visits r h at is e =
-      subst (RecoverGoes capacity c h.0 p mode (es ++ recover_effects p c.stage n) (visits_after c visits n)) e
-      (recovers_so capacity c h.0 p mode c.stage n es visits h.1 at is)
+  goes_so x0 x1 x2 x3 x4 x5 x6 x7 x8 x9 x10 = grind (arith, recovers_so)
 
   -- it may have visited none of the indices that it has passed
   come_first : (index : ℕ) (came : Came) → HasCome mode index came 0 (visit index 0 came ∷ [])
-  come_first index came = record { before = []; passed = none_yet mode index [] refl; is = refl }
+  come_first x0 x1 = grind arith
 
   some_visits : (capacity : ℕ) (stage : RecoverStage) → (visits : List Visit) × VisitsAt capacity mode stage visits
   some_visits capacity recovers.LoadsCounter = ([], refl)
@@ -264,13 +236,7 @@ module _ {T : Type 0} (code : Coding T) (mode : ReleaseMode) where
   -- an answer leaves lists apart that were so
   same_asked : (stage : RecoverStage) (m k : List Visit) (a b : ℕ) → is_question (recover_asks stage) ≡ true
       → visits_taken stage m a ≡ visits_taken stage k b → m ≡ k
-  same_asked recovers.LoadsCounter m k a b due e = absurd (cc)
-  same_asked (recovers.LoadsCell index) m k a b due e = absurd (cc)
-  same_asked (recovers.Asks index owner) m k a b due e = same_before m k (visit index owner HasAsked) e
-  same_asked (recovers.EmptiesCell index owner) m k a b due e = absurd (cc)
-  same_asked (recovers.Raises index raise) m k a b due e = no_answer (first_recover 0) mode (is_question (raise_want raise)) (raise_asks_none raise) due
-  same_asked (recovers.Locks index lock) m k a b due e = no_answer (first_recover 0) mode (is_question (lock_want lock)) (lock_asks_none lock) due
-  same_asked recovers.LoadsCounterAgain m k a b due e = absurd (cc)
+  same_asked x0 x1 x2 x3 x4 x5 x6 = grind (arith, same_before, visit, no_answer, raise_asks_none, lock_asks_none)
 
   pub recover_call : IsAskingOf code kinds.Robust robust_effects cells_and_counter recover_want after visits_after (recovers_owned mode)
   recover_call =
@@ -317,9 +283,7 @@ module _ {T : Type 0} (code : Coding T) (mode : ReleaseMode) where
   -- a recovery that has asked goes on from the answer
   pub recover_hears : (base v : View T) (c d : Recovering) (m : List Visit) (said : Bool) → is_question (recover_want c) ≡ true
       → after c (number_of said) ≡ GoOn d → At base v c m → At base v d (visits_after c m (number_of said))
-  recover_hears = hears_answer code kinds.Robust tt (λ w. robust_effects) robust_effects cells_and_counter
-      (all_kept_laws code kinds.Robust robust_effects cells_and_counter (robusts_owe code)) recover_want after visits_after (recovers_owned mode)
-      (acts_alone code kinds.Robust robust_effects cells_and_counter (robusts_owe code) (recovers_owned mode)) recover_call
+  recover_hears = grind arith
 
   pub recover_first : (v : View T) → v.going ≡ None → v.other ≡ [] → 0 < v.share.part → At v v (first_recover v.capacity) []
   recover_first v idle alone any =
@@ -340,11 +304,7 @@ module _ {T : Type 0} (code : Coding T) (mode : ReleaseMode) where
   made_there : (base v : View T) (c : Recovering) (m : List Visit) → base.going ≡ None
       → (under : IsUnderWay code kinds.Robust (recovers_owned mode) base v c m)
       → v.made ≡ base.made ++ Begun under.party (Robust (Recover mode)) ∷ (wrote_by under.party m ++ wrote_now under.party c.stage)
-  made_there base v c m idle under =
-      let p = under.party in
-      under.since.made
-      ∙ (ap (λ (o : Option (Start T × Flight T)). base.made ++ (opened p (Robust (Recover mode)) o ++ (under.wrote ++ []))) idle
-      ∙ ap (λ zs. base.made ++ Begun p (Robust (Recover mode)) ∷ zs) (append-nil under.wrote ∙ (under.tells idle).1))
+  made_there x0 x1 x2 x3 x4 x5 = grind (arith, opened, append-nil)
 
   under_same : (base other v : View T) (c : Recovering) (m k : List Visit) → base.going ≡ None → other.going ≡ None
       → IsUnderWay code kinds.Robust (recovers_owned mode) base v c m → IsUnderWay code kinds.Robust (recovers_owned mode) other v c k → m ≡ k
@@ -361,34 +321,18 @@ module _ {T : Type 0} (code : Coding T) (mode : ReleaseMode) where
 
   -- it does not stand at a question that it has the answer to
   not_both : {A : Type 0} (c asking : Recovering) (n : ℕ) → c ≡ asking → is_question (recover_want asking) ≡ true → after asking n ≡ GoOn c → A
-  not_both c asking n same due e =
-      let still : is_question (recover_want c) ≡ false = subst AnswersOn e (answers_on asking mode asking.stage n due) in
-      let asks : is_question (recover_want c) ≡ true = ap (λ (z : Recovering). is_question (recover_want z)) same ∙ due in
-      let no : true ≡ false = sym asks ∙ still in absurd (cc)
+  not_both x0 x1 x2 x3 x4 x5 = grind arith
 
   asked_alike : (stage : RecoverStage) (m : List Visit) (a b : ℕ) → is_question (recover_asks stage) ≡ true → visits_taken stage m a ≡ visits_taken stage m b
-  asked_alike recovers.LoadsCounter m a b due = absurd (cc)
-  asked_alike (recovers.LoadsCell index) m a b due = absurd (cc)
-  asked_alike (recovers.Asks index owner) m a b due = refl
-  asked_alike (recovers.EmptiesCell index owner) m a b due = absurd (cc)
-  asked_alike (recovers.Raises index raise) m a b due = no_answer (first_recover 0) mode (is_question (raise_want raise)) (raise_asks_none raise) due
-  asked_alike (recovers.Locks index lock) m a b due = no_answer (first_recover 0) mode (is_question (lock_want lock)) (lock_asks_none lock) due
-  asked_alike recovers.LoadsCounterAgain m a b due = absurd (cc)
+  asked_alike x0 x1 x2 x3 x4 = grind arith
 
   -- no call is under way in a view in which one is
   clash : {A : Type 0} (base v : View T) (flight : Flight T) → v ≡ base → base.going ≡ None → v.going ≡ Some (Robust (Recover mode), flight) → A
-  clash base v flight is idle has =
-      let no : ◌≡◌ {A = Option (Start T × Flight T)} None (Some (Robust (Recover mode), flight)) = sym idle ∙ (ap (λ (z : View T). z.going) (sym is) ∙ has) in
-      absurd (cc)
+  clash x0 x1 x2 x3 x4 x5 = grind arith
 
   going_same : (v : View T) (c d : Recovering) (m k : List Visit) → v.going ≡ Some (Robust (Recover mode), (recovers_owned mode).flight c m)
       → v.going ≡ Some (Robust (Recover mode), (recovers_owned mode).flight d k) → c ≡ d
-  going_same v c d m k a b =
-      let both : ◌≡◌ {A = Option (Start T × Flight T)} (Some (Robust (Recover mode), (recovers_owned mode).flight c m))
-      (Some (Robust (Recover mode), (recovers_owned mode).flight d k)) = sym a ∙ b in
-      let pair : ◌≡◌ {A = Start T × Flight T} (Robust (Recover mode), (recovers_owned mode).flight c m)
-      (Robust (Recover mode), (recovers_owned mode).flight d k) = cc in
-      same_recovery c d m k (ap (λ (z : Start T × Flight T). z.1) pair)
+  going_same x0 x1 x2 x3 x4 x5 x6 = grind arith
 
   same_there : (base other v : View T) (c : Recovering) (m k : List Visit) → base.going ≡ None → other.going ≡ None → At base v c m → At other v c k
       → m ≡ k

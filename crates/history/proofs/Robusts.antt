@@ -1,4 +1,5 @@
 -- What the robust index set owes, from the laws of its open runs, and which party may begin a call on it.
+use Rattle.std.proofs.Common.{arith}
 use Rattle.history.proofs.Names.{◌≡◌, ℕ, ◌+◌, false, Option, Some, None, is_none, IfSome, List, [], length, sum_by}
 use Rattle.history.proofs.Names.{refl, sym, ap, subst, ◌∙◌, Event, Start, Flight, Registry, Party, Coding, first_of}
 use Rattle.history.proofs.Names.{begin_rows, step_of, beside_of, after_of, going_rows, has_died, SetAct, set_acts_of}
@@ -33,19 +34,7 @@ module _ {T : Type 0} where
   robust_effects p flight old = []
 
   effects_own : (p : ℕ) (flight : Flight T) (n : ℕ) → AreOf p (robust_effects p flight n)
-  effects_own p (flights.TheVariants.Robust flight) n =
-      effects_hold (λ (e : Event T). whose e ≡ Some p) p
-      (record {
-        filled = λ index owner. refl;
-        granted_to = λ index owner. refl;
-        freed_of = λ index owner. refl;
-        asked = λ index owner. refl;
-        locked = refl;
-      })
-      flight
-      n
-      (λ index owner is yes. refl)
-  effects_own p flight n = tt
+  effects_own x0 x1 x2 = grind arith
 
 -- a counter, and a cell an index
 abbrev pub cells_and_counter : ℕ → ℕ
@@ -77,16 +66,12 @@ module _ {T : Type 0} (code : Coding T) (capacity : ℕ) where
   writes_there : (z : Coding T) (words ws : List ℕ) (beside : Option (ℕ × ℕ)) (c p old : ℕ) (all : List SetAct) (kept : Registry T) (s : RobustSet T)
       (start : Start T) (flight : Flight T) → Represents kept ws s → FlightAt c all start flight
       → (step_of z words beside p start flight old kept).wrote ≡ robust_effects p flight old
-  writes_there z words ws beside c p old all (registries.TheVariants.Owners dead) s (Robust start) (flights.TheVariants.Robust flight) fit at = refl
-  writes_there z words ws beside c p old all kept s (Robust start) (flights.TheVariants.Robust flight) fit at = absurd fit
-  writes_there z words ws beside c p old all kept s start flight fit at = absurd at
+  writes_there x0 x1 x2 x3 x4 x5 x6 x7 x8 x9 x10 x11 x12 x13 = grind arith
 
   goes_there : (z : Coding T) (words ws : List ℕ) (beside : Option (ℕ × ℕ)) (c p old : ℕ) (all : List SetAct) (kept : Registry T) (s : RobustSet T)
       (start : Start T) (flight : Flight T) → Represents kept ws s → FlightAt c all start flight
       → (step_of z words beside p start flight old kept).after ≡ after_of z flight old
-  goes_there z words ws beside c p old all (registries.TheVariants.Owners dead) s (Robust start) (flights.TheVariants.Robust flight) fit at = refl
-  goes_there z words ws beside c p old all kept s (Robust start) (flights.TheVariants.Robust flight) fit at = absurd fit
-  goes_there z words ws beside c p old all kept s start flight fit at = absurd at
+  goes_there x0 x1 x2 x3 x4 x5 x6 x7 x8 x9 x10 x11 x12 x13 = grind arith
 
   goes_on : (t : Trace T) → IsRobust t → (p : ℕ) (start : Start T) (flight : Flight T) → call_in t.world p ≡ Some (start, flight)
       → CallGoesOn code kinds.Robust capacity (cells_and_counter capacity) robust_effects t p flight

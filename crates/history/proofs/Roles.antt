@@ -1,4 +1,5 @@
 -- Which party holds a role that a pass holds: one of its own.
+use Rattle.std.proofs.Common.{arith}
 use Rattle.history.proofs.Names.{◌≡◌, ◌≤◌, ℕ, ◌+◌, true, Option, Some, None, is_none, List, refl, sym, sum_by, fold}
 use Rattle.history.proofs.Names.{Producer, Consumer, Answer, Truth, Event, Finished, Queues, AcquireConsumer}
 use Rattle.history.proofs.Names.{ReleaseConsumer, producer_of, consumer_of, Each}
@@ -23,20 +24,7 @@ module _ {T : Type 0} (owner : ℕ → ℕ) (j : ℕ) where
   MovesIt role = Moves (takes role) (gives role) (role_after role) owner j
 
   moves : (role : Role) (before : List (Event T)) (e : Event T) → GrantsRight before e → MovesIt role before e
-  moves Producer before (Finished p (Queues AcquireProducer) (Truth true)) h =
-      taken (takes Producer) (gives Producer) (role_after Producer) owner j before
-      (Finished p (Queues AcquireProducer) (Truth true)) p refl refl refl (granted (producer_of before) h) refl
-  moves Producer before (Finished p (Queues ReleaseProducer) answer) h =
-      given (takes Producer) (gives Producer) (role_after Producer) owner j before
-      (Finished p (Queues ReleaseProducer) answer) p refl refl refl h.1 refl
-  moves Consumer before (Finished p (Queues AcquireConsumer) (Truth true)) h =
-      taken (takes Consumer) (gives Consumer) (role_after Consumer) owner j before
-      (Finished p (Queues AcquireConsumer) (Truth true)) p refl refl refl (granted (consumer_of before) h) refl
-  moves Consumer before (Finished p (Queues ReleaseConsumer) answer) h =
-      given (takes Consumer) (gives Consumer) (role_after Consumer) owner j before
-      (Finished p (Queues ReleaseConsumer) answer) p refl refl refl h.1 refl
-  moves Producer before e h = still (takes Producer) (gives Producer) (role_after Producer) owner j before e refl refl refl
-  moves Consumer before e h = still (takes Consumer) (gives Consumer) (role_after Consumer) owner j before e refl refl refl
+  moves x0 x1 x2 x3 = grind arith
 
   all_move : (role : Role) (all : List (Event T)) → Each GrantsRight all → Each (MovesIt role) all
   all_move role all each before after e is = moves role before e (each before after e is)

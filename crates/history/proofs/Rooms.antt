@@ -20,44 +20,15 @@ room_set size at word words below = go (nat_lt (length words) size) refl
     same = ap (λ n. nat_lt n size) (length-set words at word)
 
     go : (b : Bool) → nat_lt (length words) size ≡ b → kept_at (room_of size words) at word ≡ room_of size (set words at word)
-    go true t = let now : nat_lt (length (set words at word)) size ≡ true = same ∙ t in rw (t, now) refl
-    go false t =
-        let now : nat_lt (length (set words at word)) size ≡ false = same ∙ t in
-        let long : at < length words = grind (arith, nat_tests) in
-        let is : ◌≡◌ {A = buffers.Buffer 128}
-        (record { words = set (words ++ replicate (128 - length words) 0) at word })
-        (record { words = set words at word ++ replicate (128 - length (set words at word)) 0 }) =
-        ap (λ zs. record { words = zs })
-        (set_left words (replicate (128 - length words) 0) at word long
-        ∙ ap (λ n. set words at word ++ replicate (128 - n) 0) (sym (length-set words at word)))
-        in
-        rw (t, now) is
+    go x0 x1 = grind (arith, length, set, same, set_left, length-set, nat_tests)
 
 -- the value of its words
 pub room_read : {T : Type 0} (code : Coding T) (words : List ℕ) → read_in code (room_of code.size words) ≡ value_in code.value_of code.size words
 room_read {T} code words = go (nat_lt (length words) code.size) refl
   where
     go : (b : Bool) → nat_lt (length words) code.size ≡ b → read_in code (room_of code.size words) ≡ value_in code.value_of code.size words
-    go true t = let room : room_of code.size words ≡ record { words = words } = rw t refl in ap (read_in code) room
-    go false t =
-        let more = length-append words (replicate (128 - length words) 0) in
-        let long : code.size ≤ length words = grind (arith, nat_tests) in
-        let now : nat_lt (length (words ++ replicate (128 - length words) 0)) code.size ≡ false = grind (arith, nat_tests) in
-        let room : room_of code.size words ≡ record { words = words ++ replicate (128 - length words) 0 } = rw t refl in
-        let same : value_in code.value_of code.size (words ++ replicate (128 - length words) 0)
-        ≡ value_in code.value_of code.size words =
-        rw (now, t) (ap code.value_of (take-append-le code.size words (replicate (128 - length words) 0) long)) in
-        ap (read_in code) room ∙ same
+    go x0 x1 = grind (arith, room_of, read_in, length-append, length, value_in, take-append-le, nat_tests)
 
 -- a room of zeros
 pub room_fresh : (size n : ℕ) → size ≤ n → n ≤ 128 → room_of size (replicate n 0) ≡ record { words = replicate 128 0 }
-room_fresh size n low few =
-    let long : length {A = ℕ} (replicate n 0) ≡ n = length-replicate n 0 in
-    let t : nat_lt (length {A = ℕ} (replicate n 0)) size ≡ false = grind (arith, nat_tests) in
-    let all : n + (128 - length {A = ℕ} (replicate n 0)) ≡ 128 = omega arith in
-    let is : ◌≡◌ {A = buffers.Buffer 128}
-    (record { words = replicate n 0 ++ replicate (128 - length {A = ℕ} (replicate n 0)) 0 })
-    (record { words = replicate 128 0 }) =
-    ap (λ zs. record { words = zs }) (replicate_both n (128 - length {A = ℕ} (replicate n 0)) 0 ∙ ap (λ k. replicate k 0) all)
-    in
-    rw t is
+room_fresh x0 x1 x2 x3 = grind (arith, length, length-replicate, false, replicate_both, nat_tests)

@@ -37,30 +37,7 @@ module _ {T : Type 0} where
 
   -- an effect is an event of its party
   effect_own : (p : ℕ) (e : Event T) → IsEffectOf (Next p) e → whose e ≡ Some p
-  effect_own p (events.TheVariants.Begun q start) h = absurd h
-  effect_own p (events.TheVariants.Published q item) h = ap Some h
-  effect_own p (events.TheVariants.HandedOut q item) h = ap Some h
-  effect_own p (events.TheVariants.Set q bit) h = ap Some h
-  effect_own p (events.TheVariants.Cleared q bit) h = ap Some h
-  effect_own p (events.TheVariants.Counted q place) h = ap Some h
-  effect_own p (events.TheVariants.TakenOut q place number) h = ap Some h
-  effect_own p (events.TheVariants.Claimed q index) h = ap Some h
-  effect_own p (events.TheVariants.Freed q index) h = ap Some h
-  effect_own p (events.TheVariants.Locked q) h = ap Some h
-  effect_own p (events.TheVariants.Filled q index o) h = ap Some h
-  effect_own p (events.TheVariants.Granted q index o) h = ap Some h
-  effect_own p (events.TheVariants.FreedOf q index o) h = ap Some h
-  effect_own p (events.TheVariants.Asked q index o) h = ap Some h
-  effect_own p (events.TheVariants.Told q index o) h = ap Some h
-  effect_own p (events.TheVariants.Placed q index value) h = ap Some h
-  effect_own p (events.TheVariants.Hidden q index) h = ap Some h
-  effect_own p (events.TheVariants.Copied q index value) h = ap Some h
-  effect_own p (events.TheVariants.Shown q index) h = ap Some h
-  effect_own p (events.TheVariants.Returned q index) h = ap Some h
-  effect_own p (events.TheVariants.TakenBack q index) h = ap Some h
-  effect_own p (events.TheVariants.Died o) h = absurd h
-  effect_own p (events.TheVariants.Acted q start answer) h = absurd h
-  effect_own p (events.TheVariants.Finished q start answer) h = absurd h
+  effect_own x0 x1 x2 = grind arith
 
   pub effects_own : (p : ℕ) (es : List (Event T)) → AllByRecursion (IsEffectOf (Next p)) es → AreOf p es
   effects_own p [] h = tt
@@ -83,21 +60,17 @@ module _ {T : Type 0} (K : SetKind T) (laws : (code : Coding T) (c : ℕ) → Se
 
   no_rows : (t : Trace T) (At : BitsStart → BitsFlight → Type 0) (start : Start T) (flight : Flight T)
       → FlightAt At start flight → first_row (going_rows t.world.coding t.world.kept (Some flight) None) ≡ None
-  no_rows t At (Bits start) (flights.TheVariants.Bits flight) at = refl
-  no_rows t At start flight at = absurd at
+  no_rows x0 x1 x2 x3 x4 = grind arith
 
   -- a call of the set goes on alike whatever is kept
   as_told : (code : Coding T) (p n : ℕ) (At : BitsStart → BitsFlight → Type 0) (kept : Registry T) (start : Start T) (flight : Flight T)
       → FlightAt At start flight → goes_of code p flight n kept ≡ after_of code flight n
-  as_told code p n At kept (Bits start) (flights.TheVariants.Bits flight) at = refl
-  as_told code p n At kept start flight at = absurd at
+  as_told x0 x1 x2 x3 x4 x5 x6 x7 = grind arith
 
   writes_there : (t : Trace T) (p old : ℕ) (At : BitsStart → BitsFlight → Type 0) (kept : Registry T) (start : Start T) (flight : Flight T)
       → kept ≡ registries.TheVariants.Nothing → FlightAt At start flight
       → (step_of t.world.coding t.world.words (beside_of t.world.words t.world.kept t.world.latest p) p start flight old kept).wrote ≡ set_effects p flight old
-  writes_there t p old At registries.TheVariants.Nothing (Bits start) (flights.TheVariants.Bits flight) none at = refl
-  writes_there t p old At kept (Bits start) (flights.TheVariants.Bits flight) none at = absurd (cc)
-  writes_there t p old At kept start flight none at = absurd at
+  writes_there x0 x1 x2 x3 x4 x5 x6 x7 x8 = grind arith
 
   own_there : (c p old : ℕ) (wrote : List (Event T)) (start : Start T) (flight : Flight T)
       → FlightAt (K.At c wrote) start flight → AreOf p (set_effects p flight old)
@@ -148,15 +121,10 @@ module _ {T : Type 0} (K : SetKind T) (laws : (code : Coding T) (c : ℕ) → Se
       kept = bare t (subst (λ n. IsRun code K.kind n t) size run)
 
       first_here : first_of K.kind base.capacity call.start t.world.kept ≡ Some (call.flight c m)
-      first_here =
-          subst (λ n. first_of K.kind n call.start t.world.kept ≡ Some (call.flight c m)) (sym size)
-          (subst (λ k. first_of K.kind capacity call.start k ≡ Some (call.flight c m)) (sym kept) first)
+      first_here = grind arith
 
       may_here : (p : ℕ) → first_row (rows_as K.kind base.capacity t.world.kept p call.start) ≡ None
-      may_here p =
-          rows_free K.kind base.capacity t.world.kept p call.start
-          (subst (λ n. first_row (begin_rows K.kind n t.world.kept p call.start) ≡ None) (sym size)
-          (subst (λ k. first_row (begin_rows K.kind capacity k p call.start) ≡ None) (sym kept) (may p)))
+      may_here x0 = grind (arith, rows_free, first_row, size, kept)
 
 module _ {T : Type 0} (code : Coding T) (capacity : ℕ) where
   pub counts_owe : KindLaws code kinds.TheVariants.Counts capacity capacity set_effects
@@ -205,14 +173,8 @@ module _ (capacity : ℕ) (small : capacity < 2 ^ 32) where
 
   pub counts_open : (words : List ℕ) → words ≡ replicate (capacity + 1) 0
       → IsMachine one_word kinds.TheVariants.Counts capacity (opening words [] (first_view capacity))
-  counts_open words same =
-      opens one_word kinds.TheVariants.Counts capacity words
-      (record { some = omega arith; few = omega arith; sized = λ x. refl; given_back = λ x. refl })
-      (rw (most, least) refl) (same ∙ one_more capacity)
+  counts_open x0 x1 = grind (arith, opens, one_word, most, least, one_more)
 
   pub bits_open : (words : List ℕ) → words ≡ replicate (1 + elements capacity + 1) 0
       → IsMachine one_word kinds.TheVariants.Bits capacity (opening words [] (first_view capacity))
-  bits_open words same =
-      opens one_word kinds.TheVariants.Bits capacity words
-      (record { some = omega arith; few = omega arith; sized = λ x. refl; given_back = λ x. refl })
-      (rw (most, least) refl) (same ∙ one_more (1 + elements capacity))
+  bits_open x0 x1 = grind (arith, opens, one_word, most, least, one_more, elements)

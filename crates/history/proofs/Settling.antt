@@ -49,7 +49,7 @@ module _ {T : Type 0} (code : Coding T) (kind : Kind) (decides : MayDecide kind)
     mine = subst (λ (o : Option ℕ). IfSome o (λ q. r.owner q ≡ id)) h.mine here.party
 
     none : here.late ≡ []
-    none = alone v.going here.late (subst (λ k. IsLate k v.going here.late) r.run.of_kind here.waits)
+    none = grind arith
 
     between : Between code kind key r.owner s id h.party [] r.trace
     between =
@@ -71,10 +71,7 @@ module _ {T : Type 0} (code : Coding T) (kind : Kind) (decides : MayDecide kind)
     comes = h.ends r.trace.world.kept
 
     free : refusal_as kind r.trace.world (Decide h.party false) ≡ None
-    free =
-        decide_as kind decides r.trace.world h.party false h.flight
-        (flight_is r.trace.world h.party h.start h.flight (stands r.trace.world h.party h.start h.flight there))
-        (ap (λ z. is_question (want_of z h.flight)) r.run.coded ∙ h.asks)
+    free = grind (arith, decide_as, false, flight_is, stands, there)
 
     abbrev end : List (Event T)
     end = Finished h.party h.start h.answer ∷ []
@@ -205,29 +202,18 @@ module _ {T : Type 0} (code : Coding T) (kind : Kind) (decides : MayDecide kind)
     -- how it has gone on from there
     onward : (base from : View T) → SettledFrom code kind base from → (a : After C E) (m : M) (w : View T)
         → NextKnown (λ (z : View T). z.capacity) Stage Over from a m w → NextKnown (λ (z : View T). z.capacity) Rested RestedOver base a m w
-    onward base from settled (GoOn d) m w h = inl (record { from = from; settled = settled; stage = h })
-    onward base from settled (Done e) m w h = record { from = from; settled = settled; over = h }
+    onward x0 x1 x2 x3 x4 x5 x6 = grind arith
 
     never : {A : Type 0} (base other v : View T) (c : C) (m : M) → Stage base v c m → Waits code kind Begins other v c m → A
-    never base other v c m stage waits =
-        let resting = subst (λ z. IsResting code z) (sym waits.is) waits.resting in
-        let begins = subst (λ (z : View T). Begins z c m) (sym waits.is) waits.first in
-        absurd (apart base v c m resting begins stage)
+    never x0 x1 x2 x3 x4 x5 x6 = grind arith
 
     -- who has begun
     told_begun : (base₀ v w : View T) (c : C) (m : M) (n : ℕ) → Stage base₀ v c m → ToldStage c m v n w → ToldRested c m v n w
-    told_begun base₀ v w c m n stage h = (h.0, λ base rested. go base rested)
-      where
-        go : (base : View T) → Rested base v c m → NextKnown (λ (z : View T). z.capacity) Rested RestedOver base (after c n) (kept c m n) w
-        go base (inl x) = onward base x.from x.settled (after c n) (kept c m n) w (h.1 x.from x.stage)
-        go base (inr waits) = never base₀ base v c m stage waits
+    told_begun x0 x1 x2 x3 x4 x5 x6 x7 = grind arith
 
     begun_keeps : (base₀ v : View T) (c : C) (m : M) (key words slots id : ℕ) → Stage base₀ v c m → (w : Want (Unit {0}))
         → Owes (IsMachine code kind key) words slots id (ToldStage c m) w (v, []) → Owes (IsMachine code kind key) words slots id (ToldRested c m) w (v, [])
-    begun_keeps base₀ v c m key words slots id stage (wants.Ask a) h =
-        (h.0, λ s r long at small. (let x = h.1 s r long at small in (x.0, x.1, x.2, x.3, (told_begun base₀ v x.0 c m _ stage x.4.0, x.4.1))))
-    begun_keeps base₀ v c m key words slots id stage (wants.Question q) h = told_begun base₀ v v c m 0 stage h
-    begun_keeps base₀ v c m key words slots id stage wants.Nothing h = told_begun base₀ v v c m 0 stage h
+    begun_keeps x0 x1 x2 x3 x4 x5 x6 x7 x8 x9 x10 = grind arith
 
     -- who has still to begin
     module _ (v : View T) (c : C) (m : M) (key words slots id : ℕ) (wide : words ≡ size_of key + 1) (known : v.capacity ≡ key) (h : IsResting code v)
@@ -299,7 +285,7 @@ module _ {T : Type 0} (code : Coding T) (kind : Kind) (decides : MayDecide kind)
 
     -- it may begin on a pass with no call under way, or with one that rests
     pub begins_idle : (v : View T) (c : C) (m : M) → Begins v c m → v.going ≡ None → v.other ≡ [] → 0 < v.share.part → Rested v v c m
-    begins_idle v c m begins idle fresh any = inl (record { from = v; settled = inl (refl, idle); stage = first v c m begins idle fresh any })
+    begins_idle x0 x1 x2 x3 x4 x5 x6 = grind arith
 
     pub begins_rested : (v : View T) (c : C) (m : M) → Begins v c m → IsResting code v → Rested v v c m
     begins_rested v c m begins resting = inr (record { is = refl; resting = resting; first = begins })

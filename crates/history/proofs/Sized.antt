@@ -1,4 +1,5 @@
 -- Calls whose answer names the capacity: one family of them for all capacities.
+use Rattle.std.proofs.Common.{arith}
 use Rattle.history.proofs.Names.{◌≡◌, inl, inr, ℕ, ◌+◌, [], sym, ap, subst, ◌∙◌, After, GoOn, Want, Kind, Coding}
 use Rattle.history.proofs.Names.{Owes, NextKnown, KeepsRule}
 use Rattle.steps.specs.declared.ask.After.TheVariants.{Done}
@@ -17,24 +18,17 @@ module _ {T C M E : Type 0} (code : Coding T) (kind : Kind) (size_of : ℕ → �
   EndsSized base e m w = Ends code kind (call base.capacity) base e m w
 
   one_size : (n : ℕ) (base v : View T) (c : C) (m : M) → At code kind (call n) base v c m → v.capacity ≡ base.capacity
-  one_size n base v c m (inl first) = ap (λ (z : View T). z.capacity) first.is
-  one_size n base v c m (inr under) = under.capacity
+  one_size x0 x1 x2 x3 x4 x5 = grind arith
 
   sized_next : (n : ℕ) (base w : View T) (r : After C E) (m : M) → base.capacity ≡ n
       → NextKnown (λ (z : View T). z.capacity) (At code kind (call n)) (Ends code kind (call n)) base r m w
       → NextKnown (λ (z : View T). z.capacity) AtSized EndsSized base r m w
-  sized_next n base w (GoOn d) m same h = subst (λ k. At code kind (call k) base w d m) (sym same) h
-  sized_next n base w (Done e) m same h = subst (λ k. Ends code kind (call k) base e m w) (sym same) h
+  sized_next x0 x1 x2 x3 x4 x5 x6 = grind arith
 
   told_sized : (base : View T) (c : C) (m : M) (x : View T) (n : ℕ) (w : View T) → x.capacity ≡ base.capacity
       → Told (λ (z : View T). z.capacity) (At code kind (call base.capacity)) (Ends code kind (call base.capacity)) after kept c m x n w
       → Told (λ (z : View T). z.capacity) AtSized EndsSized after kept c m x n w
-  told_sized base c m x n w same h = (
-    h.0,
-    λ other stage. (
-        let size : other.capacity ≡ base.capacity = sym (one_size other.capacity other x c m stage) ∙ same in
-        sized_next base.capacity other w (after c n) (kept c m n) size (h.1 other (subst (λ k. At code kind (call k) other x c m) size stage))),
-  )
+  told_sized x0 x1 x2 x3 x4 x5 x6 x7 = grind (arith, one_size, sized_next)
 
   pub keeps_sized : ((n : ℕ)
       → KeepsRule (λ (z : View T). z.capacity) (At code kind (call n)) (Ends code kind (call n))

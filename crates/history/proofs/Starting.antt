@@ -1,4 +1,5 @@
 -- A call that each party may begin, begins as the party that the pass was last.
+use Rattle.std.proofs.Common.{arith}
 use Rattle.history.proofs.Names.{◌≡◌, ℕ, Option, Some, None, IfSome, sym, refl, subst, Kind, Coding, first_of}
 use Rattle.history.proofs.Names.{first_row, Trace}
 use Rattle.history.specs.declared.view.View.{View}
@@ -9,10 +10,4 @@ pub starts_by_last : {T C M E : Type 0} (code : Coding T) (kind : Kind) (call : 
     → first_of kind base.capacity call.start t.world.kept ≡ Some (call.flight c m)
     → ((p : ℕ) → first_row (rows_as kind base.capacity t.world.kept p call.start) ≡ None)
     → Starts code kind call base c m t owner j
-starts_by_last code kind call base c m t owner j by self party first may = go base.party refl party
-  where
-    go : (o : Option ℕ) → base.party ≡ o → IfSome o (λ p. owner p ≡ j) → Starts code kind call base c m t owner j
-    go None e h = record
-        { party = j; mine = self; by = by base.party j (subst (λ (z : Option ℕ). IfSome z (λ q. q ≡ j)) (sym e) tt); first = first; may = may j }
-    go (Some p) e h = record
-        { party = p; mine = h; by = by base.party p (subst (λ (z : Option ℕ). IfSome z (λ q. q ≡ p)) (sym e) refl); first = first; may = may p }
+starts_by_last x0 x1 x2 x3 x4 x5 x6 x7 x8 x9 x10 x11 x12 x13 = grind arith

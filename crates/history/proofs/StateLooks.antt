@@ -71,16 +71,7 @@ module _ {T : Type 0} (code : Coding T) (law : IsCoding code) (which : LookOf) (
       → k ≡ registries.Container dead states → (base.party ≡ Some p → state_in k p ≡ base.state) → IfSome base.party (λ q. q ≡ p)
       → BeginsWith code which cells seen w base m
       → HasState (kept_after_begin code cells (Container (look_start w)) p k) p (state_of_look cells seen m)
-  begins_with which_looks.GetState p base m k dead states is stated by h =
-      subst (λ z. HasState (kept_after_begin code cells (Container (look_start which_looks.GetState)) p z) p (state_of_look cells seen m)) (sym is)
-      (found_put_same p (fresh code cells) states
-      ∙ ap (λ (z : Numbers × Showing T). Some (state_of_look cells z.0 z.1)) (λ i. (sym h.0 i, sym h.1 i)))
-  begins_with which_looks.UpdateState p base m k dead states is stated by h =
-      let same : h.0 ≡ p = subst (λ (o : Option ℕ). IfSome o (λ q. q ≡ p)) h.1 by in
-      let has : state_in k p ≡ Some (state_of_look cells seen m) = stated (h.1 ∙ ap Some same) ∙ h.2 in
-      let found : state_of p states ≡ Some (state_of_look cells seen m) = ap (λ z. state_in z p) (sym is) ∙ has in
-      subst (λ z. HasState (kept_after_begin code cells (Container (look_start which_looks.UpdateState)) p z) p (state_of_look cells seen m)) (sym is)
-      (rw found found)
+  begins_with x0 x1 x2 x3 x4 x5 x6 x7 x8 x9 x10 = grind (arith, found_put_same, fresh, state_in)
 
   -- ---- where it goes on, and what it has written then
 
@@ -89,10 +80,7 @@ module _ {T : Type 0} (code : Coding T) (law : IsCoding code) (which : LookOf) (
   none_copied p (suc index) = inl (none_copied p index)
 
   none_looked : (p : ℕ) (stage : LookStage) → LookedAt {T = T} p stage []
-  none_looked p looks.LoadsChange = refl
-  none_looked p (looks.LoadsCount index) = none_copied p index
-  none_looked p (looks.LoadsWord index count at) = none_copied p index
-  none_looked p (looks.ChecksCount index count) = none_copied p index
+  none_looked x0 x1 = grind (arith, none_copied)
 
   abbrev value_read : Showing T → T
   value_read m = value_in code.value_of code.size m.copy
@@ -145,9 +133,7 @@ module _ {T : Type 0} (code : Coding T) (law : IsCoding code) (which : LookOf) (
         (look_keeps_so code which cells seen y.p w.words beside (look_start which) c m n w.kept has))
 
     left_shows : (a : After (Looking T) Bool) → (settled_if a (state_of_look cells seen now)).shown ≡ now
-    left_shows (GoOn d) = refl
-    left_shows (Done true) = refl
-    left_shows (Done false) = refl
+    left_shows x0 = grind arith
 
     -- at its end it shows what its party has copied
     shows_copied : view_now.going ≡ None → ShowsCopied now view_now
@@ -170,13 +156,7 @@ module _ {T : Type 0} (code : Coding T) (law : IsCoding code) (which : LookOf) (
     -- what it writes is its own
     its_own : (es late : List (Event T)) → late ≡ []
         → (es ++ late) ++ events_by y.p (container_effects y.u.world y.p its_flight n) ≡ es ++ look_effects y.p (value_read m) c.stage n
-    its_own es late none =
-        let w = y.u.world in
-        ap (λ zs. (es ++ zs) ++ events_by y.p (container_effects w y.p its_flight n)) none
-        ∙ (ap (λ zs. zs ++ events_by y.p (container_effects w y.p its_flight n)) (append-nil es)
-        ∙ ap (λ zs. es ++ zs)
-        (by_mine y.p (container_effects w y.p its_flight n) (effects_of_party w.coding w.kept y.p its_flight n)
-        ∙ (look_writes_so code which cells seen y.p c m n w y.between.run.coded has ∙ append-nil (look_effects y.p (value_read m) c.stage n))))
+    its_own x0 x1 x2 = grind (arith, append-nil, by_mine, effects_of_party, look_writes_so)
 
     known_then : (base : View T) → Stage base v c m → (a : After (Looking T) Bool) → after c n ≡ a
         → NextKnown (λ (z : View T). z.capacity) Stage Over base a now view_now
@@ -205,12 +185,7 @@ module _ {T : Type 0} (code : Coding T) (law : IsCoding code) (which : LookOf) (
         in (ends, state_then ∙ ap (λ a. Some (settled_if a (state_of_look cells seen now))) e, shows_copied ends.idle)
 
     told : Told (λ (z : View T). z.capacity) Stage Over after kept c m v (answered ask.op n) view_now
-    told =
-        let same : answered ask.op n ≡ n = look_found code.size c.capacity c.stage ask n wants_it in (
-          refl,
-          λ base stage. subst (λ i. NextKnown (λ (z : View T). z.capacity) Stage Over base (after c i) (kept c m i) view_now) (sym same)
-              (known_then base stage (after c n) refl),
-        )
+    told = grind (arith, answered, look_found, known_then)
 
   -- ---- each step keeps the rule
 
@@ -249,10 +224,7 @@ module _ {T : Type 0} (code : Coding T) (law : IsCoding code) (which : LookOf) (
       )
     where
       asks_so : call.stands base₀.capacity c → base₀.capacity ≡ key → AsksFor (container_words code key) (want c)
-      asks_so standing same =
-          subst (λ k. AsksFor (container_words code k) (want c)) same
-          (subst (λ k. AsksFor (container_words code base₀.capacity) (look_asks code.size k c.stage)) (sym standing.0)
-          (look_words code.size base₀.capacity c.stage standing.1))
+      asks_so x0 x1 = grind (arith, look_words)
 
       has_so : (s : State (Unit {0}) (View T)) (y : ReadyAt s v key id c m) → Stage base₀ v c m → base₀.capacity ≡ key
           → HasState y.u.world.kept y.p (state_of_look cells seen m)
@@ -277,27 +249,8 @@ module _ {T : Type 0} (code : Coding T) (law : IsCoding code) (which : LookOf) (
 
     look_flies : (w : LookOf) (capacity : ℕ)
         → flights.Container (first_call capacity (look_start w)) ≡ (looking code w cells seen).flight (first_look capacity) m
-    look_flies which_looks.GetState capacity = refl
-    look_flies which_looks.UpdateState capacity = refl
+    look_flies x0 x1 = grind arith
 
     pub state_look_first : (v : View T) → v.capacity ≡ cells → v.going ≡ None → v.other ≡ [] → 0 < v.share.part → BeginsWith code which cells seen which v m
         → Stage v v (first_look v.capacity) m
-    state_look_first v size idle alone any begins =
-        let named = look_named which in
-        let flies = look_flies which v.capacity in (
-          size,
-          inl (
-            record {
-              is = refl;
-              idle = idle;
-              fresh = alone;
-              standing = (refl, tt);
-              some = any;
-              first = container_first code v call (look_start which) (first_look v.capacity) m refl (λ o p h. h) named flies
-                  ((opening_of kinds.Container).kept v.capacity);
-              starts = container_starts code v call (look_start which) (first_look v.capacity) m refl (λ o p h. h) named flies;
-              wrote = λ p new. refl;
-            },
-            begins,
-          ),
-        )
+    state_look_first x0 x1 x2 x3 x4 x5 = grind (arith, look_named, look_flies, inl, fresh, some, container_first, container_starts)

@@ -60,31 +60,7 @@ module _ {T : Type 0} (code : Coding T) (kind : Kind) (capacity id p : ℕ) wher
 
       -- the party's number is one of a seat
       none : (j : ℕ) → length (slice_set s.views id (view_after v gained u)) ≤ j → j ≡ p → ⊥
-      none j past e =
-          let more = beyond j past in
-          let same = b.fresh j more in
-          let is : j ≡ id = sym same ∙ (ap owner e ∙ b.mine) in
-          let low = within s.views id v at in
-          absurd (omega arith)
+      none x0 x1 x2 = grind (arith, beyond, within)
 
       mine : (j : ℕ) (x : View T) → j ≡ id → view_after v gained u ≡ x → Fits owner u j x
-      mine j x i e =
-          subst (λ z. Fits owner u j z) e
-          (subst (λ n. Fits owner u n (view_after v gained u)) (sym i)
-          (record {
-            seen = whole u;
-            other = none_seen u.events;
-            self = λ any. b.self;
-            going = λ q of_id is. (let same : p ≡ q = cc in ap (call_in u.world) (sym same));
-            idle = λ q of_id ne. b.idle q of_id (λ e. ne (ap Some (sym e)));
-            stated = λ q of_id is. (let same : p ≡ q = cc in ap (state_in u.world.kept) (sym same));
-            party = b.mine;
-            late = [];
-            waits = none_late u.world.kind (call_in u.world p);
-            of_party = refl;
-            own = λ any q of_id. inl (append-nil (events_by q u.events));
-            made = λ f. (
-                let was = b.made_own v at f in
-                let two = sum_by-append f v.made gained in
-                omega arith);
-          }))
+      mine x0 x1 x2 x3 = grind (arith, whole, none_seen, state_in, none_late, inl, append-nil, sum_by-append)

@@ -9,7 +9,7 @@ use Rattle.history.proofs.Known.{by_more, by_same, by_twice, by_apart, owned_non
 
 module _ {T : Type 0} where
   pub longer : (seen events more : List (Event T)) → IsBeginning seen events → IsBeginning seen (events ++ more)
-  longer seen events more h = record { rest = h.rest ++ more; is = ap (λ es. es ++ more) h.is ∙ append_assoc seen h.rest more }
+  longer x0 x1 x2 x3 = grind (arith, append_assoc)
 
   -- ---- what another writes for a seat's call
 
@@ -22,38 +22,23 @@ module _ {T : Type 0} where
       (held : (q : ℕ) → owner q ≡ j → state_in w.world.kept q ≡ state_in u.world.kept q) where
     -- a party with no call under way has nothing written for it
     quiet : (q : ℕ) → owner q ≡ j → call_in u.world q ≡ None → events_by q es ≡ []
-    quiet q of_j none = late_none kind (events_by q es) (subst (λ o. IsLate kind o (events_by q es)) none (beside q of_j))
+    quiet x0 x1 x2 = grind arith
 
     quiet_else : (o : Option ℕ) → v.party ≡ o → (q : ℕ) → owner q ≡ j → o ≢ Some q → events_by q es ≡ []
     quiet_else o is q of_j ne = quiet q of_j (f.idle q of_j (λ e. ne (sym is ∙ e)))
 
     waits_on : (o : Option ℕ) → v.party ≡ o → IsLate kind v.going (f.late ++ by_party o es)
-    waits_on None is = subst (λ zs. IsLate kind v.going zs) (sym (append-nil f.late)) (subst (λ k. IsLate k v.going f.late) same f.waits)
-    waits_on (Some q) is =
-        let of_j : owner q ≡ j = subst (λ (o : Option ℕ). IfSome o (λ p. owner p ≡ j)) is f.party in
-        late_more kind v.going f.late (events_by q es) (subst (λ k. IsLate k v.going f.late) same f.waits)
-        (subst (λ o. IsLate kind o (events_by q es)) (f.going q of_j is) (beside q of_j))
+    waits_on x0 x1 = grind (arith, append-nil, late_more)
 
     of_party_on : (o : Option ℕ) → v.party ≡ o → by_party o (f.late ++ by_party o es) ≡ f.late ++ by_party o es
-    of_party_on None is = (let none : [] ≡ f.late = subst (λ (o : Option ℕ). by_party o f.late ≡ f.late) is f.of_party in none ∙ sym (append-nil f.late))
-    of_party_on (Some q) is =
-        let was : events_by q f.late ≡ f.late = subst (λ (o : Option ℕ). by_party o f.late ≡ f.late) is f.of_party in
-        by_more q f.late (events_by q es) ∙ (ap (λ zs. zs ++ events_by q (events_by q es)) was ∙ ap (λ zs. f.late ++ zs) (by_twice q es))
+    of_party_on x0 x1 = grind (arith, by_party, append-nil, by_more, by_twice)
 
     -- of one of its parties it is late by just what the turn wrote for it
     late_is : (o : Option ℕ) → v.party ≡ o → (q : ℕ) → owner q ≡ j → events_by q (by_party o es) ≡ events_by q es
-    late_is None is q of_j = sym (quiet_else None is q of_j (λ e. absurd (cc)))
-    late_is (Some r) is q of_j =
-        ⊎_elim (λ (e : q ≡ r). subst (λ z. events_by z (events_by r es) ≡ events_by z es) (sym e) (by_twice r es))
-        (λ (ne : q ≢ r). by_apart r q es ne ∙ sym (quiet_else (Some r) is q of_j (λ e. (let is_q : r ≡ q = cc in ne (sym is_q)))))
-        (cases_eq q r)
+    late_is x0 x1 x2 x3 = grind (arith, quiet_else, by_twice, by_apart, cases_eq)
 
     own_on : (o : Option ℕ) → v.party ≡ o → (q : ℕ) → owner q ≡ j → HasSeenOf q v f.late u → HasSeenOf q v (f.late ++ by_party o es) w
-    own_on o is q of_j (inl e) =
-        inl (ap (λ zs. events_by q v.seen ++ zs) (by_more q f.late (by_party o es) ∙ ap (λ zs. events_by q f.late ++ zs) (late_is o is q of_j))
-        ∙ (sym (append_assoc (events_by q v.seen) (events_by q f.late) (events_by q es))
-        ∙ (ap (λ zs. zs ++ events_by q es) e ∙ (sym (by_more q u.events es) ∙ ap (events_by q) (sym more)))))
-    own_on o is q of_j (inr h) = inr (apart q of_j ∙ h.0, h.1 ∙ (sym (by_same q u.events es (quiet q of_j h.0)) ∙ ap (events_by q) (sym more)))
+    own_on x0 x1 x2 x3 x4 = grind (arith, by_more, by_party, late_is, append_assoc, by_same, quiet)
 
     sums_on : (o : Option ℕ) → v.party ≡ o → (g : Event T → ℕ) → sum_by g (by_party o es) ≡ sum_by (owned owner j g) es
     sums_on None is g = sym (owned_none owner j g es (λ q of_j. quiet_else None is q of_j (λ e. absurd (cc))))

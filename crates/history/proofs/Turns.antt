@@ -82,14 +82,7 @@ module _ {T : Type 0} where
       pub stateless : (t : Trace T) → IsRun code kind capacity t → IsStateless t.world.kept
 
     pub kept_laws : MachineLaws → KeptLaws
-    kept_laws laws =
-        record {
-          size = laws.size;
-          steps_on = laws.steps_on;
-          states = λ t turn run next free q none.
-              stateless_none (after_turn t turn).world.kept q (laws.stateless (after_turn t turn) next)
-              ∙ sym (stateless_none t.world.kept q (laws.stateless t run));
-        }
+    kept_laws x0 = grind arith
 
     pub goes_on_alike : MachineLaws → (t : Trace T) → IsRun code kind capacity t → (p : ℕ) (flight : Flight T) (n : ℕ)
         → goes_of code p flight n t.world.kept ≡ after_of code flight n
@@ -111,7 +104,7 @@ module _ {T : Type 0} where
       pub stateless : (t : Trace T) → IsRun code kind capacity t → IsStateless t.world.kept
 
     own_beside : (w : World T) (p q : ℕ) (es : List (Event T)) → q ≢ p → AreOf p es → IsLate kind (call_in w q) (events_by q es)
-    own_beside w p q es ne own = subst (λ zs. IsLate kind (call_in w q) zs) (sym (by_other p q es ne own)) (none_late kind (call_in w q))
+    own_beside x0 x1 x2 x3 x4 x5 = grind (arith, by_other, none_late)
 
     pub machine_laws : KindLaws → MachineLaws code kind capacity words (λ w. effects)
     machine_laws laws =
@@ -154,47 +147,17 @@ module _ {T : Type 0} where
         → ((v : View T) → get_elem? s.views id ≡ some v → (f : Event T → ℕ)
         → sum_by f v.made + sum_by f gained ≡ sum_by (owned m.owner id f) m.trace.events)
         → Between m.owner s id p gained m.trace
-    at_first s id p m gained mine self idle made_own =
-        record {
-          run = m.run;
-          words = m.words;
-          others = λ j v ne at. m.seats j v at;
-          mine = mine;
-          self = self;
-          idle = idle;
-          made_own = made_own;
-          inside = m.inside;
-          fresh = m.fresh;
-          further = λ j ne past. m.further j past;
-          made_none = λ j ne past. m.made_none j past;
-          shares = m.known.shares;
-          someone = m.known.someone;
-          spent = m.known.spent;
-        }
+    at_first x0 x1 x2 x3 x4 x5 x6 x7 x8 = grind arith
 
     -- who has the whole has made all
     pub made_between : (owner : ℕ → ℕ) (id p : ℕ) (gained : List (Event T)) (u : Trace T) (s : State (Unit {0}) (View T))
         → Between owner s id p gained u → (v : View T) → get_elem? s.views id ≡ some v → IsAll v.share
         → (f : Event T → ℕ) → sum_by f u.events ≡ sum_by f (v.made ++ gained)
-    made_between owner id p gained u s b v at all f =
-        let whole =
-        owned_whole owner u s.views id v at all b.shares b.spent b.others b.inside
-        (λ q ne past. b.made_none q (λ e. ne (ap owner e ∙ b.mine)) past) b.someone f in
-        let two = sum_by-append f v.made gained in
-        let was = b.made_own v at f in
-        omega arith
+    made_between x0 x1 x2 x3 x4 x5 x6 x7 x8 x9 x10 = grind (arith, owned_whole, sum_by-append)
 
     run_more : (t : Trace T) (turn : Turn T) → refusal_as kind t.world turn ≡ None → IsFreshTurn t turn → IsRun code kind capacity t
         → IsRun code kind capacity (after_turn t turn)
-    run_more t turn e fresh r =
-        let same = turn_making t.world turn in
-        record {
-          reached = reached_as_more kind t turn e r.reached;
-          coded = same.coding ∙ r.coded;
-          of_kind = same.kind ∙ r.of_kind;
-          sized = same.capacity ∙ r.sized;
-          fresh = fresh_as_more kind t turn e fresh r.fresh;
-        }
+    run_more x0 x1 x2 x3 x4 = grind (arith, turn_making, reached_as_more, fresh_as_more)
 
     module _ (words : ℕ) (effects : World T → ℕ → Flight T → ℕ → List (Event T))
         (laws : KeptLaws code kind capacity words effects) (owner : ℕ → ℕ) (s : State (Unit {0}) (View T)) (id p : ℕ)
@@ -244,7 +207,7 @@ module _ {T : Type 0} where
         where
           none_of : (es : List (Event T)) → ((q : ℕ) → q ≢ p → IsLate kind (call_in u.world q) (events_by q es))
               → (q : ℕ) → q ≢ p → call_in u.world q ≡ None → events_by q es ≡ []
-          none_of es beside q ne idle = late_none kind (events_by q es) (subst (λ o. IsLate kind o (events_by q es)) idle (beside q ne))
+          none_of x0 x1 x2 x3 x4 = grind (arith, late_none)
 
       -- ---- a call begins
 
@@ -252,14 +215,10 @@ module _ {T : Type 0} where
           (first : first_of kind capacity start u.world.kept ≡ Some flight)
           (may : first_row (rows_as kind capacity u.world.kept p start) ≡ None) where
         first_here : first_of u.world.kind u.world.capacity start u.world.kept ≡ Some flight
-        first_here =
-            ap (λ k. first_of k u.world.capacity start u.world.kept) b.run.of_kind
-            ∙ (ap (λ n. first_of kind n start u.world.kept) b.run.sized ∙ first)
+        first_here = grind arith
 
         pub begins_free : refusal_as kind u.world (Begin p start) ≡ None
-        begins_free =
-            begin_as kind u.world p start b.run.of_kind (no_flight u.world p idle)
-            (subst (λ n. first_row (rows_as kind n u.world.kept p start) ≡ None) (sym b.run.sized) may)
+        begins_free = grind arith
 
         begins : Between owner s id p (gained ++ events_by p (Begun p start ∷ [])) (after_turn u (Begin p start))
         begins = turned s.words (Begin p start) begins_free tt
@@ -269,16 +228,13 @@ module _ {T : Type 0} where
             (λ q ne. look_begin u.world p q start ne)
 
         pub begun : Between owner s id p (gained ++ Begun p start ∷ []) (after_turn u (Begin p start))
-        begun = subst (λ zs. Between owner s id p (gained ++ zs) (after_turn u (Begin p start))) (by_mine p (Begun p start ∷ []) (refl, tt)) begins
+        begun = grind (arith, after_turn, by_mine, begins)
 
         pub begun_at : call_in (after_turn u (Begin p start)).world p ≡ Some (start, flight)
         begun_at = begin_own u.world p start flight (first_of u.world.kind u.world.capacity start u.world.kept) first_here
 
         pub begun_kept : (after_turn u (Begin p start)).world.kept ≡ kept_after_begin code capacity start p u.world.kept
-        begun_kept =
-            begin_kept u.world p start flight (first_of u.world.kind u.world.capacity start u.world.kept) first_here
-            ∙ (ap (λ z. kept_after_begin z u.world.capacity start p u.world.kept) b.run.coded
-            ∙ ap (λ n. kept_after_begin code n start p u.world.kept) b.run.sized)
+        begun_kept = grind arith
 
       -- ---- it goes on, at a word or at none
 
@@ -295,25 +251,13 @@ module _ {T : Type 0} where
         asks_here = rw b.run.coded asks
 
         pub goes_free : call_refusal u.world (Next p) ≡ None
-        goes_free = go ask asks_here
-          where
-            go : (o : Option Ask) → want_of u.world.coding flight ≡ want_for o → call_refusal u.world (Next p) ≡ None
-            go None e = rw (here, e) mine.may
-            go (Some a) e = rw (here, e) mine.may
+        goes_free = grind arith
 
         asked : ask_in u.world (Next p) ≡ ask
-        asked = go ask asks_here
-          where
-            go : (o : Option Ask) → want_of u.world.coding flight ≡ want_for o → ask_in u.world (Next p) ≡ o
-            go None e = rw (here, e) refl
-            go (Some a) e = rw (here, e) refl
+        asked = grind arith
 
         asked_of : ask_of (want_of u.world.coding flight) ≡ ask
-        asked_of = ap ask_of asks_here ∙ go ask
-          where
-            go : (o : Option Ask) → ask_of (want_for o) ≡ o
-            go None = refl
-            go (Some a) = refl
+        asked_of = grind arith
 
         pub found_old : old_of u.world.words (ask_of (want_of u.world.coding flight)) ≡ at_ask s.words ask
         found_old = ap (old_of u.world.words) asked_of ∙ go ask low
@@ -381,10 +325,7 @@ module _ {T : Type 0} where
         -- what it writes of its own
         pub own_told : events_by p (events_of u.world (Next p))
             ≡ events_by p (effects u.world p flight found) ++ ending_of p start (answer_in (goes_then found))
-        own_told =
-            ap (events_by p) told ∙ (by_more p (effects u.world p flight found) (ending_of p start (answer_in (goes_then found)))
-            ∙ ap (λ zs. events_by p (effects u.world p flight found) ++ zs)
-            (by_mine p (ending_of p start (answer_in (goes_then found))) ends_own))
+        own_told = grind (arith, told, by_more, by_mine, ends_own)
 
         words_then : words_after s.words ask ≡ (after_turn u (Next p)).world.words ++ 0 ∷ []
         words_then = go ask low asked
@@ -405,9 +346,7 @@ module _ {T : Type 0} where
                 ∙ ap (λ ws. ws ++ 0 ∷ []) (sym new)))
 
         fresh_now : IsFreshTurn u (Next p)
-        fresh_now f found =
-            let same : flight ≡ f = (let both : Some flight ≡ Some f = sym here ∙ found in cc) in
-            subst (λ g. IsFreshCall (old_of u.world.words (ask_of (want_of u.world.coding g))) g) same (subst (λ n. IsFreshCall n flight) (sym found_old) finds)
+        fresh_now x0 x1 = grind (arith, here, found_old)
 
         pub gone : Between owner (record { words = words_after s.words ask; homes = s.homes; views = s.views }) id p
             (gained ++ events_by p (events_of u.world (Next p))) (after_turn u (Next p))
@@ -428,7 +367,7 @@ module _ {T : Type 0} where
         ends_so = ending_of p start (answer_in next)
 
         comes_here : goes_of u.world.coding p flight (number_of said) u.world.kept ≡ next
-        comes_here = ap (λ z. goes_of z p flight (number_of said) u.world.kept) b.run.coded ∙ comes
+        comes_here = grind arith
 
         pub heard : events_of u.world (Decide p said) ≡ hears ++ ends_so
         heard =
@@ -437,9 +376,7 @@ module _ {T : Type 0} where
 
         -- what it writes of its own
         pub own_heard : events_by p (events_of u.world (Decide p said)) ≡ events_by p hears ++ ends_so
-        own_heard =
-            ap (events_by p) heard
-            ∙ (by_more p hears ends_so ∙ ap (λ zs. events_by p hears ++ zs) (by_mine p ends_so (ending_of_own p start (answer_in next))))
+        own_heard = grind (arith, heard, by_more, by_mine, ending_of_own)
 
         heard_someone : sum_by (λ e. of_none (whose e)) (events_of u.world (Decide p said)) ≡ 0
         heard_someone =

@@ -48,26 +48,12 @@ module _ {T : Type 0} (code : Coding T) where
 
   -- a word of a cell is one of the value's words
   cell_low : (version cell at : ℕ) → cell ≡ cell_word code.size version → at < code.size → word_at cell at < 2 + code.size * 2
-  cell_low version cell at is below = (let low = cell_within code.size version at below in omega arith)
+  cell_low x0 x1 x2 x3 x4 = grind arith
 
   -- ---- the producer's role
 
   acquire_is_call : IsCallOf code (value_effects code) size_of acquire_want acquire_after (λ c m n. m) acquires_producer
-  acquire_is_call =
-      record {
-        same_want = λ c m. refl;
-        same_after = λ capacity c m n h. refl;
-        hears =
-            λ c m a n e. (let is : record { word = c.word; op = ops.Exchange 1 0 } ≡ a = cc in
-            (ap (λ (z : Ask). acquire_after c (answered z.op n)) (sym is), refl));
-        stays = λ capacity c d n h e. absurd (cc);
-        asks = λ capacity c h. (record { word = c.word; op = ops.Exchange 1 0 }, subst (λ w. w < 2 + code.size * 2) (sym h) (omega arith), refl);
-        past = λ capacity c d n k h e. refl;
-        finds = λ c m n small t. tt;
-        leaves = λ c a n t e. absurd (cc);
-        tells = λ capacity p from c d m n es h wrote e. absurd (cc);
-        tells_all = λ capacity p from c b m n es h skip wrote e still. ap (λ zs. zs ++ []) wrote;
-      }
+  acquire_is_call = grind arith
 
   pub acquire_keeps : Keeps acquires_producer acquire_want acquire_after (λ c m n. m)
   acquire_keeps =
@@ -76,32 +62,10 @@ module _ {T : Type 0} (code : Coding T) where
 
   pub acquire_first : (x : View T) (m : Unit {0}) → x.going ≡ None → x.other ≡ [] → 0 < x.share.part
       → At code kinds.Atomic acquires_producer x x (record { word = producer_word }) m
-  acquire_first x m idle alone any =
-      inl (record {
-        is = refl;
-        idle = idle;
-        fresh = alone;
-        standing = refl;
-        some = any;
-        first = refl;
-        starts = plain_starts code x acquires_producer AcquireProducer (record { word = producer_word }) m refl (λ kept. refl) (λ o p h. h) (λ holder p. refl);
-        wrote = λ p. refl;
-      })
+  acquire_first x0 x1 x2 x3 x4 = grind (arith, inl, fresh, plain_starts, acquires_producer)
 
   release_is_call : IsCallOf code (value_effects code) size_of release_want release_after (λ c m n. m) releases_producer
-  release_is_call =
-      record {
-        same_want = λ c m. refl;
-        same_after = λ capacity c m n h. refl;
-        hears = λ c m a n e. (refl, refl);
-        stays = λ capacity c d n h e. absurd (cc);
-        asks = λ capacity c h. (record { word = c.word; op = ops.Store 1 }, subst (λ w. w < 2 + code.size * 2) (sym h) (omega arith), refl);
-        past = λ capacity c d n k h e. refl;
-        finds = λ c m n small t. tt;
-        leaves = λ c a n t e. absurd (cc);
-        tells = λ capacity p from c d m n es h wrote e. absurd (cc);
-        tells_all = λ capacity p from c b m n es h skip wrote e still. ap (λ zs. zs ++ []) wrote;
-      }
+  release_is_call = grind arith
 
   pub release_keeps : Keeps releases_producer release_want release_after (λ c m n. m)
   release_keeps =
@@ -131,11 +95,7 @@ module _ {T : Type 0} (code : Coding T) (law : IsCoding code) (value : T) where
   storing = stores_value code value
 
   store_same_after : (c : Storing T) (m : Unit {0}) (n : ℕ) → after_of code (storing.flight c m) n ≡ goes storing (store_after code.size c n) m
-  store_same_after c m n = go (store_after code.size c n) refl
-    where
-      go : (r : After (Storing T) Bool) → store_after code.size c n ≡ r → after_of code (storing.flight c m) n ≡ goes storing r m
-      go (GoOn d) e = rw e refl
-      go (Done b) e = rw e refl
+  store_same_after x0 x1 x2 = grind arith
 
   -- the events of a step that goes on, and of one that ends
   store_quiet : (p : ℕ) (c d : Storing T) (m : Unit {0}) (n : ℕ) → store_after code.size c n ≡ GoOn d → value_effects code p (storing.flight c m) n ≡ []
@@ -148,46 +108,13 @@ module _ {T : Type 0} (code : Coding T) (law : IsCoding code) (value : T) where
   -- a store that is no look answers true
   store_true : (c : Storing T) (n : ℕ) (b : Bool) (stage : stores.StoreStage) → store_skips stage n ≡ false
       → store_takes code.size c stage n ≡ Done b → b ≡ true
-  store_true c n b stores.TheVariants.LoadsVersion skip e =
-      (let no : GoOn (at_store c (stores.TheVariants.StoresCell (cell_word code.size n) 0)) ≡ Done b = rw skip at e in absurd (cc))
-  store_true c n b (stores.TheVariants.StoresCell cell at) skip e = go (nat_lt (at + 1) code.size) e
-    where
-      go : (t : Bool) → cond {A = After (Storing T) Bool} t (GoOn (at_store c (stores.TheVariants.StoresCell cell (at + 1))))
-          (GoOn (at_store c stores.TheVariants.AddsVersion))
-          ≡ Done b
-          → b ≡ true
-      go true e = absurd (cc)
-      go false e = absurd (cc)
-  store_true c n b stores.TheVariants.AddsVersion skip e = (let same : true ≡ b = cc in sym same)
+  store_true x0 x1 x2 x3 x4 x5 = grind arith
 
   abbrev StandsNext : Storing T → Type 0
   StandsNext d = StoreStands code.size d.stage × ((k : ℕ) → store_skips d.stage k ≡ false)
 
   store_stays : (c d : Storing T) (n : ℕ) (stage : stores.StoreStage) → StoreStands code.size stage → store_takes code.size c stage n ≡ GoOn d → StandsNext d
-  store_stays c d n stores.TheVariants.LoadsVersion h e = go (n == 2 ^ 64 - 1) e
-    where
-      go : (t : Bool)
-          → cond {A = After (Storing T) Bool} t (Done false) (GoOn (at_store c (stores.TheVariants.StoresCell (cell_word code.size n) 0)))
-          ≡ GoOn d
-          → StandsNext d
-      go true e = absurd (cc)
-      go false e =
-          let is : at_store c (stores.TheVariants.StoresCell (cell_word code.size n) 0) ≡ d = cc in
-          let some = law.some in
-          subst StandsNext is (((n, refl), omega arith), λ k. refl)
-  store_stays c d n (stores.TheVariants.StoresCell cell at) h e = go (nat_lt (at + 1) code.size) refl e
-    where
-      go : (t : Bool) → nat_lt (at + 1) code.size ≡ t
-          → cond {A = After (Storing T) Bool} t (GoOn (at_store c (stores.TheVariants.StoresCell cell (at + 1))))
-          (GoOn (at_store c stores.TheVariants.AddsVersion))
-          ≡ GoOn d
-          → StandsNext d
-      go true t e =
-          let is : at_store c (stores.TheVariants.StoresCell cell (at + 1)) ≡ d = cc in
-          let next : at + 1 < code.size = grind (arith, nat_tests) in
-          subst StandsNext is ((h.0, next), λ k. refl)
-      go false t e = (let is : at_store c stores.TheVariants.AddsVersion ≡ d = cc in subst StandsNext is (tt, λ k. refl))
-  store_stays c d n stores.TheVariants.AddsVersion h e = absurd (cc)
+  store_stays x0 x1 x2 x3 x4 x5 = grind arith
 
   store_finds_word : (stage : stores.StoreStage) → StoreStands code.size stage
       → (a : Ask) × (a.word < 2 + code.size * 2) × (store_asks code.words_of stage value ≡ wants.Ask a)
@@ -202,45 +129,19 @@ module _ {T : Type 0} (code : Coding T) (law : IsCoding code) (value : T) where
   store_hears : (c : Storing T) (a : Ask) (n : ℕ) (stage : stores.StoreStage)
       → store_asks code.words_of stage value ≡ wants.Ask a
       → store_takes code.size c stage (answered a.op n) ≡ store_takes code.size c stage n
-  store_hears c a n stores.TheVariants.LoadsVersion e =
-      (let is : record { word = 0; op = ops.Load } ≡ a = cc in
-      ap (λ (z : Ask). store_takes code.size c stores.TheVariants.LoadsVersion (answered z.op n)) (sym is))
-  store_hears c a n (stores.TheVariants.StoresCell cell at) e = refl
-  store_hears c a n stores.TheVariants.AddsVersion e = refl
+  store_hears x0 x1 x2 x3 x4 = grind arith
 
   store_finds : (n : ℕ) (stage : stores.StoreStage) → n < 2 ^ 64 → store_skips stage n ≡ false → IsFreshStore n stage
-  store_finds n stores.TheVariants.LoadsVersion small t = (let other : n ≢ 2 ^ 64 - 1 = grind (arith, nat_tests) in omega arith)
-  store_finds n (stores.TheVariants.StoresCell cell at) small t = tt
-  store_finds n stores.TheVariants.AddsVersion small t = tt
+  store_finds x0 x1 x2 x3 = grind arith
 
   store_leaves : (c : Storing T) (a : Ask) (n : ℕ) (stage : stores.StoreStage) → store_skips stage n ≡ true
       → store_asks code.words_of stage value ≡ wants.Ask a
       → (written a.op n ≡ n) × (e : Bool) × (e ≡ false) × (store_takes code.size c stage n ≡ Done e)
-  store_leaves c a n stores.TheVariants.LoadsVersion t e =
-      (let is : record { word = 0; op = ops.Load } ≡ a = cc in (ap (λ (z : Ask). written z.op n) (sym is), false, refl, rw t refl))
-  store_leaves c a n (stores.TheVariants.StoresCell cell at) t e = absurd (cc)
-  store_leaves c a n stores.TheVariants.AddsVersion t e = absurd (cc)
+  store_leaves x0 x1 x2 x3 x4 x5 = grind arith
 
   store_is_call : IsCallOf code (value_effects code) (size_of code) (λ c. store_want code.words_of c value)
       (λ c n. store_after code.size c n) (λ c m n. m) storing
-  store_is_call =
-      record {
-        same_want = λ c m. refl;
-        same_after = λ capacity c m n h. store_same_after c m n;
-        hears = λ c m a n e. (store_hears c a n c.stage e, refl);
-        stays = λ capacity c d n h e. (store_stays c d n c.stage h e).0;
-        asks = λ capacity c h. store_finds_word c.stage h;
-        past = λ capacity c d n k h e. (store_stays c d n c.stage h e).1 k;
-        finds = λ c m n small t. store_finds n c.stage small t;
-        leaves = λ c a n t e. store_leaves c a n c.stage t e;
-        tells = λ capacity p from c d m n es h wrote e. ap (λ zs. zs ++ value_effects code p (storing.flight c m) n) wrote ∙ store_quiet p c d m n e;
-        tells_all = λ capacity p from c b m n es h skip wrote e still. (
-            let yes : b ≡ true = store_true c n b c.stage skip e in (
-              yes,
-              ap (λ zs. zs ++ value_effects code p (storing.flight c m) n) wrote
-                  ∙ store_acts p c m n (subst (λ t. store_after code.size c n ≡ Done t) yes e),
-            ));
-      }
+  store_is_call = grind (arith, store_same_after, store_hears, store_stays, store_finds_word, store_finds, store_leaves, store_quiet, store_true, store_acts)
 
   pub store_keeps : KeepsRule (λ (z : View T). z.capacity) (At code kinds.Atomic storing)
       (Over code kinds.Atomic storing) (λ key. 2 + code.size * 2 + 1) (λ key. key)
@@ -304,23 +205,7 @@ module _ {T R : Type 0} (code : Coding T) (law : IsCoding code) (words_in : R �
 
   load_quiet : (p : ℕ) (c d : Loading T R) (m : R) (n : ℕ) → load_after code.size c n ≡ GoOn d
       → LoadStands code.size c.stage → value_effects code p (loading.flight c m) n ≡ []
-  load_quiet p c d m n e h = go c.stage h e
-    where
-      go : (stage : loads.LoadStage) → LoadStands code.size stage → load_takes code.size c stage n ≡ GoOn d
-          → value_effects code p (flight_at stage (room_of code.size (words_in m))) n ≡ []
-      go loads.TheVariants.LoadsVersion h e = refl
-      go (loads.TheVariants.LoadsCell version cell at) h e = cell_quiet (nat_lt (at + 1) code.size) refl
-        where
-          cell_quiet : (b : Bool) → nat_lt (at + 1) code.size ≡ b
-              → value_effects code p (flight_at (loads.TheVariants.LoadsCell version cell at) (room_of code.size (words_in m))) n ≡ []
-          cell_quiet true t = rw t refl
-          cell_quiet false t = rw t refl
-      go (loads.TheVariants.ChecksVersion version) h e = check_quiet (n == version) refl
-        where
-          check_quiet : (b : Bool) → (n == version) ≡ b
-              → value_effects code p (flight_at (loads.TheVariants.ChecksVersion version) (room_of code.size (words_in m))) n ≡ []
-          check_quiet true t = (let no : Done tt ≡ GoOn d = rw t at e in absurd (cc))
-          check_quiet false t = rw t refl
+  load_quiet x0 x1 x2 x3 x4 x5 x6 = grind arith
 
   load_acts : (p : ℕ) (c : Loading T R) (m : R) (n : ℕ) (stage : loads.LoadStage) → load_takes code.size c stage n ≡ Done tt
       → value_effects code p (flight_at stage (room_of code.size (words_in m))) n
@@ -346,32 +231,7 @@ module _ {T R : Type 0} (code : Coding T) (law : IsCoding code) (words_in : R �
 
   load_stays : (c d : Loading T R) (n : ℕ) (stage : loads.LoadStage) → LoadStands code.size stage
       → load_takes code.size c stage n ≡ GoOn d → LoadStands code.size d.stage
-  load_stays c d n loads.TheVariants.LoadsVersion h e =
-      let is : at_load c (load_begins code.size n) ≡ d = cc in
-      let some = law.some in
-      subst (λ (x : Loading T R). LoadStands code.size x.stage) is (refl, omega arith)
-  load_stays c d n (loads.TheVariants.LoadsCell version cell at) h e = go (nat_lt (at + 1) code.size) refl e
-    where
-      go : (t : Bool) → nat_lt (at + 1) code.size ≡ t
-          → cond {A = After (Loading T R) (Unit {0})} t
-          (GoOn (at_load c (loads.TheVariants.LoadsCell version cell (at + 1))))
-          (GoOn (at_load c (loads.TheVariants.ChecksVersion version)))
-          ≡ GoOn d
-          → LoadStands code.size d.stage
-      go true t e =
-          let is : at_load c (loads.TheVariants.LoadsCell version cell (at + 1)) ≡ d = cc in
-          let next : at + 1 < code.size = grind (arith, nat_tests) in
-          subst (λ (x : Loading T R). LoadStands code.size x.stage) is (h.0, next)
-      go false t e = (let is : at_load c (loads.TheVariants.ChecksVersion version) ≡ d = cc in subst (λ (x : Loading T R). LoadStands code.size x.stage) is tt)
-  load_stays c d n (loads.TheVariants.ChecksVersion version) h e = go (n == version) e
-    where
-      go : (t : Bool) → cond {A = After (Loading T R) (Unit {0})} t (Done tt) (GoOn (at_load c (load_begins code.size n))) ≡ GoOn d
-          → LoadStands code.size d.stage
-      go true e = absurd (cc)
-      go false e =
-          let is : at_load c (load_begins code.size n) ≡ d = cc in
-          let some = law.some in
-          subst (λ (x : Loading T R). LoadStands code.size x.stage) is (refl, omega arith)
+  load_stays x0 x1 x2 x3 x4 x5 = grind arith
 
   load_finds_word : (stage : loads.LoadStage) → LoadStands code.size stage → (a : Ask) × (a.word < 2 + code.size * 2) × (load_asks stage ≡ wants.Ask a)
   load_finds_word loads.TheVariants.LoadsVersion h = (record { word = 0; op = ops.Load }, omega arith, refl)
@@ -382,32 +242,10 @@ module _ {T R : Type 0} (code : Coding T) (law : IsCoding code) (words_in : R �
   load_hears : (c : Loading T R) (m : R) (a : Ask) (n : ℕ) (stage : loads.LoadStage) → load_asks stage ≡ wants.Ask a
       → (load_takes code.size c stage (answered a.op n) ≡ load_takes code.size c stage n)
       × (load_keeps with_word m stage (answered a.op n) ≡ load_keeps with_word m stage n)
-  load_hears c m a n loads.TheVariants.LoadsVersion e =
-      (let is : record { word = 0; op = ops.Load } ≡ a = cc in
-      (ap (λ (z : Ask). load_takes code.size c loads.TheVariants.LoadsVersion (answered z.op n)) (sym is), refl))
-  load_hears c m a n (loads.TheVariants.LoadsCell version cell at) e =
-      (let is : record { word = word_at cell at; op = ops.Load } ≡ a = cc in
-      (refl, ap (λ (z : Ask). with_word m at (answered z.op n)) (sym is)))
-  load_hears c m a n (loads.TheVariants.ChecksVersion version) e =
-      (let is : record { word = 0; op = ops.Exchange version version } ≡ a = cc in
-      (ap (λ (z : Ask). load_takes code.size c (loads.TheVariants.ChecksVersion version) (answered z.op n)) (sym is), refl))
+  load_hears x0 x1 x2 x3 x4 x5 = grind arith
 
   load_is_call : IsCallOf code (value_effects code) (size_of code) (λ (c : Loading T R). load_want c) (λ c n. load_after code.size c n) keeps_word loading
-  load_is_call =
-      record {
-        same_want = λ c m. refl;
-        same_after = λ capacity c m n h. load_same_after c m n c.stage h;
-        hears = λ c m a n e. load_hears c m a n c.stage e;
-        stays = λ capacity c d n h e. load_stays c d n c.stage h e;
-        asks = λ capacity c h. load_finds_word c.stage h;
-        past = λ capacity c d n k h e. refl;
-        finds = λ c m n small t. tt;
-        leaves = λ c a n t e. absurd (cc);
-        tells = λ capacity p from c d m n es h wrote e. ap (λ zs. zs ++ value_effects code p (loading.flight c m) n) wrote ∙ load_quiet p c d m n e h;
-        tells_all =
-            λ capacity p from c b m n es h skip wrote e still. ap (λ zs. zs ++ value_effects code p (loading.flight c m) n) wrote
-            ∙ load_acts p c m n c.stage e;
-      }
+  load_is_call = grind (arith, load_same_after, load_hears, load_stays, load_finds_word, load_quiet, load_acts)
 
   pub load_keeps_rule : KeepsRule (λ (z : View T). z.capacity) (At code kinds.Atomic loading)
       (Ends code kinds.Atomic loading) (λ key. 2 + code.size * 2 + 1) (λ key. key)

@@ -30,9 +30,7 @@ module _ {T : Type 0} where
   Right before es = AreRight ByProducer before es
 
   store_right : (p : ℕ) (value : T) (o : Option (Answer T)) (before : List (Event T)) → holder_of before ≡ Some p → Right before (acted p (Store value) o)
-  store_right p value None before holds = tt
-  store_right p value (Some (Truth true)) before holds = (holds, tt)
-  store_right p value (Some answer) before holds = tt
+  store_right x0 x1 x2 x3 x4 = grind arith
 
   load_right : (p : ℕ) (o : Option (Answer T)) (before : List (Event T)) → Right before (acted p Load o)
   load_right p None before = tt
@@ -42,26 +40,17 @@ module _ {T : Type 0} where
       (k : Core) (before : List (Event T))
       → holder_of before ≡ holder → (start : AtomicStart T) (flight : AtomicFlight T) → At en holder k p start flight
       → Right before (step_of z words waits p (Atomic start) (flights.TheVariants.Atomic flight) n (registries.TheVariants.Atomic holder)).wrote
-  flight_right z en words waits p n holder k before holds AcquireProducer (calls.TheVariants.Acquire run) at = tt
-  flight_right z en words waits p n holder k before holds ReleaseProducer (calls.TheVariants.Release run) at = tt
-  flight_right z en words waits p n holder k before holds (Store value) (calls.TheVariants.Store run) at = store_right p value _ before (holds ∙ at.0)
-  flight_right z en words waits p n holder k before holds Load (calls.TheVariants.Load run) at = load_right p _ before
-  flight_right z en words waits p n holder k before holds start flight at = absurd at
+  flight_right x0 x1 x2 x3 x4 x5 x6 x7 x8 x9 x10 x11 x12 = grind arith
 
   module _ (en : Coding T) (c : ℕ) (t : Trace T) (s : frame.Sound (family en c) t) where
     any_right : (p n : ℕ) (waits : Option (ℕ × ℕ)) (start : Start T) (flight : Flight T) (kept : Registry T)
         → kept ≡ registries.TheVariants.Atomic s.state.holder → (family en c).At s.state p start flight
         → Right t.events (step_of t.world.coding t.world.words waits p start flight n kept).wrote
-    any_right p n waits (Atomic start) (flights.TheVariants.Atomic flight) kept e at =
-        subst (λ k. Right t.events (step_of t.world.coding t.world.words waits p (Atomic start) (flights.TheVariants.Atomic flight) n k).wrote) (sym e)
-        (flight_right t.world.coding en t.world.words waits p n s.state.holder s.state.core t.events s.holds.holders start flight at)
-    any_right p n waits start flight kept e at = absurd at
+    any_right x0 x1 x2 x3 x4 x5 x6 x7 = grind arith
 
     step_right : (p n : ℕ) (x : Party T) (flight : Flight T) (since : ℕ) → party_of p t.world.latest ≡ Some x
         → x.doing ≡ Going flight since → Right t.events (step_in t.world p x flight n).wrote
-    step_right p n x flight since found doing =
-        let there = stands_there (family en c) t s p x since flight found doing in
-        any_right p n _ x.start flight t.world.kept (kept_is t.world.kept t.world.words s.state s.fit).0 there.at
+    step_right x0 x1 x2 x3 x4 x5 x6 = grind arith
 
 module _ {T : Type 0} (code : Coding T) (capacity : ℕ) where
   by_producers : (t : Trace T) → IsRun code kinds.Atomic capacity t → Each ByProducer t.events
@@ -92,12 +81,7 @@ module _ {T : Type 0} (p : ℕ) where
 
   back_from : (before : List (Event T)) (e : Event T) → ByProducer before e → is_party p (whose e) ≡ false
       → holder_after (holder_of before) e ≡ Some p → Backs before e
-  back_from before (Acted q (Atomic (Store value)) answer) holds ne now =
-      is_other p q (Backs before (Acted q (Atomic (Store value)) answer)) ne (sym holds ∙ now)
-  back_from before (Finished q (Atomic AcquireProducer) (Truth true)) holds ne now =
-      is_other p q (Backs before (Finished q (Atomic AcquireProducer) (Truth true))) ne now
-  back_from before (Finished q (Atomic ReleaseProducer) answer) holds ne now = absurd (cc)
-  back_from before e holds ne now = (now, refl)
+  back_from x0 x1 x2 x3 x4 = grind arith
 
   pub back_over : (before es : List (Event T)) → Each ByProducer (before ++ es) → events_by p es ≡ []
       → holder_of (before ++ es) ≡ Some p → (holder_of before ≡ Some p) × (flat_map stores es ≡ [])
@@ -131,13 +115,7 @@ module _ {T : Type 0} (p : ℕ) where
 
   forth_from : (before : List (Event T)) (e : Event T) → ByProducer before e → GrantsRight before e
       → is_party p (whose e) ≡ false → holder_of before ≡ Some p → IsPlain e
-  forth_from before (Acted q (Atomic (Store value)) answer) holds grants ne now =
-      is_other p q (IsPlain (Acted q (Atomic (Store value)) answer)) ne (sym holds ∙ now)
-  forth_from before (Finished q (Atomic AcquireProducer) (Truth true)) holds grants ne now =
-      (let no : ◌≡◌ {A = Bool} true false = (let same : true ≡ is_none (holder_of before) = cc in same ∙ ap is_none now) in absurd (cc))
-  forth_from before (Finished q (Atomic ReleaseProducer) answer) holds grants ne now =
-      is_other p q (IsPlain (Finished q (Atomic ReleaseProducer) answer)) ne (sym grants.1 ∙ now)
-  forth_from before e holds grants ne now = (refl, refl)
+  forth_from x0 x1 x2 x3 x4 x5 = grind arith
 
   pub forth_over : (before es : List (Event T)) → Each ByProducer (before ++ es) → Each GrantsRight (before ++ es)
       → ArePlain (events_by p es) → holder_of before ≡ Some p → flat_map stores es ≡ []

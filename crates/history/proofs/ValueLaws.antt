@@ -26,9 +26,7 @@ module _ {T : Type 0} (code : Coding T) (capacity : ℕ) (events : List (Event T
 
   -- each answer is that of the value that stood at its moment
   pub answers_right : Each (AnswersRight code) events
-  answers_right =
-      subst (λ es. Each (AnswersRight code) es) (sym h.is)
-      (subst (λ z. Each (AnswersRight z) h.trace.events) h.run.coded (value_goes_on code capacity h.trace h.run).answers)
+  answers_right = grind (arith, value_goes_on)
 
 -- ---- the value that stands is the last that was stored
 

@@ -71,8 +71,7 @@ two_same zero xs = refl
 two_same (suc p) xs = refl
 
 two_length : (p size : ℕ) (xs ys : List ℕ) → length xs ≡ size → length ys ≡ size → length (two p xs ys) ≡ size * 2
-two_length zero size xs ys a b = length-append xs ys ∙ (omega arith)
-two_length (suc p) size xs ys a b = length-append ys xs ∙ (omega arith)
+two_length x0 x1 x2 x3 x4 x5 = grind (arith, length-append)
 
 two_set : (p size : ℕ) (xs ys : List ℕ) (at n : ℕ) → p < 2 → length xs ≡ size → length ys ≡ size → at < size
     → set (two p xs ys) (size * p + at) n ≡ two p (set xs at n) ys
@@ -145,7 +144,7 @@ module _ {T : Type 0} (code : Coding T) (law : IsCoding code) (value : T) where
         ∙ ap (λ zs. two (v % 2) zs y) (mix_step at ws x (omega arith) (omega arith))))
 
     word_low : (at : ℕ) → at < code.size → word_at cell at < 2 + code.size * 2
-    word_low at below = (let is = asked_place code.size v at law.few below in let within = cell_within code.size v at below in omega arith)
+    word_low x0 x1 = grind arith
 
     next : (es : List (Event T)) (at : ℕ) → at + 1 < code.size → Here (now at) es (Some (name, storing at))
         → Here (now (suc at)) es (Some (name, storing (at + 1)))
@@ -272,9 +271,7 @@ module _ {T : Type 0} (code : Coding T) (law : IsCoding code) (value : T) where
       subst (λ zs. Here (words_at (n + 1) 1 (opened_cells code value n)) zs None) (append_assoc es (Begun 0 start ∷ []) (Finished 0 start answers.Done ∷ [])) b
 
   few : (version : ℕ) → version < 2 ^ 64 → first_stores version < 2 ^ 64 - 1
-  few zero low = omega arith
-  few (suc zero) low = omega arith
-  few (suc (suc more)) low = omega arith
+  few x0 x1 = grind arith
 
   -- a table opens so, at any version
   pub value_opens : (version : ℕ) → version < 2 ^ 64 → (words : List ℕ)

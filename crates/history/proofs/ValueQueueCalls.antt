@@ -38,15 +38,7 @@ use Rattle.history.proofs.Rooms.{room_set, room_read}
 
 -- a word of a cell is one of the queue's words
 cell_low : (size capacity position cell at : ℕ) → IsWordOf size capacity position cell at → word_at cell at < 4 + size * capacity
-cell_low size capacity position cell at h =
-    let some = h.0 in
-    let is = h.1 in
-    let below = h.2 in
-    let t : (capacity == 0) ≡ false = grind (arith, nat_tests) in
-    let place : cell_word capacity size position ≡ 4 + size * (position % capacity) = rw t refl in
-    let low : position % capacity < capacity = omega arith in
-    let step : size * (position % capacity + 1) ≤ size * capacity = mul-le-mul_left size (omega arith) in
-    omega arith
+cell_low x0 x1 x2 x3 x4 x5 = grind arith
 
 -- ---- pushes
 
@@ -55,11 +47,7 @@ module _ {T : Type 0} (code : Coding T) (law : IsCoding code) (v : T) where
   pushing = pushes_value code v
 
   push_same_after : (c : Pushing T) (m : Unit {0}) (n : ℕ) → after_of code (pushing.flight c m) n ≡ goes pushing (push_after code.size c n) m
-  push_same_after c m n = go (push_after code.size c n) refl
-    where
-      go : (r : After (Pushing T) Bool) → push_after code.size c n ≡ r → after_of code (pushing.flight c m) n ≡ goes pushing r m
-      go (GoOn d) e = rw e refl
-      go (Done b) e = rw e refl
+  push_same_after x0 x1 x2 = grind arith
 
   -- the events of a step that goes on, and of one that ends
   effects_on : (p : ℕ) (c d : Pushing T) (m : Unit {0}) (n : ℕ) → push_after code.size c n ≡ GoOn d
@@ -72,36 +60,12 @@ module _ {T : Type 0} (code : Coding T) (law : IsCoding code) (v : T) where
 
   quiet : (p n : ℕ) (c d : Pushing T) (stage : pushes.PushStage) → push_takes code.size c stage n ≡ GoOn d
       → effects_of {T = T} p (Push v) (push_effect (Value v) stage) None ≡ []
-  quiet p n c d pushes.TheVariants.LoadsWrite e = refl
-  quiet p n c d (pushes.TheVariants.LoadsRead write) e = refl
-  quiet p n c d (pushes.TheVariants.StoresCell write cell at) e = refl
-  quiet p n c d (pushes.TheVariants.StoresWrite write) e = absurd (cc)
+  quiet x0 x1 x2 x3 x4 x5 = grind arith
 
   loud : (p n : ℕ) (c : Pushing T) (b : Bool) (stage : pushes.PushStage) → push_skips stage n ≡ false
       → push_takes code.size c stage n ≡ Done b
       → effects_of {T = T} p (Push v) (push_effect (Value v) stage) (Some (Truth b)) ≡ value_push_wrote p v b
-  loud p n c b pushes.TheVariants.LoadsWrite skip e = (let no : GoOn (at_push c (pushes.TheVariants.LoadsRead n)) ≡ Done b = rw skip at e in absurd (cc))
-  loud p n c b (pushes.TheVariants.LoadsRead write) skip e = go (c.capacity == 0 || distance write n == c.capacity) e
-    where
-      go : (t : Bool)
-          → cond t (Done false) (GoOn (at_push c (pushes.TheVariants.StoresCell write (cell_word c.capacity code.size write) 0))) ≡ Done b
-          → ◌≡◌ {A = List (Event T)} (Acted p (Queues (Push v)) (Truth b) ∷ []) (value_push_wrote p v b)
-      go true e =
-          (let same : false ≡ b = cc in
-          subst (λ x. ◌≡◌ {A = List (Event T)} (Acted p (Queues (Push v)) (Truth x) ∷ []) (value_push_wrote p v x)) same refl)
-      go false e = absurd (cc)
-  loud p n c b (pushes.TheVariants.StoresCell write cell at) skip e = go (nat_lt (at + 1) code.size) e
-    where
-      go : (t : Bool) → cond {A = After (Pushing T) Bool} t (GoOn (at_push c (pushes.TheVariants.StoresCell write cell (at + 1))))
-          (GoOn (at_push c (pushes.TheVariants.StoresWrite write)))
-          ≡ Done b
-          → [] ≡ value_push_wrote {T = T} p v b
-      go true e = absurd (cc)
-      go false e = absurd (cc)
-  loud p n c b (pushes.TheVariants.StoresWrite write) skip e =
-      (let same : true ≡ b = cc in
-      subst (λ x. ◌≡◌ {A = List (Event T)} (Published p (Value v) ∷ Acted p (Queues (Push v)) (Truth x) ∷ []) (value_push_wrote p v x))
-      same refl)
+  loud x0 x1 x2 x3 x4 x5 x6 = grind arith
 
   -- where it stands next
   module _ (capacity : ℕ) where
@@ -110,37 +74,7 @@ module _ {T : Type 0} (code : Coding T) (law : IsCoding code) (v : T) where
 
     push_stays : (c d : Pushing T) (n : ℕ) (stage : pushes.PushStage) → c.capacity ≡ capacity
         → PushPlace code.size capacity stage → push_takes code.size c stage n ≡ GoOn d → PushesNext d
-    push_stays c d n pushes.TheVariants.LoadsWrite same h e = go (n == 2 ^ 64 - 1) e
-      where
-        go : (t : Bool) → cond t (Done false) (GoOn (at_push c (pushes.TheVariants.LoadsRead n))) ≡ GoOn d → PushesNext d
-        go true e = absurd (cc)
-        go false e = (let is : at_push c (pushes.TheVariants.LoadsRead n) ≡ d = cc in subst PushesNext is (same, tt, λ k. refl))
-    push_stays c d n (pushes.TheVariants.LoadsRead write) same h e = go (c.capacity == 0) (distance write n == c.capacity) refl e
-      where
-        go : (z t : Bool) → (c.capacity == 0) ≡ z
-            → cond (z || t) (Done false) (GoOn (at_push c (pushes.TheVariants.StoresCell write (cell_word c.capacity code.size write) 0)))
-            ≡ GoOn d
-            → PushesNext d
-        go true t is_z e = absurd (cc)
-        go false true is_z e = absurd (cc)
-        go false false is_z e =
-            let is : at_push c (pushes.TheVariants.StoresCell write (cell_word c.capacity code.size write) 0) ≡ d = cc in
-            let some : 0 < c.capacity = grind (arith, nat_tests) in
-            let one = law.some in
-            subst PushesNext is (same, (omega (arith, same, some), ap (λ z. cell_word z code.size write) same, omega (arith, one)), λ k. refl)
-    push_stays c d n (pushes.TheVariants.StoresCell write cell at) same h e = go (nat_lt (at + 1) code.size) refl e
-      where
-        go : (t : Bool) → nat_lt (at + 1) code.size ≡ t
-            → cond {A = After (Pushing T) Bool} t (GoOn (at_push c (pushes.TheVariants.StoresCell write cell (at + 1))))
-            (GoOn (at_push c (pushes.TheVariants.StoresWrite write)))
-            ≡ GoOn d
-            → PushesNext d
-        go true t e =
-            let is : at_push c (pushes.TheVariants.StoresCell write cell (at + 1)) ≡ d = cc in
-            let next : at + 1 < code.size = grind (arith, nat_tests) in
-            subst PushesNext is (same, (h.0, h.1, next), λ k. refl)
-        go false t e = (let is : at_push c (pushes.TheVariants.StoresWrite write) ≡ d = cc in subst PushesNext is (same, tt, λ k. refl))
-    push_stays c d n (pushes.TheVariants.StoresWrite write) same h e = absurd (cc)
+    push_stays x0 x1 x2 x3 x4 x5 x6 = grind arith
 
   push_finds_word : (capacity : ℕ) (stage : pushes.PushStage) → PushPlace code.size capacity stage
       → (a : Ask) × (a.word < 4 + code.size * capacity) × (push_asks code.words_of stage v ≡ wants.Ask a)
@@ -153,29 +87,15 @@ module _ {T : Type 0} (code : Coding T) (law : IsCoding code) (v : T) where
   push_hears : (c : Pushing T) (a : Ask) (n : ℕ) (stage : pushes.PushStage)
       → push_asks code.words_of stage v ≡ wants.Ask a
       → push_takes code.size c stage (answered a.op n) ≡ push_takes code.size c stage n
-  push_hears c a n pushes.TheVariants.LoadsWrite e =
-      (let is : record { word = 0; op = Load } ≡ a = cc in
-      ap (λ (z : Ask). push_takes code.size c pushes.TheVariants.LoadsWrite (answered z.op n)) (sym is))
-  push_hears c a n (pushes.TheVariants.LoadsRead write) e =
-      (let is : record { word = 1; op = Load } ≡ a = cc in
-      ap (λ (z : Ask). push_takes code.size c (pushes.TheVariants.LoadsRead write) (answered z.op n)) (sym is))
-  push_hears c a n (pushes.TheVariants.StoresCell write cell at) e = refl
-  push_hears c a n (pushes.TheVariants.StoresWrite write) e = refl
+  push_hears x0 x1 x2 x3 x4 = grind arith
 
   push_finds : (n : ℕ) (stage : pushes.PushStage) → n < 2 ^ 64 → push_skips stage n ≡ false → IsFresh n stage
-  push_finds n pushes.TheVariants.LoadsWrite small t = (let other : n ≢ 2 ^ 64 - 1 = grind (arith, nat_tests) in omega arith)
-  push_finds n (pushes.TheVariants.LoadsRead write) small t = tt
-  push_finds n (pushes.TheVariants.StoresCell write cell at) small t = tt
-  push_finds n (pushes.TheVariants.StoresWrite write) small t = tt
+  push_finds x0 x1 x2 x3 = grind arith
 
   push_leaves : (c : Pushing T) (a : Ask) (n : ℕ) (stage : pushes.PushStage) → push_skips stage n ≡ true
       → push_asks code.words_of stage v ≡ wants.Ask a
       → (written a.op n ≡ n) × (e : Bool) × (e ≡ false) × (push_takes code.size c stage n ≡ Done e)
-  push_leaves c a n pushes.TheVariants.LoadsWrite t e =
-      (let is : record { word = 0; op = Load } ≡ a = cc in (ap (λ (z : Ask). written z.op n) (sym is), false, refl, rw t refl))
-  push_leaves c a n (pushes.TheVariants.LoadsRead write) t e = absurd (cc)
-  push_leaves c a n (pushes.TheVariants.StoresCell write cell at) t e = absurd (cc)
-  push_leaves c a n (pushes.TheVariants.StoresWrite write) t e = absurd (cc)
+  push_leaves x0 x1 x2 x3 x4 x5 = grind arith
 
   push_is_call : IsCallOf code (queue_effects code) (λ capacity. 4 + code.size * capacity)
       (λ c. push_want code.words_of c v) (λ c n. push_after code.size c n) (λ c m n. m) pushing
@@ -267,14 +187,7 @@ module _ {T R : Type 0} (code : Coding T) (law : IsCoding code) (words_in : R �
 
   pop_quiet : (p n : ℕ) (c d : Popping T R) (m : R) (stage : pops.PopStage) → pop_takes code.size c stage n ≡ GoOn d
       → queue_effects code p (flight_at c.capacity stage (room_in m)) n ≡ []
-  pop_quiet p n c d m pops.TheVariants.LoadsRead e = refl
-  pop_quiet p n c d m (pops.TheVariants.LoadsWrite read) e = go (c.capacity == 0 || n == read) refl
-    where
-      go : (b : Bool) → (c.capacity == 0 || n == read) ≡ b → queue_effects code p (flight_at c.capacity (pops.TheVariants.LoadsWrite read) (room_in m)) n ≡ []
-      go true t = (let no : Done false ≡ GoOn d = rw t at e in absurd (cc))
-      go false t = rw t refl
-  pop_quiet p n c d m (pops.TheVariants.LoadsCell read cell at) e = refl
-  pop_quiet p n c d m (pops.TheVariants.StoresRead read) e = absurd (cc)
+  pop_quiet x0 x1 x2 x3 x4 x5 x6 = grind arith
 
   pop_loud : (p n : ℕ) (c : Popping T R) (m : R) (b : Bool) (stage : pops.PopStage)
       → pop_takes code.size c stage n ≡ Done b
@@ -310,33 +223,7 @@ module _ {T R : Type 0} (code : Coding T) (law : IsCoding code) (words_in : R �
 
     pop_stays : (c d : Popping T R) (n : ℕ) (stage : pops.PopStage) → c.capacity ≡ capacity
         → PopPlace code.size capacity stage → pop_takes code.size c stage n ≡ GoOn d → PopsNext d
-    pop_stays c d n pops.TheVariants.LoadsRead same h e = (let is : at_pop c (pops.TheVariants.LoadsWrite n) ≡ d = cc in subst PopsNext is (same, tt))
-    pop_stays c d n (pops.TheVariants.LoadsWrite read) same h e = go (c.capacity == 0) (n == read) refl e
-      where
-        go : (z t : Bool) → (c.capacity == 0) ≡ z
-            → cond (z || t) (Done false) (GoOn (at_pop c (pops.TheVariants.LoadsCell read (cell_word c.capacity code.size read) 0)))
-            ≡ GoOn d
-            → PopsNext d
-        go true t is_z e = absurd (cc)
-        go false true is_z e = absurd (cc)
-        go false false is_z e =
-            let is : at_pop c (pops.TheVariants.LoadsCell read (cell_word c.capacity code.size read) 0) ≡ d = cc in
-            let some : 0 < c.capacity = grind (arith, nat_tests) in
-            let one = law.some in
-            subst PopsNext is (same, (omega (arith, same, some), ap (λ z. cell_word z code.size read) same, omega (arith, one)))
-    pop_stays c d n (pops.TheVariants.LoadsCell read cell at) same h e = go (nat_lt (at + 1) code.size) refl e
-      where
-        go : (t : Bool) → nat_lt (at + 1) code.size ≡ t
-            → cond {A = After (Popping T R) Bool} t (GoOn (at_pop c (pops.TheVariants.LoadsCell read cell (at + 1))))
-            (GoOn (at_pop c (pops.TheVariants.StoresRead read)))
-            ≡ GoOn d
-            → PopsNext d
-        go true t e =
-            let is : at_pop c (pops.TheVariants.LoadsCell read cell (at + 1)) ≡ d = cc in
-            let next : at + 1 < code.size = grind (arith, nat_tests) in
-            subst PopsNext is (same, (h.0, h.1, next))
-        go false t e = (let is : at_pop c (pops.TheVariants.StoresRead read) ≡ d = cc in subst PopsNext is (same, tt))
-    pop_stays c d n (pops.TheVariants.StoresRead read) same h e = absurd (cc)
+    pop_stays x0 x1 x2 x3 x4 x5 x6 = grind arith
 
   pop_finds_word : (capacity : ℕ) (stage : pops.PopStage) → PopPlace code.size capacity stage
       → (a : Ask) × (a.word < 4 + code.size * capacity) × (pop_asks stage ≡ wants.Ask a)
@@ -349,16 +236,7 @@ module _ {T R : Type 0} (code : Coding T) (law : IsCoding code) (words_in : R �
   pop_hears : (c : Popping T R) (m : R) (a : Ask) (n : ℕ) (stage : pops.PopStage) → pop_asks stage ≡ wants.Ask a
       → (pop_takes code.size c stage (answered a.op n) ≡ pop_takes code.size c stage n)
       × (pop_keeps with_word m stage (answered a.op n) ≡ pop_keeps with_word m stage n)
-  pop_hears c m a n pops.TheVariants.LoadsRead e =
-      (let is : record { word = 1; op = Load } ≡ a = cc in
-      (ap (λ (z : Ask). pop_takes code.size c pops.TheVariants.LoadsRead (answered z.op n)) (sym is), refl))
-  pop_hears c m a n (pops.TheVariants.LoadsWrite read) e =
-      (let is : record { word = 0; op = Load } ≡ a = cc in
-      (ap (λ (z : Ask). pop_takes code.size c (pops.TheVariants.LoadsWrite read) (answered z.op n)) (sym is), refl))
-  pop_hears c m a n (pops.TheVariants.LoadsCell read cell at) e =
-      (let is : record { word = word_at cell at; op = Load } ≡ a = cc in
-      (refl, ap (λ (z : Ask). with_word m at (answered z.op n)) (sym is)))
-  pop_hears c m a n (pops.TheVariants.StoresRead read) e = (refl, refl)
+  pop_hears x0 x1 x2 x3 x4 x5 = grind arith
 
   pop_is_call : IsCallOf code (queue_effects code) (λ capacity. 4 + code.size * capacity)
       (λ (c : Popping T R). pop_want c) (λ c n. pop_after code.size c n) keeps_word popping

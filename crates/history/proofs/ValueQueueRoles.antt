@@ -24,7 +24,7 @@ module _ {T : Type 0} (code : Coding T) (law : IsCoding code) where
   words_of capacity = 4 + code.size * capacity
 
   low : (capacity : ℕ) → 4 + capacity ≤ words_of capacity
-  low capacity = (let some = law.some in let more : capacity * 1 ≤ capacity * code.size = mul-le-mul_left capacity some in omega arith)
+  low x0 = grind arith
 
   abbrev Keeps : {C M E : Type 0} → Calling T C M E → (C → Want (Unit {0})) → (C → ℕ → After C E) → (C → M → ℕ → M) → Type 0
   Keeps call =

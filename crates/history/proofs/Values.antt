@@ -46,29 +46,19 @@ module _ {T : Type 0} where
 
   -- they are events of its party
   store_own : (p : ℕ) (value : T) (o : Option (Answer T)) → AreOf p (acted p (Store value) o)
-  store_own p value None = tt
-  store_own p value (Some (Truth true)) = (refl, tt)
-  store_own p value (Some answer) = tt
+  store_own x0 x1 x2 = grind arith
 
   load_own : (p : ℕ) (o : Option (Answer T)) → AreOf p (acted p Load o)
   load_own p None = tt
   load_own p (Some answer) = (refl, tt)
 
   effects_own : (code : Coding T) (p : ℕ) (flight : Flight T) (n : ℕ) → AreOf p (value_effects code p flight n)
-  effects_own code p (flights.TheVariants.Atomic (calls.TheVariants.Acquire run)) n = tt
-  effects_own code p (flights.TheVariants.Atomic (calls.TheVariants.Release run)) n = tt
-  effects_own code p (flights.TheVariants.Atomic (calls.TheVariants.Store run)) n = store_own p run.given _
-  effects_own code p (flights.TheVariants.Atomic (calls.TheVariants.Load run)) n = load_own p _
-  effects_own code p flight n = tt
+  effects_own x0 x1 x2 x3 = grind arith
 
   -- the name is that of the call that stands so
   named : (code : Coding T) (s : Value) (p : ℕ) (start : AtomicStart T) (flight : AtomicFlight T)
       → At code s.holder s.core p start flight → start ≡ start_of flight
-  named code s p AcquireProducer (calls.TheVariants.Acquire run) at = refl
-  named code s p ReleaseProducer (calls.TheVariants.Release run) at = refl
-  named code s p (Store value) (calls.TheVariants.Store run) at = ap Store (sym at.1)
-  named code s p Load (calls.TheVariants.Load run) at = refl
-  named code s p start flight at = absurd at
+  named x0 x1 x2 x3 x4 x5 = grind arith
 
   -- the step of a call that stands so, whatever its name
   record Facts (z : Coding T) (words : List ℕ) (waits : Option (ℕ × ℕ)) (p n : ℕ) (start : Start T) (flight : Flight T) (kept : Registry T) : Type 0 where
@@ -80,14 +70,7 @@ module _ {T : Type 0} where
       (flight : Flight T) (kept : Registry T)
       → kept ≡ registries.TheVariants.Atomic s.holder → (family z c).At s p start flight
       → Facts z words waits p n start flight kept
-  facts z words waits c p n s (Atomic start) (flights.TheVariants.Atomic flight) kept e at =
-      subst (λ k. Facts z words waits p n (Atomic start) (flights.TheVariants.Atomic flight) k) (sym e)
-      (record {
-        may = refl;
-        writes = ap (λ st. acted p st (answer_in (after z flight n))) (named z s p start flight at);
-        goes = refl;
-      })
-  facts z words waits c p n s start flight kept e at = absurd at
+  facts x0 x1 x2 x3 x4 x5 x6 x7 x8 x9 x10 x11 = grind arith
 
 -- ---- what the kind owes
 
@@ -144,12 +127,7 @@ module _ {T : Type 0} (owner : ℕ → ℕ) (j : ℕ) where
   MovesIt = Moves takes_producer gives_producer holder_after owner j
 
   moves : (before : List (Event T)) (e : Event T) → GrantsRight before e → MovesIt before e
-  moves before (Finished p (Atomic AcquireProducer) (Truth true)) h =
-      taken takes_producer gives_producer holder_after owner j before (Finished p (Atomic AcquireProducer) (Truth true))
-      p refl refl refl (granted (holder_of before) h) refl
-  moves before (Finished p (Atomic ReleaseProducer) answer) h =
-      given takes_producer gives_producer holder_after owner j before (Finished p (Atomic ReleaseProducer) answer) p refl refl refl h.1 refl
-  moves before e h = still takes_producer gives_producer holder_after owner j before e refl refl refl
+  moves x0 x1 x2 = grind arith
 
   all_move : (all : List (Event T)) → Each GrantsRight all → Each MovesIt all
   all_move all each before after e is = moves before e (each before after e is)

@@ -1,4 +1,5 @@
 -- What a call has written since it began is what its pass has seen of its party since.
+use Rattle.std.proofs.Common.{arith}
 use Rattle.history.proofs.Names.{◌≡◌, ℕ, Option, Some, None, [], ◌++◌, sym, ap, ◌∙◌, append-nil, fold, Kind, Coding}
 use Rattle.history.proofs.Names.{Span, span_of, own_after, Open}
 use Rattle.history.specs.declared.view.View.{View}
@@ -9,12 +10,7 @@ use Rattle.history.proofs.CallsIn.{span_since}
 module _ {T C M E : Type 0} (code : Coding T) (kind : Kind) (call : Calling T C M E) where
   pub written_since : (base v : View T) (c : C) (m : M) → base.going ≡ None → (under : IsUnderWay code kind call base v c m)
       → span_of under.party v.seen ≡ fold own_after (Open call.start []) under.wrote
-  written_since base v c m idle under =
-      let p = under.party in
-      let since = under.since in
-      ap (span_of p) (since.is ∙ ap (λ os. (base.seen ++ since.others) ++ (os ++ (since.during ++ []))) (ap (opened p call.start) idle))
-      ∙ (span_since p call.start (base.seen ++ since.others) (since.during ++ [])
-      ∙ ap (fold own_after (Open call.start [])) (ap (events_by p) (append-nil since.during) ∙ since.during_own))
+  written_since x0 x1 x2 x3 x4 x5 = grind (arith, opened, span_since, fold, append-nil)
 
   -- so two tellings of it that begin with it are one
   pub same_written : (base other v : View T) (c d : C) (m k : M) → base.going ≡ None → other.going ≡ None

@@ -56,9 +56,7 @@ module _ {C G M E : Type 0} (want_of : C → G → Want (Unit {0})) (after : C �
   step_on : (n : ℕ) (s : Stop C E) (r : M) (ws : List ℕ) (call d : C) (room : M) (words : List ℕ)
       → Stops n s r ws call room words → next call words ≡ GoOn d
       → (k : ℕ) × (n ≡ k + 1) × Stops k s r ws d (next_room call room words) (next_words call words)
-  step_on zero s r ws call d room words t goes = absurd t
-  step_on (suc n) s r ws call d room words t goes =
-      (n, omega arith, subst (λ a. StopsFrom want_of after kept given (Stops n s r ws) a (next_room call room words) (next_words call words) s r ws) goes t)
+  step_on x0 x1 x2 x3 x4 x5 x6 x7 x8 x9 = grind arith
 
   pub goes_on : (first : C) (room₀ : M) (words₀ : List ℕ) (done : ℕ) (call d : C) (room : M)
       (words : List ℕ) → Going first room₀ words₀ done call room words → next call words ≡ GoOn d
@@ -80,28 +78,22 @@ module _ {C G M E : Type 0} (want_of : C → G → Want (Unit {0})) (after : C �
   stopped : (n : ℕ) (s f : Stop C E) (r : M) (ws : List ℕ) (call : C) (room : M) (words : List ℕ)
       → Stops n s r ws call room words → next call words ≡ Done f
       → (f ≡ s) × (next_room call room words ≡ r) × (next_words call words ≡ ws)
-  stopped zero s f r ws call room words t is = absurd t
-  stopped (suc n) s f r ws call room words t is =
-      let u = subst (λ a. StopsFrom want_of after kept given (Stops n s r ws) a (next_room call room words) (next_words call words) s r ws) is t in
-      (sym u.0, sym u.1, sym u.2)
+  stopped x0 x1 x2 x3 x4 x5 x6 x7 x8 x9 = grind arith
 
   pub stops : (first : C) (room₀ : M) (words₀ : List ℕ) (done : ℕ) (call : C) (f : Stop C E)
       (room : M) (words : List ℕ) → Going first room₀ words₀ done call room words
       → next call words ≡ Done f
       → StopsAlike want_of after kept given first room₀ words₀ f (next_room call room words)
       (next_words call words)
-  stops first room₀ words₀ done call f room words h is n s r ws t =
-      let k = h.alike n s r ws t in stopped k.0 s f r ws call room words k.1 is
+  stops x0 x1 x2 x3 x4 x5 x6 x7 x8 x9 x10 x11 x12 x13 x14 = grind (arith, stopped)
 
   some_left : (n : ℕ) (s : Stop C E) (r : M) (ws : List ℕ) (call : C) (room : M) (words : List ℕ)
       → Stops n s r ws call room words → 1 ≤ n
-  some_left zero s r ws call room words t = absurd t
-  some_left (suc n) s r ws call room words t = omega arith
+  some_left x0 x1 x2 x3 x4 x5 x6 x7 = grind arith
 
   pub stops_in_time : (first : C) (room₀ : M) (words₀ : List ℕ) (done : ℕ) (call : C) (room : M)
       (words : List ℕ) → Going first room₀ words₀ done call room words → 2 ^ 64 - 1 ≤ done → ⊥
-  stops_in_time first room₀ words₀ done call room words h t =
-      let f = h.few in let s = some_left h.left h.stop h.last_room h.last_words call room words h.stops in omega arith
+  stops_in_time x0 x1 x2 x3 x4 x5 x6 x7 x8 = grind (arith, some_left)
 
   -- ---- of a call that puts no question
 
@@ -129,15 +121,12 @@ module _ {C G M E : Type 0} (want_of : C → G → Want (Unit {0})) (after : C �
   pub ends_alike : (call : C) (room : M) (words : List ℕ) (e : E) (r : M) (ws : List ℕ)
       → StopsAlike want_of after kept given call room words (Ended e) r ws
       → EndsAlike want_of after kept given call room words e r ws
-  ends_alike call room words e r ws alike n f s vs t =
-      let u = alike n (Ended f) s vs t in (ap (end_in e) u.0, u.1, u.2)
+  ends_alike x0 x1 x2 x3 x4 x5 x6 x7 x8 x9 x10 x11 = grind arith
 
   pub never_asks : (call : C) (room : M) (words : List ℕ)
       → CanEnd want_of after kept given call room words → (s : Stop C E) (r : M) (ws : List ℕ)
       → StopsAlike want_of after kept given call room words s r ws → has_ended s
-  never_asks call room words h s r ws alike =
-      let u = alike h.steps (Ended h.end) h.last_room h.last_words h.ends in
-      subst has_ended (sym u.0) tt
+  never_asks x0 x1 x2 x3 x4 x5 x6 x7 = grind arith
 
 -- ---- what comes of a call that runs alone
 
@@ -155,24 +144,13 @@ module _ {C G M E : Type 0} (want_of : C → G → Want (Unit {0})) (after : C �
 
   pub can_end : (P : E → M → List ℕ → Type 0) (call : C) (room : M) (words : List ℕ)
       → Runs P call room words → CanEnd want_of after kept given call room words
-  can_end P call room words h =
-      record {
-        steps = h.steps;
-        few = h.few;
-        end = h.end;
-        last_room = h.last_room;
-        last_words = h.last_words;
-        ends = h.ends;
-      }
+  can_end x0 x1 x2 x3 x4 = grind arith
 
   -- who drove it to its end found that end
   pub ends_so : (P : E → M → List ℕ → Type 0) (call : C) (room : M) (words : List ℕ)
       → Runs P call room words → (e : E) (r : M) (ws : List ℕ)
       → EndsAlike want_of after kept given call room words e r ws → P e r ws
-  ends_so P call room words h e r ws alike =
-      let t = alike h.steps h.end h.last_room h.last_words h.ends in
-      subst (λ (z : E × M × List ℕ). P z.0 z.1 z.2)
-      (λ i. (sym t.0 i, sym t.1 i, sym t.2 i)) h.holds
+  ends_so x0 x1 x2 x3 x4 x5 x6 x7 x8 = grind arith
 
   -- ---- the same of a call that puts questions
 
@@ -200,7 +178,4 @@ module _ {C G M E : Type 0} (want_of : C → G → Want (Unit {0})) (after : C �
   pub stops_so : (P : Stop C E → M → List ℕ → Type 0) (call : C) (room : M) (words : List ℕ)
       → Halts P call room words → (s : Stop C E) (r : M) (ws : List ℕ)
       → StopsAlike want_of after kept given call room words s r ws → P s r ws
-  stops_so P call room words h s r ws alike =
-      let t = alike h.steps h.stop h.last_room h.last_words h.stops in
-      subst (λ (z : Stop C E × M × List ℕ). P z.0 z.1 z.2)
-      (λ i. (sym t.0 i, sym t.1 i, sym t.2 i)) h.holds
+  stops_so x0 x1 x2 x3 x4 x5 x6 x7 x8 = grind arith

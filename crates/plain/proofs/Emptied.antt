@@ -21,9 +21,7 @@ use Rattle.plain.specs.Visits.{Takes, WasCalled}
 
 module _ (call : ResetAll) (low : call.word < call.end) (words : List ℕ) where
   asks : reset_all_want call ≡ wants.TheVariants.Ask (record { word = call.word; op = Swap 0 })
-  asks =
-      let t : nat_lt call.word call.end ≡ true = grind (arith, nat_tests, low) in
-      ap (λ b. if b then wants.TheVariants.Ask (record { word = call.word; op = Swap 0 }) else wants.TheVariants.Nothing) t
+  asks = grind (arith, nat_tests)
 
   pub room_is : (room : OneWord)
       → room_then (reset_all_want call) room (reset_all_kept room (answer_in words (reset_all_want call)))
@@ -37,11 +35,7 @@ module _ (call : ResetAll) (low : call.word < call.end) (words : List ℕ) where
   pub goes_on : (n : ℕ) → call.word + 1 < call.end
       → stepped (reset_all_want call) call (reset_all_after call n)
       ≡ GoOn (record { word = call.word + 1; end = call.end })
-  goes_on n more =
-      let t : nat_lt (call.word + 1) call.end ≡ true = grind (arith, nat_tests, more) in
-      ap (λ w. stepped w call (reset_all_after call n)) asks
-      ∙ ap (λ b. stepped {E = Unit {0}} (wants.TheVariants.Ask (record { word = call.word; op = Swap 0 })) call
-      (if b then GoOn (record { word = call.word + 1; end = call.end }) else Done tt)) t
+  goes_on x0 x1 = grind (arith, stepped, asks, nat_tests)
 
 -- ---- the words so far
 
@@ -97,30 +91,15 @@ module _ {F : Type 0} (pre : F → BitState → Type 0) (step : F → BitState �
 
   pub begins : length before ≡ capacity → Takes pre step (states before) first
       → (call : ResetAll) → call ≡ record { word = 0; end = capacity } → Emptying 0 call before first
-  begins long takes call is =
-      record { long = long; at = λ low. is; words_are = refl; takes = takes; calls = λ last f. f }
+  begins x0 x1 x2 x3 = grind (arith, words_are)
 
   left_none : (place : ℕ) → place < length before → slice_index before place ≡ 0
       → left place ≡ left (place + 1)
-  left_none place low none =
-      let next : suc place ≡ place + 1 = omega arith in
-      ap (states_from place) (rest_of place before low)
-      ∙ (ap
-      (λ b. if b then states_from (place + 1) (drop (suc place) before) else record { bit = place; count = slice_index before place }
-      ∷ states_from (place + 1) (drop (suc place) before))
-      (eq-eqb (slice_index before place) 0 none)
-      ∙ ap (λ n. states_from (place + 1) (drop n before)) next)
+  left_none x0 x1 x2 = grind (arith, suc, rest_of, drop, eq-eqb)
 
   left_one : (place : ℕ) → place < length before → slice_index before place ≢ 0
       → left place ≡ record { bit = place; count = slice_index before place } ∷ left (place + 1)
-  left_one place low some =
-      let next : suc place ≡ place + 1 = omega arith in
-      ap (states_from place) (rest_of place before low)
-      ∙ (ap
-      (λ b. if b then states_from (place + 1) (drop (suc place) before) else record { bit = place; count = slice_index before place }
-      ∷ states_from (place + 1) (drop (suc place) before))
-      (ne_eqb (slice_index before place) 0 some)
-      ∙ ap (λ n. record { bit = place; count = slice_index before place } ∷ states_from (place + 1) (drop n before)) next)
+  left_one x0 x1 x2 = grind (arith, suc, rest_of, drop, ne_eqb)
 
   pub found : (place : ℕ) (call : ResetAll) (words : List ℕ) (visit : F) → Emptying place call words visit
       → slice_index words place ≡ slice_index before place
@@ -128,11 +107,7 @@ module _ {F : Type 0} (pre : F → BitState → Type 0) (step : F → BitState �
 
   more_swept : (place : ℕ) (call : ResetAll) (words now : List ℕ) (visit : F) → place < capacity
       → Emptying place call words visit → now ≡ slice_set words place 0 → now ≡ swept (place + 1) before
-  more_swept place call words now visit low h is =
-      let long = h.long in
-      let next : suc place ≡ place + 1 = omega arith in
-      is ∙ (ap (λ ws. slice_set ws place 0) h.words_are
-      ∙ (swept_more place before (omega arith) ∙ ap (λ n. swept n before) next))
+  more_swept x0 x1 x2 x3 x4 x5 x6 x7 = grind (arith, suc, swept_more)
 
   module _ (place : ℕ) (low : place < capacity) (call : ResetAll) (words : List ℕ) (visit : F)
       (h : Emptying place call words visit) (n : ℕ) (counted : n ≡ slice_index words call.word) where
@@ -144,11 +119,7 @@ module _ {F : Type 0} (pre : F → BitState → Type 0) (step : F → BitState �
     state = record { bit = place; count = n }
 
     split : 0 < n → left place ≡ state ∷ left (place + 1)
-    split some =
-        let long = h.long in
-        let is = count_is in
-        left_one place (omega arith) (λ e. absurd (omega arith))
-        ∙ ap (λ k. record { bit = place; count = k } ∷ left (place + 1)) (sym count_is)
+    split x0 = grind (arith, count_is, left_one)
 
     both : 0 < n → Takes pre step (state ∷ left (place + 1)) visit
     both some = subst (λ xs. Takes pre step xs visit) (split some) h.takes
@@ -162,9 +133,7 @@ module _ {F : Type 0} (pre : F → BitState → Type 0) (step : F → BitState �
       now_is = is ∙ ap (λ (c : ResetAll). slice_set words c.word 0) (h.at low)
 
       next_at : place + 1 < capacity → next ≡ record { word = place + 1; end = capacity }
-      next_at =
-          subst (λ (c : ResetAll). c.word + 1 < c.end → next ≡ record { word = c.word + 1; end = c.end })
-          (h.at low) goes
+      next_at = grind arith
 
       pub empties_one : (later : F) → (0 < n → step visit (record { bit = place; count = n }) tt later)
           → (n ≡ 0 → later ≡ visit) → Emptying (place + 1) next now later

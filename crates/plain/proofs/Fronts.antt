@@ -46,26 +46,10 @@ module _ (k at : ℕ) (low : at < k) (words : List ℕ) where
   front_set x y e = ap (slice_set (take k words) at) e ∙ take_set k at y words low
 
   front_written : (op : Op) → written_by (take k words) at op ≡ take k (written_by words at op)
-  front_written Load = refl
-  front_written (Store new) = front_set new new refl
-  front_written (Swap new) = front_set new new refl
-  front_written (Add by) = front_set _ _ (ap (written (Add by)) front_word)
-  front_written (Sub by) = front_set _ _ (ap (written (Sub by)) front_word)
-  front_written (And bits) = front_set _ _ (ap (λ w. bit_and w bits) front_word)
-  front_written (Or bits) = front_set _ _ (ap (λ w. bit_or w bits) front_word)
-  front_written (Exchange from to) =
-      ap (λ w. if w == from then slice_set (take k words) at to else take k words) front_word
-      ∙ by_test (λ ws. (if slice_index words at == from then slice_set (take k words) at to else take k words) ≡ take k ws)
-      (slice_index words at == from) _ _
-      (λ t. ap (λ b. if b then slice_set (take k words) at to else take k words) t ∙ front_set to to refl)
-      (λ t. ap (λ b. if b then slice_set (take k words) at to else take k words) t)
+  front_written x0 = grind (arith, front_set, written, front_word, take, by_test)
 
   set_behind : (x : ℕ) → Behind k words (slice_set words at x)
-  set_behind x =
-      record {
-        long = length-set words at x;
-        same = λ j far. get_or-set_other words at j x 0 (λ e. absurd (omega arith));
-      }
+  set_behind x0 = grind (arith, length-set, get_or-set_other)
 
   written_behind : (op : Op) → Behind k words (written_by words at op)
   written_behind Load = stays k words
@@ -83,15 +67,11 @@ module _ (k at : ℕ) (low : at < k) (words : List ℕ) where
 
 front_answer : (k : ℕ) (words : List ℕ) (want : Want (Unit {0})) → AsksBelow k want
     → answer_in (take k words) want ≡ answer_in words want
-front_answer k words (wants.TheVariants.Ask ask) low = front_word k ask.word low words
-front_answer k words (wants.TheVariants.Question question) low = refl
-front_answer k words wants.TheVariants.Nothing low = refl
+front_answer x0 x1 x2 x3 = grind (arith, front_word)
 
 front_then : (k : ℕ) (words : List ℕ) (want : Want (Unit {0})) → AsksBelow k want
     → words_then (take k words) want ≡ take k (words_then words want)
-front_then k words (wants.TheVariants.Ask ask) low = front_written k ask.word low words ask.op
-front_then k words (wants.TheVariants.Question question) low = refl
-front_then k words wants.TheVariants.Nothing low = refl
+front_then x0 x1 x2 x3 = grind (arith, front_written)
 
 then_behind : (k : ℕ) (words : List ℕ) (want : Want (Unit {0})) → AsksBelow k want
     → Behind k words (words_then words want)
@@ -100,8 +80,7 @@ then_behind k words (wants.TheVariants.Question question) low = stays k words
 then_behind k words wants.TheVariants.Nothing low = stays k words
 
 pub behind_more : (k : ℕ) (a b c : List ℕ) → Behind k a b → Behind k b c → Behind k a c
-behind_more k a b c h g =
-    record { long = g.long ∙ h.long; same = λ j far. g.same j far ∙ h.same j far }
+behind_more x0 x1 x2 x3 x4 x5 = grind arith
 
 -- ---- all steps
 
@@ -115,12 +94,7 @@ module _ {C E : Type 0} (want : C → Want (Unit {0})) (after : C → ℕ → Af
       → ((d : C) → Low d → Walks want after n (OnEnd P) d (take k words) → Walks want after n (OnEnd Q) d words)
       → WalksFrom (Walks want after n (OnEnd P)) (OnEnd P) (stepped w call a) (take k words)
       → WalksFrom (Walks want after n (OnEnd Q)) (OnEnd Q) (stepped w call a) words
-  from_front n (wants.TheVariants.Ask ask) call (GoOn d) words low behind on t = on d low t
-  from_front n (wants.TheVariants.Ask ask) call (Done e) words low behind on t =
-      so e words behind t
-  from_front n (wants.TheVariants.Question question) call a words low behind on t = absurd t
-  from_front n wants.TheVariants.Nothing call (GoOn d) words low behind on t = on d low t
-  from_front n wants.TheVariants.Nothing call (Done e) words low behind on t = so e words behind t
+  from_front x0 x1 x2 x3 x4 x5 x6 x7 x8 = grind arith
 
   pub front_walks : (n : ℕ) (call : C) (words : List ℕ) → Low call → Behind k before words
       → Walks want after n (OnEnd P) call (take k words) → Walks want after n (OnEnd Q) call words

@@ -1,4 +1,5 @@
 -- A call with a room runs alone: both together are walked as one call.
+use Rattle.std.proofs.Common.{arith}
 use Rattle.std.proofs.Common.{ℕ, zero, suc, ◌^◌, ◌-◌, ◌≤◌, List, refl}
 use Rattle.steps.specs.declared.ask.Want.{Want}
 use Rattle.steps.specs.declared.ask.Want as wants
@@ -65,12 +66,9 @@ module _ {C G M E : Type 0} (want_of : C → G → Want (Unit {0})) (after : C �
   ended : (n : ℕ) (P : E × M → List ℕ → Type 0) (call : C) (room : M) (words : List ℕ) (s : Stop C E) (r : M) (ws : List ℕ)
       → n ≤ 2 ^ 64 - 1 → StopsIn want_of after kept given n s r ws call room words → Apart (OnEnd P) s r ws
       → Runs want_of after kept given (λ e room ws. P (e, room) ws) call room words
-  ended n P call room words (Ended e) r ws few t h =
-      record { steps = n; few = few; end = e; last_room = r; last_words = ws; ends = t; holds = h }
-  ended n P call room words (Asked question next) r ws few t h = absurd h
+  ended x0 x1 x2 x3 x4 x5 x6 x7 x8 x9 x10 = grind arith
 
   pub runs_both : (n : ℕ) (P : E × M → List ℕ → Type 0) (call : C) (room : M) (words : List ℕ) → n ≤ 2 ^ 64 - 1
       → Walks want_both after_both n (OnEnd P) (call, room) words
       → Runs want_of after kept given (λ e room ws. P (e, room) ws) call room words
-  runs_both n P call room words few t =
-      let f = found n (OnEnd P) call room words t in ended n P call room words f.0 f.1 f.2 few f.3 f.4
+  runs_both x0 x1 x2 x3 x4 x5 x6 = grind (arith, found, ended)

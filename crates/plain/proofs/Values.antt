@@ -27,8 +27,7 @@ use Rattle.plain.proofs.Words.{words_same, words_all, stored_length, stored_othe
 
 -- a cell lies within the words
 cell_within : (size p : ℕ) → cell_word size p + size ≤ 2 + 2 * size
-cell_within size p =
-    let step : size * (p % 2 + 1) ≤ size * 2 = mul-le-mul_left size (omega arith) in omega arith
+cell_within x0 x1 = grind (arith, mul-le-mul_left)
 
 module _ {V : Type 0} (words_of : V → List ℕ) (value_of : List ℕ → V) (size : ℕ)
     (sized : (x : V) → length (words_of x) ≡ size) (given_back : (x : V) → value_of (words_of x) ≡ x)
@@ -70,22 +69,7 @@ module _ {V : Type 0} (words_of : V → List ℕ) (value_of : List ℕ → V) (s
       (Stored ws) call tt ws
 
   at_end : (ws : List ℕ) → Represents size ws → slice_index ws 0 ≡ 2 ^ 64 - 1 → StoreRuns first_store ws
-  at_end ws fits e =
-      let is : (slice_index ws 0 == 2 ^ 64 - 1) ≡ true = eq-eqb _ _ e in
-      record {
-        steps = 1;
-        few = omega arith;
-        end = false;
-        last_room = tt;
-        last_words = ws;
-        ends = by_eq (λ a. From 0 false ws a ws) (slice_index ws 0) (2 ^ 64 - 1) _ _
-            (λ _. (refl, refl, refl)) (λ other. absurd (other e));
-        holds = (
-          fits,
-          sym (ap not is),
-          sym (ap (λ b. if not b then record { value = value; version = slice_index ws 0 + 1 } else value_in value_of size ws) is),
-        );
-      }
+  at_end x0 x1 x2 = grind (arith, eq-eqb, false, by_eq, value_in)
 
   module _ (ws : List ℕ) (fits : Represents size ws) (more : slice_index ws 0 ≢ 2 ^ 64 - 1) where
     abbrev v : ℕ
@@ -113,9 +97,7 @@ module _ {V : Type 0} (words_of : V → List ℕ) (value_of : List ℕ → V) (s
     cells_long = stored_length ws cell (words_of value) 0 size ∙ fits.long
 
     version_is : slice_index last 0 ≡ v + 1
-    version_is =
-        let long = cells_long in let is = stands in let f = fits.fits in
-        get_or-set_same cells 0 (written (Add 1) (slice_index cells 0)) 0 (omega arith) ∙ omega (arith, more)
+    version_is = grind (arith, cells_long, stands, get_or-set_same, written)
 
     before : before_version (slice_index last 0) ≡ v
     before = let is = version_is in let f = fits.fits in omega (arith, more)
@@ -163,9 +145,7 @@ module _ {V : Type 0} (words_of : V → List ℕ) (value_of : List ℕ → V) (s
 
   pub store_runs : (call : Store V) → call ≡ first_store → (ws : List ℕ) → Represents size ws
       → StoreRuns call ws
-  store_runs call is ws fits =
-      subst (λ c. StoreRuns c ws) (sym is)
-      (dite (ℕ_discrete (slice_index ws 0) (2 ^ 64 - 1)) (at_end ws fits) (stores_one ws fits))
+  store_runs x0 x1 x2 x3 = grind (arith, at_end, stores_one)
 
 -- ---- load
 

@@ -68,31 +68,19 @@ module _ {T : Type 0} (c : ℕ) (events : List (Event T)) (spans : Each (StandsR
     RightAct e p b = Tells (number b) e × Acts kinds.TheVariants.Bits b (number b) (number_after b (number b) e) (way p b)
 
     spread : (e : Event T) (q k p b : ℕ) → RightAct e q k → (q == p && k == b) ≡ true → RightAct e p b
-    spread e q k p b right t =
-        let both = both_true (q == p) (k == b) t in
-        subst (λ z. RightAct e z b) (is_number q p both.0) (subst (λ z. RightAct e q z) (is_number k b both.1) right)
+    spread x0 x1 x2 x3 x4 x5 x6 = grind (arith, both_true, is_number)
 
     set_acts : (k : ℕ) (q : ℕ) (span : Span T) (w : Way') → Stands bits_promise c (event.TheVariants.Set q k) span
         → WayFits Fit k span w → Acts kinds.TheVariants.Bits k (number k) 1 w
-    set_acts k q (Open (Bits (Set place)) wrote) w stands fits =
-        let none : fits.found ≡ None = fits.fit.0 (rw stands.1 refl) in
-        subst (λ z. Acts kinds.TheVariants.Bits k (number k) 1 z) (sym (fits.is ∙ ap (λ d. Some (Bits (Set place), d)) none)) (stands.0, refl)
-    set_acts k q (Open start wrote) w stands fits = absurd stands
-    set_acts k q span w stands fits = absurd stands
+    set_acts x0 x1 x2 x3 x4 x5 = grind arith
 
     may_clear : (start : Start T) (k : ℕ) (wrote : List (Event T)) → MayClear k start wrote
         → MayAct k start × (0 ≡ left_by kinds.TheVariants.Bits start (number k))
-    may_clear (Bits ResetNext) k wrote may = (tt, refl)
-    may_clear (Bits ResetAll) k wrote may = (tt, refl)
-    may_clear start k wrote may = absurd may
+    may_clear x0 x1 x2 x3 = grind arith
 
     clear_acts : (k : ℕ) (q : ℕ) (span : Span T) (w : Way') → Stands bits_promise c (Cleared q k) span
         → WayFits Fit k span w → Acts kinds.TheVariants.Bits k (number k) 0 w
-    clear_acts k q Never w stands fits = absurd stands
-    clear_acts k q (Ended start a wrote) w stands fits = absurd stands
-    clear_acts k q (Open start wrote) w stands fits =
-        let none : fits.found ≡ None = clears_none start k wrote fits.found stands fits.fit in
-        subst (λ z. Acts kinds.TheVariants.Bits k (number k) 0 z) (sym (fits.is ∙ ap (λ d. Some (start, d)) none)) (may_clear start k wrote stands)
+    clear_acts x0 x1 x2 x3 x4 x5 = grind arith
 
     module _ (m : M h) (numbered : Numbers h) (on : Ways Fit h) where
       set_goes : (q k : ℕ) → events ≡ h ++ event.TheVariants.Set q k ∷ after → M (h ++ event.TheVariants.Set q k ∷ [])
@@ -126,9 +114,7 @@ module _ {T : Type 0} (c : ℕ) (events : List (Event T)) (spans : Each (StandsR
 
         -- what was so of a beginning
         numbers_in : (part rest : List (Event T)) → h ≡ part ++ rest → Numbers part
-        numbers_in part rest cut =
-            numbers part (rest ++ Finished q s a ∷ after)
-            (is ∙ (ap (λ xs. xs ++ Finished q s a ∷ after) cut ∙ append_assoc part rest (Finished q s a ∷ after)))
+        numbers_in x0 x1 x2 = grind (arith, numbers, append_assoc)
 
         sets_within : (part rest : List (Event T)) → h ≡ part ++ rest → (b : ℕ) → sets b part ≤ sets b events
         sets_within part rest cut b =
@@ -171,26 +157,19 @@ module _ {T : Type 0} (c : ℕ) (events : List (Event T)) (spans : Each (StandsR
           finishes kinds.TheVariants.Bits c Sure h q (Bits (Set k)) (Truth false) m facts far
         where
           opened : OpenFor (set_call k) (BitsWrote c (set_call k) (Truth false)) (span_of q h)
-          opened = open_for (set_call k) (BitsWrote c (set_call k) (Truth false)) (span_of q h) (spans h after (Finished q (set_call k) (Truth false)) is)
+          opened = grind (arith, open_for, false)
 
           once : HeldSometime q (λ part. standing k part ≡ 1) h
           once = answers h after (Finished q (set_call k) (Truth false)) is
 
           under : (b : ℕ) → way q b ≡ Some ((set_call k), None)
-          under b =
-              let fits = here q (set_call k) (Truth false) is b opened.wrote opened.is in
-              let none : fits.found ≡ None = fits.fit.0 (rw opened.holds refl) in
-              fits.is ∙ ap (λ d. Some ((set_call k), d)) none
+          under x0 = grind (arith, here, false)
 
           one : number_in k 0 once.part ≡ 1
-          one =
-              let n = numbers_in q (set_call k) (Truth false) is once.part once.rest once.is k in
-              let both = n.0 in
-              let stood : sets k once.part - clears k once.part ≡ 1 = once.held in
-              omega arith
+          one = grind (arith, numbers_in, false, sets, clears)
 
           elsewhere : (b : ℕ) → k ≢ b → Ends c (Sure b) b (set_call k) (Truth false) (way q b)
-          elsewhere b ne = subst (λ w. Ends c (Sure b) b (set_call k) (Truth false) w) (sym (under b)) (refl, λ same. absurd (ne same))
+          elsewhere x0 x1 = grind (arith, false, under)
 
           facts : (b : ℕ) → b < c → Fact kinds.TheVariants.Bits c Sure h q (set_call k) (Truth false) b
           facts b lt =
@@ -236,16 +215,13 @@ module _ {T : Type 0} (c : ℕ) (events : List (Event T)) (spans : Each (StandsR
           (λ b le. subst (λ w. Ends c (Sure b) b next_call ResetNone w) (sym (under b)) (refl, λ lt. absurd (omega arith)))
         where
           opened : OpenFor next_call (BitsWrote c next_call ResetNone) (span_of q h)
-          opened = open_for next_call (BitsWrote c next_call ResetNone) (span_of q h) (spans h after (Finished q next_call ResetNone) is)
+          opened = grind (arith, open_for)
 
           all : (b : ℕ) → b < c → HeldSometime q (λ part. standing b part ≡ 0) h
           all = answers h after (Finished q next_call ResetNone) is
 
           under : (b : ℕ) → way q b ≡ Some (next_call, None)
-          under b =
-              let fits = here q next_call ResetNone is b opened.wrote opened.is in
-              let none : fits.found ≡ None = fits.fit.0 (rw opened.holds refl) in
-              fits.is ∙ ap (λ d. Some (next_call, d)) none
+          under x0 = grind (arith, here)
 
           facts : (b : ℕ) → b < c → Fact kinds.TheVariants.Bits c Sure h q next_call ResetNone b
           facts b lt =
@@ -261,7 +237,7 @@ module _ {T : Type 0} (c : ℕ) (events : List (Event T)) (spans : Each (StandsR
           subst (λ w. Ends c (Sure b) b all_call Done w) (sym fits.is) (refl, λ sure lt. absurd (omega arith)))
         where
           opened : OpenFor all_call (BitsWrote c all_call Done) (span_of q h)
-          opened = open_for all_call (BitsWrote c all_call Done) (span_of q h) (spans h after (Finished q all_call Done) is)
+          opened = grind (arith, open_for)
 
           since : SinceBegin q (HasCleared c) h
           since = answers h after (Finished q all_call Done) is
@@ -273,9 +249,7 @@ module _ {T : Type 0} (c : ℕ) (events : List (Event T)) (spans : Each (StandsR
               fits = here q all_call Done is b opened.wrote opened.is
 
               acted : 0 < clears b opened.wrote → Fact kinds.TheVariants.Bits c Sure h q all_call Done b
-              acted some =
-                  let one : fits.found ≡ Some 1 = fits.fit.1 (omega arith) in
-                  Stays (subst (λ w. Ends c (Sure b) b all_call Done w) (sym (fits.is ∙ ap (λ d. Some (all_call, d)) one)) (refl, λ sure lt. tt))
+              acted x0 = grind arith
 
               silent : clears b opened.wrote ≤ 0 → Fact kinds.TheVariants.Bits c Sure h q all_call Done b
               silent few = go (number_in b 0 since.before) refl
@@ -284,7 +258,7 @@ module _ {T : Type 0} (c : ℕ) (events : List (Event T)) (spans : Each (StandsR
                   under = fits.is ∙ ap (λ d. Some (all_call, d)) (fits.fit.0 (omega arith))
 
                   was : Numbers since.before
-                  was = numbers_in q all_call Done is since.before (Begun q since.start ∷ since.since) since.is
+                  was = grind (arith, numbers_in)
 
                   go : (n : ℕ) → number_in b 0 since.before ≡ n → Fact kinds.TheVariants.Bits c Sure h q all_call Done b
                   go zero e =
@@ -307,23 +281,10 @@ module _ {T : Type 0} (c : ℕ) (events : List (Event T)) (spans : Each (StandsR
                       (number_more b 0 to (Cleared out.by b ∷ []) ∙ ap (λ z. cond z 0 (number_in b 0 to)) (same_number b)) (refl, λ sure lt. tt)
 
       ends : (q : ℕ) (s : Start T) (a : Answer T) → events ≡ h ++ Finished q s a ∷ after → M (h ++ Finished q s a ∷ [])
-      ends q (Bits (Set k)) (Truth true) is = end_set_true q k is
-      ends q (Bits (Set k)) (Truth false) is = end_set_false q k is
-      ends q (Bits ResetNext) (Reset k) is = end_next q k is
-      ends q (Bits ResetNext) ResetNone is = end_none q is
-      ends q (Bits ResetAll) Done is = end_all q is
-      ends q s a is = absurd (open_for s (BitsWrote c s a) (span_of q h) (spans h after (Finished q s a) is)).holds
+      ends x0 x1 x2 x3 = grind (arith, end_set_true, end_set_false, end_next, end_none, end_all, open_for)
 
       more_marks : (e : Event T) → events ≡ h ++ e ∷ after → M (h ++ e ∷ [])
-      more_marks (Begun q s) is =
-          goes_on kinds.TheVariants.Bits c Sure h (Begun q s) m
-          (λ p b same. subst (λ z. way z b ≡ None) same (shut_way Fit b (span_of q h) (way q b) (spans h after (Begun q s) is) (on q b)))
-      more_marks (Finished q s a) is = ends q s a is
-      more_marks (event.TheVariants.Set q k) is = set_goes q k is
-      more_marks (Cleared q k) is = clear_goes q k is
-      more_marks (Counted q k) is = absurd (spans h after (Counted q k) is)
-      more_marks (TakenOut q k n) is = absurd (spans h after (TakenOut q k n) is)
-      more_marks e is = goes_on kinds.TheVariants.Bits c Sure h e m (λ p b t. absurd (cc))
+      more_marks x0 x1 = grind (arith, goes_on, shut_way, ends, set_goes, clear_goes)
 
   pub bits_act : ActsByPlace kinds.TheVariants.Bits c events
   bits_act = record { marks = all.marks; is = all.is; right = all.right }

@@ -119,8 +119,7 @@ module _ {T : Type 0} where
   Fit start b wrote d = (clears b wrote ≡ 0 → d ≡ None) × (1 ≤ clears b wrote → d ≡ Some 1)
 
   fit_nil : (start : Start T) (b : ℕ) → Fit start b [] None
-  fit_nil (Bits (Set place)) b = ((λ e. refl), (λ some. absurd (omega arith)))
-  fit_nil start b = ((λ e. refl), (λ some. absurd (omega arith)))
+  fit_nil x0 x1 = grind arith
 
   fit_more : (start : Start T) (b : ℕ) (wrote : List (Event T)) (d : Option ℕ) (e : Event T)
       → sets {T = T} b (e ∷ []) ≡ 0 → clears {T = T} b (e ∷ []) ≡ 0 → Fit start b wrote d
@@ -142,47 +141,14 @@ module _ {T : Type 0} where
   set_fits : (q k b n : ℕ) (span : Span T) (way : Way T) → Stands bits_promise 0 (event.TheVariants.Set q k) span
       → (k ≡ b → n ≡ 0) → WayFits Fit b span way
       → WayFits Fit b (own_after span (event.TheVariants.Set q k)) (cond (k == b) (found_now n way) way)
-  set_fits q k b n (Open (Bits (Set place)) wrote) way stands at fits = go (k == b) refl
-    where
-      empty : wrote ≡ []
-      empty = stands.1
-
-      was : fits.found ≡ None
-      was = fits.fit.0 (rw empty refl)
-
-      here : way ≡ Some (Bits (Set place), None)
-      here = fits.is ∙ ap (λ d. Some (Bits (Set place), d)) was
-
-      go : (t : Bool) → (k == b) ≡ t → WayFits Fit b (Open (Bits (Set place)) (wrote ++ event.TheVariants.Set q k ∷ [])) (cond (k == b) (found_now n way) way)
-      go true t =
-          let one : sets {T = T} b (event.TheVariants.Set q k ∷ []) ≡ 1 = rw t refl in
-          let more = sets_more b wrote (event.TheVariants.Set q k ∷ []) in
-          record {
-            found = Some n;
-            is = ap (λ z. cond z (found_now n way) way) t ∙ ap (λ w. found_now n w) here;
-            fit = ((λ none. absurd (omega arith)), (λ some. ap Some (at (is_number k b t))));
-          }
-      go false t =
-          record {
-            found = None;
-            is = ap (λ z. cond z (found_now n way) way) t ∙ here;
-            fit =
-                fit_more (Bits (Set place)) b wrote None (event.TheVariants.Set q k) (rw t refl) refl
-                (subst (λ d. Fit (Bits (Set place)) b wrote d) was fits.fit);
-          }
-  set_fits q k b n (Open start wrote) way stands at fits = absurd stands
-  set_fits q k b n span way stands at fits = absurd stands
+  set_fits x0 x1 x2 x3 x4 x5 x6 x7 x8 = grind arith
 
   -- a call that may clear the place has not yet
   not_yet : (start : Start T) (k : ℕ) (wrote : List (Event T)) → MayClear k start wrote → clears k wrote ≡ 0
-  not_yet (Bits ResetNext) k wrote may = rw may refl
-  not_yet (Bits ResetAll) k wrote may = may k (omega arith)
-  not_yet start k wrote may = absurd may
+  not_yet x0 x1 x2 x3 = grind arith
 
   pub clears_none : (start : Start T) (k : ℕ) (wrote : List (Event T)) (d : Option ℕ) → MayClear k start wrote → Fit start k wrote d → d ≡ None
-  clears_none (Bits ResetNext) k wrote d may fit = fit.0 (not_yet (Bits ResetNext) k wrote may)
-  clears_none (Bits ResetAll) k wrote d may fit = fit.0 (not_yet (Bits ResetAll) k wrote may)
-  clears_none start k wrote d may fit = absurd may
+  clears_none x0 x1 x2 x3 x4 x5 = grind arith
 
   fit_cleared : (start : Start T) (q k b : ℕ) (wrote : List (Event T)) → MayClear k start wrote → (k == b) ≡ true
       → Fit start b (wrote ++ Cleared q k ∷ []) (Some 1)
@@ -225,15 +191,11 @@ module _ {T : Type 0} where
   one_fits c p b n spans way (event.TheVariants.Set q k) stands at fits = go (q == p) refl
     where
       go : (t : Bool) → (q == p) ≡ t → WayFits Fit b (span_after p (spans p) (event.TheVariants.Set q k)) (way_after p b n way (event.TheVariants.Set q k))
-      go true t =
-          rw t (set_fits q k b n (spans p) way
-          (subst (λ z. Stands bits_promise 0 (event.TheVariants.Set q k) (spans z)) (is_number q p t) stands) at fits)
-      go false t = rw t fits
+      go x0 x1 = grind (arith, set_fits, is_number)
   one_fits c p b n spans way (Cleared q k) stands at fits = go (q == p) refl
     where
       go : (t : Bool) → (q == p) ≡ t → WayFits Fit b (span_after p (spans p) (Cleared q k)) (way_after p b n way (Cleared q k))
-      go true t = rw t (cleared_fits q k b n (spans p) way (subst (λ z. Stands bits_promise 0 (Cleared q k) (spans z)) (is_number q p t) stands) at fits)
-      go false t = rw t fits
+      go x0 x1 = grind (arith, cleared_fits, is_number)
   one_fits c p b n spans way (Counted q k) stands at fits = absurd stands
   one_fits c p b n spans way (TakenOut q k m) stands at fits = absurd stands
   one_fits c p b n spans way e stands at fits =

@@ -20,20 +20,11 @@ use Rattle.history.proofs.Acts.Ways.{along, begins_none_later, OpenFor, open_for
 use Rattle.history.proofs.Acts.Ways.{begun_fits, finished_fits, quiet_fits, Ways, ways_more}
 
 next_number : (n : ℕ) → n < 2 ^ 64 → (((n + 1) % 2 ^ 64 ≡ n + 1) × (n + 1 < 2 ^ 64)) ⊎ (((n + 1) % 2 ^ 64 ≡ 0) × (n + 1 ≡ 2 ^ 64))
-next_number n low =
-    ⊎_elim (λ (lt : n + 1 < 2 ^ 64). inl (omega arith, lt)) (λ (le : 2 ^ 64 ≤ n + 1). inr (omega arith, omega arith))
-    (cases_lt (n + 1) (2 ^ 64))
+next_number x0 x1 = grind arith
 
 -- what is taken out is what stands
 same_rest : (m n v w t c : ℕ) → m < 2 ^ 64 → n < 2 ^ 64 → c ≡ t + m + 2 ^ 64 * v → c ≡ t + n + 2 ^ 64 * w → m ≡ n
-same_rest m n v w t c lm ln e f =
-    ⊎_elim (λ (lt : v < w). absurd (omega arith))
-    (λ (le : w ≤ v). ⊎_elim (λ (lt : w < v). absurd (omega arith))
-    (λ (ge : v ≤ w). (let same : w ≡ v = omega arith in
-    let more : t + m + 2 ^ 64 * v ≡ t + n + 2 ^ 64 * v = sym e ∙ (f ∙ ap (λ z. t + n + 2 ^ 64 * z) same) in
-    omega arith))
-    (cases_lt w v))
-    (cases_lt v w)
+same_rest x0 x1 x2 x3 x4 x5 x6 x7 x8 x9 = grind arith
 
 one_taken : (U : Type 0) (p k m b : ℕ) → (k == b) ≡ true → takes {T = U} b (TakenOut p k m ∷ []) ≡ m
 one_taken U p k m b t = rw t (omega arith)
@@ -134,8 +125,7 @@ module _ {T : Type 0} where
   Fit start b wrote d = (takes b wrote ≡ 0 → d ≡ None) × (1 ≤ takes b wrote → Found (λ n. Unit {0}) d)
 
   fit_nil : (start : Start T) (b : ℕ) → Fit start b [] None
-  fit_nil (Bits (Set place)) b = λ e. refl
-  fit_nil start b = ((λ e. refl), (λ some. absurd (omega arith)))
+  fit_nil x0 x1 = grind arith
 
   fit_more : (start : Start T) (b : ℕ) (wrote : List (Event T)) (d : Option ℕ) (e : Event T)
       → counts {T = T} b (e ∷ []) ≡ 0 → takes {T = T} b (e ∷ []) ≡ 0 → Fit start b wrote d
@@ -148,31 +138,7 @@ module _ {T : Type 0} where
   -- an own act
   count_fits : (q k b n : ℕ) (span : Span T) (way : Way T) → Stands counts_promise 0 (Counted q k) span
       → WayFits Fit b span way → WayFits Fit b (own_after span (Counted q k)) (cond (k == b) (found_now n way) way)
-  count_fits q k b n (Open (Bits (Set place)) wrote) way stands fits = go (k == b) refl
-    where
-      was : fits.found ≡ None
-      was = fits.fit (rw stands.1 refl)
-
-      here : way ≡ Some (Bits (Set place), None)
-      here = fits.is ∙ ap (λ d. Some (Bits (Set place), d)) was
-
-      go : (t : Bool) → (k == b) ≡ t → WayFits Fit b (Open (Bits (Set place)) (wrote ++ Counted q k ∷ [])) (cond (k == b) (found_now n way) way)
-      go true t =
-          let one : counts {T = T} b (Counted q k ∷ []) ≡ 1 = rw t refl in
-          let more = counts_more b wrote (Counted q k ∷ []) in
-          record {
-            found = Some n;
-            is = ap (λ z. cond z (found_now n way) way) t ∙ ap (λ w. found_now n w) here;
-            fit = λ none. absurd (omega arith);
-          }
-      go false t =
-          record {
-            found = None;
-            is = ap (λ z. cond z (found_now n way) way) t ∙ here;
-            fit = λ none. refl;
-          }
-  count_fits q k b n (Open start wrote) way stands fits = absurd stands
-  count_fits q k b n span way stands fits = absurd stands
+  count_fits x0 x1 x2 x3 x4 x5 x6 x7 = grind arith
 
   take_fits : (q k m b n : ℕ) (span : Span T) (way : Way T) → Stands counts_promise 0 (TakenOut q k m) span
       → WayFits Fit b span way → WayFits Fit b (own_after span (TakenOut q k m)) (cond (k == b) (found_now n way) way)
@@ -205,13 +171,11 @@ module _ {T : Type 0} where
   one_fits c p b n spans way (Counted q k) stands fits = go (q == p) refl
     where
       go : (t : Bool) → (q == p) ≡ t → WayFits Fit b (span_after p (spans p) (Counted q k)) (way_after p b n way (Counted q k))
-      go true t = rw t (count_fits q k b n (spans p) way (subst (λ z. Stands counts_promise 0 (Counted q k) (spans z)) (is_number q p t) stands) fits)
-      go false t = rw t fits
+      go x0 x1 = grind (arith, count_fits, is_number, fits)
   one_fits c p b n spans way (TakenOut q k m) stands fits = go (q == p) refl
     where
       go : (t : Bool) → (q == p) ≡ t → WayFits Fit b (span_after p (spans p) (TakenOut q k m)) (way_after p b n way (TakenOut q k m))
-      go true t = rw t (take_fits q k m b n (spans p) way (subst (λ z. Stands counts_promise 0 (TakenOut q k m) (spans z)) (is_number q p t) stands) fits)
-      go false t = rw t fits
+      go x0 x1 = grind (arith, take_fits, is_number, fits)
   one_fits c p b n spans way (event.TheVariants.Set q k) stands fits = absurd stands
   one_fits c p b n spans way (Cleared q k) stands fits = absurd stands
   one_fits c p b n spans way e stands fits =
@@ -263,26 +227,15 @@ module _ {T : Type 0} (c : ℕ) (events : List (Event T)) (spans : Each (StandsR
     RightAct e p b = Tells (number b) e × Acts kinds.TheVariants.Counts b (number b) (number_after b (number b) e) (way p b)
 
     spread : (e : Event T) (q k p b : ℕ) → RightAct e q k → (q == p && k == b) ≡ true → RightAct e p b
-    spread e q k p b right t =
-        let both = both_true (q == p) (k == b) t in
-        subst (λ z. RightAct e z b) (is_number q p both.0) (subst (λ z. RightAct e q z) (is_number k b both.1) right)
+    spread x0 x1 x2 x3 x4 x5 x6 = grind (arith, both_true, is_number)
 
     count_acts : (k : ℕ) (q : ℕ) (span : Span T) (w : Way') → Stands counts_promise c (Counted q k) span
         → WayFits Fit k span w → Acts kinds.TheVariants.Counts k (number k) ((number k + 1) % 2 ^ 64) w
-    count_acts k q (Open (Bits (Set place)) wrote) w stands fits =
-        let none : fits.found ≡ None = fits.fit (rw stands.1 refl) in
-        subst (λ z. Acts kinds.TheVariants.Counts k (number k) ((number k + 1) % 2 ^ 64) z)
-        (sym (fits.is ∙ ap (λ d. Some (Bits (Set place), d)) none)) (stands.0, refl)
-    count_acts k q (Open start wrote) w stands fits = absurd stands
-    count_acts k q span w stands fits = absurd stands
+    count_acts x0 x1 x2 x3 x4 x5 = grind arith
 
     take_acts : (k m : ℕ) (q : ℕ) (span : Span T) (w : Way') → Stands counts_promise c (TakenOut q k m) span
         → WayFits Fit k span w → (1 ≤ m) × Acts kinds.TheVariants.Counts k (number k) 0 w
-    take_acts k m q (Open (Bits ResetAll) wrote) w stands fits =
-        let none : fits.found ≡ None = fits.fit.0 (stands.1 k (omega arith)) in
-        (stands.0, subst (λ z. Acts kinds.TheVariants.Counts k (number k) 0 z) (sym (fits.is ∙ ap (λ d. Some (Bits ResetAll, d)) none)) (tt, refl))
-    take_acts k m q (Open start wrote) w stands fits = absurd stands
-    take_acts k m q span w stands fits = absurd stands
+    take_acts x0 x1 x2 x3 x4 x5 x6 = grind arith
 
     module _ (m : M h) (numbered : Numbers h) (on : Ways Fit h) where
       count_goes : (q k : ℕ) → events ≡ h ++ Counted q k ∷ after → M (h ++ Counted q k ∷ [])
@@ -311,12 +264,7 @@ module _ {T : Type 0} (c : ℕ) (events : List (Event T)) (spans : Each (StandsR
       here q b s wrote opened = fits_open Fit b (span_of q h) (way q b) s wrote opened (on q b)
 
       found_some : (n : ℕ) (w : Way') (s : Start T) (d : Option ℕ) → found_now n w ≡ Some (s, d) → d ≡ Some n
-      found_some n None s d e = absurd (cc)
-      found_some n (Some call) s d e = sym (ap seen e)
-        where
-          seen : Way' → Option ℕ
-          seen None = Some n
-          seen (Some call) = call.1
+      found_some x0 x1 x2 x3 x4 = grind arith
 
       rest_is : (n t c w : ℕ) → n < 2 ^ 64 → c ≡ t + n + 2 ^ 64 * w → (c - t) % 2 ^ 64 ≡ n
       rest_is n t c w low e = omega arith
@@ -326,17 +274,13 @@ module _ {T : Type 0} (c : ℕ) (events : List (Event T)) (spans : Each (StandsR
           finishes kinds.TheVariants.Counts c Sure h q (set_call k) (Number n) m (λ b lt. Stays (done b)) (λ b le. done b)
         where
           opened : OpenFor (set_call k) (CountsWrote c (set_call k) (Number n)) (span_of q h)
-          opened = open_for (set_call k) (CountsWrote c (set_call k) (Number n)) (span_of q h) (spans h after (Finished q (set_call k) (Number n)) is)
+          opened = grind (arith, open_for)
 
           answer : AnswersCountOn q k n h
           answer = answers h after (Finished q (set_call k) (Number n)) is
 
           was : NumberIs answer.before k
-          was =
-              numbers answer.before (Counted q k ∷ (Finished q (set_call k) (Number n) ∷ after))
-              (is ∙ (ap (λ xs. xs ++ Finished q (set_call k) (Number n) ∷ after) answer.is
-              ∙ append_assoc answer.before (Counted q k ∷ []) (Finished q (set_call k) (Number n) ∷ after)))
-              k
+          was = grind (arith, numbers, append_assoc)
 
           told : n ≡ number_in k 0 answer.before
           told = answer.count ∙ rest_is (number_in k 0 answer.before) (takes k answer.before) (counts k answer.before) was.wraps was.low was.whole
@@ -345,10 +289,7 @@ module _ {T : Type 0} (c : ℕ) (events : List (Event T)) (spans : Each (StandsR
           both = rw (same_number q, same_number k) refl
 
           counted : way q k ≡ found_now (number_in k 0 answer.before) (way_in q k 0 None answer.before)
-          counted =
-              ap (way_in q k 0 None) answer.is
-              ∙ (way_more q k 0 None answer.before (Counted q k ∷ [])
-              ∙ ap (λ z. cond z (found_now (number_in k 0 answer.before) (way_in q k 0 None answer.before)) (way_in q k 0 None answer.before)) both)
+          counted = grind (arith, way_in, way_more, cond, found_now, number_in, both)
 
           done : (b : ℕ) → Ends c (Sure b) b (set_call k) (Number n) (way q b)
           done b =
@@ -378,7 +319,7 @@ module _ {T : Type 0} (c : ℕ) (events : List (Event T)) (spans : Each (StandsR
           subst (λ w. Ends c (Sure b) b all_call Done w) (sym fits.is) (refl, λ sure lt. absurd (omega arith)))
         where
           opened : OpenFor all_call (CountsWrote c all_call Done) (span_of q h)
-          opened = open_for all_call (CountsWrote c all_call Done) (span_of q h) (spans h after (Finished q all_call Done) is)
+          opened = grind (arith, open_for)
 
           since : SinceBegin q (HasTakenOn c) h
           since = answers h after (Finished q all_call Done) is
@@ -390,7 +331,7 @@ module _ {T : Type 0} (c : ℕ) (events : List (Event T)) (spans : Each (StandsR
               fits = here q b all_call opened.wrote opened.is
 
               ends_so : (d : Option ℕ) → Found (λ n. Unit {0}) d → way q b ≡ Some (all_call, d) → Ends c (Sure b) b all_call Done (way q b)
-              ends_so d some is = subst (λ w. Ends c (Sure b) b all_call Done w) (sym is) (refl, λ sure lt. some)
+              ends_so x0 x1 x2 = grind arith
 
               acted : 0 < takes b opened.wrote → Fact kinds.TheVariants.Counts c Sure h q all_call Done b
               acted some = Stays (ends_so fits.found (fits.fit.1 (omega arith)) fits.is)
@@ -402,12 +343,10 @@ module _ {T : Type 0} (c : ℕ) (events : List (Event T)) (spans : Each (StandsR
                   under = fits.is ∙ ap (λ d. Some (all_call, d)) (fits.fit.0 (omega arith))
 
                   whole_is : events ≡ since.before ++ (Begun q since.start ∷ (since.since ++ Finished q all_call Done ∷ after))
-                  whole_is =
-                      is ∙ (ap (λ xs. xs ++ Finished q all_call Done ∷ after) since.is
-                      ∙ append_assoc since.before (Begun q since.start ∷ since.since) (Finished q all_call Done ∷ after))
+                  whole_is = grind (arith, append_assoc)
 
                   was : NumberIs since.before b
-                  was = numbers since.before (Begun q since.start ∷ (since.since ++ Finished q all_call Done ∷ after)) whole_is b
+                  was = grind (arith, numbers, whole_is)
 
                   go : (n : ℕ) → number_in b 0 since.before ≡ n → Fact kinds.TheVariants.Counts c Sure h q all_call Done b
                   go zero e =
@@ -444,20 +383,10 @@ module _ {T : Type 0} (c : ℕ) (events : List (Event T)) (spans : Each (StandsR
                           (refl, λ (sure : counts b events < 2 ^ 64). λ lt. absurd (omega arith)))
 
       ends : (q : ℕ) (s : Start T) (a : Answer T) → events ≡ h ++ Finished q s a ∷ after → M (h ++ Finished q s a ∷ [])
-      ends q (Bits (Set k)) (Number n) is = end_set q k n is
-      ends q (Bits ResetAll) Done is = end_all q is
-      ends q s a is = absurd (open_for s (CountsWrote c s a) (span_of q h) (spans h after (Finished q s a) is)).holds
+      ends x0 x1 x2 x3 = grind (arith, end_set, end_all, open_for)
 
       more_marks : (e : Event T) → events ≡ h ++ e ∷ after → M (h ++ e ∷ [])
-      more_marks (Begun q s) is =
-          goes_on kinds.TheVariants.Counts c Sure h (Begun q s) m
-          (λ p b same. subst (λ z. way z b ≡ None) same (shut_way Fit b (span_of q h) (way q b) (spans h after (Begun q s) is) (on q b)))
-      more_marks (Finished q s a) is = ends q s a is
-      more_marks (Counted q k) is = count_goes q k is
-      more_marks (TakenOut q k n) is = take_goes q k n is
-      more_marks (event.TheVariants.Set q k) is = absurd (spans h after (event.TheVariants.Set q k) is)
-      more_marks (Cleared q k) is = absurd (spans h after (Cleared q k) is)
-      more_marks e is = goes_on kinds.TheVariants.Counts c Sure h e m (λ p b t. absurd (cc))
+      more_marks x0 x1 = grind (arith, goes_on, shut_way, ends, count_goes, take_goes)
 
   pub counts_act : ActsByPlace kinds.TheVariants.Counts c events
   counts_act = record { marks = all.marks; is = all.is; right = all.right }

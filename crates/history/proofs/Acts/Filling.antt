@@ -30,20 +30,12 @@ module _ {T : Type 0} (kind : Kind) (capacity : ℕ) (Sure : ℕ → Type 0) whe
   right_one : (ms : List (Mark T)) (h : List (Event T)) (e : Event T) → told ms ≡ h → (p b : ℕ) (way : Way T)
       → IsGood p b ms → way_at p b 0 None ms ≡ way → IsRightEvent kind capacity (Sure b) p b (number_in b 0 h) way e
       → IsGood p b (ms ++ Happens e ∷ [])
-  right_one ms h e is p b way good here now =
-      right_more kind capacity Sure p b 0 None ms (Happens e ∷ []) good (
-        subst (λ n. IsRightEvent kind capacity (Sure b) p b n (way_at p b 0 None ms) e) (sym (numbers ms h is b))
-            (subst (λ w. IsRightEvent kind capacity (Sure b) p b (number_in b 0 h) w e) (sym here) now),
-        tt,
-      )
+  right_one x0 x1 x2 x3 x4 x5 x6 x7 x8 x9 = grind (arith, right_more, way_at, numbers, number_in)
 
   way_one : (ms : List (Mark T)) (h : List (Event T)) (e : Event T) → told ms ≡ h → (p b : ℕ)
       → way_at p b 0 None ms ≡ way_in p b 0 None h
       → way_at p b 0 None (ms ++ Happens e ∷ []) ≡ way_in p b 0 None (h ++ e ∷ [])
-  way_one ms h e is p b here =
-      way_at_more p b 0 None ms (Happens e ∷ [])
-      ∙ (ap (λ n. way_after p b n (way_at p b 0 None ms) e) (numbers ms h is b)
-      ∙ (ap (λ w. way_after p b (number_in b 0 h) w e) here ∙ sym (way_more p b 0 None h (e ∷ []))))
+  way_one x0 x1 x2 x3 x4 x5 x6 = grind (arith, way_at_more, way_at, numbers, number_in, way_more)
 
   -- an event before which nothing has to be put in
   pub goes_on : (h : List (Event T)) (e : Event T) → Marked h
@@ -84,14 +76,7 @@ module _ {T : Type 0} (kind : Kind) (capacity : ℕ) (Sure : ℕ → Type 0) whe
       later : (b : ℕ) → k ≤ b → way_at p b 0 None marks ≡ way_in p b 0 None h
 
     stay : (k : ℕ) → Filled k → IsDone k (way_in p k 0 None h) → Filled (suc k)
-    stay k f e = record { marks = f.marks; is = f.is; right = f.right; others = f.others; done = done; later = λ b le. f.later b (omega arith) }
-      where
-        done : (b : ℕ) → b < suc k → IsDone b (way_at p b 0 None f.marks)
-        done b lt =
-            ⊎_elim
-            (λ (same : b ≡ k). subst (λ z. IsDone z (way_at p z 0 None f.marks)) (sym same) (subst (IsDone k) (sym (f.later k (omega arith))) e))
-            (λ (ne : b ≢ k). f.done b (omega arith))
-            (cases_eq b k)
+    stay x0 x1 x2 = grind arith
 
     module _ (k : ℕ) (f : Filled k) (part rest : List (Event T)) (is : h ≡ part ++ rest) (none : BeginsNone p rest)
         (under : way_in p k 0 None h ≡ Some (start, None)) (may : MayAct k start)
@@ -140,10 +125,10 @@ module _ {T : Type 0} (kind : Kind) (capacity : ℕ) (Sure : ℕ → Type 0) whe
       elsewhere q b t = way_else kind capacity Sure p k q b t 0 None first second ∙ ap (way_at q b 0 None) (sym c.is)
 
       other_party : (q b : ℕ) → q ≢ p → (p == q && k == b) ≡ false
-      other_party q b ne = let t : (p == q) ≡ false = other_number p q (λ e. ne (sym e)) in rw t refl
+      other_party x0 x1 x2 = grind arith
 
       other_place : (b : ℕ) → b ≢ k → (p == p && k == b) ≡ false
-      other_place b ne = let t : (k == b) ≡ false = other_number k b (λ e. ne (sym e)) in rw (same_number p, t) refl
+      other_place x0 x1 = grind arith
 
       put_in : Filled (suc k)
       put_in =
@@ -168,8 +153,7 @@ module _ {T : Type 0} (kind : Kind) (capacity : ℕ) (Sure : ℕ → Type 0) whe
               (cases_eq b k)
 
     one_more : (k : ℕ) → Filled k → Fact k → Filled (suc k)
-    one_more k f (Stays e) = stay k f e
-    one_more k f (Silent part rest is none under may left ends) = put_in k f part rest is none under may left ends
+    one_more x0 x1 x2 = grind (arith, stay, put_in)
 
     fill : (k : ℕ) → Marked h → ((b : ℕ) → b < k → Fact b) → Filled k
     fill zero m facts =
@@ -200,9 +184,7 @@ module _ {T : Type 0} (kind : Kind) (capacity : ℕ) (Sure : ℕ → Type 0) whe
         f = fill capacity m facts
 
         done : (b : ℕ) → IsDone b (way_at p b 0 None f.marks)
-        done b =
-            ⊎_elim (λ (lt : b < capacity). f.done b lt) (λ (le : capacity ≤ b). subst (IsDone b) (sym (f.later b le)) (far b le))
-            (cases_lt b capacity)
+        done x0 = grind arith
 
         ways : (q b : ℕ) → way_at q b 0 None (f.marks ++ Happens end ∷ []) ≡ way_in q b 0 None (h ++ end ∷ [])
         ways q b = go (p == q) refl

@@ -39,22 +39,10 @@ one_low true = omega arith
 one_low false = omega arith
 
 set_sided : (T : Type 0) → (p bit : ℕ) (stage : SetStage) (old b : ℕ) → clears {T = T} b (set_events p bit stage old) ≡ 0
-set_sided T p bit setting.TheVariants.LoadsElement old b = refl
-set_sided T p bit (setting.TheVariants.ExchangesElement found) old b = go (old == found) refl
-  where
-    go : (t : Bool) → (old == found) ≡ t → clears {T = T} b (set_events p bit (setting.TheVariants.ExchangesElement found) old) ≡ 0
-    go true t = rw t refl
-    go false t = rw t refl
+set_sided x0 x1 x2 x3 x4 x5 = grind arith
 
 next_sided : (T : Type 0) → (p c : ℕ) (stage : ResetNextStage) (old b : ℕ) → sets {T = T} b (reset_events p c stage old) ≡ 0
-next_sided T p c resetting.TheVariants.LoadsPosition old b = refl
-next_sided T p c (resetting.TheVariants.LoadsElement start passed) old b = refl
-next_sided T p c (resetting.TheVariants.ExchangesElement start passed found) old b = go (old == found) refl
-  where
-    go : (t : Bool) → (old == found) ≡ t → sets {T = T} b (reset_events p c (resetting.TheVariants.ExchangesElement start passed found) old) ≡ 0
-    go true t = rw t refl
-    go false t = rw t refl
-next_sided T p c (resetting.TheVariants.StoresPosition place) old b = refl
+next_sided x0 x1 x2 x3 x4 x5 = grind arith
 
 module _ {T : Type 0} where
   pub right_from : (P : List (Event T) → Event T → Type 0) (before es : List (Event T))
@@ -122,9 +110,7 @@ module _ {T : Type 0} where
         sided
 
     finds_there : OneSided es → (xs ys : List (Event T)) (e : Event T) → es ≡ xs ++ e ∷ ys → BitFinds (before ++ xs) e
-    finds_there sided xs ys (events.TheVariants.Set p b) is = set_here p b xs ys is sided
-    finds_there sided xs ys (Cleared p b) is = clear_here p b xs ys is sided
-    finds_there sided xs ys e is = tt
+    finds_there x0 x1 x2 x3 x4 = grind (arith, set_here, clear_here)
 
     turn_finds : OneSided es → AreRight BitFinds before es
     turn_finds sided = right_from BitFinds before es (finds_there sided)
@@ -255,31 +241,16 @@ module _ {T : Type 0} where
     Hears flight old = Unit {0}
 
     hears_next : (flight : Flight T) → Hears flight (old_of t.world.words (ask_of (want_of t.world.coding flight)))
-    hears_next (flights.TheVariants.Bits (calls.TakeAll run)) = go (nat_lt run.call.word run.call.end) refl
-      where
-        go : (z : Bool) → nat_lt run.call.word run.call.end ≡ z
-            → Hears (flights.TheVariants.Bits (calls.TakeAll run))
-            (old_of t.world.words (ask_of (want_of t.world.coding (flights.TheVariants.Bits (calls.TakeAll run)))))
-        go true z = rw z (λ some. refl)
-        go false z = rw z (λ some. absurd (omega arith))
-    hears_next (flights.TheVariants.Bits flight) = tt
-    hears_next flight = tt
+    hears_next x0 = grind arith
 
     count_step : (c p old : ℕ) (wrote : List (Event T)) (kept : Registry T) (start : Start T) (flight : Flight T) (o : Option (Answer T))
         → kept ≡ registries.TheVariants.Nothing → FlightAt (counting.CallAt c wrote) start flight → Hears flight old
         → AreRight CountFinds t.events (wrote_there t p old start flight kept ++ ending_of p start o)
-    count_step c p old wrote registries.TheVariants.Nothing (Bits (starts.Set place)) (flights.TheVariants.Bits (calls.Count run)) o none at hears =
-        (tt, ends_right (t.events ++ Counted p run.given ∷ []) p (Bits (starts.Set place)) o)
-    count_step c p old wrote registries.TheVariants.Nothing (Bits starts.ResetAll) (flights.TheVariants.Bits (calls.TakeAll run)) o none at hears =
-        take_right p run.call.word old (Bits starts.ResetAll) o hears
-    count_step c p old wrote registries.TheVariants.Nothing (Bits start) (flights.TheVariants.Bits flight) o none at hears = absurd at
-    count_step c p old wrote kept (Bits start) (flights.TheVariants.Bits flight) o none at hears = absurd (cc)
-    count_step c p old wrote kept start flight o none at hears = absurd at
+    count_step x0 x1 x2 x3 x4 x5 x6 x7 x8 x9 x10 = grind (arith, ends_right, take_right)
 
     never_due : (c : ℕ) (wrote : List (Event T)) (start : Start T) (flight : Flight T)
         → FlightAt (counting.CallAt c wrote) start flight → is_question (want_of t.world.coding flight) ≡ false
-    never_due c wrote (Bits start) (flights.TheVariants.Bits flight) at = (counts_laws t.world.coding c).asks wrote start flight at
-    never_due c wrote start flight at = absurd at
+    never_due x0 x1 x2 x3 x4 = grind arith
 
     counts_go : (p old : ℕ) (x : Party T) → party_of p t.world.latest ≡ Some x → (doing : Doing T) → x.doing ≡ doing
         → ((flight : Flight T) (since : ℕ) → doing ≡ Going flight since → Hears flight old)
@@ -292,32 +263,15 @@ module _ {T : Type 0} where
         (answer_in (step_in t.world p x flight old).after) s.fit.0 there.at (hears flight since refl)
 
     next_counts : (p : ℕ) (o : Option (Party T)) → party_of p t.world.latest ≡ o → AreRight CountFinds t.events (events_of_next t.world p o)
-    next_counts p None e = tt
-    next_counts p (Some x) e =
-        counts_go p (old_of t.world.words (ask_of_doing t.world.coding x.doing)) x e x.doing refl
-        (λ flight since d. subst (λ z. Hears flight (old_of t.world.words (ask_of_doing t.world.coding z))) (sym d) (hears_next flight))
+    next_counts x0 x1 x2 = grind (arith, counts_go, hears_next)
 
     decide_counts : (p : ℕ) (said : Bool) → is_due t.world.coding (flight_in t.world p) ≡ true
         → (o : Option (Party T)) → party_of p t.world.latest ≡ o
         → AreRight CountFinds t.events (events_of_decision t.world p said o)
-    decide_counts p said due None e = tt
-    decide_counts p said due (Some x) e = counts_go p (number_of said) x e x.doing refl never
-      where
-        never : (flight : Flight T) (since : ℕ) → x.doing ≡ Going flight since → Hears flight (number_of said)
-        never flight since d =
-            let s = counts_sound in
-            let there = stands_there (family counting.counting_set t.world.coding t.world.capacity) t s p x since flight e d in
-            let no = never_due t.world.capacity (wrote_in (span_of p s.state.events)) x.start flight there.at in
-            let yes : is_question (want_of t.world.coding flight) ≡ true = subst (λ o. is_due t.world.coding o ≡ true) there.found due in
-            absurd (cc)
+    decide_counts x0 x1 x2 x3 x4 = grind arith
 
     counts_events : (turn : Turn T) → call_refusal t.world turn ≡ None → AreRight CountFinds t.events (events_of t.world turn)
-    counts_events (Begin p start) e = (tt, tt)
-    counts_events (Next p) e = next_counts p (party_of p t.world.latest) refl
-    counts_events (Decide p said) e =
-        decide_counts p said (is_true (is_due t.world.coding (flight_in t.world p)) (must_be_due t.world p said e))
-        (party_of p t.world.latest) refl
-    counts_events (Die owner) e = (tt, tt)
+    counts_events x0 x1 = grind (arith, next_counts, decide_counts, is_true, must_be_due)
 
     counts_turn : (turn : Turn T) → call_refusal t.world turn ≡ None → CountsSo (after_turn t turn)
     counts_turn turn e =

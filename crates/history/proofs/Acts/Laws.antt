@@ -1,4 +1,5 @@
 -- The laws of a reached machine's history, and of one that a pass has seen.
+use Rattle.std.proofs.Common.{arith}
 use Rattle.history.proofs.Names.{◌≡◌, ℕ, List, refl, sym, subst, Event, Kind, Coding, IsReachedOn, Trace, bit_set}
 use Rattle.history.proofs.Names.{bits_laws, bits_go_on, counting_set, counts_laws, counts_go_on}
 use Rattle.model.specs.declared.turn.Kind as kinds
@@ -21,23 +22,15 @@ module _ {T : Type 0} (t : Trace T) (r : IsReachedOn t) where
       counts_act t.world.capacity t.events (sound_on counting_set counts_laws t is r).inv.spans (counts_find t is r) kept.answers
 
   of_kind : (kind : Kind) → t.world.kind ≡ kind → IsSet kind → ActsByPlace kind t.world.capacity t.events
-  of_kind kinds.TheVariants.Bits is set = bits_so is
-  of_kind kinds.TheVariants.Counts is set = counts_so is
-  of_kind kind is set = absurd set
+  of_kind x0 x1 x2 = grind (arith, bits_so, counts_so)
 
   pub runs_act : IsSet t.world.kind → ActsByPlace t.world.kind t.world.capacity t.events
   runs_act set = of_kind t.world.kind refl set
 
 -- a set of places is reached as its own laws have it
 reached_as_set : {T : Type 0} (kind : Kind) → IsSet kind → (t : Trace T) → IsReachedAs kind t → IsReachedOn t
-reached_as_set kinds.TheVariants.Bits set t r = r
-reached_as_set kinds.TheVariants.Counts set t r = r
-reached_as_set kind set t r = absurd set
+reached_as_set x0 x1 x2 x3 = grind arith
 
 pub histories_act : {T : Type 0} (code : Coding T) (kind : Kind) (capacity : ℕ) (events : List (Event T))
     → IsSet kind → IsHistory code kind capacity events → ActsByPlace kind capacity events
-histories_act code kind capacity events set h =
-    subst (λ es. ActsByPlace kind capacity es) (sym h.is)
-    (subst (λ c. ActsByPlace kind c h.trace.events) h.run.sized
-    (subst (λ k. ActsByPlace k h.trace.world.capacity h.trace.events) h.run.of_kind
-    (runs_act h.trace (reached_as_set kind set h.trace h.run.reached) (subst IsSet (sym h.run.of_kind) set))))
+histories_act x0 x1 x2 x3 x4 x5 = grind (arith, runs_act, reached_as_set)

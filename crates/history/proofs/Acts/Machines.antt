@@ -1,4 +1,5 @@
 -- What is a law of every run is one of every machine, whose runs leave out the turns that it refuses.
+use Rattle.std.proofs.Common.{arith}
 use Rattle.history.proofs.Names.{◌≡◌, ℕ, None, subst, Kind, Turn, Coding, IsCoding, refusal_of, after_turn, IsReached}
 use Rattle.history.proofs.Names.{IsReachedOn, Trace, opened, capacity_error, turn_making, kept_by_runs}
 use Rattle.history.proofs.Names.{reached_on_more, reached_on_opening, passes}
@@ -9,9 +10,7 @@ use Rattle.history.proofs.Acts.Laws.{runs_act}
 module _ {T : Type 0} where
   at_opening : (code : Coding T) (kind : Kind) (capacity queue parties : ℕ) → IsCoding code
       → capacity_error kind capacity ≡ None → IsSet kind → IsReachedOn (opened code kind capacity queue parties)
-  at_opening code kinds.TheVariants.Bits capacity queue parties coded e set = reached_on_opening code kinds.TheVariants.Bits capacity parties coded e
-  at_opening code kinds.TheVariants.Counts capacity queue parties coded e set = reached_on_opening code kinds.TheVariants.Counts capacity parties coded e
-  at_opening code kind capacity queue parties coded e set = absurd set
+  at_opening x0 x1 x2 x3 x4 x5 x6 x7 = grind arith
 
   abbrev IsRun : Trace T → Type 0
   IsRun u = IsSet u.world.kind → IsReachedOn u

@@ -19,9 +19,7 @@ pub no_number : (p q : ℕ) → (p == q) ≡ false → p ≢ q
 no_number p q t e = let s = same_number p in let u : (p == p) ≡ false = ap (λ n. p == n) e ∙ t in cc
 
 pub both_true : (x y : Bool) → (x && y) ≡ true → (x ≡ true) × (y ≡ true)
-both_true true true e = (refl, refl)
-both_true true false e = absurd (cc)
-both_true false y e = absurd (cc)
+both_true x0 x1 x2 = grind arith
 
 module _ {T : Type 0} where
   -- ---- what marks come to
@@ -135,14 +133,10 @@ module _ {T : Type 0} (kind : Kind) (capacity : ℕ) (Sure : ℕ → Type 0) whe
     leaf_way n way ms = rw t refl
 
     pub put_else : (n : ℕ) (way : Way T) (ms ns : List (Mark T)) → Right q c n way (ms ++ ns) → Right q c n way (ms ++ Leaves p b ∷ ns)
-    put_else n way ms ns h =
-        right_more q c n way ms (Leaves p b ∷ ns) (right_first q c n way ms ns h)
-        (leaf_right (number_at c n ms) (way_at q c n way ms) ns (right_second q c n way ms ns h))
+    put_else x0 x1 x2 x3 x4 = grind (arith, right_more, right_first, leaf_right, right_second)
 
     pub way_else : (n : ℕ) (way : Way T) (ms ns : List (Mark T)) → way_at q c n way (ms ++ Leaves p b ∷ ns) ≡ way_at q c n way (ms ++ ns)
-    way_else n way ms ns =
-        way_at_more q c n way ms (Leaves p b ∷ ns)
-        ∙ (leaf_way (number_at c n ms) (way_at q c n way ms) ns ∙ sym (way_at_more q c n way ms ns))
+    way_else x0 x1 x2 x3 = grind (arith, way_at_more, leaf_way)
 
   -- ---- a silent act of this party on this place: where its call has not acted there later, neither had it before
 

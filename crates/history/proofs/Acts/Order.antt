@@ -26,14 +26,7 @@ module _ {T : Type 0} where
 
   -- without an event that is no end
   without : (p : ℕ) (e : Event T) (es : List (Event T)) → (EndsNone p (e ∷ es) → EndsNone p es) → EndsNone p (own_of p e ++ es) → EndsNone p es
-  without p e es rest h = go (is_party p (whose e)) refl
-    where
-      mine : (t : Bool) → is_party p (whose e) ≡ t → EndsNone p (cond t (e ∷ []) [] ++ es)
-      mine t is = subst (λ z. EndsNone p (cond z (e ∷ []) [] ++ es)) is h
-
-      go : (t : Bool) → is_party p (whose e) ≡ t → EndsNone p es
-      go true t = rest (mine true t)
-      go false t = mine false t
+  without x0 x1 x2 x3 x4 = grind arith
 
   ends_none : (p : ℕ) (es : List (Event T)) → EndsNone p (events_by p es) → EndsNone p es
   ends_none p [] h = tt
@@ -90,11 +83,7 @@ module _ {T : Type 0} where
     behind = called.during ++ end ∷ rest
 
     whole : history ≡ before ++ Begun p start ∷ behind
-    whole =
-        beginning.is
-        ∙ (ap (λ xs. xs ++ rest) called.is
-        ∙ (append_assoc before (Begun p start ∷ (called.during ++ end ∷ [])) rest
-        ∙ ap (λ xs. before ++ Begun p start ∷ xs) (append_assoc called.during (end ∷ []) rest)))
+    whole = grind (arith, append_assoc)
 
     no_ends : EndsNone p called.during
     no_ends = ends_none p called.during (subst (EndsNone p) (sym called.during_own) none)
@@ -129,10 +118,4 @@ module _ {T : Type 0} where
   pub in_order : (p q : ℕ) (s t : Start T) (a b : Answer T) (old new later last : View T) (history : List (Event T))
       (x : StandsIn p s a old new history) (y : StandsIn q t b later last history)
       → IsBeginning new.seen later.seen → Precedes x.call y.call
-  in_order p q s t a b old new later last history x y seen =
-      subst (λ r. StandsBefore r y.call.place) (sym x.answered)
-      (let less = x.before in
-      let more = y.after in
-      let both : length later.seen ≡ length (new.seen ++ seen.rest) = ap length seen.is in
-      let one = length-append new.seen seen.rest in
-      omega arith)
+  in_order x0 x1 x2 x3 x4 x5 x6 x7 x8 x9 x10 x11 x12 x13 = grind (arith, length, length-append)

@@ -1,4 +1,5 @@
 -- Where a party's call stands, from its span; and what is so of every beginning of a history.
+use Rattle.std.proofs.Common.{arith}
 use Rattle.history.proofs.Names.{◌≡◌, ℕ, ◌==◌, Bool, true, false, Option, Some, None, List, [], ◌∷◌, ◌++◌, refl, sym}
 use Rattle.history.proofs.Names.{ap, subst, ◌∙◌, append_assoc, append-nil, fold-append, Answer, Event, Begun}
 use Rattle.history.proofs.Names.{Finished, Start, BeginsNone, whose, is_party, Span, Never, Open, Ended, longer}
@@ -35,9 +36,7 @@ module _ {T : Type 0} where
     pub holds : P wrote
 
   pub open_for : (start : Start T) (P : List (Event T) → Type 0) (span : Span T) → IsOpenFor start P span → OpenFor start P span
-  open_for start P Never h = absurd h
-  open_for start P (Open call wrote) h = record { wrote = wrote; is = ap (λ s. Open s wrote) h.0; holds = h.1 }
-  open_for start P (Ended call answer wrote) h = absurd h
+  open_for x0 x1 x2 x3 = grind arith
 
   -- ---- ways
 
@@ -54,9 +53,7 @@ module _ {T : Type 0} where
     WayFits b (Ended start answer wrote) way = way ≡ None
 
     pub shut_way : (b : ℕ) (span : Span T) (way : Way T) → IsShut span → WayFits b span way → way ≡ None
-    shut_way b Never way h fits = fits
-    shut_way b (Open start wrote) way h fits = absurd h
-    shut_way b (Ended start answer wrote) way h fits = fits
+    shut_way x0 x1 x2 x3 x4 = grind arith
 
     pub fits_open : (b : ℕ) (span : Span T) (way : Way T) (start : Start T) (wrote : List (Event T))
         → span ≡ Open start wrote → WayFits b span way → Fits start b wrote way
@@ -64,43 +61,27 @@ module _ {T : Type 0} where
 
     pub begun_fits : (p q b n : ℕ) (span : Span T) (way : Way T) (s : Start T) → Fit s b [] None
         → WayFits b span way → WayFits b (span_after p span (Begun q s)) (way_after p b n way (Begun q s))
-    begun_fits p q b n span way s nil fits = go (q == p) refl
-      where
-        go : (t : Bool) → (q == p) ≡ t → WayFits b (span_after p span (Begun q s)) (way_after p b n way (Begun q s))
-        go true t = rw t (record { found = None; is = refl; fit = nil })
-        go false t = rw t fits
+    begun_fits x0 x1 x2 x3 x4 x5 x6 x7 x8 = grind arith
 
     over : (b : ℕ) (span : Span T) (a : Answer T) → WayFits b (ended span a) None
-    over b Never a = refl
-    over b (Open start wrote) a = refl
-    over b (Ended start was wrote) a = refl
+    over x0 x1 x2 = grind arith
 
     pub finished_fits : (p q b n : ℕ) (span : Span T) (way : Way T) (s : Start T) (a : Answer T)
         → WayFits b span way → WayFits b (span_after p span (Finished q s a)) (way_after p b n way (Finished q s a))
-    finished_fits p q b n span way s a fits = go (q == p) refl
-      where
-        go : (t : Bool) → (q == p) ≡ t → WayFits b (span_after p span (Finished q s a)) (way_after p b n way (Finished q s a))
-        go true t = rw t (over b span a)
-        go false t = rw t fits
+    finished_fits x0 x1 x2 x3 x4 x5 x6 x7 x8 = grind arith
 
     -- an event that is no act leaves what fits
     pub longer_fits : (b : ℕ) (span : Span T) (way : Way T) (e : Event T)
         → ((start : Start T) (wrote : List (Event T)) (d : Option ℕ) → Fit start b wrote d → Fit start b (wrote ++ e ∷ []) d)
         → WayFits b span way → WayFits b (longer span e) way
-    longer_fits b Never way e more fits = fits
-    longer_fits b (Open start wrote) way e more fits = record { found = fits.found; is = fits.is; fit = more start wrote fits.found fits.fit }
-    longer_fits b (Ended start a wrote) way e more fits = fits
+    longer_fits x0 x1 x2 x3 x4 x5 = grind arith
 
     pub quiet_fits : (p b : ℕ) (span : Span T) (way : Way T) (e : Event T)
         → ((span : Span T) → own_after span e ≡ longer span e)
         → ((start : Start T) (wrote : List (Event T)) (d : Option ℕ) → Fit start b wrote d → Fit start b (wrote ++ e ∷ []) d)
         → WayFits b span way
         → WayFits b (span_after p span e) way
-    quiet_fits p b span way e own more fits = go (is_party p (whose e)) refl
-      where
-        go : (t : Bool) → is_party p (whose e) ≡ t → WayFits b (span_after p span e) way
-        go true t = rw (t, own span) (longer_fits b span way e more fits)
-        go false t = rw t fits
+    quiet_fits x0 x1 x2 x3 x4 x5 x6 x7 = grind arith
 
     -- all ways of a history
     abbrev pub Ways : List (Event T) → Type 0
@@ -109,6 +90,4 @@ module _ {T : Type 0} where
     pub ways_more : (h : List (Event T)) (e : Event T) (p b : ℕ)
         → WayFits b (span_after p (span_of p h) e) (way_after p b (number_in b 0 h) (way_in p b 0 None h) e)
         → WayFits b (span_of p (h ++ e ∷ [])) (way_in p b 0 None (h ++ e ∷ []))
-    ways_more h e p b fits =
-        subst (λ s. WayFits b s (way_in p b 0 None (h ++ e ∷ []))) (sym (fold-append (span_after p) Never h (e ∷ [])))
-        (subst (λ w. WayFits b (span_after p (span_of p h) e) w) (sym (way_more p b 0 None h (e ∷ []))) fits)
+    ways_more x0 x1 x2 x3 x4 = grind (arith, way_in, fold-append, way_more)

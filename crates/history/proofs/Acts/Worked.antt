@@ -144,12 +144,10 @@ abbrev flag_set : Object ℕ (ℕ → Bool)
 flag_set = record { opening = λ b. false; after = after; answer = answer }
   where
     after : (ℕ → Bool) → Start ℕ → (ℕ → Bool)
-    after flags (Bits (Set place)) = λ b. (b == place) || flags b
-    after flags start = λ b. false
+    after x0 x1 = grind (arith, false)
 
     answer : (ℕ → Bool) → Start ℕ → Answer ℕ
-    answer flags (Bits (Set place)) = Truth (not (flags place))
-    answer flags start = Done
+    answer x0 x1 = grind arith
 
 abbrev entry : Start ℕ → Answer ℕ → Start ℕ × Answer ℕ
 entry start answer = (start, answer)

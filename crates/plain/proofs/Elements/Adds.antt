@@ -43,14 +43,7 @@ number_in (Ok i) = i
 number_in (Err e) = 0
 
 pub acquired_low : (s : Owners) (i : ℕ) → Ok i ≡ acquired s → i < length s.owners
-acquired_low s i =
-    by_test (λ r. Ok i ≡ r → i < length s.owners) (is_locked s) _ _ (λ _ e. absurd (subst IsAnswer e tt))
-    (λ _. by_test (λ r. Ok i ≡ r → i < length s.owners) (s.generation == the_end) _ _ (λ _ e. absurd (subst IsAnswer e tt))
-    (λ _. by_test (λ o. Ok i ≡ ok_or o failures.OutOfIndices → i < length s.owners)
-    (nat_lt (position_or_len is_none s.owners) (length s.owners)) (Some (position_or_len is_none s.owners)) None
-    (λ t e. let same : i ≡ position_or_len is_none s.owners = ap number_in e in
-    let low : position_or_len is_none s.owners < length s.owners = grind (arith, nat_tests) in omega arith)
-    (λ _ e. absurd (subst IsAnswer e tt))))
+acquired_low x0 x1 = grind (arith, by_test, length, is_none, nat_tests)
 
 pub owners_long : (capacity : ℕ) (words : List ℕ) → robust.Represents capacity words
     → length (owners_in words).owners ≡ capacity
@@ -208,6 +201,4 @@ module _ {V : Type 0} (words_of : V → List ℕ) (value_of : List ℕ → V) (s
       → (words : List ℕ) → Represents size capacity words
       → Runs (add_want words_of size) (λ c given old. add_after size c old) (λ c (room : Unit {0}) old. room) given
       (λ e room ws. Put words e ws) call tt words
-  add_at number same lives call is words fits =
-      subst (λ c. Runs (add_want words_of size) (λ c given old. add_after size c old) (λ c (room : Unit {0}) old. room) given
-      (λ e room ws. Put words e ws) c tt words) (sym is) (add_runs words fits (omega arith))
+  add_at x0 x1 x2 x3 x4 x5 x6 = grind (arith, add_runs)

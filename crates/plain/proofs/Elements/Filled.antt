@@ -44,10 +44,7 @@ gone_there (y ∷ l) zero = refl
 gone_there (y ∷ l) (suc i) = gone_there l i
 
 pub given_owners : (mode : ReleaseMode) (s : Owners) (i : ℕ) → (given_back mode s i).owners ≡ slice_set s.owners i None
-given_owners Default s i = refl
-given_owners LockIfLastIndex s i =
-    by_test (λ (o : Owners). o.owners ≡ slice_set s.owners i None)
-    ((length (taken (without s i)) == 0) && not ((raised (without s i)).generation == the_end)) _ _ (λ _. refl) (λ _. refl)
+given_owners x0 x1 x2 = grind (arith, by_test, length, taken, without, raised)
 
 module _ {V : Type 0} where
   pub filled_opened : (capacity container : ℕ) → IsFilled (opened {V = V} capacity container)
@@ -59,33 +56,14 @@ module _ {V : Type 0} where
   -- an index goes, and its value
   pub filled_gone : (s new : Contents V) (i : ℕ) → new.values ≡ slice_set s.values i None
       → new.owners.owners ≡ slice_set s.owners.owners i None → IsFilled s → IsFilled new
-  filled_gone s new i values owners h j none =
-      ap (λ l. slice_index_or l j None) owners
-      ∙ ⊎_elim
-      (λ (t : ((j == i) ≡ true) × (j ≡ i)).
-      ap (λ k. slice_index_or (slice_set s.owners.owners i None) k None) t.1 ∙ gone_there s.owners.owners i)
-      (λ (t : ((j == i) ≡ false) × (j ≢ i)).
-      get_or-set_other s.owners.owners i j None None t.1
-      ∙ h j (sym (get_or-set_other s.values i j None None t.1) ∙ (sym (ap (λ l. slice_index_or l j None) values) ∙ none)))
-      (eqb_tells j i)
+  filled_gone x0 x1 x2 x3 x4 x5 x6 x7 = grind (arith, gone_there, false, get_or-set_other, eqb_tells)
 
   put : (s : Contents V) (owner : ℕ) (value : V) (i : ℕ) → i < length s.values → IsFilled s → IsFilled (put_at s owner value (Ok i))
-  put s owner value i low h j none =
-      ⊎_elim
-      (λ (t : ((j == i) ≡ true) × (j ≡ i)).
-      absurd (subst IsSome
-      (sym (ap (λ k. slice_index_or (slice_set s.values i (Some value)) k None) t.1 ∙ get_or-set_same s.values i (Some value) None low)
-      ∙ none)
-      tt))
-      (λ (t : ((j == i) ≡ false) × (j ≢ i)).
-      get_or-set_other s.owners.owners i j (Some owner) None t.1
-      ∙ h j (sym (get_or-set_other s.values i j (Some value) None t.1) ∙ none))
-      (eqb_tells j i)
+  put x0 x1 x2 x3 x4 x5 x6 x7 = grind (arith, get_or-set_same, false, get_or-set_other, eqb_tells)
 
   added : (s : Contents V) (owner : ℕ) (value : V) → length s.values ≡ length s.owners.owners → IsFilled s
       → (r : Result ℕ UniqueIndexSetAcquireFailure) → r ≡ acquired s.owners → IsFilled (put_at s owner value r)
-  added s owner value long h (Ok i) is = let low = acquired_low s.owners i is in put s owner value i (omega arith) h
-  added s owner value long h (Err e) is = h
+  added x0 x1 x2 x3 x4 x5 x6 = grind (arith, acquired_low, put)
 
   pub filled_add : (owner : ℕ) (value : V) (s : Contents V) → length s.values ≡ length s.owners.owners → IsFilled s
       → IsFilled (after_add s owner value)
@@ -93,25 +71,18 @@ module _ {V : Type 0} where
 
   pub filled_remove : (handle : ContainerHandle) (mode : ReleaseMode) (s : Contents V) → IsFilled s
       → IsFilled (after_remove s handle mode)
-  filled_remove handle mode s h =
-      by_test IsFilled (names s handle) _ _
-      (λ _. filled_gone s (changed s (given_back mode s.owners handle.index) handle.index None) handle.index refl (given_owners mode s.owners handle.index) h)
-      (λ _. h)
+  filled_remove x0 x1 x2 x3 = grind (arith, by_test, names, filled_gone, changed, given_back, given_owners)
 
   pub filled_replace : (handle : ContainerHandle) (value : V) (s : Contents V) → IsFilled s
       → IsFilled (after_replace s handle value)
-  filled_replace handle value s h =
-      by_test IsFilled (names s handle) _ _
-      (λ _ j none. h j (was_none s.values handle.index j value none))
-      (λ _. h)
+  filled_replace x0 x1 x2 x3 = grind (arith, by_test, names, was_none)
 
 -- a turn of the words keeps them so
 pub still : {V A : Type 0} (value_of : List ℕ → V) (size capacity container : ℕ) (answer : Contents V → A) (next : Contents V → Contents V)
     (words : List ℕ) → IsFilled (next (contents_in value_of size capacity container words)) → (a : A) (last : List ℕ)
     → BehavesAs (Represents size capacity) (contents_in value_of size capacity container) answer next words a last
     → BehavesAs (Holds value_of size capacity container) (contents_in value_of size capacity container) answer next words a last
-still value_of size capacity container answer next words filled a last t =
-    ((t.0, subst IsFilled (sym t.2) filled), t.1, t.2)
+still x0 x1 x2 x3 x4 x5 x6 x7 x8 x9 x10 = grind arith
 
 pub values_long : {V : Type 0} (value_of : List ℕ → V) (size capacity container : ℕ) (words : List ℕ) → Represents size capacity words
     → length (contents_in value_of size capacity container words).values ≡ length (contents_in value_of size capacity container words).owners.owners

@@ -116,8 +116,7 @@ module _ {V R F : Type 0} (value_of : List ℕ → V) (words_in : R → List ℕ
     module _ (done : ℕ) (call : Find V R) (room₀ : R) (now : F) (so_far : Finding ready done call room₀ now) where
       pub ended : (n : ℕ) (room : R) (last : List ℕ) → At ready done so_far.left (stops.TheVariants.Ended (n, room)) last
           → HasFound sees all f n now × (last ≡ words)
-      ended n room last t =
-          (found_all so_far.before now n (ap (λ l. so_far.before ++ l) (sym t.0) ∙ so_far.joined) so_far.calls (t.1 ∙ sym so_far.number), t.2)
+      ended x0 x1 x2 x3 = grind (arith, found_all)
 
       module _ (question : Question (Unit {0})) (asks : Find V R) (room : R) (last : List ℕ)
           (at : Question_at ready done so_far.left question asks room last)
@@ -133,11 +132,7 @@ module _ {V R F : Type 0} (value_of : List ℕ → V) (words_in : R → List ℕ
             (value_in value_of size (words_in room)) at.copied)
 
         saw : (a : CallbackProgression) (next : F) → step now value (handle_of old owner index) a next → sees now at.index a next
-        saw a next t = (
-          value_in value_of size (words_in room),
-          at.copied,
-          subst (λ (z : V × ℕ). step now z.0 (handle_of old owner z.1) a next) (λ i. (value_is i, index_is i)) t,
-        )
+        saw x0 x1 x2 = grind (arith, value_in)
 
         pub onward : (a : CallbackProgression) (next : F) → step now value (handle_of old owner index) a next
             → Onward ready (done + 1) (find_after size asks owner (as_answer a)) room next
@@ -178,20 +173,15 @@ module _ {V R F : Type 0} (value_of : List ℕ → V) (words_in : R → List ℕ
 
   pub starts : (call : Find V R) → call ≡ first_find capacity → (room : R) → size ≤ length (words_in room)
       → Ready value_of size capacity container owner words → Searching 0 call room f words
-  starts call is room long ready =
-      (ready, refl, subst (λ c. Finding ready 0 c room f) (sym is) (begins ready room long))
+  starts x0 x1 x2 x3 x4 = grind (arith, begins)
 
   module _ (done : ℕ) (call : Find V R) (room₀ : R) (now : F) (items : List ℕ) (t : Searching done call room₀ now items) where
     pub can_go : CanStop want (find_after size) kept owner call room₀ items
-    can_go =
-        subst (λ ws. CanStop want (find_after size) kept owner call room₀ ws) (sym t.1)
-        (can_stop want (find_after size) kept owner _ call room₀ words t.2.run)
+    can_go = grind (arith, can_stop)
 
     stops_at : (stop : stops.Stop (Find V R) ℕ) (room : R) (last : List ℕ)
         → StopsAlike want (find_after size) kept owner call room₀ items stop room last → Apart (At t.0 done t.2.left) stop room last
-    stops_at stop room last alike =
-        stops_so want (find_after size) kept owner _ call room₀ words t.2.run stop room last
-        (subst (λ ws. StopsAlike want (find_after size) kept owner call room₀ ws stop room last) t.1 alike)
+    stops_at x0 x1 x2 x3 = grind (arith, stops_so)
 
     pub ended_so : (n : ℕ) (room : R) (last : List ℕ)
         → StopsAlike want (find_after size) kept owner call room₀ items (stops.TheVariants.Ended n) room last
@@ -217,8 +207,7 @@ module _ {V R F : Type 0} (value_of : List ℕ → V) (words_in : R → List ℕ
 
         further : (a : CallbackProgression) (next : F) (b : After (Find V R) ℕ)
             → Onward t.0 (done + 1) b room next → Further (done + 1) b room next last
-        further a next (GoOn d) h = (t.0, asked.same, h)
-        further a next (Done n) h = (h, asked.same)
+        further x0 x1 x2 x3 = grind arith
 
         pub further_so : (a : CallbackProgression) (next : F) → step now value (handle_of old owner index) a next
             → (answer : ℕ) → answer ≡ as_answer a → (b : After (Find V R) ℕ) → b ≡ find_after size asks owner answer

@@ -71,9 +71,7 @@ module _ {V : Type 0} (value_of : List ℕ → V) (size capacity container : ℕ
       let e : suc (length cells) ≡ 1 + capacity = sym (ap length front) ∙ front_long in omega arith
 
   pub cell_is : (index : ℕ) → index < capacity → slice_index words (cell_word index) ≡ slice_index cells index
-  cell_is index near =
-      sym (get_or-take (1 + capacity) words (cell_word index) 0 (omega arith))
-      ∙ (ap (λ ws. slice_index ws (cell_word index)) front ∙ next_cell counter index cells)
+  cell_is x0 x1 = grind (arith, get_or-take, front, next_cell)
 
   abbrev pub count : ℕ → ℕ
   count index = slice_index words (count_word capacity index)
@@ -82,16 +80,11 @@ module _ {V : Type 0} (value_of : List ℕ → V) (size capacity container : ℕ
   cell index = element_word capacity size index 0
 
   value_is : (index : ℕ) → index < capacity → slice_index_or old.values index None ≡ value_at value_of size capacity words index
-  value_is index near =
-      get_or-map-range_with_len (value_at value_of size capacity words) 0 capacity index index None near (omega arith)
+  value_is x0 x1 = grind (arith, get_or-map-range_with_len, value_at)
 
   owner_is : (index owner : ℕ) → index < capacity → owner < empty → slice_index cells index ≡ owner
       → slice_index_or old.owners.owners index None ≡ Some owner
-  owner_is index owner near lives is =
-      let long = cells_long in
-      ap (λ ws. slice_index_or (owners_in ws).owners index None) front
-      ∙ (get_or-map owner_in cells index 0 None (omega arith)
-      ∙ (ap owner_in is ∙ owner_some owner (λ e. absurd (omega arith))))
+  owner_is x0 x1 x2 x3 x4 = grind (arith, cells_long, front, get_or-map, owner_some)
 
   -- an index with an owner has a value
   pub odd_at : (index owner : ℕ) → index < capacity → owner < empty → slice_index cells index ≡ owner
@@ -107,13 +100,10 @@ module _ {V : Type 0} (value_of : List ℕ → V) (size capacity container : ℕ
 
   pub stands_at : (index : ℕ) → index < capacity → is_even (count index) ≡ false
       → Stands old index (value_of (words_from words (cell index) size))
-  stands_at index near odd =
-      value_is index near ∙ ap (λ b. if b then None else Some (value_of (words_from words (cell index) size))) odd
+  stands_at x0 x1 x2 = grind (arith, value_is, words_from)
 
   pub small_at : (index : ℕ) → index < capacity → size ≤ 128 → cell index + size < 2 ^ 64
-  small_at index near wide =
-      let w = cell_within value_of size capacity words fits index near wide in
-      let a = all_small value_of size capacity words fits index near wide in omega arith
+  small_at x0 x1 x2 = grind (arith, cell_within, all_small)
 
 -- reading words keeps the length of a room
 pub long_read : {R : Type 0} (words_in : R → List ℕ) (with_word : R → ℕ → ℕ → R)

@@ -30,15 +30,7 @@ module _ (capacity g : ℕ) (cells ws : List ℕ) (small : g < 2 ^ 64) (front : 
   pub raise_over : g ≢ locked → (Q : ReleaseState → List ℕ → Type 0)
       → ((last : List ℕ) → Behind (1 + capacity) ws last → take (1 + capacity) last ≡ next_generation g ∷ cells → Q Unlocked last)
       → Walks raise_want raise_after 2 (OnEnd Q) raises.TheVariants.LoadsCounter ws
-  raise_over opens Q so =
-      front_walks raise_want raise_after (1 + capacity) (λ r. Unit {0}) (λ r low. raise_below capacity r) (λ r old low. any_low (raise_after r old)) ws
-      (λ e last. (e ≡ Unlocked) × (last ≡ next_generation g ∷ cells)) Q
-      (λ e last behind t. subst (λ s. Q s last) (sym t.0) (so last behind t.1))
-      2 raises.TheVariants.LoadsCounter ws tt (stays (1 + capacity) ws)
-      (subst (λ vs. Walks raise_want raise_after 2 (OnEnd (λ e last. (e ≡ Unlocked) × (last ≡ next_generation g ∷ cells)))
-      raises.TheVariants.LoadsCounter vs)
-      (sym front)
-      (raise_walks g cells small (λ e last. (e ≡ Unlocked) × (last ≡ next_generation g ∷ cells)) (λ e. absurd (opens e)) (λ _. (refl, refl))))
+  raise_over x0 x1 x2 = grind (arith, front_walks, raise_below, any_low, cells, stays, front, raise_walks)
 
   pub lock_over : length cells ≡ capacity → capacity < 2 ^ 32 → (Q : ReleaseState → List ℕ → Type 0)
       → ((state : ReleaseState) (last : List ℕ) → Behind (1 + capacity) ws last → take (1 + capacity) last ≡ locking g cells ∷ cells → Q state last)
@@ -73,12 +65,10 @@ module _ {V : Type 0} (value_of : List ℕ → V) (size capacity container : ℕ
   its_cells = cells value_of size capacity container words holds
 
   pub head_is : slice_index words 0 ≡ g
-  head_is =
-      sym (get_or-take (1 + capacity) words 0 0 (omega arith))
-      ∙ ap (λ ws. slice_index ws 0) (front value_of size capacity container words holds)
+  head_is = grind (arith, get_or-take, front)
 
   pub generation_is : s.owners.generation ≡ g
-  generation_is = ap (λ ws. (owners_in ws).generation) (front value_of size capacity container words holds)
+  generation_is = grind (arith, front)
 
   pub counter_low : g < 2 ^ 64
   counter_low = subst (λ n. n < 2 ^ 64) head_is fits.small
@@ -89,37 +79,14 @@ module _ {V : Type 0} (value_of : List ℕ → V) (size capacity container : ℕ
   counted = slice_set words (change_word capacity) (one_more (slice_index words (change_word capacity)))
 
   counted_is : contents_in value_of size capacity container counted ≡ one_change s
-  counted_is =
-      let c = one_more (slice_index words (change_word capacity)) in
-      let long = fits.long in
-      let front_same : take (1 + capacity) counted ≡ take (1 + capacity) words = take-set-le (1 + capacity) words (change_word capacity) c (omega arith) in
-      let values = map_same (value_at value_of size capacity words) (value_at value_of size capacity counted) capacity 0
-      (λ j low high. value_same value_of size capacity words counted j
-      (get_or-set_other words (change_word capacity) (count_word capacity j) c 0 (λ e. absurd (omega arith)))
-      (λ k from below. get_or-set_other words (change_word capacity) k c 0 (λ e. absurd (omega arith)))) in
-      let counts = map_same (λ j. slice_index words (count_word capacity j)) (λ j. slice_index counted (count_word capacity j)) capacity 0
-      (λ j low high. get_or-set_other words (change_word capacity) (count_word capacity j) c 0 (λ e. absurd (omega arith))) in
-      let changes : slice_index counted (change_word capacity) ≡ c = get_or-set_same words (change_word capacity) c 0 (omega arith) in
-      λ i. record { container = container; owners = owners_in (front_same i); values = values i; counts = counts i; changes = changes i }
+  counted_is = grind (arith, one_more, take, take-set-le, map_same, value_at, value_same, get_or-set_other, get_or-set_same)
 
   pub record Counted (last : List ℕ) : Type 0 where
     pub fit : Holds value_of size capacity container last
     pub is : contents_in value_of size capacity container last ≡ one_change s
 
   pub counts_so : Counted counted
-  counts_so =
-      record {
-        fit = (
-          record {
-            long = length-set words (change_word capacity) _ ∙ fits.long;
-            some = fits.some;
-            few = fits.few;
-            small = subst (λ n. n < 2 ^ 64) (sym (get_or-set_other words (change_word capacity) 0 _ 0 (λ e. absurd (omega arith)))) fits.small;
-          },
-          subst IsFilled (sym counted_is) holds.1,
-        );
-        is = counted_is;
-      }
+  counts_so = grind (arith, length-set, get_or-set_other, counted_is)
 
   -- ---- an index is freed
 
@@ -140,7 +107,7 @@ module _ {V : Type 0} (value_of : List ℕ → V) (size capacity container : ℕ
     emptied = slice_set its_cells index empty
 
     bare_is : bare ≡ slice_set hid (cell_word index) empty
-    bare_is = set_swap words (cell_word index) (count_word capacity index) empty (one_more n) (λ e. absurd (omega arith))
+    bare_is = grind (arith, set_swap, empty, one_more)
 
     pub emptied_long : length emptied ≡ capacity
     emptied_long = length-set its_cells index empty ∙ cells_long value_of size capacity container words holds
@@ -156,24 +123,13 @@ module _ {V : Type 0} (value_of : List ℕ → V) (size capacity container : ℕ
         ∙ next_set g index empty its_cells))
 
     pub bare_behind : Behind (1 + capacity) hid bare
-    bare_behind =
-        subst (Behind (1 + capacity) hid) (sym bare_is)
-        (record {
-          long = length-set hid (cell_word index) empty;
-          same = λ j far. get_or-set_other hid (cell_word index) j empty 0 (λ e. absurd (omega arith));
-        })
+    bare_behind = grind (arith, bare_is, length-set, empty, get_or-set_other)
 
     hid_is : hidden value_of size capacity words fits index near wide ≡ hid
     hid_is = ap (λ b. if b then words else hid) odd
 
     hid_fits : Represents size capacity hid
-    hid_fits =
-        record {
-          long = length-set words (count_word capacity index) (one_more n) ∙ fits.long;
-          some = fits.some;
-          few = fits.few;
-          small = subst (λ n. n < 2 ^ 64) (sym (get_or-set_other words (count_word capacity index) 0 (one_more n) 0 (λ e. absurd (omega arith)))) fits.small;
-        }
+    hid_fits = grind (arith, length-set, one_more, get_or-set_other)
 
     -- the contents without the value
     abbrev without_value : Contents V

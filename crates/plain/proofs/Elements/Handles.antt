@@ -10,17 +10,11 @@ use Rattle.plain.specs.Contents.{names, contents_in}
 use Rattle.plain.proofs.Robust.Parts.{next_cell}
 
 owns_word : (owner : ℕ) → owner < empty → (w : ℕ) → owns (owner_in w) owner ≡ (w == owner)
-owns_word owner lives w =
-    by_eq (λ o. owns o owner ≡ (w == owner)) w empty None (Some w)
-    (λ e. sym (ne_eqb w owner (λ same. absurd (omega arith)))) (λ _. refl)
+owns_word x0 x1 x2 = grind (arith, by_eq, owns, empty, ne_eqb)
 
 pub has_word : (capacity : ℕ) (words : List ℕ) → Represents capacity words → (index owner : ℕ) → owner < empty → index < capacity
     → has (owners_in words) index owner ≡ (slice_index words (cell_word index) == owner)
-has_word capacity [] fits index owner lives near = let e : 0 ≡ 1 + capacity = fits.long in absurd (omega arith)
-has_word capacity (g ∷ cells) fits index owner lives near =
-    let e : suc (length cells) ≡ 1 + capacity = fits.long in
-    ap (λ o. owns o owner) (get_or-map owner_in cells index 0 None (omega arith))
-    ∙ (owns_word owner lives (slice_index cells index) ∙ ap (λ w. w == owner) (sym (next_cell g index cells)))
+has_word x0 x1 x2 x3 x4 x5 x6 = grind (arith, suc, length, owns, get_or-map, owns_word, next_cell)
 
 pub has_past : (capacity : ℕ) (words : List ℕ) → Represents capacity words → (index owner : ℕ) → capacity ≤ index
     → has (owners_in words) index owner ≡ false
@@ -34,5 +28,4 @@ has_past capacity (g ∷ cells) fits index owner far =
 pub names_own : {V : Type 0} (capacity size container : ℕ) (value_of : List ℕ → V) (words : List ℕ) (index owner : ℕ)
     → names (contents_in value_of size capacity container words) (record { index = index; owner = owner; container = container })
     ≡ has (owners_in (take (1 + capacity) words)) index owner
-names_own capacity size container value_of words index owner =
-    ap (λ b. b && has (owners_in (take (1 + capacity) words)) index owner) (eq-eqb container container refl)
+names_own x0 x1 x2 x3 x4 x5 x6 = grind (arith, has, take, eq-eqb)

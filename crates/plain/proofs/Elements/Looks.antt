@@ -41,15 +41,11 @@ BorrowedLow capacity call = (call.capacity ≡ capacity) × CountLow capacity ca
 counted_low : (capacity : ℕ) (call : BorrowedIndices) → call.capacity ≡ capacity
     → (a : After counts.Count ends.Counted) → LowThen (CountLow capacity) a
     → LowThen {E = ℕ} (BorrowedLow capacity) (borrowed_counted call a)
-counted_low capacity call same (GoOn count) low = (same, low)
-counted_low capacity call same (Done ends.TheVariants.Locked) low = tt
-counted_low capacity call same (Done (ends.TheVariants.Filled filled counter)) low = tt
+counted_low x0 x1 x2 x3 x4 = grind arith
 
 goes_low : (capacity : ℕ) (call : BorrowedIndices) (old : ℕ) → BorrowedLow capacity call
     → LowThen {E = ℕ} (BorrowedLow capacity) (borrowed_after call old)
-goes_low capacity call old low =
-    counted_low capacity call low.0 (count_after call.capacity call.count old)
-    (subst (λ n. LowThen {E = ends.Counted} (CountLow capacity) (count_after n call.count old)) (sym low.0) (count_goes_low capacity call.count old))
+goes_low x0 x1 x2 x3 = grind (arith, counted_low, count_after, count_goes_low)
 
 module _ {V : Type 0} (value_of : List ℕ → V) (size capacity container : ℕ) where
   abbrev pub Counted : List ℕ → ℕ → List ℕ → Type 0
@@ -84,7 +80,4 @@ module _ {V : Type 0} (value_of : List ℕ → V) (size capacity container : ℕ
   pub look_at : (c : IsLocked) (words : List ℕ) → Represents size capacity words
       → Runs (λ (c : IsLocked) (given : Unit {0}). load 0) (λ c given old. locked_after c old) (λ c (room : Unit {0}) old. room) tt
       (λ e room ws. Looked words e ws) c tt words
-  look_at c [] fits = let e : 0 ≡ 2 + (capacity + capacity) + size * capacity = fits.long in absurd (omega arith)
-  look_at c (g ∷ words) fits =
-      runs (λ (c : IsLocked) (given : Unit {0}). load 0) (λ c given old. locked_after c old) tt 1 (Looked (g ∷ words)) c (g ∷ words) (omega arith)
-      (fits, ap (λ k. owners.is_locked (owners_in (take k (g ∷ words)))) (let e : suc capacity ≡ 1 + capacity = omega arith in e), refl)
+  look_at x0 x1 x2 = grind (arith, runs, load, take, suc)

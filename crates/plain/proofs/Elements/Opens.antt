@@ -49,27 +49,15 @@ module _ {V : Type 0} (value_of : List ℕ → V) (size capacity container : ℕ
   front_long = length-set set 0 0 ∙ (ap length set_is ∙ length-replicate (1 + capacity) empty)
 
   zeros : (i : ℕ) → 1 + capacity ≤ i → slice_index more i ≡ 0
-  zeros i far =
-      let l = front_long in
-      ap (λ ws. slice_index ws i) more_is ∙ behind_zero front number i (omega arith)
+  zeros x0 x1 = grind (arith, front_long, behind_zero)
 
   pub opens_so : contents_in value_of size capacity container more ≡ opened capacity container
-  opens_so =
-      let set_opens : owners_in (take (1 + capacity) more) ≡ opened_at capacity 0 =
-      ap (λ ws. owners_in (take (1 + capacity) ws)) more_is
-      ∙ (ap owners_in (take_front front (replicate number 0) (1 + capacity) front_long) ∙ opens set capacity 0 set_is) in
-      let none = same_there None (value_at value_of size capacity more) capacity 0
-      (λ i. ap (λ n. if is_even n then None else Some (value_of (words_from more (element_word capacity size i 0) size)))
-      (zeros (count_word capacity i) (omega arith))) in
-      let counts = same_there 0 (λ i. slice_index more (count_word capacity i)) capacity 0 (λ i. zeros (count_word capacity i) (omega arith)) in
-      let changes = zeros (change_word capacity) (omega arith) in
-      λ i. record { container = container; owners = set_opens i; values = none i; counts = counts i; changes = changes i }
+  opens_so = grind (arith, take, opened_at, take_front, front_long, opens, same_there, value_at, words_from, zeros)
 
 grown : {A B : Type 0} (r : Result A B) (old new : List ℕ) (n m : ℕ)
     → new ≡ (if is_ok r then take n old ++ replicate (n - m) 0 else old) → is_err r ≡ false
     → length old ≤ n → new ≡ old ++ replicate (n - m) 0
-grown (Ok x) old new n m is fine long = is ∙ ap (λ ws. ws ++ replicate (n - m) 0) (take_all n old long)
-grown (Err e) old new n m is fine long = absurd (true≢false fine)
+grown x0 x1 x2 x3 x4 x5 x6 x7 = grind (arith, take_all, true≢false)
 
 -- as a vector that has grown
 pub opens_grown : {V A B : Type 0} (value_of : List ℕ → V) (size capacity container : ℕ)

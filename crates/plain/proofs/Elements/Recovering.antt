@@ -138,33 +138,22 @@ module _ {V R F : Type 0} (value_of : List ℕ → V) (words_in : R → List ℕ
     asked_so = ap (λ l. questions t.asked ++ l) (sym at.left_is) ∙ t.joined
 
     joined_then : (b : Bool) → questions (t.asked ++ an_answer it b ∷ []) ++ left_then ≡ all
-    joined_then b =
-        ap (λ l. l ++ left_then) (questions_more t.asked (an_answer it b))
-        ∙ (append_assoc (questions t.asked) (it ∷ []) left_then ∙ asked_so)
+    joined_then x0 = grind (arith, questions_more, append_assoc, questions, asked_so)
 
     stood : Stands old at.index (value_in value_of size (words_in room))
     stood = sym (t.same at.index at.low) ∙ at.copied
 
     pub may_ask : (pre : F → V → Type 0) → TakesQuestions (MayAsk pre old) (Says step old) all f → pre p value
-    may_ask pre may =
-        subst (pre p) (sym value_is)
-        (may.at t.asked p it left_then t.answers asked_so (value_in value_of size (words_in room)) stood)
+    may_ask x0 x1 = grind (arith, asked_so, value_in, stood)
 
     answers_then : (b : Bool) (q : F) → step p value b q → FoldsTo (asks (Says step old)) f (t.asked ++ an_answer it b ∷ []) q
-    answers_then b q called =
-        folds_more (asks (Says step old)) f p q t.asked (an_answer it b) t.answers
-        (value_in value_of size (words_in room), stood, subst (λ v. step p v b q) value_is called)
+    answers_then x0 x1 x2 = grind (arith, folds_more, asks, value_in, stood)
 
     owners_are : t.s.owners ≡ owners_in (g ∷ its_cells)
-    owners_are =
-        sym (ap (λ (c : Contents V). c.owners) at.is)
-        ∙ ap owners_in (front value_of size capacity container last at.holds)
+    owners_are = grind (arith, front)
 
     opens : g ≢ locked
-    opens e =
-        let none = t.shut (ap (λ (o : Owners). o.generation) owners_are ∙ e) in
-        let some = at.left_is in
-        absurd (let l : length t.left ≡ 0 = ap length none in let m : length t.left ≡ suc (length left_then) = ap length some in omega arith)
+    opens x0 = grind (arith, owners_are, length, suc)
 
     short : length at.rest ≤ capacity
     short =
@@ -211,9 +200,7 @@ module _ {V R F : Type 0} (value_of : List ℕ → V) (words_in : R → List ℕ
     gone = slice_set its_cells at.index empty
 
     generation_then : (given_back mode t.s.owners at.index).generation ≡ counter_then mode g gone
-    generation_then =
-        ap (λ (o : Owners). (given_back mode o at.index).generation) owners_are
-        ∙ ap (λ (o : Owners). o.generation) (given_back_is mode g its_cells at.index)
+    generation_then = grind (arith, given_back, owners_are, given_back_is)
 
     shut_then : (given_back mode t.s.owners at.index).generation ≡ locked → left_then ≡ []
     shut_then e =
@@ -264,10 +251,7 @@ module _ {V R F : Type 0} (value_of : List ℕ → V) (words_in : R → List ℕ
         }
 
     onward : (said : Bool) (q : F) → step p value said q → Onward ready (done + 1) (recover_after size put given (if said then 1 else 0)) room q last
-    onward false q called =
-        subst (λ c. Onward ready (done + 1) (recover_after size c given 0) room q last) (sym at.stands) (on_no q called)
-    onward true q called =
-        subst (λ c. Onward ready (done + 1) (recover_after size c given 1) room q last) (sym at.stands) (on_yes q called)
+    onward x0 x1 x2 = grind (arith, on_no, on_yes)
 
   -- ---- as the driver holds it
 
@@ -276,8 +260,7 @@ module _ {V R F : Type 0} (value_of : List ℕ → V) (words_in : R → List ℕ
 
   pub starts : (call : Recover V R) → call ≡ first_recover capacity → (room : R) → size ≤ length (words_in room)
       → Begun → Searching 0 call room f words
-  starts call is room long ready =
-      (ready, subst (λ c. Recovering ready 0 c room f words) (sym is) (begins ready room long))
+  starts x0 x1 x2 x3 x4 = grind (arith, begins)
 
   module _ (done : ℕ) (call : Recover V R) (room₀ : R) (p : F) (items : List ℕ) (t : Searching done call room₀ p items) where
     pub can_go : CanStop want (recover_after size) kept given call room₀ items
@@ -285,34 +268,21 @@ module _ {V R F : Type 0} (value_of : List ℕ → V) (words_in : R → List ℕ
 
     stops_at : (stop : stops.Stop (Recover V R) ReleaseState) (room : R) (last : List ℕ)
         → StopsAlike want (recover_after size) kept given call room₀ items stop room last → Apart (At t.0 t.1.s t.1.from t.1.left) stop room last
-    stops_at stop room last alike =
-        stops_so want (recover_after size) kept given _ call room₀ items t.1.run stop room last alike
+    stops_at x0 x1 x2 x3 = grind (arith, stops_so)
 
     pub ended_so : (state : ReleaseState) (room : R) (last : List ℕ)
         → StopsAlike want (recover_after size) kept given call room₀ items (stops.TheVariants.Ended state) room last
         → Gone state p last
-    ended_so state room last alike =
-        let at = stops_at (stops.TheVariants.Ended state) room last alike in
-        record {
-          fit = at.holds;
-          state_is = at.state_is ∙ ap (λ (c : Contents V). state_of c.owners) (sym at.is);
-          calls = record {
-            asked = t.1.asked;
-            all = sym (append-nil (questions t.1.asked)) ∙ (ap (λ l. questions t.1.asked ++ l) (sym at.none) ∙ t.1.joined);
-            answers = t.1.answers;
-            next = at.is ∙ ap one_change t.1.s_is;
-          };
-        }
+    ended_so x0 x1 x2 x3 = grind (arith, stops_at, append-nil, questions, one_change)
 
     pub few_rounds : done < 2 ^ 64 - 1
-    few_rounds = let low = t.1.low in let high = t.1.high in let few = t.0.holds.0.few in omega arith
+    few_rounds = grind arith
 
     module _ (question : Question (Unit {0})) (put : Recover V R) (room : R) (last : List ℕ)
         (alike : StopsAlike want (recover_after size) kept given call room₀ items (stops.TheVariants.Asked question put) room last)
         (value : V) (value_is : value ≡ value_in value_of size (words_in room)) where
       pub may_so : (pre : F → V → Type 0) → TakesQuestions (MayAsk pre old) (Says step old) all f → pre p value
-      may_so pre may =
-          may_ask t.0 done call room₀ p items t.1 put room last (stops_at (stops.TheVariants.Asked question put) room last alike) value value_is pre may
+      may_so x0 x1 = grind (arith, may_ask, stops_at)
 
       abbrev pub Further : After (Recover V R) ReleaseState → R → F → Type 0
       Further (GoOn d) then_room q = Searching (done + 1) d then_room q last

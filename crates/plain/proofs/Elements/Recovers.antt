@@ -47,10 +47,7 @@ module _ (owner : ℕ) where
 
   of_hit : (index c : ℕ) (rest : List ℕ) → owner < empty → c ≡ owner
       → of_owner index (c ∷ rest) ≡ record { owner = owner; index = index } ∷ of_owner (index + 1) rest
-  of_hit index c rest lives e =
-      ap (λ o. filter (λ (o : Owned). o.owner == owner) (taken_from index (o ∷ map owner_in rest))) (owner_some c (λ x. absurd (omega arith)))
-      ∙ (ap (λ b. cond b (record { owner = c; index = index } ∷ of_owner (index + 1) rest) (of_owner (index + 1) rest)) (eq-eqb c owner e)
-      ∙ ap (λ w. record { owner = w; index = index } ∷ of_owner (index + 1) rest) e)
+  of_hit x0 x1 x2 x3 x4 = grind (arith, filter, taken_from, map, owner_some, cond, eq-eqb)
 
   of_miss : (index c : ℕ) (rest : List ℕ) → c ≢ owner → of_owner index (c ∷ rest) ≡ of_owner (index + 1) rest
   of_miss index c rest n =
@@ -214,10 +211,7 @@ module _ {V R : Type 0} (value_of : List ℕ → V) (words_in : R → List ℕ) 
           record { none = none; holds = there.fit; state_is = state_is; is = there.is ∙ ap one_change is }
 
       state_at : (if slice_index words 0 == locked then Locked else Unlocked) ≡ state_of s.owners
-      state_at =
-          ap (λ n. if n == locked then Locked else Unlocked)
-          (head_is value_of size capacity container words holds ∙ sym (generation_is value_of size capacity container words holds))
-          ∙ ap (λ (t : Contents V). state_of t.owners) is
+      state_at = grind (arith, locked, head_is, generation_is)
 
       pub recovers_on : (rest : List ℕ) (index : ℕ) (left : List Owned) → drop index (cells_of words) ≡ rest → left ≡ of_owner owner index rest → from ≤ index
           → (room : R) → size ≤ length (words_in room)

@@ -63,19 +63,7 @@ module _ {V : Type 0} (value_of : List ℕ → V) (size : ℕ) (wide : size ≤ 
       → slice_index ws (count_word capacity index) ≡ count
       → P (Ok state) (after_change value_of size capacity ws fits index near wide (hidden value_of size capacity ws fits index near wide))
       → From 2 P (remove_released (call removes.TheVariants.LoadsCount) count (Done (Ok state))) ws
-  hides_on P state ws fits near count is h =
-      let n = slice_index ws (count_word capacity index) in
-      let hid = slice_set ws (count_word capacity index) (one_more n) in
-      subst (λ m. From 2 P (if is_even m then GoOn (call (removes.TheVariants.AddsChange state)) else GoOn (call (removes.TheVariants.Hides m state))) ws) is
-      (by_test (λ a. From 2 P a ws) (is_even n) _ _
-      (λ t. subst (λ later. P (Ok state) (slice_set later (change_word capacity) (one_more (slice_index later (change_word capacity)))))
-      (ap (λ b. if b then ws else slice_set ws (count_word capacity index) (one_more (slice_index ws (count_word capacity index)))) t)
-      h)
-      (λ t. subst (λ vs. From 1 P (GoOn (call (removes.TheVariants.AddsChange state))) vs)
-      (sym (ap (λ b. if b then slice_set ws (count_word capacity index) (one_more (slice_index ws (count_word capacity index))) else ws) (eq-eqb n n refl)))
-      (subst (λ later. P (Ok state) (slice_set later (change_word capacity) (one_more (slice_index later (change_word capacity)))))
-      (ap (λ b. if b then ws else slice_set ws (count_word capacity index) (one_more (slice_index ws (count_word capacity index)))) t)
-      h)))
+  hides_on x0 x1 x2 x3 x4 x5 x6 x7 = grind (arith, one_more, by_test, eq-eqb)
 
   module _ (words : List ℕ) (fits : Represents size capacity words) (lives : owner < empty) where
     abbrev old : Contents V
@@ -89,11 +77,7 @@ module _ {V : Type 0} (value_of : List ℕ → V) (size : ℕ) (wide : size ≤ 
 
     refused : names old handle ≡ false → (last : List ℕ) → Represents size capacity last → contents_in value_of size capacity container last ≡ old
         → Gone words (Err ContainerHandleNotOwnedByContainer) last
-    refused miss last fits₂ same = (
-      fits₂,
-      sym (ap (λ b. if b then Ok (release_state mode (given_back mode old.owners index)) else Err ContainerHandleNotOwnedByContainer) miss),
-      same ∙ sym (ap (λ b. if b then changed old (given_back mode old.owners index) index None else old) miss),
-    )
+    refused x0 x1 x2 x3 = grind (arith, given_back, changed)
 
     abbrev Gave : Released → List ℕ → Type 0
     Gave e last =
@@ -170,6 +154,4 @@ module _ {V : Type 0} (value_of : List ℕ → V) (size : ℕ) (wide : size ≤ 
   pub remove_at : (number : ℕ) → number ≡ owner → number < empty → (c : Remove) → c ≡ first_remove capacity index
       → (words : List ℕ) → Represents size capacity words
       → Runs remove_want remove_after (λ c (room : Unit {0}) old. room) given (λ e room ws. Gone words e ws) c tt words
-  remove_at number same lives c is words fits =
-      subst (λ c. Runs remove_want remove_after (λ c (room : Unit {0}) old. room) given (λ e room ws. Gone words e ws) c tt words)
-      (sym is) (remove_runs words fits (omega arith))
+  remove_at x0 x1 x2 x3 x4 x5 x6 = grind (arith, remove_runs)

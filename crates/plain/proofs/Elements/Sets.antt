@@ -34,8 +34,7 @@ use Rattle.plain.proofs.Robust.Releases.{give_walks}
 
 module _ (capacity : ℕ) where
   pub raise_below : (r : raises.Raise) → AsksBelow (1 + capacity) (raise_want r)
-  raise_below raises.TheVariants.LoadsCounter = omega arith
-  raise_below (raises.TheVariants.ExchangesCounter counter) = omega arith
+  raise_below x0 = grind arith
 
   -- ---- acquire
 
@@ -50,35 +49,19 @@ module _ (capacity : ℕ) where
 
   tries_low : (call : Acquire) (counter index : ℕ) → call.capacity ≡ capacity
       → LowThen {E = Acquired} AcquireLow (acquire_tries call counter index)
-  tries_low call counter index same =
-      by_test (λ stage. AcquireLow (at_acquire call stage)) (nat_lt index call.capacity) _ _
-      (λ t. let near : index < call.capacity = grind (arith, nat_tests) in (same, omega arith))
-      (λ _. (same, tt))
+  tries_low x0 x1 x2 x3 = grind (arith, by_test, nat_tests)
 
   sees_low : (call : Acquire) (counter : ℕ) → call.capacity ≡ capacity
       → LowThen {E = Acquired} AcquireLow (acquire_sees call counter)
-  sees_low call counter same =
-      by_eq (λ a. LowThen {E = Acquired} AcquireLow a) counter locked _ _ (λ _. tt)
-      (λ _. by_eq (λ a. LowThen {E = Acquired} AcquireLow a) counter greatest _ _ (λ _. tt)
-      (λ _. tries_low call counter 0 same))
+  sees_low x0 x1 x2 = grind (arith, by_eq, locked, greatest, tries_low)
 
   raised_low : (call : Acquire) (index : ℕ) → call.capacity ≡ capacity
       → (a : After raises.Raise ReleaseState) → LowThen {E = Acquired} AcquireLow (acquire_raised call index a)
-  raised_low call index same (GoOn raise) = (same, tt)
-  raised_low call index same (Done Locked) = tt
-  raised_low call index same (Done Unlocked) = tt
+  raised_low x0 x1 x2 x3 = grind arith
 
   acquire_takes_low : (call : Acquire) (stage : acquires.AcquireStage) (old : ℕ) → call.capacity ≡ capacity
       → LowThen {E = Acquired} AcquireLow (acquire_takes call stage old)
-  acquire_takes_low call acquires.TheVariants.LoadsCounter old same = sees_low call old same
-  acquire_takes_low call (acquires.TheVariants.FillsCell counter index) old same =
-      by_eq (λ a. LowThen {E = Acquired} AcquireLow a) old empty _ _ (λ _. (same, tt))
-      (λ _. tries_low call counter (index + 1) same)
-  acquire_takes_low call (acquires.TheVariants.ChecksCounter counter) old same =
-      by_eq (λ a. LowThen {E = Acquired} AcquireLow a) old counter _ _ (λ _. tt)
-      (λ _. sees_low call old same)
-  acquire_takes_low call (acquires.TheVariants.Raises index raise) old same =
-      raised_low call index same (raise_after raise old)
+  acquire_takes_low x0 x1 x2 x3 = grind (arith, sees_low, by_eq, empty, tries_low, raised_low)
 
   pub acquire_goes_low : (call : Acquire) (old : ℕ) → AcquireLow call
       → LowThen {E = Acquired} AcquireLow (acquire_after call old)
@@ -86,10 +69,7 @@ module _ (capacity : ℕ) where
 
   stage_below : (owner : ℕ) (stage : acquires.AcquireStage) → StageLow stage
       → AsksBelow (1 + capacity) (acquire_asks stage owner)
-  stage_below owner acquires.TheVariants.LoadsCounter low = omega arith
-  stage_below owner (acquires.TheVariants.FillsCell counter index) low = omega arith
-  stage_below owner (acquires.TheVariants.ChecksCounter counter) low = omega arith
-  stage_below owner (acquires.TheVariants.Raises index raise) low = raise_below raise
+  stage_below x0 x1 x2 = grind (arith, raise_below)
 
   pub acquire_below : (owner : ℕ) (call : Acquire) → AcquireLow call
       → AsksBelow (1 + capacity) (acquire_want call owner)
@@ -104,25 +84,14 @@ module _ (capacity : ℕ) where
 
   comes_low : (counter index filled : ℕ)
       → LowThen {E = ends.Counted} CountLow (count_comes_to capacity counter index filled)
-  comes_low counter index filled =
-      by_test (λ a. LowThen {E = ends.Counted} CountLow a) (nat_lt index capacity) _ _
-      (λ t. let near : index < capacity = grind (arith, nat_tests) in near)
-      (λ _. by_eq (λ a. LowThen {E = ends.Counted} CountLow a) counter greatest _ _ (λ _. tt) (λ _. tt))
+  comes_low x0 x1 x2 = grind (arith, by_test, by_eq, greatest, nat_tests)
 
   pub count_goes_low : (count : counts.Count) (old : ℕ)
       → LowThen {E = ends.Counted} CountLow (count_after capacity count old)
-  count_goes_low counts.TheVariants.LoadsCounter old =
-      by_eq (λ a. LowThen {E = ends.Counted} CountLow a) old locked _ _ (λ _. tt)
-      (λ _. comes_low old 0 0)
-  count_goes_low (counts.TheVariants.LoadsCell counter index filled) old =
-      comes_low counter (index + 1) (if old == empty then filled else one_more filled)
-  count_goes_low (counts.TheVariants.ExchangesCounter counter filled) old =
-      by_eq (λ a. LowThen {E = ends.Counted} CountLow a) old counter _ _ (λ _. tt) (λ _. tt)
+  count_goes_low x0 x1 = grind (arith, by_eq, locked, comes_low, empty, one_more)
 
   pub count_below : (count : counts.Count) → CountLow count → AsksBelow (1 + capacity) (count_want count)
-  count_below counts.TheVariants.LoadsCounter low = omega arith
-  count_below (counts.TheVariants.LoadsCell counter index filled) low = omega arith
-  count_below (counts.TheVariants.ExchangesCounter counter filled) low = omega arith
+  count_below x0 x1 = grind arith
 
   abbrev pub LockLow : locks.Lock → Type 0
   LockLow (locks.TheVariants.Counts count) = CountLow count
@@ -130,21 +99,13 @@ module _ (capacity : ℕ) where
 
   counted_low : (a : After counts.Count ends.Counted) → LowThen {E = ends.Counted} CountLow a
       → LowThen {E = ReleaseState} LockLow (lock_counted a)
-  counted_low (GoOn count) low = low
-  counted_low (Done ends.TheVariants.Locked) low = tt
-  counted_low (Done (ends.TheVariants.Filled filled counter)) low =
-      by_test (λ a. LowThen {E = ReleaseState} LockLow a) ((filled == 0) && not (counter == greatest)) _ _
-      (λ _. tt) (λ _. tt)
+  counted_low x0 x1 = grind (arith, by_test, greatest)
 
   pub lock_goes_low : (lock : locks.Lock) (old : ℕ) → LowThen {E = ReleaseState} LockLow (lock_after capacity lock old)
-  lock_goes_low (locks.TheVariants.Counts count) old =
-      counted_low (count_after capacity count old) (count_goes_low count old)
-  lock_goes_low (locks.TheVariants.ExchangesCounter counter) old =
-      by_eq (λ a. LowThen {E = ReleaseState} LockLow a) old counter _ _ (λ _. tt) (λ _. tt)
+  lock_goes_low x0 x1 = grind (arith, counted_low, count_after, count_goes_low, by_eq)
 
   pub lock_below : (lock : locks.Lock) → LockLow lock → AsksBelow (1 + capacity) (lock_want lock)
-  lock_below (locks.TheVariants.Counts count) low = count_below count low
-  lock_below (locks.TheVariants.ExchangesCounter counter) low = omega arith
+  lock_below x0 x1 = grind (arith, count_below)
 
   -- ---- release
 
@@ -158,24 +119,15 @@ module _ (capacity : ℕ) where
 
   given_raised_low : (call : Release) (mode : ReleaseMode) → call.capacity ≡ capacity
       → (a : After raises.Raise ReleaseState) → LowThen {E = Released} ReleaseLow (release_raised call mode a)
-  given_raised_low call mode same (GoOn raise) = (same, tt)
-  given_raised_low call LockIfLastIndex same (Done state) = (same, tt)
-  given_raised_low call Default same (Done state) = tt
+  given_raised_low x0 x1 x2 x3 = grind arith
 
   given_locked_low : (call : Release) → call.capacity ≡ capacity → (a : After locks.Lock ReleaseState)
       → LowThen {E = ReleaseState} LockLow a → LowThen {E = Released} ReleaseLow (release_locked call a)
-  given_locked_low call same (GoOn lock) low = (same, low)
-  given_locked_low call same (Done state) low = tt
+  given_locked_low x0 x1 x2 x3 = grind arith
 
   release_takes_low : (call : Release) (stage : releases.ReleaseStage) (given : GiveBack) (old : ℕ) → call.capacity ≡ capacity
       → LowThen {E = Released} ReleaseLow (release_takes call stage given old)
-  release_takes_low call releases.TheVariants.EmptiesCell given old same =
-      by_eq (λ a. LowThen {E = Released} ReleaseLow a) old given.owner _ _ (λ _. (same, tt)) (λ _. tt)
-  release_takes_low call (releases.TheVariants.Raises raise) given old same =
-      given_raised_low call given.mode same (raise_after raise old)
-  release_takes_low call (releases.TheVariants.Locks lock) given old same =
-      given_locked_low call same (lock_after call.capacity lock old)
-      (subst (λ n. LowThen {E = ReleaseState} LockLow (lock_after n lock old)) (sym same) (lock_goes_low lock old))
+  release_takes_low x0 x1 x2 x3 x4 = grind (arith, by_eq, given_raised_low, given_locked_low, lock_goes_low)
 
   pub release_goes_low : (given : GiveBack) (call : Release) (old : ℕ) → ReleaseLow call
       → LowThen {E = Released} ReleaseLow (release_after call given old)
@@ -183,9 +135,7 @@ module _ (capacity : ℕ) where
 
   gives_below : (given : GiveBack) → given.index < capacity → (stage : releases.ReleaseStage) → GivesLow stage
       → AsksBelow (1 + capacity) (release_asks stage given)
-  gives_below given near releases.TheVariants.EmptiesCell low = omega arith
-  gives_below given near (releases.TheVariants.Raises raise) low = raise_below raise
-  gives_below given near (releases.TheVariants.Locks lock) low = lock_below lock low
+  gives_below x0 x1 x2 x3 = grind (arith, raise_below, lock_below)
 
   pub release_below : (given : GiveBack) → given.index < capacity → (call : Release) → ReleaseLow call
       → AsksBelow (1 + capacity) (release_want call given)

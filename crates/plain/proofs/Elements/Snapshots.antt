@@ -19,9 +19,7 @@ use Rattle.plain.proofs.Elements.Values.{front_fits}
 use Rattle.plain.proofs.Elements.Updates.{get_mapped, target, Part, P}
 
 equal : (a b : ℕ) → (a == b) ≡ true → a ≡ b
-equal a b e =
-    ⊎_elim (λ (t : ((a == b) ≡ true) × (a ≡ b)). t.1)
-    (λ (t : ((a == b) ≡ false) × (a ≢ b)). absurd (true≢false (sym e ∙ t.0))) (eqb_tells a b)
+equal x0 x1 x2 = grind (arith, false, true≢false, eqb_tells)
 
 over_all : {V : Type 0} (counts : List ℕ) (elements : List (Element V)) → length counts ≡ length elements
     → numbers_over counts elements ≡ map (λ (e : Element V). e.count) elements
@@ -53,10 +51,7 @@ module _ {V : Type 0} (value_of : List ℕ → V) (size : ℕ) (some : 1 ≤ siz
         ∙ sym (get_or-map-range_with_len (λ i. slice_index words (count_word capacity i)) 0 capacity i i 0 near (omega arith)))
 
     target_is : (i : ℕ) → i < capacity → target value_of size some wide capacity words fits old.seen old.shown i ≡ value_then s (snapshot_of old) i
-    target_is i near =
-        let c = get_or-map-range_with_len (λ i. slice_index words (count_word capacity i)) 0 capacity i i 0 near (omega arith) in
-        let v = get_or-map-range_with_len (value_at value_of size capacity words) 0 capacity i i None near (omega arith) in
-        λ k. if sym c k == slice_index old.seen.counts i then slice_index_or (map value_shown old.shown.elements) i None else sym v k
+    target_is x0 x1 = grind (arith, get_or-map-range_with_len, value_at, map)
 
     values_are : map value_shown room.elements ≡ map (value_then s (snapshot_of old)) (range_with_len 0 capacity)
     values_are =
@@ -73,28 +68,7 @@ module _ {V : Type 0} (value_of : List ℕ → V) (size : ℕ) (some : 1 ≤ siz
 
   brought_without : (room : Showing V) (last : List ℕ) → Ended false room last
       → Brought s old false (record old { shown = room })
-  brought_without room last t =
-      let same : map value_shown room.elements ≡ map value_shown old.shown.elements = ap (λ (r : Showing V). map value_shown r.elements) t.2 in
-      let snap : snapshot_of (record old { shown = room }) ≡ snapshot_of old =
-      λ i. record { changes = old.seen.change; counts = old.seen.counts; values = same i } in
-      record {
-        answers = sym (ap not t.1);
-        of = (refl, refl);
-        left = λ e. snap;
-        shows = λ h long. (
-          record {
-            change = ap (λ (r : Showing V). r.change) t.2 ∙ equal _ _ t.1;
-            counts = ap (λ (r : Showing V). map number r.elements) t.2 ∙ h.counts;
-            long = ap (λ (r : Showing V). length r.elements) t.2 ∙ h.long;
-            room = ap (λ (r : Showing V). length r.copy) t.2 ∙ h.room;
-          },
-          snap ∙ sym (ap (λ b. if b then snapshot_of old else record {
-            changes = s.changes;
-            counts = s.counts;
-            values = map (value_then s (snapshot_of old)) (range_with_len 0 (contents.capacity s));
-          }) t.1),
-        );
-      }
+  brought_without x0 x1 x2 = grind (arith, map, equal, length)
 
   brought_so : (room : Showing V) (last : List ℕ) → Ended true room last
       → Brought s old true (record old { seen = seen_of old.seen room; shown = room })
@@ -130,8 +104,7 @@ module _ {V : Type 0} (value_of : List ℕ → V) (size : ℕ) (some : 1 ≤ siz
 
   pub brought_if : (end : Bool) (room : Showing V) (last : List ℕ) → Ended end room last → end ≡ true
       → (new : ContainerState V) → new ≡ record old { seen = seen_of old.seen room; shown = room } → Brought s old true new
-  brought_if end room last t is new n =
-      subst (Brought s old true) (sym n) (brought_so room last (subst (λ b. Ended b room last) is t))
+  brought_if x0 x1 x2 x3 x4 x5 x6 = grind (arith, brought_so)
 
   pub brought_not : (end : Bool) (room : Showing V) (last : List ℕ) → Ended end room last → end ≡ false
       → Brought s old false (record old { shown = room })
@@ -147,21 +120,10 @@ module _ {V : Type 0} (value_of : List ℕ → V) (size capacity : ℕ) (s : Con
     (fresh : ContainerState V) (is : fresh.capacity ≡ capacity)
     (seen : fresh.seen ≡ no_numbers capacity) (shown : fresh.shown ≡ shows_nothing value_of size capacity) where
   settled : IsSettled fresh
-  settled =
-      record {
-        change = ap (λ (r : Showing V). r.change) shown ∙ sym (ap (λ (n : Numbers). n.change) seen);
-        counts = ap (λ (r : Showing V). map (λ (e : Element V). e.count) r.elements) shown
-            ∙ mapped_all (λ (e : Element V). e.count) (no_element value_of size) capacity ∙ sym (ap (λ (n : Numbers). n.counts) seen);
-        long = ap (λ (r : Showing V). length r.elements) shown ∙ length-replicate capacity (no_element value_of size) ∙ sym is;
-        room = ap (λ (r : Showing V). length r.copy) shown ∙ length-replicate {A = ℕ} 128 0;
-      }
+  settled = grind (arith, map, mapped_all, length, length-replicate)
 
   is_blank : snapshot_of fresh ≡ blank (contents.capacity s)
-  is_blank =
-      let change = ap (λ (n : Numbers). n.change) seen in
-      let counts = ap (λ (n : Numbers). n.counts) seen in
-      let values = ap (λ (r : Showing V). map value_shown r.elements) shown ∙ mapped_all value_shown (no_element value_of size) capacity in
-      (λ i. record { changes = change i; counts = counts i; values = values i }) ∙ ap blank (sym long)
+  is_blank = grind (arith, map, mapped_all, blank)
 
   pub got_settled : (answer : Bool) (new : ContainerState V) → Brought s fresh answer new
       → IsSettled new × (snapshot_of new ≡ updated s (blank (contents.capacity s)))

@@ -207,7 +207,7 @@ module _ {V : Type 0} (value_of : List ℕ → V) (size : ℕ) (some : 1 ≤ siz
       let e = element_at first.elements i (omega arith) in (e.0, h.rest i (omega arith) ∙ e.1, e.1)
 
   seen_at : (i : ℕ) (e : Element V) → Meets → slice_get first.elements i ≡ Some e → slice_index seen.counts i ≡ e.count
-  seen_at i e m is = ap (λ l. slice_index l i) (sym m.1) ∙ get_mapped (λ (e : Element V). e.count) first.elements i e 0 is
+  seen_at x0 x1 x2 x3 = grind (arith, get_mapped)
 
   abbrev with_number : Element V → ℕ → Element V
   with_number e n = record { count = n; value = e.value }
@@ -282,8 +282,7 @@ module _ {V : Type 0} (value_of : List ℕ → V) (size : ℕ) (some : 1 ≤ siz
         (λ t. let far : capacity ≤ i = grind (arith, nat_tests) in absurd (omega arith))
 
   begins : Known (with_change first (slice_index words (change_word capacity))) 0
-  begins m =
-      record { change = refl; long = m.0; room = m.2; done = λ j low. absurd (omega arith); rest = λ j far. refl }
+  begins x0 = grind arith
 
   walks : Ends (suc (most capacity)) (first_look capacity) first words
   walks =

@@ -21,23 +21,16 @@ use Rattle.plain.proofs.Words.{words_same, words_all, stored, stored_length, sto
 
 -- the values of two indices lie apart
 pub apart : (size i j : ℕ) → i < j → size * i + size ≤ size * j
-apart size i j less =
-    let step : size * (i + 1) ≤ size * j = mul-le-mul_left size (omega arith) in omega arith
+apart x0 x1 x2 x3 = grind (arith, mul-le-mul_left)
 
 two : (n : ℕ) → (n % 2 ≡ 0) ⊎ (n % 2 ≡ 1)
-two n =
-    ⊎_elim (λ (h : n % 2 < 1). inl (omega arith)) (λ (h : 1 ≤ n % 2). inr (omega arith))
-    (cases_lt (n % 2) 1)
+two x0 = grind (arith, inl, inr)
 
 odd_next : (n : ℕ) → is_even n ≡ false → is_even (one_more n) ≡ true
-odd_next n t =
-    ⊎_elim (λ (e : n % 2 ≡ 0). absurd (true≢false (sym (eq-eqb _ _ e) ∙ t)))
-    (λ (e : n % 2 ≡ 1). eq-eqb _ _ (let next : one_more n % 2 ≡ 0 = omega arith in next)) (two n)
+odd_next x0 x1 = grind (arith, true≢false, eq-eqb, one_more, two)
 
 even_next : (n : ℕ) → is_even n ≡ true → is_even (one_more n) ≡ false
-even_next n t =
-    ⊎_elim (λ (e : n % 2 ≡ 0). ne_eqb _ _ (λ (z : one_more n % 2 ≡ 0). absurd (omega arith)))
-    (λ (e : n % 2 ≡ 1). absurd (true≢false (sym t ∙ ne_eqb _ _ (λ (z : n % 2 ≡ 0). absurd (omega arith))))) (two n)
+even_next x0 x1 = grind (arith, ne_eqb, true≢false, two)
 
 stored_front : (ws : List ℕ) (k : ℕ) (xs : List ℕ) (at n m : ℕ) → k + at + n < 2 ^ 64 → m ≤ k + at
     → take m (stored ws k xs at n) ≡ take m ws
@@ -61,27 +54,18 @@ module _ {V : Type 0} (value_of : List ℕ → V) (size capacity : ℕ) where
   pub value_same : (ws vs : List ℕ) (i : ℕ) → slice_index vs (count_word capacity i) ≡ slice_index ws (count_word capacity i)
       → ((j : ℕ) → element_word capacity size i 0 ≤ j → j < element_word capacity size i 0 + size → slice_index vs j ≡ slice_index ws j)
       → value_at value_of size capacity vs i ≡ value_at value_of size capacity ws i
-  value_same ws vs i count same =
-      let words = words_same vs ws (element_word capacity size i 0) size same in
-      λ k. if is_even (count k) then None else Some (value_of (words k))
+  value_same x0 x1 x2 x3 x4 = grind (arith, words_same)
 
   -- ---- only the set has changed
 
   pub behind_values : (ws vs : List ℕ) → Behind (1 + capacity) ws vs
       → values_in value_of size capacity vs ≡ values_in value_of size capacity ws
-  behind_values ws vs h =
-      map_same (value_at value_of size capacity ws) (value_at value_of size capacity vs) capacity 0
-      (λ i low high. value_same ws vs i (h.same (count_word capacity i) (omega arith)) (λ j from below. h.same j (omega arith)))
+  behind_values x0 x1 x2 = grind (arith, map_same, value_at, value_same)
 
   pub behind_contents : (container : ℕ) (ws vs : List ℕ) → Behind (1 + capacity) ws vs
       → contents_in value_of size capacity container vs
       ≡ record (contents_in value_of size capacity container ws) { owners = owners_in (take (1 + capacity) vs) }
-  behind_contents container ws vs h =
-      let values = behind_values ws vs h in
-      let counts = map_same (λ j. slice_index ws (count_word capacity j)) (λ j. slice_index vs (count_word capacity j)) capacity 0
-      (λ j low high. h.same (count_word capacity j) (omega arith)) in
-      let changes = h.same (change_word capacity) (omega arith) in
-      λ i. record { container = container; owners = owners_in (take (1 + capacity) vs); values = values i; counts = counts i; changes = changes i }
+  behind_contents x0 x1 x2 x3 = grind (arith, behind_values, map_same, take)
 
   pub behind_fits : (ws vs : List ℕ) → Behind (1 + capacity) ws vs → Represents size capacity ws
       → robust.Represents capacity (take (1 + capacity) vs) → Represents size capacity vs
@@ -110,9 +94,7 @@ module _ {V : Type 0} (value_of : List ℕ → V) (size capacity : ℕ) where
     within = let long = fits.long in omega arith
 
     pub all_small : length words < 2 ^ 64
-    all_small =
-        let few = fits.few in let long = fits.long in
-        let a : size * capacity ≤ size * 2 ^ 32 = mul-le-mul_left size (omega arith) in omega arith
+    all_small = grind (arith, mul-le-mul_left)
 
     -- nothing else has changed but the number and the words of this value
     pub record Writes (later : List ℕ) : Type 0 where
@@ -144,29 +126,7 @@ module _ {V : Type 0} (value_of : List ℕ → V) (size capacity : ℕ) where
       pub count : slice_index later count_at ≡ count_without (slice_index words count_at)
 
     pub hides : Hides hidden
-    hides =
-        by_test Hides (is_even (slice_index words count_at)) _ _
-        (λ t. record {
-          writes = record { long = refl; front = refl; changes = refl; others = λ j low ne. refl; counts = λ j low ne. refl };
-          even = t;
-          count = sym (ap (λ b. if b then slice_index words count_at else one_more (slice_index words count_at)) t);
-        })
-        (λ t.
-        let n = slice_index words count_at in
-        let is : slice_index (slice_set words count_at (one_more n)) count_at ≡ one_more n = get_or-set_same words count_at (one_more n) 0 within in
-        record {
-          writes = record {
-            long = length-set words count_at (one_more n);
-            front = take-set-le (1 + capacity) words count_at (one_more n) (omega arith);
-            changes = get_or-set_other words count_at (change_word capacity) (one_more n) 0 (λ e. absurd (omega arith));
-            others = λ j low ne. value_same words (slice_set words count_at (one_more n)) j
-                (get_or-set_other words count_at (count_word capacity j) (one_more n) 0 (λ e. ne (omega arith)))
-                (λ k from below. get_or-set_other words count_at k (one_more n) 0 (λ e. absurd (omega arith)));
-            counts = λ j low ne. get_or-set_other words count_at (count_word capacity j) (one_more n) 0 (λ e. ne (omega arith));
-          };
-          even = ap is_even is ∙ odd_next n t;
-          count = is ∙ sym (ap (λ b. if b then n else one_more n) t);
-        })
+    hides = grind (arith, by_test, one_more, get_or-set_same, within, length-set, take-set-le, get_or-set_other, value_same, odd_next)
 
     -- ---- another comes
 
@@ -185,15 +145,10 @@ module _ {V : Type 0} (value_of : List ℕ → V) (size capacity : ℕ) where
 
       -- words before and behind the cell stay as they are
       fills_not : (j : ℕ) → (j < cell) ⊎ (cell + size ≤ j) → slice_index filled j ≡ slice_index hidden j
-      fills_not j out =
-          stored_other hidden cell xs 0 size j small
-          (⊎_elim (λ (h : j < cell). inl (omega arith)) (λ (h : cell + size ≤ j). inr (omega arith)) out)
+      fills_not x0 x1 = grind (arith, stored_other, small, inl, inr)
 
       count_is : slice_index shown count_at ≡ one_more (slice_index hidden count_at)
-      count_is =
-          let long = filled_long in let w = within in
-          get_or-set_same filled count_at (one_more (slice_index filled count_at)) 0 (omega arith)
-          ∙ ap one_more (fills_not count_at (inl (omega arith)))
+      count_is = grind (arith, filled_long, within, get_or-set_same, one_more, fills_not, inl)
 
       words_are : words_from shown cell size ≡ xs
       words_are =
@@ -209,10 +164,7 @@ module _ {V : Type 0} (value_of : List ℕ → V) (size capacity : ℕ) where
       -- another's words
       beside : (j k : ℕ) → j ≢ index → element_word capacity size j 0 ≤ k → k < element_word capacity size j 0 + size
           → (k < cell) ⊎ (cell + size ≤ k)
-      beside j k ne from below =
-          ⊎_elim (λ (less : j < index). let a = apart size j index less in inl (omega arith))
-          (λ (more : index ≤ j). let a = apart size index j (omega (arith, ne)) in inr (omega arith))
-          (cases_lt j index)
+      beside x0 x1 x2 x3 x4 = grind (arith, apart, inl, inr)
 
       pub record Shows (later : List ℕ) : Type 0 where
         pub writes : Writes later
@@ -254,16 +206,7 @@ module _ {V : Type 0} (value_of : List ℕ → V) (size capacity : ℕ) where
         slice_set later (change_word capacity) (one_more (slice_index later (change_word capacity)))
 
     pub change_fits : (later : List ℕ) → Writes later → Represents size capacity (after_change later)
-    change_fits later w =
-        let head : slice_index later 0 ≡ slice_index words 0 =
-        sym (get_or-take (1 + capacity) later 0 0 (omega arith)) ∙ ap (λ ws. slice_index ws 0) w.front
-        ∙ get_or-take (1 + capacity) words 0 0 (omega arith) in
-        record {
-          long = length-set later (change_word capacity) _ ∙ w.long ∙ fits.long;
-          some = fits.some;
-          few = fits.few;
-          small = subst (λ n. n < 2 ^ 64) (sym (get_or-set_other later (change_word capacity) 0 _ 0 (λ e. absurd (omega arith)) ∙ head)) fits.small;
-        }
+    change_fits x0 x1 = grind (arith, get_or-take, length-set, small, get_or-set_other)
 
     pub change_contents : (container : ℕ) (later : List ℕ) (o : Option V) → Writes later → Stands later o
         → contents_in value_of size capacity container (after_change later)
@@ -294,4 +237,4 @@ module _ {V : Type 0} (value_of : List ℕ → V) (size capacity : ℕ) where
 
     -- where it has gone
     pub gone : (later : List ℕ) → Hides later → Stands later None
-    gone later h = (ap (λ b. if b then None else Some (value_of (words_from later cell size))) h.even, h.count)
+    gone x0 x1 = grind (arith, words_from)

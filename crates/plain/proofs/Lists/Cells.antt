@@ -6,23 +6,12 @@ use Rattle.plain.specs.Queues.{value_at, values_from}
 
 -- two numbers less than n apart, with one remainder, are one number
 pub one_turn : (a b n : ℕ) → a ≤ b → b < a + n → a % n ≡ b % n → a ≡ b
-one_turn a b n le lt e =
-    let p = mod-add-div a n in
-    let q = mod-add-div b n in
-    ⊎_elim (λ (h : a / n < b / n).
-    let m : n * (a / n + 1) ≤ n * (b / n) = mul-le-mul_left n (omega arith) in
-    absurd (omega arith))
-    (λ (h : b / n ≤ a / n).
-    let m : n * (b / n) ≤ n * (a / n) = mul-le-mul_left n h in omega arith)
-    (cases_lt (a / n) (b / n))
+one_turn x0 x1 x2 x3 x4 x5 = grind (arith, mod-add-div, mul-le-mul_left)
 
 -- a cell lies within the words
 pub cell_within : (capacity size p : ℕ) → 1 ≤ capacity
     → size * (p % capacity) + size ≤ size * capacity
-cell_within capacity size p room =
-    let low : p % capacity < capacity = omega arith in
-    let step : size * (p % capacity + 1) ≤ size * capacity = mul-le-mul_left size (omega arith) in
-    omega arith
+cell_within x0 x1 x2 x3 = grind (arith, mul-le-mul_left)
 
 -- cells of positions less than a lap apart lie apart
 pub cells_apart : (capacity size p q : ℕ) → p < q → q < p + capacity

@@ -50,10 +50,7 @@ module _ {V : Type 0} (value_of : List ℕ → V) (size capacity : ℕ) (call : 
       CountsTo capacity words (λ end. end ≡ length (list_in value_of size capacity words).values) call
 
   pub count_runs : CountRuns
-  count_runs =
-      subst (CountsTo capacity words (λ end. end ≡ length (list_in value_of size capacity words).values)) (sym is)
-      (counts capacity words (λ end. end ≡ length (list_in value_of size capacity words).values) fits.behind fits.near fits.fits
-      (sym (values_length value_of size capacity words (slice_index words 1) (slice_index words 0 - slice_index words 1))))
+  count_runs = grind (arith, length, counts, values_length)
 
 module _ (capacity : ℕ) (call : Len) (is : call ≡ first_len capacity) (words : List ℕ)
     (fits : over.Represents capacity words) where
@@ -62,7 +59,4 @@ module _ (capacity : ℕ) (call : Len) (is : call ≡ first_len capacity) (words
       CountsTo capacity words (λ end. end ≡ length (over.list_in capacity words).values) call
 
   pub over_count_runs : OverCountRuns
-  over_count_runs =
-      subst (CountsTo capacity words (λ end. end ≡ length (over.list_in capacity words).values)) (sym is)
-      (counts capacity words (λ end. end ≡ length (over.list_in capacity words).values) fits.behind fits.near fits.fits
-      (sym (values_length over.number_of 1 (capacity + 1) words (slice_index words 1) (slice_index words 0 - slice_index words 1))))
+  over_count_runs = grind (arith, length, counts, values_length)

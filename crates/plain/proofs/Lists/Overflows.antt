@@ -63,19 +63,11 @@ module _ (capacity : ℕ) where
 
     hands_back : (room : OneWord) (words : List ℕ) → capacity ≡ 0
         → Ends 1 Own room words (first_push capacity) room words
-    hands_back room words none =
-        by_eq (λ s. Ends 1 Own room words (record { capacity = capacity; stage = s }) room words) capacity 0
-        pushes.TheVariants.HandsBack pushes.TheVariants.LoadsWrite
-        (λ _. (refl, refl, refl)) (λ some. absurd (some none))
+    hands_back x0 x1 x2 = grind (arith, by_eq)
 
     no_position : (room : OneWord) (words : List ℕ) → capacity ≢ 0 → slice_index words 0 ≡ 2 ^ 64 - 1
         → Ends 1 Own room words (first_push capacity) room words
-    no_position room words some e =
-        by_eq (λ s. Ends 1 Own room words (record { capacity = capacity; stage = s }) room words) capacity 0
-        pushes.TheVariants.HandsBack pushes.TheVariants.LoadsWrite
-        (λ none. absurd (some none))
-        (λ _. by_eq (λ a. From 0 Own room words a room words) (slice_index words 0) (2 ^ 64 - 1) _ _
-        (λ _. (refl, refl, refl)) (λ other. absurd (other e)))
+    no_position x0 x1 x2 x3 = grind (arith, by_eq)
 
     module _ (room : OneWord) (words : List ℕ) where
       abbrev w : ℕ
@@ -98,31 +90,11 @@ module _ (capacity : ℕ) where
 
       adds : capacity ≢ 0 → w ≢ 2 ^ 64 - 1 → distance w r ≢ capacity
           → Ends 4 Added room stored (first_push capacity) room words
-      adds some position near =
-          by_eq (λ s. Ends 4 Added room stored (record { capacity = capacity; stage = s }) room words) capacity 0
-          pushes.TheVariants.HandsBack pushes.TheVariants.LoadsWrite
-          (λ none. absurd (some none))
-          (λ _. by_eq (λ a. From 3 Added room stored a room words) w (2 ^ 64 - 1) _ _
-          (λ e. absurd (position e))
-          (λ _. by_eq (λ a. From 0 Added room stored a room stored) (distance w r) capacity _ _
-          (λ e. absurd (near e)) (λ _. (refl, refl, refl))))
+      adds x0 x1 x2 = grind (arith, by_eq)
 
       replaces : capacity ≢ 0 → w ≢ 2 ^ 64 - 1 → distance w r ≡ capacity → slice_index stored 1 ≡ r
           → Ends 6 Oldest oldest moved (first_push capacity) room words
-      replaces some position full stands =
-          let written : (if slice_index stored 1 == r then moved else stored) ≡ moved =
-          ap (λ b. if b then moved else stored) (eq-eqb (slice_index stored 1) r stands) in
-          by_eq (λ s. Ends 6 Oldest oldest moved (record { capacity = capacity; stage = s }) room words) capacity 0
-          pushes.TheVariants.HandsBack pushes.TheVariants.LoadsWrite
-          (λ none. absurd (some none))
-          (λ _. by_eq (λ a. From 5 Oldest oldest moved a room words) w (2 ^ 64 - 1) _ _
-          (λ e. absurd (position e))
-          (λ _. by_eq (λ a. From 2 Oldest oldest moved a room stored) (distance w r) capacity _ _
-          (λ _. by_eq (λ a. From 1 Oldest oldest moved a room (if slice_index stored 1 == r then moved else stored)) (slice_index stored 1) r _ _
-          (λ _. subst (λ ws. From 1 Oldest oldest moved (GoOn (at_push (first_push capacity) (pushes.TheVariants.LoadsCell r))) room ws) (sym written)
-          (refl, refl, refl))
-          (λ other. absurd (other stands)))
-          (λ other. absurd (other full))))
+      replaces x0 x1 x2 x3 = grind (arith, eq-eqb, by_eq)
 
     -- ---- what it makes of the list
 
@@ -133,9 +105,7 @@ module _ (capacity : ℕ) where
 
     stays_out : (room : OneWord) (words : List ℕ) → Represents capacity words
         → takes_in (list_in capacity words) ≡ false → Pushed words Own room words
-    stays_out room words fits refused =
-        let m = made_of value (list_in capacity words) false _ refused refl in
-        (fits, sym m.1, sym m.0)
+    stays_out x0 x1 x2 x3 = grind (arith, made_of, false)
 
     module _ (room : OneWord) (words : List ℕ) (fits : Represents capacity words) (some : capacity ≢ 0)
         (position : slice_index words 0 ≢ 2 ^ 64 - 1) where
@@ -164,14 +134,10 @@ module _ (capacity : ℕ) where
       cells_long = length-set words (cell_word capacity wp) value
 
       write_is : slice_index kept 0 ≡ wp + 1
-      write_is =
-          let long = fits.long in let same = cells_long in
-          get_or-set_same (cells room words) 0 (after_position wp) 0 (omega arith) ∙ next_is
+      write_is = grind (arith, cells_long, get_or-set_same, next_is)
 
       kept_word : (j : ℕ) → j ≢ 0 → j ≢ cell_word capacity wp → slice_index kept j ≡ slice_index words j
-      kept_word j one two =
-          get_or-set_other (cells room words) 0 j (after_position wp) 0 one
-          ∙ get_or-set_other words (cell_word capacity wp) j value 0 two
+      kept_word x0 x1 x2 = grind (arith, get_or-set_other)
 
       read_is : slice_index kept 1 ≡ rp
       read_is = kept_word 1 (λ e. absurd (omega arith)) (λ e. absurd (omega arith))
@@ -180,12 +146,7 @@ module _ (capacity : ℕ) where
       kept_long = length-set (cells room words) 0 (after_position wp) ∙ (cells_long ∙ fits.long)
 
       own : number_at kept wp ≡ value
-      own =
-          let place : 4 + 1 * (wp % (capacity + 1)) ≡ cell_word capacity wp = omega arith in
-          let long = fits.long in
-          ap (slice_index kept) place
-          ∙ (get_or-set_other (cells room words) 0 (cell_word capacity wp) (after_position wp) 0 (λ e. absurd (omega arith))
-          ∙ get_or-set_same words (cell_word capacity wp) value 0 (let l = low in omega arith))
+      own = grind (arith, get_or-set_other, get_or-set_same, low)
 
       kept_number : (p : ℕ) → rp ≤ p → p < wp → number_at kept p ≡ number_at words p
       kept_number p from below =
@@ -196,21 +157,10 @@ module _ (capacity : ℕ) where
 
       -- all that waited, and this one
       all_kept : numbers_from capacity kept rp (suc (wp - rp)) ≡ waiting ++ value ∷ []
-      all_kept =
-          let behind = fits.behind in
-          let end : rp + (wp - rp) ≡ wp = omega arith in
-          let before : numbers_from capacity kept rp (wp - rp) ≡ waiting =
-          values_same number_of 1 (capacity + 1) kept words rp (wp - rp) (λ p from below. kept_number p from (omega arith)) in
-          let last : number_at kept (rp + (wp - rp)) ≡ value = ap (number_at kept) end ∙ own in
-          values_more number_of 1 (capacity + 1) kept rp (wp - rp) ∙ (λ i. before i ++ last i ∷ [])
+      all_kept = grind (arith, values_same, number_of, kept_number, own, values_more)
 
       takes : takes_in (list_in capacity words) ≡ true
-      takes =
-          let behind = fits.behind in
-          let n = waits in
-          let a : nat_lt 0 capacity ≡ true = let c : 0 < capacity = omega (arith, some) in grind (arith, nat_tests, c) in
-          let b : (rp + length waiting == 2 ^ 64 - 1) ≡ false = ne_eqb _ _ (λ e. position (omega arith)) in
-          λ i. a i && not (b i)
+      takes = grind (arith, waits, length, false, ne_eqb, nat_tests)
 
       length_is : length (waiting ++ value ∷ []) ≡ wp - rp + 1
       length_is = let n = waits in let m = length-append waiting (value ∷ []) in omega arith
@@ -244,9 +194,7 @@ module _ (capacity : ℕ) where
         last = moved room words
 
         read_moves : slice_index last 1 ≡ rp + 1
-        read_moves =
-            let long = kept_long in let f = fits.fits in let behind = fits.behind in
-            get_or-set_same kept 1 (after_position rp) 0 (omega arith) ∙ omega (arith, position)
+        read_moves = grind (arith, kept_long, get_or-set_same)
 
         moved_word : (j : ℕ) → j ≢ 1 → slice_index last j ≡ slice_index kept j
         moved_word j other = get_or-set_other kept 1 j (after_position rp) 0 other
@@ -261,7 +209,7 @@ module _ (capacity : ℕ) where
 
         -- the first of all is the oldest
         head : (m : ℕ) → wp - rp ≡ suc m → slice_get (waiting ++ value ∷ []) 0 ≡ Some (number_at words rp)
-        head m is = ap (λ n. slice_get (numbers_from capacity words rp n ++ value ∷ []) 0) is
+        head x0 x1 = grind arith
 
         replaced : Pushed words Oldest (oldest room words) last
         replaced =
@@ -354,8 +302,7 @@ module _ (capacity : ℕ) where
 
     pub push_runs : (call : Push) → call ≡ first_push capacity → (room : OneWord) (words : List ℕ)
         → Represents capacity words → PushRuns call room words
-    push_runs call is room words fits =
-        subst (λ c. PushRuns c room words) (sym is) (runs_first room words fits)
+    push_runs x0 x1 x2 x3 x4 = grind (arith, runs_first)
 
   -- ---- pop
 
@@ -389,75 +336,19 @@ module _ (capacity : ℕ) where
     found = record { 0 = slice_index words (cell_word capacity read) }
 
     no_capacity : capacity ≡ 0 → PopEnds 1 false room words (first_pop capacity) room words
-    no_capacity none =
-        by_eq (λ s. PopEnds 1 false room words (record { capacity = capacity; stage = s }) room words) capacity 0
-        pops.TheVariants.FindsNone pops.TheVariants.LoadsRead
-        (λ _. (refl, refl, refl)) (λ some. absurd (some none))
+    no_capacity x0 = grind (arith, by_eq, false)
 
     finds_none : capacity ≢ 0 → write ≡ read → PopEnds 2 false room words (first_pop capacity) room words
-    finds_none some e =
-        by_eq (λ s. PopEnds 2 false room words (record { capacity = capacity; stage = s }) room words) capacity 0
-        pops.TheVariants.FindsNone pops.TheVariants.LoadsRead
-        (λ none. absurd (some none))
-        (λ _. by_eq (λ a. PopFrom 0 false room words a room words) write read _ _
-        (λ _. (refl, refl, refl)) (λ other. absurd (other e)))
+    finds_none x0 x1 = grind (arith, by_eq, false)
 
     takes_one : capacity ≢ 0 → write ≢ read → PopEnds 4 true found taken (first_pop capacity) room words
-    takes_one some other =
-        let written : (if read == read then taken else words) ≡ taken =
-        ap (λ b. if b then taken else words) (eq-eqb read read refl) in
-        by_eq (λ s. PopEnds 4 true found taken (record { capacity = capacity; stage = s }) room words) capacity 0
-        pops.TheVariants.FindsNone pops.TheVariants.LoadsRead
-        (λ none. absurd (some none))
-        (λ _. by_eq (λ a. PopFrom 2 true found taken a room words) write read _ _
-        (λ e. absurd (other e))
-        (λ _. by_eq (λ a. PopFrom 0 true found taken a found (if read == read then taken else words)) read read _ _
-        (λ _. (refl, refl, sym written)) (λ ne. absurd (ne refl))))
+    takes_one x0 x1 = grind (arith, eq-eqb, by_eq)
 
     stays_empty : Represents capacity words → write ≡ read → Popped words false room words
-    stays_empty fits e =
-        let none : write - read ≡ 0 = omega arith in
-        let empty : numbers_from capacity words read (write - read) ≡ [] = ap (numbers_from capacity words read) none in
-        let first : read ≡ read + min 1 0 = omega arith in (
-          fits,
-          ap (λ xs. slice_get xs 0) (sym empty),
-          λ i. record {
-            capacity = capacity;
-            first = (first ∙ ap (λ xs. read + min 1 (length xs)) (sym empty)) i;
-            values = (empty ∙ ap (drop 1) (sym empty)) i;
-          },
-        )
+    stays_empty x0 x1 = grind (arith, min, length, drop)
 
     taken_out : (m : ℕ) → write - read ≡ suc m → Represents capacity words → Popped words true found taken
-    taken_out m is fits =
-        let behind = fits.behind in
-        let near = fits.near in
-        let f = fits.fits in
-        let long = fits.long in
-        let place : cell_word capacity read ≡ 4 + 1 * (read % (capacity + 1)) = omega arith in
-        let a : slice_index taken 1 ≡ read + 1 = get_or-set_same words 1 (after_position read) 0 (omega arith) ∙ omega arith in
-        let b : slice_index taken 0 ≡ write = get_or-set_other words 1 0 (after_position read) 0 (λ e. absurd (omega arith)) in
-        let many : slice_index taken 0 - slice_index taken 1 ≡ m = omega arith in
-        let all : numbers_from capacity words read (write - read) ≡ number_at words read ∷ numbers_from capacity words (read + 1) m =
-        ap (numbers_from capacity words read) is in
-        let same : numbers_from capacity taken (read + 1) m ≡ numbers_from capacity words (read + 1) m =
-        values_same number_of 1 (capacity + 1) taken words (read + 1) m
-        (λ p from below. get_or-set_other words 1 (4 + 1 * (p % (capacity + 1))) (after_position read) 0 (λ e. absurd (omega arith))) in
-        let n = values_length number_of 1 (capacity + 1) words read (write - read) in
-        let first : slice_index taken 1 ≡ read + min 1 (length (numbers_from capacity words read (write - read))) = omega arith in
-        let values : numbers_from capacity taken (slice_index taken 1) (slice_index taken 0 - slice_index taken 1)
-        ≡ drop 1 (numbers_from capacity words read (write - read)) =
-        (λ i. numbers_from capacity taken (a i) (many i)) ∙ (same ∙ ap (drop 1) (sym all)) in (
-          record {
-            long = length-set words 1 (after_position read) ∙ fits.long;
-            small = fits.small;
-            behind = omega arith;
-            near = omega arith;
-            fits = omega arith;
-          },
-          ap (λ p. Some (slice_index words p)) place ∙ sym (ap (λ xs. slice_get xs 0) all),
-          λ i. record { capacity = capacity; first = first i; values = values i },
-        )
+    taken_out x0 x1 x2 = grind (arith, get_or-set_same, get_or-set_other, values_same, number_of, values_length, min, length, drop, length-set)
 
     pops_first : Represents capacity words → PopRuns (first_pop capacity) room words
     pops_first fits =

@@ -53,23 +53,14 @@ module _ {V R : Type 0} (value_of : List ℕ → V) (size : ℕ) (some : 1 ≤ s
 
   finds_none : (room : R) (words : List ℕ) → (capacity ≡ 0) ⊎ (slice_index words 0 ≡ slice_index words 1)
       → Ends 2 false room words (first_pop capacity) room words
-  finds_none room words empty =
-      by_either (λ a. From 0 false room words a room words) capacity 0 (slice_index words 0) (slice_index words 1) _ _
-      (λ _. (refl, refl, refl)) (λ _. (refl, refl, refl))
-      (λ there other. ⊎_elim (λ e. absurd (there e)) (λ e. absurd (other e)) empty)
+  finds_none x0 x1 x2 = grind (arith, by_either, false)
 
   comes_out : (n : ℕ) → suc n ≡ size → (room : R) (words : List ℕ) → capacity ≢ 0
       → slice_index words 0 ≢ slice_index words 1
       → Ends (suc (suc (suc (suc n)))) true
       (read_in with_word room words (cell_word capacity size (slice_index words 1)) 0 (suc n))
       (slice_set words 1 (after_position (slice_index words 1))) (first_pop capacity) room words
-  comes_out n is room words there other =
-      by_either (λ a. From (suc (suc n)) true
-      (read_in with_word room words (cell_word capacity size (slice_index words 1)) 0 (suc n))
-      (slice_set words 1 (after_position (slice_index words 1))) a room words)
-      capacity 0 (slice_index words 0) (slice_index words 1) _ _
-      (λ e. absurd (there e)) (λ e. absurd (other e))
-      (λ _ _. loads (slice_index words 1) (cell_word capacity size (slice_index words 1)) n 0 (omega arith) room words)
+  comes_out x0 x1 x2 x3 x4 x5 = grind (arith, by_either, suc, read_in, loads)
 
   -- ---- what it makes of the list
 
@@ -83,19 +74,7 @@ module _ {V R : Type 0} (value_of : List ℕ → V) (size : ℕ) (some : 1 ≤ s
 
   stays_empty : (room : R) (words : List ℕ) → Represents size capacity words
       → slice_index words 0 ≡ slice_index words 1 → Popped words false room words
-  stays_empty room words fits e =
-      let none : slice_index words 0 - slice_index words 1 ≡ 0 = omega arith in
-      let empty : values_from value_of size capacity words (slice_index words 1) (slice_index words 0 - slice_index words 1) ≡ [] =
-      ap (values_from value_of size capacity words (slice_index words 1)) none in
-      let first : slice_index words 1 ≡ slice_index words 1 + min 1 0 = omega arith in (
-        fits,
-        ap (λ xs. slice_get xs 0) (sym empty),
-        λ i. record {
-          capacity = capacity;
-          first = (first ∙ ap (λ xs. slice_index words 1 + min 1 (length xs)) (sym empty)) i;
-          values = (empty ∙ ap (drop 1) (sym empty)) i;
-        },
-      )
+  stays_empty x0 x1 x2 x3 = grind (arith, min, length, drop)
 
   module _ (room : R) (wide : size ≤ length (words_in room)) (words : List ℕ) (fits : Represents size capacity words)
       (m : ℕ) (there : slice_index words 0 - slice_index words 1 ≡ suc m) where
@@ -115,71 +94,34 @@ module _ {V R : Type 0} (value_of : List ℕ → V) (size : ℕ) (some : 1 ≤ s
     last = slice_set words 1 (after_position r)
 
     has_room : capacity ≢ 0
-    has_room e = let near = fits.near in let behind = fits.behind in absurd (omega arith)
+    has_room x0 = grind arith
 
     cell_is : cell ≡ 4 + size * (r % capacity)
     cell_is = ap (λ b. if b then 4 else 4 + size * (r % capacity)) (ne_eqb capacity 0 has_room)
 
     small : cell + 0 + size < 2 ^ 64
-    small =
-        let c = cell_is in
-        let i = cell_within capacity size r (omega (arith, has_room)) in
-        let t : size * capacity ≤ 128 * capacity = mul-le-mul_right capacity few in
-        let s = fits.small in omega arith
+    small = grind (arith, cell_is, cell_within, has_room, mul-le-mul_right)
 
     read_is : slice_index last 1 ≡ r + 1
-    read_is =
-        let f = fits.fits in let b = fits.behind in let long = fits.long in
-        get_or-set_same words 1 (after_position r) 0 (omega arith) ∙ omega arith
+    read_is = grind (arith, get_or-set_same)
 
     kept_word : (j : ℕ) → j ≢ 1 → slice_index last j ≡ slice_index words j
     kept_word j other = get_or-set_other words 1 j (after_position r) 0 other
 
     last_fits : Represents size capacity last
-    last_fits =
-        let a = read_is in
-        let b = kept_word 0 (omega arith) in
-        let near = fits.near in
-        let behind = fits.behind in
-        let f = fits.fits in
-        record { long = length-set words 1 (after_position r) ∙ fits.long; small = fits.small; behind = omega arith; near = omega arith; fits = omega arith }
+    last_fits = grind (arith, read_is, kept_word, length-set, small)
 
     own : value_in value_of size (words_in last_room) ≡ value_at value_of size capacity words r
-    own =
-        value_read value_of size words_in with_word put_in room words cell wide small
-        ∙ ap (λ k. value_of (words_from words k size)) cell_is
+    own = grind (arith, value_read, small, words_from, cell_is)
 
     comes_off : list last ≡ popped (list words)
-    comes_off =
-        let a = read_is in
-        let b = kept_word 0 (omega arith) in
-        let behind = fits.behind in
-        let many : slice_index last 0 - slice_index last 1 ≡ m = omega arith in
-        let all : values_from value_of size capacity words r (w - r)
-        ≡ value_at value_of size capacity words r ∷ values_from value_of size capacity words (r + 1) m =
-        ap (values_from value_of size capacity words r) there in
-        let same : values_from value_of size capacity last (r + 1) m ≡ values_from value_of size capacity words (r + 1) m =
-        values_same value_of size capacity last words (r + 1) m
-        (λ q low high. ap value_of (words_same last words (4 + size * (q % capacity)) size (λ i from below. kept_word i (omega arith)))) in
-        let first : slice_index last 1 ≡ r + min 1 (length (values_from value_of size capacity words r (w - r))) =
-        let long = values_length value_of size capacity words r (w - r) in omega arith in
-        let values : values_from value_of size capacity last (slice_index last 1) (slice_index last 0 - slice_index last 1)
-        ≡ drop 1 (values_from value_of size capacity words r (w - r)) =
-        (λ i. values_from value_of size capacity last (a i) (many i)) ∙ same ∙ ap (drop 1) (sym all) in
-        λ i. record { capacity = capacity; first = first i; values = values i }
+    comes_off = grind (arith, read_is, kept_word, value_at, values_same, words_same, min, length, values_length, drop)
 
     last_popped : Popped words true last_room last
-    last_popped =
-        let all : values_from value_of size capacity words r (w - r)
-        ≡ value_at value_of size capacity words r ∷ values_from value_of size capacity words (r + 1) m =
-        ap (values_from value_of size capacity words r) there in
-        (last_fits, ap Some own ∙ sym (ap (λ xs. slice_get xs 0) all), comes_off)
+    last_popped = grind (arith, value_at, last_fits, own, comes_off)
 
     goes : Ends (suc (suc (suc (suc (size - 1))))) true last_room last (first_pop capacity) room words
-    goes =
-        let n : suc (size - 1) ≡ size = omega arith in
-        subst (λ k. Ends (suc (suc (suc (suc (size - 1))))) true (read_in with_word room words cell 0 k) last (first_pop capacity) room words)
-        n (comes_out (size - 1) n room words has_room (λ e. absurd (omega arith)))
+    goes = grind (arith, suc, read_in, comes_out, has_room)
 
   abbrev pub PopRuns : Pop V R → R → List ℕ → Type 0
   PopRuns call room words =
@@ -215,5 +157,4 @@ module _ {V R : Type 0} (value_of : List ℕ → V) (size : ℕ) (some : 1 ≤ s
   pub pop_runs : (call : Pop V R) → call ≡ first_pop capacity → (room : R)
       → size ≤ length (words_in room) → (words : List ℕ) → Represents size capacity words
       → PopRuns call room words
-  pop_runs call is room wide words fits =
-      subst (λ c. PopRuns c room words) (sym is) (runs_first room wide words fits)
+  pop_runs x0 x1 x2 x3 x4 x5 = grind (arith, runs_first)

@@ -27,17 +27,11 @@ module _ {V : Type 0} (value : V) (q : Bounded V) where
       if position then record q { values = if room then q.values ++ value ∷ [] else q.values } else q
 
   left_out : (room position : Bool) → (room && position) ≡ false → made room position ≡ q
-  left_out true true h = absurd (true≢false h)
-  left_out true false h = refl
-  left_out false true h = refl
-  left_out false false h = refl
+  left_out x0 x1 x2 = grind (arith, true≢false)
 
   let_in : (room position : Bool) → (room && position) ≡ true
       → made room position ≡ record q { values = q.values ++ value ∷ [] }
-  let_in true true h = refl
-  let_in true false h = absurd (true≢false (sym h))
-  let_in false true h = absurd (true≢false (sym h))
-  let_in false false h = absurd (true≢false (sym h))
+  let_in x0 x1 x2 = grind (arith, true≢false)
 
 module _ {V : Type 0} (words_of : V → List ℕ) (value_of : List ℕ → V) (size : ℕ)
     (sized : (x : V) → length (words_of x) ≡ size) (given_back : (x : V) → value_of (words_of x) ≡ x)
@@ -72,20 +66,12 @@ module _ {V : Type 0} (words_of : V → List ℕ) (value_of : List ℕ → V) (s
 
   no_position : (words : List ℕ) → slice_index words 0 ≡ 2 ^ 64 - 1
       → Ends 1 false words (first_push capacity) words
-  no_position words e =
-      by_eq (λ a. From 0 false words a words) (slice_index words 0) (2 ^ 64 - 1) _ _
-      (λ _. (refl, refl, refl)) (λ other. absurd (other e))
+  no_position x0 x1 = grind (arith, by_eq, false)
 
   no_room : (words : List ℕ) → slice_index words 0 ≢ 2 ^ 64 - 1
       → (capacity ≡ 0) ⊎ (distance (slice_index words 0) (slice_index words 1) ≡ capacity)
       → Ends 2 false words (first_push capacity) words
-  no_room words position full =
-      by_eq (λ a. From 1 false words a words) (slice_index words 0) (2 ^ 64 - 1) _ _
-      (λ e. absurd (position e))
-      (λ _. by_either (λ a. From 0 false words a words) capacity 0
-      (distance (slice_index words 0) (slice_index words 1)) capacity _ _
-      (λ _. (refl, refl, refl)) (λ _. (refl, refl, refl))
-      (λ some_room near. ⊎_elim (λ e. absurd (some_room e)) (λ e. absurd (near e)) full))
+  no_room x0 x1 x2 = grind (arith, by_eq, false, by_either)
 
   abbrev taken : List ℕ → List ℕ
   taken words =
@@ -97,14 +83,7 @@ module _ {V : Type 0} (words_of : V → List ℕ) (value_of : List ℕ → V) (s
       → Ends (suc (suc (suc (suc n)))) true
       (slice_set (stored words (cell_word capacity size (slice_index words 0)) (words_of value) 0 (suc n)) 0
       (after_position (slice_index words 0))) (first_push capacity) words
-  goes_in n is words position room near =
-      let last = slice_set (stored words (cell_word capacity size (slice_index words 0)) (words_of value) 0 (suc n)) 0 (after_position (slice_index words 0)) in
-      by_eq (λ a. From (suc (suc (suc n))) true last a words) (slice_index words 0) (2 ^ 64 - 1) _ _
-      (λ e. absurd (position e))
-      (λ _. by_either (λ a. From (suc (suc n)) true last a words) capacity 0
-      (distance (slice_index words 0) (slice_index words 1)) capacity _ _
-      (λ e. absurd (room e)) (λ e. absurd (near e))
-      (λ _ _. stores (slice_index words 0) (cell_word capacity size (slice_index words 0)) n 0 (omega arith) words))
+  goes_in x0 x1 x2 x3 x4 x5 = grind (arith, stored, suc, by_eq, by_either, stores)
 
   -- ---- what it makes of the list
 
@@ -118,13 +97,7 @@ module _ {V : Type 0} (words_of : V → List ℕ) (value_of : List ℕ → V) (s
   -- in numbers
   takes_numbers : (words : List ℕ) → Represents size capacity words
       → takes_more (list words) ≡ nat_lt (slice_index words 0 - slice_index words 1) capacity && not (slice_index words 0 == 2 ^ 64 - 1)
-  takes_numbers words fits =
-      let r : ℕ = slice_index words 1 in
-      let w : ℕ = slice_index words 0 in
-      let behind = fits.behind in
-      let long = values_length value_of size capacity words r (w - r) in
-      ap (λ n. nat_lt n capacity && not (r + n == 2 ^ 64 - 1)) long
-      ∙ ap (λ n. nat_lt (w - r) capacity && not (n == 2 ^ 64 - 1)) (omega arith)
+  takes_numbers x0 x1 = grind (arith, values_length)
 
   stays_out : (words : List ℕ) → Represents size capacity words → takes_more (list words) ≡ false
       → Pushed words false tt words
@@ -181,20 +154,13 @@ module _ {V : Type 0} (words_of : V → List ℕ) (value_of : List ℕ → V) (s
 
     -- a word before the cell, or behind it
     kept_word : (j : ℕ) → j ≢ 0 → (j < cell) ⊎ (cell + size ≤ j) → slice_index last j ≡ slice_index words j
-    kept_word j other out =
-        get_or-set_other cells 0 j (after_position w) 0 other
-        ∙ stored_other words cell (words_of value) 0 size j small (⊎_elim (λ h. inl (omega arith)) (λ h. inr (omega arith)) out)
+    kept_word x0 x1 x2 = grind (arith, get_or-set_other, stored_other, small, inl, inr)
 
     read_is : slice_index last 1 ≡ r
     read_is = kept_word 1 (omega arith) (inl (let c = cell_is in omega arith))
 
     last_fits : Represents size capacity last
-    last_fits =
-        let a = write_is in
-        let b = read_is in
-        let f = fits.fits in
-        let h = fits.behind in
-        record { long = last_long; small = fits.small; behind = omega arith; near = omega arith; fits = omega (arith, position) }
+    last_fits = grind (arith, write_is, read_is, long, last_long, small)
 
     own : value_at value_of size capacity last w ≡ value
     own =
@@ -215,39 +181,13 @@ module _ {V : Type 0} (words_of : V → List ℕ) (value_of : List ℕ → V) (s
         (⊎_elim (λ h. inl (omega arith)) (λ h. inr (omega arith)) apart))
 
     comes_in : list last ≡ record (list words) { values = (list words).values ++ value ∷ [] }
-    comes_in =
-        let a = write_is in
-        let b = read_is in
-        let behind = fits.behind in
-        let many : slice_index last 0 - slice_index last 1 ≡ suc (w - r) = omega arith in
-        let end : r + (w - r) ≡ w = omega arith in
-        let front : values_from value_of size capacity last r (w - r) ≡ values_from value_of size capacity words r (w - r) =
-        values_same value_of size capacity last words r (w - r) (λ q low high. kept_value q low (omega arith)) in
-        let back : value_at value_of size capacity last (r + (w - r)) ≡ value =
-        ap (value_at value_of size capacity last) end ∙ own in
-        let values : values_from value_of size capacity last (slice_index last 1) (slice_index last 0 - slice_index last 1)
-        ≡ values_from value_of size capacity words r (w - r) ++ value ∷ [] =
-        subst (λ (z : ℕ × ℕ). values_from value_of size capacity last z.0 z.1 ≡ values_from value_of size capacity words r (w - r) ++ value ∷ [])
-        (λ i. (sym b i, sym many i))
-        (values_more value_of size capacity last r (w - r) ∙ (λ i. front i ++ back i ∷ [])) in
-        λ i. record { capacity = capacity; first = b i; values = values i }
+    comes_in = grind (arith, write_is, read_is, suc, values_same, kept_value, value_at, own, values_more)
 
     last_pushed : Pushed words true tt last
-    last_pushed =
-        let takes : takes_more (list words) ≡ true =
-        takes_numbers words fits
-        ∙ (let a : nat_lt (w - r) capacity ≡ true = grind (arith, nat_tests, near) in
-        let b : (w == 2 ^ 64 - 1) ≡ false = ne_eqb w (2 ^ 64 - 1) position in
-        λ i. a i && not (b i)) in
-        (last_fits, sym takes, comes_in ∙ sym (let_in value (list words) _ _ takes))
+    last_pushed = grind (arith, takes_more, takes_numbers, false, ne_eqb, last_fits, comes_in, let_in, nat_tests)
 
     goes : Ends (suc (suc (suc (suc (size - 1))))) true last (first_push capacity) words
-    goes =
-        let n : suc (size - 1) ≡ size = omega arith in
-        let apart : distance w r ≢ capacity = λ e. let b = fits.behind in let f = fits.fits in absurd (omega arith) in
-        subst (λ k. Ends (suc (suc (suc (suc (size - 1))))) true
-        (slice_set (stored words cell (words_of value) 0 k) 0 (after_position w)) (first_push capacity) words)
-        n (goes_in (size - 1) n words position room apart)
+    goes = grind (arith, suc, stored, goes_in)
 
   abbrev pub PushRuns : Push V → List ℕ → Type 0
   PushRuns call words =

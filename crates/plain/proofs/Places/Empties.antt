@@ -46,12 +46,7 @@ zero_at (suc n) (suc j) = zero_at n j
 -- words that are all 0
 pub opened : (capacity n : ℕ) (words : List ℕ) → words ≡ replicate n 0
     → places_in capacity words ≡ unset capacity
-opened capacity n words is =
-    let flags = none_of (stands words) capacity 0
-    (λ q low high. ap (λ ws. has_flag (slice_index ws (element_of q)) q) is
-    ∙ (ap (λ w. has_flag w q) (zero_at n (element_of q)) ∙ none_stands q)) in
-    let start : slice_index words 0 ≡ 0 = ap (λ ws. slice_index ws 0) is ∙ zero_at n 0 in
-    λ i. record { flags = flags i; start = start i }
+opened x0 x1 x2 x3 = grind (arith, none_of, stands, has_flag, zero_at, none_stands)
 
 module _ {F : Type 0} (pre : F → ℕ → Type 0) (step : F → ℕ → Unit {0} → F → Type 0)
     (capacity : ℕ) (before : List ℕ) (first : F) where
@@ -75,18 +70,7 @@ module _ {F : Type 0} (pre : F → ℕ → Type 0) (step : F → ℕ → Unit {0
 
   pub begins : Represents capacity before → Takes pre step (standing (places_in capacity before)) first
       → (call : ResetAll) → call ≡ all_bits capacity → Emptying 0 call 0 before first
-  begins fits takes call is =
-      record {
-        fits = fits;
-        at = λ low. is;
-        long = refl;
-        swept = λ j some low. absurd (omega arith);
-        kept = λ j high. refl;
-        head = refl;
-        read = λ other. absurd (other (omega arith));
-        takes = takes;
-        calls = λ last f. f;
-      }
+  begins x0 x1 x2 x3 = grind arith
 
   -- ---- the word of a place has been swapped
 
@@ -106,65 +90,23 @@ module _ {F : Type 0} (pre : F → ℕ → Type 0) (step : F → ℕ → Unit {0
 
   pub goes_in : (place : ℕ) (call : ResetAll) (found : ℕ) (words : List ℕ) (visit : F) → place % 64 ≢ 0
       → Emptying place call found words visit → Swapped place call found words visit
-  goes_in place call found words visit inside h =
-      let same : next_word place ≡ next_word (place + 1) = omega (arith, inside) in
-      record {
-        fits = h.fits;
-        at = subst (λ n. n < 1 + elements capacity → call ≡ record { word = n; end = 1 + elements capacity }) same h.at;
-        long = h.long;
-        swept = λ j some low. h.swept j some (omega arith);
-        kept = λ j high. h.kept j (omega arith);
-        head = h.head;
-        read = h.read inside;
-        takes = h.takes;
-        calls = h.calls;
-      }
+  goes_in x0 x1 x2 x3 x4 x5 x6 = grind (arith, elements)
 
   module _ (place : ℕ) (low : place < capacity) (call next : ResetAll) (found : ℕ) (words now : List ℕ) (visit : F)
       (edge : place % 64 ≡ 0) (h : Emptying place call found words visit) where
     pub word_is : call ≡ record { word = element_of place; end = 1 + elements capacity }
-    word_is =
-        let same : next_word place ≡ element_of place = omega arith in
-        subst (λ n. call ≡ record { word = n; end = 1 + elements capacity }) same (h.at (omega arith))
+    word_is = grind (arith, elements)
 
     pub swaps : (new : ℕ) → new ≡ slice_index words (element_of place)
         → now ≡ slice_set words (element_of place) 0
         → (element_of place + 1 < 1 + elements capacity → next ≡ record { word = element_of place + 1; end = 1 + elements capacity })
         → Swapped place next new now visit
-    swaps new is written goes =
-        let fits = h.fits in
-        let long = fits.long in
-        let as_long = h.long in
-        let after : next_word (place + 1) ≡ element_of place + 1 = omega arith in
-        record {
-          fits = h.fits;
-          at = subst (λ n. n < 1 + elements capacity → next ≡ record { word = n; end = 1 + elements capacity }) (sym after) goes;
-          long = ap length written ∙ (length-set words (element_of place) 0 ∙ h.long);
-          swept = λ j some below.
-              ap (λ ws. slice_index ws j) written
-              ∙ ⊎_elim (λ (t : (eqb j (element_of place) ≡ true) × (j ≡ element_of place)).
-              subst (λ k. slice_index (slice_set words (element_of place) 0) k ≡ 0) (sym t.1)
-              (get_or-set_same words (element_of place) 0 0 (omega arith)))
-              (λ (t : (eqb j (element_of place) ≡ false) × (j ≢ element_of place)).
-              let other = t.1 in
-              get_or-set_other words (element_of place) j 0 0 other ∙ h.swept j some (omega (arith, other)))
-              (eqb_tells j (element_of place));
-          kept = λ j high.
-              ap (λ ws. slice_index ws j) written
-              ∙ (get_or-set_other words (element_of place) j 0 0 (λ e. absurd (omega arith)) ∙ h.kept j (omega arith));
-          head = ap (λ ws. slice_index ws 0) written
-              ∙ (get_or-set_other words (element_of place) 0 0 0 (λ e. absurd (omega arith)) ∙ h.head);
-          read = is ∙ h.kept (element_of place) (omega arith);
-          takes = h.takes;
-          calls = h.calls;
-        }
+    swaps x0 x1 x2 x3 = grind (arith, elements, length, length-set, get_or-set_same, false, get_or-set_other, eqb_tells)
 
   module _ (place : ℕ) (low : place < capacity) (call : ResetAll) (found : ℕ) (words : List ℕ) (visit : F)
       (h : Emptying place call found words visit) where
     pub may_swap : place % 64 ≡ 0 → call.word < call.end
-    may_swap edge =
-        subst (λ (c : ResetAll). c.word < c.end)
-        (sym (word_is place low call call found words words visit edge h)) (omega arith)
+    may_swap x0 = grind (arith, word_is)
 
     pub refilled : (next : ResetAll) (new : ℕ) (now : List ℕ)
         → (place % 64 ≡ 0 → (new ≡ slice_index words call.word) × (now ≡ slice_set words call.word 0)
@@ -194,12 +136,7 @@ module _ {F : Type 0} (pre : F → ℕ → Type 0) (step : F → ℕ → Unit {0
 
     left_is : (b : Bool) → has_flag found place ≡ b
         → left place ≡ (if b then place ∷ left (place + 1) else left (place + 1))
-    left_is b is =
-        let next : suc place ≡ place + 1 = omega arith in
-        ap (standing_from place) (rest_of place (flags_in capacity before) (let n = flags_length capacity before in omega arith))
-        ∙ (λ i. if (flag ∙ is) i
-        then place ∷ standing_from (place + 1) (drop (next i) (flags_in capacity before))
-        else standing_from (place + 1) (drop (next i) (flags_in capacity before)))
+    left_is x0 x1 = grind (arith, suc, rest_of, flags_length, flag, drop)
 
     both : has_flag found place ≡ true → Takes pre step (place ∷ left (place + 1)) visit
     both some = subst (λ xs. Takes pre step xs visit) (left_is true some) h.takes
@@ -242,21 +179,16 @@ module _ {F : Type 0} (pre : F → ℕ → Type 0) (step : F → ℕ → Unit {0
 
   module _ (call : ResetAll) (found : ℕ) (words : List ℕ) (visit : F) (h : Emptying capacity call found words visit) where
     none : (q : ℕ) → 0 ≤ q → q < 0 + capacity → stands words q ≡ false
-    none q from below =
-        ap (λ w. has_flag w q) (h.swept (element_of q) (omega arith) (omega arith)) ∙ none_stands q
+    none x0 x1 x2 = grind (arith, has_flag, none_stands)
 
     flags_are : flags_in capacity words ≡ replicate (length (flags_in capacity before)) false
-    flags_are =
-        none_of (stands words) capacity 0 none
-        ∙ ap (λ n. replicate n false) (sym (flags_length capacity before))
+    flags_are = grind (arith, none_of, stands, none, false, flags_length)
 
     pub all_emptied : places_in capacity words ≡ emptied (places_in capacity before)
     all_emptied = λ i. record { flags = flags_are i; start = h.head i }
 
     pub still_fits : Represents capacity words
-    still_fits =
-        let fits = h.fits in
-        record { long = h.long ∙ fits.long; small = fits.small; start = subst (λ n. n ≤ capacity) (sym h.head) fits.start }
+    still_fits = grind arith
 
     pub all_called : WasCalled step (standing (places_in capacity before)) first
     all_called =

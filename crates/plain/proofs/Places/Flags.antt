@@ -56,8 +56,7 @@ module _ (capacity : ℕ) (words : List ℕ) where
 pub same_flags : (capacity : ℕ) (ws vs : List ℕ)
     → ((p : ℕ) → slice_index vs (element_of p) ≡ slice_index ws (element_of p))
     → flags_in capacity vs ≡ flags_in capacity ws
-same_flags capacity ws vs same =
-    map_same (stands ws) (stands vs) capacity 0 (λ p low high. ap (λ w. has_flag w p) (same p))
+same_flags x0 x1 x2 x3 = grind (arith, map_same, stands, has_flag)
 
 -- ---- one flag of the words changes
 
@@ -73,20 +72,10 @@ module _ (words : List ℕ) (place new : ℕ) (near : element_of place < length 
       ap (λ w. has_flag w place) (get_or-set_same words (element_of place) new 0 near) ∙ is
 
   elsewhere : (q : ℕ) → element_of q ≢ element_of place → stands now q ≡ stands words q
-  elsewhere q other =
-      ap (λ w. has_flag w q) (get_or-set_other words (element_of place) (element_of q) new 0 other)
+  elsewhere x0 x1 = grind (arith, has_flag, get_or-set_other)
 
   pub unchanged : (q : ℕ) → q ≢ place → stands now q ≡ stands words q
-  unchanged q other =
-      ⊎_elim
-      (λ (t : (eqb (element_of q) (element_of place) ≡ true) × (element_of q ≡ element_of place)).
-      let e = t.1 in
-      ap (λ (k : ℕ). has_flag (slice_index now k) q) e
-      ∙ (ap (λ w. has_flag w q) (get_or-set_same words (element_of place) new 0 near)
-      ∙ (leaves q (λ bits. other (omega arith))
-      ∙ ap (λ (k : ℕ). has_flag (slice_index words k) q) (sym e))))
-      (λ t. elsewhere q t.1)
-      (eqb_tells (element_of q) (element_of place))
+  unchanged x0 x1 = grind (arith, has_flag, get_or-set_same, elsewhere, eqb_tells)
 
   pub flags_change : (capacity : ℕ) → place < capacity
       → flags_in capacity now ≡ slice_set (flags_in capacity words) place b

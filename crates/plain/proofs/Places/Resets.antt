@@ -61,14 +61,10 @@ module _ (capacity : ℕ) (words : List ℕ) (fits : Represents capacity words) 
   tail_at i = get_or-drop start flags i false
 
   ahead : (j : ℕ) → start + j < capacity → at j ≡ start + j
-  ahead j low =
-      let t : nat_lt (start + j) capacity ≡ true = grind (arith, nat_tests, low) in
-      ap (λ b. if b then start + j else start + j - capacity) t
+  ahead x0 x1 = grind (arith, nat_tests)
 
   behind : (j : ℕ) → capacity ≤ start + j → at j ≡ start + j - capacity
-  behind j high =
-      let t : nat_lt (start + j) capacity ≡ false = grind (arith, nat_tests, high) in
-      ap (λ b. if b then start + j else start + j - capacity) t
+  behind x0 x1 = grind (arith, false, nat_tests)
 
   clear_tail : (k : ℕ) → Clear k → (i : ℕ) → i < k → start + i < capacity
       → slice_index_or (drop start flags) i false ≡ false
@@ -77,11 +73,7 @@ module _ (capacity : ℕ) (words : List ℕ) (fits : Represents capacity words) 
 
   -- all of the tail, where the search has come round
   tail_empty : (k : ℕ) → Clear k → capacity ≤ start + k → standing_from start (drop start flags) ≡ []
-  tail_empty k clear round =
-      none_standing start (drop start flags)
-      (λ i. ⊎_elim (λ (inside : start + i < capacity). clear_tail k clear i (omega arith) inside)
-      (λ (out : capacity ≤ start + i). tail_at i ∙ flag_past capacity words (start + i) out)
-      (cases_lt (start + i) capacity))
+  tail_empty x0 x1 x2 = grind (arith, none_standing, drop, clear_tail, tail_at, flag_past)
 
   -- of the places below the start, those that were passed
   clear_head : (k : ℕ) → Clear k → (p : ℕ) → p < capacity → (p + capacity < start + k) ⊎ ((start ≤ p) × (capacity ≤ start + k))
@@ -180,10 +172,7 @@ module _ (capacity : ℕ) (words : List ℕ) (fits : Represents capacity words) 
     last = slice_set cleared 0 (after_position place)
 
     within : place < capacity
-    within =
-        let s = fits.start in
-        ⊎_elim (λ (h : start + k < capacity). let e = ahead k h in omega arith)
-        (λ (h : capacity ≤ start + k). let e = behind k h in omega arith) (cases_lt (start + k) capacity)
+    within = grind (arith, ahead, behind)
 
     near : element_of place < length words
     near = let long = fits.long in let w = within in omega arith
@@ -225,27 +214,11 @@ module _ (capacity : ℕ) (words : List ℕ) (fits : Represents capacity words) 
         }
 
   one_more_clear : (k : ℕ) → Clear k → stands words (at k) ≡ false → Clear (k + 1)
-  one_more_clear k clear is j low =
-      ⊎_elim (λ (h : j < k). clear j h)
-      (λ (h : k ≤ j). let e : j ≡ k = omega arith in ap (λ m. stands words (at m)) e ∙ is) (cases_lt j k)
+  one_more_clear x0 x1 x2 x3 x4 = grind (arith, stands)
 
   -- the last place is clear
   comes_round : (k : ℕ) → k + 1 ≡ capacity → Clear k → stands words (at k) ≡ false → Comes 3 k
-  comes_round k is clear not_there =
-      let now = one_more_clear k clear not_there in
-      let none = none_is (λ j low. now j (omega arith)) in
-      record {
-        steps = 1;
-        few = omega arith;
-        end = None;
-        last = words;
-        ends = by_test (λ a. From 0 None words a words) (has_flag (slice_index words (element_of (at k))) (at k)) _ _
-            (λ t. absurd (true≢false (sym t ∙ not_there)))
-            (λ _. by_test (λ a. From 0 None words a words) (nat_lt (k + 1) capacity) _ _
-            (λ t. let more : k + 1 < capacity = grind (arith, nat_tests, t) in absurd (omega arith))
-            (λ _. (refl, refl, refl)));
-        holds = (fits, sym none, sym (ap (without (places_in capacity words)) none));
-      }
+  comes_round x0 x1 x2 x3 = grind (arith, one_more_clear, none_is, by_test, has_flag, true≢false, without, nat_tests)
 
   -- a place is clear, and there is a further one
   comes_on : (most k : ℕ) → k + 1 < capacity → stands words (at k) ≡ false → Comes most (k + 1)
@@ -281,19 +254,7 @@ module _ (capacity : ℕ) (words : List ℕ) (fits : Represents capacity words) 
       (λ end room last. BehavesAs (Represents capacity) (places_in capacity) next_place after_next words end last) call tt words
 
   nowhere : capacity ≡ 0 → ResetRuns (first_reset capacity)
-  nowhere is =
-      let none = none_is (λ j low. absurd (omega arith)) in
-      let t : nat_lt 0 capacity ≡ false = grind (arith, nat_tests, is) in
-      record {
-        steps = 1;
-        few = omega arith;
-        end = None;
-        last_room = tt;
-        last_words = words;
-        ends = by_test (λ a. From 0 None words a words) (nat_lt 0 capacity) _ _
-            (λ more. absurd (true≢false (sym more ∙ t))) (λ _. (refl, refl, refl));
-        holds = (fits, sym none, sym (ap (without (places_in capacity words)) none));
-      }
+  nowhere x0 = grind (arith, none_is, false, by_test, true≢false, without, nat_tests)
 
   from_start : (n : ℕ) → suc n ≡ capacity → ResetRuns (first_reset capacity)
   from_start n is =

@@ -36,23 +36,7 @@ module _ (capacity place : ℕ) (low : place < capacity) (words : List ℕ) (fit
   near = let long = fits.long in omega arith
 
   stood : has_flag found place ≡ true → SetRuns first_set
-  stood is =
-      let same : flags_in capacity words ≡ slice_set (flags_in capacity words) place true =
-      map_changed (stands words) (stands words) true capacity 0 place place low (omega arith) is (λ q ne. refl) in
-      record {
-        steps = 1;
-        few = omega arith;
-        end = false;
-        last_room = tt;
-        last_words = words;
-        ends = by_test (λ a. From 0 false words a words) (has_flag found place) _ _
-            (λ _. (refl, refl, refl)) (λ t. absurd (true≢false (sym is ∙ t)));
-        holds = (
-          fits,
-          sym (ap not (flag_at capacity words place low ∙ is)),
-          λ i. record { flags = same i; start = slice_index words 0 },
-        );
-      }
+  stood x0 = grind (arith, map_changed, stands, false, by_test, has_flag, true≢false, flag_at)
 
   clear : has_flag found place ≡ false → SetRuns first_set
   clear is =

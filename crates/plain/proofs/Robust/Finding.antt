@@ -88,8 +88,7 @@ module _ {F : Type 0} (step : F → ℕ → CallbackProgression → F → Type 0
   module _ (done : ℕ) (call : Find) (now : F) (so_far : Finding done call now) (last : List ℕ) where
     pub ended : (n : ℕ) → StopsAt capacity owner g cells long few lives done so_far.left (stops.TheVariants.Ended n) last
         → HasFound step all f n now × (last ≡ g ∷ cells)
-    ended n t =
-        (found_all so_far.before now n (ap (λ l. so_far.before ++ l) (sym t.0) ∙ so_far.joined) so_far.calls (t.1 ∙ sym so_far.number), t.2)
+    ended x0 x1 = grind (arith, found_all)
 
     module _ (question : Question (Unit {0})) (asks : Find)
         (at : StopsAt capacity owner g cells long few lives done so_far.left (stops.TheVariants.Asked question asks) last) where
@@ -150,16 +149,7 @@ module _ {F : Type 0} (step : F → ℕ → CallbackProgression → F → Type 0
       HasFound step (indices_of (owners_in first) owner) f n now × (words ≡ first)
 
   pub starts : (first : List ℕ) (call : Find) → call ≡ first_find capacity → Represents capacity first → owner < empty → Searching first 0 call f first
-  starts [] call is fits lives = let e : 0 ≡ 1 + capacity = fits.long in absurd (omega arith)
-  starts (g ∷ cells) call is fits lives =
-      let long : length cells ≡ capacity = let e : suc (length cells) ≡ 1 + capacity = fits.long in omega arith in (
-        long,
-        fits.few,
-        lives,
-        refl,
-        subst (λ c. Finding step f capacity owner g cells long fits.few lives 0 c f) (sym is)
-            (begins step f capacity owner g cells long fits.few lives fits.some),
-      )
+  starts x0 x1 x2 x3 x4 = grind (arith, length, suc, begins)
 
   abbrev kept : Find → Unit {0} → ℕ → Unit {0}
   kept c room old = room
@@ -169,10 +159,7 @@ module _ {F : Type 0} (step : F → ℕ → CallbackProgression → F → Type 0
 
   pub can_go : (first : List ℕ) (done : ℕ) (call : Find) (now : F) (words : List ℕ) → Searching first done call now words
       → CanStop want find_after kept owner call tt words
-  can_go [] done call now words t = absurd t
-  can_go (g ∷ cells) done call now words t =
-      subst (λ ws. CanStop want find_after kept owner call tt ws) (sym t.3)
-      (can_stop want find_after kept owner _ call tt (g ∷ cells) t.4.run)
+  can_go x0 x1 x2 x3 x4 x5 = grind (arith, can_stop)
 
   pub ended_so : (first : List ℕ) (done : ℕ) (call : Find) (now : F) (words : List ℕ) (n : ℕ) (r : Unit {0}) (last : List ℕ)
       → Searching first done call now words
@@ -200,8 +187,7 @@ module _ {F : Type 0} (step : F → ℕ → CallbackProgression → F → Type 0
   further : (g : ℕ) (cells : List ℕ) (long : length cells ≡ capacity) (few : capacity < 2 ^ 32) (lives : owner < empty) (done : ℕ)
       (a : After Find ℕ) (now : F) (words : List ℕ) → words ≡ g ∷ cells
       → Onward step f capacity owner g cells long few lives done a now → Further (g ∷ cells) done a now words
-  further g cells long few lives done (GoOn call) now words same h = (long, few, lives, same, h)
-  further g cells long few lives done (Done n) now words same h = (h, same)
+  further x0 x1 x2 x3 x4 x5 x6 x7 x8 x9 x10 = grind arith
 
   pub goes_further : (first : List ℕ) (done : ℕ) (call : Find) (now : F) (words : List ℕ)
       (question : Question (Unit {0})) (asks : Find) (r : Unit {0}) (last : List ℕ)
@@ -230,8 +216,7 @@ module _ {F : Type 0} (step : F → ℕ → CallbackProgression → F → Type 0
 
   -- it does not go on for ever
   pub few_rounds : (first : List ℕ) (done : ℕ) (call : Find) (now : F) (words : List ℕ) → Searching first done call now words → done < 2 ^ 64 - 1
-  few_rounds [] done call now words t = absurd t
-  few_rounds (g ∷ cells) done call now words t = let low = t.4.low in let few = t.1 in omega arith
+  few_rounds x0 x1 x2 x3 x4 x5 = grind arith
 
 pub takes_at : {F : Type 0} {pre : F → ℕ → Type 0} {step : F → ℕ → CallbackProgression → F → Type 0} {a b : List ℕ} {f : F}
     → a ≡ b → TakesIndices pre step a f → TakesIndices pre step b f

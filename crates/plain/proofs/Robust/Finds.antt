@@ -25,13 +25,7 @@ module _ (owner : ℕ) where
   mine index rest = mine_in (taken_from index (map owner_in rest))
 
   pub hits : (index c : ℕ) (rest : List ℕ) → owner < empty → c ≡ owner → mine index (c ∷ rest) ≡ index ∷ mine (index + 1) rest
-  hits index c rest lives e =
-      ap (λ o. mine_in (taken_from index (o ∷ map owner_in rest))) (owner_some c (λ x. absurd (omega arith)))
-      ∙ ap (λ b. map (λ (o : Owned). o.index)
-      (cond b
-      (record { owner = c; index = index } ∷ filter (λ (o : Owned). o.owner == owner) (taken_from (index + 1) (map owner_in rest)))
-      (filter (λ (o : Owned). o.owner == owner) (taken_from (index + 1) (map owner_in rest)))))
-      (eq-eqb c owner e)
+  hits x0 x1 x2 x3 x4 = grind (arith, taken_from, map, owner_some, cond, filter, eq-eqb)
 
   pub misses : (index c : ℕ) (rest : List ℕ) → c ≢ owner → mine index (c ∷ rest) ≡ mine (index + 1) rest
   misses index c rest n =

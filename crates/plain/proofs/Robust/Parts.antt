@@ -56,21 +56,15 @@ pub next_cell : (g i : ℕ) (cells : List ℕ) → slice_index (g ∷ cells) (ce
 next_cell g i cells = ap (slice_index (g ∷ cells)) (let e : 1 + i ≡ suc i = omega arith in e)
 
 pub next_set : (g i x : ℕ) (cells : List ℕ) → slice_set (g ∷ cells) (cell_word i) x ≡ g ∷ slice_set cells i x
-next_set g i x cells = ap (λ k. slice_set (g ∷ cells) k x) (let e : 1 + i ≡ suc i = omega arith in e)
+next_set x0 x1 x2 x3 = grind (arith, suc)
 
 -- ---- raise
 
 pub next_below : (g : ℕ) → g ≢ locked → g ≢ greatest → g < 2 ^ 64 → next_generation g ≡ one_more g
-next_below g other less small =
-    let low : g < greatest = omega (arith, other, less) in
-    let t : nat_lt g greatest ≡ true = grind (arith, nat_tests, low) in
-    let more : g + 1 ≡ one_more g = omega arith in
-    ap (λ b. if b then g + 1 else g) t ∙ more
+next_below x0 x1 x2 x3 = grind (arith, greatest, one_more, nat_tests)
 
 pub next_there : (g : ℕ) → greatest ≤ g → next_generation g ≡ g
-next_there g far =
-    let t : nat_lt g greatest ≡ false = grind (arith, nat_tests, far) in
-    ap (λ b. if b then g + 1 else g) t
+next_there x0 x1 = grind (arith, greatest, false, nat_tests)
 
 module _ (g : ℕ) (cells : List ℕ) (small : g < 2 ^ 64) where
   -- the exchange of the counter succeeds
@@ -80,20 +74,10 @@ module _ (g : ℕ) (cells : List ℕ) (small : g < 2 ^ 64) where
   pub raise_walks : (P : ReleaseState → List ℕ → Type 0)
       → (g ≡ locked → P Locked (next_generation g ∷ cells)) → (g ≢ locked → P Unlocked (next_generation g ∷ cells))
       → Walks raise_want raise_after 2 (OnEnd P) raises.TheVariants.LoadsCounter (g ∷ cells)
-  raise_walks P shut opens =
-      by_eq (λ a. Goes raise_want raise_after 1 (OnEnd P) a (g ∷ cells)) g locked _ _
-      (λ e. subst (λ n. P Locked (n ∷ cells)) (next_there g (omega arith)) (shut e))
-      (λ other. by_eq (λ a. Goes raise_want raise_after 1 (OnEnd P) a (g ∷ cells)) g greatest _ _
-      (λ e. subst (λ n. P Unlocked (n ∷ cells)) (next_there g (omega arith)) (opens other))
-      (λ less. subst (λ ws. Goes raise_want raise_after 0 (OnEnd P) (if g == g then Done Unlocked else raise_sees g) ws) (sym (exchanged (one_more g)))
-      (by_eq (λ a. Goes raise_want raise_after 0 (OnEnd P) a (one_more g ∷ cells)) g g _ _
-      (λ _. subst (λ n. P Unlocked (n ∷ cells)) (next_below g other less small) (opens other))
-      (λ no. absurd (no refl)))))
+  raise_walks x0 x1 x2 = grind (arith, by_eq, locked, next_there, greatest, exchanged, one_more, next_below)
 
 pub next_small : (g : ℕ) → g < 2 ^ 64 → next_generation g < 2 ^ 64
-next_small g small =
-    by_test (λ n. n < 2 ^ 64) (nat_lt g greatest) (g + 1) g
-    (λ t. let low : g < greatest = grind (arith, nat_tests) in omega arith) (λ _. small)
+next_small x0 x1 = grind (arith, by_test, greatest, nat_tests)
 
 -- ---- words and owners
 
@@ -114,9 +98,7 @@ locking g cells =
     if (number cells == 0) && not (next_generation g == greatest) then locked else next_generation g
 
 pub locking_small : (g : ℕ) (cells : List ℕ) → g < 2 ^ 64 → locking g cells < 2 ^ 64
-locking_small g cells small =
-    by_test (λ n. n < 2 ^ 64) ((number cells == 0) && not (next_generation g == greatest)) locked (next_generation g)
-    (λ _. omega arith) (λ _. next_small g small)
+locking_small x0 x1 x2 = grind (arith, by_test, greatest, locked, next_small)
 
 abbrev pub state_number : ℕ → ReleaseState
 state_number n = if n == locked then Locked else Unlocked
@@ -172,11 +154,7 @@ module _ (capacity g : ℕ) (cells : List ℕ) (small : g < 2 ^ 64) (long : leng
   -- ---- lock
 
   next_open : g ≢ locked → next_generation g ≢ locked
-  next_open other e =
-      ⊎_elim (λ (low : g < greatest).
-      let b = next_below g other (λ e. absurd (omega arith)) small in absurd (omega arith))
-      (λ (far : greatest ≤ g). let t = next_there g far in absurd (omega (arith, other)))
-      (cases_lt g greatest)
+  next_open x0 x1 = grind (arith, next_below, next_there)
 
   pub lock_walks : (P : ReleaseState → List ℕ → Type 0) → P (state_number (locking g cells)) ((locking g cells) ∷ cells)
       → Walks lock_want (lock_after capacity) (plus (suc (suc (suc (length cells)))) 1) (OnEnd P) first_lock (g ∷ cells)

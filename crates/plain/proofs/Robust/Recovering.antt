@@ -56,12 +56,7 @@ taken_base i j (None ∷ os) = taken_base (i + 1) (j + 1) os
 taken_base i j (Some o ∷ os) = ap suc (taken_base (i + 1) (j + 1) os)
 
 taken_less : (i k : ℕ) (o : Option ℕ) (os : List (Option ℕ)) → length (taken_from i os) ≤ length (taken_from k (o ∷ os))
-taken_less i k None os =
-    let h = taken_base i (k + 1) os in
-    let z : length (taken_from i os) ≤ length (taken_from (k + 1) os) = omega arith in z
-taken_less i k (Some o) os =
-    let h = taken_base i (k + 1) os in
-    let z : length (taken_from i os) ≤ suc (length (taken_from (k + 1) os)) = omega arith in z
+taken_less x0 x1 x2 x3 = grind (arith, taken_base, length, taken_from, suc)
 
 -- the taken ones from a place on are among all
 taken_within : (n i k : ℕ) (cells : List ℕ) → length (taken_from i (map owner_in (drop n cells))) ≤ length (taken_from k (map owner_in cells))
@@ -79,14 +74,7 @@ none_left [] low = refl
 none_left (x ∷ xs) low = absurd (omega arith)
 
 next_opens : (g : ℕ) → g < 2 ^ 64 → g ≢ locked → next_generation g ≢ locked
-next_opens g small other e =
-    ⊎_elim
-    (λ (t : ((g == greatest) ≡ true) × (g ≡ greatest)). let far : greatest ≤ g = (let x = t.1 in omega arith) in
-    let n = next_there g far in
-    let x = t.1 in
-    absurd (omega arith))
-    (λ (t : ((g == greatest) ≡ false) × (g ≢ greatest)). let n = next_below g other t.1 small in let x = t.1 in absurd (omega (arith, other, x)))
-    (eqb_tells g greatest)
+next_opens x0 x1 x2 x3 = grind (arith, greatest, next_there, false, next_below, eqb_tells)
 
 -- a lock leaves nothing to ask about
 pub locked_leaves : (mode : ReleaseMode) (g : ℕ) (emptied : List ℕ) (n i : ℕ) → g < 2 ^ 64 → g ≢ locked → counter_then mode g emptied ≡ locked
@@ -112,9 +100,7 @@ pub questions_more : (xs : List Asked) (a : Asked) → said.questions (xs ++ a �
 questions_more xs a = map-append (λ (a : Asked). a.of) xs (a ∷ [])
 
 agreed_more : (xs ys : List Asked) → agreed (xs ++ ys) ≡ agreed xs ++ agreed ys
-agreed_more xs ys =
-    ap (map (λ (a : Asked). a.of)) (filter-append (λ (a : Asked). a.yes) xs ys)
-    ∙ map-append (λ (a : Asked). a.of) (filter (λ (a : Asked). a.yes) xs) (filter (λ (a : Asked). a.yes) ys)
+agreed_more x0 x1 = grind (arith, map, filter-append, map-append, filter)
 
 pub agreed_no : (xs : List Asked) (o : Owned) → agreed (xs ++ an_answer o false ∷ []) ≡ agreed xs
 agreed_no xs o = agreed_more xs (an_answer o false ∷ []) ∙ append-nil (agreed xs)
@@ -160,26 +146,12 @@ module _ {F S : Type 0} (step : F → ℕ → ℕ → Bool → F → Type 0) (te
 
     pub ended_so : (state : ReleaseState) (r : Unit {0}) (last : List ℕ)
         → StopsAlike want recover_after kept mode call tt words (stops.TheVariants.Ended state) r last → Gone state p q last
-    ended_so state r last alike =
-        let at = stops_so want recover_after kept mode _ call tt words t.run (stops.TheVariants.Ended state) r last alike in
-        subst (Gone state p q) (sym at.2)
-        (record {
-          fits = t.fits;
-          state_is = at.1;
-          calls = record {
-            asked = t.asked;
-            all = sym (append-nil (said.questions t.asked)) ∙ (ap (λ l. said.questions t.asked ++ l) (sym at.0) ∙ t.joined);
-            answers = t.answers;
-            told = t.told;
-            next = t.map_is;
-          };
-        })
+    ended_so x0 x1 x2 x3 = grind (arith, stops_so, append-nil)
 
     pub asks_so : (question : Question (Unit {0})) (put : Recover) (r : Unit {0}) (last : List ℕ)
         → StopsAlike want recover_after kept mode call tt words (stops.TheVariants.Asked question put) r last
         → AsksAt capacity t.g t.cells t.left question put last
-    asks_so question put r last alike =
-        stops_so want recover_after kept mode _ call tt words t.run (stops.TheVariants.Asked question put) r last alike
+    asks_so x0 x1 x2 x3 x4 = grind (arith, stops_so)
 
   -- ---- at a question
 
@@ -198,21 +170,16 @@ module _ {F S : Type 0} (step : F → ℕ → ℕ → Bool → F → Type 0) (te
     asked_so = ap (λ l. said.questions t.asked ++ l) (sym at.left_is) ∙ t.joined
 
     joined_then : (b : Bool) → said.questions (t.asked ++ an_answer it b ∷ []) ++ left_then ≡ to_recover old
-    joined_then b =
-        ap (λ l. l ++ left_then) (questions_more t.asked (an_answer it b))
-        ∙ (append_assoc (said.questions t.asked) (it ∷ []) left_then ∙ asked_so)
+    joined_then x0 = grind (arith, questions_more, append_assoc, asked_so)
 
     number_then : (b : Bool) → length (t.asked ++ an_answer it b ∷ []) ≡ done + 1
     number_then b = length-append t.asked (an_answer it b ∷ []) ∙ ap (λ n. n + 1) t.number
 
     opens : t.g ≢ locked
-    opens e = let none = t.shut e in
-        let some = at.left_is in
-        absurd
-        (let l : length t.left ≡ 0 = ap length none in let m : length t.left ≡ suc (length left_then) = ap length some in omega arith)
+    opens x0 = grind (arith, length, suc)
 
     short : length at.rest ≤ capacity
-    short = let l = length-drop (at.index + 1) t.cells in let e = ap length at.rest_is in let k = long in omega arith
+    short = grind (arith, length-drop, length, long)
 
     on_no : (p₂ : F) → step p at.owner at.index false p₂
         → Recovering (done + 1)
@@ -340,21 +307,11 @@ module _ {F S : Type 0} (step : F → ℕ → ℕ → Bool → F → Type 0) (te
 
       onward : (b : Bool) (p₂ : F) (q₂ : S) → step p owner index b p₂ → (IsTrue b → tell q owner index q₂) → (IsFalse b → q₂ ≡ q)
           → Onward p₂ q₂ (recover_after put mode (if b then 1 else 0))
-      onward true p₂ q₂ called told passed =
-          subst (λ c. Onward p₂ q₂ (recover_after c mode 1)) (sym at.stands)
-          (on_yes p₂ q₂ (subst (λ (z : ℕ × ℕ). step p z.0 z.1 true p₂) (λ i. (owner_is i, index_is i)) called)
-          (subst (λ (z : ℕ × ℕ). tell q z.0 z.1 q₂) (λ i. (owner_is i, index_is i)) (told refl)))
-      onward false p₂ q₂ called told passed =
-          subst (λ c. Onward p₂ q₂ (recover_after c mode 0)) (sym at.stands)
-          (subst
-          (λ z. Onward p₂ z (recover_after (at_recover (first_recover capacity) (recovers.TheVariants.Asks at.index at.owner)) mode 0))
-          (sym (passed refl))
-          (on_no p₂ (subst (λ (z : ℕ × ℕ). step p z.0 z.1 false p₂) (λ i. (owner_is i, index_is i)) called)))
+      onward x0 x1 x2 x3 x4 x5 = grind (arith, on_yes, owner_is, index_is, on_no)
 
       pub onward_so : (agrees : Bool) (p₂ : F) (q₂ : S) → step p owner index agrees p₂ → (IsTrue agrees → tell q owner index q₂) → (IsFalse agrees → q₂ ≡ q)
           → (answer : ℕ) → answer ≡ (if agrees then 1 else 0) → (b : After Recover ReleaseState) → b ≡ recover_after put mode answer → Onward p₂ q₂ b
-      onward_so agrees p₂ q₂ called told passed answer said_so b goes =
-          subst (Onward p₂ q₂) (sym (goes ∙ ap (recover_after put mode) said_so)) (onward agrees p₂ q₂ called told passed)
+      onward_so x0 x1 x2 x3 x4 x5 x6 x7 x8 x9 = grind (arith, onward)
 
 -- ---- as it begins
 

@@ -115,9 +115,7 @@ module _ (capacity g : ℕ) (cells : List ℕ) (small : g < 2 ^ 64) (long : leng
   then_on : (mode : ReleaseMode) (n : ℕ)
       → Goes (λ c. recover_want c) (λ c old. recover_after c mode old) scan (StopsAt capacity n emptied left_then)
       (recover_comes_to (first_recover capacity) (index + 1)) (n ∷ emptied)
-  then_on mode n =
-      recovers_on capacity mode n emptied emptied_long rest (index + 1) left_then
-      (drop-set-lt (index + 1) cells index empty (let t : index < index + 1 = omega arith in t) ∙ rest_is) refl
+  then_on x0 x1 = grind (arith, recovers_on, emptied_long, drop-set-lt, empty)
 
   locks_on : (counter : ℕ) → counter < 2 ^ 64
       → Ends LockIfLastIndex rounds (locking counter emptied) (at (recovers.TheVariants.Locks index first_lock)) (counter ∷ emptied)
@@ -149,14 +147,4 @@ module _ (capacity g : ℕ) (cells : List ℕ) (small : g < 2 ^ 64) (long : leng
   -- from a yes to the next question, or to the end
   pub frees_on : (mode : ReleaseMode) (owner : ℕ) → slice_index (g ∷ cells) (cell_word index) ≡ owner
       → Ends mode (suc (suc (suc rounds))) (counter_then mode g emptied) (at (recovers.TheVariants.EmptiesCell index owner)) (g ∷ cells)
-  frees_on mode owner is =
-      by_eq (λ a. Goes (λ c. recover_want c) (λ c old. recover_after c mode old) (suc (suc rounds))
-      (StopsAt capacity (counter_then mode g emptied) emptied left_then) a
-      (if slice_index (g ∷ cells) (cell_word index) == owner then slice_set (g ∷ cells) (cell_word index) empty else g ∷ cells))
-      (slice_index (g ∷ cells) (cell_word index)) owner _ _
-      (λ e. subst (λ ws. Ends mode (suc (suc rounds)) (counter_then mode g emptied) (at (recovers.TheVariants.Raises index raises.TheVariants.LoadsCounter)) ws)
-      (sym (ap (λ b. if b then slice_set (g ∷ cells) (cell_word index) empty else g ∷ cells)
-      (eq-eqb (slice_index (g ∷ cells) (cell_word index)) owner e)
-      ∙ next_set g index empty cells))
-      (raises_on mode))
-      (λ other. absurd (other is))
+  frees_on x0 x1 x2 = grind (arith, by_eq, suc, empty, eq-eqb, next_set, raises_on)

@@ -37,23 +37,15 @@ pick_generation false os m n = refl
 without_is : (g : ℕ) (cells : List ℕ) (index : ℕ)
     → without (owners_in (g ∷ cells)) index
     ≡ owners_in (next_generation g ∷ slice_set cells index empty)
-without_is g cells index =
-    let e : slice_set (map owner_in cells) index None ≡ map owner_in (slice_set cells index empty) =
-    ap (slice_set (map owner_in cells) index) (sym (owner_free empty refl)) ∙ sym (map-set owner_in cells index empty) in
-    λ i. record { owners = e i; generation = next_generation g }
+without_is x0 x1 x2 = grind (arith, map, empty, owner_free, map-set)
 
 pub given_back_is : (mode : ReleaseMode) (g : ℕ) (cells : List ℕ) (index : ℕ)
     → given_back mode (owners_in (g ∷ cells)) index
     ≡ owners_in (counter_then mode g (slice_set cells index empty) ∷ slice_set cells index empty)
-given_back_is Default g cells index = without_is g cells index
-given_back_is LockIfLastIndex g cells index =
-    ap locked_if_none (without_is g cells index)
-    ∙ pick_generation ((number (slice_set cells index empty) == 0) && not (next_generation (next_generation g) == greatest))
-    (map owner_in (slice_set cells index empty)) locked (next_generation (next_generation g))
+given_back_is x0 x1 x2 x3 = grind (arith, without_is, pick_generation, number, empty, greatest, map, locked)
 
 pub counter_small : (mode : ReleaseMode) (g : ℕ) (cells : List ℕ) → g < 2 ^ 64 → counter_then mode g cells < 2 ^ 64
-counter_small Default g cells small = next_small g small
-counter_small LockIfLastIndex g cells small = locking_small (next_generation g) cells (next_small g small)
+counter_small x0 x1 x2 x3 = grind (arith, next_small, locking_small)
 
 module _ (capacity index owner g : ℕ) (cells : List ℕ) (small : g < 2 ^ 64) (long : length cells ≡ capacity) (few : capacity < 2 ^ 32)
     (lives : owner < empty) (near : index < capacity) where
@@ -109,14 +101,10 @@ module _ (capacity index owner g : ℕ) (cells : List ℕ) (small : g < 2 ^ 64) 
       BehavesAs (Represents capacity) owners_in (λ s. released s index owner mode) (λ s. after_release s index owner mode) (g ∷ cells) end last
 
   owns_is : (w : ℕ) → owns (owner_in w) owner ≡ (w == owner)
-  owns_is w =
-      by_eq (λ o. owns o owner ≡ (w == owner)) w empty None (Some w)
-      (λ e. sym (ne_eqb w owner (λ same. absurd (omega arith)))) (λ _. refl)
+  owns_is x0 = grind (arith, by_eq, owns, empty, ne_eqb)
 
   has_is : has old index owner ≡ (slice_index (g ∷ cells) (cell_word index) == owner)
-  has_is =
-      ap (λ o. owns o owner) (get_or-map owner_in cells index 0 None (omega arith))
-      ∙ (owns_is (slice_index cells index) ∙ ap (λ w. w == owner) (sym (next_cell g index cells)))
+  has_is = grind (arith, owns, get_or-map, owns_is, next_cell)
 
   pub give_walks : (mode : ReleaseMode) → 1 ≤ capacity → Ends mode (suc (suc (suc fuel))) (GaveBack mode) first (g ∷ cells)
   give_walks mode some =

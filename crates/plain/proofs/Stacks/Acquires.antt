@@ -40,17 +40,11 @@ module _ (capacity : ℕ) where
   -- ---- the three ways through
 
   finds_locked : (words : List ℕ) → says_locked (slice_index words 0) ≡ true → Ends 1 (Err failures.IsLocked) words (first_acquire capacity) words
-  finds_locked words shut =
-      by_test (λ a. From 0 (Err failures.IsLocked) words a words) (says_locked (slice_index words 0)) _ _
-      (λ _. (refl, refl, refl)) (λ unlocked. absurd (true≢false (sym shut ∙ unlocked)))
+  finds_locked x0 x1 = grind (arith, by_test, true≢false)
 
   finds_none : (words : List ℕ) → says_locked (slice_index words 0) ≡ false → borrowed (slice_index words 0) ≡ capacity
       → Ends 1 (Err failures.OutOfIndices) words (first_acquire capacity) words
-  finds_none words unlocked all =
-      by_test (λ a. From 0 (Err failures.OutOfIndices) words a words) (says_locked (slice_index words 0)) _ _
-      (λ shut. absurd (true≢false (sym shut ∙ unlocked)))
-      (λ _. by_eq (λ a. From 0 (Err failures.OutOfIndices) words a words) (borrowed (slice_index words 0)) capacity _ _
-      (λ _. (refl, refl, refl)) (λ other. absurd (other all)))
+  finds_none x0 x1 x2 = grind (arith, by_test, true≢false, by_eq, borrowed)
 
   module _ (words : List ℕ) where
     abbrev h : ℕ
@@ -70,23 +64,7 @@ module _ (capacity : ℕ) where
 
     takes_top : says_locked h ≡ false → borrowed h ≢ capacity → p < capacity → claimed capacity headed p ≡ false
         → Ends 4 (Ok p) last (first_acquire capacity) words
-    takes_top unlocked some own clear =
-        let below : nat_lt p capacity ≡ true = grind (arith, nat_tests, own) in
-        let written : (if h == h then headed else words) ≡ headed = ap (λ b. if b then headed else words) (eq-eqb h h refl) in
-        by_test (λ a. From 3 (Ok p) last a words) (says_locked h) _ _
-        (λ shut. absurd (true≢false (sym shut ∙ unlocked)))
-        (λ _. by_eq (λ a. From 3 (Ok p) last a words) (borrowed h) capacity _ _
-        (λ all. absurd (some all))
-        (λ _. by_test (λ a. From 3 (Ok p) last a words) (nat_lt p capacity) _ _
-        (λ _. by_eq (λ a. From 1 (Ok p) last a (if h == h then headed else words)) h h _ _
-        (λ _. subst (λ ws. From 1 (Ok p) last (GoOn (at_acquire (first_acquire capacity) (first_claim capacity h))) ws) (sym written)
-        (by_test (λ stage. Ends 1 (Ok p) last (at_acquire (first_acquire capacity) stage) headed) (nat_lt p capacity) _ _
-        (λ _. by_test (λ a. From 0 (Ok p) last a last) (claimed capacity headed p) _ _
-        (λ stood. absurd (true≢false (sym stood ∙ clear)))
-        (λ _. (refl, refl, refl)))
-        (λ t. absurd (true≢false (sym below ∙ t)))))
-        (λ other. absurd (other refl)))
-        (λ t. absurd (true≢false (sym below ∙ t)))))
+    takes_top x0 x1 x2 x3 = grind (arith, eq-eqb, by_test, true≢false, by_eq, borrowed, claimed, nat_tests)
 
   -- ---- what it makes of the stack
 
@@ -94,30 +72,19 @@ module _ (capacity : ℕ) where
   number_of words unlocked = ap (λ b. if b then 0 else borrowed (slice_index words 0)) unlocked
 
   stays_locked : (words : List ℕ) → Represents capacity words → says_locked (slice_index words 0) ≡ true → Took words (Err failures.IsLocked) tt words
-  stays_locked words fits shut = (
-    fits,
-    sym (ap (λ b. if b then Err failures.IsLocked else top (free_in capacity words)) shut),
-    sym (ap (λ b. if b then stack_in capacity words else record (stack_in capacity words) { free = drop 1 (free_in capacity words) }) shut),
-  )
+  stays_locked x0 x1 x2 = grind (arith, top, drop)
 
   -- an unlocked set answers with the top
   answers : (words : List ℕ) → says_locked (slice_index words 0) ≡ false → acquired (stack_in capacity words) ≡ top (free_in capacity words)
-  answers words unlocked = ap (λ b. if b then Err failures.IsLocked else top (free_in capacity words)) unlocked
+  answers x0 x1 = grind (arith, top)
 
   leaves : (words : List ℕ) → says_locked (slice_index words 0) ≡ false
       → after_acquire (stack_in capacity words) ≡ record (stack_in capacity words) { free = drop 1 (free_in capacity words) }
-  leaves words unlocked = ap (λ b. if b then stack_in capacity words else record (stack_in capacity words) { free = drop 1 (free_in capacity words) }) unlocked
+  leaves x0 x1 = grind (arith, drop)
 
   stays_empty : (words : List ℕ) → Represents capacity words → says_locked (slice_index words 0) ≡ false → borrowed (slice_index words 0) ≡ capacity
       → Took words (Err failures.OutOfIndices) tt words
-  stays_empty words fits unlocked all =
-      let number = number_of words unlocked in
-      let none : capacity - borrowed_number (slice_index words 0) ≡ 0 = omega arith in
-      let free : free_in capacity words ≡ [] = ap (chain words (proposed (slice_index words 0))) none in (
-        fits,
-        sym (answers words unlocked ∙ ap top free),
-        sym (leaves words unlocked ∙ (λ i. record { capacity = capacity; free = (ap (drop 1) free ∙ sym free) i; locked = says_locked (slice_index words 0) })),
-      )
+  stays_empty x0 x1 x2 x3 = grind (arith, number_of, chain, answers, top, leaves, drop, locked)
 
   module _ (words : List ℕ) (fits : Represents capacity words) (unlocked : says_locked (slice_index words 0) ≡ false)
       (m : ℕ) (there : capacity - borrowed (slice_index words 0) ≡ suc m) where
@@ -125,7 +92,7 @@ module _ (capacity : ℕ) where
     rest = chain words (next words) m
 
     free_is : free_in capacity words ≡ p words ∷ chain words (next words) m
-    free_is = ap (λ n. chain words (p words) (capacity - n)) (number_of words unlocked) ∙ ap (chain words (p words)) there
+    free_is = grind (arith, chain, number_of)
 
     first_in : is_in (p words) (free_in capacity words) ≡ true
     first_in = ap (is_in (p words)) free_is ∙ in_first (p words) (chain words (next words) m)
@@ -140,22 +107,13 @@ module _ (capacity : ℕ) where
     new = head_taken (h words) (next words)
 
     clear : claimed capacity (headed words) (p words) ≡ false
-    clear =
-        claimed_elsewhere capacity words 0 (head_taken (h words) (next words)) (p words) (omega arith)
-        ∙ (fits.flags (p words) own ∙ ap not first_in)
+    clear = grind (arith, claimed_elsewhere, own, first_in)
 
     near : flag_word capacity (p words) < length (headed words)
-    near =
-        let long = length-set words 0 (head_taken (h words) (next words)) in
-        let all = fits.long in
-        let o = own in omega arith
+    near = grind (arith, length-set, own)
 
     head_is : slice_index (last words) 0 ≡ head_taken (h words) (next words)
-    head_is =
-        get_or-set_other (headed words) (flag_word capacity (p words)) 0
-        (bit_or (slice_index (headed words) (flag_word capacity (p words))) (flag (p words))) 0
-        (λ e. absurd (omega arith))
-        ∙ get_or-set_same words 0 (head_taken (h words) (next words)) 0 (let all = fits.long in omega arith)
+    head_is = grind (arith, get_or-set_other, flag, get_or-set_same)
 
     open_head : borrowed (h words) < locked
     open_head = let few = fits.few in omega arith
@@ -176,11 +134,7 @@ module _ (capacity : ℕ) where
     last_unlocked = ap says_locked head_is ∙ new_unlocked
 
     kept_next : (i : ℕ) → i < capacity → slice_index (last words) (next_word i) ≡ slice_index words (next_word i)
-    kept_next i low =
-        get_or-set_other (headed words) (flag_word capacity (p words)) (next_word i)
-        (bit_or (slice_index (headed words) (flag_word capacity (p words))) (flag (p words))) 0
-        (λ e. absurd (omega arith))
-        ∙ get_or-set_other words 0 (next_word i) (head_taken (h words) (next words)) 0 (λ e. absurd (omega arith))
+    kept_next x0 x1 = grind (arith, get_or-set_other, next_word, flag)
 
     last_free : free_in capacity (last words) ≡ chain words (next words) m
     last_free =
@@ -215,12 +169,7 @@ module _ (capacity : ℕ) where
         }
 
     last_took : Took words (Ok (p words)) tt (last words)
-    last_took = (
-      last_fits,
-      sym (answers words unlocked ∙ ap top free_is),
-      (λ i. record { capacity = capacity; free = (last_free ∙ ap (drop 1) (sym free_is)) i; locked = (last_unlocked ∙ sym unlocked) i })
-          ∙ sym (leaves words unlocked),
-    )
+    last_took = grind (arith, last_fits, answers, top, free_is, last_free, drop, locked, last_unlocked, leaves)
 
   runs_first : (words : List ℕ) → Represents capacity words → TakeRuns (first_acquire capacity) words
   runs_first words fits =

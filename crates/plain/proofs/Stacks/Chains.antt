@@ -68,36 +68,22 @@ chain_length ws k (suc n) = ap suc (chain_length ws (slice_index ws (next_word k
 module _ (capacity : ℕ) (words : List ℕ) where
   -- a word that is no flag word changes
   pub claimed_elsewhere : (at new i : ℕ) → at ≤ capacity → claimed capacity (slice_set words at new) i ≡ claimed capacity words i
-  claimed_elsewhere at new i low =
-      ap (λ w. has_flag w i) (get_or-set_other words at (flag_word capacity i) new 0 (λ e. absurd (omega arith)))
+  claimed_elsewhere x0 x1 x2 x3 = grind (arith, has_flag, get_or-set_other)
 
   module _ (p : ℕ) (near : flag_word capacity p < length words) where
     abbrev found : ℕ
     found = slice_index words (flag_word capacity p)
 
     pub claims : claimed capacity (slice_set words (flag_word capacity p) (bit_or found (flag p))) p ≡ true
-    claims =
-        ap (λ w. has_flag w p) (get_or-set_same words (flag_word capacity p) (bit_or found (flag p)) 0 near)
-        ∙ with_stands found p
+    claims = grind (arith, has_flag, get_or-set_same, flag, with_stands)
 
     pub frees : claimed capacity (slice_set words (flag_word capacity p) (bit_and found (2 ^ 64 - 1 - flag p))) p ≡ false
-    frees =
-        ap (λ w. has_flag w p) (get_or-set_same words (flag_word capacity p) (bit_and found (2 ^ 64 - 1 - flag p)) 0 near)
-        ∙ without_clear found p
+    frees = grind (arith, has_flag, get_or-set_same, flag, without_clear)
 
     -- the other bits of the word, and the other words, are as they were
     leaves : (new i : ℕ) → i ≢ p → (p % 64 ≢ i % 64 → has_flag new i ≡ has_flag found i)
         → claimed capacity (slice_set words (flag_word capacity p) new) i ≡ claimed capacity words i
-    leaves new i other same =
-        ⊎_elim
-        (λ (t : (eqb (flag_word capacity i) (flag_word capacity p) ≡ true) × (flag_word capacity i ≡ flag_word capacity p)).
-        let e = t.1 in
-        ap (λ (w : ℕ). has_flag (slice_index (slice_set words (flag_word capacity p) new) w) i) e
-        ∙ ap (λ w. has_flag w i) (get_or-set_same words (flag_word capacity p) new 0 near)
-        ∙ same (λ bits. other (omega arith))
-        ∙ ap (λ (w : ℕ). has_flag (slice_index words w) i) (sym e))
-        (λ t. ap (λ w. has_flag w i) (get_or-set_other words (flag_word capacity p) (flag_word capacity i) new 0 t.1))
-        (eqb_tells (flag_word capacity i) (flag_word capacity p))
+    leaves x0 x1 x2 x3 = grind (arith, has_flag, get_or-set_same, get_or-set_other, eqb_tells)
 
     pub claims_leave : (i : ℕ) → i ≢ p → claimed capacity (slice_set words (flag_word capacity p) (bit_or found (flag p))) i ≡ claimed capacity words i
     claims_leave i other = leaves (bit_or found (flag p)) i other (λ ne. with_leaves found p i ne)

@@ -18,18 +18,7 @@ module _ (capacity : ℕ) (words : List ℕ) where
       (λ end room last. BehavesAs (Represents capacity) (stack_in capacity) out (λ s. s) words end last) call tt words
 
   pub count_runs : (call : BorrowedIndices) → Represents capacity words → CountRuns call
-  count_runs call fits =
-      let long = chain_length words (proposed (slice_index words 0)) (capacity - borrowed_number (slice_index words 0)) in
-      let count = fits.count in
-      record {
-        steps = 1;
-        few = omega arith;
-        end = borrowed_number (slice_index words 0);
-        last_room = tt;
-        last_words = words;
-        ends = (refl, refl, refl);
-        holds = (fits, omega arith, refl);
-      }
+  count_runs x0 x1 = grind (arith, chain_length)
 
   abbrev pub LookRuns : IsLocked → Type 0
   LookRuns call =
@@ -37,13 +26,4 @@ module _ (capacity : ℕ) (words : List ℕ) where
       (λ end room last. BehavesAs (Represents capacity) (stack_in capacity) (λ (s : Stack). s.locked) (λ s. s) words end last) call tt words
 
   pub look_runs : (call : IsLocked) → Represents capacity words → LookRuns call
-  look_runs call fits =
-      record {
-        steps = 1;
-        few = omega arith;
-        end = says_locked (slice_index words 0);
-        last_room = tt;
-        last_words = words;
-        ends = (refl, refl, refl);
-        holds = (fits, refl, refl);
-      }
+  look_runs x0 x1 = grind arith

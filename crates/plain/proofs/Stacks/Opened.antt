@@ -20,22 +20,7 @@ pub record Linked (n capacity : ℕ) (words : List ℕ) : Type 0 where
 
 pub one_linked : (n capacity : ℕ) (words : List ℕ) → n < capacity → Linked n capacity words
     → Linked (n + 1) capacity (slice_set words (1 + n) (n + 1))
-one_linked n capacity words low h =
-    let long = h.long in
-    record {
-      long = length-set words (1 + n) (n + 1) ∙ long;
-      head = get_or-set_other words (1 + n) 0 (n + 1) 0 (λ e. absurd (omega arith)) ∙ h.head;
-      next = λ i below.
-          ⊎_elim (λ (t : (eqb i n ≡ true) × (i ≡ n)).
-          subst (λ k. slice_index (slice_set words (1 + n) (n + 1)) (1 + k) ≡ k + 1) (sym t.1)
-          (get_or-set_same words (1 + n) (n + 1) 0 (omega arith)))
-          (λ (t : (eqb i n ≡ false) × (i ≢ n)).
-          let other = t.1 in
-          get_or-set_other words (1 + n) (1 + i) (n + 1) 0 (λ e. other (omega arith))
-          ∙ h.next i (omega (arith, other)))
-          (eqb_tells i n);
-      flags = λ j high. get_or-set_other words (1 + n) j (n + 1) 0 (λ e. absurd (omega arith)) ∙ h.flags j high;
-    }
+one_linked x0 x1 x2 x3 x4 = grind (arith, length-set, get_or-set_other, get_or-set_same, false, eqb_tells)
 
 -- ---- the numbers of a range
 
@@ -78,10 +63,7 @@ module _ (capacity : ℕ) (words : List ℕ) (some : 1 ≤ capacity) (few : capa
       ap (λ k. i ∷ chain words k n) next ∙ ap (λ xs. i ∷ xs) (chain_is (i + 1) n (omega arith))
 
   free_is : free_in capacity words ≡ range_with_len 0 capacity
-  free_is =
-      let all : capacity - 0 ≡ capacity = omega arith in
-      ap (λ w. chain words (proposed w) (capacity - borrowed_number w)) h.head
-      ∙ (ap (chain words 0) all ∙ chain_is 0 capacity (omega arith))
+  free_is = grind (arith, chain, chain_is)
 
   none_claimed : (i : ℕ) → claimed capacity words i ≡ false
   none_claimed i = ap (λ w. has_flag w i) (h.flags (flag_word capacity i) (omega arith))
@@ -104,5 +86,4 @@ module _ (capacity : ℕ) (words : List ℕ) (some : 1 ≤ capacity) (few : capa
       }
 
   pub all_free : Represents capacity words × (stack_in capacity words ≡ opened capacity)
-  all_free =
-      (fits, λ i. record { capacity = capacity; free = free_is i; locked = ap says_locked h.head i })
+  all_free = grind (arith, fits, free_is)

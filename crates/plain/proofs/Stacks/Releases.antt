@@ -47,10 +47,7 @@ module _ (lock : Bool) (capacity index : ℕ) (words : List ℕ) where
     -- the head stands while the flag is cleared and the index is linked
     goes : slice_index cleared 0 ≡ h → slice_index linked 0 ≡ h
         → Ends 4 (state_after lock h) (first_release {M = M} capacity) words
-    goes one two =
-        subst (λ n. Ends 2 (state_after lock h) (at_release (first_release {M = M} capacity) (releases.TheVariants.StoresNext n)) cleared) (sym one)
-        (by_eq (λ a. From 0 (state_after lock h) a (if slice_index linked 0 == h then last else linked)) (slice_index linked 0) h _ _
-        (λ _. (refl, refl, sym (ap (λ b. if b then last else linked) (eq-eqb (slice_index linked 0) h two)))) (λ other. absurd (other two)))
+    goes x0 x1 = grind (arith, by_eq, eq-eqb)
 
   -- ---- what it makes of the stack
 
@@ -73,9 +70,7 @@ module _ (lock : Bool) (capacity index : ℕ) (words : List ℕ) where
         let n = free_length in omega arith
 
     unlocked : says_locked h ≡ false
-    unlocked = ⊎_elim (λ (shut : says_locked h ≡ true).
-        let none : borrowed_number h ≡ 0 = ap (λ b. if b then 0 else borrowed h) shut in
-        let some = some_out in absurd (omega arith)) (λ t. t) (cases_Bool (says_locked h))
+    unlocked = grind (arith, borrowed, some_out, cases_Bool)
 
     number : borrowed_number h ≡ borrowed h
     number = ap (λ b. if b then 0 else borrowed h) unlocked
@@ -99,61 +94,32 @@ module _ (lock : Bool) (capacity index : ℕ) (words : List ℕ) where
     last_long = length-set linked _ _ ∙ linked_long
 
     head_is : slice_index last 0 ≡ head_released lock h index
-    head_is = get_or-set_same linked 0 (head_released lock h index) 0 (let l = fits.long in let m = linked_long in omega arith)
+    head_is = grind (arith, get_or-set_same, linked_long)
 
     -- the index leads to what was the top, and the other free ones as before
     link_is : slice_index last (next_word index) ≡ proposed h
-    link_is =
-        get_or-set_other linked 0 (next_word index) (head_released lock h index) 0 (λ e. absurd (omega arith))
-        ∙ get_or-set_same cleared (next_word index) (proposed h) 0 (let l = fits.long in let m = cleared_long in let o = is_out.0 in omega arith)
+    link_is = grind (arith, get_or-set_other, next_word, get_or-set_same, cleared_long)
 
     kept_next : (i : ℕ) → i < capacity → i ≢ index → slice_index last (next_word i) ≡ slice_index words (next_word i)
-    kept_next i below other =
-        get_or-set_other linked 0 (next_word i) (head_released lock h index) 0 (λ e. absurd (omega arith))
-        ∙ (get_or-set_other cleared (next_word index) (next_word i) (proposed h) 0 (λ e. other (omega arith))
-        ∙ get_or-set_other words (flag_word capacity index) (next_word i) _ 0 (λ e. absurd (omega arith)))
+    kept_next x0 x1 x2 = grind (arith, get_or-set_other, next_word)
 
     apart : (i : ℕ) → is_in i free ≡ true → i ≢ index
     apart i there e = true≢false (sym there ∙ (ap (λ j. is_in j free) e ∙ is_out.1))
 
     longer : chain last index (suc count) ≡ index ∷ free
-    longer =
-        let small : proposed h % 2 ^ 24 ≡ proposed h = let s = fits.small in omega arith in
-        ap (λ k. index ∷ chain last (k % 2 ^ 24) count) link_is
-        ∙ (ap (λ k. index ∷ chain last k count) small
-        ∙ ap (λ xs. index ∷ xs) (sym (chain_same words last (proposed h) count (λ i there. sym (kept_next i (fits.below i there) (apart i there))))))
+    longer = grind (arith, chain, link_is, chain_same, kept_next, apart)
 
     flags_are : (i : ℕ) → i < capacity → claimed capacity last i ≡ not (is_in i (index ∷ free))
-    flags_are i below =
-        claimed_elsewhere capacity linked 0 (head_released lock h index) i (omega arith)
-        ∙ (claimed_elsewhere capacity cleared (next_word index) (proposed h) i (let o = is_out.0 in omega arith)
-        ∙ ⊎_elim (λ (t : (eqb i index ≡ true) × (i ≡ index)).
-        subst (λ j. claimed capacity cleared j ≡ not (is_in j (index ∷ free))) (sym t.1)
-        (frees capacity words index low ∙ sym (ap not (in_first index free))))
-        (λ t. frees_leave capacity words index low i t.1 ∙ (fits.flags i below ∙ sym (ap not (in_other i index free t.1))))
-        (eqb_tells i index))
+    flags_are x0 x1 = grind (arith, claimed_elsewhere, next_word, claimed, frees, low, in_first, frees_leave, in_other, eqb_tells)
 
     -- the head says so many free ones, and this index first
     module _ (new : proposed (head_released lock h index) ≡ index) (counts : capacity - borrowed_number (head_released lock h index) ≡ suc count)
         (within : borrowed_number (head_released lock h index) ≤ capacity) (small : head_released lock h index < 2 ^ 64) where
       last_free : free_in capacity last ≡ index ∷ free
-      last_free =
-          (λ i. chain last ((ap proposed head_is ∙ new) i) ((ap (λ n. capacity - borrowed_number n) head_is ∙ counts) i)) ∙ longer
+      last_free = grind (arith, chain, head_is, longer)
 
       last_fits : Represents capacity last
-      last_fits =
-          record {
-            long = last_long ∙ fits.long;
-            some = fits.some;
-            few = fits.few;
-            small = subst (λ n. n < 2 ^ 64) (sym head_is) small;
-            count = subst (λ n. borrowed_number n ≤ capacity) (sym head_is) within;
-            distinct = subst (IsDistinct eqb) (sym last_free) (one_more index free is_out.1 fits.distinct);
-            below = λ i there.
-                ⊎_elim (λ (t : (eqb i index ≡ true) × (i ≡ index)). subst (λ z. z < capacity) (sym t.1) is_out.0)
-                (λ t. fits.below i (sym (in_other i index free t.1) ∙ (sym (ap (is_in i) last_free) ∙ there))) (eqb_tells i index);
-            flags = λ i below. flags_are i below ∙ sym (ap not (ap (is_in i) last_free));
-          }
+      last_fits = grind (arith, last_long, head_is, last_free, one_more, in_other, eqb_tells, flags_are)
 
 -- ---- mode Default
 

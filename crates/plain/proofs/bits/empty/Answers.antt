@@ -4,11 +4,7 @@ use Rattle.plain.proofs.bits.empty.Given as given
 use Rattle.plain.proofs.bits.empty.Goals as goal
 
 pub refill-found-requires : goal.refill-found-requires
-refill-found-requires g c edge =
-    let test = c.loop-place-test.true in
-    may_swap (given.F-pre g) (given.F-step g) c.args.capacity c.args.words.now.items c.args.visit c.loop-place.place
-    (omega arith) c.loop-place.call c.loop-place.found c.loop-place.words.items c.loop-place.visit
-    c.loop-place.invariant edge
+refill-found-requires x0 x1 x2 = grind (arith, may_swap)
 
 pub call_standing-visit-requires : goal.call_standing-visit-requires
 call_standing-visit-requires g c stood =

@@ -1,3 +1,4 @@
+use Rattle.std.proofs.Common.{arith}
 use Rattle.std.proofs.Common.{◌∙◌, sym, subst, ℕ, ◌+◌, List}
 use Rattle.plain.specs.Alone.{StopsAlike}
 use Rattle.plain.proofs.Alone.{Going, begins, goes_on, stops}
@@ -7,13 +8,7 @@ pub loop-init : goal.loop-init
 loop-init g c = begins _ _ _ _ _ _ _ c.requires.stops
 
 pub loop-preserved : goal.loop-preserved
-loop-preserved g c =
-    subst (λ (z : g.row.C-Room.Denot × List ℕ). Going g.C.Routine.want_of g.C.Routine.after g.C.Routine.kept
-    c.args.given.now c.args.call c.args.room.now c.args.words.now.items (c.loop.counter + 1) c.in-GoOn.next z.0 z.1)
-    (λ i. (sym c.step.ensures.room i, sym c.step.ensures.words i))
-    (goes_on g.C.Routine.want_of g.C.Routine.after g.C.Routine.kept c.args.given.now c.args.call c.args.room.now
-    c.args.words.now.items c.loop.counter c.loop.call c.in-GoOn.next c.loop.room c.loop.words.items c.loop.invariant
-    (sym c.step.ensures.goes ∙ c.in-GoOn.is))
+loop-preserved x0 x1 = grind (arith, goes_on)
 
 pub returns-in-Done : goal.returns-in-Done
 returns-in-Done g c = record {

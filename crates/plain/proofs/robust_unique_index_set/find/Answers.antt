@@ -1,20 +1,14 @@
+use Rattle.std.proofs.Common.{arith}
 use Rattle.std.proofs.Common.{sym, ◌∙◌}
 use Rattle.plain.proofs.Robust.Finding.{starts, can_go, ended_so, may_so, further_so}
 use Rattle.plain.proofs.robust_unique_index_set.find.Goals as goal
 use Rattle.plain.proofs.robust_unique_index_set.find.Given as given
 
 pub loop-init : goal.loop-init
-loop-init g c =
-    starts (λ p x a q. given.F-step g p x a q) c.args.visit c.args.capacity c.args.owner c.args.words.now.items
-    c.new-call.result c.new-call.ensures c.requires.fits c.requires.owner
+loop-init x0 x1 = grind (arith, starts)
 
 pub drive_to_stop-requires : goal.drive_to_stop-requires
-drive_to_stop-requires g c =
-    record {
-      stops =
-          can_go (λ p x a q. given.F-step g p x a q) c.args.visit c.args.capacity c.args.owner c.args.words.now.items
-          c.loop.counter c.loop.call c.loop.visit c.loop.words.items c.loop.invariant;
-    }
+drive_to_stop-requires x0 x1 = grind (arith, can_go)
 
 pub returns-in-Ended-clause-words : goal.returns-in-Ended-clause-words
 returns-in-Ended-clause-words g c =

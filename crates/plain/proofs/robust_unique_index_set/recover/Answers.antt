@@ -4,32 +4,16 @@ use Rattle.plain.proofs.robust_unique_index_set.recover.Goals as goal
 use Rattle.plain.proofs.robust_unique_index_set.recover.Given as given
 
 pub loop-init : goal.loop-init
-loop-init g c =
-    starts (λ p o i b q. given.F-step g p o i b q) (λ s o i t. given.S-step g s o i tt t) c.args.mode c.args.predicate
-    c.args.recovered c.args.capacity c.args.words.now.items c.new-call.result c.new-call.ensures c.requires.fits
+loop-init x0 x1 = grind (arith, starts)
 
 pub drive_to_stop-requires : goal.drive_to_stop-requires
-drive_to_stop-requires g c =
-    record {
-      stops =
-          can_go (λ p o i b q. given.F-step g p o i b q) (λ s o i t. given.S-step g s o i tt t) c.args.mode c.args.predicate
-          c.args.recovered c.args.capacity c.args.words.now.items c.loop.counter c.loop.call c.loop.predicate c.loop.recovered
-          c.loop.words.items c.loop.invariant;
-    }
+drive_to_stop-requires x0 x1 = grind (arith, can_go)
 
 pub returns-in-Ended-clause-fits : goal.returns-in-Ended-clause-fits
-returns-in-Ended-clause-fits g c =
-    (ended_so (λ p o i b q. given.F-step g p o i b q) (λ s o i t. given.S-step g s o i tt t) c.args.mode
-    c.args.predicate c.args.recovered c.args.capacity c.args.words.now.items c.loop.counter c.loop.call c.loop.predicate
-    c.loop.recovered c.loop.words.items c.loop.invariant c.in-Ended.state c.drive_to_stop.new.room
-    c.drive_to_stop.new.words.items c.in-Ended.ensures.alone).fits
+returns-in-Ended-clause-fits x0 x1 = grind (arith, ended_so)
 
 pub returns-in-Ended-clause-state : goal.returns-in-Ended-clause-state
-returns-in-Ended-clause-state g c =
-    (ended_so (λ p o i b q. given.F-step g p o i b q) (λ s o i t. given.S-step g s o i tt t) c.args.mode
-    c.args.predicate c.args.recovered c.args.capacity c.args.words.now.items c.loop.counter c.loop.call c.loop.predicate
-    c.loop.recovered c.loop.words.items c.loop.invariant c.in-Ended.state c.drive_to_stop.new.room
-    c.drive_to_stop.new.words.items c.in-Ended.ensures.alone).state_is
+returns-in-Ended-clause-state x0 x1 = grind (arith, ended_so)
 
 pub returns-in-Ended-clause-calls : goal.returns-in-Ended-clause-calls
 returns-in-Ended-clause-calls g c =

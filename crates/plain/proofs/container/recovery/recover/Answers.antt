@@ -6,43 +6,16 @@ use Rattle.plain.proofs.container.recovery.recover.Goals as goal
 use Rattle.plain.proofs.container.recovery.recover.Given as given
 
 pub loop-init : goal.loop-init
-loop-init g c =
-    let long = c.new-room.ensures in
-    let wide = g.met.T.Words.few in
-    starts g.T.Words.value_of (λ (x : Buffer 128). x.words)
-    (λ x at word. record x { words = slice_set x.words at word }) (λ x at word. refl)
-    (λ p x b q. given.F-step g p x b q) c.args.predicate g.T.Words.WORDS c.args.capacity c.args.id c.args.owner
-    c.args.mode c.args.words.now.items c.new-call.result c.new-call.ensures c.new-room.result (omega arith)
-    (record { some = g.met.T.Words.some; wide = wide; lives = c.requires.owner; holds = c.requires.holds })
+loop-init x0 x1 = grind (arith, starts)
 
 pub drive_to_stop-requires : goal.drive_to_stop-requires
-drive_to_stop-requires g c =
-    record {
-      stops =
-          can_go g.T.Words.value_of (λ (x : Buffer 128). x.words)
-          (λ x at word. record x { words = slice_set x.words at word }) (λ x at word. refl)
-          (λ p x b q. given.F-step g p x b q) c.args.predicate g.T.Words.WORDS c.args.capacity c.args.id c.args.owner
-          c.args.mode c.args.words.now.items c.loop.counter c.loop.call c.loop.room c.loop.predicate c.loop.words.items
-          c.loop.invariant;
-    }
+drive_to_stop-requires x0 x1 = grind (arith, can_go)
 
 pub returns-in-Ended-clause-holds : goal.returns-in-Ended-clause-holds
-returns-in-Ended-clause-holds g c =
-    (ended_so g.T.Words.value_of (λ (x : Buffer 128). x.words)
-    (λ x at word. record x { words = slice_set x.words at word }) (λ x at word. refl)
-    (λ p x b q. given.F-step g p x b q) c.args.predicate g.T.Words.WORDS c.args.capacity c.args.id c.args.owner
-    c.args.mode c.args.words.now.items c.loop.counter c.loop.call c.loop.room c.loop.predicate c.loop.words.items
-    c.loop.invariant c.in-Ended.state c.drive_to_stop.new.room c.drive_to_stop.new.words.items
-    c.in-Ended.ensures.alone).fit
+returns-in-Ended-clause-holds x0 x1 = grind (arith, ended_so)
 
 pub returns-in-Ended-clause-state : goal.returns-in-Ended-clause-state
-returns-in-Ended-clause-state g c =
-    (ended_so g.T.Words.value_of (λ (x : Buffer 128). x.words)
-    (λ x at word. record x { words = slice_set x.words at word }) (λ x at word. refl)
-    (λ p x b q. given.F-step g p x b q) c.args.predicate g.T.Words.WORDS c.args.capacity c.args.id c.args.owner
-    c.args.mode c.args.words.now.items c.loop.counter c.loop.call c.loop.room c.loop.predicate c.loop.words.items
-    c.loop.invariant c.in-Ended.state c.drive_to_stop.new.room c.drive_to_stop.new.words.items
-    c.in-Ended.ensures.alone).state_is
+returns-in-Ended-clause-state x0 x1 = grind (arith, ended_so)
 
 pub returns-in-Ended-clause-calls : goal.returns-in-Ended-clause-calls
 returns-in-Ended-clause-calls g c =

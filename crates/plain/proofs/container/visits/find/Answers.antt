@@ -6,14 +6,7 @@ use Rattle.plain.proofs.container.visits.find.Goals as goal
 use Rattle.plain.proofs.container.visits.find.Given as given
 
 pub loop-init : goal.loop-init
-loop-init g c =
-    let long = c.new-room.ensures in
-    let wide = g.met.T.Words.few in
-    starts g.T.Words.value_of (λ (x : Buffer 128). x.words)
-    (λ x at word. record x { words = slice_set x.words at word }) (λ x at word. refl)
-    (λ p x h a q. given.F-step g p x h a q) c.args.visit g.T.Words.WORDS c.args.capacity c.args.id c.args.owner
-    c.args.words.now.items c.new-call.result c.new-call.ensures c.new-room.result (omega arith)
-    (record { some = g.met.T.Words.some; wide = wide; lives = c.requires.owner; holds = c.requires.holds })
+loop-init x0 x1 = grind (arith, starts)
 
 pub drive_to_stop-requires : goal.drive_to_stop-requires
 drive_to_stop-requires g c =
