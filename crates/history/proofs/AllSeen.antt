@@ -159,7 +159,7 @@ module _ {T : Type 0} where
       spent = spent_end (set views id (left_view v)) (right_view v) (spent_set views id (left_view v) k.spent (λ none. k.spent id v at none)) refl refl
         where
           spent_end : (xs : List (View T)) (w : View T) → SpentIn xs → w.made ≡ [] → w.going ≡ None → SpentIn (xs ++ w ∷ [])
-          spent_end [] w h none idle zero u e part = subst (λ (z : View T). (z.made ≡ []) × (z.going ≡ None)) (some-injective w u e) (none, idle)
+          spent_end [] w h none idle zero u e part = grind (arith, some-injective)
           spent_end [] w h none idle (suc j) u e part = absurd (some-ne-none u (sym e))
           spent_end (x ∷ xs) w h none idle zero u e part = h zero u e part
           spent_end (x ∷ xs) w h none idle (suc j) u e part = spent_end xs w (λ i z. h (suc i) z) none idle j u e part

@@ -48,7 +48,7 @@ module _ {T : Type 0} (p index : ℕ) (before : List (Event T)) where
   nothing_there es at = (false, append-nil es ∙ (at ∙ sym (append-nil before)))
 
   cleared : (es : List (Event T)) (count old : ℕ) → es ≡ before → HasCleared p index before (es ++ hidden p index count old)
-  cleared es count old at = (old == count, ap (λ zs. zs ++ hidden p index count old) at)
+  cleared es count old at = grind (arith, hidden)
 
   put : (es : List (Event T)) (value : T) (old : ℕ) → HasCleared p index before es → HasPut p index value before (es ++ placed p index value old)
   put es value old h =
@@ -88,19 +88,10 @@ module _ {T : Type 0} (capacity size : ℕ) (some : 0 < size) (c : Adding T) (sa
 
   adds_so : (stage : AddStage) (k : ℕ) (es : List (Event T)) → AddIn size capacity stage → AddedAt p given stage es
       → AddGoes (es ++ add_effects p given stage k) (add_takes size c stage k)
-  adds_so (adds.Acquires stage) k es h at =
-      acquired stage _ (acquire_takes (inner_acquire c.capacity stage) stage k)
-      (subst (λ zs. IsAcquired stage (zs ++ acquire_effects p given.owner stage k) (acquire_takes (inner_acquire c.capacity stage) stage k)) (sym at)
-      (takes_so T capacity (inner_acquire c.capacity stage) same p given.owner stage k h))
-  adds_so (adds.LoadsCount index) k es h at =
-      by_test (AddGoes (es ++ [])) (is_even k) _ _
-      (λ t. ((same, (h, some)), nothing_there p index (taken p index given.owner) es at))
-      (λ t. ((same, h), calm p index (taken p index given.owner) es _ at))
+  adds_so (adds.Acquires stage) k es h at = grind (arith, acquired, takes_so)
+  adds_so (adds.LoadsCount index) k es h at = grind (arith, by_test, nothing_there, taken, calm)
   adds_so (adds.Hides index count) k es h at = ((same, (h, some)), cleared p index (taken p index given.owner) es count k at)
-  adds_so (adds.Stores index at) k es h was =
-      by_test (AddGoes (es ++ [])) (nat_lt (at + 1) size) _ _
-      (λ t. (let next : at + 1 < size = grind (arith, nat_tests) in ((same, (h.0, next)), still_cleared p index (taken p index given.owner) es was)))
-      (λ t. ((same, h.0), still_cleared p index (taken p index given.owner) es was))
+  adds_so (adds.Stores index at) k es h was = grind (arith, by_test, still_cleared, taken, nat_tests)
   adds_so (adds.AddsCount index) k es h at = ((same, h), put p index (taken p index given.owner) es given.value k at)
   adds_so (adds.AddsChange index) k es h at = (h, still_put p index (taken p index given.owner) es given.value at)
 
@@ -184,8 +175,7 @@ module _ {T : Type 0} (words_of : T → List ℕ) (size : ℕ) where
   replace_words : (capacity : ℕ) (stage : ReplaceStage) (given : Replacement T) → given.index < capacity → ReplaceIn size stage
       → AsksFor (total_words capacity size) (replace_asks words_of size capacity stage given)
   replace_words capacity replaces.Refuses given low h = absurd h
-  replace_words capacity replaces.LoadsCell given low h =
-      (_, (let below : 1 + given.index < capacity + 1 = omega arith in let all = set_words capacity size in omega arith), refl)
+  replace_words capacity replaces.LoadsCell given low h = grind (arith, set_words)
   replace_words capacity replaces.LoadsCount given low h = (_, count_low capacity size given.index low, refl)
   replace_words capacity (replaces.Hides count) given low h = (_, count_low capacity size given.index low, refl)
   replace_words capacity (replaces.Stores at) given low h = (_, data_within capacity size given.index at low h, refl)
@@ -201,18 +191,11 @@ module _ {T : Type 0} (capacity size : ℕ) (some : 0 < size) (c : Replacing T) 
   replaces_so : (stage : ReplaceStage) (k : ℕ) (es : List (Event T)) → ReplaceIn size stage → ReplacedAt p given stage es
       → ReplaceGoes (es ++ replace_effects p given stage k) (replace_takes size c stage given k)
   replaces_so replaces.Refuses k es h at = absurd h
-  replaces_so replaces.LoadsCell k es h at =
-      by_test (ReplaceGoes (es ++ [])) (k == given.owner) _ _
-      (λ t. ((same, low, tt), calm p given.index [] es [] at)) (λ t. calm p given.index [] es [] at)
-  replaces_so replaces.LoadsCount k es h at =
-      by_test (ReplaceGoes (es ++ [])) (is_even k) _ _
-      (λ t. ((same, low, some), nothing_there p given.index [] es at)) (λ t. ((same, low, tt), calm p given.index [] es [] at))
+  replaces_so replaces.LoadsCell k es h at = grind (arith, by_test, calm)
+  replaces_so replaces.LoadsCount k es h at = grind (arith, by_test, nothing_there, calm)
   replaces_so (replaces.Hides count) k es h at = ((same, low, some), cleared p given.index [] es count k at)
-  replaces_so (replaces.Stores at) k es h was =
-      by_test (ReplaceGoes (es ++ [])) (nat_lt (at + 1) size) _ _
-      (λ t. (let next : at + 1 < size = grind (arith, nat_tests) in ((same, low, next), still_cleared p given.index [] es was)))
-      (λ t. ((same, low, tt), still_cleared p given.index [] es was))
-  replaces_so replaces.AddsCount k es h at = ((same, low, tt), put p given.index [] es given.value k at)
+  replaces_so (replaces.Stores at) k es h was = grind (arith, by_test, still_cleared, nat_tests)
+  replaces_so replaces.AddsCount k es h at = grind (arith, put)
   replaces_so replaces.AddsChange k es h at = still_put p given.index [] es given.value at
 
   some_replaced : (stage : ReplaceStage) → (es : List (Event T)) × ReplacedAt p given stage es

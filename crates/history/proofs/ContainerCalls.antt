@@ -106,8 +106,7 @@ remove_words : (capacity size : ℕ) (stage : RemoveStage) (given : GiveBack) �
     → AsksFor (total_words capacity size) (remove_asks capacity stage given)
 remove_words capacity size removes.Refuses given low h = absurd h
 remove_words capacity size removes.LoadsCount given low h = (_, count_low capacity size given.index low, refl)
-remove_words capacity size (removes.Releases count stage) given low h =
-    fewer (capacity + 1) (total_words capacity size) _ (set_words capacity size) (release_words capacity stage given low h)
+remove_words capacity size (removes.Releases count stage) given low h = grind (arith, fewer, set_words, release_words)
 remove_words capacity size (removes.Hides count state) given low h = (_, count_low capacity size given.index low, refl)
 remove_words capacity size (removes.AddsChange state) given low h = (_, change_low capacity size, refl)
 

@@ -80,7 +80,7 @@ module _ {T R : Type 0} (code : Coding T) (law : IsCoding code) (words_in : R �
   as_model x r = as_call flights.Container (λ (answer : Answer T). answer) (as_call calls.Find answers.Number (went_on as_it_is owner x r))
 
   put_there : (m : R) (at n : ℕ) → at < code.size → kept_at (room m) at n ≡ room (with_word m at n)
-  put_there m at n below = room_set code.size at n (words_in m) below ∙ ap (room_of code.size) (sym (put_in m at n))
+  put_there m at n below = grind (arith, room_set, room_of)
 
   comes_alike : (c : Finding T R) (m : Room) (stage : FindStage) (index found : ℕ)
       → as_model (room m.0) (find_comes_to (call_at c.capacity stage) index found) ≡ goes finding (find_comes_to c index found) m
@@ -338,8 +338,8 @@ module _ {T R : Type 0} (code : Coding T) (law : IsCoding code) (words_in : R �
 
       go : Stands base v m → Stands other v k → m.1 ≡ k.1
       go (inl x) (inl y) = x.1 ∙ sym y.1
-      go (inl x) (inr y) = (let no : ◌≡◌ {A = Option (Start T × Flight T)} None (Some (start, finding.flight y.0 y.1)) = sym x.0 ∙ y.3.going in absurd (cc))
-      go (inr x) (inl y) = (let no : ◌≡◌ {A = Option (Start T × Flight T)} None (Some (start, finding.flight x.0 x.1)) = sym y.0 ∙ x.3.going in absurd (cc))
+      go (inl x) (inr y) = grind (arith, start)
+      go (inr x) (inl y) = grind (arith, start)
       go (inr x) (inr y) =
           let same = same_written code kinds.Container finding base other v x.0 y.0 x.1 y.1 idle still x.3 y.3
           (long base x.0 x.1 idle x.3) (long other y.0 y.1 still y.3) in

@@ -61,17 +61,9 @@ module _ {T : Type 0} (size : ℕ) (some : 0 < size) (which : LookOf) (capacity 
 
   pub looks_so : (value : T) (stage : LookStage) (k : ℕ) (es : List (Event T)) → LookIn size capacity stage → LookedAt p stage es
       → LookGoes (es ++ look_effects p value stage k) (look_takes size c stage seen k)
-  looks_so value looks.LoadsChange k es h at =
-      quiet es (look_takes size c looks.LoadsChange seen k)
-      (by_test (LookGoes es) (k == seen.change) _ _ (λ t. at) (λ t. comes_to 0 (omega arith) es at))
-  looks_so value (looks.LoadsCount index) k es h at =
-      quiet es (look_takes size c (looks.LoadsCount index) seen k)
-      (by_test (LookGoes es) (k == slice_index_or seen.counts index 0) _ _ (λ t. next_to index h es (inl at)) (λ t. finds index k h es at))
-  looks_so value (looks.LoadsWord index count at) k es h was =
-      quiet es (look_takes size c (looks.LoadsWord index count at) seen k)
-      (by_test (LookGoes es) (nat_lt (at + 1) size) _ _
-      (λ t. (let next : at + 1 < size = grind (arith, nat_tests) in ((same, (h.0, next)), was)))
-      (λ t. ((same, h.0), was)))
+  looks_so value looks.LoadsChange k es h at = grind (arith, quiet, by_test, comes_to)
+  looks_so value (looks.LoadsCount index) k es h at = grind (arith, quiet, by_test, next_to, inl, finds)
+  looks_so value (looks.LoadsWord index count at) k es h was = grind (arith, quiet, by_test, nat_tests)
   looks_so value (looks.ChecksCount index count) k es h at = go (k == count) refl
     where
       go : (b : Bool) → (k == count) ≡ b → LookGoes (es ++ look_effects p value (looks.ChecksCount index count) k)

@@ -98,7 +98,7 @@ module _ {T R : Type 0} (code : Coding T) (law : IsCoding code) (words_in : R �
     same_takes x0 = grind arith
 
   put_there : (m : R) (at n : ℕ) → at < code.size → kept_at (room_in m) at n ≡ room_in (with_word m at n)
-  put_there m at n below = room_set code.size at n (words_in m) below ∙ ap (room_of code.size) (sym (put_in m at n))
+  put_there m at n below = grind (arith, room_set, room_of)
 
   keeps_there : (capacity : ℕ) (m : R) (n : ℕ) (stage : RecoverStage) → RecoverIn code.size capacity given.mode stage
       → recover_keeps kept_at stage (room_in m) n ≡ room_in (recover_keeps with_word stage m n)
@@ -269,8 +269,8 @@ module _ {T R : Type 0} (code : Coding T) (law : IsCoding code) (words_in : R �
 
       go : Stands base v c m → Stands other v d k → m.1 ≡ k.1
       go (inl x) (inl y) = x.1 ∙ sym y.1
-      go (inl x) (inr y) = (let no : ◌≡◌ {A = Option (Start T × Flight T)} None (Some (start, recovering.flight y.0 y.1)) = sym x.0 ∙ y.3.going in absurd (cc))
-      go (inr x) (inl y) = (let no : ◌≡◌ {A = Option (Start T × Flight T)} None (Some (start, recovering.flight x.0 x.1)) = sym y.0 ∙ x.3.going in absurd (cc))
+      go (inl x) (inr y) = grind (arith, start)
+      go (inr x) (inl y) = grind (arith, start)
       go (inr x) (inr y) =
           let p = x.3.party in
           let same = same_written code kinds.Container recovering base other v x.0 y.0 x.1 y.1 idle still x.3 y.3

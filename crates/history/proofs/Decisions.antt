@@ -290,7 +290,7 @@ module _ {T C M E : Type 0} (code : Coding T) (kind : Kind) (decides : MayDecide
   keeps_word base₀ v c m key words slots id wide known still at₀ = go_at (steps.asks key c stands_so still)
     where
       stands_so : call.stands key c
-      stands_so = subst (λ i. call.stands i c) (sym (same_size base₀ v c m at₀) ∙ known) (standing base₀ v c m at₀)
+      stands_so = grind (arith, same_size, standing)
 
       go_at : AsksFor (size_of key) (want c) → Owes (IsMachine code kind key) words slots id (ToldAsked c m) (want c) (v, [])
       go_at asked = subst (λ w. Owes (IsMachine code kind key) words slots id (ToldAsked c m) w (v, [])) (sym asked.2) (go at₀)

@@ -109,9 +109,7 @@ module _ {T C M E Asks : Type 0} (code : Coding T) (kind : Kind) (effects : Worl
           seen = same_seen;
           found = same_word;
         }
-    left_out base (inr under) e m' left =
-        let no : true ≡ false = sym skip ∙ under.past seen_word in
-        absurd (cc)
+    left_out base (inr under) e m' left = grind (arith, false)
 
     pub told_left : Told (λ (z : View T). z.capacity) (At code kind call) (Over code kind call) after kept c m v (answered ask.op seen_word) w
     told_left = grind (arith, inr, left_out)
@@ -213,7 +211,7 @@ module _ {T C M E : Type 0} (code : Coding T) (kind : Kind) (effects : World T �
     (laws : (capacity : ℕ) → MachineLaws code kind capacity (size_of capacity) effects) (want : C → Want (Unit {0})) (after : C → ℕ → After C E)
     (kept : C → M → ℕ → M) (call : Calling T C M E) where
   pub laws_there : (capacity : ℕ) → KeptLaws code kind capacity (size_of capacity) effects
-  laws_there capacity = kept_laws code kind capacity (size_of capacity) effects (laws capacity)
+  laws_there capacity = grind (arith, kept_laws)
 
   pub steps_there : {Asks : Type 0} → StepsIn Asks code kind effects want after kept call → StepsThere Asks code kind effects want after kept call
   steps_there h =

@@ -47,7 +47,7 @@ module _ {T : Type 0} where
   held_later x0 x1 x2 x3 x4 x5 = grind (arith, longer)
 
   held_now : (P : List (Event T) → Type 0) (old new : List (Event T)) → IsBeginning old new → P new → HeldBetween P old new
-  held_now P old new on now = record { moment = new; later = on; before = itself new; held = now }
+  held_now P old new on now = grind (arith, itself)
 
   module _ (owner : ℕ) (old : List (Event T)) where
     abbrev Had : List (Event T) → ℕ → Type 0

@@ -116,18 +116,14 @@ module _ {T : Type 0} (c : ℕ) where
     flight_right of_indices k same (PushIndex v) (Indices (rings.TheVariants.Push run)) at =
         push_right of_indices p v _ run.call.stage _ before (producers ∙ at.0)
         (room_at one_word (values.item IndexQueue) k before same v run.call.stage at.3)
-    flight_right of_indices k same Pop (Indices (rings.TheVariants.Pop run)) at =
-        pop_right p _ run.call.stage _ before (consumers ∙ at.0)
-        (first_at one_word (values.item IndexQueue) k before same (run.room.0 ∷ []) run.call.stage at.2)
+    flight_right of_indices k same Pop (Indices (rings.TheVariants.Pop run)) at = grind (arith, pop_right, first_at, one_word)
     flight_right of_indices k same start (Indices call) at = absurd at
     flight_right of_indices k same start (Values call) at = absurd at
     flight_right of_indices k same start (Overflow call) at = absurd at
     flight_right of_values k same (Push v) (Values (rings.TheVariants.Push run)) at =
         push_right of_values p v _ run.call.stage _ before (producers ∙ at.0)
         (room_at en (values.item Queue) k before same v run.call.stage at.3)
-    flight_right of_values k same Pop (Values (rings.TheVariants.Pop run)) at =
-        pop_right p _ run.call.stage _ before (consumers ∙ at.0)
-        (first_at en (values.item Queue) k before same run.room.words run.call.stage at.2)
+    flight_right of_values k same Pop (Values (rings.TheVariants.Pop run)) at = grind (arith, pop_right, first_at)
     flight_right of_values k same start (Indices call) at = absurd at
     flight_right of_values k same start (Values call) at = absurd at
     flight_right of_values k same start (Overflow call) at = absurd at
@@ -304,11 +300,7 @@ module _ {T : Type 0} (p : ℕ) where
       go : (events_by p es ≡ [] → (held role (before ++ e ∷ []) ≡ Some p) × (flat_map (marks role) es ≡ []))
           → (b : Bool) → is_party p (whose e) ≡ b → (held role before ≡ Some p) × (flat_map (marks role) (e ∷ es) ≡ [])
       go later true t = (let mine : e ∷ events_by p es ≡ [] = rw t at none in absurd (cc))
-      go later false t =
-          let rest : events_by p es ≡ [] = rw t at none in
-          let more = later rest in
-          let one = back_from role before e (each before es e refl) t (sym (fold-append (role_after role) None before (e ∷ [])) ∙ more.0) in
-          (one.0, ap (λ xs. xs ++ flat_map (marks role) es) one.1 ∙ more.1)
+      go later false t = grind (arith, back_from, fold-append, marks)
 
   pub back_over : (role : Side) (before es : List (Event T)) → Each ByHolder (before ++ es) → events_by p es ≡ []
       → held role (before ++ es) ≡ Some p → (held role before ≡ Some p) × (flat_map (marks role) es ≡ [])
@@ -344,9 +336,7 @@ module _ {T : Type 0} (p : ℕ) where
 
       go : (ArePlain role (events_by p es) → role_after role (Some p) e ≡ Some p → flat_map (marks role) es ≡ [])
           → (b : Bool) → is_party p (whose e) ≡ b → flat_map (marks role) (e ∷ es) ≡ []
-      go later true t =
-          let own : IsPlain role e × ArePlain role (events_by p es) = rw t at plain in
-          ap (λ xs. xs ++ flat_map (marks role) es) own.0.0 ∙ later own.1 own.0.1
+      go later true t = grind (arith, marks)
       go later false t =
           let rest : ArePlain role (events_by p es) = rw t at plain in
           let one = forth_from role before e (each before es e refl) (grants before es e refl) t now in

@@ -55,17 +55,17 @@ module _ {T : Type 0} where
   by_more p (x ∷ xs) ys = ap (λ zs. own_of p x ++ zs) (by_more p xs ys) ∙ sym (append_assoc (own_of p x) (events_by p xs) (events_by p ys))
 
   pub by_same : (p : ℕ) (xs ys : List (Event T)) → events_by p ys ≡ [] → events_by p (xs ++ ys) ≡ events_by p xs
-  by_same p xs ys none = by_more p xs ys ∙ (ap (λ zs. events_by p xs ++ zs) none ∙ append-nil (events_by p xs))
+  by_same p xs ys none = grind (arith, by_more, append-nil)
 
   -- each is an event of this party
   abbrev pub AreOf : ℕ → List (Event T) → Type 0
   AreOf p es = AllByRecursion (λ e. whose e ≡ Some p) es
 
   pub own_mine : (p : ℕ) (e : Event T) → whose e ≡ Some p → own_of p e ≡ e ∷ []
-  own_mine p e is = let t : (p == p) ≡ true = grind (arith, nat_tests) in rw (is, t) refl
+  own_mine p e is = grind (arith, nat_tests)
 
   own_other : (p q : ℕ) (e : Event T) → q ≢ p → whose e ≡ Some p → own_of q e ≡ []
-  own_other p q e ne is = let t : (p == q) ≡ false = grind (arith, nat_tests) in rw (is, t) refl
+  own_other p q e ne is = grind (arith, false, nat_tests)
 
   pub by_mine : (p : ℕ) (es : List (Event T)) → AreOf p es → events_by p es ≡ es
   by_mine p [] are = refl
@@ -130,11 +130,7 @@ module _ {T : Type 0} where
     where
       here : (o : Option ℕ) → whose e ≡ o → events_by p (own_of p e) ≡ own_of p e
       here None is = rw is refl
-      here (Some q) is =
-          ⊎_elim
-          (λ (h : q ≡ p). by_mine p (own_of p e) (subst (λ xs. AreOf p xs) (sym (own_mine p e (is ∙ ap Some h))) (is ∙ ap Some h, tt)))
-          (λ (h : q ≢ p). ap (events_by p) (own_other q p e (λ i. h (sym i)) is) ∙ sym (own_other q p e (λ i. h (sym i)) is))
-          (cases_eq q p)
+      here (Some q) is = grind (arith, by_mine, own_mine, own_other, cases_eq)
 
   pub by_apart : (p q : ℕ) (es : List (Event T)) → q ≢ p → events_by q (events_by p es) ≡ []
   by_apart p q [] ne = refl
@@ -143,10 +139,7 @@ module _ {T : Type 0} where
     where
       here : (o : Option ℕ) → whose e ≡ o → events_by q (own_of p e) ≡ []
       here None is = rw is refl
-      here (Some r) is =
-          ⊎_elim (λ (h : r ≡ p). by_other p q (own_of p e) ne
-          (subst (λ xs. AreOf p xs) (sym (own_mine p e (is ∙ ap Some h))) (is ∙ ap Some h, tt)))
-          (λ (h : r ≢ p). ap (events_by q) (own_other r p e (λ i. h (sym i)) is)) (cases_eq r p)
+      here (Some r) is = grind (arith, by_other, own_mine, own_other, cases_eq)
 
   -- where no other party of the seat did something
   pub owned_one : (owner : ℕ → ℕ) (j p : ℕ) (f : Event T → ℕ) (es : List (Event T)) → owner p ≡ j

@@ -40,10 +40,7 @@ module _ {T : Type 0} (takes gives : Event T → ℕ) (after : Option ℕ → Ev
     -- what the parties of a seat took and did not give back is held by one of them
     adds_up : (before es : List (Event T)) → Each Moves (before ++ es)
         → sum_by (owned owner j takes) es + if_owned owner j (held_in before) 1 ≡ sum_by (owned owner j gives) es + if_owned owner j (held_in (before ++ es)) 1
-    adds_up before [] each =
-        let same : if_owned owner j (held_in (before ++ [])) 1 ≡ if_owned owner j (held_in before) 1 =
-        ap (λ xs. if_owned owner j (held_in xs) 1) (append-nil before) in
-        omega arith
+    adds_up before [] each = grind (arith, append-nil)
     adds_up before (e ∷ es) each =
         let here = each before es e refl in
         let longer : (before ++ e ∷ []) ++ es ≡ before ++ e ∷ es = append_assoc before (e ∷ []) es in

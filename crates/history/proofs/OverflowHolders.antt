@@ -202,15 +202,7 @@ module _ {T : Type 0} (c : ℕ) where
     over_right : (p n : ℕ) (start : Start T) (flight : Flight T)
         → (family en queues.TheVariants.Overflow c).At s.state p start flight → IsHanded t flight n
         → Right t.events (over_effects t.world p flight n)
-    over_right p n (Queues (PushIndex v)) (flights.TheVariants.Queues (Overflow (overflows.TheVariants.Push run))) at handed =
-        let knows : KnowsOverflowPush c s.state.core run.given run.call.stage =
-        subst (λ z. KnowsOverflowPush c s.state.core z run.call.stage) (sym at.2) at.3 in
-        push_right p run.given (overflow_push_effect t.world.words run.call.capacity (Index run.given) run.call.stage n)
-        (answer_in (after t.world.coding (Overflow (overflows.TheVariants.Push run)) n)) t.events
-        (push_effect_own t.world.words run.call.capacity (Index run.given) run.call.stage n)
-        (push_fits s.state.core t.world.words t.events s.holds.good its_waiting its_read its_cell run.given
-        run.call.capacity n run.call.stage at.1 knows (push_handed run n handed))
-        (s.holds.producers ∙ at.0)
+    over_right p n (Queues (PushIndex v)) (flights.TheVariants.Queues (Overflow (overflows.TheVariants.Push run))) at handed = grind (arith, push_right, after, push_effect_own, push_fits, its_waiting, its_read, its_cell, push_handed)
     over_right p n (Queues Pop) (flights.TheVariants.Queues (Overflow (overflows.TheVariants.Pop run))) at handed =
         pop_right t.world.words run.call.capacity p n (beside_of t.world.words t.world.kept t.world.latest p)
         run.call.stage (answer_in (after t.world.coding (Overflow (overflows.TheVariants.Pop run)) n)) t.events

@@ -87,7 +87,7 @@ module _ {T : Type 0} (code : Coding T) where
   takes : (p : ℕ) (item : Item T) (answer : Answer T) (waits : Option (ℕ × ℕ))
       → ((q v : ℕ) → waits ≡ Some (q, v) → p ≢ q)
       → events_by p (effects_of p Pop (takes_effect item waits) (Some answer)) ≡ HandedOut p item ∷ Acted p (Queues Pop) answer ∷ []
-  takes p item answer None apart = by_mine p (effects_of p Pop (HandsOut item) (Some answer)) (own_of_effect p Pop (HandsOut item) (Some answer) tt)
+  takes p item answer None apart = grind (arith, by_mine, own_of_effect)
   takes p item answer (Some push) apart = room_by_own p push.0 item push.1 (Some answer) (apart push.0 push.1 refl)
 
   -- the name of a call, if there is one

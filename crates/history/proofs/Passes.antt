@@ -78,7 +78,7 @@ module _ {T : Type 0} (code : Coding T) (kind : Kind) (capacity : ℕ) where
       same = length-set s.views id (left_view v)
 
       long : length (set s.views id (left_view v) ++ right_view v ∷ []) ≡ length s.views + 1
-      long = length_end (set s.views id (left_view v)) (right_view v) ∙ ap (λ n. n + 1) same
+      long = grind (arith, length_end, set, same)
 
       -- a party of the new seat is its own number
       alone : (p j : ℕ) → j ≡ length s.views → m.owner p ≡ j → length s.views ≤ p
@@ -163,14 +163,14 @@ module _ {T : Type 0} (code : Coding T) (kind : Kind) (capacity : ℕ) where
       theirs = grind (arith, some, at_set)
 
       moves : (p : ℕ) → m.owner p ≡ other → handed_on id other m.owner p ≡ id
-      moves p e = let t : (m.owner p == other) ≡ true = grind (arith, nat_tests) in rw t refl
+      moves p e = grind (arith, nat_tests)
 
       stays : (p : ℕ) → m.owner p ≢ other → handed_on id other m.owner p ≡ m.owner p
-      stays p ne = let t : (m.owner p == other) ≡ false = grind (arith, nat_tests) in rw t refl
+      stays p ne = grind (arith, false, nat_tests)
 
       -- whose parties the seats have now
       of_id : (p : ℕ) → handed_on id other m.owner p ≡ id → (m.owner p ≡ id) ⊎ (m.owner p ≡ other)
-      of_id p e = ⊎_elim (λ h. inr h) (λ ne. inl (sym (stays p ne) ∙ e)) (cases_eq (m.owner p) other)
+      of_id p e = grind (arith, inr, inl, stays, cases_eq)
 
       of_third : (p j : ℕ) → j ≢ id → handed_on id other m.owner p ≡ j → (m.owner p ≡ j) × (m.owner p ≢ other)
       of_third x0 x1 x2 x3 = grind (arith, moves, stays, cases_eq)

@@ -40,10 +40,8 @@ recover_words size capacity given (recovers.ChecksCount index count) h still = (
 recover_words size capacity given (recovers.Asks index count) h still = absurd (cc)
 recover_words size capacity given (recovers.EmptiesCell index count) h still = (_, omega arith, refl)
 recover_words size capacity given (recovers.Hides index count) h still = (_, count_low capacity size index h, refl)
-recover_words size capacity given (recovers.Raises index raise) h still =
-    fewer (capacity + 1) (total_words capacity size) _ (set_words capacity size) (raise_asks capacity raise)
-recover_words size capacity given (recovers.Locks index lock) h still =
-    fewer (capacity + 1) (total_words capacity size) _ (set_words capacity size) (lock_asks capacity lock h.2)
+recover_words size capacity given (recovers.Raises index raise) h still = grind (arith, fewer, set_words, raise_asks)
+recover_words size capacity given (recovers.Locks index lock) h still = grind (arith, fewer, set_words, lock_asks)
 recover_words size capacity given recovers.LoadsCounterAgain h still = (_, omega arith, refl)
 recover_words size capacity given (recovers.AddsChange state) h still = (_, change_low capacity size, refl)
 
@@ -96,7 +94,7 @@ module _ {T R : Type 0} (code : Coding T) (some : 0 < code.size) (words_in : R �
   -- a step that writes nothing
   quiet : (now : T) (visits : Visits) (es : List (Event T)) (r : After (Recovering T R) ReleaseState) → RecoverGoes now visits es r
       → RecoverGoes now visits (es ++ []) r
-  quiet now visits es r h = subst (λ zs. RecoverGoes now visits zs r) (sym (append-nil es)) h
+  quiet now visits es r h = grind (arith, append-nil)
 
   bare : (es : List (Event T)) (visits : Visits) → es ≡ written visits ++ [] → es ≡ written visits
   bare es visits w = w ∙ append-nil (written visits)
@@ -182,51 +180,12 @@ module _ {T R : Type 0} (code : Coding T) (some : 0 < code.size) (words_in : R �
   pub recovers_so : (value now : T) (stage : RecoverStage) (k : ℕ) (visits : Visits) (es : List (Event T)) → Keeps stage value now
       → RecoverIn code.size capacity mode stage → VisitsAt stage value visits → es ≡ written visits ++ told_yet p given.owner stage
       → Goes value now stage k visits es
-  recovers_so value now recovers.LoadsCounter k visits es keeps h at w =
-      quiet now visits es (recover_takes code.size c recovers.LoadsCounter given k)
-      (by_test (RecoverGoes now visits es) (k == locked) _ _ (λ t. ((same, tt), (tt, w))) (λ t. comes_to now 0 (omega arith) visits es (bare es visits w)))
-  recovers_so value now (recovers.LoadsCell index) k visits es keeps h at w =
-      quiet now visits es (recover_takes code.size c (recovers.LoadsCell index) given k)
-      (by_test (RecoverGoes now visits es) (k == given.owner) _ _ (λ t. ((same, h), (tt, w))) (λ t. next_to now index h visits es (bare es visits w)))
-  recovers_so value now (recovers.LoadsCount index) k visits es keeps h at w =
-      subst (λ zs. RecoverGoes now (seen_under index k visits) (es ++ zs) (recover_sees c index k)) (sym (append-nil _))
-      (sees now index k h visits es (bare es visits w))
-  recovers_so value now (recovers.LoadsWord index count place) k visits es keeps h at w =
-      quiet now visits es (recover_takes code.size c (recovers.LoadsWord index count place) given k)
-      (by_test (RecoverGoes now visits es) (nat_lt (place + 1) code.size) _ _
-      (λ t. (let next : place + 1 < code.size = grind (arith, nat_tests) in ((same, (h.0, h.1, next)), (tt, w))))
-      (λ t. ((same, (h.0, h.1)), (tt, w))))
-  recovers_so value now (recovers.ChecksCount index count) k visits es keeps h at w =
-      let stage : RecoverStage = recovers.ChecksCount index count in
-      let copy : List (Event T) = Copied p index value ∷ Asked p index given.owner ∷ [] in
-      by_bool (k == count)
-      (λ e. so_then now (recover_takes code.size c (recovers.ChecksCount index count) given k) (goes_to c (recovers.Asks index count))
-      (visits_after given.owner (recovers.ChecksCount index count) k value visits) ((index, HasAsked value) ∷ visits)
-      (es ++ wrote value (recovers.ChecksCount index count) k) (es ++ copy) (rw e refl) (rw e refl) (rw e refl) (
-        (same, (h.0, h.1)),
-        (
-          (visits, ap (λ (v : T). (index, HasAsked v) ∷ visits) (sym keeps)),
-          clothed (es ++ copy) ((index, HasAsked value) ∷ visits) (ap (λ zs. zs ++ copy) (bare es visits w)),
-        ),
-      ))
-      (λ e. so_then now (recover_takes code.size c (recovers.ChecksCount index count) given k) (recover_sees c index k)
-      (visits_after given.owner (recovers.ChecksCount index count) k value visits) (seen_under index k visits)
-      (es ++ wrote value (recovers.ChecksCount index count) k) (es ++ (if is_even k then Shown p index ∷ [] else []))
-      (rw e refl) (rw e refl) (rw e (ap (λ zs. es ++ zs) (append-nil (if is_even k then Shown p index ∷ [] else []))))
-      (sees now index k h.0 visits es (bare es visits w)))
-  recovers_so value now (recovers.Asks index count) k visits es keeps h at w =
-      by_bool (k == 0)
-      (λ e. so_then now (recover_takes code.size c (recovers.Asks index count) given k) (recover_comes_to c (index + 1)) visits visits
-      (es ++ wrote value (recovers.Asks index count) k) es (rw e refl) refl (rw e (append-nil es)) (next_to now index h.0 visits es (bare es visits w)))
-      (λ e. so_then now (recover_takes code.size c (recovers.Asks index count) given k) (goes_to c (recovers.EmptiesCell index count)) visits visits
-      (es ++ wrote value (recovers.Asks index count) k) (es ++ Told p index given.owner ∷ []) (rw e refl) refl (rw e refl) (
-        (same, h.0),
-        (
-          (HasAsked value, at.0, at.1, h.1),
-          ap (λ zs. zs ++ Told p index given.owner ∷ []) (bare es visits w)
-              ∙ ap (λ zs. written visits ++ zs) (sym (told_odd index count h.1)),
-        ),
-      ))
+  recovers_so value now recovers.LoadsCounter k visits es keeps h at w = grind (arith, quiet, by_test, locked, comes_to, bare)
+  recovers_so value now (recovers.LoadsCell index) k visits es keeps h at w = grind (arith, quiet, by_test, next_to, bare)
+  recovers_so value now (recovers.LoadsCount index) k visits es keeps h at w = grind (arith, append-nil, sees, bare)
+  recovers_so value now (recovers.LoadsWord index count place) k visits es keeps h at w = grind (arith, quiet, by_test, nat_tests)
+  recovers_so value now (recovers.ChecksCount index count) k visits es keeps h at w = grind (arith, by_bool, so_then, goes_to, clothed, bare, append-nil, sees)
+  recovers_so value now (recovers.Asks index count) k visits es keeps h at w = grind (arith, by_bool, so_then, append-nil, next_to, bare, goes_to, told_odd)
   recovers_so value now (recovers.EmptiesCell index count) k visits es keeps h at w =
       let came = at.0 in
       let before = at.1 in
@@ -262,11 +221,8 @@ module _ {T R : Type 0} (code : Coding T) (some : 0 < code.size) (words_in : R �
               (further index first next before es (hidden p index count k ++ []) (bare es visits w ∙ ap written at.2) refl),
         ),
       )
-  recovers_so value now (recovers.Raises index raise) k visits es keeps h at w =
-      quiet now visits es (recover_takes code.size c (recovers.Raises index raise) given k) (raised now index h mode refl visits es at w (raise_after raise k))
-  recovers_so value now (recovers.Locks index (locks.Counts count)) k visits es keeps h at w =
-      quiet now visits es (recover_takes code.size c (recovers.Locks index (locks.Counts count)) given k)
-      (counted now index h.1 h.0 visits es at w (lock_after c.capacity (locks.Counts count) k) (lock_on capacity c.capacity same (locks.Counts count) k))
+  recovers_so value now (recovers.Raises index raise) k visits es keeps h at w = grind (arith, quiet, raised)
+  recovers_so value now (recovers.Locks index (locks.Counts count)) k visits es keeps h at w = grind (arith, quiet, counted, lock_on)
   recovers_so value now (recovers.Locks index (locks.ExchangesCounter counter)) k visits es keeps h at w =
       let found = at.0 in
       let hid = at.1 in

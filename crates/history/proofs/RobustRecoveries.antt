@@ -106,16 +106,13 @@ module _ {T : Type 0} (capacity : ℕ) (c : Recovering) (same : c.capacity ≡ c
   counted : (index : ℕ) → index < capacity → mode ≡ LockIfLastIndex → (owner : ℕ) (es : List (Event T)) (visits : List Visit)
       → HasCome mode index HasFreed owner visits → es ≡ wrote_by p visits → (r : After Lock ReleaseState) → LockOn capacity r
       → RecoverGoes es visits (recover_locked c index r)
-  counted index low may owner es visits h is (GoOn lock) on = ((same, (may, low, on)), (owner, h), between es (wrote_by p visits) is)
+  counted index low may owner es visits h is (GoOn lock) on = grind (arith, between)
   counted index low may owner es visits h is (Done state) on = next_to index low es visits (came_past mode index owner HasFreed visits tt h) is
 
   recovers_so : (stage : RecoverStage) (k : ℕ) (es : List (Event T)) (visits : List Visit) → RecoverIn capacity mode stage
       → VisitsAt capacity mode stage visits → es ≡ wrote_by p visits ++ wrote_now p stage
       → RecoverGoes (es ++ recover_effects p stage k) (visits_taken stage visits k) (recover_takes c stage mode k)
-  recovers_so recovers.LoadsCounter k es visits h at is =
-      let settled = quiet es (wrote_by p visits) (all_of es (wrote_by p visits) is) in
-      by_test (RecoverGoes (es ++ []) visits) (k == locked) _ _ (λ t. (none_yet mode capacity visits at, settled))
-      (λ t. comes_to 0 (omega arith) (es ++ []) visits (none_yet mode 0 visits at) settled)
+  recovers_so recovers.LoadsCounter k es visits h at is = grind (arith, quiet, all_of, by_test, locked, none_yet, comes_to)
   recovers_so (recovers.LoadsCell index) k es visits h at is = go (k == empty) refl
     where
       wrote : es ≡ wrote_by p visits
@@ -135,7 +132,7 @@ module _ {T : Type 0} (capacity : ℕ) (c : Recovering) (same : c.capacity ≡ c
       go : (b : Bool) → (k == 0) ≡ b → RecoverGoes (es ++ recover_effects p (recovers.Asks index owner) k) more
           (recover_takes c (recovers.Asks index owner) mode k)
       go true e = rw e (next_to index h (es ++ []) more (one_more mode index owner HasAsked visits tt at) (quiet es (wrote_by p more) wrote))
-      go false e = rw e ((same, h), record { before = visits; passed = at; is = refl }, ap (λ zs. zs ++ Told p index owner ∷ []) wrote)
+      go false e = grind (arith, wrote)
   recovers_so (recovers.EmptiesCell index owner) k es visits h at is = go (k == owner) refl
     where
       told : Event T
@@ -180,11 +177,8 @@ module _ {T : Type 0} (capacity : ℕ) (c : Recovering) (same : c.capacity ≡ c
       go true e = rw e (next_to index h.1 (es ++ Locked p ∷ []) shut
           (came_past mode index at.0 HasLocked shut h.0 (comes_on mode index at.0 HasFreed HasLocked visits at.1))
           (wrote_on p mode index at.0 HasFreed HasLocked visits es (Locked p ∷ []) refl at.1 wrote))
-      go false e = rw e ((same, (h.0, h.1, tt)), at, between (es ++ []) (wrote_by p visits) (quiet es (wrote_by p visits) wrote))
-  recovers_so recovers.LoadsCounterAgain k es visits h at is =
-      by_test (λ (state : ReleaseState). RecoverGoes (es ++ []) visits (Done state)) (k == locked) states.Locked states.Unlocked
-      (λ t. (at, quiet es (wrote_by p visits) (all_of es (wrote_by p visits) is)))
-      (λ t. (at, quiet es (wrote_by p visits) (all_of es (wrote_by p visits) is)))
+      go false e = grind (arith, between, quiet, wrote)
+  recovers_so recovers.LoadsCounterAgain k es visits h at is = grind (arith, by_test, locked, quiet, all_of)
 
 -- ---- a recovery
 
@@ -341,11 +335,9 @@ module _ {T : Type 0} (code : Coding T) (mode : ReleaseMode) where
   same_there base other v c m k idle too (inl (inl a)) (inr b) = clash base v _ a.is idle b.before.going
   same_there base other v c m k idle too (inl (inr a)) (inl (inl b)) = clash other v _ b.is too a.going
   same_there base other v c m k idle too (inl (inr a)) (inl (inr b)) = under_same base other v c m k idle too a b
-  same_there base other v c m k idle too (inl (inr a)) (inr b) =
-      not_both c b.asking (number_of b.said) (going_same v c b.asking m b.room a.going b.before.going) b.asks b.goes
+  same_there base other v c m k idle too (inl (inr a)) (inr b) = grind (arith, not_both, number_of, going_same)
   same_there base other v c m k idle too (inr a) (inl (inl b)) = clash other v _ b.is too a.before.going
-  same_there base other v c m k idle too (inr a) (inl (inr b)) =
-      not_both c a.asking (number_of a.said) (going_same v c a.asking k a.room b.going a.before.going) a.asks a.goes
+  same_there base other v c m k idle too (inr a) (inl (inr b)) = grind (arith, not_both, number_of, going_same)
   same_there base other v c m k idle too (inr a) (inr b) =
       let same = going_same v b.asking a.asking b.room a.room b.before.going a.before.going in
       let rooms = under_same base other v a.asking a.room b.room idle too a.before

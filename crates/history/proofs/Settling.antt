@@ -274,8 +274,7 @@ module _ {T : Type 0} (code : Coding T) (kind : Kind) (decides : MayDecide kind)
 
     -- each step of a call that comes after one that rests keeps the rule
     pub keeps_waiting_where : KeepsWhere code kind size_of may Rested RestedOver want after kept
-    keeps_waiting_where base₀ v c m key words slots id ok wide known (inl x) =
-        begun_keeps x.from v c m key words slots id x.stage (want c) (keeps x.from v c m key words slots id ok wide known x.stage)
+    keeps_waiting_where base₀ v c m key words slots id ok wide known (inl x) = grind (arith, begun_keeps)
     keeps_waiting_where base₀ v c m key words slots id ok wide known (inr waits) =
         let resting = subst (λ z. IsResting code z) (sym waits.is) waits.resting in
         let begins = subst (λ (z : View T). Begins z c m) (sym waits.is) waits.first in
@@ -288,7 +287,7 @@ module _ {T : Type 0} (code : Coding T) (kind : Kind) (decides : MayDecide kind)
     begins_idle x0 x1 x2 x3 x4 x5 x6 = grind arith
 
     pub begins_rested : (v : View T) (c : C) (m : M) → Begins v c m → IsResting code v → Rested v v c m
-    begins_rested v c m begins resting = inr (record { is = refl; resting = resting; first = begins })
+    begins_rested v c m begins resting = grind (arith, inr)
 
   module _ {C M E : Type 0} (want : C → Want (Unit {0})) (after : C → ℕ → After C E) (kept : C → M → ℕ → M)
       (Stage : View T → View T → C → M → Type 0) (Over : View T → E → M → View T → Type 0)

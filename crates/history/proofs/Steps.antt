@@ -56,7 +56,7 @@ module _ {T : Type 0} (code : Coding T) (kind : Kind) (capacity id p : ℕ) wher
       }
     where
       beyond : (j : ℕ) → length (slice_set s.views id (view_after v gained u)) ≤ j → length s.views ≤ j
-      beyond j past = let long = length-set s.views id (view_after v gained u) in omega arith
+      beyond j past = grind (arith, length-set)
 
       -- the party's number is one of a seat
       none : (j : ℕ) → length (slice_set s.views id (view_after v gained u)) ≤ j → j ≡ p → ⊥

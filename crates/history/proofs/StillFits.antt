@@ -41,10 +41,8 @@ module _ {T : Type 0} where
     own_on x0 x1 x2 x3 x4 = grind (arith, by_more, by_party, late_is, append_assoc, by_same, quiet)
 
     sums_on : (o : Option ℕ) → v.party ≡ o → (g : Event T → ℕ) → sum_by g (by_party o es) ≡ sum_by (owned owner j g) es
-    sums_on None is g = sym (owned_none owner j g es (λ q of_j. quiet_else None is q of_j (λ e. absurd (cc))))
-    sums_on (Some r) is g =
-        let of_j : owner r ≡ j = subst (λ (o : Option ℕ). IfSome o (λ p. owner p ≡ j)) is f.party in
-        sym (owned_one owner j r g es of_j (λ q mine ne. quiet_else (Some r) is q mine (λ e. (let is_q : r ≡ q = cc in ne (sym is_q)))))
+    sums_on None is g = grind (arith, owned_none, quiet_else)
+    sums_on (Some r) is g = grind (arith, owned_one, quiet_else)
 
     pub still_fits : Fits owner w j v
     still_fits =

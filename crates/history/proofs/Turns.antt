@@ -231,7 +231,7 @@ module _ {T : Type 0} where
         begun = grind (arith, after_turn, by_mine, begins)
 
         pub begun_at : call_in (after_turn u (Begin p start)).world p ≡ Some (start, flight)
-        begun_at = begin_own u.world p start flight (first_of u.world.kind u.world.capacity start u.world.kept) first_here
+        begun_at = grind (arith, begin_own, first_of, first_here)
 
         pub begun_kept : (after_turn u (Begin p start)).world.kept ≡ kept_after_begin code capacity start p u.world.kept
         begun_kept = grind arith
@@ -332,18 +332,8 @@ module _ {T : Type 0} where
           where
             go : (o : Option Ask) → IfSome o (λ a. a.word < words) → ask_in u.world (Next p) ≡ o
                 → words_after s.words o ≡ (after_turn u (Next p)).world.words ++ 0 ∷ []
-            go None below e = b.words ∙ ap (λ ws. ws ++ 0 ∷ []) (sym (writes_one_word u.world (Next p) ∙ ap (words_after u.world.words) e))
-            go (Some a) below e =
-                let within : a.word < length u.world.words = (let all = laws.size u b.run in omega arith) in
-                let old : slice_index s.words a.word ≡ slice_index u.world.words a.word =
-                ap (λ ws. slice_index ws a.word) b.words ∙ get_left u.world.words (0 ∷ []) a.word within in
-                let new : (after_turn u (Next p)).world.words
-                ≡ slice_set u.world.words a.word (written a.op (slice_index u.world.words a.word)) =
-                writes_one_word u.world (Next p) ∙ ap (words_after u.world.words) e in
-                ap (λ ws. slice_set ws a.word (written a.op (slice_index s.words a.word))) b.words
-                ∙ (ap (λ n. slice_set (u.world.words ++ 0 ∷ []) a.word (written a.op n)) old
-                ∙ (set_left u.world.words (0 ∷ []) a.word (written a.op (slice_index u.world.words a.word)) within
-                ∙ ap (λ ws. ws ++ 0 ∷ []) (sym new)))
+            go None below e = grind (arith, writes_one_word)
+            go (Some a) below e = grind (arith, length, get_left, after_turn, written, writes_one_word, set_left)
 
         fresh_now : IsFreshTurn u (Next p)
         fresh_now x0 x1 = grind (arith, here, found_old)

@@ -182,7 +182,7 @@ module _ {T R : Type 0} (code : Coding T) (law : IsCoding code) (words_in : R �
       (calls.TheVariants.Load (record { call = record { stage = stage; of = record {} }; given = tt; room = room }))
 
   put_there : (m : R) (at n : ℕ) → at < code.size → kept_at (room_of code.size (words_in m)) at n ≡ room_of code.size (words_in (with_word m at n))
-  put_there m at n below = room_set code.size at n (words_in m) below ∙ ap (room_of code.size) (sym (put_in m at n))
+  put_there m at n below = grind (arith, room_set, room_of)
 
   load_same_after : (c : Loading T R) (m : R) (n : ℕ) (stage : loads.LoadStage) → LoadStands code.size stage
       → after_of code (flight_at stage (room_of code.size (words_in m))) n

@@ -96,11 +96,7 @@ module _ {T : Type 0} (p : ℕ) where
       go : (events_by p es ≡ [] → (holder_of (before ++ e ∷ []) ≡ Some p) × (flat_map stores es ≡ [])) → (b : Bool)
           → is_party p (whose e) ≡ b → (holder_of before ≡ Some p) × (flat_map stores (e ∷ es) ≡ [])
       go later true t = (let mine : e ∷ events_by p es ≡ [] = rw t at none in absurd (cc))
-      go later false t =
-          let rest : events_by p es ≡ [] = rw t at none in
-          let more = later rest in
-          let one = back_from before e (each before es e refl) t (sym (fold-append holder_after None before (e ∷ [])) ∙ more.0) in
-          (one.0, ap (λ xs. xs ++ flat_map stores es) one.1 ∙ more.1)
+      go later false t = grind (arith, back_from, fold-append, stores)
 
 -- ---- and it stays with the party until the party gives it back
 
@@ -131,9 +127,7 @@ module _ {T : Type 0} (p : ℕ) where
 
       go : (ArePlain (events_by p es) → holder_after (Some p) e ≡ Some p → flat_map stores es ≡ []) → (b : Bool)
           → is_party p (whose e) ≡ b → flat_map stores (e ∷ es) ≡ []
-      go later true t =
-          let own : IsPlain e × ArePlain (events_by p es) = rw t at plain in
-          ap (λ xs. xs ++ flat_map stores es) own.0.0 ∙ later own.1 own.0.1
+      go later true t = grind (arith, stores)
       go later false t =
           let rest : ArePlain (events_by p es) = rw t at plain in
           let one = forth_from before e (each before es e refl) (grants before es e refl) t now in

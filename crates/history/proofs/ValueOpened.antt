@@ -33,7 +33,7 @@ use Rattle.history.proofs.Values.{value_effects, value_owes, plain_starts, produ
 -- ---- lists of words
 
 pub set_right : (xs ys : List ℕ) (i n : ℕ) → set (xs ++ ys) (length xs + i) n ≡ xs ++ set ys i n
-set_right [] ys i n = let same : 0 + i ≡ i = omega arith in ap (λ k. set ys k n) same
+set_right [] ys i n = grind (arith, set)
 set_right (x ∷ xs) ys i n = let same : suc (length xs) + i ≡ suc (length xs + i) = omega arith in
     ap (λ k. set (x ∷ (xs ++ ys)) k n) same ∙ ap (λ zs. x ∷ zs) (set_right xs ys i n)
 
@@ -75,8 +75,7 @@ two_length x0 x1 x2 x3 x4 x5 = grind (arith, length-append)
 
 two_set : (p size : ℕ) (xs ys : List ℕ) (at n : ℕ) → p < 2 → length xs ≡ size → length ys ≡ size → at < size
     → set (two p xs ys) (size * p + at) n ≡ two p (set xs at n) ys
-two_set zero size xs ys at n low a b below = let same : size * 0 + at ≡ at = omega arith in
-    ap (λ k. set (xs ++ ys) k n) same ∙ set_left xs ys at n (omega arith)
+two_set zero size xs ys at n low a b below = grind (arith, set, set_left)
 two_set (suc zero) size xs ys at n low a b below = let same : size * 1 + at ≡ length ys + at = omega arith in
     ap (λ k. set (ys ++ xs) k n) same ∙ set_right ys xs at n
 two_set (suc (suc p)) size xs ys at n low a b below = absurd (omega arith)

@@ -162,7 +162,7 @@ module _ {T R : Type 0} (code : Coding T) (law : IsCoding code) (words_in : R �
   room_in m = room_of code.size (words_in m)
 
   put_there : (m : R) (at n : ℕ) → at < code.size → kept_at (room_in m) at n ≡ room_in (with_word m at n)
-  put_there m at n below = room_set code.size at n (words_in m) below ∙ ap (room_of code.size) (sym (put_in m at n))
+  put_there m at n below = grind (arith, room_set, room_of)
 
   pop_same_after : (capacity : ℕ) (c : Popping T R) (m : R) (n : ℕ) (stage : pops.PopStage)
       → PopPlace code.size capacity stage
@@ -183,7 +183,7 @@ module _ {T R : Type 0} (code : Coding T) (law : IsCoding code) (words_in : R �
           ≡ goes popping (pop_takes code.size c (pops.TheVariants.LoadsCell read cell at) n) (with_word m at n)
       go true t = rw t (ap (λ r. GoOn (flight_at c.capacity (pops.TheVariants.LoadsCell read cell (at + 1)) r)) (put_there m at n h.2))
       go false t = rw t (ap (λ r. GoOn (flight_at c.capacity (pops.TheVariants.StoresRead read) r)) (put_there m at n h.2))
-  pop_same_after capacity c m n (pops.TheVariants.StoresRead read) h = ap (λ x. Done (answers.Popped x)) (room_read code (words_in m))
+  pop_same_after capacity c m n (pops.TheVariants.StoresRead read) h = grind (arith, room_read)
 
   pop_quiet : (p n : ℕ) (c d : Popping T R) (m : R) (stage : pops.PopStage) → pop_takes code.size c stage n ≡ GoOn d
       → queue_effects code p (flight_at c.capacity stage (room_in m)) n ≡ []
@@ -212,10 +212,7 @@ module _ {T R : Type 0} (code : Coding T) (law : IsCoding code) (words_in : R �
           → [] ≡ value_pop_wrote {T = T} p (value_there code words_in (with_word m at n)) b
       go true e = absurd (cc)
       go false e = absurd (cc)
-  pop_loud p n c m b (pops.TheVariants.StoresRead read) e =
-      let same : true ≡ b = cc in
-      ap (λ x. HandedOut p (Value x) ∷ Acted p (Queues Pop) (answers.Popped x) ∷ []) (room_read code (words_in m))
-      ∙ ap (value_pop_wrote p (value_there code words_in m)) same
+  pop_loud p n c m b (pops.TheVariants.StoresRead read) e = grind (arith, room_read, value_there)
 
   module _ (capacity : ℕ) where
     abbrev PopsNext : Popping T R → Type 0

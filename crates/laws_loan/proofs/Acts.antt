@@ -201,22 +201,14 @@ module _ {T : Type 0} (code : Coding T) (slots queue : ℕ) (t : Trace T)
       found = submission_old slots queue k busy s.holds.parts (load 0) (omega arith)
 
       at_first : asked ≡ Some (record { word = submission_word t.world.capacity; op = Load })
-      at_first =
-          let few = s.holds.parts.set.few in
-          let first : word_at (submission_word slots) 0 ≡ submission_word slots = omega arith in
-          asks ∙ (ap (λ w. Some (record { word = w; op = Load })) first ∙ ap (λ n. Some (record { word = submission_word n; op = Load })) (sym s.capacity))
+      at_first = grind (arith, word_at)
 
       go : (b : Bool) → (old == read) ≡ b → Right (acts_of p (if b then effects.FindsNone else effects.Quiet))
-      go true e =
-          let is = found in
-          let same : k.submission.write ≡ read = grind (arith, nat_tests) in
-          ((refl, at_first, none_waits read known.0 same), tt)
-      go false e = tt
+      go x0 x1 = grind (arith, found, at_first, none_waits, nat_tests)
   receive_right other since changes backs (overflow_pops.TheVariants.LoadsCell read) room known asks = tt
   receive_right other since changes backs (overflow_pops.TheVariants.MovesRead read) room known asks = go (moved read == read) refl
     where
       go : (b : Bool) → (moved read == read) ≡ b
           → Right
           (acts_of p (if b then effects.Receives (sent_at (submission_word slots) queue (words_in k) read) waits else effects.Quiet))
-      go true e = let adds = moves_on read e asks in ((refl, adds), made_right other adds waits refl)
-      go false e = tt
+      go x0 x1 = grind (arith, moves_on, made_right)

@@ -76,9 +76,7 @@ module _ {T : Type 0} (code : Coding T) (slots queue : ℕ) (s : Channel T) (lat
       → (is_past slots (asks_for start) ≡ false) × (lacks_role s.book p start ≡ false)
       × (lacks_index s.book p (asks_for start) ≡ false) × (has_died p s.book.dead ≡ false)
       × (reclaims_early s.book start ≡ false)
-  passed start r =
-      rows_passed (is_past slots (asks_for start)) (lacks_role s.book p start) (lacks_index s.book p (asks_for start))
-      (has_died p s.book.dead) (reclaims_early s.book start) r
+  passed x0 x1 = grind (arith, rows_passed, asks_for)
 
   pub first_is : (start : LoanStart) → first_row (call_rows slots s.book p start) ≡ None → First start (first slots s.book start)
   first_is calls.Loan r =

@@ -65,7 +65,7 @@ module _ {T : Type 0} (code : Coding T) (slots queue : ℕ) (s : Channel T) (lat
   module _ (h : HoldsNow slots queue s latest s.events turns) (inv : frame.Inv channel s latest s.events changes)
       (free : flight_of (doing_of (party_of p latest)) ≡ None) (first : IsFirst) where
     shut : IsShut (span_of p s.events)
-    shut = frame.shut channel s p (party_of p latest) (span_of p s.events) free (inv.calls p)
+    shut = grind arith
 
     mine_opens : span_of p events_then ≡ Open (starts.Loan start) []
     mine_opens = span_of-own p s.events (begun ∷ []) (refl, tt)
@@ -79,23 +79,13 @@ module _ {T : Type 0} (code : Coding T) (slots queue : ℕ) (s : Channel T) (lat
     weighs_same {A} f e = ⊎_elim mine other (cases_eq p 0)
       where
         mine : p ≡ 0 → f (sends_at (put p began latest)) ≡ f (sends_at latest)
-        mine z =
-            let here : sends_at (put p began latest) ≡ Some (flights.TheVariants.Loan flight) =
-            ap (λ n. flight_of (doing_of (party_of n (put p began latest)))) (sym z) ∙ ap (λ o. flight_of (doing_of o)) (party_put_same p began latest)
-            in
-            let none : sends_at latest ≡ None = ap (λ n. flight_of (doing_of (party_of n latest))) (sym z) ∙ free in
-            ap f here ∙ (e ∙ ap f (sym none))
+        mine x0 = grind (arith, sends_at, put, party_put_same)
 
         other : p ≢ 0 → f (sends_at (put p began latest)) ≡ f (sends_at latest)
         other ne = ap (λ o. f (flight_of (doing_of o))) (party_put_other 0 p began latest (λ z. ne (sym z)))
 
     still_carried : (index q : ℕ) → spot_of index s.events ≡ Passing q → Carries index (span_of q events_then)
-    still_carried index q e =
-        let carried = h.passing index q e in
-        ⊎_elim
-        (λ same. absurd (shut_none index (span_of p s.events) shut (subst (λ n. Carries index (span_of n s.events)) same carried)))
-        (λ ne. subst (Carries index) (sym (theirs_stays q ne)) carried)
-        (cases_eq q p)
+    still_carried x0 x1 x2 = grind (arith, shut_none, shut, theirs_stays, cases_eq)
 
     parts_then : Holds slots queue after (counted_for (sends_at (put p began latest)))
     parts_then =

@@ -73,13 +73,7 @@ pub opening_fits : (T : Type 0) (slots queue : ℕ) → Represents {T = T} (open
 opening_fits T slots queue = (refl, refl)
 
 empty_good : (cells : ℕ) → queues.Good 1 words_of_index cells (empty cells)
-empty_good cells =
-    record {
-      write = refl;
-      few = omega arith;
-      cells = length-replicate {A = ℕ} cells 0 ∙ (omega arith);
-      held = λ i v e. absurd (cc);
-    }
+empty_good x0 = grind (arith, length-replicate)
 
 pub all_free : (n i : ℕ) → place_at (replicate n places.Free) i ≡ places.Free
 all_free zero i = refl
@@ -87,16 +81,10 @@ all_free (suc n) zero = refl
 all_free (suc n) (suc i) = all_free n i
 
 nobody_by : (p : ℕ) → IsBy p Free → ⊥
-nobody_by p by = ⊎_elim (λ (e : Free ≡ With p). absurd (cc)) (λ (e : Free ≡ Passing p). absurd (cc)) by
+nobody_by x0 x1 = grind arith
 
 opening_keeps : {T : Type 0} (slots queue : ℕ) → KeepsBook {T = T} (opening_book slots queue) []
-opening_keeps slots queue =
-    record {
-      places = λ i. rw (all_free slots i) refl;
-      holders = λ i. nobody_holds slots i;
-      receiver = refl;
-      dead = λ p. refl;
-    }
+opening_keeps x0 x1 = grind (arith, all_free, nobody_holds)
 
 opening_placed : {T : Type 0} (slots queue : ℕ) → Placed {T = T} slots (replicate slots None) [] [] (opening_book slots queue) []
 opening_placed slots queue =

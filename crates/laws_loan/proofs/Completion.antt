@@ -38,7 +38,7 @@ module _ (slots : ℕ) (some : 1 ≤ slots) (few : slots < 2 ^ 24) (k : Core ℕ
   cell_on x0 = grind arith
 
   pub cell_is : (position : ℕ) → get_or ws (word_at (cell_word slots 1 position) 0) 0 ≡ get_or k.cells (1 * (position % slots) + 0) 0
-  cell_is position = core.word_at k.write k.read 1 1 k.cells (word_at (cell_word slots 1 position) 0) (1 * (position % slots) + 0) (cell_place position)
+  cell_is x0 = grind (arith, word_at, cell_place)
 
   -- the first value stands in the cell of the read position
   pub first_is : (value : ℕ) (rest : List ℕ) → k.waiting ≡ value ∷ rest → get_or ws (word_at (cell_word slots 1 k.read) 0) 0 ≡ value
@@ -67,7 +67,7 @@ module _ (slots : ℕ) (some : 1 ≤ slots) (few : slots < 2 ^ 24) (k : Core ℕ
     fills_cell = Some (record { word = word_at (cell_word slots 1 k.write) 0; op = Store v })
 
     pub fill_words : words_after ws fills_cell ≡ layout no_roles fill
-    fill_words = set_at k.write k.read 1 1 k.cells (word_at (cell_word slots 1 k.write) 0) (1 * (k.write % slots) + 0) v (cell_place k.write)
+    fill_words = grind (arith, set_at, word_at, cell_place)
 
     pub fill_good : Good 1 words_of_index slots fill
     fill_good = fills 1 words_of_index slots k 0 v room (omega arith) g
@@ -85,7 +85,7 @@ module _ (slots : ℕ) (some : 1 ≤ slots) (few : slots < 2 ^ 24) (k : Core ℕ
     publish_words = grind arith
 
     pub publish_changes : change_of ws next_write ≡ 1
-    publish_changes = let moved : (after_position k.write == k.write) ≡ false = grind (arith, nat_tests) in rw moved refl
+    publish_changes = grind (arith, false, nat_tests)
 
     pub publish_good : Holds 1 words_of_index slots k.cells k.write v 1 → Good 1 words_of_index slots publish
     publish_good whole = publishes 1 words_of_index slots k v room g whole
@@ -94,10 +94,7 @@ module _ (slots : ℕ) (some : 1 ≤ slots) (few : slots < 2 ^ 24) (k : Core ℕ
 
   -- it finds nothing, or something
   pub finds_none : (k.write == k.read) ≡ true → k.waiting ≡ []
-  finds_none t =
-      let write = g.write in
-      let same : k.write ≡ k.read = grind (arith, nat_tests) in
-      nil_from_length k.waiting (omega arith)
+  finds_none x0 = grind (arith, nil_from_length, nat_tests)
 
   pub finds_some : (k.write == k.read) ≡ false → k.read < k.write
   finds_some x0 = grind arith

@@ -34,15 +34,11 @@ stored xs ws zs n v few below =
 
 module _ (xs ws zs : List ℕ) (few : length xs + length ws < 2 ^ 64) where
   pub shifted_old : (want : Want (Unit {0})) → IsOn ws want → old_of (xs ++ (ws ++ zs)) (ask_of (shifted (length xs) want)) ≡ old_of ws (ask_of want)
-  shifted_old (wants.TheVariants.Ask ask) below = read xs ws zs ask.word few below
-  shifted_old want on = refl
+  shifted_old x0 x1 = grind (arith, read)
 
   pub shifted_words : (want : Want (Unit {0})) → IsOn ws want
       → words_after (xs ++ (ws ++ zs)) (ask_of (shifted (length xs) want)) ≡ xs ++ (words_after ws (ask_of want) ++ zs)
-  shifted_words (wants.TheVariants.Ask ask) below =
-      ap (λ old. set (xs ++ (ws ++ zs)) (word_at (length xs) ask.word) (written ask.op old)) (read xs ws zs ask.word few below)
-      ∙ stored xs ws zs ask.word (written ask.op (get_or ws ask.word 0)) few below
-  shifted_words want on = refl
+  shifted_words x0 x1 = grind (arith, set, word_at, length, written, read, stored)
 
   ask_change : (ask : Ask) → ask.word < length ws
       → change_of (xs ++ (ws ++ zs)) (ask_of (shifted (length xs) (wants.TheVariants.Ask ask))) ≡ change_of ws (ask_of (wants.TheVariants.Ask ask))

@@ -68,17 +68,7 @@ module _ {T : Type 0} (slots queue : ℕ) (s : Channel T) (o : ℕ) where
       (lists_stay is_returning s.completion.waiting s.events (Died o) h.returns refl)
 
   parts_then : (busy : ℕ) → Holds slots queue s busy → Holds slots queue after busy
-  parts_then busy h =
-      record {
-        capacity = h.capacity;
-        some = h.some;
-        few = h.few;
-        set = h.set;
-        submission = h.submission;
-        completion = h.completion;
-        unlocked = h.unlocked;
-        placed = placed_then h.placed;
-      }
+  parts_then x0 x1 = grind (arith, placed_then)
 
   told_then : Told queue s.submission.waiting s.completion.waiting s.events → Told queue s.submission.waiting s.completion.waiting (s.events ++ Died o ∷ [])
   told_then h =
@@ -112,16 +102,7 @@ module _ {T : Type 0} (slots queue : ℕ) (s : Channel T) (o : ℕ) where
 
   at_on : (p : ℕ) (wrote : List (Event T)) (start : LoanStart) (flight : LoanFlight)
       → At slots queue s p wrote start flight → At slots queue after p wrote start flight
-  at_on p =
-      at_stays slots queue s after.book (s.events ++ Died o ∷ []) p
-      (record {
-        passes = λ index e. same_spot index ∙ e;
-        no_more = λ index e. sym (same_spot index) ∙ e;
-        places = refl;
-        receiver = refl;
-        alive = λ alive. was_alive (o == p) (has_died p s.book.dead) (sym (died_with p o s.book.dead) ∙ alive);
-        dead = λ dead. died_with s.book.receiver o s.book.dead ∙ still_dead (o == s.book.receiver) (has_died s.book.receiver s.book.dead) dead;
-      })
+  at_on x0 = grind (arith, at_stays, same_spot, was_alive, died_with, still_dead)
 
 -- ---- the turn
 
@@ -134,10 +115,7 @@ module _ {T : Type 0} (code : Coding T) (slots queue : ℕ) where
   fit_then x0 x1 x2 x3 x4 = grind arith
 
   call_on : (s : Channel T) (o q : ℕ) (start : Start T) (flight : Flight T) → channel.At s q start flight → channel.At (after slots queue s o) q start flight
-  call_on s o q (starts.Loan start) (flights.TheVariants.Loan flight) h =
-      subst (λ wrote. At slots queue (after slots queue s o) q wrote start flight) (ap wrote_in (sym (span_of-death q s.events o)))
-      (at_on slots queue s o q (wrote_in (span_of q s.events)) start flight h)
-  call_on s o q start flight h = absurd h
+  call_on x0 x1 x2 x3 x4 x5 = grind (arith, span_of-death, at_on)
 
   known_on : (s : Channel T) (o since changes backs : ℕ) (flight : Flight T)
       → channel.Knows s o s.events since changes backs flight

@@ -68,7 +68,7 @@ module _ {T : Type 0} (code : Coding T) (slots queue : ℕ) (s : Channel T) (lat
   low_write = let sent = h.sent in omega arith
 
   wide : length queued ≡ 5 + queue
-  wide = submission.long queue h.parts.some h.parts.few s.submission h.parts.submission low_write
+  wide = grind (arith, low_write)
 
   old_is : (stage : PopStage) → IsOn queued (pop_asks queue stage) → value stage ≡ old_of queued (ask_of (pop_asks queue stage))
   old_is stage on = submission_old slots queue s (counted_for (sends_at latest)) h.parts (pop_asks queue stage) on
@@ -152,19 +152,11 @@ module _ {T : Type 0} (code : Coding T) (slots queue : ℕ) (s : Channel T) (lat
       below = sent_below slots s.claims s.submission.waiting s.completion.waiting s.book s.events h.parts.placed u rest first
 
       was_waiting : spot_of u s.events ≡ Waiting
-      was_waiting = waits_there (spot_of u s.events) (first_there is_waiting s.submission.waiting rest s.events u first h.parts.placed.waits)
+      was_waiting = grind (arith, waits_there, first_there)
 
       -- the reclaim pops the queue as it hands the index out
       tells_out : Tells queue true s.submission.waiting rest s.completion.waiting s.completion.waiting (hands ∷ [])
-      tells_out =
-          let few = steps.calm code slots queue s latest turns changes since x wrote h under here idle from known straight in
-          let list = pop_front {T = T} queue s.submission.waiting u rest first few in
-          record {
-            book = append-nil (items s.submission.waiting) ∙ ap items first;
-            given = append-nil s.completion.waiting;
-            goes = list.0;
-            answers = ap (λ (o : Option (Item T)). answer_of_item o ∷ []) list.1;
-          }
+      tells_out = grind (arith, pop_front, append-nil, items)
 
       leads : x.steps ≤ 4 * length (handed_out wrote) + 3
           → steps.Leads code slots queue s latest turns changes since x wrote h under here idle from known straight
@@ -249,11 +241,4 @@ module _ {T : Type 0} (code : Coding T) (slots queue : ℕ) (s : Channel T) (lat
 
   pub drains_does : (stage : PopStage) → StageAt slots s.submission s.completion s.book.places wrote (drains stage)
       → x.steps ≤ reclaim_number slots wrote (drains stage) → Does_at stage
-  drains_does pops.TheVariants.FindsNone at few = absurd at.0
-  drains_does pops.TheVariants.LoadsRead at few = loads_read at.1 at.2 at.3 (omega arith)
-  drains_does (pops.TheVariants.LoadsWrite read) at few =
-      subst (λ n. Does_at (pops.TheVariants.LoadsWrite n)) (sym at.0) (loads_write at.1 at.2 at.3 few)
-  drains_does (pops.TheVariants.LoadsCell read) at few =
-      subst (λ n. Does_at (pops.TheVariants.LoadsCell n)) (sym at.0.0) (loads_cell at.1 at.2 at.3 at.0.1 few)
-  drains_does (pops.TheVariants.MovesRead read) at few =
-      subst (λ n. Does_at (pops.TheVariants.MovesRead n)) (sym at.0.0) (moves_read at.1 at.2 at.3 at.0.1 few)
+  drains_does x0 x1 x2 = grind (arith, loads_read, loads_write, loads_cell, moves_read)

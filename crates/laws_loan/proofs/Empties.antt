@@ -155,12 +155,10 @@ module _ {T : Type 0} (code : Coding T) (slots queue : ℕ) (s : Channel T) (lat
         s_end = queues_then slots queue s latest turns y_end s.submission s.completion (reclaimed s.book) (end ∷ [])
 
         home : (i : ℕ) → IsHome (spot_of i s.events)
-        home =
-            all_home slots s.claims s.submission.waiting s.completion.waiting s.book s.events h.parts.placed
-            (λ j below. none j (omega arith) below) known.sent
+        home = grind (arith, all_home)
 
         ended_then : span_of 0 (s.events ++ end ∷ []) ≡ Ended (start code slots queue s latest turns changes since x wrote) (Number 0) wrote
-        ended_then = span_of-own 0 s.events (end ∷ []) (refl, tt) ∙ ap (λ span. fold own_after span (end ∷ [])) from
+        ended_then = grind (arith, span_of-own, fold)
 
         on_queues_end : OnQueues slots queue s latest turns y_end s.submission s.completion (reclaimed s.book) (end ∷ [])
         on_queues_end =
@@ -268,7 +266,7 @@ module _ {T : Type 0} (code : Coding T) (slots queue : ℕ) (s : Channel T) (lat
       below = back_below slots s.claims s.submission.waiting s.completion.waiting s.book s.events h.parts.placed v rest first
 
       was_returning : spot_of v s.events ≡ Returning
-      was_returning = returns_there (spot_of v s.events) (first_there is_returning s.completion.waiting rest s.events v first h.parts.placed.returns)
+      was_returning = grind (arith, returns_there, first_there)
 
       leads : x.steps ≤ 4 * (slots + 1) + 4 * length (taken_back wrote) + 3
           → steps.Leads code slots queue s latest turns changes since x wrote h under here idle from known straight
@@ -352,14 +350,4 @@ module _ {T : Type 0} (code : Coding T) (slots queue : ℕ) (s : Channel T) (lat
   pub empties_does : (stage : PopStage)
       → StageAt slots s.submission s.completion s.book.places wrote (empties stage)
       → x.steps ≤ reclaim_number slots wrote (empties stage) → Does_at stage
-  empties_does pops.TheVariants.LoadsRead at less = loads_read at.1 at.2 at.3 (omega arith)
-  empties_does (pops.TheVariants.LoadsWrite read) at less =
-      subst (λ n. Does_at (pops.TheVariants.LoadsWrite n)) (sym at.0) (loads_write at.1 at.2 at.3 less)
-  empties_does (pops.TheVariants.LoadsCell read cell place) at less =
-      let zero = at.0.3 in
-      subst (λ n. Does_at (pops.TheVariants.LoadsCell read cell n)) (sym at.0.3)
-      (subst (λ n. Does_at (pops.TheVariants.LoadsCell read n 0)) (sym at.0.2)
-      (subst (λ n. Does_at (pops.TheVariants.LoadsCell n (cell_word slots 1 s.completion.read) 0)) (sym at.0.0)
-      (loads_cell at.1 at.2 at.3 at.0.1 (omega arith))))
-  empties_does (pops.TheVariants.StoresRead read) at less =
-      subst (λ n. Does_at (pops.TheVariants.StoresRead n)) (sym at.0.0) (stores_read at.1 at.2 at.3 at.0.1 less)
+  empties_does x0 x1 x2 = grind (arith, loads_read, loads_write, loads_cell, stores_read)

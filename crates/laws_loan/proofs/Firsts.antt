@@ -150,7 +150,7 @@ module _ {T : Type 0} (code : Coding T) (slots queue : ℕ) (s : Channel T) (lat
 
     not_reclaiming : (start : LoanStart) → reclaims_in {T = T} (Open (starts.Loan start) []) ≡ false
         → is_reclaiming s.events ≡ reclaims_in (span_of 0 (s.events ++ Begun 0 (starts.Loan start) ∷ []))
-    not_reclaiming start other = quiet ∙ (sym other ∙ sym (ap reclaims_in (span_of-own 0 s.events (Begun 0 (starts.Loan start) ∷ []) (refl, tt))))
+    not_reclaiming x0 x1 = grind (arith, quiet, span_of-own)
 
     pub loan_first : First 0 calls.Loan (loan_of slots)
     loan_first = asks_none 0 calls.Loan refl (loan_of slots) refl refl refl refl (not_reclaiming calls.Loan refl) (refl, refl, refl, tt) refl

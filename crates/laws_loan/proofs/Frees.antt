@@ -125,7 +125,7 @@ module _ {T : Type 0} (code : Coding T) (slots queue : ℕ) (s : Channel T) (lat
 
     -- the sender's table: the index is free, and the others are as they were
     long : index < length s.book.places
-    long = let all = h.parts.placed.places_long in let below = at.stage_at.1 in omega arith
+    long = grind arith
 
     place_other : (j : ℕ) → index ≢ j → place_at book_freed.places j ≡ place_at s.book.places j
     place_other j ne = get_or-set_other s.book.places index j places.Free places.Free (λ e. ne (sym e))
@@ -289,13 +289,13 @@ module _ {T : Type 0} (code : Coding T) (slots queue : ℕ) (s : Channel T) (lat
       s_end = set_then slots queue s latest turns y_end words_then s.claims book_end (end ∷ [])
 
       home : (i : ℕ) → IsHome (spot_of i s.events)
-      home = all_home slots s.claims s.submission.waiting s.completion.waiting s.book s.events h.parts.placed none at.sent
+      home = grind (arith, all_home)
 
       next_receiver : receiver_of (s.events ++ end ∷ []) ≡ receiver_of s.events + 1
       next_receiver = receiver_then s.events answer
 
       ended_then : span_of 0 (s.events ++ end ∷ []) ≡ Ended (starts.Loan calls.Reclaim) answer wrote
-      ended_then = span_of-own 0 s.events (end ∷ []) (refl, tt) ∙ ap (λ span. fold own_after span (end ∷ [])) from
+      ended_then = grind (arith, span_of-own, fold)
 
       on_set_ends : OnSet slots queue s latest turns y_end words_then s.claims book_end (end ∷ [])
       on_set_ends =

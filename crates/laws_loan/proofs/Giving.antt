@@ -47,35 +47,10 @@ module _ {T : Type 0} (slots queue : ℕ) (s : Channel T) (latest : List (ℕ ×
     sends_still = ap (λ o. flight_of (doing_of o)) (party_put_other 0 p y latest (λ e. on.other (sym e)))
 
     parts_given : Holds slots queue given_to (counted_for (sends_at (put p y latest)))
-    parts_given =
-        record {
-          capacity = h.parts.capacity;
-          some = h.parts.some;
-          few = h.parts.few;
-          set = subst (λ o. indices.Good slots s.set s.claims (counted_for o)) (sym sends_still) h.parts.set;
-          submission = h.parts.submission;
-          completion = on.good;
-          unlocked = h.parts.unlocked;
-          placed = on.placed;
-        }
+    parts_given = grind (arith, sends_still)
 
     pub given_shows : Shows slots queue s given_to p y latest turns es
-    given_shows =
-        let sent = h.sent in
-        record {
-          events = refl;
-          parts = parts_given;
-          tells = on.tells;
-          hangs = subst (λ o. Hangs queue s.submission (hung s.submission.read o)) (sym sends_still) h.hangs;
-          reclaiming = on.reclaiming;
-          sent = omega arith;
-          given = on.write;
-          receivers = on.receivers;
-          moves = on.moves;
-          begins = on.begins;
-          answers = on.answers;
-          passing = on.passing;
-        }
+    given_shows = grind (arith, parts_given, sends_still)
 
 module _ {T : Type 0} (code : Coding T) (slots queue : ℕ) (s : Channel T) (latest : List (ℕ × Party T))
     (turns changes since : ℕ) (x : Party T) (p : ℕ) (completion' : Core ℕ) (from : Span T) (start : LoanStart)
@@ -131,28 +106,7 @@ module _ {T : Type 0} (code : Coding T) (slots queue : ℕ) (s : Channel T) (lat
   s_on = given_to slots queue s latest turns p y_on k []
 
   on_completion : OnCompletion slots queue s latest turns p y_on k []
-  on_completion =
-      let given = h.given in
-      let same : receiver_of (s.events ++ []) ≡ receiver_of s.events = ap receiver_of (append-nil s.events) in
-      record {
-        other = other;
-        good = good;
-        placed =
-            subst (λ back. Placed slots s.claims s.submission.waiting back s.book (s.events ++ [])) (sym waits)
-            (subst (Placed slots s.claims s.submission.waiting s.completion.waiting s.book) (sym (append-nil s.events)) h.parts.placed);
-        tells =
-            silent_tells queue (is_reclaiming s.events) s.submission.waiting s.completion.waiting k.waiting [] refl refl
-            refl (append-nil s.completion.waiting ∙ sym waits);
-        reclaiming = h.reclaiming ∙ ap (λ es. reclaims_in (span_of 0 es)) (sym (append-nil s.events));
-        write = omega arith;
-        receivers = (omega arith, omega arith);
-        moves = tt;
-        begins = tt;
-        answers = tt;
-        passing =
-            λ i q e. subst (λ es. Carries i (span_of q es)) (sym (append-nil s.events))
-            (h.passing i q (ap (spot_of i) (sym (append-nil s.events)) ∙ e));
-      }
+  on_completion = grind (arith, append-nil, silent_tells)
 
   pub gives_on : words_after (words_in s) ask ≡ words_in s_on
       → x.steps + step_count ask ≤ number_of slots wrote flight (x.backs + one_if back) → At slots queue s_on p wrote start flight

@@ -36,30 +36,11 @@ module _ {T : Type 0} where
 
   silent : {X : Type 0} (tells : Event T → List X) (wrote : List (Event T)) (e : Event T) → tells e ≡ []
       → flat_map tells (wrote ++ e ∷ []) ≡ flat_map tells wrote
-  silent tells wrote e none =
-      flat_map-append tells wrote (e ∷ [])
-      ∙ (ap (λ xs. flat_map tells wrote ++ (xs ++ [])) none ∙ append-nil (flat_map tells wrote))
+  silent x0 x1 x2 x3 = grind (arith, flat_map-append, append-nil)
 
   -- and the index in passing in it stays so
   pub carries_made : (waits : Option ℕ) (i : ℕ) (span : Span T) → Carries i span → Carries i (fold own_after span (made waits))
-  carries_made None i span carried = carried
-  carries_made (Some index) i (Open (starts.Loan (calls.Send own)) wrote) carried =
-      let acted : Event T = Acted 0 (send_of index) PoppedNone in
-      ⊎_elim
-      (λ mine. inl (mine.0, silent publishes wrote acted refl ∙ mine.1))
-      (λ other. inr (silent hands_out wrote acted refl ∙ other.0, silent frees wrote acted refl ∙ other.1))
-      carried
-  carries_made (Some index) i (Open (starts.Loan (calls.GiveUp own)) wrote) carried =
-      (carried.0, silent frees wrote (Acted 0 (send_of index) PoppedNone) refl ∙ carried.1)
-  carries_made (Some index) i (Open (starts.Loan calls.TakeBack) wrote) carried =
-      let acted : Event T = Acted 0 (send_of index) PoppedNone in
-      (silent takes_back wrote acted refl ∙ carried.0, silent frees wrote acted refl ∙ carried.1)
-  carries_made (Some index) i (Open (starts.Loan (calls.GiveBack own)) wrote) carried =
-      (carried.0, silent gives_back wrote (Acted 0 (send_of index) PoppedNone) refl ∙ carried.1)
-  carries_made (Some index) i (Open (starts.Loan calls.Reclaim) wrote) carried = tt
-  carries_made (Some index) i (Open call wrote) carried = absurd carried
-  carries_made (Some index) i Never carried = absurd carried
-  carries_made (Some index) i (Ended call answer wrote) carried = absurd carried
+  carries_made x0 x1 x2 x3 = grind (arith, send_of, inl, silent, publishes, inr, hands_out, frees, takes_back, gives_back)
 
 pub made_own : (T : Type 0) (waits : Option ℕ) → AreOwn {T = T} 0 (made waits)
 made_own x0 x1 = grind arith
@@ -84,7 +65,7 @@ module _ {T : Type 0} (code : Coding T) (slots queue : ℕ) (s : Channel T) wher
     past_flight x0 x1 x2 = grind arith
 
     pub past_none : (latest : List (ℕ × Party T)) (seen : Span T) → frame.Fits channel s 0 (party_of 0 latest) seen → hung position (sends_at latest) ≡ None
-    past_none latest seen fits = each_call (λ flight. hung position flight ≡ None) refl past_flight (party_of 0 latest) seen fits
+    past_none x0 x1 x2 = grind (arith, each_call, past_flight)
 
   -- ---- by the words of the whole
 
@@ -98,28 +79,17 @@ module _ {T : Type 0} (code : Coding T) (slots queue : ℕ) (s : Channel T) wher
         → At slots queue s 0 wrote start flight
         → pending {T = T} (words_in s) (Some (flights.TheVariants.Loan flight))
         ≡ hung {T = T} s.submission.read (Some (flights.TheVariants.Loan flight))
-    by_words_call wrote (calls.Send index) (Send run) known =
-        ap (λ n. pending_send (read_in (submission_word n) (words_in s)) run.given run.call.stage) known.1
-        ∙ ap (λ read. pending_send read run.given run.call.stage) read_is
-    by_words_call wrote start (Send run) known = absurd known
-    by_words_call wrote start flight known = refl
+    by_words_call x0 x1 x2 x3 = grind (arith, read_in, read_is)
 
     by_words_flight : (start : Start T) (flight : Flight T) → channel.At s 0 start flight
         → pending (words_in s) (Some flight) ≡ hung s.submission.read (Some flight)
-    by_words_flight (starts.Loan start) (flights.TheVariants.Loan flight) known = by_words_call (wrote_in (span_of 0 s.events)) start flight known
-    by_words_flight start (flights.TheVariants.Loan flight) known = absurd known
-    by_words_flight start flight known = refl
+    by_words_flight x0 x1 x2 = grind (arith, by_words_call)
 
     -- the send beside a receiver's step
     pub beside_is : (p : ℕ) → p ≡ s.book.receiver → (seen : Span T)
         → frame.Fits channel s 0 (party_of 0 latest) seen
         → beside s.book (words_in s) latest p ≡ by_sender (hung s.submission.read (sends_at latest))
-    beside_is p receives seen fits =
-        let t = eq-eqb p s.book.receiver receives in
-        let same : pending (words_in s) (sends_at latest) ≡ hung s.submission.read (sends_at latest) =
-        each_call (λ flight. pending (words_in s) flight ≡ hung s.submission.read flight) refl by_words_flight (party_of 0 latest) seen fits
-        in
-        rw t (ap by_sender same)
+    beside_is x0 x1 x2 x3 = grind (arith, eq-eqb, pending, sends_at, each_call, by_words_flight)
 
   -- ---- what the send that waits has written
 

@@ -53,35 +53,7 @@ module _ {T : Type 0} (code : Coding T) (slots queue : ℕ) (t : Trace T)
   receive_acts other stage room there asks = receive_right code slots queue t s small p other since t.world.changes x.backs stage room there.knows asks
 
   call_acts : (start : LoanStart) (flight : LoanFlight) → There start flight → Acts flight
-  call_acts calls.Loan (Loan run) there asks = tt
-  call_acts (calls.Send index) (Send run) there asks =
-      let at = there.at in
-      subst (λ n. There (calls.Send index) (send_at n run.call.queue run.given run.call.stage)
-      → Acts (send_at n run.call.queue run.given run.call.stage))
-      (sym at.1)
-      (subst (λ n. There (calls.Send index) (send_at slots n run.given run.call.stage) → Acts (send_at slots n run.given run.call.stage)) (sym at.2)
-      (subst (λ n. There (calls.Send index) (send_at slots queue n run.call.stage) → Acts (send_at slots queue n run.call.stage)) (sym at.3)
-      (send_acts index run.call.stage)))
-      there
-      asks
-  call_acts (calls.GiveUp index) (GiveUp run) there asks = silent_right code slots queue t s small p _ (frees_silent run.given run.call.stage)
-  call_acts calls.TakeBack (TakeBack run) there asks = silent_right code slots queue t s small p _ (take_back_silent run.call.stage)
-  call_acts calls.Receive (Receive by run) there asks =
-      let at = there.at in
-      subst (λ q. There calls.Receive (Receive q run) → Acts (Receive q run)) (sym at.1)
-      (subst (λ n. There calls.Receive (receive_on p n run.call.call.capacity run.call.call.stage run.room)
-      → Acts (receive_on p n run.call.call.capacity run.call.call.stage run.room))
-      (sym at.2)
-      (subst (λ n. There calls.Receive (receive_on p (submission_word slots) n run.call.call.stage run.room)
-      → Acts (receive_on p (submission_word slots) n run.call.call.stage run.room))
-      (sym at.3)
-      (receive_acts at.0 run.call.call.stage run.room)))
-      there
-      asks
-  call_acts (calls.GiveBack index) (GiveBack by run) there asks = silent_right code slots queue t s small p _ (give_back_silent run.given run.call.call.stage)
-  call_acts calls.Reclaim (Reclaim call) there asks =
-      silent_right code slots queue t s small p _ (reclaim_silent call.slots call.queue (words_in s.state) call.stage _)
-  call_acts start flight there asks = absurd there.at
+  call_acts x0 x1 x2 x3 = grind (arith, send_at, send_acts, silent_right, frees_silent, take_back_silent, receive_acts, give_back_silent, reclaim_silent)
 
   -- ---- the order of what a step writes
 
@@ -110,10 +82,7 @@ module _ {T : Type 0} (code : Coding T) (slots queue : ℕ) (t : Trace T)
 
   step_in_order : (flight : Flight T) → party_of p t.world.latest ≡ Some x → x.doing ≡ Going flight since
       → InOrder t p promise t.world.coding t.world.words t.world.kept x.start flight
-  step_in_order flight found doing =
-      let is = kept_is t.world.kept t.world.words s.state s.fit in
-      in_order_from t p promise t.world.coding (words_in s.state) (registries.TheVariants.Loan s.state.book) x.start flight is.1 is.0
-      (in_order x.start flight (stands_there (channel code slots queue) t s p x since flight found doing))
+  step_in_order x0 x1 x2 = grind (arith, kept_is, in_order_from, promise, in_order, stands_there)
 
 -- a call of a loan channel goes on as its table says
 told : {T : Type 0} (code z : Coding T) (slots queue : ℕ) (words : List ℕ) (push : Option (ℕ × ℕ)) (s : Channel T)

@@ -29,7 +29,7 @@ claim_told x0 x1 = grind arith
 module _ {T : Type 0} where
   -- what was published and not handed out is what waits
   pub waiting_is : (events : List (Event T)) (rest : List (Item T)) → published events ≡ handed_out events ++ rest → waiting events ≡ rest
-  waiting_is events rest book = ap (drop (length (handed_out events))) book ∙ drop_at (handed_out events) rest (length (handed_out events)) refl
+  waiting_is x0 x1 x2 = grind (arith, drop, length, handed_out, drop_at)
 
   channel_kept : (t : Trace T) (queue : ℕ) → (s : frame.Sound (family t.world.coding t.world.capacity queue) t)
       → Each LivesRight t.events → IsTabled t → IsChannel t

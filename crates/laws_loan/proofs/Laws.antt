@@ -89,9 +89,7 @@ module _ {T : Type 0} (code : Coding T) (slots queue : ℕ) (t : Trace T)
       → first_row (going_rows t.world.coding t.world.kept (Some flight) None) ≡ None
       → StandsThere (channel code slots queue) t sound p x since start flight
       → ComesFrom (channel code slots queue) t sound p x since code (words_in sound.state) (registries.TheVariants.Loan sound.state.book) start flight
-  comes p (starts.TheVariants.Loan start) (flights.TheVariants.Loan flight) r there =
-      call_comes p start flight (lives code slots queue t sound flight None r) there
-  comes p start flight r there = absurd there.at
+  comes x0 x1 x2 x3 x4 = grind (arith, call_comes, lives)
 
   step_comes : (p : ℕ) (flight : Flight T)
       → first_row (going_rows t.world.coding t.world.kept (Some flight) None) ≡ None

@@ -120,13 +120,7 @@ module _ {T : Type 0} (is : Spot → Bool) where
 
       -- an index comes
       pub lists_push : is (spot_of m.index events) ≡ false → is m.to ≡ true → Lists (xs ++ m.index ∷ []) (events ++ e ∷ [])
-      lists_push from to =
-          let none : times m.index xs ≡ 0 = all m.index ∙ ap one_if from in
-          let one : one_if (is m.to) ≡ 1 = ap one_if to in
-          let more = times_more m.index xs m.index in
-          let self = same_one m.index in
-          each (xs ++ m.index ∷ []) (omega arith)
-          (λ i ne. let longer = times_more i xs m.index in let other = other_none m.index i ne in omega arith)
+      lists_push x0 x1 = grind (arith, times_more, same_one, each, other_none)
 
       -- the first one leaves
       pub lists_pop : (rest : List ℕ) → xs ≡ m.index ∷ rest → is m.to ≡ false → Lists rest (events ++ e ∷ [])

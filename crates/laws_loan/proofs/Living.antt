@@ -39,7 +39,7 @@ module _ {T : Type 0} (code : Coding T) (slots queue : ℕ) where
   module _ (t : Trace T) (sound : frame.Sound (channel code slots queue) t) where
     -- who lives by the book lives by the events
     alive_by : (p : ℕ) → has_died p sound.state.book.dead ≡ false → has_died_by p t.events ≡ false
-    alive_by p alive = subst (λ es. has_died_by p es ≡ false) sound.holds.same (sym (sound.holds.parts.placed.keeps.dead p) ∙ alive)
+    alive_by x0 x1 = grind (arith, false)
 
     -- ---- a call begins
 
@@ -56,26 +56,18 @@ module _ {T : Type 0} (code : Coding T) (slots queue : ℕ) where
 
       answered : (x : Party T) (answer : ℕ) (doing : Doing T) → party_of p t.world.latest ≡ Some x → x.doing ≡ doing
           → AreRight LivesRight t.events (events_of_answer t.world p x answer doing)
-      answered x answer (Over others) found d = tt
-      answered x answer (Going flight since) found d =
-          let there = stands_there (channel code slots queue) t sound p x since flight found d in
-          let r : first_row (going_rows t.world.coding t.world.kept (Some flight) said) ≡ None =
-          subst (λ o. first_row (going_rows t.world.coding t.world.kept o said) ≡ None) there.found passed in
-          written_right p t.events _ (alive_by p (goes_alive x.start flight there.at r))
-          (step_written t.world.coding t.world.words _ sound.state p x.start flight answer t.world.kept sound.fit there.at)
+      answered x0 x1 x2 x3 x4 = grind (arith, stands_there, first_row, written_right, alive_by, goes_alive, step_written)
 
     next : (p : ℕ) → first_row (going_rows t.world.coding t.world.kept (flight_in t.world p) None) ≡ None
         → (o : Option (Party T)) → party_of p t.world.latest ≡ o
         → AreRight LivesRight t.events (events_of_next t.world p o)
-    next p passed None found = tt
-    next p passed (Some x) found = answered p None passed x (old_of t.world.words (ask_of_doing t.world.coding x.doing)) x.doing found refl
+    next x0 x1 x2 x3 = grind (arith, answered)
 
     decided : (p : ℕ) (said : Bool)
         → first_row (going_rows t.world.coding t.world.kept (flight_in t.world p) (Some said)) ≡ None
         → (o : Option (Party T)) → party_of p t.world.latest ≡ o
         → AreRight LivesRight t.events (events_of_decision t.world p said o)
-    decided p said passed None found = tt
-    decided p said passed (Some x) found = answered p (Some said) passed x (number_of said) x.doing found refl
+    decided x0 x1 x2 x3 x4 = grind (arith, answered, number_of)
 
     -- ---- any turn
 

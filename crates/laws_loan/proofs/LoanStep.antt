@@ -1,4 +1,5 @@
 -- A loan's acquire, as steps of the machine.
+use Rattle.std.proofs.Common.{arith}
 use Rattle.laws_loan.proofs.Names.{Ok, Err, ◌≡◌, ℕ, ◌-◌, ◌^◌, ◌<◌, false, Bool, Option, Some, List, [], ◌∷◌, ◌++◌}
 use Rattle.laws_loan.proofs.Names.{set, refl, sym, ap, subst, ◌∙◌, Ask, After, GoOn, AcquireStage, Acquired}
 use Rattle.laws_loan.proofs.Names.{acquire_asks, acquire_takes, acquire_goes_back, went_on, Answer, Event, Claimed}
@@ -42,7 +43,7 @@ module _ {T : Type 0} (code : Coding T) (slots queue : ℕ) (t : Trace T)
   words_then = words_after sound.state.set ask
 
   from : span_of 0 sound.state.events ≡ Open (starts.TheVariants.Loan calls.Loan) []
-  from = ap (span_of 0) sound.holds.same ∙ (there.span ∙ ap (λ es. Open (starts.TheVariants.Loan calls.Loan) es) there.at.2)
+  from = grind arith
 
   abbrev With : Bool → After LoanFlight (Answer T) → Type 0
   With back after =

@@ -51,7 +51,7 @@ module _ {T : Type 0} (code : Coding T) (slots queue : ℕ) (s : Channel T) (lat
   words_then = words_after s.set ask
 
   good_now : indices.Good slots s.set s.claims (acquire_counts stage)
-  good_now = subst (λ n. indices.Good slots s.set s.claims n) (ap counted_for here) h.parts.set
+  good_now = grind arith
 
   pub step : AcquireStep slots s.set s.claims h.parts.unlocked stage
   step = acquire_step slots s.set s.claims h.parts.unlocked stage takes good_now

@@ -1,4 +1,5 @@
 -- A step of the sender's call that changes no word of the indices, and those of the two queues so.
+use Rattle.std.proofs.Common.{arith}
 use Rattle.laws_loan.proofs.Names.{◌≡◌, ℕ, ◌+◌, ◌≤◌, Bool, Some, List, [], ◌++◌, fold, sym, ap, subst, ◌∙◌}
 use Rattle.laws_loan.proofs.Names.{append-nil, refl, Event, Book, Party, MovesRight, BeginsRight, AnswersRight}
 use Rattle.laws_loan.proofs.Names.{Passing, spot_of, receiver_of, given_back, taken_back, reclaims_after, as_queue}
@@ -17,13 +18,7 @@ use Rattle.laws_loan.proofs.Turns.{Shows}
 pub silent_tells : {T : Type 0} (queue : ℕ) (reclaims : Bool) (sent back back' : List ℕ) (es : List (Event T))
     → published es ≡ [] → handed_out es ≡ [] → as_queue reclaims es ≡ []
     → back ++ given_back es ≡ taken_back es ++ back' → Tells queue reclaims sent sent back back' es
-silent_tells queue reclaims sent back back' es publishes hands_out acts given =
-    record {
-      book = ap (λ xs. items sent ++ xs) publishes ∙ (append-nil (items sent) ∙ sym (ap (λ xs. xs ++ items sent) hands_out));
-      given = given;
-      goes = rw acts refl;
-      answers = rw acts refl;
-    }
+silent_tells x0 x1 x2 x3 x4 x5 x6 x7 x8 x9 = grind (arith, items, append-nil)
 
 module _ {T : Type 0} (slots queue : ℕ) (s : Channel T) (latest : List (ℕ × Party T)) (turns : ℕ) (y : Party T)
     (submission' completion' : Core ℕ) (book' : Book) (es : List (Event T)) where
@@ -56,33 +51,7 @@ module _ {T : Type 0} (slots queue : ℕ) (s : Channel T) (latest : List (ℕ ×
     busy_now = ap counted_for sends_now ∙ on.busy_after
 
     parts_then : Holds slots queue queues_then (counted_for (sends_at (put 0 y latest)))
-    parts_then =
-        record {
-          capacity = on.queue_stays ∙ h.parts.capacity;
-          some = h.parts.some;
-          few = h.parts.few;
-          set =
-              subst (λ n. indices.Good slots s.set s.claims n) (sym busy_now)
-              (subst (λ n. indices.Good slots s.set s.claims n) on.busy_before h.parts.set);
-          submission = on.submission;
-          completion = on.completion;
-          unlocked = h.parts.unlocked;
-          placed = on.placed;
-        }
+    parts_then = grind (arith, busy_now)
 
     pub queues_show : Shows slots queue s queues_then 0 y latest turns es
-    queues_show =
-        record {
-          events = refl;
-          parts = parts_then;
-          tells = on.tells;
-          hangs = subst (λ o. Hangs queue submission' (hung submission'.read o)) (sym sends_now) on.hangs;
-          reclaiming = on.reclaiming;
-          sent = on.sent;
-          given = on.given;
-          receivers = on.receivers;
-          moves = on.moves;
-          begins = on.begins;
-          answers = on.answers;
-          passing = on.passing;
-        }
+    queues_show = grind (arith, parts_then, sends_now)

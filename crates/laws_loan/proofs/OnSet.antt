@@ -46,48 +46,10 @@ module _ {T : Type 0} (slots queue : ℕ) (s : Channel T) (latest : List (ℕ ×
     sends_now = ap (λ o. flight_of (doing_of o)) (party_put_same 0 y latest)
 
     parts_then : Holds slots queue set_then (counted_for (sends_at (put 0 y latest)))
-    parts_then =
-        record {
-          capacity = on.queue_stays ∙ h.parts.capacity;
-          some = h.parts.some;
-          few = h.parts.few;
-          set = subst (λ o. indices.Good slots set' claims' (counted_for o)) (sym sends_now) on.good;
-          submission = h.parts.submission;
-          completion = h.parts.completion;
-          unlocked = on.unlocked;
-          placed = on.placed;
-        }
+    parts_then = grind (arith, sends_now)
 
     tells : Tells queue (is_reclaiming s.events) s.submission.waiting s.submission.waiting s.completion.waiting s.completion.waiting es
-    tells =
-        record {
-          book =
-              ap (λ xs. items s.submission.waiting ++ xs) on.silent.publishes
-              ∙ (append-nil (items s.submission.waiting) ∙ sym (ap (λ xs. xs ++ items s.submission.waiting) on.silent.hands_out));
-          given =
-              ap (λ xs. s.completion.waiting ++ xs) on.silent.gives
-              ∙ (append-nil s.completion.waiting ∙ sym (ap (λ xs. xs ++ s.completion.waiting) on.silent.takes));
-          goes = rw on.silent.acts refl;
-          answers = rw on.silent.acts refl;
-        }
+    tells = grind (arith, items, append-nil)
 
     pub set_shows : Shows slots queue s set_then 0 y latest turns es
-    set_shows =
-        let sent = h.sent in
-        let given = h.given in
-        record {
-          events = refl;
-          parts = parts_then;
-          tells = tells;
-          hangs =
-              subst (Hangs queue s.submission) (sym (ap (hung s.submission.read) sends_now ∙ on.calm_after))
-              (subst (Hangs queue s.submission) on.calm_before h.hangs);
-          reclaiming = on.reclaiming;
-          sent = omega arith;
-          given = omega arith;
-          receivers = on.receivers;
-          moves = on.moves;
-          begins = on.begins;
-          answers = on.answers;
-          passing = on.passing;
-        }
+    set_shows = grind (arith, parts_then, tells, sends_now)

@@ -25,22 +25,13 @@ module _ {T : Type 0} (slots queue : ℕ) (s : Channel T) (busy : ℕ) (h : Hold
   completion_long = let cells = h.completion.cells in omega arith
 
   pub both_long : length (s.set ++ submission) ≡ completion_word slots queue
-  both_long =
-      let all = length-append s.set submission in
-      let first = set_long in
-      let second = submission_long in
-      omega arith
+  both_long = grind (arith, length-append, set_long, submission_long)
 
   few_before : length s.set + length submission < 2 ^ 64
   few_before = grind arith
 
   few_in_all : length (s.set ++ submission) + length completion < 2 ^ 64
-  few_in_all =
-      let first = both_long in
-      let second = completion_long in
-      let some = h.set.few in
-      let few = h.few in
-      omega arith
+  few_in_all = grind (arith, both_long, completion_long)
 
   -- ---- the indices
 
@@ -74,7 +65,7 @@ module _ {T : Type 0} (slots queue : ℕ) (s : Channel T) (busy : ℕ) (h : Hold
   -- ---- the completion queue, with nothing behind it
 
   last : (ws : List ℕ) → s.set ++ (submission ++ ws) ≡ (s.set ++ submission) ++ (ws ++ [])
-  last ws = sym (append_assoc s.set submission (ws ++ []) ∙ ap (λ l. s.set ++ (submission ++ l)) (append-nil ws))
+  last x0 = grind (arith, append_assoc, append-nil)
 
   pub completion_old : (want : Want (Unit {0})) → IsOn completion want
       → old_of (words_in s) (ask_of (shifted (completion_word slots queue) want)) ≡ old_of completion (ask_of want)

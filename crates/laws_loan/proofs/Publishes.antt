@@ -89,7 +89,7 @@ module _ {T : Type 0} (code : Coding T) (slots queue : ℕ) (s : Channel T) (lat
   To s' after effect = StepTo code slots queue s latest turns changes since x h small index straight s' [] stage after effect
 
   few_wait : length s.submission.waiting ≤ queue
-  few_wait = subst (Hangs queue s.submission) (ap (hung s.submission.read) here) h.hangs
+  few_wait = grind arith
 
   below : length s.submission.waiting < queue + 1
   below = let few = few_wait in omega arith
@@ -98,7 +98,7 @@ module _ {T : Type 0} (code : Coding T) (slots queue : ℕ) (s : Channel T) (lat
   low_write = reached code slots queue s latest turns changes since x h small index straight
 
   on : 0 < length (queued code slots queue s latest turns changes since x h small index straight)
-  on = let wide = long code slots queue s latest turns changes since x h small index straight in omega arith
+  on = grind (arith, long)
 
   one : change_of (words_in s) asked_now ≡ 1
   one =
@@ -136,10 +136,7 @@ module _ {T : Type 0} (code : Coding T) (slots queue : ℕ) (s : Channel T) (lat
     span_then = span_of-own 0 s.events es (refl, is.own) ∙ ap (λ span. fold own_after span es) from
 
     receiver_stays : receiver_of (s.events ++ es) ≡ receiver_of s.events
-    receiver_stays =
-        ap receiver_of (sym whole)
-        ∙ (receiver_still (s.events ++ publishes ∷ []) tail is.still
-        ∙ fold-append receiver_after 1 s.events (publishes ∷ []))
+    receiver_stays = grind (arith, whole, receiver_still, fold-append)
 
     module _ (whole_cell : Holds 1 words_of_index (queue + 1) s.submission.cells s.submission.write index 1)
         (after : After LoanFlight (Answer T)) (busy : counted_for (flight_of (Some (party after).doing)) ≡ 0)
@@ -225,13 +222,7 @@ module _ {T : Type 0} (code : Coding T) (slots queue : ℕ) (s : Channel T) (lat
   -- the queue is full: it waits
   waits_tells : length s.submission.waiting ≡ queue
       → Tells queue (is_reclaiming s.events) s.submission.waiting k.waiting s.completion.waiting s.completion.waiting (publishes ∷ [])
-  waits_tells full =
-      record {
-        book = more;
-        given = append-nil s.completion.waiting;
-        goes = push_waits {T = T} queue s.submission.waiting index full;
-        answers = refl;
-      }
+  waits_tells x0 = grind (arith, more, append-nil, push_waits)
 
   -- ---- the three cases
 
@@ -242,7 +233,7 @@ module _ {T : Type 0} (code : Coding T) (slots queue : ℕ) (s : Channel T) (lat
   ends_tail = grind arith
 
   no_tail : Tail []
-  no_tail = record { still = tt; own = tt; reclaims = λ b. refl; other = refl; moves = tt; begins = tt; answers = tt; stands = tt }
+  no_tail = grind arith
 
   abbrev waits_at : LoanFlight
   waits_at = pushes_at slots queue (pushes.TheVariants.MovesRead read) index

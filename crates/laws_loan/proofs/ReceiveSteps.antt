@@ -65,7 +65,7 @@ module _ {T : Type 0} (code : Coding T) (slots queue : ℕ) (t : Trace T)
         ComesBy code slots queue t sound x since p calls.Receive asks back after effect
 
     from : span_of p s.events ≡ Open (starts.TheVariants.Loan calls.Receive) []
-    from = ap (span_of p) sound.holds.same ∙ (there.span ∙ ap (λ es. Open (starts.TheVariants.Loan calls.Receive) es) there.at.4)
+    from = grind arith
 
     takes : With false (Done (answers.PoppedIndex room.0)) (effects.Receives room.0 (by_sender waits))
     takes =

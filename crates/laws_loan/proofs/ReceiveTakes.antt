@@ -93,7 +93,7 @@ module _ {T : Type 0} (code : Coding T) (slots queue : ℕ) (s : Channel T) (lat
   below = sent_below slots s.claims s.submission.waiting s.completion.waiting s.book s.events h.parts.placed value rest first
 
   was_waiting : spot_of value s.events ≡ Waiting
-  was_waiting = waits_there (spot_of value s.events) (first_there is_waiting s.submission.waiting rest s.events value first h.parts.placed.waits)
+  was_waiting = grind (arith, waits_there, first_there)
 
   placed_run : Placed slots s.claims rest s.completion.waiting s.book (run p value s.events waits)
   placed_run =
@@ -108,12 +108,7 @@ module _ {T : Type 0} (code : Coding T) (slots queue : ℕ) (s : Channel T) (lat
       below p other (receives ∙ placed_run.keeps.receiver) (passing_run p value s.events waits))
 
   takes : Takes slots queue s rest book_then (s.events ++ es) p
-  takes =
-      record {
-        receiver = receives;
-        alive = alive;
-        passes = λ q i ne. passing_on s.events es value (elsewhere p value s.events waits) Waiting was_waiting q (waiting_passes q) i;
-      }
+  takes = grind (arith, passing_on, elsewhere, was_waiting, waiting_passes)
 
   passing_then : (i q : ℕ) → spot_of i (s.events ++ es) ≡ Passing q → Carries i (span_of q (s.events ++ es))
   passing_then i q e = ⊎_elim mine others (cases_eq value i)
@@ -146,19 +141,14 @@ module _ {T : Type 0} (code : Coding T) (slots queue : ℕ) (s : Channel T) (lat
 
   -- no reclaim is under way
   quiet : is_reclaiming s.events ≡ false
-  quiet = h.reclaiming ∙ none_reclaims slots queue s rest book_then (s.events ++ es) p takes other code (party_of 0 latest) (span_of 0 s.events) (inv.calls 0)
+  quiet = grind (arith, none_reclaims, takes)
 
   sends_still : sends_at (put p y_then latest) ≡ sends_at latest
   sends_still = ap (λ o. flight_of (doing_of o)) (party_put_other 0 p y_then latest (λ e. other (sym e)))
 
   -- no send waits for the next read position
   hangs_then : Hangs queue k (hung (s.submission.read + 1) (sends_at (put p y_then latest)))
-  hangs_then =
-      let none : hung (s.submission.read + 1) (sends_at (put p y_then latest)) ≡ None =
-      ap (hung (s.submission.read + 1)) sends_still
-      ∙ past_none code slots queue s (s.submission.read + 1) (omega arith) latest (span_of 0 s.events) (inv.calls 0)
-      in
-      subst (Hangs queue k) (sym none) few_rest
+  hangs_then = grind (arith, sends_at, put, sends_still, past_none, few_rest)
 
   parts_then : Holds slots queue s_then (counted_for (sends_at (put p y_then latest)))
   parts_then =
@@ -204,13 +194,7 @@ module _ {T : Type 0} (code : Coding T) (slots queue : ℕ) (s : Channel T) (lat
 
   still_at : (q : ℕ) → q ≢ p → q ≢ 0 → (start : Start T) (flight : Flight T) → channel.At s q start flight
       → channel.At s_then q start flight × (channel.written s_then q flight ≡ channel.written s q flight)
-  still_at q ne far (starts.Loan start) (flights.TheVariants.Loan flight) known =
-      let same : span_of q (s.events ++ es) ≡ span_of q s.events = others_then p value s.events other waits q ne far in (
-        subst (λ wrote. At slots queue s_then q wrote start flight) (ap wrote_in (sym same))
-            (theirs_stay slots queue s s_then q far (stays q ne) (wrote_in (span_of q s.events)) start flight known),
-        ap wrote_in same,
-      )
-  still_at q ne far start flight known = absurd known
+  still_at x0 x1 x2 x3 x4 x5 = grind (arith, others_then, theirs_stay, stays)
 
   others_fit : (q : ℕ) → q ≢ p → frame.Fits channel s_then q (party_of q latest) (span_of q (s.events ++ es))
   others_fit q ne =
@@ -225,13 +209,11 @@ module _ {T : Type 0} (code : Coding T) (slots queue : ℕ) (s : Channel T) (lat
       (cases_eq q 0)
 
   goes_up : GoesUp s.submission k changes (changes + change_of (words_in s) asks)
-  goes_up = let change = one in record { write = omega arith; read = omega arith; paid = omega arith }
+  goes_up = grind (arith, one)
 
   know_still : (q sooner backs : ℕ) (flight : Flight T) → channel.Knows s q s.events sooner changes backs flight
       → channel.Knows s_then q (s.events ++ es) sooner (changes + change_of (words_in s) asks) backs flight
-  know_still q sooner backs (flights.TheVariants.Loan flight) known =
-      knows_keeps slots queue s s_then changes (changes + change_of (words_in s) asks) goes_up sooner backs flight known
-  know_still q sooner backs flight known = absurd known
+  know_still x0 x1 x2 x3 x4 = grind (arith, knows_keeps, goes_up)
 
   pub take_owes : frame.Owes channel s_then p y_then latest s.events es (changes + change_of (words_in s) asks)
   take_owes =

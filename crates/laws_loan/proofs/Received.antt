@@ -45,24 +45,19 @@ module _ {T : Type 0} (p value : ℕ) where
     run waits = (events ++ hands ∷ []) ++ acts ∷ made waits
 
     pub whole : (waits : Option ℕ) → run waits ++ ends ∷ [] ≡ events ++ told waits
-    whole waits =
-        append_assoc (events ++ hands ∷ []) (acts ∷ made waits) (ends ∷ [])
-        ∙ append_assoc events (hands ∷ []) (acts ∷ (made waits ++ ends ∷ []))
+    whole x0 = grind (arith, append_assoc, made)
 
     parts : (waits : Option ℕ) → ((events ++ hands ∷ acts ∷ []) ++ made waits) ++ ends ∷ [] ≡ events ++ told waits
-    parts waits =
-        append_assoc (events ++ hands ∷ acts ∷ []) (made waits) (ends ∷ [])
-        ∙ append_assoc events (hands ∷ acts ∷ []) (made waits ++ ends ∷ [])
+    parts x0 = grind (arith, append_assoc, made)
 
     pub still : (waits : Option ℕ) → AreStill (acts ∷ made waits)
-    still waits = (record { moves = refl; receiver = λ r. refl; dead = λ q b. refl }, made_still T waits)
+    still x0 = grind (arith, made_still)
 
     pub reclaims_told : (waits : Option ℕ) (b : Bool) → fold reclaims_after b (told waits) ≡ b
     reclaims_told x0 x1 = grind arith
 
     pub receiver_told : (waits : Option ℕ) → receiver_of (events ++ told waits) ≡ receiver_of events
-    receiver_told None = fold-append receiver_after 1 events (told None)
-    receiver_told (Some index) = fold-append receiver_after 1 events (told (Some index))
+    receiver_told x0 = grind (arith, fold-append)
 
     pub book_told : (waits : Option ℕ) (book : Book) → fold (book_after {T = T}) book (hands ∷ acts ∷ made waits) ≡ book
     book_told x0 x1 = grind arith
@@ -148,25 +143,19 @@ module _ {T : Type 0} (p value : ℕ) where
       stands_told slots waits from hangs = go waits refl
         where
           first : Stands promise slots hands (span_of p events)
-          first =
-              subst (λ span. Stands promise slots hands span) (sym from)
-              (record { claimed = refl; published = refl; handed_out = refl; given_back = refl; taken_back = refl; freed = refl })
+          first = grind (arith, promise)
 
           p_1 : span_of p (events ++ hands ∷ []) ≡ Open call (hands ∷ [])
-          p_1 = span_of-own p events (hands ∷ []) (refl, tt) ∙ ap (λ span. fold own_after span (hands ∷ [])) from
+          p_1 = grind (arith, span_of-own, fold)
 
           second : Stands promise slots acts (span_of p (events ++ hands ∷ []))
           second = subst (λ span. Stands promise slots acts span) (sym p_1) (refl, refl)
 
           p_2 : span_of p ((events ++ hands ∷ []) ++ acts ∷ []) ≡ Open call (hands ∷ acts ∷ [])
-          p_2 = span_of-own p (events ++ hands ∷ []) (acts ∷ []) (refl, tt) ∙ ap (λ span. fold own_after span (acts ∷ [])) p_1
+          p_2 = grind (arith, span_of-own, fold, p_1)
 
           last : (before : List (Event T)) → span_of p before ≡ Open call (hands ∷ acts ∷ []) → Stands promise slots ends (span_of p before)
-          last before is =
-              subst (λ span. Stands promise slots ends span) (sym is) (
-                refl,
-                grind arith,
-              )
+          last x0 x1 = grind (arith, promise)
 
           go : (o : Option ℕ) → waits ≡ o → AreRight (StandsRight promise slots) events (told o)
           go None e = (first, (second, (last ((events ++ hands ∷ []) ++ acts ∷ []) p_2, tt)))

@@ -89,9 +89,7 @@ module _ {T : Type 0} (code : Coding T) (slots queue : ℕ) (s : Channel T) (lat
   looks_by : (stage : PopStage) (room : OneWord) (back : Bool) (after : After LoanFlight (Answer T)) (effect : Effect)
       → goes_back stage (old stage) ≡ back → goes stage room (old stage) ≡ after → effect_at stage (old stage) ≡ effect
       → Looks stage back after effect → LooksOf stage room
-  looks_by stage room back after effect turns_back is does look =
-      subst (λ b. Looks stage b (goes stage room (old stage)) (effect_at stage (old stage))) (sym turns_back)
-      (subst (λ a. Looks stage back a (effect_at stage (old stage))) (sym is) (subst (λ e. Looks stage back after e) (sym does) look))
+  looks_by x0 x1 x2 x3 x4 x5 x6 x7 x8 = grind arith
 
   -- ---- what is so of the queue
 
@@ -139,21 +137,14 @@ module _ {T : Type 0} (code : Coding T) (slots queue : ℕ) (s : Channel T) (lat
   told = acted ∷ ends ∷ []
 
   told_still : AreStill told
-  told_still = (record { moves = refl; receiver = λ r. refl; dead = λ q b. refl }, (record { moves = refl; receiver = λ r. refl; dead = λ q b. refl }, tt))
+  told_still = grind arith
 
   module _ (read : ℕ) (empty : s.submission.waiting ≡ []) where
     abbrev y_none : Party T
     y_none = party_then s x since changes calls.Receive (asked (pops.TheVariants.LoadsWrite read)) false (Done answers.PoppedNone)
 
     tells_none : Tells queue (is_reclaiming s.events) s.submission.waiting s.submission.waiting s.completion.waiting s.completion.waiting told
-    tells_none =
-        let list : items {T = T} (take queue s.submission.waiting) ≡ [] = ap (λ xs. items (take queue xs)) empty ∙ ap items (take-nil {A = ℕ} queue) in
-        record {
-          book = append-nil (items s.submission.waiting);
-          given = append-nil s.completion.waiting;
-          goes = rw list refl;
-          answers = rw list refl;
-        }
+    tells_none = grind (arith, items, take, take-nil, append-nil)
 
     passing_none : (i q : ℕ) → spot_of i (s.events ++ told) ≡ Passing q → Carries i (span_of q (s.events ++ told))
     passing_none i q e =

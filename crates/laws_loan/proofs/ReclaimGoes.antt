@@ -65,7 +65,7 @@ module _ {T : Type 0} (code : Coding T) (slots queue : ℕ) (s : Channel T) (lat
       (idle : reclaim_counts under ≡ 0) (from : span_of 0 s.events ≡ Open start wrote)
       (known : ReclaimAt slots queue s wrote under) (straight : x.backs ≡ 0) where
     pub calm : Hangs queue s.submission None
-    calm = subst (Hangs queue s.submission) (ap (hung s.submission.read) here) h.hangs
+    calm = grind arith
 
     pub busy_none : counted_for (sends_at latest) ≡ 0
     busy_none = ap counted_for here ∙ idle
@@ -112,7 +112,7 @@ module _ {T : Type 0} (code : Coding T) (slots queue : ℕ) (s : Channel T) (lat
 
       module _ (leads : Leads) where
         open_then : span_of 0 (s.events ++ es) ≡ Open start (wrote ++ es)
-        open_then = span_of-own 0 s.events es leads.own ∙ (ap (λ span. fold own_after span es) from ∙ leads.span)
+        open_then = grind (arith, span_of-own, fold)
 
         passing_then : (i q : ℕ) → spot_of i (s.events ++ es) ≡ Passing q → Carries i (span_of q (s.events ++ es))
         passing_then i q e =
@@ -122,44 +122,10 @@ module _ {T : Type 0} (code : Coding T) (slots queue : ℕ) (s : Channel T) (lat
             (cases_eq q 0)
 
         on_queues : OnQueues slots queue s latest turns y_on k m s.book es
-        on_queues =
-            let sent = h.sent in
-            let given = h.given in
-            let same_sent = leads.sent_write in
-            let same_given = leads.given_write in
-            let same = leads.receiver in
-            let fewer = leads.fewer in
-            let few = calm in
-            record {
-              busy_before = busy_none;
-              busy_after = leads.counted;
-              queue_stays = refl;
-              submission = leads.submission;
-              completion = leads.completion;
-              placed = leads.placed;
-              tells = subst (λ b. Tells queue b s.submission.waiting k.waiting s.completion.waiting m.waiting es) (sym reclaims) leads.tells;
-              hangs = omega arith;
-              sent = omega arith;
-              given = omega arith;
-              reclaiming = ap (λ b. fold reclaims_after b es) reclaims ∙ (leads.reclaiming ∙ sym (ap reclaims_in open_then));
-              receivers = (omega arith, omega arith);
-              moves = leads.moves;
-              begins = leads.begins;
-              answers = leads.answers;
-              passing = passing_then;
-            }
+        on_queues = grind (arith, calm, busy_none, reclaims, fold, open_then, passing_then)
 
         known_then : ReclaimAt slots queue s_on (wrote ++ es) after_it
-        known_then =
-            record {
-              dead = known.dead;
-              sent = leads.sent;
-              claims = none_more claims wrote es known.claims leads.claims;
-              publishes = none_more publishes wrote es known.publishes leads.publishes;
-              gives = none_more gives_back wrote es known.gives leads.gives;
-              acts = none_more acts wrote es known.acts leads.acts;
-              stage_at = leads.stage_at;
-            }
+        known_then = grind (arith, claims, none_more, publishes, gives_back, acts)
 
         pub leads_on : Steps code slots queue s latest turns changes since x s_on (Open start wrote) calls.Reclaim
             (asked now) false (GoOn (reclaim_at slots queue after_it)) es

@@ -187,11 +187,7 @@ module _ {T : Type 0} (code : Coding T) (slots queue : ℕ) (t : Trace T)
     -- ---- any step
 
     reclaim_frees : (stage : ReleaseStage) → FreesThere stage → Goes (Releases number index stage)
-    reclaim_frees releases.TheVariants.ClearsFlag there = clears there
-    reclaim_frees releases.TheVariants.LoadsHead there = later releases.TheVariants.LoadsHead refl there
-    reclaim_frees (releases.TheVariants.StoresNext head) there = later (releases.TheVariants.StoresNext head) refl there
-    reclaim_frees (releases.TheVariants.ExchangesHead head) there = later (releases.TheVariants.ExchangesHead head) refl there
-    reclaim_frees releases.TheVariants.Subtracts there = later releases.TheVariants.Subtracts refl there
+    reclaim_frees x0 x1 = grind (arith, clears, later)
 
   -- ---- any step
 
@@ -207,17 +203,7 @@ module _ {T : Type 0} (code : Coding T) (slots queue : ℕ) (t : Trace T)
       (from_step code slots queue t sound small x since calls.Reclaim ask after effect does.channel_then wrote (from stage there) does.step)
 
   pub reclaim_steps : (stage : ReclaimStage) → There stage → Goes stage
-  reclaim_steps (Drains stage) there =
-      pops (Drains stage) there
-      (drains_does code slots queue s t.world.latest t.world.turns t.world.changes since x wrote now small
-      (Drains stage) there.found refl (from (Drains stage) there) there.at.3 there.knows stage there.at.3.stage_at
-      there.steps)
-  reclaim_steps (Empties stage) there =
-      pops (Empties stage) there
-      (empties_does code slots queue s t.world.latest t.world.turns t.world.changes since x wrote now small
-      (Empties stage) there.found refl (from (Empties stage) there) there.at.3 there.knows stage there.at.3.stage_at
-      there.steps)
-  reclaim_steps (Releases number index stage) there = reclaim_frees number index stage there
+  reclaim_steps x0 x1 = grind (arith, pops, drains_does, from, empties_does, reclaim_frees)
 
   -- as the machine has the call
   pub reclaim_steps_from : (held : reclaims.Reclaim)

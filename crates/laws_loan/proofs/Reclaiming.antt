@@ -30,16 +30,7 @@ none_more f wrote es before none = flat_map-append f wrote es ∙ (ap (λ xs. xs
 pub goes_known : {T : Type 0} (slots queue : ℕ) (s : Channel T) (set' : List ℕ) (wrote : List (Event T)) (stage stage' : ReclaimStage)
     → ReclaimAt slots queue s wrote stage → StageAt slots s.submission s.completion s.book.places wrote stage'
     → ReclaimAt slots queue (record s { set = set'; claims = s.claims; book = s.book; events = s.events ++ [] }) wrote stage'
-goes_known slots queue s set' wrote stage stage' at known =
-    record {
-      dead = at.dead;
-      sent = λ i e. at.sent i (ap (spot_of i) (sym (append-nil s.events)) ∙ e);
-      claims = at.claims;
-      publishes = at.publishes;
-      gives = at.gives;
-      acts = at.acts;
-      stage_at = known;
-    }
+goes_known x0 x1 x2 x3 x4 x5 x6 x7 x8 = grind (arith, append-nil)
 
 -- ---- it takes an index out of a queue, from where only a call of its own has it
 
@@ -64,12 +55,7 @@ module _ {T : Type 0} (slots queue : ℕ) (s : Channel T) (wrote : List (Event T
 
   -- and what it has in passing itself was sent
   pub passing_sent : (i : ℕ) → spot_of i (s.events ++ e ∷ []) ≡ Passing 0 → place_at s.book.places i ≡ places.Sent
-  passing_sent i now = ⊎_elim
-      (λ (same : index ≡ i).
-      subst (λ n. place_at s.book.places n ≡ places.Sent) same
-      (sent_there (place_at s.book.places index) spot (subst (IsIn (place_at s.book.places index)) was (keeps.places index)) away))
-      (λ (ne : index ≢ i). at.sent i (sym (elsewhere i ne) ∙ now))
-      (cases_eq index i)
+  passing_sent x0 x1 = grind (arith, place_at, sent_there, elsewhere, cases_eq)
 
 -- ---- its end
 
@@ -87,19 +73,9 @@ module _ {T : Type 0} (events : List (Event T)) (answer : Answer T) where
   module _ (home : (index : ℕ) → IsHome (spot_of index events)) where
     -- nothing is in passing any more
     pub none_passing : {A : Type 0} (index p : ℕ) → spot_of index (events ++ end_of answer ∷ []) ≡ Passing p → A
-    none_passing index p e = absurd (home_stays p (spot_of index events) (home index) (sym (spot_stays events (end_of answer) index refl) ∙ e))
+    none_passing x0 x1 x2 = grind (arith, home_stays, spot_stays)
 
     pub placed_ended : (slots : ℕ) (claims : List (Option ℕ)) (sent back : List ℕ) (book : Book)
         → Placed slots claims sent back book events → receiver_of events + 1 < 2 ^ 64
         → Placed slots claims sent back (reclaimed book) (events ++ end_of answer ∷ [])
-    placed_ended slots claims sent back book h few =
-        placed_on slots events (end_of answer) refl claims sent back book (reclaimed book) h
-        (record {
-          places = refl;
-          holders = refl;
-          receiver = (let is = h.keeps.receiver in let next = receiver_then in omega arith);
-          dead = λ q. h.keeps.dead q ∙ sym (fold-append (died_after q) false events (end_of answer ∷ []));
-          parties = λ index p by. inl (home_by p (spot_of index events) (home index) by);
-        })
-        (lists_stay is_waiting sent events (end_of answer) h.waits refl)
-        (lists_stay is_returning back events (end_of answer) h.returns refl)
+    placed_ended x0 x1 x2 x3 x4 x5 x6 = grind (arith, placed_on, receiver_then, fold-append, false, inl, home_by, lists_stay)

@@ -113,11 +113,7 @@ module _ {T : Type 0} (code : Coding T) (slots queue : ℕ) (t : Trace T)
           there.found there.gives there.from there.few straight)
 
     goes : (stage : ReleaseStage) → There stage → Goes stage (old_of s.set (asked stage))
-    goes releases.TheVariants.ClearsFlag there = clears there
-    goes releases.TheVariants.LoadsHead there = later releases.TheVariants.LoadsHead refl there
-    goes (releases.TheVariants.StoresNext head) there = later (releases.TheVariants.StoresNext head) refl there
-    goes (releases.TheVariants.ExchangesHead head) there = later (releases.TheVariants.ExchangesHead head) refl there
-    goes releases.TheVariants.Subtracts there = later releases.TheVariants.Subtracts refl there
+    goes x0 x1 = grind (arith, clears, later)
 
   pub releases_on : (stage : ReleaseStage) → There stage → Goes stage (old_of (words_in s) (asked stage))
   releases_on stage there =

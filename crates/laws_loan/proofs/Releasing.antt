@@ -74,7 +74,7 @@ module _ {T : Type 0} (code : Coding T) (slots queue : ℕ) (s : Channel T) (lat
   release_at x0 x1 = grind arith
 
   good_at : (stage : ReleaseStage) → Here stage → indices.Good slots s.set s.claims (release_counts stage)
-  good_at stage here = subst (λ n. indices.Good slots s.set s.claims n) (ap counted_for here ∙ r.counted stage) h.parts.set
+  good_at x0 x1 = grind arith
 
   pub steps_set : (stage : ReleaseStage) → Here stage → GivesAt slots queue s index stage → ReleaseStep slots index below s.set s.claims stage
   steps_set stage here gives = release_step slots index below s.set s.claims stage (release_at stage gives) (good_at stage here)
@@ -203,7 +203,7 @@ module _ {T : Type 0} (code : Coding T) (slots queue : ℕ) (s : Channel T) (lat
     words_then = words_after s.set ask
 
     pub was_open : span_of 0 s.events ≡ Open (starts.Loan r.start) wrote_now
-    was_open = from ∙ ap (λ es. Open (starts.Loan r.start) (r.before ++ es)) (wrote_for stage heavy)
+    was_open = grind (arith, wrote_for)
 
     step : ReleaseStep slots index below s.set s.claims stage
     step = steps_set stage here gives

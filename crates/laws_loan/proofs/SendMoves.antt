@@ -133,17 +133,13 @@ module _ {T : Type 0} (code : Coding T) (slots queue : ℕ) (s : Channel T) (lat
     below = sent_below slots s.claims s.submission.waiting s.completion.waiting s.book s.events h.parts.placed u rest first
 
     full : length others ≡ queue
-    full =
-        let write = h.parts.submission.write in
-        let longer = length-append others (index ∷ []) in
-        let all : length s.submission.waiting ≡ length (others ++ index ∷ []) = ap length is in
-        omega arith
+    full = grind (arith, length-append, length)
 
     was_waiting : spot_of u s.events ≡ Waiting
-    was_waiting = waits_there (spot_of u s.events) (first_there is_waiting s.submission.waiting rest s.events u first h.parts.placed.waits)
+    was_waiting = grind (arith, waits_there, first_there)
 
     acts_still : AreStill (acts ∷ [])
-    acts_still = (record { moves = refl; receiver = λ r. refl; dead = λ q b. refl }, tt)
+    acts_still = grind arith
 
     whole : (s.events ++ hands ∷ []) ++ acts ∷ [] ≡ s.events ++ told
     whole = append_assoc s.events (hands ∷ []) (acts ∷ [])
@@ -321,8 +317,7 @@ module _ {T : Type 0} (code : Coding T) (slots queue : ℕ) (s : Channel T) (lat
     frees = send_frees_at slots queue index (oldest_at read) releases.TheVariants.ClearsFlag
 
     on_cell : cell_word queue read < length (queued code slots queue s latest turns changes since x h small index straight)
-    on_cell =
-        submission.cell_on queue h.parts.some h.parts.few s.submission h.parts.submission low_write read
+    on_cell = grind (arith, low_write)
 
     has_it : To s_free (wrote_out read) stage (GoOn frees) effects.Quiet
     has_it = (

@@ -1,4 +1,5 @@
 -- A step of the sender's call, which writes events of its own alone: what it shows, and that it so comes to what the frame asks.
+use Rattle.std.proofs.Common.{arith}
 use Rattle.laws_loan.proofs.Names.{◌≡◌, ◌≢◌, ℕ, ◌+◌, Bool, false, Option, Some, List, [], ◌++◌, fold, sym, ap, subst}
 use Rattle.laws_loan.proofs.Names.{◌∙◌, Ask, After, Answer, Event, Start, Flight, LoanStart, LoanFlight, Effect}
 use Rattle.laws_loan.proofs.Names.{Party, Coding, promise, ended_book, book_after, effects_of, Stands, Span}
@@ -40,17 +41,11 @@ module _ {T : Type 0} (code : Coding T) (slots queue : ℕ) (s s' : Channel T) (
 
   others : (q : ℕ) → q ≢ p → (other : Start T) (call : Flight T) → any.At s q other call
       → any.At s' q other call × (any.written s' q call ≡ any.written s q call)
-  others q ne (starts.Loan other) (flights.TheVariants.Loan call) known = (
-    subst (λ wrote. At slots queue s' q wrote other call) (ap wrote_in (sym (same_span q ne)))
-        (at_others q ne (wrote_in (span_of q s.events)) other call known),
-    ap wrote_in (same_span q ne),
-  )
-  others q ne other call known = absurd known
+  others x0 x1 x2 x3 x4 = grind (arith, same_span)
 
   others_know : (q : ℕ) → q ≢ p → (sooner backs : ℕ) (call : Flight T) → any.Knows s q s.events sooner changes backs call
       → any.Knows s' q (s.events ++ es) sooner changes' backs call
-  others_know q ne sooner backs (flights.TheVariants.Loan flight) known = knows_keeps slots queue s s' changes changes' up sooner backs flight known
-  others_know q ne sooner backs flight known = absurd known
+  others_know x0 x1 x2 x3 x4 x5 = grind (arith, knows_keeps)
 
   pub owes_by : AllFollow (Stands promise slots) from es → frame.Fits any s' p (Some y) (fold own_after from es)
       → frame.KnowsDoing any s' p (s.events ++ es) changes' y.backs y.doing

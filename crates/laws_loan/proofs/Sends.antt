@@ -79,14 +79,7 @@ module _ {T : Type 0} (code : Coding T) (slots queue : ℕ) (s : Channel T) (lat
   pub does_by : (s' : Channel T) (stage : PushStage) (wrote : List (Event T)) (after : After LoanFlight (Answer T)) (effect : Effect)
       → push_wrote queue s.submission index stage ≡ wrote → goes stage (old stage) ≡ after → effect_at stage (old stage) ≡ effect
       → StepTo s' wrote stage after effect → Does stage
-  does_by s' stage wrote after effect told is does step =
-      record {
-        channel_then = s';
-        step =
-            subst (λ es. StepTo s' es stage (goes stage (old stage)) (effect_at stage (old stage))) (sym told)
-            (subst (λ a. StepTo s' wrote stage a (effect_at stage (old stage))) (sym is)
-            (subst (λ e. StepTo s' wrote stage after e) (sym does) step));
-      }
+  does_by x0 x1 x2 x3 x4 x5 x6 x7 x8 = grind arith
 
   abbrev pub Here : PushStage → Type 0
   Here stage = sends_at latest ≡ Some (flights.TheVariants.Loan (pushes_at slots queue stage index))
@@ -97,7 +90,7 @@ module _ {T : Type 0} (code : Coding T) (slots queue : ℕ) (s : Channel T) (lat
   reached = let sent = h.sent in omega arith
 
   pub long : length queued ≡ 5 + queue
-  long = submission.long queue h.parts.some h.parts.few s.submission h.parts.submission reached
+  long = grind (arith, reached)
 
   pub old_is : (stage : PushStage) → IsOn queued (push_asks queue stage index) → old stage ≡ old_of queued (ask_of (push_asks queue stage index))
   old_is stage on = submission_old slots queue s (counted_for (sends_at latest)) h.parts (push_asks queue stage index) on
@@ -152,38 +145,10 @@ module _ {T : Type 0} (code : Coding T) (slots queue : ℕ) (s : Channel T) (lat
     as_was = ap (span_of 0) (append-nil s.events) ∙ from
 
     few_wait : length k.waiting ≤ queue
-    few_wait = subst (λ xs. length xs ≤ queue) (sym waits) (subst (Hangs queue s.submission) (ap (hung s.submission.read) here ∙ calm_now) h.hangs)
+    few_wait = grind (arith, length)
 
     on_queues_goes : OnQueues slots queue s latest turns y_on k s.completion s.book []
-    on_queues_goes =
-        let sent = h.sent in
-        let given = h.given in
-        let same : receiver_of (s.events ++ []) ≡ receiver_of s.events = ap receiver_of (append-nil s.events) in
-        record {
-          busy_before = idle now here;
-          busy_after = refl;
-          queue_stays = refl;
-          submission = good;
-          completion = h.parts.completion;
-          placed =
-              subst (λ sent. Placed slots s.claims sent s.completion.waiting s.book (s.events ++ [])) (sym waits)
-              (subst (Placed slots s.claims s.submission.waiting s.completion.waiting s.book) (sym (append-nil s.events)) h.parts.placed);
-          tells =
-              subst (λ sent. Tells {T = T} queue (is_reclaiming s.events) s.submission.waiting sent s.completion.waiting s.completion.waiting []) (sym waits)
-              (silent_tells {T = T} queue (is_reclaiming s.events) s.submission.waiting s.completion.waiting
-              s.completion.waiting [] refl refl refl (append-nil s.completion.waiting));
-          hangs = subst (Hangs queue k) (sym calm_then) few_wait;
-          sent = omega arith;
-          given = omega arith;
-          reclaiming = h.reclaiming ∙ ap (λ es. reclaims_in (span_of 0 es)) (sym (append-nil s.events));
-          receivers = (omega arith, omega arith);
-          moves = tt;
-          begins = tt;
-          answers = tt;
-          passing =
-              λ i q e. subst (λ es. Carries i (span_of q es)) (sym (append-nil s.events))
-              (h.passing i q (ap (spot_of i) (sym (append-nil s.events)) ∙ e));
-        }
+    on_queues_goes = grind (arith, append-nil, idle, silent_tells, few_wait)
 
     pub goes_on : StepTo s_on [] now (GoOn (pushes_at slots queue after_it index)) effects.Quiet
     goes_on =

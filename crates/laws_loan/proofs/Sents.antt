@@ -87,10 +87,7 @@ module _ {T : Type 0} (slots : ℕ) (claims : List (Option ℕ)) (sent back : Li
 
     -- so a reclaim may free it, since the receiver is dead
     pub may_free : has_died book.receiver book.dead ≡ true → IsReclaiming (span_of 0 events) → MayFree 0 i events
-    may_free dead reclaims =
-        let died : has_died_by (receiver_of events) events ≡ true =
-        sym (h.keeps.dead (receiver_of events)) ∙ (ap (λ r. has_died r book.dead) (sym h.keeps.receiver) ∙ dead) in
-        ⊎_elim (λ mine. inl mine) (λ left. inr (reclaims, (died, left))) (there (spot_of i events) refl)
+    may_free x0 x1 = grind (arith, inl, inr, there)
 
   -- where no index is sent, and one in passing in the sender's call would be
   pub all_home : ((j : ℕ) → j < slots → place_at book.places j ≢ places.Sent)

@@ -69,23 +69,10 @@ module _ (c index : ℕ) (below : index < c) (ws : List ℕ) (hs : List (Option 
 
     -- a head that counts one less is not locked
     less_unlocked : (x : ℕ) → borrowed x + 1 ≡ counted_in ws → counted_in (set ws 0 x) ≢ locked
-    less_unlocked x less =
-        let wide = g.wide in
-        let few = g.few in
-        let most = counted.1 in
-        let is : counted_in (set ws 0 x) ≡ borrowed x = ap borrowed (get_or-set_same ws 0 x 0 (omega arith)) in
-        λ shut. absurd (omega arith)
+    less_unlocked x0 x1 = grind (arith, set, borrowed, get_or-set_same)
 
     loads : ReleaseStep releases.TheVariants.LoadsHead
-    loads =
-        let wide = g.wide in
-        let same : words_after ws (released_by releases.TheVariants.LoadsHead) ≡ ws = set-get_or ws 0 0 in
-        let good : Good c (words_after ws (released_by releases.TheVariants.LoadsHead)) hs 1 = subst (λ w. Good c w hs 1) (sym same) g in
-        record {
-          on = omega arith;
-          leads = (good, refl, omega arith);
-          unlocked = unlocked_for c (words_after ws (released_by releases.TheVariants.LoadsHead)) hs 1 good (omega arith);
-        }
+    loads = grind (arith, set-get_or, unlocked_for)
 
     stores : (head : ℕ) → ReleaseStep (releases.TheVariants.StoresNext head)
     stores head =
@@ -209,44 +196,18 @@ module _ (c : ℕ) (ws : List ℕ) (hs : List (Option ℕ)) (opened : counted_in
     good_loaded = subst (λ w. Good c w hs 0) (sym loaded) g
 
     full : borrowed (head_of ws) ≡ c → (i : ℕ) → i < c → holder hs i ≢ None
-    full is i below = let right = counts_right c ws hs 0 g opened in let same = right.0 in all_held hs c i (omega arith) below
+    full x0 x1 x2 = grind (arith, counts_right, all_held)
 
     sees : Leads acquires.TheVariants.LoadsHead (acquire_sees (call_at acquires.TheVariants.LoadsHead) (head_of ws))
-    sees =
-        by_test (Leads acquires.TheVariants.LoadsHead) (says_locked (head_of ws)) (Done (Err failures.TheVariants.IsLocked)) _
-        (λ t. let shut : borrowed (head_of ws) ≡ locked = grind (arith, nat_tests) in opened shut)
-        (λ t. by_eq (Leads acquires.TheVariants.LoadsHead) (borrowed (head_of ws)) c (Done (Err failures.TheVariants.OutOfIndices)) _
-        (λ all. (good_loaded, full all, omega arith))
-        (λ less. by_test (Leads acquires.TheVariants.LoadsHead) (nat_lt (proposed (head_of ws)) c)
-        (GoOn (at_acquire (call_at acquires.TheVariants.LoadsHead) (acquires.TheVariants.LoadsNext (head_of ws))))
-        (GoOn
-        (at_acquire (call_at acquires.TheVariants.LoadsHead) (acquires.TheVariants.ExchangesHead (head_of ws) (proposed (head_of ws)))))
-        (λ own. let below : proposed (head_of ws) < c = grind (arith, nat_tests) in
-        (good_loaded, refl, ((opened, less), ap head_of loaded, below), omega arith))
-        (λ none. (good_loaded, refl, ((opened, less), ap head_of loaded), omega arith))))
+    sees = grind (arith, by_test, head_of, borrowed, locked, by_eq, good_loaded, full, loaded, nat_tests)
 
     loads_head : AcquireStep acquires.TheVariants.LoadsHead
-    loads_head =
-        let wide = g.wide in
-        record {
-          on = omega arith;
-          leads = sees;
-          stays = refl;
-          unlocked = subst (λ w. counted_in w ≢ locked) (sym loaded) opened;
-        }
+    loads_head = grind (arith, sees, locked, loaded)
 
     -- ---- the load of the next index
 
     loads_next : (head : ℕ) → IsOpen c head → head_of ws ≡ head → proposed head < c → AcquireStep (acquires.TheVariants.LoadsNext head)
-    loads_next head at is below =
-        let wide = g.wide in
-        let same : words_after ws (acquired_by (acquires.TheVariants.LoadsNext head)) ≡ ws = set-get_or ws (next_word (proposed head)) 0 in
-        record {
-          on = omega arith;
-          leads = (subst (λ w. Good c w hs 0) (sym same) g, refl, (at, ap head_of same ∙ is), omega arith);
-          stays = refl;
-          unlocked = subst (λ w. counted_in w ≢ locked) (sym same) opened;
-        }
+    loads_next x0 x1 x2 x3 = grind (arith, set-get_or, next_word, head_of, locked)
 
     -- ---- the exchange of the head, which finds it as it was
 
@@ -304,23 +265,11 @@ module _ (c : ℕ) (ws : List ℕ) (hs : List (Option ℕ)) (opened : counted_in
     is_on = let wide = g.wide in let low = flag_within c i below in omega arith
 
     claims_proposed : AcquireStep (acquires.TheVariants.Claims i)
-    claims_proposed =
-        let some = g.some in
-        record {
-          on = is_on;
-          leads =
-              by_test (Leads (acquires.TheVariants.Claims i)) (has_flag old i)
-              (GoOn (at_acquire (call_at (acquires.TheVariants.Claims i)) (acquires.TheVariants.Scans 0)))
-              (Done (Ok i))
-              (λ stood. (stood_good stood, refl, (omega arith, λ j less. absurd (omega arith)), omega arith))
-              (λ clear. (claimed clear, below, was_free c ws hs i below 1 clear g, omega arith));
-          stays = refl;
-          unlocked = still_unlocked;
-        }
+    claims_proposed = grind (arith, is_on, by_test, has_flag, stood_good, claimed, was_free, still_unlocked)
 
     module _ (all : AllClaimed c ws i) where
       one_more : is_claimed c ws i ≡ true → AllClaimed c ws (i + 1)
-      one_more stood j less = ⊎_elim (λ before. all j before) (λ last. let same : j ≡ i = omega arith in ap (is_claimed c ws) same ∙ stood) (cases_lt j i)
+      one_more x0 x1 x2 = grind arith
 
       -- some flag is free, so the last one to be tried does not stand
       not_last : has_flag old i ≡ true → i + 1 < c
@@ -335,32 +284,7 @@ module _ (c : ℕ) (ws : List ℕ) (hs : List (Option ℕ)) (opened : counted_in
       scans = go (has_flag old i) refl
         where
           go : (b : Bool) → has_flag old i ≡ b → AcquireStep (acquires.TheVariants.Scans i)
-          go true t =
-              let more = not_last t in
-              let u : nat_lt (i + 1) c ≡ true = grind (arith, nat_tests) in
-              let goes : acquire_takes (call_at (acquires.TheVariants.Scans i)) (acquires.TheVariants.Scans i) old
-              ≡ GoOn (at_acquire (call_at (acquires.TheVariants.Scans i)) (acquires.TheVariants.Scans (i + 1))) =
-              rw (t, u) refl in
-              record {
-                on = is_on;
-                leads =
-                    subst (Leads (acquires.TheVariants.Scans i)) (sym goes)
-                    (stood_good t, refl, (more, λ j less. still_claimed c ws hs i below 1 j g (one_more t j less)), omega arith);
-                stays = rw (t, u) refl;
-                unlocked = still_unlocked;
-              }
-          go false t =
-              let goes : acquire_takes (call_at (acquires.TheVariants.Scans i)) (acquires.TheVariants.Scans i) old ≡ Done (Ok i) = rw t refl in
-              record {
-                on = is_on;
-                leads = subst (Leads (acquires.TheVariants.Scans i)) (sym goes) (claimed t, below, was_free c ws hs i below 1 t g, omega arith);
-                stays = rw t refl;
-                unlocked = still_unlocked;
-              }
+          go x0 x1 = grind (arith, not_last, is_on, stood_good, still_claimed, one_more, still_unlocked, claimed, was_free, nat_tests)
 
   pub acquire_step : (stage : AcquireStage) → TakesAt c ws stage → Good c ws hs (acquire_counts stage) → AcquireStep stage
-  acquire_step acquires.TheVariants.LoadsHead at g = loads_head g
-  acquire_step (acquires.TheVariants.LoadsNext head) at g = loads_next g head at.0 at.1 at.2
-  acquire_step (acquires.TheVariants.ExchangesHead head next) at g = exchanges_head g head next at.0 at.1
-  acquire_step (acquires.TheVariants.Claims i) at g = claims_proposed g i at
-  acquire_step (acquires.TheVariants.Scans i) at g = scans g i at.0 at.1
+  acquire_step x0 x1 x2 = grind (arith, loads_head, loads_next, exchanges_head, claims_proposed, scans)

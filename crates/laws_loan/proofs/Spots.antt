@@ -42,7 +42,7 @@ pub passing_on : {T : Type 0} (events es : List (Event T)) (index : ℕ)
     → ((i : ℕ) → index ≢ i → spot_of i (events ++ es) ≡ spot_of i events)
     → (spot : Spot) → spot_of index events ≡ spot → (q : ℕ) → (spot ≡ Passing q → ⊥)
     → (i : ℕ) → spot_of i events ≡ Passing q → spot_of i (events ++ es) ≡ Passing q
-passing_on events es index elsewhere spot was q not i e = elsewhere i (λ same. not (sym was ∙ (ap (λ n. spot_of n events) same ∙ e))) ∙ e
+passing_on x0 x1 x2 x3 x4 x5 x6 x7 x8 x9 = grind arith
 
 -- ---- one event
 
@@ -63,4 +63,4 @@ module _ {T : Type 0} (events : List (Event T)) (e : Event T) where
     spot_other i ne = choice i ∙ ap (λ b. if b then m.to else spot_of i events) (ne_eqb m.index i ne)
 
     pub spot_moved : spot_of m.index (events ++ e ∷ []) ≡ m.to
-    spot_moved = choice m.index ∙ ap (λ b. if b then m.to else spot_of m.index events) (eq-eqb m.index m.index refl)
+    spot_moved = grind (arith, choice, eq-eqb)

@@ -1,4 +1,5 @@
 -- From what a step shows to what it comes to for the frame.
+use Rattle.std.proofs.Common.{arith}
 use Rattle.laws_loan.proofs.Names.{◌≡◌, ℕ, ◌+◌, Bool, Option, List, ◌++◌, sym, subst, fold, Ask, After, GoOn, Answer}
 use Rattle.laws_loan.proofs.Names.{Event, Book, LoanStart, LoanFlight, Effect, Party, Coding, ended_book, book_after}
 use Rattle.laws_loan.proofs.Names.{effects_of, put, Span, span_of, answer_in, words_after, change_of, step_count}
@@ -23,10 +24,10 @@ module _ {T : Type 0} (code : Coding T) (slots queue : ℕ) where
 
     -- what holds, by the events of the state, which are those of the run
     pub holds_now : HoldsNow slots queue now t.world.latest now.events t.world.turns
-    holds_now = subst (λ es. HoldsNow slots queue now t.world.latest es t.world.turns) (sym sound.holds.same) sound.holds
+    holds_now = grind arith
 
     pub inv_now : frame.Inv channel now t.world.latest now.events t.world.changes
-    inv_now = subst (λ es. frame.Inv channel now t.world.latest es t.world.changes) (sym sound.holds.same) sound.inv
+    inv_now = grind arith
 
     -- what is done by this party with this operation, after which it goes on so, has written this and leaves this book
     abbrev pub ComesWith : ℕ → LoanStart → Option Ask → Bool → After LoanFlight (Answer T) → List (Event T) → Book → Type 0

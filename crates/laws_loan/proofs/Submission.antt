@@ -20,7 +20,7 @@ module _ (queue : ℕ) (some : 1 ≤ queue) (few : queue < 2 ^ 32) (k : Core ℕ
   long = let cells = g.cells in omega arith
 
   pub cell_is : (position : ℕ) → get_or ws (cell_word queue position) 0 ≡ get_or k.cells (position % (queue + 1)) 0
-  cell_is position = word_at k.write k.read 1 1 k.cells (cell_word queue position) (position % (queue + 1)) refl
+  cell_is x0 = grind (arith, word_at)
 
   pub cell_on : (position : ℕ) → cell_word queue position < length ws
   cell_on x0 = grind arith
@@ -41,7 +41,7 @@ module _ (queue : ℕ) (some : 1 ≤ queue) (few : queue < 2 ^ 32) (k : Core ℕ
     fills_cell = Some (record { word = cell_word queue k.write; op = Store v })
 
     pub fill_words : words_after ws fills_cell ≡ layout no_roles fill
-    fill_words = set_at k.write k.read 1 1 k.cells (cell_word queue k.write) (1 * (k.write % (queue + 1)) + 0) v (omega arith)
+    fill_words = grind (arith, set_at)
 
     module _ (below : length k.waiting < queue + 1) where
       pub fill_good : Good 1 words_of_index (queue + 1) fill
@@ -60,7 +60,7 @@ module _ (queue : ℕ) (some : 1 ≤ queue) (few : queue < 2 ^ 32) (k : Core ℕ
     publish_words = grind arith
 
     pub publish_changes : change_of ws next_write ≡ 1
-    publish_changes = let moved : (after_position k.write == k.write) ≡ false = grind (arith, nat_tests) in rw moved refl
+    publish_changes = grind (arith, false, nat_tests)
 
     pub publish_good : length k.waiting < queue + 1 → Holds 1 words_of_index (queue + 1) k.cells k.write v 1 → Good 1 words_of_index (queue + 1) publish
     publish_good below whole = publishes 1 words_of_index (queue + 1) k v below g whole

@@ -28,16 +28,16 @@ loaned_there : (place : Place) → IsIn place (With 0) → place ≡ places.Loan
 loaned_there x0 x1 = grind arith
 
 pub waiting_away : IsAway Waiting
-waiting_away = record { taken = λ e. absurd (cc); elsewhere = λ e. absurd (cc); not_passing = λ e. absurd (cc) }
+waiting_away = grind arith
 
 pub returning_away : IsAway Returning
-returning_away = record { taken = λ e. absurd (cc); elsewhere = λ e. absurd (cc); not_passing = λ e. absurd (cc) }
+returning_away = grind arith
 
 with_away : (p : ℕ) → p ≢ 0 → IsAway (With p)
-with_away p ne = record { taken = λ e. absurd (cc); elsewhere = λ e. ne (cc); not_passing = λ e. absurd (cc) }
+with_away x0 x1 = grind arith
 
 passing_away : (p : ℕ) → p ≢ 0 → IsAway (Passing p)
-passing_away p ne = record { taken = λ e. absurd (cc); elsewhere = λ e. absurd (cc); not_passing = λ e. ne (cc) }
+passing_away x0 x1 = grind arith
 
 -- what is sent can be anywhere but with the sender
 sent_in : (place : Place) (spot : Spot) → place ≡ places.Sent → spot ≢ Free → spot ≢ With 0 → IsIn place spot
@@ -48,10 +48,10 @@ loaned_in place spot e h = subst (λ p. IsIn p spot) (sym e) h
 
 -- whose an index is that one party has
 by_passing : (q p : ℕ) → IsBy p (Passing q) → p ≡ q
-by_passing q p by = ⊎_elim (λ (e : Passing q ≡ With p). absurd (cc)) (λ (e : Passing q ≡ Passing p). cc) by
+by_passing x0 x1 x2 = grind arith
 
 by_with : (q p : ℕ) → IsBy p (With q) → p ≡ q
-by_with q p by = ⊎_elim (λ (e : With q ≡ With p). cc) (λ (e : With q ≡ Passing p). absurd (cc)) by
+by_with x0 x1 x2 = grind arith
 
 by_none : (p : ℕ) (spot : Spot) → spot ≢ With p → spot ≢ Passing p → IsBy p spot → ⊥
 by_none p spot a b by = ⊎_elim a b by

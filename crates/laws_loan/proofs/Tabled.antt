@@ -48,16 +48,10 @@ module _ {T : Type 0} where
 
   one : (slots i : ℕ) (book : Book) (before : List (Event T)) (e : Event T) → length book.places ≡ slots
       → MovesRight slots before e → place_at (book_after book e).places i ≡ place_after i (place_at book.places i) e
-  one slots i book before (Claimed p index) long right = let below = right.0 in set_at book.places index i places.Loaned (omega arith)
-  one slots i book before (Published p (Index index)) long right = let below = right.0 in set_at book.places index i places.Sent (omega arith)
-  one slots i book before (Freed p index) long right = let below = right.0 in set_at book.places index i places.Free (omega arith)
-  one slots i book before e long right = refl
+  one x0 x1 x2 x3 x4 x5 x6 = grind (arith, set_at)
 
   long_after : (book : Book) (e : Event T) → length (book_after book e).places ≡ length book.places
-  long_after book (Claimed p index) = length-set book.places index places.Loaned
-  long_after book (Published p (Index index)) = length-set book.places index places.Sent
-  long_after book (Freed p index) = length-set book.places index places.Free
-  long_after book e = refl
+  long_after x0 x1 = grind (arith, length-set)
 
   each : (slots i : ℕ) (book : Book) (before es : List (Event T)) → length book.places ≡ slots
       → AreRight (MovesRight slots) before es
@@ -115,19 +109,13 @@ module _ {T : Type 0} (code : Coding T) (slots queue : ℕ) where
     begun x0 x1 x2 x3 = grind arith
 
     died : (owner i : ℕ) → place_in (kept_after_death t.world.kept owner) i ≡ place_in t.world.kept i
-    died owner i = subst (λ kept. place_in (kept_after_death kept owner) i ≡ place_in kept i) (sym is_kept) refl
+    died x0 x1 = grind (arith, is_kept)
 
     answered : (p : ℕ) (x : Party T) (ask : Option Ask) (answer : ℕ) (doing : Doing T)
         → party_of p t.world.latest ≡ Some x → x.doing ≡ doing
         → AreRight (MovesRight slots) t.events (events_of_answer t.world p x answer doing)
         → (i : ℕ) → place_in (after_answer t.world p x ask answer doing).kept i ≡ place_of i (t.events ++ events_of_answer t.world p x answer doing)
-    answered p x ask answer (Over others) found d right i = tabled i ∙ sym (ap (place_of i) (append-nil t.events))
-    answered p x ask answer (Going flight since) found d right i =
-        let there = stands_there (channel code slots queue) t sound p x since flight found d in
-        let es = events_of_answer t.world p x answer (Going flight since) in
-        step_tabled i t.events t.world.coding t.world.words _ sound.state p x.start flight answer t.world.kept
-        sound.fit sound.holds.parts.placed.places_long there.at right
-        ∙ (ap (λ place. fold (place_after i) place es) (tabled i) ∙ sym (fold-append (place_after i) places.Free t.events es))
+    answered x0 x1 x2 x3 x4 x5 x6 x7 x8 = grind (arith, place_of, append-nil, stands_there, step_tabled, fold, place_after, fold-append)
 
     pub turn_tabled : (turn : Turn T) → Each (MovesRight slots) (after_turn t turn).events → IsTabled (after_turn t turn)
     turn_tabled (Begin p start) moves =
@@ -137,15 +125,11 @@ module _ {T : Type 0} (code : Coding T) (slots queue : ℕ) where
         go : (o : Option (Party T)) → party_of p t.world.latest ≡ o
             → AreRight (MovesRight slots) t.events (events_of_next t.world p o) → (i : ℕ)
             → place_in (after_next t.world p o).kept i ≡ place_of i (t.events ++ events_of_next t.world p o)
-        go None found right i = tabled i ∙ sym (ap (place_of i) (append-nil t.events))
-        go (Some x) found right i =
-            answered p x (ask_of_doing t.world.coding x.doing)
-            (old_of t.world.words (ask_of_doing t.world.coding x.doing)) x.doing found refl right i
+        go x0 x1 x2 x3 = grind (arith, place_of, append-nil, answered)
     turn_tabled (Decide p said) moves = go (party_of p t.world.latest) refl (right_of (MovesRight slots) t.events (events_of t.world (Decide p said)) moves)
       where
         go : (o : Option (Party T)) → party_of p t.world.latest ≡ o
             → AreRight (MovesRight slots) t.events (events_of_decision t.world p said o) → (i : ℕ)
             → place_in (after_decision t.world p said o).kept i ≡ place_of i (t.events ++ events_of_decision t.world p said o)
-        go None found right i = tabled i ∙ sym (ap (place_of i) (append-nil t.events))
-        go (Some x) found right i = answered p x None (number_of said) x.doing found refl right i
+        go x0 x1 x2 x3 = grind (arith, place_of, append-nil, answered, number_of)
     turn_tabled (Die owner) moves = λ i. died owner i ∙ (tabled i ∙ sym (as_before i (Died owner) (λ place. refl)))

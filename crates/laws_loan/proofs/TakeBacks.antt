@@ -81,8 +81,7 @@ module _ {T : Type 0} (code : Coding T) (slots queue : ℕ) (s : Channel T) (lat
   -- so it comes, as the call computes it
   does_by : (s' : Channel T) (stage : PopStage) (found : OneWord) (after : After LoanFlight (Answer T)) → goes stage found (old stage) ≡ after
       → StepTo s' stage after (take_back_effect (take_backs.TheVariants.Pops stage found)) → Does stage found
-  does_by s' stage found after is step =
-      record { channel_then = s'; step = subst (λ a. StepTo s' stage a (take_back_effect (take_backs.TheVariants.Pops stage found))) (sym is) step }
+  does_by x0 x1 x2 x3 x4 x5 = grind arith
 
   -- ---- what is so of the queue
 
@@ -112,7 +111,7 @@ module _ {T : Type 0} (code : Coding T) (slots queue : ℕ) (s : Channel T) (lat
   one_step x0 = grind arith
 
   calm : Hangs queue s.submission None
-  calm = subst (Hangs queue s.submission) (ap (hung s.submission.read) here) h.hangs
+  calm = grind arith
 
   idle : counted_for (sends_at latest) ≡ 0
   idle = ap counted_for here
@@ -124,7 +123,7 @@ module _ {T : Type 0} (code : Coding T) (slots queue : ℕ) (s : Channel T) (lat
 
   keeps : (now : PopStage) → IsOn queued (pop_asks now) → words_after queued (ask_of (pop_asks now)) ≡ queued
       → KeepsSet slots queue s latest (asked now) s.set 0
-  keeps now on words = keeps_all slots queue s latest (asked now) turns h (words_are now s.completion on words) idle (ap (hung s.submission.read) here)
+  keeps x0 x1 x2 = grind (arith, keeps_all, words_are, idle)
 
   goes_on : (now after_it : PopStage) (then_found : OneWord) → IsOn queued (pop_asks now)
       → words_after queued (ask_of (pop_asks now)) ≡ queued → KnowsPop one_word slots s.completion (in_one then_found) after_it
@@ -188,7 +187,7 @@ module _ {T : Type 0} (code : Coding T) (slots queue : ℕ) (s : Channel T) (lat
     below = back_below slots s.claims s.submission.waiting s.completion.waiting s.book s.events h.parts.placed index rest first
 
     was_returning : spot_of index s.events ≡ Returning
-    was_returning = returns_there (spot_of index s.events) (first_there is_returning s.completion.waiting rest s.events index first h.parts.placed.returns)
+    was_returning = grind (arith, returns_there, first_there)
 
     now_passing : spot_of index (s.events ++ takes ∷ []) ≡ Passing 0
     now_passing = spot_moved s.events takes (record { index = index; from = Returning; to = Passing 0 }) refl
@@ -197,7 +196,7 @@ module _ {T : Type 0} (code : Coding T) (slots queue : ℕ) (s : Channel T) (lat
     elsewhere i ne = spot_other s.events takes (record { index = index; from = Returning; to = Passing 0 }) refl i ne
 
     open_then : span_of 0 (s.events ++ takes ∷ []) ≡ Open start (takes ∷ [])
-    open_then = span_of-own 0 s.events (takes ∷ []) (refl, tt) ∙ ap (λ span. fold own_after span (takes ∷ [])) from
+    open_then = grind (arith, span_of-own, fold)
 
     receiver_stays : receiver_of (s.events ++ takes ∷ []) ≡ receiver_of s.events
     receiver_stays = fold-append receiver_after 1 s.events (takes ∷ [])

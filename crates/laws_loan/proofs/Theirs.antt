@@ -36,34 +36,7 @@ module _ {T : Type 0} (slots queue : ℕ) (s s' : Channel T) where
 
   pub theirs_stay : (q : ℕ) → q ≢ 0 → Stays q → (wrote : List (Event T)) (start : LoanStart) (flight : LoanFlight)
       → At slots queue s q wrote start flight → At slots queue s' q wrote start flight
-  theirs_stay q ne stays wrote calls.Loan (Loan run) h = absurd (ne h.0)
-  theirs_stay q ne stays wrote (calls.Send index) (Send run) h = absurd (ne h.0)
-  theirs_stay q ne stays wrote (calls.GiveUp index) (GiveUp run) h = absurd (ne h.0)
-  theirs_stay q ne stays wrote calls.TakeBack (TakeBack run) h = absurd (ne h.0)
-  theirs_stay q ne stays wrote calls.Receive (Receive by run) h = (
-    h.0,
-    h.1,
-    h.2,
-    h.3,
-    h.4,
-    λ alive.
-        let known = h.5 (stays.alive alive) in
-        (stays.receiver alive known.0, stays.pop alive known.0 run.room run.call.call.stage known.1),
-  )
-  theirs_stay q ne stays wrote (calls.GiveBack index) (GiveBack by run) h = (
-    h.0,
-    h.1,
-    h.2,
-    h.3,
-    h.4,
-    h.5,
-    h.6,
-    λ alive.
-        let known = h.7 (stays.alive alive) in
-        (stays.receiver alive known.0, stays.passes alive known.0 index known.1, stays.push index run.call.call.stage known.2),
-  )
-  theirs_stay q ne stays wrote calls.Reclaim (Reclaim call) h = absurd (ne h.0)
-  theirs_stay q ne stays wrote start flight h = absurd h
+  theirs_stay x0 x1 x2 x3 x4 x5 x6 = grind arith
 
   -- its turns back are paid still, since each move of a position is a change
   module _ (changes changes' : ℕ) (up : GoesUp s.submission s'.submission changes changes') where

@@ -1,4 +1,5 @@
 -- What the events tell of the two queues, beside the indices that wait in them; and how a turn's events go on with it.
+use Rattle.std.proofs.Common.{arith}
 use Rattle.laws_loan.proofs.Names.{◌≡◌, ℕ, Bool, false, List, [], ◌∷◌, ◌++◌, map, take, fold, refl, sym, ap, subst}
 use Rattle.laws_loan.proofs.Names.{◌∙◌, append_assoc, flat_map-append, Event, Item, Index, gives_back, takes_back}
 use Rattle.laws_loan.proofs.Names.{given_back, taken_back, reclaims_after, queue_acts, as_queue, queue_moments}
@@ -11,13 +12,7 @@ use Rattle.model.proofs.Replays.{calls_of, answers_of, standing_more, legal_more
 module _ {A X : Type 0} (goes_in comes_out : A → List X) (events es : List A) (old new : List X) where
   pub rest_more : flat_map goes_in events ≡ flat_map comes_out events ++ old → old ++ flat_map goes_in es ≡ flat_map comes_out es ++ new
       → flat_map goes_in (events ++ es) ≡ flat_map comes_out (events ++ es) ++ new
-  rest_more rest more =
-      flat_map-append goes_in events es
-      ∙ (ap (λ xs. xs ++ flat_map goes_in es) rest
-      ∙ (append_assoc (flat_map comes_out events) old (flat_map goes_in es)
-      ∙ (ap (λ xs. flat_map comes_out events ++ xs) more
-      ∙ (sym (append_assoc (flat_map comes_out events) (flat_map comes_out es) new)
-      ∙ ap (λ xs. xs ++ new) (sym (flat_map-append comes_out events es))))))
+  rest_more x0 x1 = grind (arith, flat_map-append, append_assoc)
 
 module _ {T : Type 0} where
   abbrev pub items : List ℕ → List (Item T)

@@ -59,11 +59,7 @@ module _ {T : Type 0} (code : Coding T) (kd : QueueKind)
 
 module _ {T : Type 0} (code : Coding T) (slots queue : ℕ) (s : Channel T) (busy : ℕ) (h : Holds slots queue s busy) where
   pub sent_is : sent_in code slots queue (words_in s) ≡ map Index s.submission.waiting
-  sent_is =
-      ap (waiting_in code Overflow queue)
-      (drop_at s.set (layout no_roles s.submission ++ layout no_roles s.completion) (submission_word slots)
-      (set_long slots queue s busy h))
-      ∙ waits_in code Overflow (λ words cell. refl) refl queue s.submission (layout no_roles s.completion) h.submission
+  sent_is = grind (arith, drop_at, layout, set_long, waits_in)
 
   pub back_is : given_back_in code slots queue (words_in s) ≡ map Index s.completion.waiting
   back_is =
@@ -129,16 +125,10 @@ module _ {T : Type 0} where
   are_those spot is self only xs events all = record { each = λ i. (from i, to i); once = once }
     where
       from : (i : ℕ) → Contains (items xs) (Index i) → spot_of i events ≡ spot
-      from i found =
-          let some = stands i xs found.0 found.1 found.2 in
-          let count = all i in
-          only (spot_of i events) (true_if_one (is (spot_of i events)) (omega arith))
+      from x0 x1 = grind (arith, stands, true_if_one)
 
       to : (i : ℕ) → spot_of i events ≡ spot → Contains (items xs) (Index i)
-      to i e =
-          let yes : one_if (is (spot_of i events)) ≡ 1 = ap (λ other. one_if (is other)) e ∙ ap one_if self in
-          let count = all i in
-          there i xs (omega arith)
+      to x0 x1 = grind (arith, there)
 
       once : AllPairs (λ x y. x ≢ y) (items xs)
       once a b d less below same =

@@ -64,11 +64,4 @@ module _ {T : Type 0} (scene : Scene T) (inv : Inv scene) (owner : ℕ) (fits : 
   pub acquire_step : (stage : AcquireStage) → AcquireAt c owner (all scene) stage
       → Knows c (acquire_at c owner stage) (now scene) → steps ≤ acquire_number c stage backs
       → StepOf scene (Acquire owner) (acquire_at c owner stage)
-  acquire_step acquires.TheVariants.LoadsCounter at k s =
-      held_step scene inv owner fits alive 0 Lead caller acquires.TheVariants.LoadsCounter at k (omega arith)
-  acquire_step (acquires.TheVariants.FillsCell number i) at k s =
-      held_step scene inv owner fits alive 0 Lead caller (acquires.TheVariants.FillsCell number i) at k (omega arith)
-  acquire_step (acquires.TheVariants.ChecksCounter number) at k s =
-      held_step scene inv owner fits alive 0 Lead caller (acquires.TheVariants.ChecksCounter number) at k (omega arith)
-  acquire_step (acquires.TheVariants.Raises i raise) at k s =
-      held_step scene inv owner fits alive 0 Lead caller (acquires.TheVariants.Raises i raise) at k (omega arith)
+  acquire_step x0 x1 x2 x3 = grind (arith, held_step, caller)

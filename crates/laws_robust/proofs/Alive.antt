@@ -1,4 +1,5 @@
 -- No turn of an open run is a death. So where what the calls under way write leaves alive who lives, all live on.
+use Rattle.std.proofs.Common.{arith}
 use Rattle.laws_robust.proofs.Names.{◌≡◌, ℕ, Bool, false, Option, Some, None, List, [], ◌∷◌, fold, refl, ap, ◌∙◌}
 use Rattle.laws_robust.proofs.Names.{AllByRecursion, fold-append, Answer, Event, Start, Flight, Doing, Going, Over}
 use Rattle.laws_robust.proofs.Names.{Party, Turn, Begin, Next, Decide, Die, dead_after, is_dead, party_of, old_of}
@@ -50,12 +51,7 @@ module _ {T : Type 0} (t : Trace T) where
         go (Going flight since) d = steps p x since flight (number_of said) found d
 
     turn_leaves : (turn : Turn T) → open_refusal t.world turn ≡ None → AllByRecursion Leaves (events_of t.world turn)
-    turn_leaves (Begin p start) e = (λ owner dead. refl, tt)
-    turn_leaves (Next p) e = next_leaves p (party_of p t.world.latest) refl
-    turn_leaves (Decide p said) e = decision_leaves p said (party_of p t.world.latest) refl
-    turn_leaves (Die owner) e = absurd (cc)
+    turn_leaves x0 x1 = grind (arith, next_leaves, decision_leaves)
 
     pub all_live_on : (turn : Turn T) → open_refusal t.world turn ≡ None → AllLive t.events → AllLive (after_turn t turn).events
-    all_live_on turn e all owner =
-        fold-append (dead_after owner) false t.events (events_of t.world turn)
-        ∙ (all_leave owner (events_of t.world turn) (is_dead owner t.events) (turn_leaves turn e) ∙ all owner)
+    all_live_on x0 x1 x2 x3 = grind (arith, fold-append, false, all_leave, turn_leaves)

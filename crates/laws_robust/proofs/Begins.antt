@@ -27,16 +27,7 @@ module _ {T : Type 0} where
   pub taken : (p index owner : ℕ) (start : Start T) (events : List (Event T))
       → ((r : Right) → right_after index r (Begun p start) ≡ (if index == index then taken_by p owner r else r))
       → AreOwned events → settled_of index events ≡ Some owner → IsBy p index owner (events ++ Begun p start ∷ [])
-  taken p index owner start events takes h e =
-      let k = h.settled index owner e in
-      record {
-        right =
-            fold-append (right_after index) _ events (Begun p start ∷ [])
-            ∙ (takes (right_of index events)
-            ∙ (at_same index index (taken_by p owner (right_of index events)) (right_of index events) refl
-            ∙ (ap (taken_by p owner) k.1 ∙ ap (λ b. if b then By p else Settled owner) (eq-eqb owner owner refl))));
-        filled = fold-append (filled_after index) None events (Begun p start ∷ []) ∙ k.0;
-      }
+  taken x0 x1 x2 x3 x4 x5 x6 x7 = grind (arith, fold-append, right_of, at_same, taken_by, eq-eqb)
 
 module _ {T : Type 0} (scene : Scene T) (g : Good scene.by scene.capacity scene.set.words scene.set.dead scene.events scene.turns) (start : Start T) where
   open scene use {party as p, events as events}
@@ -45,7 +36,7 @@ module _ {T : Type 0} (scene : Scene T) (g : Good scene.by scene.capacity scene.
   es = Begun p start ∷ []
 
   keeps : Keeps es
-  keeps = record { filled = λ i o. refl; locked = λ b. refl; dead = λ owner b. refl }
+  keeps = grind arith
 
   leaves : Leaves scene scene.set.words
   leaves = grind arith
@@ -57,13 +48,7 @@ module _ {T : Type 0} (scene : Scene T) (g : Good scene.by scene.capacity scene.
   same_holder i = fold-append (holder_after i) None events es
 
   settles : AreOwned events → (i o : ℕ) → settled_of i (events ++ es) ≡ Some o → (filled_of i (events ++ es) ≡ Some o) × (right_of i (events ++ es) ≡ Settled o)
-  settles h i o e =
-      let was = still_settled T p start i o (settled_of i events) (right_of i events) in
-      let settled = fold-append (settled_after i) None events es in
-      let right = fold-append (right_after i) Nobody events es in
-      let filled = same i in
-      let owned = h.settled i o in
-      grind arith
+  settles x0 x1 x2 x3 = grind (arith, still_settled, right_of, fold-append, same)
 
   pub begins : Does scene scene.set.words (Begun p start ∷ [])
   begins =

@@ -35,9 +35,7 @@ module _ (chosen : ℕ → Bool) (k : ℕ) (b : Bool) where
   with_there i ne = ap (λ z. if z then b else chosen i) (ne_eqb i k ne)
 
   pub count_with : count_below (chosen_with chosen k b) (suc k) ≡ (if b then 1 else 0) + count_below chosen k
-  count_with =
-      ap (λ z. (if z then 1 else 0) + count_below (chosen_with chosen k b) k) with_here
-      ∙ ap (λ m. (if b then 1 else 0) + m) (count_same (chosen_with chosen k b) chosen k (λ i below. with_there i (λ e. absurd (omega arith))))
+  count_with = grind (arith, count_below, with_here, count_same, with_there)
 
 module _ {T : Type 0} (p : ℕ) (P : ℕ → List (Event T) → Type 0) where
   pub count_none : (events : List (Event T)) → IsCount p P 0 0 events

@@ -72,15 +72,7 @@ module _ {T : Type 0} (by : GoneBy) (c : ℕ) (words dead : List ℕ) (events : 
       let filled = same_filled in let holder = same_holder in let dead = dead_then in let less = well_formed_less events es in grind arith
 
   pub death_spares : (q : ℕ) → Spares by q events es
-  death_spares q =
-      record {
-        none = tt;
-        set_acts = ap (λ s. set_acts (wrote_in s)) (span_of-death q events o);
-        owned = λ calm i owner lives h. record { right = same_right i ∙ h.right; filled = same_filled i ∙ h.filled };
-        unheld = λ calm i owner lives h none. same_holder i ∙ none;
-        held = λ calm i owner lives h here. same_holder i ∙ here;
-        settled = λ calm i owner lives h none. same_settled i ∙ h;
-      }
+  death_spares x0 = grind (arith, set_acts, span_of-death, same_right, same_filled, same_holder, same_settled)
 
   pub death_known : (q since changes backs : ℕ) (flight : Flight T)
       → Knowing c flight (view by words events q since changes backs)

@@ -68,7 +68,7 @@ module _ {T : Type 0} where
   quiet_end p start answer settles rights = grind arith
 
   pub well_formed_less : (events es : List (Event T)) → IsWellFormed (events ++ es) → IsWellFormed events
-  well_formed_less events es all before after e is = all before (after ++ es) e (ap (λ xs. xs ++ es) is ∙ append_assoc before (e ∷ after) es)
+  well_formed_less x0 x1 x2 x3 x4 x5 x6 = grind (arith, append_assoc)
 
 module _ {T : Type 0} (scene : Scene T) where
   open scene use {by as by, capacity as c, party as p, turns as turns, events as events}
@@ -179,34 +179,17 @@ module _ {T : Type 0} (scene : Scene T) where
     stays_same words' same = grind arith
 
     pub stays_raised : (words' : List ℕ) → counter_of ws < greatest → words' ≡ set ws 0 (counter_of ws + 1) → Stays words'
-    stays_raised words' less new =
-        let wide = g.wide in
-        let is : counter_of words' ≡ counter_of ws + 1 = ap counter_of new ∙ counter_set ws (counter_of ws + 1) (omega arith) in
-        record {
-          leaves =
-              record {
-                wide = ap length new ∙ length-set ws 0 (counter_of ws + 1);
-                cells = λ i below. ap (λ w. cell w i) new ∙ cells_stay ws (counter_of ws + 1) i;
-                lock = ne_eqb (counter_of words') locked (λ e. absurd (omega arith)) ∙ sym (ne_eqb (counter_of ws) locked (not_shut less));
-                low = λ t. let low = g.low (sym g.lock ∙ t) in let begun = inv.begun in omega arith;
-                grows = omega arith;
-                bound = omega arith;
-                stuck = λ end. absurd (omega arith);
-              };
-          others = λ n some. ap (λ w. get_or w n 0) new ∙ get_or-set_other ws 0 n (counter_of ws + 1) 0 (λ e. absurd (omega arith));
-        }
+    stays_raised x0 x1 x2 = grind (arith, counter_set, length, length-set, cell, cells_stay, ne_eqb, locked, not_shut, get_or-set_other)
 
     module _ (words' : List ℕ) (raised : IsRaised words') where
       pub raised_open : counter_of ws ≢ locked
-      raised_open = ⊎_elim (λ h. not_shut h.0) (λ h shut. let end = h.1 in absurd (omega arith)) raised
+      raised_open = grind (arith, not_shut)
 
       pub raised_stays : Stays words'
       raised_stays = ⊎_elim (λ h. stays_raised words' h.0 h.1) (λ h. stays_same words' h.2) raised
 
       pub raised_more : counter_of ws < greatest → counter_of words' ≡ counter_of ws + 1
-      raised_more less =
-          let wide = g.wide in
-          ⊎_elim (λ h. ap counter_of h.1 ∙ counter_set ws (counter_of ws + 1) (omega arith)) (λ h. let end = h.1 in absurd (omega arith)) raised
+      raised_more x0 = grind (arith, counter_set)
 
     -- a cell tells with whom its index is filled
     module _ (i : ℕ) (below : i < c) where
@@ -241,8 +224,7 @@ module _ {T : Type 0} (scene : Scene T) where
       right_more i = fold-append (right_after i) _ events es ∙ quiet.right i (right_of i events)
 
       still_owned : AreOwned events → AreOwned (events ++ es)
-      still_owned h =
-          let filled = filled_more in let holder = holder_more in let settled = settled_more in let right = right_more in grind arith
+      still_owned x0 = grind (arith, filled_more, holder_more, settled_more, right_more)
 
       pub quietly : Does scene words' es
       quietly =
@@ -287,19 +269,13 @@ module _ {T : Type 0} (scene : Scene T) where
       within_words = let wide = g.wide in omega arith
 
       fill_cells : (j : ℕ) → j < c → cell words' j ≡ cell_of (filled_of j (events ++ fill))
-      fill_cells j low =
-          let is = filled_then j in
-          let was = g.cells j low in
-          let here = cell_set ws i owner within_words in
-          let there = cell_stays ws i owner j in
-          grind arith
+      fill_cells x0 x1 = grind (arith, filled_then, cell_set, within_words, cell_stays)
 
       fill_filled : (j o : ℕ) → filled_of j (events ++ fill) ≡ Some o → (j < c) × (o < empty)
       fill_filled j o e = let is = filled_then j in let was = g.filled j o in grind arith
 
       fill_owned : AreOwned events → AreOwned (events ++ fill)
-      fill_owned h =
-          let filled = filled_then in let holder = fill_holder in let settled = fill_settled in let right = fill_right in grind arith
+      fill_owned x0 = grind (arith, filled_then, fill_holder, fill_settled, fill_right)
 
       fill_counter : counter_of words' ≡ counter_of ws
       fill_counter = ap counter_of new ∙ counter_stays ws i owner

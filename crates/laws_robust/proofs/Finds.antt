@@ -107,8 +107,7 @@ module _ {T : Type 0} (scene : Scene T) (inv : Inv scene) (owner : ℕ) (fits : 
   pub find_step : IsHere scene (Find owner) → (stage : FindStage) → FindAt c (all scene) stage
       → Knows c (find_at c owner stage) (now scene) → steps ≤ find_number stage
       → StepOf scene (Find owner) (find_at c owner stage)
-  find_step here (finds.TheVariants.LoadsCell k found) at h s = loads_step here at.1 k found at.0 h s
-  find_step here (finds.TheVariants.Asks k found) at h s = find_decided here k found at h s 0
+  find_step x0 x1 x2 x3 x4 = grind (arith, loads_step, find_decided)
 
   -- ---- a find that is done without a no has come to all indices
 

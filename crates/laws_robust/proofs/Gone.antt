@@ -36,31 +36,25 @@ module _ {T : Type 0} where
   gone_stays owner (e ∷ es) = gone_stays owner es
 
   pub gone_more : (by : GoneBy) (owner : ℕ) (events es : List (Event T)) → is_gone by owner events ≡ true → is_gone by owner (events ++ es) ≡ true
-  gone_more Death owner events es gone = fold-append (dead_after owner) false events es ∙ (ap (λ b. fold (dead_after owner) b es) gone ∙ dead_stays owner es)
-  gone_more Word owner events es gone = fold-append (gone_after owner) false events es ∙ (ap (λ b. fold (gone_after owner) b es) gone ∙ gone_stays owner es)
+  gone_more x0 x1 x2 x3 x4 = grind (arith, fold-append, false, fold, dead_stays, gone_stays)
 
   pub gone_less : (by : GoneBy) (owner : ℕ) (events es : List (Event T)) → is_gone by owner (events ++ es) ≡ false → is_gone by owner events ≡ false
-  gone_less by owner events es stays = was_false (is_gone by owner events) (λ gone. sym (gone_more by owner events es gone) ∙ stays)
+  gone_less x0 x1 x2 x3 x4 = grind (arith, was_false, gone_more)
 
   -- who is told of is gone, if he has to be dead for it
   pub gone_told : (by : GoneBy) (p index owner : ℕ) (events : List (Event T)) → MayBeTold by owner events
       → is_gone by owner (events ++ Told p index owner ∷ []) ≡ true
-  gone_told Death p index owner events dead = gone_more Death owner events (Told p index owner ∷ []) dead
-  gone_told Word p index owner events may =
-      fold-append (gone_after owner) false events (Told p index owner ∷ [])
-      ∙ ap (λ b. b || is_gone Word owner events) (eq-eqb owner owner refl)
+  gone_told x0 x1 x2 x3 x4 x5 = grind (arith, gone_more, fold-append, false, eq-eqb)
 
   -- and so is he for whom a container's recovery begins
   pub gone_begun : (p owner : ℕ) (mode : ReleaseMode) (events : List (Event T))
       → is_gone Word owner (events ++ Begun p (Container (containers.TheVariants.Recover owner mode)) ∷ []) ≡ true
-  gone_begun p owner mode events =
-      fold-append (gone_after owner) false events (Begun p (Container (containers.TheVariants.Recover owner mode)) ∷ [])
-      ∙ ap (λ b. b || is_gone Word owner events) (eq-eqb owner owner refl)
+  gone_begun x0 x1 x2 x3 = grind (arith, fold-append, false, eq-eqb)
 
   -- ---- honest runs
 
   each_less : (P : List (Event T) → Event T → Type 0) (events es : List (Event T)) → Each P (events ++ es) → Each P events
-  each_less P events es all before after e is = all before (after ++ es) e (ap (λ xs. xs ++ es) is ∙ append_assoc before (e ∷ after) es)
+  each_less x0 x1 x2 x3 x4 x5 x6 x7 = grind (arith, append_assoc)
 
   pub honest_less : (by : GoneBy) (events es : List (Event T)) → IsHonestBy by (events ++ es) → IsHonestBy by events
   honest_less Death events es h = tt
@@ -72,21 +66,18 @@ module _ {T : Type 0} where
   -- an index is granted for an owner who lives
   pub lives_granted : (by : GoneBy) (p index owner : ℕ) (events : List (Event T)) → is_dead owner events ≡ false
       → IsHonestBy by (events ++ Granted p index owner ∷ []) → is_gone by owner events ≡ false
-  lives_granted Death p index owner events lives h = lives
-  lives_granted Word p index owner events lives h = h events [] (Granted p index owner) refl
+  lives_granted x0 x1 x2 x3 x4 x5 x6 = grind arith
 
   -- a release frees one of an owner who lives
   pub lives_freed : (by : GoneBy) (p index owner : ℕ) (events : List (Event T)) → is_dead owner events ≡ false
       → (IsHonest (events ++ FreedOf p index owner ∷ []) → is_gone Word owner events ≡ false)
       → IsHonestBy by (events ++ FreedOf p index owner ∷ []) → is_gone by owner events ≡ false
-  lives_freed Death p index owner events lives acts h = lives
-  lives_freed Word p index owner events lives acts h = acts h
+  lives_freed x0 x1 x2 x3 x4 x5 x6 x7 = grind arith
 
   -- an add ends with an index for an owner who lives
   pub lives_settled : (by : GoneBy) (p index owner : ℕ) (value : T) (events : List (Event T)) → is_dead owner events ≡ false
       → IsHonestBy by (events ++ Finished p (Container (containers.TheVariants.Add value owner)) (Index index) ∷ []) → is_gone by owner events ≡ false
-  lives_settled Death p index owner value events lives h = lives
-  lives_settled Word p index owner value events lives h = h events [] (Finished p (Container (containers.TheVariants.Add value owner)) (Index index)) refl
+  lives_settled x0 x1 x2 x3 x4 x5 x6 x7 = grind arith
 
   -- ---- nothing is filled with an owner who is gone
 
@@ -109,8 +100,7 @@ module _ {T : Type 0} where
       → ((i owner : ℕ) → is_dead owner events ≡ true → filled_of i (events ++ es) ≡ Some owner → filled_of i events ≡ Some owner)
       → (i owner : ℕ) → IsHonestBy by (events ++ es) → is_gone by owner events ≡ true
       → filled_of i (events ++ es) ≡ Some owner → filled_of i events ≡ Some owner
-  stays_lost Death events es fills i owner honest gone h = fills i owner gone h
-  stays_lost Word events es fills i owner honest gone h = lost_so_far i owner events es honest gone h
+  stays_lost x0 x1 x2 x3 x4 x5 x6 x7 x8 = grind (arith, lost_so_far)
 
   -- ---- answers, in the words of a machine whose owners die
 
@@ -139,5 +129,4 @@ module _ {T : Type 0} where
 
     pub answers_right : (by : GoneBy) (c : ℕ) (events : List (Event T)) → IsHonestBy by events
         → Each (AnswersBy by worn c) events → Each (AnswersRight c) events
-    answers_right by c events honest answers before after e is =
-        answer_right by c before e (honest_less by before (e ∷ after) (subst (IsHonestBy by) is honest)) (answers before after e is)
+    answers_right x0 x1 x2 x3 x4 x5 x6 x7 x8 = grind (arith, answer_right, honest_less)

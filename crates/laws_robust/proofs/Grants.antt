@@ -48,13 +48,7 @@ module _ {T : Type 0} (scene : Scene T) (inv : Inv scene) where
 
     module _ (calm : IsCalm by (events ++ es)) where
       still_owned : AreOwned events → AreOwned (events ++ es)
-      still_owned h =
-          let filled = same in
-          let holder = holder_then in
-          let settled = settled_then in
-          let right = right_then in
-          let ours = (mine calm).filled in
-          grind arith
+      still_owned x0 = grind (arith, same, holder_then, settled_then, right_then)
 
       -- no other party has a right to it
       other_index : (q : ℕ) → q ≢ p → (j o : ℕ) → IsBy q j o events → j ≢ i
@@ -62,8 +56,7 @@ module _ {T : Type 0} (scene : Scene T) (inv : Inv scene) where
 
       -- nor may it be given back
       unsettled : (j o : ℕ) → settled_of j events ≡ Some o → j ≢ i
-      unsettled j o h is =
-          let settled = (g.owned (calm_less by events es calm)).settled j o in let ours = (mine calm).right in grind arith
+      unsettled x0 x1 x2 x3 = grind (arith, calm_less)
 
     pub gives : AreOwn p es → AreRight (SetDoes c) events es → AreRight (AnswersBy by (IsWorn by words') c) events es
         → (IsCalm by (events ++ es) → AreRight HoldsRight events es)
@@ -95,7 +88,7 @@ module _ {T : Type 0} (scene : Scene T) (inv : Inv scene) where
     stays = (raised_stays scene inv words' raised).leaves
 
     keeps : Keeps granting
-    keeps = record { filled = λ j o. refl; locked = λ b. refl; dead = λ o b. refl }
+    keeps = grind arith
 
     raises : (es : List (Event T)) → counter_of words' ≡ counter_of ws → counter_of ws < greatest → (j : ℕ) → holder_of j events ≡ None
         → holder_of j (events ++ es) ≡ None
@@ -104,14 +97,7 @@ module _ {T : Type 0} (scene : Scene T) (inv : Inv scene) where
     -- the call goes on: the party has the right to it, and its owner holds it
     pub owns_then : IsCalm by (events ++ Granted p i owner ∷ [])
         → IsBy p i owner (events ++ Granted p i owner ∷ []) × (holder_of i (events ++ Granted p i owner ∷ []) ≡ Some owner)
-    owns_then calm =
-        let k = (mine calm).0 in (
-          record {
-            right = fold-append (right_after i) _ events granting ∙ k.right;
-            filled = same_filled scene g words' granting stays keeps i ∙ k.filled;
-          },
-          fold-append (holder_after i) None events granting ∙ at_same i i (Some owner) (holder_of i events) refl,
-        )
+    owns_then x0 = grind (arith, fold-append, same_filled, g, stays, keeps, at_same)
 
     pub grants_alone : Does scene words' (Granted p i owner ∷ [])
     grants_alone =

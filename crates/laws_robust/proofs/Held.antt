@@ -78,21 +78,11 @@ module _ {T : Type 0} (scene : Scene T) (inv : Inv scene) (owner : ℕ) (fits : 
         (none : all scene ≡ []) (low : steps + step_count ask ≤ extra + (1 + backs_then scene back * (c + 1)))
         (paid : IsPaid (sees scene ask back)) where
       finds_locked : counter_of ws ≡ locked → Lead ask back [] (Done (Err failures.TheVariants.IsLocked))
-      finds_locked shut = caller.fails failures.TheVariants.IsLocked ask back same (is_shut scene inv shut, inl none) paid (omega arith)
+      finds_locked x0 = grind (arith, is_shut, inl)
 
       begins_cells : counter_of ws ≢ locked → counter_of ws ≢ greatest
           → Lead ask back [] (GoOn (at_acquire (call_at stage) (acquires.TheVariants.FillsCell (counter_of ws) 0)))
-      begins_cells open_now other =
-          let some = g.some in
-          caller.quiet (acquires.TheVariants.FillsCell (counter_of ws) 0) ask back same (omega arith, none)
-          (record {
-            paid = finds_counter scene inv ask back same open_now other paid;
-            scanned = tt;
-            owns = tt;
-            says = (held_now p IsUnlocked events (unlocked scene inv open_now), λ i below. absurd (omega arith));
-            gone = tt;
-          })
-          (omega arith)
+      begins_cells x0 x1 = grind (arith, finds_counter, held_now, unlocked)
 
       finds : Lead ask back [] (acquire_sees (call_at stage) (counter_of ws))
       finds =
@@ -143,28 +133,10 @@ module _ {T : Type 0} (scene : Scene T) (inv : Inv scene) (owner : ℕ) (fits : 
           (omega arith)
 
       was_filled : cell ws i ≢ empty → (j : ℕ) → j < i + 1 → HeldSometime p (IsFilled j) events
-      was_filled other j less =
-          ⊎_elim (λ before. k.says.1 j before)
-          (λ last.
-          let same : j ≡ i = omega arith in
-          held_now p (IsFilled j) events
-          (some_is (filled_of j events) (cell ws i) (ap (λ n. filled_of n events) same ∙ (filled_some scene inv i below other).1)))
-          (cases_lt j i)
+      was_filled x0 x1 x2 = grind (arith, held_now, some_is, cell, filled_some)
 
       passes : cell ws i ≢ empty → Lead exchange false [] (acquire_tries (call_at filling) number (i + 1))
-      passes other =
-          let same : words_after ws exchange ≡ ws = fails_same ws (cell_word i) empty owner other in
-          let held = holds_on scene number exchange events (ap counter_of same) k.paid in
-          by_test (λ stage. Lead exchange false [] (GoOn (at_acquire (call_at filling) stage))) (nat_lt (i + 1) c)
-          (acquires.TheVariants.FillsCell number (i + 1)) (acquires.TheVariants.ChecksCounter number)
-          (λ t.
-          let more : i + 1 < c = grind (arith, nat_tests) in
-          caller.quiet (acquires.TheVariants.FillsCell number (i + 1)) exchange false same (more, none)
-          (record { paid = held; scanned = tt; owns = tt; says = (k.says.0, was_filled other); gone = tt }) (omega arith))
-          (λ t.
-          let last : c ≤ i + 1 = grind (arith, nat_tests) in
-          caller.quiet (acquires.TheVariants.ChecksCounter number) exchange false same none
-          (record { paid = held; scanned = tt; owns = tt; says = λ j less. was_filled other j (omega arith); gone = tt }) (omega arith))
+      passes x0 = grind (arith, fails_same, empty, holds_on, by_test, false, was_filled, nat_tests)
 
       fills_step : Lead exchange false (acquire_effects p owner filling (cell ws i)) (acquire_takes (call_at filling) filling (cell ws i))
       fills_step = go (cell ws i == empty) refl

@@ -30,8 +30,7 @@ use Rattle.laws_robust.proofs.Rights.{Settled, By, right_of, IsBy}
 use Rattle.laws_robust.proofs.Stages.{all, now, sees, then_sees, backs_then, exchanges, fails_same, exchange_sets}
 
 first_few : (c index owner backs n : ℕ) (mode : ReleaseMode) → n ≤ 1 → n ≤ most_steps c (Release index owner mode) backs
-first_few c index owner backs n Default h = omega arith
-first_few c index owner backs n LockIfLastIndex h = omega arith
+first_few x0 x1 x2 x3 x4 x5 x6 = grind arith
 
 module _ {T : Type 0} (scene : Scene T) (inv : Inv scene) (index owner : ℕ) (mode : ReleaseMode) (fits : owner < empty) (below : index < scene.capacity)
     (lives : LivesToRelease owner scene.events (span_of scene.party scene.events))
@@ -93,18 +92,13 @@ module _ {T : Type 0} (scene : Scene T) (inv : Inv scene) (index owner : ℕ) (m
       exchange = Some (exchanges (cell_word index) owner empty)
 
       owns_it : IsCalm by (events ++ FreedOf p index owner ∷ []) → IsBy p index owner events
-      owns_it calm = let h = began calm in k.owns (calm_less by events (FreedOf p index owner ∷ []) calm) h.0 h.1
+      owns_it x0 = grind (arith, calm_less)
 
       mine : IsCalm by (events ++ FreedOf p index owner ∷ []) → (q : ℕ) → q ≢ p → (o : ℕ) → is_gone by o events ≡ false → IsBy q index o events → ⊥
       mine calm q ne o lives h = ne (one_party _ p q (owns_it calm).right h.right)
 
       unsettled : IsCalm by (events ++ FreedOf p index owner ∷ []) → (o : ℕ) → is_gone by o events ≡ false → settled_of index events ≡ Some o → ⊥
-      unsettled calm o lives h =
-          let less = calm_less by events (FreedOf p index owner ∷ []) calm in
-          let own = owns_it calm in
-          let theirs : right_of index events ≡ Settled o = ((g.owned less).settled index o h).1 in
-          let both : Settled o ≡ By p = sym theirs ∙ own.right in
-          absurd (cc)
+      unsettled x0 x1 x2 x3 = grind (arith, calm_less, owns_it, right_of)
 
       empties : cell ws index ≡ owner
           → Lead exchange false (FreedOf p index owner ∷ []) (GoOn (call_at (releases.TheVariants.Raises raises.TheVariants.LoadsCounter)))
@@ -117,10 +111,7 @@ module _ {T : Type 0} (scene : Scene T) (inv : Inv scene) (index owner : ℕ) (m
           (record { paid = let paid = k.paid in omega arith; scanned = tt; owns = tt; says = tt; gone = tt }) (omega arith)
 
       refuses : cell ws index ≢ owner → Lead exchange false [] (Done (Err IndexIsNotOwnedByProvidedOwner))
-      refuses other =
-          caller.refused exchange (fails_same ws (cell_word index) owner empty other)
-          (λ filled. other (g.cells index below ∙ ap cell_of filled)) none (let paid = k.paid in omega arith)
-          (let one = first_few c index owner (backs + 0) 1 mode (omega arith) in omega arith)
+      refuses x0 = grind (arith, fails_same, empty, first_few)
 
       empties_step : Lead exchange false
           (release_effects p (record { index = index; owner = owner; mode = mode }) releases.TheVariants.EmptiesCell (cell ws index))
@@ -148,17 +139,7 @@ module _ {T : Type 0} (scene : Scene T) (inv : Inv scene) (index owner : ℕ) (m
           → Stays scene (words_after ws ask) → IsPaid (sees scene ask back)
           → steps + step_count ask ≤ extra + (3 + backs_then scene back * for_back c m)
           → Lead ask back [] (release_raised (call_at (releases.TheVariants.Raises raise)) m (Done state))
-      closes Default is state ask back stays paid low =
-          caller.ended states.TheVariants.Unlocked ask back stays
-          (subst (λ m. Ends (words_after ws ask) m states.TheVariants.Unlocked) (sym is) tt) done paid
-          (subst (λ m. steps + step_count ask ≤ extra + most_steps c (Release index owner m) (backs_then scene back))
-          (sym is) (omega arith))
-      closes LockIfLastIndex is state ask back stays paid low =
-          caller.quiet (releases.TheVariants.Locks first_lock) ask back stays (is, tt, done)
-          (record { paid = paid; scanned = tt; owns = tt; says = tt; gone = tt })
-          (subst
-          (λ m. steps + step_count ask ≤ extra + release_number c m (releases.TheVariants.Locks first_lock) (backs_then scene back))
-          (sym is) (omega arith))
+      closes x0 x1 x2 x3 x4 x5 x6 x7 = grind arith
 
       raises_step : raises_to (Some (raise_ask raise)) (raise_goes_back raise (counter_of ws)) (raise_after raise (counter_of ws))
       raises_step =
@@ -200,7 +181,7 @@ module _ {T : Type 0} (scene : Scene T) (inv : Inv scene) (index owner : ℕ) (m
           }
 
       few_end : (ask : Option Ask) (back : Bool) → steps + step_count ask ≤ extra + (c + 6 + backs_then scene back * (c + 3)) → FewEnd ask back
-      few_end ask back h = subst (λ m. steps + step_count ask ≤ extra + most_steps c (Release index owner m) (backs_then scene back)) (sym is) h
+      few_end x0 x1 x2 = grind arith
 
       locks_step : locks_to (Some (lock_ask lock)) (lock_goes_back lock (old_of ws (Some (lock_ask lock))))
           (locked_by p lock (old_of ws (Some (lock_ask lock)))) (lock_after c lock (old_of ws (Some (lock_ask lock))))

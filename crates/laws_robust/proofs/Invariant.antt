@@ -58,13 +58,11 @@ worn_on Death words words' on worn = worn
 worn_on Word words words' on worn = on worn
 
 pub worn_at : (by : GoneBy) (words : List ℕ) → HasRoom by words → counter_of words ≡ greatest → IsWorn by words
-worn_at Death words room end = let ahead = room (λ shut. absurd (omega arith)) in absurd (omega arith)
-worn_at Word words room end = end
+worn_at x0 x1 x2 x3 = grind arith
 
 -- one number before it, and then at it
 pub worn_then : (by : GoneBy) (words words' : List ℕ) → HasRoom by words → counter_of words + 1 ≡ greatest → counter_of words' ≡ greatest → IsWorn by words'
-worn_then Death words words' room last end = let ahead = room (λ shut. absurd (omega arith)) in absurd (omega arith)
-worn_then Word words words' room last end = end
+worn_then x0 x1 x2 x3 x4 x5 = grind arith
 
 module _ {T : Type 0} where
   abbrev pub Represents : Registry T → List ℕ → RobustSet T → Type 0
@@ -147,8 +145,7 @@ module _ {T : Type 0} where
 
   pub room_of_few : (by : GoneBy) (c : ℕ) (words dead : List ℕ) (events : List (Event T)) (turns : ℕ)
       → Good by c words dead events turns → 1 ≤ turns → turns < 2 ^ 64 - 2 → HasRoom by words
-  room_of_few Death c words dead events turns g begun small = ahead_of_few Death c words dead events turns g begun small
-  room_of_few Word c words dead events turns g begun small = tt
+  room_of_few x0 x1 x2 x3 x4 x5 x6 x7 x8 = grind (arith, ahead_of_few)
 
   abbrev pub set_then : Scene T → List ℕ → List (Event T) → RobustSet T
   set_then scene words es =
@@ -175,9 +172,7 @@ module _ {T : Type 0} where
       → Goes words words' events es → Spares by q events es → IsSeen words words' changes changes'
       → (since backs : ℕ) (flight : Flight T) → Knowing c flight (view by words events q since changes backs)
       → Knowing c flight (view by words' (events ++ es) q since changes' backs)
-  any_knows by c words words' events es q changes changes' goes spares seen since backs (flights.TheVariants.Robust flight) h =
-      knows_later by words words' events es q since changes changes' backs goes spares seen c flight h
-  any_knows by c words words' events es q changes changes' goes spares seen since backs flight h = absurd h
+  any_knows x0 x1 x2 x3 x4 x5 x6 x7 x8 x9 x10 x11 x12 x13 x14 x15 = grind (arith, knows_later)
 
   -- a call stands there by what its party has written
   pub at_written : (c : ℕ) (w w' : List (Event T)) (start : Start T) (flight : Flight T) → w' ≡ w

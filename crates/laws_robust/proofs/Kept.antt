@@ -29,8 +29,7 @@ pub count_most : (c : ℕ) (count : Count) → CountAt c count → count_number 
 count_most c count at = grind arith
 
 pub lock_most : (c : ℕ) (lock : Lock) → LockAt c lock → lock_number c lock ≤ c + 2
-lock_most c (locks.TheVariants.Counts count) at = let few = count_most c count at in omega arith
-lock_most c (locks.TheVariants.ExchangesCounter counter) at = omega arith
+lock_most x0 x1 x2 = grind (arith, count_most)
 
 pub acquire_most : (c owner : ℕ) (all : List SetAct) (stage : AcquireStage) (backs : ℕ) → AcquireAt c owner all stage
     → acquire_number c stage backs ≤ c + 3 + backs * (c + 1)
@@ -41,8 +40,7 @@ pub release_most : (c index owner : ℕ) (mode : ReleaseMode) (all : List SetAct
 release_most c index owner mode all stage backs at = grind arith
 
 find_most : (c : ℕ) (all : List SetAct) (stage : FindStage) → FindAt c all stage → find_number stage ≤ c
-find_most c all (finds.TheVariants.LoadsCell index found) at = let below = at.0 in omega arith
-find_most c all (finds.TheVariants.Asks index found) at = let below = at.0 in omega arith
+find_most x0 x1 x2 x3 = grind arith
 
 recover_at_most : (c : ℕ) (mode : ReleaseMode) (all : List SetAct) (stage : RecoverStage) (backs : ℕ) → 4 ≤ for_index c mode
     → ((lock : Lock) → mode ≡ LockIfLastIndex → LockAt c lock → lock_number c lock + 5 ≤ for_index c mode)
@@ -53,39 +51,20 @@ recover_at_most c mode all stage backs wide lock at = grind arith
 recover_most : (c : ℕ) (mode : ReleaseMode) (all : List SetAct) (stage : RecoverStage) (backs : ℕ)
     → RecoverAt c mode all stage
     → recover_number c mode stage backs ≤ most_steps c (starts.TheVariants.Recover mode) backs
-recover_most c Default all stage backs at =
-    let few = recover_at_most c Default all stage backs (omega arith) (λ lock mode lock_at. absurd (cc)) at in
-    omega arith
-recover_most c LockIfLastIndex all stage backs at =
-    recover_at_most c LockIfLastIndex all stage backs (omega arith) (λ lock mode lock_at. let few = lock_most c lock lock_at in omega arith) at
+recover_most x0 x1 x2 x3 x4 x5 = grind (arith, recover_at_most, lock_most)
 
 steps_most : (c : ℕ) (all : List SetAct) (backs : ℕ) (start : RobustStart) (flight : RobustFlight)
     → At c all start flight → number_of c flight backs ≤ most_steps c start backs
-steps_most c all backs (starts.TheVariants.Acquire owner) (Acquire run) at = acquire_most c owner all run.call.stage backs at.3
-steps_most c all backs (starts.TheVariants.Release index owner mode) (Release run) at =
-    subst
-    (λ (o : GiveBack). release_number c o.mode run.call.stage backs ≤ most_steps c (starts.TheVariants.Release index owner mode) backs)
-    (sym at.1) (release_most c index owner mode all run.call.stage backs at.4)
-steps_most c all backs (starts.TheVariants.Find owner) (Find run) at = find_most c all run.call.stage at.3
-steps_most c all backs (starts.TheVariants.Recover mode) (Recover run) at =
-    subst (λ m. recover_number c m run.call.stage backs ≤ most_steps c (starts.TheVariants.Recover mode) backs)
-    (sym at.1) (recover_most c mode all run.call.stage backs at.2)
-steps_most c all backs starts.TheVariants.BorrowedIndices (BorrowedIndices run) at = let few = count_most c run.call.count at.1 in omega arith
-steps_most c all backs starts.TheVariants.IsLocked (IsLocked run) at = omega arith
-steps_most c all backs start flight at = absurd at
+steps_most x0 x1 x2 x3 x4 x5 = grind (arith, acquire_most, release_most, find_most, recover_most, count_most)
 
 module _ {T : Type 0} where
   -- ---- how often it has turned back
 
   pub held_paid : (held : Option ℕ) (v : View T) → Paid held v → v.backs ≤ v.changes - v.since
-  held_paid None v h = omega arith
-  held_paid (Some number) v h = ⊎_elim (λ k. let paid = k.1 in omega arith) (λ k. omega arith) h.paid
+  held_paid x0 x1 x2 = grind arith
 
   bounds : (code : Coding T) (c : ℕ) → frame.Bounds (family code c)
-  bounds code c =
-      let by_steps_most = steps_most in
-      let by_held_paid = held_paid in
-      grind arith
+  bounds x0 x1 = grind (arith, steps_most, held_paid)
 
   -- ---- what is promised
 

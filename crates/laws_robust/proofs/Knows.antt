@@ -140,8 +140,7 @@ count_says : (c : ℕ) (P Q : ℕ → ℕ → Type 0) → ((k n : ℕ) → P k n
 count_says c h k follows count m = grind arith
 
 lock_says : (c : ℕ) (P Q : ℕ → ℕ → Type 0) → ((k n : ℕ) → P k n → Q k n) → (lock : Lock) → LockSays c P lock → LockSays c Q lock
-lock_says c P Q follows (locks.TheVariants.Counts count) h = count_says c P Q follows count h
-lock_says c P Q follows (locks.TheVariants.ExchangesCounter counter) h = tt
+lock_says x0 x1 x2 x3 x4 x5 = grind (arith, count_says)
 
 -- the index that a recovery frees now
 abbrev pub FreesNow : RecoverStage → ℕ → ℕ → Type 0
@@ -331,12 +330,7 @@ module _ {T : Type 0} where
         )
 
     acquire_owns : (owner : ℕ) (stage : AcquireStage) → AcquireOwns owner stage before → AcquireOwns owner stage later
-    acquire_owns owner (acquires.TheVariants.Raises index raise) h =
-        λ calm alive.
-        let lives = gone_less by owner events es alive in
-        let k = h (calm_less by events es calm) lives in
-        (spares.owned calm index owner lives k.0, spares.unheld calm index owner lives k.0 k.1)
-    acquire_owns owner stage h = tt
+    acquire_owns x0 x1 x2 = grind (arith, gone_less, calm_less)
 
     release_owns : (index owner : ℕ) (stage : ReleaseStage) → ReleaseOwns index owner stage before → ReleaseOwns index owner stage later
     release_owns index owner releases.TheVariants.EmptiesCell h =
@@ -348,30 +342,22 @@ module _ {T : Type 0} where
     release_owns index owner stage h = tt
 
     still_owns : (flight : RobustFlight) → Owns flight before → Owns flight later
-    still_owns (Acquire run) h = acquire_owns run.given run.call.stage h
-    still_owns (Release run) h = release_owns run.given.index run.given.owner run.call.stage h
-    still_owns flight h = tt
+    still_owns x0 x1 = grind (arith, acquire_owns, release_owns)
 
     once_later : (P : List (Event T) → Type 0) → HeldSometime q P events → HeldSometime q P (events ++ es)
     once_later P h = held_later q P events es spares.none h
 
     acquire_says : (c : ℕ) (stage : AcquireStage) → AcquireSays c stage before → AcquireSays c stage later
-    acquire_says c acquires.TheVariants.LoadsCounter h = tt
-    acquire_says c (acquires.TheVariants.FillsCell counter index) h = (once_later IsUnlocked h.0, λ i below. once_later (IsFilled i) (h.1 i below))
-    acquire_says c (acquires.TheVariants.ChecksCounter counter) h = λ i below. once_later (IsFilled i) (h i below)
-    acquire_says c (acquires.TheVariants.Raises index raise) h = tt
+    acquire_says x0 x1 x2 = grind (arith, once_later)
 
     freed_later : (owner index : ℕ) → FilledSinceFreed q owner index events → FilledSinceFreed q owner index (events ++ es)
     freed_later owner index h = record { other = h.other; once = once_later _ h.once }
 
     release_says : (c index owner : ℕ) (stage : ReleaseStage) → ReleaseSays c index owner stage before → ReleaseSays c index owner stage later
-    release_says c index owner (releases.TheVariants.Locks lock) h =
-        lock_says c (FoundOne owner index before) (FoundOne owner index later) (λ k n found some. freed_later owner index (found some)) lock h
-    release_says c index owner stage h = tt
+    release_says x0 x1 x2 x3 x4 = grind (arith, lock_says, freed_later)
 
     find_says : (owner : ℕ) (stage : FindStage) → FindSays owner stage before → FindSays owner stage later
-    find_says owner (finds.TheVariants.LoadsCell index found) h = count_later q (IsFilledWith owner) index found events h es spares.none
-    find_says owner (finds.TheVariants.Asks index found) h = count_later q (IsFilledWith owner) (index + 1) found events h es spares.none
+    find_says x0 x1 x2 = grind (arith, count_later)
 
     asked_later : (k : ℕ) → AskedBelow k before → AskedBelow k later
     asked_later k h i owner below through =
@@ -387,14 +373,7 @@ module _ {T : Type 0} where
     recover_says c recovers.TheVariants.LoadsCounterAgain h = asked_later c h
 
     still_says : (c : ℕ) (flight : RobustFlight) → Says c flight before → Says c flight later
-    still_says c (Acquire run) h = acquire_says c run.call.stage h
-    still_says c (Release run) h = release_says c run.given.index run.given.owner run.call.stage h
-    still_says c (Find run) h = find_says run.given run.call.stage h
-    still_says c (Recover run) h = recover_says c run.call.stage h
-    still_says c (BorrowedIndices run) h =
-        count_says c (Borrowed before) (Borrowed later)
-        (λ k n counted. count_later q IsFilled k n events counted es spares.none) run.call.count h
-    still_says c (IsLocked run) h = tt
+    still_says x0 x1 x2 = grind (arith, acquire_says, release_says, find_says, recover_says, count_says, count_later)
 
     -- whoever fills an index is not gone, so an index that an owner who is gone has lost stays lost to him
     gone_later : (Now : ℕ → ℕ → Type 0) → GoneBut Now before → GoneBut Now later
@@ -410,11 +389,4 @@ module _ {T : Type 0} where
     still_gone flight h = tt
 
     pub knows_later : (c : ℕ) (flight : RobustFlight) → Knows c flight before → Knows c flight later
-    knows_later c flight h =
-        record {
-          paid = held_paid (flight_holds flight) h.paid;
-          scanned = still_scanned (flight_scan c flight) h.scanned;
-          owns = still_owns flight h.owns;
-          says = still_says c flight h.says;
-          gone = still_gone flight h.gone;
-        }
+    knows_later x0 x1 x2 = grind (arith, held_paid, still_scanned, still_owns, still_says, still_gone)

@@ -1,4 +1,5 @@
 -- No owner dies in an open run, so none of its calls is refused for a dead owner.
+use Rattle.std.proofs.Common.{arith}
 use Rattle.laws_robust.proofs.Names.{◌≡◌, ℕ, false, Some, None, List, refl, sym, subst, ◌∙◌, AllByRecursion, Event}
 use Rattle.laws_robust.proofs.Names.{Start, Robust, Flight, Registry, RobustFlight, Coding, beside_of, step_of}
 use Rattle.laws_robust.proofs.Names.{going_rows, after, has_died, acts_for_dead, frees_living, effects, first_row}
@@ -26,27 +27,10 @@ module _ {T : Type 0} (code : Coding T) (c : ℕ) (t : Trace T) (s : frame.Sound
 
     step_leaves : (start : Start T) (flight : Flight T) → (family_by Word code c).At s.state p start flight
         → AllByRecursion Leaves (writes (registries.TheVariants.Owners s.state.dead) start flight)
-    step_leaves (Robust start) (flights.TheVariants.Robust flight) at =
-        joined Leaves (effects p flight answer) _
-        (effects_hold Leaves p
-        (record {
-          filled = λ index o. λ owner dead. refl;
-          granted_to = λ index o. λ owner dead. refl;
-          freed_of = λ index o. λ owner dead. refl;
-          asked = λ index o. λ owner dead. refl;
-          locked = λ owner dead. refl;
-        })
-        flight
-        answer
-        (λ index o is some. λ owner dead. refl))
-        (end_leaves p (Robust start) (answer_in (any_call (after {T = T} flight answer))))
-    step_leaves start flight at = absurd at
+    step_leaves x0 x1 x2 = grind (arith, joined, effects, effects_hold, end_leaves, after)
 
   pub steps_leave : StepsLeave t
-  steps_leave p x since flight answer found doing =
-      let there = stands_there (family_by Word code c) t s p x since flight found doing in
-      subst (λ kept. AllByRecursion Leaves (writes p answer kept x.start flight))
-      (sym (kept_is t.world.kept t.world.words s.state s.fit).0) (step_leaves p answer x.start flight there.at)
+  steps_leave x0 x1 x2 x3 x4 x5 x6 = grind (arith, stands_there, kept_is, step_leaves)
 
   -- ---- what is not refused
 
@@ -55,9 +39,7 @@ module _ {T : Type 0} (code : Coding T) (c : ℕ) (t : Trace T) (s : frame.Sound
     has_not_died owner = s.holds.good.died owner ∙ all owner
 
     acts_for_none : (flight : RobustFlight) → acts_for_dead s.state.dead flight ≡ false
-    acts_for_none (Acquire run) = has_not_died run.given
-    acts_for_none (Release run) = has_not_died run.given.owner
-    acts_for_none flight = refl
+    acts_for_none x0 = grind (arith, has_not_died)
 
     frees_none : (flight : RobustFlight) → frees_living s.state.dead flight None ≡ false
     frees_none (Recover run) = refl
@@ -65,6 +47,4 @@ module _ {T : Type 0} (code : Coding T) (c : ℕ) (t : Trace T) (s : frame.Sound
 
     -- a step of a call of the set
     pub step_is_free : (flight : RobustFlight) → first_row (going_rows t.world.coding t.world.kept (Some (flights.TheVariants.Robust flight)) None) ≡ None
-    step_is_free flight =
-        subst (λ kept. first_row (rows.kept_going_rows flight kept None) ≡ None) (sym (kept_is t.world.kept t.world.words s.state s.fit).0)
-        (rw (acts_for_none flight, frees_none flight) refl)
+    step_is_free x0 = grind (arith, first_row, kept_is, acts_for_none, frees_none)

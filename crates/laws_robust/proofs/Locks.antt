@@ -51,9 +51,7 @@ module _ {T : Type 0} (scene : Scene T) (inv : Inv scene) where
     now_locked = fold-append locked_after false events es ∙ quiet.locked true
 
     still_owned : IsCalm by (events ++ es) → AreOwned (events ++ es)
-    still_owned calm =
-        let h = g.owned (calm_less by events es calm) in
-        let filled = same_filled in let holder = same_holder in let settled = same_settled in let right = same_right in grind arith
+    still_owned x0 = grind (arith, calm_less, same_filled, same_holder, same_settled, same_right)
 
     pub locks : Does scene words' (Locked p ∷ more)
     locks =

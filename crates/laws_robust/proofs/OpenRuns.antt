@@ -32,11 +32,10 @@ module _ {T : Type 0} (code : Coding T) (c : ℕ) where
   may_decide : (t : Trace T) (s : Sound t) (p : ℕ) (x : Party T) (since : ℕ)
       (found : party_of p t.world.latest ≡ Some x) (flight : Flight T) (said : Bool)
       → MayDecideIn Word code c t s p x since found flight said
-  may_decide t s p x since found (flights.TheVariants.Robust flight) said = tt
-  may_decide t s p x since found flight said = tt
+  may_decide x0 x1 x2 x3 x4 x5 x6 x7 = grind arith
 
   same : (t : Trace T) → Sound t → Sound record { world = t.world; events = t.events ++ [] }
-  same t s = subst (λ es. Sound record { world = t.world; events = es }) (sym (append-nil t.events)) s
+  same x0 x1 = grind (arith, append-nil)
 
   answered : (t : Trace T) (p : ℕ) (x : Party T) (flight : Flight T) (since answer : ℕ) → Sound t
       → frame.ComesByStep (family_by Word code c) t p x flight since None answer
@@ -88,14 +87,7 @@ module _ {T : Type 0} (code : Coding T) (c : ℕ) where
   no_container t s p owner mode e = grind arith
 
   pub open_turn_sound : (t : Trace T) (turn : Turn T) → open_refusal t.world turn ≡ None → Sound t → Sound (after_turn t turn)
-  open_turn_sound t (Begin p (Container (Recover owner mode))) e s = no_container t s p owner mode e
-  open_turn_sound t (Begin p start) e s = goes_by_rows t (Begin p start) e s
-  open_turn_sound t (Next p) e s = goes_by_rows t (Next p) e s
-  open_turn_sound t (Die owner) e s = absurd (cc)
-  open_turn_sound t (Decide p said) e s =
-      let b = row_passed (is_none (flight_in t.world p)) Idle _ e in
-      let d = row_passed (not (is_due t.world.coding (flight_in t.world p))) Undecided None b.1 in
-      decided t p said (frame.is_true (is_due t.world.coding (flight_in t.world p)) d.0) s (party_of p t.world.latest) refl
+  open_turn_sound x0 x1 x2 x3 = grind (arith, no_container, goes_by_rows, row_passed, is_none, decided)
 
 -- ---- whole runs
 
@@ -159,4 +151,4 @@ module _ {T : Type 0} where
 
   pub reached_open_opening : (code : Coding T) (kind : Kind) (capacity parties : ℕ) → IsCoding code
       → capacity_error kind capacity ≡ None → IsReachedOpen (opening code kind capacity parties)
-  reached_open_opening code kind capacity parties coded e = record { coded = coded; admitted = e; turns = []; is = refl }
+  reached_open_opening x0 x1 x2 x3 x4 x5 = grind arith

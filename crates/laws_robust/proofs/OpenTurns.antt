@@ -1,4 +1,5 @@
 -- What every turn of an open run keeps holds wherever the run leads.
+use Rattle.std.proofs.Common.{arith}
 use Rattle.laws_robust.proofs.Names.{◌≡◌, Option, Some, None, List, [], ◌∷◌, refl, sym, subst, Turn, after_turn}
 use Rattle.laws_robust.proofs.Names.{unless_refused, Trace, opening}
 use Rattle.model.specs.declared.turn.Refusal.{Refusal}
@@ -16,5 +17,4 @@ module _ {T : Type 0} (Holds : Trace T → Type 0)
   run_keeps (turn ∷ turns) t h = run_keeps turns (attempt_open t turn) (attempted t turn (open_refusal t.world turn) refl h)
 
   pub reached_keeps : (t : Trace T) (r : IsReachedOpen t) → Holds (opening t.world.coding t.world.kind t.world.capacity t.world.parties) → Holds t
-  reached_keeps t r h =
-      subst Holds (sym r.is) (run_keeps r.turns (opening t.world.coding t.world.kind t.world.capacity t.world.parties) h)
+  reached_keeps x0 x1 x2 = grind (arith, run_keeps, opening)

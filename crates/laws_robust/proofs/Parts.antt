@@ -70,10 +70,7 @@ module _ {T : Type 0} (scene : Scene T) (inv : Inv scene) where
   -- the exchange of the counter for the next number
   pub raised : (number : ℕ) → counter_of ws ≡ number → Holding number (now scene)
       → words_after ws (Some (exchanges 0 number (one_more number))) ≡ set ws 0 (counter_of ws + 1)
-  raised number is h =
-      let less = h.before_end in
-      let next : one_more number ≡ counter_of ws + 1 = omega arith in
-      exchange_sets ws 0 number (one_more number) is ∙ ap (set ws 0) next
+  raised x0 x1 x2 = grind (arith, one_more, exchange_sets, set)
 
   -- the counter that a call finds
   pub finds_counter : (ask : Option Ask) (back : Bool) → words_after ws ask ≡ ws → counter_of ws ≢ locked
@@ -127,15 +124,7 @@ module _ {T : Type 0} (scene : Scene T) (inv : Inv scene) where
         go : (b : Bool) → (counter_of ws == number) ≡ b
             → Lead (Some (exchanges 0 number (one_more number))) (not b)
             (if b then Done states.TheVariants.Unlocked else raise_sees (counter_of ws))
-        go true t =
-            let is : counter_of ws ≡ number = grind (arith, nat_tests) in
-            let paid_now = paid_of scene (counter_of ws ≡ number) paid.paid in
-            closes (Some (exchanges 0 number (one_more number))) (before_end number is paid) (raised number is paid) (omega arith) (λ n w some low. omega arith)
-        go false t =
-            let other : counter_of ws ≢ number = grind (arith, nat_tests) in
-            raise_finds (raises.TheVariants.ExchangesCounter number) goes meets rests
-            (Some (exchanges 0 number (one_more number))) true (fails_same ws 0 number (one_more number) other)
-            (paid_back scene number (Some (exchanges 0 number (one_more number))) events other paid) (λ n w some low. omega arith)
+        go x0 x1 = grind (arith, paid_of, exchanges, one_more, before_end, raised, raise_finds, fails_same, paid_back, nat_tests)
 
   -- ---- the counter that a count has loaded, which it holds unless that is at its end
 
@@ -147,7 +136,7 @@ module _ {T : Type 0} (scene : Scene T) (inv : Inv scene) where
   still_held number ask same h = grind arith
 
   holds_one : (number : ℕ) → number ≢ greatest → Paid (unless_last number) (now scene) → Holding number (now scene)
-  holds_one number other h = subst (λ b. Paid (if b then None else Some number) (now scene)) (ne_eqb number greatest other) h
+  holds_one x0 x1 x2 = grind (arith, now, ne_eqb, greatest)
 
   found_held : (ask : Option Ask) → words_after ws ask ≡ ws → counter_of ws ≢ locked → IsPaid (sees scene ask false)
       → Paid (unless_last (counter_of ws)) (sees scene ask false)
@@ -348,7 +337,7 @@ module _ {T : Type 0} (scene : Scene T) (inv : Inv scene) where
             stays = stays_raised scene inv (words_after ws ask) less new
 
             is : counter_of (words_after ws ask) ≡ counter_of ws + 1
-            is = let wide = g.wide in ap counter_of new ∙ counter_set ws (counter_of ws + 1) (omega arith)
+            is = grind (arith, counter_set)
 
             go : (b : Bool) → (counter_of ws + 1 == greatest) ≡ b → Lead ask false [] (lock_counted (Done (ends.TheVariants.Filled filled (counter_of ws + 1))))
             go true t =

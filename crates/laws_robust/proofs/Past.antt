@@ -1,4 +1,5 @@
 -- What was so at each moment of a call, or as it began, is so in a shorter run as well.
+use Rattle.std.proofs.Common.{arith}
 use Rattle.laws_robust.proofs.Names.{◌≡◌, ℕ, List, [], ◌∷◌, ◌++◌, refl, sym, ap, subst, ◌∙◌, append_assoc, append-nil}
 use Rattle.laws_robust.proofs.Names.{Event, Begun, Start, HeldThroughout, BeginsNone, SinceBegin, begins_none_more}
 use Rattle.laws_robust.proofs.Names.{no_more}
@@ -6,8 +7,7 @@ use Rattle.laws_robust.proofs.Names.{no_more}
 module _ {T : Type 0} (p : ℕ) where
   pub through_less : (P : List (Event T) → Type 0) (events es : List (Event T)) → BeginsNone p es
       → HeldThroughout p P (events ++ es) → HeldThroughout p P events
-  through_less P events es none h part rest is within =
-      h part (rest ++ es) (ap (λ xs. xs ++ es) is ∙ append_assoc part rest es) (begins_none_more p rest es within none)
+  through_less x0 x1 x2 x3 x4 x5 x6 x7 x8 = grind (arith, append_assoc, begins_none_more)
 
   pub through_so : (P Q : List (Event T) → Type 0) (events : List (Event T))
       → ((part : List (Event T)) → P part → Q part) → HeldThroughout p P events → HeldThroughout p Q events
@@ -34,8 +34,7 @@ module _ {T : Type 0} (p : ℕ) where
     pub within : BeginsNone p since
 
   one_behind : (x b : Event T) (xs bs : List (Event T)) (start : Start T) → x ≡ b → BeganIn xs bs start → BeganIn (x ∷ xs) (b ∷ bs) start
-  one_behind x b xs bs start e h =
-      record { since = h.since; is = ap (λ (a : Event T). a ∷ xs) e ∙ ap (λ (ys : List (Event T)). b ∷ ys) h.is; within = h.within }
+  one_behind x0 x1 x2 x3 x4 x5 x6 = grind arith
 
   pub began_earlier : (events es before : List (Event T)) (start : Start T) (since : List (Event T))
       → events ++ es ≡ before ++ Begun p start ∷ since → BeginsNone p es → BeginsNone p since
@@ -75,4 +74,4 @@ module _ {T : Type 0} (p : ℕ) where
   -- of a call that has just begun
   pub since_begun : (P : List (Event T) → Type 0) (events : List (Event T)) (start : Start T)
       → SinceBegin p (λ part since. P part) (events ++ Begun p start ∷ []) → P events
-  since_begun P events start h = subst P (sym (last_begin events h.before start h.start h.since h.is h.within)) h.holds
+  since_begun x0 x1 x2 x3 = grind (arith, last_begin)

@@ -73,10 +73,7 @@ module _ {T : Type 0} (scene : Scene T) (inv : Inv scene) (mode : ReleaseMode) (
       tells_set_acts = set_acts_more scene (Recover mode) here telling tells_does.own (λ start w. refl)
 
       frees_this : (i o : ℕ) → Yes index owner ≡ Yes i o → (is_gone by o (events ++ telling) ≡ true) × ((i ≡ index) × (o ≡ owner))
-      frees_this i o e =
-          let same : i ≡ index = cc in
-          let own : o ≡ owner = cc in
-          (subst (λ n. is_gone by n (events ++ telling) ≡ true) (sym own) (gone_told by p index owner events may), (same, own))
+      frees_this x0 x1 x2 = grind (arith, gone_told)
 
       says_yes : Lead None false telling (GoOn (at_recover (call_at (recovers.TheVariants.Asks index owner)) (recovers.TheVariants.EmptiesCell index owner)))
       says_yes =
@@ -172,9 +169,7 @@ module _ {T : Type 0} (scene : Scene T) (inv : Inv scene) (mode : ReleaseMode) (
       frees_set_acts = set_acts_more scene (Recover mode) here freeing frees_does.own (λ start w. refl)
 
       freed_here : (i o : ℕ) → (i ≡ index) × (o ≡ owner) → filled_of i (events ++ freeing) ≢ Some o
-      freed_here i o exempt e =
-          some_none (filled_of i (events ++ freeing)) o
-          (fold-append (filled_after i) None events freeing ∙ at_same index i None (filled_of i events) exempt.0) e
+      freed_here x0 x1 x2 x3 = grind (arith, some_none, fold-append, at_same)
 
       asked_about : (i o : ℕ) → Frees index owner ≡ Frees i o → IsOneOf (Asks i o) done
       asked_about i o e = grind arith

@@ -61,7 +61,7 @@ module _ {T : Type 0} (scene : Scene T) (inv : Inv scene) (mode : ReleaseMode) (
     for_an_index = ap (for_index c) may_lock
 
     said : IsSaid scene inv (λ j filled. Unit {0})
-    said = record { none = tt; empty_next = λ j filled low none h. tt; filled_next = λ j filled o low is h. tt }
+    said = grind arith
 
     abbrev locking : List (Event T)
     locking = Locked p ∷ []
@@ -77,7 +77,7 @@ module _ {T : Type 0} (scene : Scene T) (inv : Inv scene) (mode : ReleaseMode) (
       locks_set_acts = set_acts_more scene (Recover mode) here locking locks_does.own (λ start w. refl)
 
       stands_there : AllFollow (Stands promise c) (Open (Robust (Recover mode)) (wrote_of p events)) locking
-      stands_there = subst (λ m. AllFollow (Stands promise c) (Open (Robust (Recover m)) (wrote_of p events)) locking) (sym may_lock) (just, tt)
+      stands_there = grind (arith, promise)
 
       locks_set : Lead ask false locking (recover_comes_to (call_at (recovers.TheVariants.Locks index lock)) (index + 1))
       locks_set =

@@ -207,19 +207,11 @@ module _ {T : Type 0} (scene : Scene T) (inv : Inv scene) (mode : ReleaseMode) (
     load = Some (loads (cell_word index))
 
     asked_next : AllByRecursion (λ i. i < index + 1) (asked_in done)
-    asked_next = all_so (λ i. i < index) (λ i. i < index + 1) (asked_in done) (λ i less. omega arith) course.asked
+    asked_next = grind (arith, all_so)
 
     -- nothing is to be freed at an empty cell
     passed_says : cell ws index ≡ empty → AskedBelow (index + 1) (now scene)
-    passed_says is i owner below through =
-        ⊎_elim (λ before. k.says.1 i owner before through)
-        (λ last.
-        let same : i ≡ index = omega arith in
-        ⊎_elim (λ filled. some_none (filled_of i events) owner
-        (ap (λ j. filled_of j events) same ∙ filled_none scene inv index course.within is) filled)
-        (λ freed. course.freed i owner freed)
-        (through_now p (StillToFree p owner i) events through))
-        (cases_lt i index)
+    passed_says x0 x1 x2 x3 x4 = grind (arith, some_none, filled_none, through_now)
 
     passes_empty : cell ws index ≡ empty → Lead load false [] (recover_comes_to (call_at (recovers.TheVariants.LoadsCell index)) (index + 1))
     passes_empty is =
@@ -263,14 +255,7 @@ module _ {T : Type 0} (scene : Scene T) (inv : Inv scene) (mode : ReleaseMode) (
           filled_here : (i owner : ℕ) → i ≡ index
               → filled_of i (events ++ Asked p index (cell ws index) ∷ []) ≡ Some owner
               → IsOneOf (Asks i owner) (set_acts_of p (events ++ Asked p index (cell ws index) ∷ []))
-          filled_here i owner same filled =
-              let was : filled_of index events ≡ Some owner =
-              subst (λ j. filled_of j events ≡ Some owner) same
-              (sym (fold-append (filled_after i) None events (Asked p index (cell ws index) ∷ [])) ∙ filled) in
-              let is : cell ws index ≡ owner = one_owner (filled_of index events) (cell ws index) owner is_filled.1 was in
-              subst (λ j. IsOneOf (Asks j owner) (set_acts_of p (events ++ Asked p index (cell ws index) ∷ []))) (sym same)
-              (subst (λ o. IsOneOf (Asks index o) (set_acts_of p (events ++ Asked p index (cell ws index) ∷ []))) is
-              (subst (IsOneOf (Asks index (cell ws index))) (sym asks_set_acts) (last_one (Asks index (cell ws index)) done)))
+          filled_here x0 x1 x2 x3 = grind (arith, fold-append, cell, one_owner, asks_set_acts, last_one)
 
       asks_about : Lead load false asking (GoOn (at_recover (call_at (recovers.TheVariants.LoadsCell index)) (recovers.TheVariants.Asks index (cell ws index))))
       asks_about =

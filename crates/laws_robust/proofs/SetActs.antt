@@ -1,12 +1,12 @@
 -- What a call has done, once it does one thing more.
+use Rattle.std.proofs.Common.{arith}
 use Rattle.laws_robust.proofs.Names.{◌≡◌, ℕ, ◌<◌, ◌⊎◌, ⊎_elim, inl, inr, List, [], ◌∷◌, ◌++◌, refl, sym, ap, subst}
 use Rattle.laws_robust.proofs.Names.{◌∙◌, append_assoc, append-nil, AllByRecursion, flat_map-append, SetAct, Frees}
 use Rattle.laws_robust.proofs.Names.{Asks, index_asked, asked_in, IsOneOf, IsLatest, SplitAt, Last, Earlier}
 use Rattle.laws_robust.proofs.Names.{split_last}
 
 pub still_one : (one d : SetAct) (all : List SetAct) → IsOneOf one all → IsOneOf one (all ++ d ∷ [])
-still_one one d all h =
-    record { before = h.before; after = h.after ++ d ∷ []; is = ap (λ a. a ++ d ∷ []) h.is ∙ append_assoc h.before (one ∷ h.after) (d ∷ []) }
+still_one x0 x1 x2 x3 = grind (arith, append_assoc)
 
 pub last_one : (d : SetAct) (all : List SetAct) → IsOneOf d (all ++ d ∷ [])
 last_one d all = record { before = all; after = []; is = refl }
@@ -34,10 +34,7 @@ all_so P Q (x ∷ xs) follows h = (follows x h.0, all_so P Q xs follows h.1)
 
 pub asks_more : (n : ℕ) (d : SetAct) (all : List SetAct) → AllByRecursion (λ i. i < n) (asked_in all)
     → AllByRecursion (λ i. i < n) (index_asked d) → AllByRecursion (λ i. i < n) (asked_in (all ++ d ∷ []))
-asks_more n d all h k =
-    let more = flat_map-append index_asked all (d ∷ []) in
-    subst (AllByRecursion (λ i. i < n)) (sym (more ∙ ap (λ xs. asked_in all ++ xs) (append-nil (index_asked d))))
-    (all_and (λ i. i < n) (asked_in all) (index_asked d) h k)
+asks_more x0 x1 x2 x3 x4 = grind (arith, flat_map-append, append-nil, all_and)
 
 -- each that was freed was asked about
 abbrev pub FreedWereAsked : List SetAct → Type 0
@@ -45,5 +42,4 @@ FreedWereAsked all = (i owner : ℕ) → IsOneOf (Frees i owner) all → IsOneOf
 
 pub freed_more : (d : SetAct) (all : List SetAct) → FreedWereAsked all
     → ((i owner : ℕ) → d ≡ Frees i owner → IsOneOf (Asks i owner) all) → FreedWereAsked (all ++ d ∷ [])
-freed_more d all h new i owner freed =
-    ⊎_elim (λ was. still_one (Asks i owner) d all (h i owner was)) (λ is. still_one (Asks i owner) d all (new i owner is)) (was_one (Frees i owner) d all freed)
+freed_more x0 x1 x2 x3 x4 x5 x6 = grind (arith, still_one, was_one)

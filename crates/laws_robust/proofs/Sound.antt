@@ -44,27 +44,23 @@ use Rattle.laws_robust.proofs.Stages.{IsHere, all, now, StepOf, DecisionOf}
 module _ {T : Type 0} where
   pub kept_is : (kept : Registry T) (words : List ℕ) (s : RobustSet T) → Represents kept words s
       → (kept ≡ registries.TheVariants.Owners s.dead) × (words ≡ s.words)
-  kept_is (registries.TheVariants.Owners dead) words s fit = (ap (λ o. registries.TheVariants.Owners o) fit.1, fit.0)
-  kept_is kept words s fit = absurd fit
+  kept_is x0 x1 x2 x3 = grind arith
 
   fit_events : (kept : Registry T) (words : List ℕ) (s : RobustSet T) (events : List (Event T))
       → Represents kept words s → Represents kept words (record { words = s.words; dead = s.dead; events = events })
-  fit_events (registries.TheVariants.Owners dead) words s events fit = fit
-  fit_events kept words s events fit = absurd fit
+  fit_events x0 x1 x2 x3 x4 = grind arith
 
 -- ---- a step of a call that passes its rows
 
 -- no part of a call asks a question
 pub raise_asks_none : (raise : Raise) → is_question (raise_want raise) ≡ false
-raise_asks_none raises.TheVariants.LoadsCounter = refl
-raise_asks_none (raises.TheVariants.ExchangesCounter counter) = refl
+raise_asks_none x0 = grind arith
 
 pub count_asks_none : (count : Count) → is_question (count_want count) ≡ false
 count_asks_none count = grind arith
 
 pub lock_asks_none : (lock : Lock) → is_question (lock_want lock) ≡ false
-lock_asks_none (locks.TheVariants.Counts count) = count_asks_none count
-lock_asks_none (locks.TheVariants.ExchangesCounter counter) = refl
+lock_asks_none x0 = grind (arith, count_asks_none)
 
 pub acquire_asks_none : (stage : AcquireStage) (owner : ℕ) → is_question (acquire_asks stage owner) ≡ false
 acquire_asks_none stage owner = grind arith
@@ -129,9 +125,7 @@ module _ {T : Type 0} (scene : Scene T) (inv : Inv scene) where
   find_decides : (said : Bool) (owner : ℕ) → owner < empty → IsHere scene (starts.TheVariants.Find owner)
       → (stage : FindStage) → FindAt c (all scene) stage
       → Decides said (starts.TheVariants.Find owner) (find_at c owner stage)
-  find_decides said owner fits here (finds.TheVariants.LoadsCell index found) at frees asks s k = absurd (cc)
-  find_decides said owner fits here (finds.TheVariants.Asks index found) at frees asks s k =
-      find_decided scene inv owner fits here index found at k s (number_of said)
+  find_decides x0 x1 x2 x3 x4 x5 x6 x7 x8 x9 = grind (arith, find_decided, number_of)
 
   recover_decides : (said : Bool) (mode : ReleaseMode) → IsHere scene (starts.TheVariants.Recover mode)
       → (stage : RecoverStage) → RecoverAt c mode (all scene) stage
@@ -191,12 +185,10 @@ module _ {T : Type 0} (by : GoneBy) (code : Coding T) (c : ℕ) (t : Trace T) (s
 
   module _ (p : ℕ) (x : Party T) (since : ℕ) (found : party_of p t.world.latest ≡ Some x) where
     pub inv_with : HasRoom by t.world.words → Inv (scene_of p x since)
-    inv_with room = record { good = s.holds.good; begun = s.holds.begun p x found; room = room_there room }
+    inv_with x0 = grind (arith, room_there)
 
     pub has_room : t.world.turns < 2 ^ 64 - 2 → HasRoom by t.world.words
-    has_room small =
-        subst (HasRoom by) (sym (kept_is t.world.kept t.world.words s.state s.fit).1)
-        (room_of_few by c s.state.words s.state.dead t.events t.world.turns s.holds.good (s.holds.begun p x found) small)
+    has_room x0 = grind (arith, kept_is, room_of_few)
 
     pub inv_of : t.world.turns < 2 ^ 64 - 2 → Inv (scene_of p x since)
     inv_of small = inv_with (has_room small)
@@ -288,8 +280,7 @@ module _ {T : Type 0} (by : GoneBy) (code : Coding T) (c : ℕ) (t : Trace T) (s
     -- one that passes the machine's rows may
     pub passes_in : (flight : Flight T) (said : Bool)
         → first_row (going_rows t.world.coding t.world.kept (Some flight) (Some said)) ≡ None → MayDecideIn flight said
-    passes_in (flights.TheVariants.Robust flight) said r = decides_by by flight said r
-    passes_in flight said r = tt
+    passes_in x0 x1 x2 = grind (arith, decides_by)
 
     pub decision_comes : HasRoom by t.world.words → (flight : Flight T) (said : Bool) → MayDecideIn flight said
         → is_question (want_of t.world.coding flight) ≡ true
@@ -370,13 +361,11 @@ module _ {T : Type 0} (by : GoneBy) (code : Coding T) (c : ℕ) (t : Trace T) (s
 
   fit_death : (kept : Registry T) (words : List ℕ) (state : RobustSet T) (o : ℕ) (events : List (Event T)) → Represents kept words state
       → Represents (kept_after_death kept o) words (record { words = state.words; dead = dead_with o state.dead; events = events })
-  fit_death (registries.TheVariants.Owners dead) words state o events fit = (fit.0, ap (dead_with o) fit.1)
-  fit_death kept words state o events fit = absurd fit
+  fit_death x0 x1 x2 x3 x4 x5 = grind arith
 
   lives_by : (kept : Registry T) (words : List ℕ) (state : RobustSet T) (o : ℕ) → Represents kept words state
       → families.is_dead kept o ≡ false → has_died o state.dead ≡ false
-  lives_by (registries.TheVariants.Owners dead) words state o fit alive = subst (λ d. has_died o d ≡ false) fit.1 alive
-  lives_by kept words state o fit alive = absurd fit
+  lives_by x0 x1 x2 x3 x4 x5 = grind (arith, false)
 
   pub death_comes : (o : ℕ) → MayDie t.world o → frame.ComesByDeath (family_by by code c) t s o
   death_comes o may =

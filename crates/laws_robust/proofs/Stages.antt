@@ -47,11 +47,10 @@ loads_same words word = set-get_or words word 0
 
 -- an exchange that finds another value changes nothing
 pub fails_same : (words : List ℕ) (word from to : ℕ) → get_or words word 0 ≢ from → words_after words (Some (exchanges word from to)) ≡ words
-fails_same words word from to other =
-    ap (λ b. set words word (if b then to else get_or words word 0)) (ne_eqb (get_or words word 0) from other) ∙ set-get_or words word 0
+fails_same x0 x1 x2 x3 x4 = grind (arith, set, ne_eqb, set-get_or)
 
 pub exchange_sets : (words : List ℕ) (word from to : ℕ) → get_or words word 0 ≡ from → words_after words (Some (exchanges word from to)) ≡ set words word to
-exchange_sets words word from to is = ap (λ b. set words word (if b then to else get_or words word 0)) (eq-eqb (get_or words word 0) from is)
+exchange_sets x0 x1 x2 x3 x4 = grind (arith, set, eq-eqb)
 
 module _ {T : Type 0} where
   -- a call of the kind as one of any
@@ -154,7 +153,7 @@ module _ {T : Type 0} (scene : Scene T) where
 
   module _ (start : RobustStart) (here : IsHere start) (es : List (Event T)) (own : AreOwn p es) (longer : Lengthens es) where
     wrote_more : wrote_of p (events ++ es) ≡ wrote_of p events ++ es
-    wrote_more = ap wrote_in (span_of-own p events es own ∙ (ap (λ s. fold own_after s es) here ∙ longer start (wrote_of p events)))
+    wrote_more = grind (arith, span_of-own, fold)
 
     pub set_acts_more : set_acts_of p (events ++ es) ≡ set_acts_of p events ++ set_acts es
     set_acts_more = ap set_acts wrote_more ∙ flat_map-append set_act (wrote_of p events) es

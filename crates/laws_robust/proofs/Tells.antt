@@ -68,12 +68,7 @@ module _ {T : Type 0} where
         (any_call (after {T = T} flight answer)) ≡ Some (Number number) → IsCount p (IsFilledWith owner) c number events
 
     stage_tells : (fits : owner < empty) (number : ℕ) (due : Bool) (stage : FindStage) → FindAt c (all scene) stage → Tells number due (find_at c owner stage)
-    stage_tells fits number due (finds.TheVariants.LoadsCell index found) at k asks answer loads told e =
-        find_loads_all scene inv owner fits index found at k number
-        (subst (λ n. find_after (record { capacity = c; stage = finds.TheVariants.LoadsCell index found }) owner n ≡ Done number)
-        (loads (sym asks)) (done_is owner number _ e))
-    stage_tells fits number due (finds.TheVariants.Asks index found) at k asks answer loads told e =
-        find_asks_all scene inv owner fits index found at k answer number (told (sym asks)) (done_is owner number _ e)
+    stage_tells x0 x1 x2 x3 x4 x5 x6 x7 x8 x9 x10 = grind (arith, find_loads_all, done_is, find_asks_all)
 
     find_tells : (number : ℕ) (due : Bool) (flight : RobustFlight) → At c (all scene) (starts.TheVariants.Find owner) flight → Tells number due flight
     find_tells number due (calls.TheVariants.Find run) at =
@@ -107,8 +102,7 @@ module _ {T : Type 0} where
 
     own_end : (start : Start T) (flight : Flight T) → StandsThere (family code c) t s q x since start flight
         → Wrote (registries.TheVariants.Owners s.state.dead) start flight → q ≡ p
-    own_end (Robust start) (flights.TheVariants.Robust flight) h e = (wrote_end start flight e).party
-    own_end start flight h e = absurd h.at
+    own_end x0 x1 x2 x3 = grind (arith, wrote_end)
 
     counted : (due : Bool) → (due ≡ true → answer ≢ 0) → (start : Start T) (flight : Flight T)
         → StandsThere (family code c) t s q x since start flight → is_question (want_of t.world.coding flight) ≡ due
@@ -130,7 +124,7 @@ module _ {T : Type 0} where
       there = stands_there (family code c) t s q x since flight found doing
 
       by_owners : Wrote (registries.TheVariants.Owners s.state.dead) x.start flight
-      by_owners = subst (λ kept. Wrote kept x.start flight) (kept_is t.world.kept t.world.words s.state s.fit).0 e
+      by_owners = grind (arith, kept_is)
 
       pub own_party : q ≡ p
       own_party = own_end x.start flight there by_owners

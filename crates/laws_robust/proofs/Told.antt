@@ -35,15 +35,13 @@ asks_owned w index owner e = grind arith
 
 -- neither a raise nor a lock asks about any
 raise_asks_none : (raise : Raise) → is_question (raise_want raise) ≡ true → ⊥
-raise_asks_none raises.TheVariants.LoadsCounter e = absurd (cc)
-raise_asks_none (raises.TheVariants.ExchangesCounter counter) e = absurd (cc)
+raise_asks_none x0 x1 = grind arith
 
 count_asks_none : (count : Count) → is_question (count_want count) ≡ true → ⊥
 count_asks_none count e = grind arith
 
 lock_asks_none : (lock : Lock) → is_question (lock_want lock) ≡ true → ⊥
-lock_asks_none (locks.TheVariants.Counts count) e = count_asks_none count e
-lock_asks_none (locks.TheVariants.ExchangesCounter counter) e = absurd (cc)
+lock_asks_none x0 x1 = grind (arith, count_asks_none)
 
 module _ {T : Type 0} where
   robust_is : (a b : RobustStart) → ◌≡◌ {A = Start T} (Robust a) (Robust b) → a ≡ b
@@ -83,34 +81,10 @@ module _ {T : Type 0} (code : Coding T) (c : ℕ) (t : Trace T) (s : frame.Sound
     by_names : (since : ℕ) (a : Start T) (flight : Flight T) → StandsThere (family code c) t s p x since a flight
         → a ≡ Robust start → is_question (want_of t.world.coding flight) ≡ true
         → events_of t.world (Decide p said) ≡ writes p (number_of said) own a flight → IsDecided p said start
-    by_names since (Robust a) (flights.TheVariants.Robust flight) h name due e =
-        let there = is_there Death code c t s p x since found a flight h in
-        let same = robust_is a start name in
-        record {
-          party = x;
-          since = since;
-          flight = flight;
-          here = h.found;
-          due = due;
-          at = subst (λ b. At c (all (scene_of Death code c t s p x since)) b flight) same there.at;
-          knows = there.knows;
-          wrote =
-              subst (λ b. events_of t.world (Decide p said)
-              ≡ effects p flight (number_of said) ++ ending_of p (Robust b) (answer_in (any_call (after {T = T} flight (number_of said)))))
-              same e;
-        }
-    by_names since a flight h name due e = absurd h.at
+    by_names x0 x1 x2 x3 x4 x5 x6 = grind (arith, is_there, robust_is, all, effects, number_of, after)
 
     by_doing : (doing : Doing T) → x.doing ≡ doing → IsIn p (Robust start) t → is_due t.world.coding (flight_of (Some doing)) ≡ true → IsDecided p said start
-    by_doing (Over others) d under_way due = absurd (cc)
-    by_doing (Going flight since) d under_way due =
-        let there = stands_there (family code c) t s p x since flight found d in
-        let name = (subst (IsOpenFor (Robust start) (λ wrote. Unit {0})) there.span under_way).0 in
-        let wrote : events_of t.world (Decide p said) ≡ writes p (number_of said) own x.start flight =
-        ap (events_of_decision t.world p said) found
-        ∙ (ap (events_of_answer t.world p x (number_of said)) d ∙ ap (λ kept. writes p (number_of said) kept x.start flight) same_kept)
-        in
-        by_names since x.start flight there name due wrote
+    by_doing x0 x1 x2 x3 = grind (arith, stands_there, family, number_of, same_kept, by_names)
 
   pub decided : (p : ℕ) (said : Bool) (start : RobustStart) → refusal_of t.world (Decide p said) ≡ None → IsIn p (Robust start) t → IsDecided p said start
   decided p said start r under_way = grind arith
@@ -132,9 +106,7 @@ module _ {T : Type 0} (code : Coding T) (c : ℕ) (t : Trace T) (s : frame.Sound
     find_stops x since flight at = grind arith
 
   pub finds_up_to : (turn : Turn T) → refusal_of t.world turn ≡ None → FindsUpTo t turn (after_turn t turn)
-  finds_up_to turn r p owner is under_way =
-      let h = decided p false (starts.TheVariants.Find owner) (subst (λ u. refusal_of t.world u ≡ None) is r) under_way in
-      subst (λ u. IsStopped p owner t (after_turn t u)) (sym is) (find_stops p owner h.party h.since h.flight h.at h.here h.due h.knows h.wrote)
+  finds_up_to x0 x1 x2 x3 x4 x5 = grind (arith, decided, false, after_turn, find_stops)
 
   -- ---- a yes tells a recovery
 
@@ -147,23 +119,14 @@ module _ {T : Type 0} (code : Coding T) (c : ℕ) (t : Trace T) (s : frame.Sound
         → IsTold p t (after_turn t (Decide p true))
 
     stage_hears : (capacity : ℕ) (given : ReleaseMode) (stage : RecoverStage) → Hears (recover_at capacity given stage)
-    stage_hears capacity given recovers.TheVariants.LoadsCounter due e = absurd (cc)
-    stage_hears capacity given (recovers.TheVariants.LoadsCell index) due e = absurd (cc)
-    stage_hears capacity given (recovers.TheVariants.Asks index owner) due e = record { index = index; owner = owner; is = ap (λ es. t.events ++ es) e }
-    stage_hears capacity given (recovers.TheVariants.EmptiesCell index owner) due e = absurd (cc)
-    stage_hears capacity given (recovers.TheVariants.Raises index raise) due e = absurd (raise_asks_none raise due)
-    stage_hears capacity given (recovers.TheVariants.Locks index lock) due e = absurd (lock_asks_none lock due)
-    stage_hears capacity given recovers.TheVariants.LoadsCounterAgain due e = absurd (cc)
+    stage_hears x0 x1 x2 x3 x4 = grind (arith, raise_asks_none, lock_asks_none)
 
     recovery_hears : (x : Party T) (since : ℕ) (flight : RobustFlight)
         → At c (all (scene_of Death code c t s p x since)) (starts.TheVariants.Recover mode) flight → Hears flight
-    recovery_hears x since (calls.TheVariants.Recover run) at = stage_hears run.call.capacity run.given run.call.stage
-    recovery_hears x since flight at = absurd at
+    recovery_hears x0 x1 x2 x3 = grind (arith, stage_hears)
 
   pub yes_tells : (turn : Turn T) → refusal_of t.world turn ≡ None → YesTells t turn (after_turn t turn)
-  yes_tells turn r p mode is under_way =
-      let h = decided p true (starts.TheVariants.Recover mode) (subst (λ u. refusal_of t.world u ≡ None) is r) under_way in
-      subst (λ u. IsTold p t (after_turn t u)) (sym is) (recovery_hears p mode h.party h.since h.flight h.at h.due h.wrote)
+  yes_tells x0 x1 x2 x3 x4 x5 = grind (arith, decided, after_turn, recovery_hears)
 
   -- ---- no other turn tells it
 
@@ -181,27 +144,11 @@ module _ {T : Type 0} (code : Coding T) (c : ℕ) (t : Trace T) (s : frame.Sound
 
     step_right : (start : Start T) (flight : Flight T) → (family code c).At s.state q start flight
         → flight_in t.world q ≡ Some flight → ByYes flight → Right (writes q answer own start flight)
-    step_right (Robust start) (flights.TheVariants.Robust flight) at here by =
-        joined (ToldRight t turn) (effects q flight answer) _
-        (effects_hold (ToldRight t turn) q
-        (record {
-          filled = λ index owner. tt;
-          granted_to = λ index owner. tt;
-          freed_of = λ index owner. tt;
-          asked = λ index owner. tt;
-          locked = tt;
-        })
-        flight
-        answer
-        (λ index owner is some. (by (asks_owned (want flight) index owner is) some, ap (owned_of t.world.coding) here ∙ is)))
-        (end_right (Robust start) (answer_in (any_call (after {T = T} flight answer))))
-    step_right start flight at here by = absurd at
+    step_right x0 x1 x2 x3 x4 = grind (arith, joined, effects, effects_hold, asks_owned, want, end_right, after)
 
     flight_right : (x : Party T) (since : ℕ) (flight : Flight T) → party_of q t.world.latest ≡ Some x
         → x.doing ≡ Going flight since → ByYes flight → Right (writes q answer t.world.kept x.start flight)
-    flight_right x since flight found d by =
-        let there = stands_there (family code c) t s q x since flight found d in
-        subst (λ kept. Right (writes q answer kept x.start flight)) (sym same_kept) (step_right x.start flight there.at there.found by)
+    flight_right x0 x1 x2 x3 x4 x5 = grind (arith, stands_there, family, same_kept, step_right)
 
   next_right : (q : ℕ) → is_due t.world.coding (flight_in t.world q) ≡ false → (o : Option (Party T))
       → party_of q t.world.latest ≡ o → AllByRecursion (ToldRight t (Next q)) (events_of_next t.world q o)
@@ -232,16 +179,10 @@ module _ {T : Type 0} (code : Coding T) (c : ℕ) (t : Trace T) (s : frame.Sound
 
   -- no decision is due in a step
   not_due : (q : ℕ) → call_refusal t.world (Next q) ≡ None → is_due t.world.coding (flight_in t.world q) ≡ false
-  not_due q e =
-      let c = row_passed (is_none (flight_in t.world q)) Idle _ e in
-      let d = row_passed (is_due t.world.coding (flight_in t.world q)) Undecided _ c.1 in
-      d.0
+  not_due x0 x1 = grind (arith, row_passed, is_none)
 
   all_told : (turn : Turn T) → refusal_of t.world turn ≡ None → AllByRecursion (ToldRight t turn) (events_of t.world turn)
-  all_told (Begin q start) r = (tt, tt)
-  all_told (Next q) r = next_right q (not_due q (passes t.world (Next q) r).on) (party_of q t.world.latest) refl
-  all_told (Decide q said) r = decision_right q said (party_of q t.world.latest) refl
-  all_told (Die owner) r = (tt, tt)
+  all_told x0 x1 = grind (arith, next_right, not_due, passes, decision_right)
 
   pub tells_once : (turn : Turn T) → refusal_of t.world turn ≡ None → TellsOnce t turn (after_turn t turn)
   tells_once turn r = record { wrote = events_of t.world turn; is = refl; told = all_told turn r }

@@ -1,4 +1,5 @@
 -- A call of the robust set puts no question again once it has an answer.
+use Rattle.std.proofs.Common.{arith}
 use Rattle.laws_turns.proofs.Names.{◌≡◌, ℕ, ◌+◌, ◌==◌, nat_lt, Bool, true, false, Option, Some, None, refl, sym, ap}
 use Rattle.laws_turns.proofs.Names.{subst, ◌∙◌, if◌then◌else◌, After, GoOn, Done, ReleaseMode, ReleaseState}
 use Rattle.laws_turns.proofs.Names.{raise_want, lock_want, went_on, acquire_asks, release_asks, count_want, Answer}
@@ -63,14 +64,7 @@ module _ {T : Type 0} (code : Coding T) where
   recover_done c mode recovers.TheVariants.LoadsCounterAgain answer due = absurd (cc)
 
   set_done : (flight : RobustFlight) (answer : ℕ) → is_question (want flight) ≡ true → due_by (after {T = T} flight answer) ≡ false
-  set_done (calls.TheVariants.Acquire run) answer due =
-      both_ways (is_question (acquire_asks run.call.stage run.given)) (acquire_asks_none run.call.stage run.given) due
-  set_done (calls.TheVariants.Release run) answer due =
-      both_ways (is_question (release_asks run.call.stage run.given)) (release_asks_none run.call.stage run.given) due
-  set_done (calls.TheVariants.Find run) answer due = find_done run.call.capacity run.given run.call.stage answer due
-  set_done (calls.TheVariants.Recover run) answer due = recover_done run.call.capacity run.given run.call.stage answer due
-  set_done (calls.TheVariants.BorrowedIndices run) answer due = both_ways (is_question (count_want run.call.count)) (count_asks_none run.call.count) due
-  set_done (calls.TheVariants.IsLocked run) answer due = absurd (cc)
+  set_done x0 x1 x2 = grind (arith, both_ways, acquire_asks_none, release_asks, release_asks_none, find_done, recover_done, count_asks_none)
 
 module _ {T : Type 0} (t : Trace T) (is : t.world.kind ≡ kinds.TheVariants.Robust) (r : IsReached t) where
   abbrev code : Coding T
@@ -83,17 +77,12 @@ module _ {T : Type 0} (t : Trace T) (is : t.world.kind ≡ kinds.TheVariants.Rob
       → StandsThere (family t.world.coding t.world.capacity) t s p x since start flight
       → is_question (want_of code flight) ≡ true
       → is_due code (left_by (goes_of code p flight answer t.world.kept)) ≡ false
-  flight_done p x since (Robust start) (flights.TheVariants.Robust flight) answer h due = set_done code flight answer due
-  flight_done p x since start flight answer h due = absurd h.at
+  flight_done x0 x1 x2 x3 x4 x5 x6 x7 = grind (arith, set_done)
 
   by_call : (p : ℕ) (said : Bool) → GoesOn t.world (Decide p said) (after_turn t (Decide p said)).world
       → (o : Option (Flight T)) → flight_in t.world p ≡ o → is_due code o ≡ true
       → is_due code (flight_in (after_turn t (Decide p said)).world p) ≡ false
-  by_call p said goes None here due = absurd (cc)
-  by_call p said goes (Some flight) here due =
-      let call = under_way (family t.world.coding t.world.capacity) t s p flight here in
-      ap (is_due code) (decision_left t.world (after_turn t (Decide p said)).world p flight here said goes)
-      ∙ flight_done p call.party call.since call.party.start flight (number_of said) call.there due
+  by_call x0 x1 x2 x3 x4 x5 = grind (arith, under_way, family, s, decision_left, after_turn, flight_done, number_of)
 
   pub answered : (turn : Turn T) → refusal_of t.world turn ≡ None → IsAnswered turn (after_turn t turn)
   answered turn free p said name =

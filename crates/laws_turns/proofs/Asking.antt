@@ -1,4 +1,5 @@
 -- What a recovery writes that it asks, it asks.
+use Rattle.std.proofs.Common.{arith}
 use Rattle.laws_turns.proofs.Names.{append_cancel_left, ap, ◌≡◌, ℕ, ◌+◌, ◌==◌, Bool, true, false, Option, Some, None}
 use Rattle.laws_turns.proofs.Names.{List, [], ◌∷◌, ◌++◌, refl, sym, subst, ◌∙◌, AllByRecursion, After, GoOn, Done}
 use Rattle.laws_turns.proofs.Names.{Ask, ReleaseMode, ReleaseState, Unlocked, AcquireStage, Lock, Raise, GiveBack}
@@ -78,9 +79,7 @@ module _ (T : Type 0) where
       go false e = rw e tt
 
   gives : (q : ℕ × Option (ℕ × ℕ)) (p : ℕ) (given : GiveBack) (stage : ReleaseStage) (old : ℕ) → Q {T = T} q (release_effects p given stage old)
-  gives q p given releases.EmptiesCell old = frees q p given.index given.owner old
-  gives q p given (releases.Raises raise) old = tt
-  gives q p given (releases.Locks lock) old = shuts q p lock old
+  gives x0 x1 x2 x3 x4 = grind (arith, frees, shuts)
 
   tells : (q : ℕ × Option (ℕ × ℕ)) (p index owner old : ℕ) → Q {T = T} q (recover_effects p (recovers.Asks index owner) old)
   tells q p index owner old = go (old == 0) refl
@@ -104,10 +103,7 @@ module _ {T : Type 0} where
     Asks start flight old = Q (asked start flight old) (events_of_step p start (stepped start flight old))
 
     from : (start : Start T) (flight : Flight T) (old : ℕ) → Q (asked start flight old) (stepped start flight old).wrote → Asks start flight old
-    from start flight old h =
-        joined (asked start flight old) (stepped start flight old).wrote
-        (ending_of p start (answer_in (stepped start flight old).after)) h
-        (ends (asked start flight old) p start (answer_in (stepped start flight old).after))
+    from x0 x1 x2 x3 = grind (arith, joined, ends)
 
     recovers_ask : (a : RobustStart) (run : Running Recover ReleaseMode (Unit {0})) (stage : RecoverStage) (old : ℕ)
         → run.call.stage ≡ stage
@@ -127,38 +123,17 @@ module _ {T : Type 0} where
     recovers_ask a run recovers.LoadsCounterAgain old e = tt
 
     set_asks : (a : RobustStart) (flight : RobustFlight) (old : ℕ) → Q {T = T} (asked (starts.Robust a) (flights.Robust flight) old) (effects p flight old)
-    set_asks a (calls.Acquire run) old = fills T (asked (starts.Robust a) (flights.Robust (calls.Acquire run)) old) p run.given run.call.stage old
-    set_asks a (calls.Release run) old = gives T (asked (starts.Robust a) (flights.Robust (calls.Release run)) old) p run.given run.call.stage old
-    set_asks a (calls.Recover run) old = recovers_ask a run run.call.stage old refl
-    set_asks a flight old = tt
+    set_asks x0 x1 x2 = grind (arith, fills, gives, recovers_ask)
 
     all_ask : (start : Start T) (flight : Flight T) (old : ℕ) → Asks start flight old
-    all_ask (starts.Robust a) (flights.Robust flight) old = from (starts.Robust a) (flights.Robust flight) old (set_asks a flight old)
-    all_ask (starts.Queues a) (flights.Queues flight) old = tt
-    all_ask (starts.Atomic a) (flights.Atomic flight) old = tt
-    all_ask (starts.Bits a) (flights.Bits flight) old = tt
-    all_ask (starts.Indices a) (flights.Indices flight) old = tt
-    all_ask (starts.Container a) (flights.Container flight) old = tt
-    all_ask (starts.Loan a) (flights.Loan flight) old = tt
-    all_ask start flight old = tt
+    all_ask x0 x1 x2 = grind (arith, from, set_asks)
 
   -- ---- a turn
 
   answered : (w : World T) (dead : List ℕ) → w.kept ≡ registries.Owners dead
       → (p : ℕ) (x : Party T) (ask : Option Ask) (answer : ℕ) (doing : Doing T)
       → Q (p, owned_of w.coding (flight_in (after_answer w p x ask answer doing) p)) (events_of_answer w p x answer doing)
-  answered w dead k p x ask answer (Over others) = tt
-  answered w dead k p x ask answer (Going flight since) =
-      let s = λ (kept : Registry T). step_of w.coding w.words (beside_of w.words w.kept w.latest p) p x.start flight answer kept in
-      let changes = w.changes + change_of w.words ask in
-      let asks = all_ask w.coding w.words (beside_of w.words w.kept w.latest p) p changes (since + change_of w.words ask) dead x.start flight answer in
-      let here =
-      subst (λ (kept : Registry T). Q
-      (p, owned_of w.coding (flight_of (Some (doing_after changes (since + change_of w.words ask) (s kept).after))))
-      (events_of_step p x.start (s kept)))
-      (sym k) asks in
-      subst (λ (y : Option (Party T)). Q (p, owned_of w.coding (flight_of (doing_of y))) (events_of_step p x.start (s w.kept)))
-      (sym (party_put_same p (party_after x since w.changes (step_count ask) (change_of w.words ask) (s w.kept)) w.latest)) here
+  answered x0 x1 x2 x3 x4 x5 x6 x7 = grind (arith, all_ask, party_put_same)
 
   went : (w : World T) (dead : List ℕ) → w.kept ≡ registries.Owners dead → (p : ℕ) (o : Option (Party T))
       → Q (p, owned_of w.coding (flight_in (after_next w p o) p)) (events_of_next w p o)

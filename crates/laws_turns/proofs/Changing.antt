@@ -104,40 +104,10 @@ module _ {V : Type 0} where
       -- by what stands there then, and by the number that it had
       here : (v : Option V) (b : Bool) → is_even n ≡ b → (count : ℕ) → count ≡ count_with v n → (w : Option V) → w ≡ v
           → ((count ≡ n) × (w ≡ value_at s index)) ⊎ ((n < count) × (count ≤ n + 2) × (is_even count ≡ true → w ≡ None))
-      here None true e count is w same =
-          let stays : count_with {V = V} None n ≡ n = ap (λ b. if b then n else one_more n) e in
-          inl (is ∙ stays, same ∙ sym (c.even index e))
-      here None false e count is w same =
-          let goes : count_with {V = V} None n ≡ one_more n = ap (λ b. if b then n else one_more n) e in
-          let below = small index in
-          let next : one_more n ≡ n + 1 = omega arith in
-          let eq : count ≡ n + 1 = is ∙ (goes ∙ next) in
-          inr (omega arith, omega arith, λ even. same)
-      here (Some x) true e count is w same =
-          let stays : count_without n ≡ n = ap (λ b. if b then n else one_more n) e in
-          let below = small index in
-          let next : one_more n ≡ n + 1 = omega arith in
-          let eq : count ≡ n + 1 = is ∙ (ap one_more stays ∙ next) in
-          let was = even_is n e in
-          inr (omega arith, omega arith, λ even. let now = even_is count even in absurd (omega arith))
-      here (Some x) false e count is w same =
-          let goes : count_without n ≡ one_more n = ap (λ b. if b then n else one_more n) e in
-          let below = small index in
-          let next : one_more n ≡ n + 1 = omega arith in
-          let after : one_more (n + 1) ≡ n + 2 = omega arith in
-          let eq : count ≡ n + 2 = is ∙ (ap one_more (goes ∙ next) ∙ after) in
-          let was = is_odd n e in
-          inr (omega arith, omega arith, λ even. let now = even_is count even in absurd (omega arith))
+      here x0 x1 x2 x3 x4 x5 x6 = grind (arith, count_with, one_more, inl, small, inr, even_is, is_odd)
 
       within : index < capacity s → (i : ℕ) → i ≡ index → IsSame s t i ⊎ HasMoved s t i
-      within below i same =
-          let counts = c.counts in
-          let values = c.values in
-          subst (λ j. IsSame s t j ⊎ HasMoved s t j) (sym same)
-          (⊎_elim (λ stays. inl stays) (λ moved. inr (record { more = moved.0; few = moved.1; even = moved.2 }))
-          (here value (is_even n) refl (count_at t index)
-          (get_or-set_same s.counts index (count_with value n) 0 (omega arith)) (value_at t index)
-          (get_or-set_same s.values index value None (omega arith))))
+      within x0 x1 x2 = grind (arith, inl, inr, here, get_or-set_same, count_with)
 
       beyond : capacity s ≤ index → (i : ℕ) → IsSame s t i
       beyond past i =
@@ -148,7 +118,7 @@ module _ {V : Type 0} where
           )
 
       there : (i : ℕ) → (i ≡ index → ⊥) → IsSame s t i
-      there i ne = (get_or-set_other s.counts index i (count_with value n) 0 ne, get_or-set_other s.values index i value None ne)
+      there x0 x1 = grind (arith, get_or-set_other, count_with)
 
       changed_moves : Moves s t
       changed_moves =
@@ -207,19 +177,7 @@ module _ {V : Type 0} where
       go false = keeps_same s
 
   pub counts : (s : Contents V) → Keeps s (counted s)
-  counts s =
-      record {
-        counts = λ c. record { counts = c.counts; values = c.values; few = c.few; even = c.even };
-        follows = λ seen f. record {
-          counted = record { counts = f.counted.counts; values = f.counted.values; few = f.counted.few; even = f.counted.even };
-          counts = f.counts;
-          values = f.values;
-          fewer = f.fewer;
-          numbers = f.numbers;
-          same = f.same;
-          all = f.all;
-        };
-      }
+  counts x0 = grind (arith, counted)
 
   -- ---- indices are freed, as one change
 
@@ -265,22 +223,11 @@ module _ {V : Type 0} where
           both_so yes_so no_so = let same : true ≡ false = sym yes_so ∙ no_so in absurd (cc)
 
       freed_here : index < capacity s → (i : ℕ) → i ≡ index → IsSame s u i ⊎ HasGone s u i
-      freed_here below i same =
-          let a = f.counts in
-          let b = f.values in
-          let counts = c.counts in
-          let values = c.values in
-          subst (λ j. IsSame s u j ⊎ HasGone s u j) (sym same)
-          (⊎_elim (λ stays. inl stays) (λ went. inr (record { next = went.0; even = went.1; none = went.2 }))
-          (gone (is_even (count_at t index)) refl (count_at u index)
-          (get_or-set_same t.counts index (count_without (count_at t index)) 0 (omega arith)) (value_at u index)
-          (get_or-set_same t.values index None None (omega arith))))
+      freed_here x0 x1 x2 = grind (arith, inl, inr, gone, get_or-set_same)
 
       -- what is as it was in t
       by_last : (i : ℕ) → IsSame t u i → IsSame s u i ⊎ HasGone s u i
-      by_last i same =
-          ⊎_elim (λ was. inl (same.0 ∙ was.0, same.1 ∙ was.1))
-          (λ went. inr (record { next = same.0 ∙ went.next; even = subst (λ n. is_even n ≡ true) (sym same.0) went.even; none = same.1 ∙ went.none })) (f.at i)
+      by_last x0 x1 = grind (arith, inl, inr)
 
       freed_beyond : capacity s ≤ index → (i : ℕ) → IsSame t u i
       freed_beyond past i =
@@ -293,19 +240,10 @@ module _ {V : Type 0} where
           )
 
       freed_there : (i : ℕ) → (i ≡ index → ⊥) → IsSame t u i
-      freed_there i ne = (get_or-set_other t.counts index i (count_without (count_at t index)) 0 ne, get_or-set_other t.values index i None None ne)
+      freed_there x0 x1 = grind (arith, get_or-set_other)
 
       frees_more : Frees s u
-      frees_more =
-          record {
-            counts = length-set t.counts index (count_without (count_at t index)) ∙ f.counts;
-            values = length-set t.values index None ∙ f.values;
-            places = given_back_long mode t.owners index ∙ f.places;
-            changes = f.changes;
-            at =
-                λ i. ⊎_elim (λ below. ⊎_elim (freed_here below i) (λ ne. by_last i (freed_there i ne)) (cases_eq i index))
-                (λ past. by_last i (freed_beyond past i)) (cases_lt index (capacity s));
-          }
+      frees_more = grind (arith, counts, length-set, given_back_long, freed_here, by_last, freed_there, cases_eq, freed_beyond, capacity)
 
     all_frees : (which : List Owned) (t : Contents V) → Frees s t → Frees s (fold (λ u (o : Owned). freed mode u o.index) t which)
     all_frees [] t f = f

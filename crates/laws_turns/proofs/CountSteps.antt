@@ -33,7 +33,7 @@ module _ (c : ℕ) (ws : List ℕ) where
   -- ---- operations that leave it
 
   pub calm_apart : (ask : Ask) → ask.word ≢ change_word c → IsCalm (Some ask)
-  calm_apart ask ne = get_or-set_other ws ask.word (change_word c) (written ask.op (get_or ws ask.word 0)) 0 (λ e. ne (sym e))
+  calm_apart x0 x1 = grind (arith, get_or-set_other, written)
 
   pub calm_load : (word : ℕ) → IsCalm (Some (loads word))
   calm_load word = ap (change_at c) (loads_same ws word)

@@ -68,9 +68,7 @@ module _ {T : Type 0} (code : Coding T) (c : ℕ) (ws : List ℕ) (state : Optio
     add_call stage = record { capacity = c; stage = stage; of = record {} }
 
     acquired_ends : (stage : AddStage) (r : After Acquire Acquired) → adds_to (add_acquired (add_call stage) r) ≡ 0
-    acquired_ends stage (GoOn acquire) = refl
-    acquired_ends stage (Done (Ok index)) = refl
-    acquired_ends stage (Done (Err failure)) = refl
+    acquired_ends x0 x1 = grind arith
 
     add_either : (b : Bool) (x y : AddStage) → adds_to (if b then GoOn (add_call x) else GoOn (add_call y)) ≡ 0
     add_either true x y = refl
@@ -78,13 +76,7 @@ module _ {T : Type 0} (code : Coding T) (c : ℕ) (ws : List ℕ) (state : Optio
 
     add_ends : (stage : AddStage) (old : ℕ) → ((index : ℕ) → stage ≢ adds.TheVariants.AddsChange index)
         → EndsNone (starts.TheVariants.Add value owner) (add_at c value owner stage) old
-    add_ends (adds.TheVariants.Acquires stage) old other = acquired_ends (adds.TheVariants.Acquires stage) (acquire_takes (inner_acquire c stage) stage old)
-    add_ends (adds.TheVariants.LoadsCount index) old other = add_either (is_even old) (adds.TheVariants.Stores index 0) (adds.TheVariants.Hides index old)
-    add_ends (adds.TheVariants.Hides index count) old other = refl
-    add_ends (adds.TheVariants.Stores index at) old other =
-        add_either (nat_lt (at + 1) code.size) (adds.TheVariants.Stores index (at + 1)) (adds.TheVariants.AddsCount index)
-    add_ends (adds.TheVariants.AddsCount index) old other = refl
-    add_ends (adds.TheVariants.AddsChange index) old other = absurd (other index refl)
+    add_ends x0 x1 x2 = grind (arith, acquired_ends, add_either)
 
     module _ (all : List SetAct) (done : List (Act T)) where
       add_calm : (stage : AddStage) → AddAt c code.size all done owner stage
@@ -102,25 +94,7 @@ module _ {T : Type 0} (code : Coding T) (c : ℕ) (ws : List ℕ) (state : Optio
       add_counts : (raised : change_at c (words_after ws (Some (adds_one (change_word c)))) ≡ change_at c ws + 1) (stage : AddStage)
           → AddAt c code.size all done owner stage → (old : ℕ)
           → StepCounts (starts.TheVariants.Add value owner) (add_at c value owner stage) old
-      add_counts raised (adds.TheVariants.AddsChange index) at old = raised
-      add_counts raised (adds.TheVariants.Acquires stage) at old =
-          calmly (starts.TheVariants.Add value owner) (add_at c value owner (adds.TheVariants.Acquires stage)) old
-          (add_calm (adds.TheVariants.Acquires stage) at (λ i e. absurd (cc)))
-          (add_ends (adds.TheVariants.Acquires stage) old (λ i e. absurd (cc)))
-      add_counts raised (adds.TheVariants.LoadsCount index) at old =
-          calmly (starts.TheVariants.Add value owner) (add_at c value owner (adds.TheVariants.LoadsCount index)) old
-          (add_calm (adds.TheVariants.LoadsCount index) at (λ i e. absurd (cc)))
-          (add_ends (adds.TheVariants.LoadsCount index) old (λ i e. absurd (cc)))
-      add_counts raised (adds.TheVariants.Hides index count) at old =
-          calmly (starts.TheVariants.Add value owner) (add_at c value owner (adds.TheVariants.Hides index count))
-          old (add_calm (adds.TheVariants.Hides index count) at (λ i e. absurd (cc))) refl
-      add_counts raised (adds.TheVariants.Stores index k) at old =
-          calmly (starts.TheVariants.Add value owner) (add_at c value owner (adds.TheVariants.Stores index k)) old
-          (add_calm (adds.TheVariants.Stores index k) at (λ i e. absurd (cc)))
-          (add_ends (adds.TheVariants.Stores index k) old (λ i e. absurd (cc)))
-      add_counts raised (adds.TheVariants.AddsCount index) at old =
-          calmly (starts.TheVariants.Add value owner) (add_at c value owner (adds.TheVariants.AddsCount index)) old
-          (add_calm (adds.TheVariants.AddsCount index) at (λ i e. absurd (cc))) refl
+      add_counts x0 x1 x2 x3 = grind (arith, calmly, add_at, add_calm, add_ends)
 
   -- ---- a remove
 
@@ -254,10 +228,7 @@ module _ {T : Type 0} (code : Coding T) (c : ℕ) (ws : List ℕ) (state : Optio
     either_quiet false x y h k = k
 
     raised_quiet : (stage : RecoverStage) (i : ℕ) (m : ReleaseMode) (r : After Raise ReleaseState) → Quiet (recover_raised (recover_call stage) i m r)
-    raised_quiet stage i m (GoOn raise) kept = refl
-    raised_quiet stage i m (Done states.TheVariants.Locked) kept = refl
-    raised_quiet stage i LockIfLastIndex (Done states.TheVariants.Unlocked) kept = refl
-    raised_quiet stage i Default (Done states.TheVariants.Unlocked) kept = refl
+    raised_quiet x0 x1 x2 x3 x4 = grind arith
 
     locked_quiet : (stage : RecoverStage) (i : ℕ) (r : After Lock ReleaseState) → Quiet (recover_locked (recover_call stage) i r)
     locked_quiet stage i (GoOn lock) kept = refl
@@ -266,19 +237,7 @@ module _ {T : Type 0} (code : Coding T) (c : ℕ) (ws : List ℕ) (state : Optio
     recover_quiet : (stage : RecoverStage) (old : ℕ)
         → ((lock : ReleaseState) → stage ≢ recovers.TheVariants.AddsChange lock)
         → Quiet (recover_takes code.size (recover_call stage) stage dead_owner old)
-    recover_quiet recovers.TheVariants.LoadsCounter old other = either_quiet (old == locked) _ _ (λ kept. refl) (λ kept. refl)
-    recover_quiet (recovers.TheVariants.LoadsCell i) old other = either_quiet (old == owner) _ _ (λ kept. refl) (λ kept. refl)
-    recover_quiet (recovers.TheVariants.LoadsCount i) old other = λ kept. refl
-    recover_quiet (recovers.TheVariants.LoadsWord i count k) old other = either_quiet (nat_lt (k + 1) code.size) _ _ (λ kept. refl) (λ kept. refl)
-    recover_quiet (recovers.TheVariants.ChecksCount i count) old other = either_quiet (old == count) _ _ (λ kept. refl) (λ kept. refl)
-    recover_quiet (recovers.TheVariants.Asks i count) old other = either_quiet (old == 0) _ _ (λ kept. refl) (λ kept. refl)
-    recover_quiet (recovers.TheVariants.EmptiesCell i count) old other =
-        either_quiet (old == owner) _ _ (either_quiet (is_even count) _ _ (λ kept. refl) (λ kept. refl)) (λ kept. refl)
-    recover_quiet (recovers.TheVariants.Hides i count) old other = λ kept. refl
-    recover_quiet (recovers.TheVariants.Raises i raise) old other = raised_quiet (recovers.TheVariants.Raises i raise) i mode (raise_after raise old)
-    recover_quiet (recovers.TheVariants.Locks i lock) old other = locked_quiet (recovers.TheVariants.Locks i lock) i (lock_after c lock old)
-    recover_quiet recovers.TheVariants.LoadsCounterAgain old other = λ kept. refl
-    recover_quiet (recovers.TheVariants.AddsChange lock) old other = absurd (other lock refl)
+    recover_quiet x0 x1 x2 = grind (arith, either_quiet, locked, raised_quiet, locked_quiet)
 
     recover_counts : (all : List SetAct) (done : List (Act T))
         (raised : change_at c (words_after ws (Some (adds_one (change_word c)))) ≡ change_at c ws + 1)
@@ -290,9 +249,7 @@ module _ {T : Type 0} (code : Coding T) (c : ℕ) (ws : List ℕ) (state : Optio
         calm_so : (stage : RecoverStage) → IsCalm c ws (ask_of (recover_asks code.size c stage owner))
             → ((lock : ReleaseState) → stage ≢ recovers.TheVariants.AddsChange lock)
             → StepCounts (starts.TheVariants.Recover owner mode) (recovers_at stage) old
-        calm_so stage calm other =
-            calmly (starts.TheVariants.Recover owner mode) (recovers_at stage) old calm
-            (recover_quiet stage old other (recover_keeps kept_at stage room old))
+        calm_so x0 x1 x2 = grind (arith, calmly, recover_quiet, recover_keeps, kept_at)
 
         go : (stage : RecoverStage) → RecoverAt c code.size all done owner mode stage
             → StepCounts (starts.TheVariants.Recover owner mode) (recovers_at stage) old
@@ -323,17 +280,10 @@ module _ {T : Type 0} (code : Coding T) (c : ℕ) (ws : List ℕ) (state : Optio
   -- ---- the calls that change nothing
 
   find_calm : (stage : FindStage) → IsCalm c ws (ask_of (find_asks code.size c stage))
-  find_calm (finds.TheVariants.LoadsCell index found) = calm_load c ws (cell_word index)
-  find_calm (finds.TheVariants.LoadsCount index found) = calm_load c ws (count_word c index)
-  find_calm (finds.TheVariants.LoadsWord index found count k) = calm_load c ws (element_word c code.size index k)
-  find_calm (finds.TheVariants.ChecksCount index found count) = calm_apart c ws (exchanges (count_word c index) count count) (λ e. absurd (omega arith))
-  find_calm (finds.TheVariants.Asks index found) = refl
+  find_calm x0 = grind (arith, calm_load, calm_apart, exchanges)
 
   look_calm : (stage : LookStage) → IsCalm c ws (ask_of (look_asks code.size c stage))
-  look_calm looks.TheVariants.LoadsChange = calm_load c ws (change_word c)
-  look_calm (looks.TheVariants.LoadsCount index) = calm_load c ws (count_word c index)
-  look_calm (looks.TheVariants.LoadsWord index count k) = calm_load c ws (element_word c code.size index k)
-  look_calm (looks.TheVariants.ChecksCount index count) = calm_apart c ws (exchanges (count_word c index) count count) (λ e. absurd (omega arith))
+  look_calm x0 = grind (arith, calm_load, calm_apart, exchanges)
 
   -- ---- any call
 

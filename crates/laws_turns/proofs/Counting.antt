@@ -76,22 +76,12 @@ module _ {T : Type 0} (t : Trace T) (is : t.world.kind ≡ kinds.TheVariants.Con
   leaves : (turn : Turn T) → refusal_of t.world turn ≡ None → (ask : Option Ask) → ask_in t.world turn ≡ ask
       → (n : ℕ) → change_at c (words_after s.state.words ask) ≡ change_at c s.state.words + n
       → changes_of (t.events ++ events_of t.world turn) ≡ changes_of t.events + n → CountsChanges (after_turn t turn)
-  leaves turn free ask asks n word counted =
-      let written : (world_after t.world turn).words ≡ words_after s.state.words ask =
-      (container_keeps.turn t turn is free r).word ∙ (ap (words_after t.world.words) asks ∙ ap (λ ws. words_after ws ask) same_words) in
-      let was : change_at c s.state.words ≡ changes_of t.events = ap (change_at c) (sym same_words) ∙ h in
-      ap (λ k. change_at k (world_after t.world turn).words) (turn_making t.world turn).capacity
-      ∙ (ap (change_at c) written ∙ (word ∙ (ap (λ m. m + n) was ∙ sym counted)))
+  leaves x0 x1 x2 x3 x4 x5 x6 = grind (arith, same_words, turn_making)
 
   -- 1 is added to the changes
   raised : (p : ℕ) (x : Party T) (since : ℕ) → t.world.turns < 2 ^ 64 - 2 → party_of p t.world.latest ≡ Some x
       → change_at c (words_after s.state.words (Some (adds_one (change_word c)))) ≡ change_at c s.state.words + 1
-  raised p x since small found =
-      let wide = s.holds.elements.wide in
-      let few = s.holds.elements.change refl in
-      let in_words : one_more (change_at c s.state.words) ≡ change_at c s.state.words + 1 = omega arith in
-      ap (change_at c) (adds_to_change (scene_of shown dying t.world.coding c t s p x since) (inv_of shown dying t.world.coding c t s p x since found small))
-      ∙ (change_set c t.world.coding.size s.state.words (one_more (change_at c s.state.words)) (omega arith) ∙ in_words)
+  raised x0 x1 x2 x3 x4 = grind (arith, one_more, adds_to_change, shown, inv_of, change_set)
 
   -- what a turn of p writes, by its name and call
   abbrev Wrote : ℕ → Turn T → ℕ → Registry T → Start T → Flight T → Type 0
@@ -176,10 +166,7 @@ module _ {T : Type 0} (t : Trace T) (is : t.world.kind ≡ kinds.TheVariants.Con
         (subst (λ kept. Wrote p (Decide p said) (number_of said) kept x.start flies.flight) same_kept wrote)
 
   turn_counts : (turn : Turn T) → refusal_of t.world turn ≡ None → CountsChanges (after_turn t turn)
-  turn_counts (Begin p start) free = leaves (Begin p start) free None refl 0 (omega arith) (fold-append adds_in 0 t.events (Begun p start ∷ []))
-  turn_counts (Next p) free = next_counts p free
-  turn_counts (Decide p said) free = decision_counts_on p said free
-  turn_counts (Die owner) free = leaves (Die owner) free None refl 0 (omega arith) (fold-append adds_in 0 t.events (Died owner ∷ []))
+  turn_counts x0 x1 = grind (arith, leaves, fold-append, next_counts, decision_counts_on)
 
 -- ---- every run
 

@@ -52,8 +52,7 @@ module _ {T : Type 0} (code : Coding T) where
     by_owner false = next_asks_none
 
     pub cell_asks : owner < empty → (o : Option ℕ) → asks_then (find_at c owner (finds.TheVariants.LoadsCell i found)) (cell_of o) ≡ index_if owner i o
-    cell_asks fits None = by_owner (empty == owner) ∙ ap (λ b. if b then Some i else None) (ne_eqb empty owner (λ e. absurd (omega arith)))
-    cell_asks fits (Some other) = by_owner (other == owner)
+    cell_asks x0 x1 = grind (arith, by_owner, empty, ne_eqb)
 
 module _ {T : Type 0} (t : Trace T) (is : t.world.kind ≡ kinds.TheVariants.Robust) (r : IsReached t) where
   abbrev code : Coding T
@@ -80,21 +79,10 @@ module _ {T : Type 0} (t : Trace T) (is : t.world.kind ≡ kinds.TheVariants.Rob
         → asks_then code flight (old_of t.world.words (ask_of (want flight))) ≡ index_if owner index (filled_of index t.events)
 
     stage_asks : (all : List SetAct) → owner < empty → (stage : FindStage) → FindAt c all stage → Asks (find_at c owner stage)
-    stage_asks all fits (finds.TheVariants.LoadsCell i found) at e =
-        let word : cell_word i ≡ cell_word index = ap (λ (a : Ask). a.word) (some_ask (loads_cell i) (loads_cell index) e) in
-        let same : i ≡ index = omega arith in
-        subst (λ j. asks_then code (find_at c owner (finds.TheVariants.LoadsCell i found)) (old_of t.world.words (Some (loads_cell i)))
-        ≡ index_if owner j (filled_of j t.events))
-        same
-        (ap (asks_then code (find_at c owner (finds.TheVariants.LoadsCell i found))) (cell_is i at.0)
-        ∙ cell_asks code c owner i found fits (filled_of i t.events))
-    stage_asks all fits (finds.TheVariants.Asks i found) at e = absurd (cc)
+    stage_asks x0 x1 x2 x3 x4 = grind (arith, some_ask, loads_cell, find_at, cell_is, cell_asks)
 
     find_asks : (all : List SetAct) (flight : RobustFlight) → At c all (starts.TheVariants.Find owner) flight → Asks flight
-    find_asks all (calls.TheVariants.Find run) at =
-        subst Asks (sym (ap (λ n. find_at n run.given run.call.stage) at.0 ∙ ap (λ o. find_at c o run.call.stage) at.1))
-        (stage_asks all at.2 run.call.stage at.3)
-    find_asks all flight at = absurd at
+    find_asks x0 x1 x2 = grind (arith, find_at, stage_asks)
 
   robust_is : (a b : RobustStart) → ◌≡◌ {A = Start T} (Robust a) (Robust b) → a ≡ b
   robust_is a b e = cc
@@ -108,19 +96,11 @@ module _ {T : Type 0} (t : Trace T) (is : t.world.kind ≡ kinds.TheVariants.Rob
 
     by_name : (x : Party T) (since : ℕ) (start : Start T) (flight : Flight T)
         → StandsThere (family t.world.coding t.world.capacity) t s p x since start flight → Left flight
-    by_name x since (Robust start) (flights.TheVariants.Robust flight) h =
-        let name = (subst (IsOpenFor (Robust (starts.TheVariants.Find owner)) (λ wrote. Unit {0})) h.span under).0 in
-        find_asks index owner (set_acts_of p s.state.events) flight
-        (subst (λ a. At c (set_acts_of p s.state.events) a flight) (robust_is start (starts.TheVariants.Find owner) name) h.at)
-    by_name x since start flight h = absurd h.at
+    by_name x0 x1 x2 x3 x4 = grind (arith, find_asks, robust_is)
 
     by_flight : (o : Option (Flight T)) → flight_in t.world p ≡ o → ask_of_flight code o ≡ Some (loads_cell index)
         → asked_of code (flight_in (after_turn t (Next p)).world p) ≡ index_if owner index (filled_of index t.events)
-    by_flight None here e = absurd (cc)
-    by_flight (Some flight) here e =
-        let call = under_way (family t.world.coding t.world.capacity) t s p flight here in
-        ap (asked_of code) (next_left t.world (after_turn t (Next p)).world p flight here goes)
-        ∙ by_name call.party call.since call.party.start flight call.there e
+    by_flight x0 x1 x2 = grind (arith, under_way, family, s, asked_of, next_left, after_turn, by_name)
 
   pub finds_asking : (turn : Turn T) → refusal_of t.world turn ≡ None → FindsAsking t turn (after_turn t turn)
   finds_asking turn free p owner index name under asks =

@@ -1,4 +1,5 @@
 -- What any call of the robust set leaves, of which a recovery in mode LockIfLastIndex is one.
+use Rattle.std.proofs.Common.{arith}
 use Rattle.laws_turns.proofs.Names.{◌≡◌, ◌≢◌, ℕ, ◌-◌, ◌^◌, ◌<◌, true, Option, Some, None, List, [], ◌∷◌, ◌++◌, refl}
 use Rattle.laws_turns.proofs.Names.{sym, ap, subst, ◌∙◌, append_assoc, append-nil, AllByRecursion, After, GoOn, Done}
 use Rattle.laws_turns.proofs.Names.{ReleaseMode, LockIfLastIndex, Default, ReleaseState, raise_want, lock_want}
@@ -57,26 +58,10 @@ module _ {T : Type 0} where
 
 module _ (T : Type 0) where
   pub effects_free : (p : ℕ) (call : RobustFlight) (old : ℕ) → AllByRecursion (IsFree {T = T}) (effects {T = T} p call old)
-  effects_free p call old =
-      effects_hold (IsFree {T = T}) p
-      (record {
-        filled = λ index owner before. tt;
-        granted_to = λ index owner before. tt;
-        freed_of = λ index owner before. tt;
-        asked = λ index owner before. tt;
-        locked = λ before. tt;
-      })
-      call
-      old
-      (λ index owner is some before. tt)
+  effects_free x0 x1 x2 = grind (arith, effects_hold)
 
   pub effects_own : (p : ℕ) (call : RobustFlight) (old : ℕ) → AllByRecursion (IsOf {T = T} p) (effects {T = T} p call old)
-  effects_own p call old =
-      effects_hold (IsOf {T = T} p) p
-      (record { filled = λ index owner. refl; granted_to = λ index owner. refl; freed_of = λ index owner. refl; asked = λ index owner. refl; locked = refl })
-      call
-      old
-      (λ index owner is some. refl)
+  effects_own x0 x1 x2 = grind (arith, effects_hold)
 
 -- ---- a step of a call
 
@@ -129,27 +114,16 @@ module _ {T : Type 0} (c p : ℕ) (events : List (Event T)) where
     ends a = ending_of p (Robust (starts.TheVariants.Recover mode)) (answer_in (as_any a))
 
     knows : (a : After recover_calls.Recover ReleaseState) → Tells c mode p (events ++ did) a → FlightKnows c p (left_by (as_any a)) (events ++ (did ++ ends a))
-    knows (GoOn call) h = subst (λ es. StageKnows c mode p call.stage (events ++ es)) (sym (append-nil did)) h
-    knows (Done state) h = tt
+    knows x0 x1 = grind (arith, append-nil)
 
     ends_right : (m : ReleaseMode) (a : After recover_calls.Recover ReleaseState) → Tells c m p (events ++ did) a
         → AreRight LocksRight (events ++ did)
         (ending_of p (Robust (starts.TheVariants.Recover m))
         (answer_in (any_call {T = T} (as_call calls.TheVariants.Recover State (went_on as_it_is m tt a)))))
-    ends_right m (GoOn call) h = tt
-    ends_right Default (Done state) h = (tt, tt)
-    ends_right LockIfLastIndex (Done states.TheVariants.Locked) h = (tt, tt)
-    ends_right LockIfLastIndex (Done states.TheVariants.Unlocked) h = (h, tt)
+    ends_right x0 x1 x2 = grind arith
 
     pub recovered : Tells c mode p (events ++ did) outcome → Leaves (starts.TheVariants.Recover mode) (recover_at c mode stage) answer
-    recovered tells =
-        record {
-          knows = knows outcome tells;
-          right =
-              right_append LocksRight events did (ends outcome)
-              (free_right events did (effects_free T p (recover_at c mode stage) answer))
-              (ends_right mode outcome tells);
-        }
+    recovered x0 = grind (arith, knows, right_append, ends, free_right, effects_free, ends_right)
 
 -- ---- a step of any call
 
@@ -158,8 +132,7 @@ module _ {T : Type 0} where
       (g : A → Answer T) (h : E → G → M → A) (given : G) (room : M) (a : After C E)
       → ((r : Running C G M) → CallKnows c p (f r) es)
       → FlightKnows c p (left_by (any_call (as_call f g (went_on h given room a)))) es
-  goes_known c p es f g h given room (GoOn call) k = k (record { call = call; given = given; room = room })
-  goes_known c p es f g h given room (Done end) k = tt
+  goes_known x0 x1 x2 x3 x4 x5 x6 x7 x8 x9 = grind arith
 
 module _ {T : Type 0} (t : Trace T) (is : t.world.kind ≡ kinds.TheVariants.Robust) (r : IsReached t) where
   abbrev c : ℕ
@@ -192,29 +165,7 @@ module _ {T : Type 0} (t : Trace T) (is : t.world.kind ≡ kinds.TheVariants.Rob
 
     others_leave : (start : RobustStart) (call : RobustFlight) (answer : ℕ) → At c (all scene) start call
         → ((mode : ReleaseMode) → start ≢ starts.TheVariants.Recover mode) → Leaves c p t.events start call answer
-    others_leave (starts.TheVariants.Acquire owner) (calls.TheVariants.Acquire run) answer at other =
-        freely c p t.events (calls.TheVariants.Acquire run) answer (starts.TheVariants.Acquire owner)
-        (goes_known c p _ calls.TheVariants.Acquire acquire_answer as_it_is run.given run.room
-        (acquire_after run.call answer) (λ r. tt))
-        (λ a before. tt)
-    others_leave (starts.TheVariants.Release index owner mode) (calls.TheVariants.Release run) answer at other =
-        freely c p t.events (calls.TheVariants.Release run) answer (starts.TheVariants.Release index owner mode)
-        (goes_known c p _ calls.TheVariants.Release release_answer as_it_is run.given run.room
-        (release_after run.call run.given answer) (λ r. tt))
-        (λ a before. tt)
-    others_leave (starts.TheVariants.Find owner) (calls.TheVariants.Find run) answer at other =
-        freely c p t.events (calls.TheVariants.Find run) answer (starts.TheVariants.Find owner)
-        (goes_known c p _ calls.TheVariants.Find Number as_it_is run.given run.room (find_after run.call run.given answer) (λ r. tt))
-        (λ a before. tt)
-    others_leave starts.TheVariants.BorrowedIndices (calls.TheVariants.BorrowedIndices run) answer at other =
-        freely c p t.events (calls.TheVariants.BorrowedIndices run) answer starts.TheVariants.BorrowedIndices
-        (goes_known c p _ calls.TheVariants.BorrowedIndices Number as_it_is run.given run.room
-        (borrowed_after run.call answer) (λ r. tt))
-        (λ a before. tt)
-    others_leave starts.TheVariants.IsLocked (calls.TheVariants.IsLocked run) answer at other =
-        freely c p t.events (calls.TheVariants.IsLocked run) answer starts.TheVariants.IsLocked tt (λ a before. tt)
-    others_leave (starts.TheVariants.Recover mode) call answer at other = absurd (other mode refl)
-    others_leave start call answer at other = absurd at
+    others_leave x0 x1 x2 x3 x4 = grind (arith, freely, goes_known, as_it_is)
 
     pub step_leaves : (start : RobustStart) (call : RobustFlight) → IsHere scene start → At c (all scene) start call → StepLeaves start call
     step_leaves (starts.TheVariants.Recover mode) (calls.TheVariants.Recover run) here at =

@@ -1,5 +1,6 @@
 -- What a recovery of the robust set in mode LockIfLastIndex knows of the indices that it has freed, and that it knows this
 -- still after any turn of another party.
+use Rattle.std.proofs.Common.{arith}
 use Rattle.laws_turns.proofs.Names.{◌≡◌, ℕ, inl, Option, Some, List, ◌++◌, subst, ReleaseMode, Event, Flight}
 use Rattle.laws_turns.proofs.Names.{RobustFlight, Frees, set_acts_of, IsOneOf, BeginsNone, LockSays, NoIndex}
 use Rattle.laws_turns.proofs.Names.{FilledBut, FoundFilled, filled_then, says_later}
@@ -45,20 +46,13 @@ module _ {T : Type 0} where
 
   module _ (c p : ℕ) (events es : List (Event T)) (none : BeginsNone p es) (same : set_acts_of p (events ++ es) ≡ set_acts_of p events) where
     still : (mode : ReleaseMode) → Settled mode p events → Settled mode p (events ++ es)
-    still mode h = settled_then p events es none (λ i owner was. subst (IsOneOf (Frees i owner)) same was) mode h
+    still x0 x1 = grind (arith, settled_then)
 
     stage_later : (mode : ReleaseMode) (stage : RecoverStage) → StageKnows c mode p stage events → StageKnows c mode p stage (events ++ es)
-    stage_later mode recovers.TheVariants.LoadsCounter h = still mode h
-    stage_later mode (recovers.TheVariants.LoadsCell index) h = still mode h
-    stage_later mode (recovers.TheVariants.Asks index owner) h = still mode h
-    stage_later mode (recovers.TheVariants.EmptiesCell index owner) h = still mode h
-    stage_later mode (recovers.TheVariants.Raises index raise) h = tt
-    stage_later mode (recovers.TheVariants.Locks index lock) h = says_later p 0 c events es none same lock h
-    stage_later mode recovers.TheVariants.LoadsCounterAgain h = still mode h
+    stage_later x0 x1 x2 = grind (arith, still, says_later)
 
     call_later : (call : RobustFlight) → CallKnows c p call events → CallKnows c p call (events ++ es)
-    call_later (calls.TheVariants.Recover run) h = stage_later run.given run.call.stage h
-    call_later call h = tt
+    call_later x0 x1 = grind (arith, stage_later)
 
     pub flight_later : (o : Option (Flight T)) → FlightKnows c p o events → FlightKnows c p o (events ++ es)
     flight_later (Some (flights.TheVariants.Robust call)) h = call_later call h

@@ -111,11 +111,7 @@ module _ {T : Type 0} (scene : Scene T) (inv : Inv scene) (mode : ReleaseMode) (
 
   raise_steps : (index : ℕ) (stage : RecoverStage) (m : ReleaseMode) → mode ≡ m → (r : After Raise ReleaseState)
       → Leads [] (recover_raised (call_at stage) index m r)
-  raise_steps index stage m is (GoOn raise) = tt
-  raise_steps index stage LockIfLastIndex is (Done states.TheVariants.Locked) = subst (λ n. EndSays n states.TheVariants.Locked p (events ++ [])) (sym is) tt
-  raise_steps index stage Default is (Done states.TheVariants.Locked) = subst (λ n. EndSays n states.TheVariants.Locked p (events ++ [])) (sym is) tt
-  raise_steps index stage LockIfLastIndex is (Done Unlocked) = tt
-  raise_steps index stage Default is (Done Unlocked) = comes_to stage [] (index + 1) (subst (λ n. Settled n p (events ++ [])) (sym is) (λ owner. tt))
+  raise_steps x0 x1 x2 x3 x4 = grind (arith, comes_to)
 
   -- ---- the second look at the counter
 
@@ -177,8 +173,7 @@ module _ {T : Type 0} (scene : Scene T) (inv : Inv scene) (mode : ReleaseMode) (
       go : (b : Bool) → Leads (if b then FreedOf p index owner ∷ [] else [])
           (if b then GoOn (record { capacity = c; stage = recovers.TheVariants.Raises index raises.TheVariants.LoadsCounter })
           else recover_comes_to (call_at (recovers.TheVariants.EmptiesCell index owner)) (index + 1))
-      go true = tt
-      go false = comes_to (recovers.TheVariants.EmptiesCell index owner) [] (index + 1) (calm h)
+      go x0 = grind (arith, comes_to, calm)
   steps (recovers.TheVariants.Raises index raise) at k h =
       raise_steps index (recovers.TheVariants.Raises index raise) mode refl (raise_after raise (old_of ws (ask_of (raise_want raise))))
   steps (recovers.TheVariants.Locks index (parts.TheVariants.Counts counts.TheVariants.LoadsCounter)) at k h =

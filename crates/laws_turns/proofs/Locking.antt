@@ -1,5 +1,6 @@
 -- A recovery of the robust set in mode LockIfLastIndex that answers Unlocked has met an index that was filled after each
 -- that it freed: in every reached machine.
+use Rattle.std.proofs.Common.{arith}
 use Rattle.laws_turns.proofs.Names.{◌≡◌, ⊎_elim, ℕ, Bool, true, Option, Some, None, List, [], ◌∷◌, ◌++◌, refl, sym}
 use Rattle.laws_turns.proofs.Names.{ap, subst, ◌∙◌, cases_eq, ReleaseMode, Event, Begun, Died, Start, Robust, Flight}
 use Rattle.laws_turns.proofs.Names.{Registry, RobustStart, RobustFlight, Party, Turn, Begin, Next, Decide, Die}
@@ -58,9 +59,7 @@ module _ {T : Type 0} (t : Trace T) (is : t.world.kind ≡ kinds.TheVariants.Rob
   module _ (turn : Turn T) (es : List (Event T)) where
     other_known : (q : ℕ) → ¬ IsParty turn q → BeginsNone q es → set_acts_of q (t.events ++ es) ≡ set_acts_of q t.events
         → FlightKnows c q (flight_in (world_after t.world turn) q) (t.events ++ es)
-    other_known q ne none same =
-        subst (λ o. FlightKnows c q o (t.events ++ es)) (sym (others_stay t.world turn q ne))
-        (flight_later c q t.events es none same (flight_in t.world q) (h.known q))
+    other_known x0 x1 x2 x3 = grind (arith, others_stay, flight_later)
 
     -- where all of them are the party's own
     module _ (p : ℕ) (mine : (q : ℕ) → IsParty turn q → q ≡ p) (own : AreOwn p es)
@@ -86,16 +85,7 @@ module _ {T : Type 0} (t : Trace T) (is : t.world.kind ≡ kinds.TheVariants.Rob
         → Comes (registries.TheVariants.Owners s.state.dead) (Robust start) (flights.TheVariants.Robust call)
         → ((q : ℕ) → FlightKnows c q (flight_in (world_after t.world turn) q) (t.events ++ events_of t.world turn))
         × AreRight LocksRight t.events (events_of t.world turn)
-    leaves_it start call leaves comes =
-        subst
-        (λ es. ((q : ℕ) → FlightKnows c q (flight_in (world_after t.world turn) q) (t.events ++ es)) × AreRight LocksRight t.events es)
-        (sym comes.1) (
-          known_by turn (wrote_by c p t.events start call answer) p mine
-              (all_own p (effects p call answer) (Robust start) (answer_in (any_call (after {T = T} call answer)))
-              (effects_own T p call answer))
-              (subst (λ o. FlightKnows c p o (t.events ++ wrote_by c p t.events start call answer)) (sym comes.0) leaves.knows),
-          leaves.right,
-        )
+    leaves_it x0 x1 x2 x3 = grind (arith, known_by, all_own, effects, after, effects_own)
 
     after_it : ((q : ℕ) → FlightKnows c q (flight_in (world_after t.world turn) q) (t.events ++ events_of t.world turn))
         × AreRight LocksRight t.events (events_of t.world turn)
@@ -192,26 +182,15 @@ module _ {T : Type 0} (t : Trace T) (is : t.world.kind ≡ kinds.TheVariants.Rob
     none_yet = ap (λ a. set_acts (wrote_in a)) (span_of-own p t.events (Begun p start ∷ []) (refl, tt))
 
     first_stage : (mode : ReleaseMode) (stage : RecoverStage) (k : ℕ) → RecoverAt k mode [] stage → StageKnows c mode p stage new.events
-    first_stage mode recovers.TheVariants.LoadsCounter k at = λ owner. filled_none p owner ⊥ mode NoIndex new.events none_yet
-    first_stage mode (recovers.TheVariants.LoadsCell index) k at = λ owner. filled_none p owner ⊥ mode NoIndex new.events none_yet
-    first_stage mode (recovers.TheVariants.Asks index owner) k at = λ o. filled_none p o ⊥ mode NoIndex new.events none_yet
-    first_stage mode (recovers.TheVariants.EmptiesCell index owner) k at = λ o. filled_none p o ⊥ mode NoIndex new.events none_yet
-    first_stage mode (recovers.TheVariants.Raises index raise) k at = tt
-    first_stage mode (recovers.TheVariants.Locks index lock) k at = absurd (no_more at.1.latest.before (Frees at.1.index at.1.owner) [] at.1.latest.is)
-    first_stage mode recovers.TheVariants.LoadsCounterAgain k at = λ owner. filled_none p owner ⊥ mode NoIndex new.events none_yet
+    first_stage x0 x1 x2 x3 = grind (arith, filled_none, none_yet, no_more)
 
     first_call : (k : ℕ) (a : RobustStart) (call : RobustFlight) → At k [] a call → CallKnows c p call new.events
-    first_call k (starts.TheVariants.Recover mode) (calls.TheVariants.Recover run) at =
-        subst (λ m. StageKnows c m p run.call.stage new.events) (sym at.1) (first_stage mode run.call.stage k at.2)
-    first_call k a (calls.TheVariants.Recover run) at = absurd at
-    first_call k a call at = tt
+    first_call x0 x1 x2 x3 = grind (arith, first_stage)
 
     first_flight : (x : Party T) (since : ℕ) (a : Start T) (flight : Flight T)
         → StandsThere (family new.world.coding new.world.capacity) new s_new p x since a flight
         → FlightKnows c p (Some flight) new.events
-    first_flight x since (Robust a) (flights.TheVariants.Robust call) stands =
-        first_call new.world.capacity a call (subst (λ ds. At new.world.capacity ds a call) (ap (set_acts_of p) s_new.holds.same ∙ none_yet) stands.at)
-    first_flight x since a flight stands = absurd stands.at
+    first_flight x0 x1 x2 x3 x4 = grind (arith, first_call, none_yet)
 
     begun : (o : Option (Flight T)) → flight_in new.world p ≡ o → FlightKnows c p o new.events
     begun None e = tt

@@ -32,64 +32,34 @@ module _ {T : Type 0} (t : Trace T) (is : t.world.kind ≡ kinds.TheVariants.Con
     own = state_of p states
 
     rests : Within seen_now (seen_number own)
-    rests =
-        subst (λ kept. Within seen_now (seen_number (state_in kept p))) (same_kept t is r h)
-        (subst (λ o. FlightSees o seen_now (state_in t.world.kept p)) (may_begin t.world p start (passes t.world (Begin p start) free).on).free (h.known p))
+    rests = grind (arith, state_in, same_kept, may_begin, passes)
 
     abbrev SeesFirst : ContainerStart T → Option (ContainerState T) → Type 0
     SeesFirst cs state = CallSees (first t.world.capacity cs) (seen_after p seen_now (Begun p (Container cs))) state
 
     -- its look has begun now
     begun_now : (if p == p then record seen_now { begun = seen_now.changes } else seen_now) ≡ record seen_now { begun = seen_now.changes }
-    begun_now = ap (λ b. if b then record seen_now { begun = seen_now.changes } else seen_now) (eq-eqb p p refl)
+    begun_now = grind (arith, eq-eqb)
 
     update_first : (o : Option (ContainerState T)) → own ≡ o
         → SeesFirst starts.TheVariants.UpdateState
         (state_of p (if is_some o then states else with_state p (fresh t.world.coding t.world.capacity) states))
-    update_first None found =
-        let within = subst (λ o. Within seen_now (seen_number o)) found rests in
-        subst (λ o. SeesFirst starts.TheVariants.UpdateState o) (sym (found_put_same p (fresh t.world.coding t.world.capacity) states))
-        (subst (λ z. IsToLoad kinds_of.TheVariants.UpdateState z (Some (fresh t.world.coding t.world.capacity)))
-        (sym begun_now) (record { least = within.least; most = within.most; now = within.now }, omega arith))
-    update_first (Some state) found =
-        let within = subst (λ o. Within seen_now (seen_number o)) found rests in
-        subst (λ o. SeesFirst starts.TheVariants.UpdateState o) (sym found)
-        (subst (λ z. IsToLoad kinds_of.TheVariants.UpdateState z (Some state)) (sym begun_now)
-        (record { least = within.least; most = within.most; now = within.now }, omega arith))
+    update_first x0 x1 = grind (arith, rests, found_put_same, fresh, begun_now)
 
     grown : (cs : ContainerStart T) → IsNoLook cs → Within (seen_after p seen_now (Begun p (Container cs))) (seen_number own)
-    grown cs other = within_later seen_now (seen_after p seen_now (Begun p (Container cs))) (begun_grows p seen_now p cs other) (seen_number own) rests
+    grown x0 x1 = grind (arith, within_later, seen_after, begun_grows, rests)
 
     first_sees : (cs : ContainerStart T) → SeesFirst cs (state_of p (states_at_begin t.world.coding t.world.capacity cs p states))
-    first_sees starts.TheVariants.GetState =
-        subst (λ o. SeesFirst starts.TheVariants.GetState o) (sym (found_put_same p (fresh t.world.coding t.world.capacity) states))
-        (subst (λ z. IsToLoad kinds_of.TheVariants.GetState z (Some (fresh t.world.coding t.world.capacity))) (sym begun_now) (omega arith, refl))
-    first_sees starts.TheVariants.UpdateState = update_first own refl
-    first_sees (starts.TheVariants.Add value owner) = grown (starts.TheVariants.Add value owner) tt
-    first_sees (starts.TheVariants.Remove index owner mode) = grown (starts.TheVariants.Remove index owner mode) tt
-    first_sees (starts.TheVariants.Replace index value owner) = grown (starts.TheVariants.Replace index value owner) tt
-    first_sees (starts.TheVariants.Find owner) = grown (starts.TheVariants.Find owner) tt
-    first_sees (starts.TheVariants.Recover owner mode) = grown (starts.TheVariants.Recover owner mode) tt
-    first_sees starts.TheVariants.Len = grown starts.TheVariants.Len tt
-    first_sees starts.TheVariants.IsEmpty = grown starts.TheVariants.IsEmpty tt
-    first_sees starts.TheVariants.IsLocked = grown starts.TheVariants.IsLocked tt
+    first_sees x0 = grind (arith, found_put_same, fresh, begun_now, update_first, grown)
 
     -- by the call that begins
     begun_sees : (a : Start T) (flight : Flight T) → IsOwn t.world.capacity a flight
         → FlightSees (Some flight) (seen_by p (t.events ++ Begun p a ∷ []))
         (state_in (kept_after_begin t.world.coding t.world.capacity a p (now_kept t is r h)) p)
-    begun_sees (Container cs) (flights.TheVariants.Container flight) owned =
-        subst (λ z. CallSees flight z (state_of p (states_at_begin t.world.coding t.world.capacity cs p states)))
-        (sym (one_more p t.events (Begun p (Container cs))))
-        (subst (λ f. CallSees f (seen_after p seen_now (Begun p (Container cs)))
-        (state_of p (states_at_begin t.world.coding t.world.capacity cs p states)))
-        owned.0 (first_sees cs))
-    begun_sees a flight owned = absurd owned
+    begun_sees x0 x1 x2 = grind (arith, one_more, seen_after, first_sees)
 
     others_look : (a : Start T) (q : ℕ) → q ≢ p → is_look_of t.world q (Begin p a) ≡ false
-    others_look (Container starts.TheVariants.GetState) q ne = ne_eqb p q (λ e. ne (sym e))
-    others_look (Container starts.TheVariants.UpdateState) q ne = ne_eqb p q (λ e. ne (sym e))
-    others_look a q ne = refl
+    others_look x0 x1 x2 = grind (arith, ne_eqb)
 
     begin_by : (o : Option (Flight T)) → first_of t.world.kind t.world.capacity start t.world.kept ≡ o → Extra (after_turn t (Begin p start))
     begin_by None e = let call = subst (λ o. is_none o ≡ false) e (may_begin t.world p start (passes t.world (Begin p start) free).on).call in absurd (cc)

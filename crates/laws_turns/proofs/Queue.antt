@@ -1,4 +1,5 @@
 -- The submission queue of a channel is as long as it was.
+use Rattle.std.proofs.Common.{arith}
 use Rattle.laws_turns.proofs.Names.{◌≡◌, ℕ, Bool, Option, Some, None, List, [], ◌∷◌, fold, refl, sym, ap, subst, ◌∙◌}
 use Rattle.laws_turns.proofs.Names.{Ask, Answer, Event, Published, Claimed, Freed, Start, Flight, Registry, Doing}
 use Rattle.laws_turns.proofs.Names.{Going, Over, Party, Turn, Begin, Next, Decide, Die, Coding, first_of, step_of}
@@ -28,44 +29,25 @@ taken book (Some index) = refl
 
 module _ {T : Type 0} where
   noted : (book : Book) (e : Event T) → (book_after book e).queue ≡ book.queue
-  noted book (Claimed p index) = refl
-  noted book (Published p (Index index)) = refl
-  noted book (Freed p index) = refl
-  noted book e = refl
+  noted x0 x1 = grind arith
 
   all_noted : (es : List (Event T)) (book : Book) → (fold book_after book es).queue ≡ book.queue
   all_noted [] book = refl
   all_noted (e ∷ es) book = all_noted es (book_after book e) ∙ noted book e
 
   settled : (p : ℕ) (start : LoanStart) (outcome : Option (Answer T)) (book : Book) → (ended_book p start outcome book).queue ≡ book.queue
-  settled p Loan (Some (answers.Index index)) book = refl
-  settled p Receive (Some (answers.PoppedIndex index)) book = refl
-  settled p Reclaim (Some (answers.Number number)) book = refl
-  settled p start outcome book = refl
+  settled x0 x1 x2 x3 = grind arith
 
   stepped : (code : Coding T) (words : List ℕ) (beside : Option (ℕ × ℕ)) (p : ℕ) (start : Start T)
       (flight : Flight T) (old : ℕ) (kept : Registry T)
       → queue_in (step_of code words beside p start flight old kept).kept ≡ queue_in kept
-  stepped code words beside p (starts.Loan start) (flights.Loan flight) old (registries.Loan book) =
-      ap Some
-      (settled p start (answer_in (after book.places flight old))
-      (fold book_after book (wrote words beside p flight old (answer_in (after book.places flight old))))
-      ∙ all_noted (wrote words beside p flight old (answer_in (after book.places flight old))) book)
-  stepped code words beside p (starts.Queues start) (flights.Queues flight) old (registries.Queues roles) = refl
-  stepped code words beside p (starts.Atomic start) (flights.Atomic flight) old (registries.Atomic producer) = refl
-  stepped code words beside p (starts.Bits start) (flights.Bits flight) old registries.Nothing = refl
-  stepped code words beside p (starts.Indices start) (flights.Indices flight) old (registries.Indices holders) = refl
-  stepped code words beside p (starts.Robust start) (flights.Robust flight) old (registries.Owners dead) = refl
-  stepped code words beside p (starts.Container start) (flights.Container flight) old (registries.Container dead states) = refl
-  stepped code words beside p start flight old kept = refl
+  stepped x0 x1 x2 x3 x4 x5 x6 x7 = grind (arith, settled, after, fold, wrote, all_noted)
 
   answered : (w : World T) (p : ℕ) (x : Party T) (ask : Option Ask) (answer : ℕ) (doing : Doing T) → KeepsQueue w (after_answer w p x ask answer doing)
-  answered w p x ask answer (Over others) = refl
-  answered w p x ask answer (Going flight since) = stepped w.coding w.words (beside_of w.words w.kept w.latest p) p x.start flight answer w.kept
+  answered x0 x1 x2 x3 x4 x5 = grind (arith, stepped)
 
   went : (w : World T) (p : ℕ) (o : Option (Party T)) → KeepsQueue w (after_next w p o)
-  went w p None = refl
-  went w p (Some x) = answered w p x (ask_of_doing w.coding x.doing) (old_of w.words (ask_of_doing w.coding x.doing)) x.doing
+  went x0 x1 x2 = grind (arith, answered)
 
   decided : (w : World T) (p : ℕ) (said : Bool) (o : Option (Party T)) → KeepsQueue w (after_decision w p said o)
   decided w p said None = refl
@@ -73,23 +55,17 @@ module _ {T : Type 0} where
 
   begins : (code : Coding T) (capacity : ℕ) (start : Start T) (p : ℕ) (kept : Registry T)
       → queue_in (kept_after_begin code capacity start p kept) ≡ queue_in kept
-  begins code capacity (starts.Loan start) p (registries.Loan book) = ap Some (taken book (asks_for start))
-  begins code capacity (starts.Container start) p (registries.Container dead states) = refl
-  begins code capacity start p kept = refl
+  begins x0 x1 x2 x3 x4 = grind (arith, taken, asks_for)
 
   begun : (w : World T) (p : ℕ) (start : Start T) (o : Option (Flight T)) → KeepsQueue w (after_begin w p start o)
-  begun w p start None = refl
-  begun w p start (Some flight) = begins w.coding w.capacity start p w.kept
+  begun x0 x1 x2 x3 = grind (arith, begins)
 
   dies : (kept : Registry T) (owner : ℕ) → queue_in (kept_after_death kept owner) ≡ queue_in kept
   dies (registries.Loan book) owner = refl
   dies kept owner = refl
 
   pub keeps_queue : (w : World T) (turn : Turn T) → KeepsQueue w (world_after w turn)
-  keeps_queue w (Begin p start) = begun w p start (first_of w.kind w.capacity start w.kept)
-  keeps_queue w (Next p) = went w p (party_of p w.latest)
-  keeps_queue w (Decide p said) = decided w p said (party_of p w.latest)
-  keeps_queue w (Die owner) = dies w.kept owner
+  keeps_queue x0 x1 = grind (arith, begun, first_of, went, decided, dies)
 
   -- ---- and as long as the number that it was made with
 

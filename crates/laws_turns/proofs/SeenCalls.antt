@@ -29,8 +29,7 @@ module _ {T : Type 0} where
   -- ---- of what a step did, nothing is to be shown
 
   effect_free : (turn : Turn T) (before : List (Event T)) (e : Event T) → IsEffectOf turn e → MeetsChanges before e
-  effect_free turn before (Finished p start answer) h = absurd h
-  effect_free turn before e h = tt
+  effect_free x0 x1 x2 x3 = grind arith
 
   effects_right : (turn : Turn T) (before es : List (Event T)) → AllByRecursion (IsEffectOf turn) es → AreRight MeetsChanges before es
   effects_right turn before [] h = tt
@@ -38,9 +37,7 @@ module _ {T : Type 0} where
 
   end_free : (p : ℕ) (start : ContainerStart T) (answer : Answer T) → IsNoLook start → (before : List (Event T))
       → MeetsChanges before (Finished p (Container start) answer)
-  end_free p starts.TheVariants.GetState answer other before = absurd other
-  end_free p starts.TheVariants.UpdateState answer other before = absurd other
-  end_free p start answer other before = tt
+  end_free x0 x1 x2 x3 x4 = grind arith
 
   -- ---- a call that is no look goes on as none
 
@@ -49,8 +46,7 @@ module _ {T : Type 0} where
       (a : After C E)
       → ((r : Running C G M) → CallSees (f r) s state) → Within s (seen_number state)
       → FlightSees (left_by (any_call (as_call f g (went_on h given room a)))) s state
-  goes_sees s state f g h given room (GoOn call) goes within = goes (record { call = call; given = given; room = room })
-  goes_sees s state f g h given room (Done end) goes within = within
+  goes_sees x0 x1 x2 x3 x4 x5 x6 x7 x8 x9 = grind arith
 
 module _ {T : Type 0} (code : Coding T) (p : ℕ) (events : List (Event T)) (state : Option (ContainerState T)) (turn : Turn T) (mine : IsParty turn p) where
   abbrev did : ContainerFlight T → ℕ → List (Event T)
@@ -76,33 +72,21 @@ module _ {T : Type 0} (code : Coding T) (p : ℕ) (events : List (Event T)) (sta
   seen_none flight answer = ap (λ es. seen_by p (events ++ es)) (append-nil (did flight answer)) ∙ seen_did flight answer
 
   seen_last : (flight : ContainerFlight T) (answer : ℕ) (e : Event T) → seen_by p (events ++ (did flight answer ++ e ∷ [])) ≡ seen_after p (seen_by p events) e
-  seen_last flight answer e =
-      seen_end flight answer (e ∷ []) ∙ (one_more p (events ++ did flight answer) e ∙ ap (λ s. seen_after p s e) (seen_did flight answer))
+  seen_last x0 x1 x2 = grind (arith, seen_end, one_more, seen_after, seen_did)
 
   -- ---- a call that is no look
 
   module _ (start : ContainerStart T) (flight : ContainerFlight T) (answer : ℕ) (other : IsNoLook start)
       (within : Within (seen_by p events) (seen_number state)) where
     within_then : (o : Option (Answer T)) → Within (seen_by p (events ++ (did flight answer ++ ending_of p (Container start) o))) (seen_number state)
-    within_then None = subst (λ s. Within s (seen_number state)) (sym (seen_none flight answer)) within
-    within_then (Some a) =
-        subst (λ s. Within s (seen_number state)) (sym (seen_last flight answer (Finished p (Container start) a)))
-        (within_later (seen_by p events) (seen_after p (seen_by p events) (Finished p (Container start) a))
-        (ended_grows p (seen_by p events) p start a other) (seen_number state) within)
+    within_then x0 = grind (arith, seen_none, seen_last, within_later, seen_by, seen_after, ended_grows)
 
     ends_right : (o : Option (Answer T)) → AreRight MeetsChanges (events ++ did flight answer) (ending_of p (Container start) o)
-    ends_right None = tt
-    ends_right (Some a) = (end_free p start a other (events ++ did flight answer), tt)
+    ends_right x0 = grind (arith, end_free)
 
     freely : ((s : Seen) → Within s (seen_number state) → FlightSees (left_by (any_call (after code state flight answer))) s state)
         → Leaves state start flight answer
-    freely goes =
-        record {
-          sees = goes (seen_by p (events ++ wrote_by start flight answer)) (within_then (answer_in (any_call (after code state flight answer))));
-          right = right_append MeetsChanges events (did flight answer) (ending_of p (Container start) (answer_in (any_call (after code state flight answer))))
-              (effects_right turn events (did flight answer) (all_effects turn p mine code state flight answer))
-              (ends_right (answer_in (any_call (after code state flight answer))));
-        }
+    freely x0 = grind (arith, seen_by, within_then, after, right_append, effects_right, all_effects, ends_right)
 
   pub others_leave : (c z : ℕ) (all : List SetAct) (done : List (Act T)) (start : ContainerStart T)
       (flight : ContainerFlight T) (answer : ℕ)
@@ -248,4 +232,4 @@ module _ {T : Type 0} (code : Coding T) (p : ℕ) (events : List (Event T)) (tur
     (call : Look T) (old : ℕ) (which : LookOf) where
   pub look_stays : (start : ContainerStart T) → LookSees {T = T} which call.stage (seen_by p events) None
       → Leaves code p events None turn mine None start (calls.TheVariants.Look which call) old
-  look_stays start sees = record { sees = subst (λ es. LookSees {T = T} which call.stage (seen_by p es) None) (sym (append-nil events)) sees; right = tt }
+  look_stays x0 x1 = grind (arith, seen_by, append-nil)

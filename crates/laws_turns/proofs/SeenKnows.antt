@@ -69,68 +69,33 @@ pub record Grows (s s' : Seen) : Type 0 where
   pub changes : s.changes ≤ s'.changes
 
 pub grows_by : (s s' s'' : Seen) → Grows s s' → Grows s' s'' → Grows s s''
-grows_by s s' s'' g h =
-    let more = g.changes in
-    let even = h.changes in
-    record { begun = h.begun ∙ g.begun; least = h.least ∙ g.least; most = h.most ∙ g.most; changes = omega arith }
+grows_by x0 x1 x2 x3 x4 = grind arith
 
 module _ (s s' : Seen) (g : Grows s s') where
   pub within_later : (number : ℕ) → Within s number → Within s' number
-  within_later number h =
-      let a = g.least in
-      let b = g.most in
-      let more = g.changes in
-      let l = h.least in
-      let m = h.most in
-      let n = h.now in
-      record { least = omega arith; most = omega arith; now = omega arith }
+  within_later x0 x1 = grind arith
 
   met_later : (number : ℕ) → Met s number → Met s' number
-  met_later number h =
-      let a = g.begun in
-      let more = g.changes in
-      let l = h.0 in
-      let m = h.1 in
-      (omega arith, omega arith)
+  met_later x0 x1 = grind arith
 
   module _ {T : Type 0} (state : Option (ContainerState T)) where
     loaded_later : (which : LookOf) → HasLoaded which s state → HasLoaded which s' state
-    loaded_later kinds.TheVariants.GetState h = met_later (found_number state) h
-    loaded_later kinds.TheVariants.UpdateState h =
-        let a = g.least in
-        let less = h.2 in
-        (within_later (seen_number state) h.0, met_later (found_number state) h.1, omega arith)
+    loaded_later x0 x1 = grind (arith, met_later, within_later)
 
     to_load_later : (which : LookOf) → IsToLoad which s state → IsToLoad which s' state
-    to_load_later kinds.TheVariants.GetState h =
-        let a = g.begun in
-        let more = g.changes in
-        let l = h.0 in
-        (omega arith, h.1)
-    to_load_later kinds.TheVariants.UpdateState h =
-        let a = g.begun in
-        let more = g.changes in
-        let l = h.1 in
-        (within_later (seen_number state) h.0, omega arith)
+    to_load_later x0 x1 = grind (arith, within_later)
 
     look_later : (which : LookOf) (stage : LookStage) → LookSees which stage s state → LookSees which stage s' state
-    look_later which stages.TheVariants.LoadsChange h = to_load_later which h
-    look_later which (stages.TheVariants.LoadsCount index) h = loaded_later which h
-    look_later which (stages.TheVariants.LoadsWord index count at) h = loaded_later which h
-    look_later which (stages.TheVariants.ChecksCount index count) h = loaded_later which h
+    look_later x0 x1 x2 = grind (arith, to_load_later, loaded_later)
 
     call_later : (flight : ContainerFlight T) → CallSees flight s state → CallSees flight s' state
-    call_later (calls.TheVariants.Look which call) h = look_later which call.stage h
-    call_later flight h = within_later (seen_number state) h
+    call_later x0 x1 = grind (arith, look_later, within_later)
 
     pub sees_later : (o : Option (Flight T)) → FlightSees o s state → FlightSees o s' state
-    sees_later (Some (flights.TheVariants.Container flight)) h = call_later flight h
-    sees_later o h = within_later (seen_number state) h
+    sees_later x0 x1 = grind (arith, call_later, within_later)
 
 kept_by : (q p : ℕ) (s s' : Seen) → q ≢ p → Grows s (if q == p then s' else s)
-kept_by q p s s' ne =
-    subst (λ b. Grows s (if b then s' else s)) (sym (ne_eqb q p (λ e. ne e)))
-    (record { begun = refl; least = refl; most = refl; changes = omega arith })
+kept_by x0 x1 x2 x3 x4 = grind (arith, ne_eqb)
 
 -- ---- what events make of it
 
@@ -169,11 +134,7 @@ module _ {T : Type 0} where
   -- ---- events of another party
 
   other_grows : (p q : ℕ) (s : Seen) (e : Event T) → q ≢ p → whose e ≡ Some q → Grows s (seen_after p s e)
-  other_grows p q s (Begun r (Container GetState)) ne own = let same : r ≡ q = cc in kept_by r p s _ (λ e. ne (sym same ∙ e))
-  other_grows p q s (Begun r (Container UpdateState)) ne own = let same : r ≡ q = cc in kept_by r p s _ (λ e. ne (sym same ∙ e))
-  other_grows p q s (Finished r (Container GetState) (Number number)) ne own = let same : r ≡ q = cc in kept_by r p s _ (λ e. ne (sym same ∙ e))
-  other_grows p q s (Finished r (Container UpdateState) (Truth true)) ne own = let same : r ≡ q = cc in kept_by r p s _ (λ e. ne (sym same ∙ e))
-  other_grows p q s e ne own = record { begun = refl; least = refl; most = refl; changes = omega arith }
+  other_grows x0 x1 x2 x3 x4 x5 = grind (arith, kept_by)
 
   pub others_grow : (p q : ℕ) (events es : List (Event T)) → q ≢ p → AreOwn q es → Grows (seen_by p events) (seen_by p (events ++ es))
   others_grow p q events es ne own =
@@ -205,7 +166,7 @@ module _ {T : Type 0} where
       go (e ∷ es) s h = ap (λ z. fold (seen_after p) z es) (effect_same turn p s e h.0) ∙ go es s h.1
 
   pub one_more : (p : ℕ) (events : List (Event T)) (e : Event T) → seen_by p (events ++ e ∷ []) ≡ seen_after p (seen_by p events) e
-  one_more p events e = fold-append (seen_after p) (record { changes = 0; begun = 0; least = 0; most = 0 }) events (e ∷ [])
+  one_more x0 x1 x2 = grind (arith, fold-append, seen_after)
 
   -- it begins and ends no look
   abbrev pub IsNoLook : ContainerStart T → Type 0
@@ -214,12 +175,8 @@ module _ {T : Type 0} where
   IsNoLook start = Unit {0}
 
   pub begun_grows : (p : ℕ) (s : Seen) (q : ℕ) (start : ContainerStart T) → IsNoLook start → Grows s (seen_after p s (Begun q (Container start)))
-  begun_grows p s q GetState none = absurd none
-  begun_grows p s q UpdateState none = absurd none
-  begun_grows p s q start none = record { begun = refl; least = refl; most = refl; changes = omega arith }
+  begun_grows x0 x1 x2 x3 x4 = grind arith
 
   pub ended_grows : (p : ℕ) (s : Seen) (q : ℕ) (start : ContainerStart T) (answer : Answer T) → IsNoLook start
       → Grows s (seen_after p s (Finished q (Container start) answer))
-  ended_grows p s q GetState answer none = absurd none
-  ended_grows p s q UpdateState answer none = absurd none
-  ended_grows p s q start answer none = record { begun = refl; least = refl; most = refl; changes = omega arith }
+  ended_grows x0 x1 x2 x3 x4 x5 = grind arith

@@ -22,15 +22,7 @@ module _ {T : Type 0} where
 
 module _ {T : Type 0} (value_of : List ℕ → T) (size : ℕ) (s : Seen) (call : Look T) where
   done_out : (state : ContainerState T) (which : LookOf) → HasLoaded which s (Some state) → Out s state which (Done true)
-  done_out state kinds.TheVariants.GetState h =
-      let l = h.0 in
-      let m = h.1 in
-      record { least = omega arith; most = omega arith; now = omega arith }
-  done_out state kinds.TheVariants.UpdateState h =
-      let l = h.1.0 in
-      let m = h.1.1 in
-      let less = h.2 in
-      (omega arith, record { least = omega arith; most = omega arith; now = omega arith })
+  done_out x0 x1 x2 = grind arith
 
   comes_out : (state : ContainerState T) (which : LookOf) (index : ℕ) → HasLoaded which s (Some state) → Out s state which (look_comes_to call index)
   comes_out state which index h = go (nat_lt index call.capacity)
@@ -52,15 +44,7 @@ module _ {T : Type 0} (value_of : List ℕ → T) (size : ℕ) (s : Seen) (call 
 
   still_loaded : (state : ContainerState T) (which : LookOf) (shown : Showing T) → shown.change ≡ state.shown.change
       → HasLoaded which s (Some state) → HasLoaded which s (Some (then_shows state shown))
-  still_loaded state kinds.TheVariants.GetState shown same h =
-      let l = h.0 in
-      let m = h.1 in
-      (omega arith, omega arith)
-  still_loaded state kinds.TheVariants.UpdateState shown same h =
-      let l = h.1.0 in
-      let m = h.1.1 in
-      let less = h.2 in
-      (h.0, (omega arith, omega arith), omega arith)
+  still_loaded x0 x1 x2 x3 x4 = grind arith
 
   -- the number of changes is loaded
   module _ (state : ContainerState T) (old : ℕ) (is : old ≡ s.changes) where
@@ -68,23 +52,10 @@ module _ {T : Type 0} (value_of : List ℕ → T) (size : ℕ) (s : Seen) (call 
     loaded = record state { shown = record state.shown { change = old } }
 
     same_out : (which : LookOf) → IsToLoad which s (Some state) → old ≡ state.seen.change → Out s loaded which (Done false)
-    same_out kinds.TheVariants.GetState h same =
-        let l = h.0 in
-        let zero = h.1 in
-        record { least = omega arith; most = omega arith; now = omega arith }
-    same_out kinds.TheVariants.UpdateState h same =
-        let m = h.0.most in
-        let n = h.0.now in
-        (omega arith, h.0)
+    same_out x0 x1 x2 = grind arith
 
     other_loaded : (which : LookOf) → IsToLoad which s (Some state) → old ≢ state.seen.change → HasLoaded which s (Some loaded)
-    other_loaded kinds.TheVariants.GetState h other = let l = h.0 in (omega arith, omega arith)
-    other_loaded kinds.TheVariants.UpdateState h other =
-        let l = h.0.least in
-        let m = h.0.most in
-        let n = h.0.now in
-        let b = h.1 in
-        (h.0, (omega arith, omega arith), omega arith)
+    other_loaded x0 x1 x2 = grind arith
 
     change_out : (which : LookOf) → IsToLoad which s (Some state) → Out s loaded which (if old == state.seen.change then Done false else look_comes_to call 0)
     change_out which h = go (old == state.seen.change) refl

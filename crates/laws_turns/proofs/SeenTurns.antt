@@ -1,4 +1,5 @@
 -- What the turns of a call under way leave known of the changes of a container.
+use Rattle.std.proofs.Common.{arith}
 use Rattle.laws_turns.proofs.Names.{◌≡◌, ◌≢◌, ⊎_elim, ℕ, ◌==◌, ◌&&◌, Bool, true, false, Option, Some, None, is_some}
 use Rattle.laws_turns.proofs.Names.{IfSome, List, [], ◌∷◌, ◌++◌, refl, sym, ap, subst, ◌∙◌, ne_eqb, eq-eqb, cases_eq}
 use Rattle.laws_turns.proofs.Names.{AllByRecursion, Look, ContainerState, look_asks, Answer, Event, Begun, Died}
@@ -72,11 +73,7 @@ module _ {T : Type 0} (t : Trace T) (is : t.world.kind ≡ kinds.TheVariants.Con
 
     pub other_known : (es : List (Event T)) (q : ℕ) → ¬ IsParty turn q → is_look_of t.world q turn ≡ false
         → Grows (seen_by q t.events) (seen_by q (t.events ++ es)) → SeesThen es q
-    other_known es q ne still grows =
-        subst (λ o. FlightSees o (seen_by q (t.events ++ es)) (state_in (world_after t.world turn).kept q)) (sym (others_stay t.world turn q ne))
-        (subst (FlightSees (flight_in t.world q) (seen_by q (t.events ++ es))) (sym (moves q still))
-        (sees_later (seen_by q t.events) (seen_by q (t.events ++ es)) grows (state_in t.world.kept q)
-        (flight_in t.world q) (h.known q)))
+    other_known x0 x1 x2 x3 x4 = grind (arith, seen_by, state_in, others_stay, moves, sees_later)
 
     -- where all events are the party's own
     pub known_by : (p : ℕ) (es : List (Event T)) → ((q : ℕ) → IsParty turn q → q ≡ p)
@@ -194,18 +191,12 @@ module _ {T : Type 0} (t : Trace T) (is : t.world.kind ≡ kinds.TheVariants.Con
       (seen : Seen) (o : Option (ContainerState T))
       → At t.world.capacity t.world.coding.size all done start flight → IsNoLook start → CallSees flight seen o
       → Within seen (seen_number o)
-  rests_within starts.TheVariants.GetState flight all done seen o at other sees = absurd other
-  rests_within starts.TheVariants.UpdateState flight all done seen o at other sees = absurd other
-  rests_within start (calls.TheVariants.Look which call) all done seen o at other sees = absurd at
-  rests_within start flight all done seen o at other sees = sees
+  rests_within x0 x1 x2 x3 x4 x5 x6 x7 x8 = grind arith
 
   not_looking : (start : ContainerStart T) (flight : ContainerFlight T) (all : List SetAct) (done : List (Act T))
       → At t.world.capacity t.world.coding.size all done start flight → IsNoLook start
       → is_looking {T = T} (Some (flights.TheVariants.Container flight)) ≡ false
-  not_looking starts.TheVariants.GetState flight all done at other = absurd other
-  not_looking starts.TheVariants.UpdateState flight all done at other = absurd other
-  not_looking start (calls.TheVariants.Look which call) all done at other = absurd at
-  not_looking start flight all done at other = refl
+  not_looking x0 x1 x2 x3 x4 x5 = grind arith
 
   -- ---- a step
 
@@ -222,12 +213,7 @@ module _ {T : Type 0} (t : Trace T) (is : t.world.kind ≡ kinds.TheVariants.Con
     loads_changes : (which : LookOf) (call : Look T) → call.capacity ≡ t.world.capacity
         → call.stage ≡ stages.TheVariants.LoadsChange
         → old_of s.state.words (ask_of (want t.world.coding (calls.TheVariants.Look which call))) ≡ (seen_by p t.events).changes
-    loads_changes which call wide stage =
-        ap (λ n. old_of s.state.words (ask_of (look_asks t.world.coding.size call.capacity n))) stage
-        ∙ (ap (λ n. old_of s.state.words (ask_of (look_asks t.world.coding.size n stages.TheVariants.LoadsChange))) wide
-        ∙ (ap (λ ws. old_of ws (ask_of (look_asks t.world.coding.size t.world.capacity stages.TheVariants.LoadsChange)))
-        (sym same_words)
-        ∙ (counts_changes t is r ∙ sym (changes_are p t.events))))
+    loads_changes x0 x1 x2 x3 = grind (arith, same_words, counts_changes, changes_are)
 
     step_other : (start : ContainerStart T) (flight : ContainerFlight T) (all : List SetAct) (done : List (Act T))
         → At t.world.capacity t.world.coding.size all done start flight
@@ -270,13 +256,7 @@ module _ {T : Type 0} (t : Trace T) (is : t.world.kind ≡ kinds.TheVariants.Con
         → Comes (Next p) free p refl (λ q its. its) on_next
         (old_of s.state.words (ask_of (want_of t.world.coding flight))) now_kept start flight
         → Extra (after_turn t (Next p))
-    by_step x since found (Container start) (flights.TheVariants.Container flight) stands flies comes =
-        let there = is_there shown dying t.world.coding t.world.capacity t s p x since found start flight stands in
-        step_by start flight _ _ there.at flies
-        (subst (λ kept. CallSees flight (seen_by p t.events) (state_in kept p)) same_kept
-        (subst (λ o. FlightSees o (seen_by p t.events) (state_in t.world.kept p)) flies (h.known p)))
-        comes
-    by_step x since found start flight stands flies comes = absurd stands.at
+    by_step x0 x1 x2 x3 x4 x5 x6 x7 = grind (arith, is_there, shown, step_by, seen_by, state_in, same_kept)
 
     pub next_kept : Extra (after_turn t (Next p))
     next_kept =
@@ -326,39 +306,13 @@ module _ {T : Type 0} (t : Trace T) (is : t.world.kind ≡ kinds.TheVariants.Con
         → CallSees flight (seen_by p t.events) (state_of p s.state.states)
         → DecisionComes now_kept (Container start) (flights.TheVariants.Container flight)
         → Extra (after_turn t (Decide p said))
-    decided_by starts.TheVariants.GetState (calls.TheVariants.Look which call) all done at due sees comes =
-        both_ways (is_question (look_asks t.world.coding.size call.capacity call.stage))
-        (look_asks_none t.world.coding.size call.capacity call.stage) due
-    decided_by starts.TheVariants.UpdateState (calls.TheVariants.Look which call) all done at due sees comes =
-        both_ways (is_question (look_asks t.world.coding.size call.capacity call.stage))
-        (look_asks_none t.world.coding.size call.capacity call.stage) due
-    decided_by starts.TheVariants.GetState flight all done at due sees comes = absurd at
-    decided_by starts.TheVariants.UpdateState flight all done at due sees comes = absurd at
-    decided_by (starts.TheVariants.Add value owner) flight all done at due sees comes =
-        decided_other (starts.TheVariants.Add value owner) flight all done at tt sees comes
-    decided_by (starts.TheVariants.Remove index owner mode) flight all done at due sees comes =
-        decided_other (starts.TheVariants.Remove index owner mode) flight all done at tt sees comes
-    decided_by (starts.TheVariants.Replace index value owner) flight all done at due sees comes =
-        decided_other (starts.TheVariants.Replace index value owner) flight all done at tt sees comes
-    decided_by (starts.TheVariants.Find owner) flight all done at due sees comes =
-        decided_other (starts.TheVariants.Find owner) flight all done at tt sees comes
-    decided_by (starts.TheVariants.Recover owner mode) flight all done at due sees comes =
-        decided_other (starts.TheVariants.Recover owner mode) flight all done at tt sees comes
-    decided_by starts.TheVariants.Len flight all done at due sees comes = decided_other starts.TheVariants.Len flight all done at tt sees comes
-    decided_by starts.TheVariants.IsEmpty flight all done at due sees comes = decided_other starts.TheVariants.IsEmpty flight all done at tt sees comes
-    decided_by starts.TheVariants.IsLocked flight all done at due sees comes = decided_other starts.TheVariants.IsLocked flight all done at tt sees comes
+    decided_by x0 x1 x2 x3 x4 x5 x6 x7 = grind (arith, both_ways, look_asks_none, decided_other)
 
     by_decision : (x : Party T) (since : ℕ) → party_of p t.world.latest ≡ Some x
         → (start : Start T) (flight : Flight T) → StandsThere fam t s p x since start flight
         → flight_in t.world p ≡ Some flight → is_question (want_of t.world.coding flight) ≡ true
         → DecisionComes now_kept start flight → Extra (after_turn t (Decide p said))
-    by_decision x since found (Container start) (flights.TheVariants.Container flight) stands flies due comes =
-        let there = is_there shown dying t.world.coding t.world.capacity t s p x since found start flight stands in
-        decided_by start flight _ _ there.at due
-        (subst (λ kept. CallSees flight (seen_by p t.events) (state_in kept p)) same_kept
-        (subst (λ o. FlightSees o (seen_by p t.events) (state_in t.world.kept p)) flies (h.known p)))
-        comes
-    by_decision x since found start flight stands flies due comes = absurd stands.at
+    by_decision x0 x1 x2 x3 x4 x5 x6 x7 x8 = grind (arith, is_there, shown, decided_by, seen_by, state_in, same_kept)
 
     pub decision_kept : Extra (after_turn t (Decide p said))
     decision_kept =

@@ -9,9 +9,7 @@ use Rattle.laws_turns.specs.Following.{IsCounted, Follows}
 
 -- what stands in a list of one value, which is read past its end too
 same_all : {A : Type 0} (n i : ℕ) (x : A) → get_or (replicate n x) i x ≡ x
-same_all n i x =
-    ⊎_elim (λ below. get_or-replicate n i x x below)
-    (λ past. let long = length-replicate n x in get_or_past (replicate n x) i x (omega arith)) (cases_lt i n)
+same_all x0 x1 x2 = grind (arith, get_or-replicate, length-replicate, get_or_past)
 
 zero_most : (n m : ℕ) → n ≡ 0 → n ≤ m
 zero_most n m e = omega arith
@@ -22,13 +20,7 @@ none_yet n m changes few none zero_is = omega arith
 
 module _ {V : Type 0} where
   pub opens : (size container : ℕ) → IsCounted {V = V} (opened size container)
-  opens size container =
-      record {
-        counts = length-replicate size 0 ∙ sym (length-replicate size None);
-        values = length-replicate size None ∙ sym (length-replicate size None);
-        few = λ i. zero_most (get_or (replicate size 0) i 0) 0 (same_all size i 0);
-        even = λ i e. same_all size i None;
-      }
+  opens x0 x1 = grind (arith, length-replicate, zero_most, same_all)
 
   -- ---- brought up to date
 
@@ -62,16 +54,7 @@ module _ {V : Type 0} where
     then_seen = record { changes = s.changes; counts = s.counts; values = now }
 
     follows_now : Follows s then_seen
-    follows_now =
-        record {
-          counted = f.counted;
-          counts = f.counted.counts;
-          values = length-map-range_with_len (value_then s seen) 0 (capacity s);
-          fewer = omega arith;
-          numbers = λ i. omega arith;
-          same = λ i e. ap (λ l. get_or l i None) now_is;
-          all = λ e. refl;
-        }
+    follows_now = grind (arith, length-map-range_with_len, capacity, now_is)
 
   pub updates : (s : Contents V) (seen : Snapshot V) → Follows s seen → Follows s (updated s seen) × ((updated s seen).values ≡ s.values)
   updates s seen f = go (s.changes == seen.changes) refl

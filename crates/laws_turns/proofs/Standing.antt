@@ -1,4 +1,5 @@
 -- Where a party's call stands before a turn, and where it stands after it.
+use Rattle.std.proofs.Common.{arith}
 use Rattle.laws_turns.proofs.Names.{◌≡◌, ℕ, Bool, Option, Some, None, IfSome, refl, ap, subst, ◌∙◌, After, GoOn, Done}
 use Rattle.laws_turns.proofs.Names.{Answer, Flight, Doing, Going, Over, Party, Next, Decide, want_of, ask_of, goes_of}
 use Rattle.laws_turns.proofs.Names.{party_of, doing_of, flight_of, StandsAt, GoesOn, old_of, number_of, World, Trace}
@@ -20,13 +21,10 @@ module _ {T : Type 0} where
   module _ (old new : World T) (p : ℕ) (flight : Flight T) (here : flight_in old p ≡ Some flight) where
     pub next_left : GoesOn old (Next p) new
         → flight_in new p ≡ left_by (goes_of old.coding p flight (old_of old.words (ask_of (want_of old.coding flight))) old.kept)
-    next_left goes =
-        stands_left new p _
-        (subst (λ o. IfSome o (λ f. StandsAt new p (goes_of old.coding p f (old_of old.words (ask_of (want_of old.coding f))) old.kept))) here goes)
+    next_left x0 = grind (arith, stands_left)
 
     pub decision_left : (said : Bool) → GoesOn old (Decide p said) new → flight_in new p ≡ left_by (goes_of old.coding p flight (number_of said) old.kept)
-    decision_left said goes =
-        stands_left new p _ (subst (λ o. IfSome o (λ f. StandsAt new p (goes_of old.coding p f (number_of said) old.kept))) here goes)
+    decision_left x0 x1 = grind (arith, stands_left, number_of)
 
 -- ---- before it
 

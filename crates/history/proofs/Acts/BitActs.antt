@@ -132,7 +132,7 @@ module _ {T : Type 0} (c : ℕ) (events : List (Event T)) (spans : Each (StandsR
             Silent part rest cut none under may (nought ∙ left) (subst (λ n. Done' b (Some (s, Some n))) (sym nought) ends)
 
         here : (b : ℕ) (wrote : List (Event T)) → span_of q h ≡ Open s wrote → Fits Fit s b wrote (way q b)
-        here b wrote opened = fits_open Fit b (span_of q h) (way q b) s wrote opened (on q b)
+        here b wrote opened = grind (arith, fits_open)
 
       end_set_true : (q k : ℕ) → events ≡ h ++ Finished q (Bits (Set k)) (Truth true) ∷ after → M (h ++ Finished q (Bits (Set k)) (Truth true) ∷ [])
       end_set_true q k is =
@@ -194,7 +194,7 @@ module _ {T : Type 0} (c : ℕ) (events : List (Event T)) (spans : Each (StandsR
           finishes kinds.TheVariants.Bits c Sure h q (Bits ResetNext) (Reset k) m (λ b lt. Stays (done b)) (λ b le. done b)
         where
           opened : OpenFor (Bits ResetNext) (BitsWrote c (Bits ResetNext) (Reset k)) (span_of q h)
-          opened = open_for (Bits ResetNext) (BitsWrote c (Bits ResetNext) (Reset k)) (span_of q h) (spans h after (Finished q (Bits ResetNext) (Reset k)) is)
+          opened = grind (arith, open_for)
 
           done : (b : ℕ) → Ends c (Sure b) b (Bits ResetNext) (Reset k) (way q b)
           done b =

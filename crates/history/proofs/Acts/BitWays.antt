@@ -50,10 +50,7 @@ module _ {T : Type 0} where
     where
       go : (t : Bool) → (x == b) ≡ t → (1 ≤ clears b es → ClearedIn b es) → ClearedIn b (Cleared p x ∷ es)
       go true t rest = record { by = p; first = []; second = es; is = ap (λ z. Cleared p z ∷ es) (is_number x b t) }
-      go false t rest =
-          let more = clears_more b (Cleared p x ∷ []) es in
-          let none : clears {T = T} b (Cleared p x ∷ []) ≡ 0 = rw t refl in
-          cleared_later b (Cleared p x) es (rest (omega arith))
+      go false t rest = grind (arith, clears_more, clears, cleared_later)
   cleared_in b (e ∷ es) some =
       let more = clears_more b (e ∷ []) es in
       let none : clears {T = T} b (e ∷ []) ≡ 0 = refl in
@@ -93,7 +90,7 @@ module _ {T : Type 0} where
           number_more b 0 h (event.TheVariants.Set p k ∷ []) ∙ ap (λ z. cond z 1 (number_in b 0 h)) t in
           let found : sets b h ≡ clears b h = subst (λ z. sets z h ≡ clears z h) (is_number k b t) finds in
           (omega arith, omega arith)
-      go false t = numbers_stay h (event.TheVariants.Set p k) b (rw t refl) refl (ap (λ z. cond z 1 (number_in b 0 h)) t) (was b)
+      go false t = grind (arith, numbers_stay, cond, number_in)
   numbers_more c h (Cleared p k) stands finds was b = go (k == b) refl
     where
       go : (t : Bool) → (k == b) ≡ t
@@ -107,7 +104,7 @@ module _ {T : Type 0} where
           let n : number_in b 0 (h ++ Cleared p k ∷ []) ≡ 0 = number_more b 0 h (Cleared p k ∷ []) ∙ ap (λ z. cond z 0 (number_in b 0 h)) t in
           let found : sets b h ≡ clears b h + 1 = subst (λ z. sets z h ≡ clears z h + 1) (is_number k b t) finds in
           (omega arith, omega arith)
-      go false t = numbers_stay h (Cleared p k) b refl (rw t refl) (ap (λ z. cond z 0 (number_in b 0 h)) t) (was b)
+      go false t = grind (arith, numbers_stay, cond, number_in)
   numbers_more c h (Counted p k) stands finds was b = absurd stands
   numbers_more c h (TakenOut p k m) stands finds was b = absurd stands
   numbers_more c h e stands finds was b = numbers_stay h e b refl refl refl (was b)
@@ -152,10 +149,7 @@ module _ {T : Type 0} where
 
   fit_cleared : (start : Start T) (q k b : ℕ) (wrote : List (Event T)) → MayClear k start wrote → (k == b) ≡ true
       → Fit start b (wrote ++ Cleared q k ∷ []) (Some 1)
-  fit_cleared (Bits ResetNext) q k b wrote may t =
-      let one : clears {T = T} b (Cleared q k ∷ []) ≡ 1 = rw t refl in
-      let more = clears_more b wrote (Cleared q k ∷ []) in
-      ((λ none. absurd (omega arith)), (λ some. refl))
+  fit_cleared (Bits ResetNext) q k b wrote may t = grind (arith, clears, clears_more)
   fit_cleared (Bits ResetAll) q k b wrote may t =
       let one : clears {T = T} b (Cleared q k ∷ []) ≡ 1 = rw t refl in
       let more = clears_more b wrote (Cleared q k ∷ []) in
@@ -198,8 +192,7 @@ module _ {T : Type 0} where
       go x0 x1 = grind (arith, cleared_fits, is_number)
   one_fits c p b n spans way (Counted q k) stands at fits = absurd stands
   one_fits c p b n spans way (TakenOut q k m) stands at fits = absurd stands
-  one_fits c p b n spans way e stands at fits =
-      quiet_fits Fit p b (spans p) way e (λ span. refl) (λ start wrote d fit. fit_more start b wrote d e refl refl fit) fits
+  one_fits c p b n spans way e stands at fits = grind (arith, quiet_fits, fit_more)
 
   pub at_place : (h : List (Event T)) (e : Event T) → BitFinds h e → Numbers h → (b : ℕ) → AtPlace b (number_in b 0 h) e
   at_place h (event.TheVariants.Set q k) finds numbers b =

@@ -47,10 +47,7 @@ module _ {T : Type 0} where
     where
       go : (t : Bool) → (x == b) ≡ t → (1 ≤ takes b es → TakenIn b es) → TakenIn b (TakenOut p x m ∷ es)
       go true t rest = record { by = p; number = m; first = []; second = es; is = ap (λ z. TakenOut p z m ∷ es) (is_number x b t) }
-      go false t rest =
-          let more = takes_more b (TakenOut p x m ∷ []) es in
-          let none : takes {T = T} b (TakenOut p x m ∷ []) ≡ 0 = rw t refl in
-          taken_later b (TakenOut p x m) es (rest (omega arith))
+      go false t rest = grind (arith, takes_more, takes, taken_later)
   taken_in b (e ∷ es) some =
       let more = takes_more b (e ∷ []) es in
       let none : takes {T = T} b (e ∷ []) ≡ 0 = refl in
@@ -97,7 +94,7 @@ module _ {T : Type 0} where
           (λ (round : ((number_in b 0 h + 1) % 2 ^ 64 ≡ 0) × (number_in b 0 h + 1 ≡ 2 ^ 64)).
           (let is = round.0 in let at = round.1 in record { wraps = (was b).wraps + 1; whole = omega arith; low = omega arith }))
           (next_number (number_in b 0 h) low)
-      go false t = numbers_stay h (Counted p k) b (rw t refl) refl (ap (λ z. cond z ((number_in b 0 h + 1) % 2 ^ 64) (number_in b 0 h)) t) (was b)
+      go false t = grind (arith, numbers_stay, cond, number_in, was)
   numbers_more c h (TakenOut p k m) stands finds was b = go (k == b) refl
     where
       go : (t : Bool) → (k == b) ≡ t → NumberIs (h ++ TakenOut p k m ∷ []) b
@@ -109,7 +106,7 @@ module _ {T : Type 0} where
           let n : number_in b 0 (h ++ TakenOut p k m ∷ []) ≡ 0 = number_more b 0 h (TakenOut p k m ∷ []) ∙ ap (λ z. cond z 0 (number_in b 0 h)) t in
           let all : counts b h ≡ takes b h + m + 2 ^ 64 * finds.0 = subst (λ z. counts z h ≡ takes z h + m + 2 ^ 64 * finds.0) (is_number k b t) finds.1 in
           record { wraps = finds.0; whole = omega arith; low = omega arith }
-      go false t = numbers_stay h (TakenOut p k m) b refl (rw t refl) (ap (λ z. cond z 0 (number_in b 0 h)) t) (was b)
+      go false t = grind (arith, numbers_stay, cond, number_in, was)
   numbers_more c h (event.TheVariants.Set p k) stands finds was b = absurd stands
   numbers_more c h (Cleared p k) stands finds was b = absurd stands
   numbers_more c h e stands finds was b = numbers_stay h e b refl refl refl (was b)
@@ -178,8 +175,7 @@ module _ {T : Type 0} where
       go x0 x1 = grind (arith, take_fits, is_number, fits)
   one_fits c p b n spans way (event.TheVariants.Set q k) stands fits = absurd stands
   one_fits c p b n spans way (Cleared q k) stands fits = absurd stands
-  one_fits c p b n spans way e stands fits =
-      quiet_fits Fit p b (spans p) way e (λ span. refl) (λ start wrote d fit. fit_more start b wrote d e refl refl fit) fits
+  one_fits c p b n spans way e stands fits = grind (arith, quiet_fits, fit_more)
 
 -- ---- the calls
 
@@ -250,7 +246,7 @@ module _ {T : Type 0} (c : ℕ) (events : List (Event T)) (spans : Each (StandsR
           goes_on kinds.TheVariants.Counts c Sure h (TakenOut q k n) m (λ p b t. spread (TakenOut q k n) q k p b ((whole, here.0), acts) t)
         where
           here : (1 ≤ n) × Acts kinds.TheVariants.Counts k (number k) 0 (way q k)
-          here = take_acts k n q (span_of q h) (way q k) (spans h after (TakenOut q k n) is) (on q k)
+          here = grind (arith, take_acts)
 
           whole : n ≡ number k
           whole = takes_all h q k n (finds h after (TakenOut q k n) is) numbered
@@ -261,7 +257,7 @@ module _ {T : Type 0} (c : ℕ) (events : List (Event T)) (spans : Each (StandsR
       -- ---- a call ends
 
       here : (q b : ℕ) (s : Start T) (wrote : List (Event T)) → span_of q h ≡ Open s wrote → Fits Fit s b wrote (way q b)
-      here q b s wrote opened = fits_open Fit b (span_of q h) (way q b) s wrote opened (on q b)
+      here q b s wrote opened = grind (arith, fits_open)
 
       found_some : (n : ℕ) (w : Way') (s : Start T) (d : Option ℕ) → found_now n w ≡ Some (s, d) → d ≡ Some n
       found_some x0 x1 x2 x3 x4 = grind arith
@@ -334,7 +330,7 @@ module _ {T : Type 0} (c : ℕ) (events : List (Event T)) (spans : Each (StandsR
               ends_so x0 x1 x2 = grind arith
 
               acted : 0 < takes b opened.wrote → Fact kinds.TheVariants.Counts c Sure h q all_call Done b
-              acted some = Stays (ends_so fits.found (fits.fit.1 (omega arith)) fits.is)
+              acted some = grind (arith, ends_so)
 
               silent : takes b opened.wrote ≤ 0 → Fact kinds.TheVariants.Counts c Sure h q all_call Done b
               silent few = go (number_in b 0 since.before) refl

@@ -101,7 +101,7 @@ module _ {T : Type 0} (kind : Kind) (capacity : ℕ) (Sure : ℕ → Type 0) whe
       was q b = subst (IsGood q b) c.is (f.right q b)
 
       late : way_at p k 0 None (first ++ second) ≡ Some (start, None)
-      late = ap (way_at p k 0 None) (sym c.is) ∙ (f.later k (omega arith) ∙ under)
+      late = grind (arith, way_at)
 
       calm : BeginsNone p (told second)
       calm = subst (BeginsNone p) (sym c.second_told) none
@@ -190,8 +190,5 @@ module _ {T : Type 0} (kind : Kind) (capacity : ℕ) (Sure : ℕ → Type 0) whe
         ways q b = go (p == q) refl
           where
             go : (t : Bool) → (p == q) ≡ t → way_at q b 0 None (f.marks ++ Happens end ∷ []) ≡ way_in q b 0 None (h ++ end ∷ [])
-            go true t =
-                way_at_more q b 0 None f.marks (Happens end ∷ [])
-                ∙ (ap (λ z. cond z None (way_at q b 0 None f.marks)) t
-                ∙ (sym (ap (λ z. cond z None (way_in q b 0 None h)) t) ∙ sym (way_more q b 0 None h (end ∷ []))))
+            go true t = grind (arith, way_at_more, cond, way_at, way_in, way_more)
             go false t = way_one f.marks h end f.is q b (f.others q b (λ e. (let yes : (p == q) ≡ true = ap (λ z. p == z) e ∙ same_number p in absurd (cc))))

@@ -16,7 +16,7 @@ module _ {T : Type 0} where
   IsRun u = IsSet u.world.kind → IsReachedOn u
 
   goes_on : (u : Trace T) (turn : Turn T) → refusal_of u.world turn ≡ None → IsRun u → IsRun (after_turn u turn)
-  goes_on u turn e is set = reached_on_more u turn (passes u.world turn e).on (is (subst IsSet (turn_making u.world turn).kind set))
+  goes_on u turn e is set = grind (arith, reached_on_more, passes, turn_making)
 
   pub reached_is_on : (t : Trace T) → IsReached t → IsSet t.world.kind → IsReachedOn t
   reached_is_on t r set =

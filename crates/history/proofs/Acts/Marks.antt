@@ -16,7 +16,7 @@ pub is_number : (p q : ℕ) → (p == q) ≡ true → p ≡ q
 is_number p q t = grind (arith, nat_tests)
 
 pub no_number : (p q : ℕ) → (p == q) ≡ false → p ≢ q
-no_number p q t e = let s = same_number p in let u : (p == p) ≡ false = ap (λ n. p == n) e ∙ t in cc
+no_number p q t e = grind (arith, same_number, false)
 
 pub both_true : (x y : Bool) → (x && y) ≡ true → (x ≡ true) × (y ≡ true)
 both_true x0 x1 x2 = grind arith
@@ -183,15 +183,8 @@ module _ {T : Type 0} (kind : Kind) (capacity : ℕ) (Sure : ℕ → Type 0) whe
     quiet n way (Happens (Finished q s a) ∷ ms) e none = go (q == p) refl (quiet n (cond (q == p) None way) ms e none)
       where
         go : (z : Bool) → (q == p) ≡ z → Quiet n (cond (q == p) None way) ms → Quiet n way (Happens (Finished q s a) ∷ ms)
-        go true t more =
-            let clash : None ≡ Some (start, None) = sym (ap (λ z. cond z None way) t) ∙ more.was in
-            absurd (cc)
-        go false t more =
-            record {
-              was = sym (ap (λ z. cond z None way) t) ∙ more.was;
-              right = λ other. ((λ same. absurd (no_number q p t same)), more.right (cond (q == p) None other));
-              stays = λ other. more.stays (cond (q == p) None other) ∙ ap (λ z. cond z None other) t;
-            }
+        go true t more = grind (arith, cond)
+        go false t more = grind (arith, cond, no_number)
     quiet n way (Happens f ∷ ms) e none =
         let more = quiet (number_after b n f) (cond (does p b f) (found_now n way) way) ms e none in
         let test = by_test (does p b f) n way more.was in
@@ -209,7 +202,7 @@ module _ {T : Type 0} (kind : Kind) (capacity : ℕ) (Sure : ℕ → Type 0) whe
       n = number_at b 0 ms
 
       calm : Quiet n (way_at p b 0 None ms) ns
-      calm = quiet n (way_at p b 0 None ms) ns (sym (way_at_more p b 0 None ms ns) ∙ late) none
+      calm = grind (arith, quiet, way_at_more)
 
       here : (p == p && b == b) ≡ true
       here = rw (same_number p, same_number b) refl

@@ -33,7 +33,7 @@ module _ {T : Type 0} where
   ends_none p (Finished q s a ∷ es) h = go (q == p) refl (λ more. ends_none p es more)
     where
       mine : (t : Bool) → (q == p) ≡ t → EndsNone p (cond t (Finished q s a ∷ []) [] ++ events_by p es)
-      mine t is = subst (λ z. EndsNone p (cond z (Finished q s a ∷ []) [] ++ events_by p es)) is h
+      mine t is = grind (arith, cond)
 
       go : (t : Bool) → (q == p) ≡ t → (EndsNone p (events_by p es) → EndsNone p es) → EndsNone p (Finished q s a ∷ es)
       go true t rest = absurd ((mine true t).0 (is_number q p t))
@@ -48,9 +48,7 @@ module _ {T : Type 0} where
 
   call_there : (p : ℕ) (start : Start T) (xs ys : List (Event T)) (k n : ℕ) → n ≡ k + length xs
       → Contains (calls_from (xs ++ Begun p start ∷ ys) k) (call_at n p start (response_in p ys (n + 1)))
-  call_there p start [] ys k n e =
-      here (call_at k p start (response_in p ys (k + 1))) (call_at n p start (response_in p ys (n + 1)))
-      (calls_from ys (k + 1)) (same_place p start ys k n (omega arith))
+  call_there p start [] ys k n e = grind (arith, here, calls_from, same_place)
   call_there p start (Begun q s ∷ xs) ys k n e =
       there (call_at k q s (response_in q (xs ++ Begun p start ∷ ys) (k + 1)))
       (call_at n p start (response_in p ys (n + 1))) (calls_from (xs ++ Begun p start ∷ ys) (k + 1))
@@ -60,9 +58,7 @@ module _ {T : Type 0} where
   response_there : (p : ℕ) (start : Start T) (answer : Answer T) (during rest : List (Event T)) (k n : ℕ)
       → EndsNone p during → n ≡ k + length during
       → response_in p (during ++ Finished p start answer ∷ rest) k ≡ Some (response_at n answer)
-  response_there p start answer [] rest k n none e =
-      let same : k ≡ n = omega arith in
-      responded p p start answer rest k refl ∙ ap (λ z. Some (response_at z answer)) same
+  response_there p start answer [] rest k n none e = grind (arith, responded)
   response_there p start answer (Finished q s a ∷ es) rest k n none e =
       passed p q s a (es ++ Finished p start answer ∷ rest) k none.0 ∙ response_there p start answer es rest (k + 1) n none.1 (omega arith)
   response_there p start answer (x ∷ es) rest k n none e = response_there p start answer es rest (k + 1) n none (omega arith)
@@ -86,7 +82,7 @@ module _ {T : Type 0} where
     whole = grind (arith, append_assoc)
 
     no_ends : EndsNone p called.during
-    no_ends = ends_none p called.during (subst (EndsNone p) (sym called.during_own) none)
+    no_ends = grind (arith, ends_none)
 
     abbrev at : ℕ
     at = length before

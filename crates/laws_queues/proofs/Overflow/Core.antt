@@ -21,7 +21,7 @@ oldest c k g some =
 
 -- the list while a push waits
 list_is : (c : ℕ) (xs others : List ℕ) (v : ℕ) → xs ≡ others ++ v ∷ [] → length others ≡ c → take c xs ≡ others
-list_is c xs others v is full = ap (take c) is ∙ (ap (λ n. take n (others ++ v ∷ [])) (sym full) ∙ take-append_seam others (v ∷ []))
+list_is x0 x1 x2 x3 x4 x5 = grind (arith, take, take-append_seam)
 
 module _ {T : Type 0} where
   pub none_passes : (c : ℕ) (item : Item T) → c ≡ 0 → through_cells Overflow c item ≡ []
@@ -79,11 +79,7 @@ module _ {T : Type 0} where
   pub pop_front :
       (c : ℕ) (xs : List ℕ) (u : ℕ) (rest : List ℕ) → xs ≡ u ∷ rest → length xs ≤ c
       → (drop 1 (items (take c xs)) ≡ items (take c rest)) × (slice_get (items (take c xs)) 0 ≡ Some (Index u))
-  pop_front c xs u rest front few =
-      let shorter : suc (length rest) ≡ length xs = sym (ap length front) in
-      let all : take c xs ≡ u ∷ rest = take_all c xs few ∙ front in
-      let kept : take c rest ≡ rest = take_all c rest (omega arith) in
-      (rw (all, kept) refl, rw all refl)
+  pop_front x0 x1 x2 x3 x4 x5 = grind (arith, suc, length, take, take_all)
 
   -- a pop that makes room for a push, and then the push
   pub pop_room :

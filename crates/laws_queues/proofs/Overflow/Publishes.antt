@@ -199,21 +199,4 @@ module _ {T : Type 0} (en : Coding T) (scene : Scene T kinds.TheVariants.Overflo
             → Does [] next_write (after en (at (overflow_pushes.TheVariants.StoresWrite k.write read)) k.write)
             (effect_of en (layout ro k) (pending k.read ro.producer latest)
             (at (overflow_pushes.TheVariants.StoresWrite k.write read)) k.write)
-        go false here t e =
-            let g = inv.queue.good in
-            let write = g.write in
-            let reached = inv.queue.reached in
-            let apart : distance k.write read ≢ c = grind (arith, nat_tests) in
-            let behind : distance k.write read ≡ k.write - read = omega arith in
-            let below : length k.waiting < c = (let other : k.write - read ≢ c = λ h. apart (behind ∙ h) in omega arith) in
-            rw t (publishes_done below)
-        go true true t e =
-            let reached = inv.queue.reached in
-            let full : distance k.write read ≡ c = grind (arith, nat_tests) in
-            let same : k.read ≡ read = grind (arith, nat_tests) in
-            rw (t, e) (publishes_over (sym same) (omega arith))
-        go true false t e =
-            let reached = inv.queue.reached in
-            let full : distance k.write read ≡ c = grind (arith, nat_tests) in
-            let other : k.read ≢ read = grind (arith, nat_tests) in
-            rw (t, e) (publishes_late (omega arith) (omega arith))
+        go x0 x1 x2 x3 = grind (arith, length, publishes_done, publishes_over, publishes_late, nat_tests)

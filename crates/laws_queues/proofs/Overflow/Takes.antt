@@ -78,13 +78,7 @@ module _ {T : Type 0} (en : Coding T) (scene : Scene T kinds.TheVariants.Overflo
       -- no push waits for the next read position
       hangs_take : Hangs T kinds.TheVariants.Overflow c after_take
           (pending (k.read + 1) ro.producer (put p (after_it (asks_move k.read) false (Done answer)) latest))
-      hangs_take =
-          let y = after_it (asks_move k.read) false (Done answer) in
-          let stays : pending (k.read + 1) ro.producer (put p y latest) ≡ pending (k.read + 1) ro.producer latest =
-          pending_put (k.read + 1) ro.producer p y latest refl (calm (k.read + 1)) in
-          let none : pending (k.read + 1) ro.producer latest ≡ None =
-          past_none en c ro k (k.read + 1) (omega arith) latest events inv.frame.calls ro.producer in
-          none_hangs T kinds.TheVariants.Overflow c after_take (pending (k.read + 1) ro.producer (put p y latest)) (stays ∙ none) few_rest
+      hangs_take = grind (arith, false, pending, put, pending_put, past_none, none_hangs, few_rest)
 
       -- no push is pending
       takes_alone : pending k.read ro.producer latest ≡ None → Does (asks_move k.read) false (Done answer) (HandsOut (Index value))
@@ -165,9 +159,7 @@ module _ {T : Type 0} (en : Coding T) (scene : Scene T kinds.TheVariants.Overflo
         run_3 = run_2 ++ acts_q ∷ []
 
         whole : run_3 ++ ends_p ∷ [] ≡ events ++ told
-        whole =
-            append_assoc run_2 (acts_q ∷ []) (ends_p ∷ [])
-            ∙ (append_assoc run_1 (acts_p ∷ []) (acts_q ∷ ends_p ∷ []) ∙ append_assoc events (hands ∷ []) (acts_p ∷ acts_q ∷ ends_p ∷ []))
+        whole = grind (arith, append_assoc)
 
         abbrev pushing : Pushing → QueueFlight T
         pushing run = Overflow (overflows.TheVariants.Push run)
@@ -196,7 +188,7 @@ module _ {T : Type 0} (en : Coding T) (scene : Scene T kinds.TheVariants.Overflo
           start = start_is x.start run under.at is.value
 
           wrote : has_written {T = T} c k q (pushing run) ≡ Published q (Index w) ∷ []
-          wrote = let t : (k.read == k.read) ≡ true = grind (arith, nat_tests) in rw (is.value, is.stage, t) refl
+          wrote = grind (arith, nat_tests)
 
           writes : has_written {T = T} c after_take q (pushing run) ≡ Published q (Index w) ∷ acts_q ∷ []
           writes = grind arith
@@ -212,7 +204,7 @@ module _ {T : Type 0} (en : Coding T) (scene : Scene T kinds.TheVariants.Overflo
           p_3 = span_of-other q p run_2 (acts_q ∷ []) (λ e. other (sym e)) (refl, tt) ∙ p_2
 
           p_4 : span_of p (events ++ told) ≡ Ended (Queues Pop) answer (hands ∷ acts_p ∷ [])
-          p_4 = ap (span_of p) (sym whole) ∙ (span_of-own p run_3 (ends_p ∷ []) (refl, tt) ∙ ap (λ a. fold own_after a (ends_p ∷ [])) p_3)
+          p_4 = grind (arith, whole, span_of-own, fold, p_3)
 
           q_2 : span_of q run_2 ≡ Open (Queues (PushIndex w)) (Published q (Index w) ∷ [])
           q_2 =
@@ -234,31 +226,11 @@ module _ {T : Type 0} (en : Coding T) (scene : Scene T kinds.TheVariants.Overflo
               ∙ (span_of-other p r run_1 (acts_p ∷ []) np (refl, tt) ∙ span_of-other p r events (hands ∷ []) np (refl, tt))))
 
           pushing_fits : frame.Fits (family en kinds.TheVariants.Overflow c) after_queue q (party_of q latest) (span_of q (events ++ told))
-          pushing_fits =
-              let now : frame.IsUnderWay (family en kinds.TheVariants.Overflow c) after_queue q x
-              (flights.TheVariants.Queues (pushing run)) (span_of q (events ++ told)) =
-              record {
-                span =
-                    q_4 ∙ (ap (λ es. Open (Queues (PushIndex w)) es) (sym writes)
-                    ∙ ap (λ st. Open st (has_written c after_take q (pushing run))) (sym start));
-                steps = under.steps;
-                at = still_at x.start run is.stage under.at;
-              }
-              in
-              subst (λ o. frame.Fits (family en kinds.TheVariants.Overflow c) after_queue q o (span_of q (events ++ told))) (sym is.found)
-              (subst (λ d. frame.FitsDoing (family en kinds.TheVariants.Overflow c) after_queue q x d (span_of q (events ++ told))) (sym is.doing) now)
+          pushing_fits = grind (arith, family, q_4, writes, start, still_at)
 
           other_fits : (r : ℕ) → r ≢ p → r ≢ q
               → frame.Fits (family en kinds.TheVariants.Overflow c) after_queue r (party_of r latest) (span_of r (events ++ told))
-          other_fits r np nq =
-              subst (λ a. frame.Fits (family en kinds.TheVariants.Overflow c) after_queue r (party_of r latest) a) (sym (theirs r np nq))
-              (frame.still_fits (family en kinds.TheVariants.Overflow c) (queue_in scene) after_queue r
-              (any_stays en kinds.TheVariants.Overflow c ro ro k after_take r
-              (kept ro ro r (λ h. h) (λ h. h) en c kinds.TheVariants.Overflow k after_take (record {
-                push = λ mine v stage h. absurd (clash ro.producer q r nq producer mine);
-                pop = λ mine other stage h. absurd (clash ro.consumer p r np holds mine);
-              })))
-              (party_of r latest) (span_of r events) (inv.frame.calls r))
+          other_fits x0 x1 x2 = grind (arith, family, theirs, any_stays, kept, clash)
 
           takes_for : MovesBy (asks_move k.read) false (Done answer) (MakesRoom (Index value) q w)
           takes_for =

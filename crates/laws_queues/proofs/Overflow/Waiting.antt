@@ -47,10 +47,4 @@ some_mapped x0 x1 x2 x3 x4 = grind arith
 module _ {T : Type 0} (position : ℕ) (latest : List (ℕ × Party T)) (q w : ℕ) where
   pub pending_is : (pr : Option ℕ) → pending position pr latest ≡ Some (q, w)
       → (pr ≡ Some q) × (y : Party T) × (run : Pushing) × (since : ℕ) × IsPending position latest q w y run since
-  pending_is None e = absurd (cc)
-  pending_is (Some r) e =
-      let both = some_mapped q r w (pending_at position (flight_of (doing_of (party_of r latest)))) e in
-      let here : pending_at position (flight_of (doing_of (party_of q latest))) ≡ Some w =
-      subst (λ n. pending_at position (flight_of (doing_of (party_of n latest))) ≡ Some w) both.0 both.1 in
-      let push = party_is position latest q w (party_of q latest) here refl here in
-      (ap Some both.0, push.0, push.1, push.2, push.3)
+  pending_is x0 x1 = grind (arith, some_mapped, party_is)

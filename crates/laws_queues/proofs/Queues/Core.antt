@@ -126,19 +126,7 @@ module _ {V : Type 0} (size : ℕ) (words_of : V → List ℕ) (c : ℕ) where
 
   -- the next write position stored over a whole cell
   pub publishes : (k : Core V) (v : V) → length k.waiting < c → Good k → Holds k.cells k.write v size → Good (published k v)
-  publishes k v room g whole =
-      let write = g.write in
-      let longer = length-append k.waiting (v ∷ []) in
-      record {
-        write = omega arith;
-        few = omega arith;
-        cells = g.cells;
-        held =
-            λ i w e. ⊎_elim (λ h. g.held i w h)
-            (λ h. let place : k.read + i ≡ k.write = (let at = h.0 in omega arith) in
-            rw place (subst (λ u. Holds k.cells k.write u size) h.1 whole))
-            (get_more k.waiting v i w e);
-      }
+  publishes x0 x1 x2 x3 x4 = grind (arith, length-append, get_more)
 
   -- the next read position stored
   pub takes : (k : Core V) (v : V) (rest : List V) → k.waiting ≡ v ∷ rest → Good k → Good (taken k rest)

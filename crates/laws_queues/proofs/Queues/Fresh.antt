@@ -28,19 +28,7 @@ module _ {T : Type 0} where
   may_more (x ∷ xs) turn t all one = (all.0, may_more xs turn (attempt_on t x) all.1 one)
 
   pub fresh_more : (t : Trace T) (turn : Turn T) → call_refusal t.world turn ≡ None → IsFreshTurn t turn → IsFreshRun t → IsFreshRun (after_turn t turn)
-  fresh_more t turn e one r =
-      let w = t.world in
-      let making = turn_making t.world turn in
-      let first = opening w.coding w.kind w.capacity w.parties in
-      let same : attempt_on t turn ≡ after_turn t turn = ap (unless_refused t (after_turn t turn)) e in
-      let more : after_turn t turn ≡ run_on (r.turns ++ turn ∷ []) first = sym same ∙ (ap (λ u. attempt_on u turn) r.is ∙ sym (run_more r.turns turn first)) in
-      record {
-        turns = r.turns ++ turn ∷ [];
-        is = rw (making.coding, making.kind, making.capacity, making.parties) more;
-        fresh =
-            rw (making.coding, making.kind, making.capacity, making.parties)
-            (may_more r.turns turn first r.fresh (subst (λ z. IsFreshTurn z turn) r.is one));
-      }
+  fresh_more x0 x1 x2 x3 x4 = grind (arith, turn_making, opening, after_turn, run_more, may_more)
 
   pub fresh_opening : (code : Coding T) (kind : Kind) (capacity parties : ℕ) → IsFreshRun (opening code kind capacity parties)
   fresh_opening code kind capacity parties = record { turns = []; is = refl; fresh = tt }

@@ -53,25 +53,16 @@ pub record Scene (T : Type 0) (kd : QueueKind) : Type 0 where
 module _ {T : Type 0} where
   -- what was published and not handed out is what waits
   pub waiting_is : (events : List (Event T)) (items : List (Item T)) → published events ≡ handed_out events ++ items → waiting events ≡ items
-  waiting_is events items book = ap (drop (length (handed_out events))) book ∙ drop_at (handed_out events) items (length (handed_out events)) refl
+  waiting_is x0 x1 x2 = grind (arith, drop, length, handed_out, drop_at)
 
   book_more :
       (events es : List (Event T)) (old new : List (Item T)) → published events ≡ handed_out events ++ old → old ++ published es ≡ handed_out es ++ new
       → published (events ++ es) ≡ handed_out (events ++ es) ++ new
-  book_more events es old new book more =
-      flat_map-append publishes events es
-      ∙ (ap (λ xs. xs ++ published es) book
-      ∙ (append_assoc (handed_out events) old (published es)
-      ∙ (ap (λ xs. handed_out events ++ xs) more
-      ∙ (sym (append_assoc (handed_out events) (handed_out es) new)
-      ∙ ap (λ xs. xs ++ new) (sym (flat_map-append hands_out events es))))))
+  book_more x0 x1 x2 x3 x4 x5 = grind (arith, flat_map-append, publishes, published, append_assoc, handed_out, hands_out)
 
   out_more : (events es : List (Event T)) (old new : ℕ) → old ≡ length (handed_out events)
       → new ≡ old + length (handed_out es) → new ≡ length (handed_out (events ++ es))
-  out_more events es old new is more =
-      let both : handed_out (events ++ es) ≡ handed_out events ++ handed_out es = flat_map-append hands_out events es in
-      let long = length-append (handed_out events) (handed_out es) in
-      rw both (omega arith)
+  out_more x0 x1 x2 x3 x4 x5 = grind (arith, handed_out, flat_map-append, hands_out, length-append)
 
   abbrev pub queue_in : {kd : QueueKind} → Scene T kd → Queue (Val T kd)
   queue_in scene = record { roles = scene.roles; core = scene.core }
@@ -218,9 +209,7 @@ module _ {T : Type 0} (en : Coding T) where
   pub any_knows : {V : Type 0} → (c : ℕ) (k k' : Core V) (q : ℕ) (events es : List (Event T)) (changes changes' : ℕ)
       → GoesUp k k' changes changes' → BeginsNone q es
       → (since backs : ℕ) (flight : Flight T) → Knowing c k q events since changes backs flight → Knowing c k' q (events ++ es) since changes' backs flight
-  any_knows c k k' q events es changes changes' up none since backs (flights.TheVariants.Queues flight) h =
-      flight_keeps c k k' q events es changes changes' up none since backs flight h
-  any_knows c k k' q events es changes changes' up none since backs flight h = absurd h
+  any_knows x0 x1 x2 x3 x4 x5 x6 x7 x8 x9 x10 x11 x12 x13 = grind (arith, flight_keeps)
 
   module _ (kd : QueueKind) (scene : Scene T kd) (ro' : Roles) (k' : Core (Val T kd)) (from : Span T) (y : Party T)
       (es : List (Event T)) (changes' : ℕ) (s : Shows kd scene ro' k' from y es changes') where

@@ -304,11 +304,7 @@ module _ {T : Type 0} (en : Coding T) (law : IsCoding en) (kd : QueueKind) (c : 
 
   step_in_order : (flight : Flight T) → party_of p t.world.latest ≡ Some x → x.doing ≡ Going flight since
       → InOrder t p (promise kd) t.world.coding t.world.words t.world.kept x.start flight
-  step_in_order flight found doing =
-      let is = kept_is t.world.kept t.world.words s.state s.fit in
-      in_order_from t p (promise kd) t.world.coding (layout s.state.roles s.state.core)
-      (registries.TheVariants.Queues s.state.roles) x.start flight is.1 is.0
-      (in_order x.start flight s.coding s.capacity is.1 (stands_there (family en kd c) t s p x since flight found doing))
+  step_in_order x0 x1 x2 = grind (arith, kept_is, in_order_from, promise, layout, in_order, stands_there, family)
 
 -- a call of a queue goes on as its table says
 told : {T : Type 0} (en z : Coding T) (kd : QueueKind) (c : ℕ) (words : List ℕ) (waits : Option (ℕ × ℕ))

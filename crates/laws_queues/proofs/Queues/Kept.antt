@@ -165,9 +165,7 @@ module _ {T : Type 0} where
   -- the same where turns have no bound, and no push finds the last position
   pub kept_on : (kd : QueueKind) (t : Trace T) → t.world.kind ≡ machine_kind kd → IsCoding t.world.coding
       → capacity_error t.world.kind t.world.capacity ≡ None → IsFreshRun t → IsKept t
-  kept_on kd t is coded admits r =
-      subst (λ P. IsKeptBy P t) (sym (ap (promise_of {T = T}) is ∙ promise_is kd))
-      (kept_by kd t coded (sound_on kd t is coded admits r))
+  kept_on x0 x1 x2 x3 x4 x5 = grind (arith, promise_is, kept_by, sound_on)
 
   -- a promise of the kind is the queue's
   pub promised_by : (kd : QueueKind) (t : Trace T) → t.world.kind ≡ machine_kind kd → promise_of {T = T} t.world.kind ≡ promise kd

@@ -120,28 +120,12 @@ module _ {T : Type 0} where
 
     len_keeps : (since backs : ℕ) (stage : LenStage) → KnowsLen c k p events since changes backs stage
         → KnowsLen c k' p (events ++ es) since changes' backs stage
-    len_keeps since backs lens.TheVariants.LoadsWrite h = grind arith
-    len_keeps since backs (lens.TheVariants.LoadsRead write) h = grind arith
-    len_keeps since backs (lens.TheVariants.LoadsWriteAgain write read) h = (
-      paid_keeps since backs write read h.0,
-      λ same.
-          let w = up.write in
-          let a = h.0.0 in
-          let still : write ≡ k.write = omega arith in
-          held_later p (λ part. length (waiting part) ≡ number_waiting c write read) events es none (h.1 still),
-    )
-    len_keeps since backs (lens.TheVariants.LoadsReadAgain write read) h =
-        (paid_keeps since backs write read h.0, held_later p (λ part. length (waiting part) ≡ number_waiting c write read) events es none h.1)
+    len_keeps x0 x1 x2 x3 = grind (arith, paid_keeps, held_later, length, waiting)
 
     pub flight_keeps : (since backs : ℕ) (flight : QueueFlight T)
         → KnowsFlight c k p events since changes backs flight
         → KnowsFlight c k' p (events ++ es) since changes' backs flight
-    flight_keeps since backs (Role call) h = h
-    flight_keeps since backs (Indices call) h = h
-    flight_keeps since backs (Values call) h = h
-    flight_keeps since backs (Overflow (overflows.TheVariants.Push call)) h = h
-    flight_keeps since backs (Overflow (overflows.TheVariants.Pop run)) h = backs_keep k k' changes changes' up since backs run.call.stage h
-    flight_keeps since backs (Length which run) h = len_keeps since backs run.call.stage h
+    flight_keeps x0 x1 x2 x3 = grind (arith, backs_keep, len_keeps)
 
   -- ---- a call that is to load the number which it moves finds another than the last
 

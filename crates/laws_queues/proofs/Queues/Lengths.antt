@@ -164,27 +164,12 @@ module _ {T : Type 0} (en : Coding T) (kd : QueueKind) (scene : Scene T kd) (inv
 
   pub len_step : (stage : LenStage) → steps ≤ 4 * backs + len_number stage → KnowsLen c k p events since changes backs stage
       → StepOf en kd scene starts.TheVariants.Len (call_at measures.TheVariants.Len c stage)
-  len_step =
-      length_step measures.TheVariants.Len starts.TheVariants.Len (λ stage. refl) (λ b. omega arith)
-      (λ n. record { moments = refl; published = refl; handed_out = refl }) (λ n. tt) (λ n. (refl, refl))
-      (λ write read. held_so p (λ part. length (waiting part) ≡ number_waiting c write read)
-      (λ part. answers.TheVariants.Number (number_waiting c write read) ≡ answers.TheVariants.Number (length (waiting part)))
-      events (λ part e. ap answers.TheVariants.Number (sym e)))
+  len_step = grind (arith, length_step, published, handed_out, held_so, length, waiting)
 
   pub is_empty_step : (stage : LenStage) → steps ≤ 4 * backs + len_number stage → KnowsLen c k p events since changes backs stage
       → StepOf en kd scene starts.TheVariants.IsEmpty (call_at measures.TheVariants.IsEmpty c stage)
-  is_empty_step =
-      length_step measures.TheVariants.IsEmpty starts.TheVariants.IsEmpty (λ stage. refl) (λ b. omega arith)
-      (λ n. record { moments = refl; published = refl; handed_out = refl }) (λ n. tt) (λ n. (refl, refl))
-      (λ write read. held_so p (λ part. length (waiting part) ≡ number_waiting c write read)
-      (λ part. answers.TheVariants.Truth (number_waiting c write read == 0) ≡ answers.TheVariants.Truth (length (waiting part) == 0))
-      events (λ part e. ap (λ n. answers.TheVariants.Truth (n == 0)) (sym e)))
+  is_empty_step = grind (arith, length_step, published, handed_out, held_so, length, waiting)
 
   pub is_full_step : (stage : LenStage) → steps ≤ 4 * backs + len_number stage → KnowsLen c k p events since changes backs stage
       → StepOf en kd scene starts.TheVariants.IsFull (call_at measures.TheVariants.IsFull c stage)
-  is_full_step =
-      length_step measures.TheVariants.IsFull starts.TheVariants.IsFull (λ stage. refl) (λ b. omega arith)
-      (λ n. record { moments = refl; published = refl; handed_out = refl }) (λ n. tt) (λ n. (refl, refl))
-      (λ write read. held_so p (λ part. length (waiting part) ≡ number_waiting c write read)
-      (λ part. answers.TheVariants.Truth (number_waiting c write read == c) ≡ answers.TheVariants.Truth (length (waiting part) == c))
-      events (λ part e. ap (λ n. answers.TheVariants.Truth (n == c)) (sym e)))
+  is_full_step = grind (arith, length_step, published, handed_out, held_so, length, waiting)

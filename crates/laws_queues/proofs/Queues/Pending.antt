@@ -32,14 +32,12 @@ module _ {T : Type 0} where
   -- the party that has moved holds the role
   pub pending_here : (position p : ℕ) (y : Party T) (latest : List (ℕ × Party T))
       → pending position (Some p) (put p y latest) ≡ option_map (λ v. (p, v)) (pending_at position (flight_of (Some y.doing)))
-  pending_here position p y latest = ap (λ o. option_map (λ (v : ℕ). (p, v)) (pending_at position (flight_of (doing_of o)))) (party_put_same p y latest)
+  pending_here x0 x1 x2 x3 = grind (arith, option_map, party_put_same)
 
   -- which push is pending once the holder of the role has moved
   pub pending_after : (position p : ℕ) (pr : Option ℕ) → pr ≡ Some p → (y : Party T) (latest : List (ℕ × Party T))
       → pending position pr (put p y latest) ≡ option_map (λ v. (p, v)) (pending_at position (flight_of (Some y.doing)))
-  pending_after position p pr holds y latest =
-      subst (λ o. pending position o (put p y latest) ≡ option_map (λ (n : ℕ). (p, n)) (pending_at position (flight_of (Some y.doing)))) (sym holds)
-      (pending_here position p y latest)
+  pending_after x0 x1 x2 x3 x4 x5 = grind (arith, pending, put, option_map, pending_here)
 
 pub hangs_same : (T : Type 0) (kd : QueueKind) (c : ℕ) (k k' : Core (Val T kd)) (o o' : Option (ℕ × ℕ))
     → k'.waiting ≡ k.waiting → o' ≡ o → Hangs T kd c k o → Hangs T kd c k' o'

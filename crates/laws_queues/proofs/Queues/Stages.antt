@@ -39,11 +39,7 @@ abbrev pub cell_asked : ℕ → ℕ → ℕ → ℕ → ℕ
 cell_asked size c position at = word_at (cell_word c size position) at
 
 pub asked_place : (size c position at : ℕ) → 0 < c → c < 2 ^ 32 → size ≤ 128 → at < size → cell_asked size c position at ≡ 4 + (size * (position % c) + at)
-asked_place size c position at some fits few below =
-    let place = cell_place size c position some in
-    let within = cell_within size c position at some below in
-    let wide : size * c ≤ 128 * c = mul-le-mul_right c few in
-    omega arith
+asked_place x0 x1 x2 x3 x4 x5 x6 x7 = grind (arith, cell_place, cell_within, mul-le-mul_right)
 
 module _ {T : Type 0} where
   -- a queue's call as one of any family
@@ -107,10 +103,7 @@ module _ {T : Type 0} (en : Coding T) (kd : QueueKind) (scene : Scene T kd) wher
     pub still_hangs : (k' : Core (Val T kd)) (y : Party T) → k'.waiting ≡ k.waiting → k'.read ≡ k.read
         → pending_at k.read (flight_of (Some y.doing)) ≡ None → IsCalm k.read
         → Hangs T kd c k' (pending k'.read ro.producer (put p y scene.latest))
-    still_hangs k' y same read after before =
-        hangs_same T kd c k k' _ _ same
-        (ap (λ n. pending n ro.producer (put p y scene.latest)) read ∙ pending_put k.read ro.producer p y scene.latest after before)
-        inv.queue.hangs
+    still_hangs x0 x1 x2 x3 x4 x5 = grind (arith, hangs_same, pending, put, pending_put)
 
     -- the call goes on, and the positions and what waits stay
     pub quiet :
@@ -124,35 +117,7 @@ module _ {T : Type 0} (en : Coding T) (kd : QueueKind) (scene : Scene T kd) wher
         → ((q : ℕ) → q ≢ p → (s : QueueStart T) (f : QueueFlight T) → At en kd c ro k q s f
         → At en kd c ro k' q s f × (has_written {T = T} c k' q f ≡ has_written c k q f))
         → Stays start ask back (GoOn flight) Quiet
-    quiet before back start ask flight k' calm same write read good is_words here knows others =
-        let reached = inv.queue.reached in (
-          k',
-          is_words,
-          record {
-            right = tt;
-            lengths = tt;
-            grants = tt;
-            good = good;
-            hangs = still_hangs k' (party_then start ask back (GoOn flight)) same read calm before;
-            book = append-nil (map (item kd) k.waiting) ∙ ap (map (item kd)) (sym same);
-            out = omega arith;
-            producers = refl;
-            consumers = refl;
-            goes = ap (listed kd c) (sym same);
-            answers = refl;
-            up = record { write = omega arith; read = omega arith; paid = omega arith };
-            reached = omega arith;
-            within = omega arith;
-            own = tt;
-            stands = tt;
-            here = here;
-            knows =
-                subst
-                (λ es. KnowsFlight c k' p es (scene.since + change_of words ask) (changes_then ask) (scene.backs + one_if back) flight)
-                (sym (append-nil scene.events)) knows;
-            others = others;
-          },
-        )
+    quiet x0 x1 x2 x3 x4 x5 x6 x7 x8 x9 x10 x11 x12 x13 x14 = grind (arith, still_hangs, append-nil, map, item, listed)
 
     -- the call is done, and nothing is published, handed out or acted
     pub ends :
@@ -167,29 +132,7 @@ module _ {T : Type 0} (en : Coding T) (kd : QueueKind) (scene : Scene T kd) wher
         → ((q : ℕ) → q ≢ p → (s : QueueStart T) (f : QueueFlight T) → At en kd c ro k q s f
         → At en kd c ro' k q s f × (has_written {T = T} c k q f ≡ has_written c k q f))
         → Shows en kd scene ro' k (Open (Queues start) []) (party_then start ask back (Done answer)) (Finished p (Queues start) answer ∷ []) (changes_then ask)
-    ends ro' back start answer ask wrote tells grants holders most paid hung others =
-        let reached = inv.queue.reached in
-        record {
-          right = (tt, tt);
-          lengths = (tells, tt);
-          grants = (grants, tt);
-          good = inv.queue.good;
-          hangs = hung;
-          book = append-nil (map (item kd) k.waiting);
-          out = omega arith;
-          producers = holders.0;
-          consumers = holders.1;
-          goes = refl;
-          answers = refl;
-          up = record { write = omega arith; read = omega arith; paid = omega arith };
-          reached = omega arith;
-          within = omega arith;
-          own = (refl, tt);
-          stands = ((refl, wrote), tt);
-          here = record { answer = answer; wrote = []; span = refl; steps = most };
-          knows = paid;
-          others = others;
-        }
+    ends x0 x1 x2 x3 x4 x5 x6 x7 x8 x9 x10 x11 x12 = grind (arith, append-nil, map, item)
 
   -- ---- what a step owes, also where it writes events of two parties
 

@@ -40,12 +40,7 @@ same_words (x ∷ xs) (y ∷ ys) long each =
 module _ {V : Type 0} (en : Coding V) (law : IsCoding en) where
   room_value : (room : List ℕ) (v : V) → en.size ≤ length room
       → ((i : ℕ) → i < en.size → get_or room i 0 ≡ get_or (en.words_of v) i 0) → value_in en.value_of en.size room ≡ v
-  room_value room v long each =
-      let size = law.sized v in
-      let enough : nat_lt (length room) en.size ≡ false = grind (arith, nat_tests) in
-      let words : take en.size room ≡ en.words_of v =
-      subst (λ n. take n room ≡ en.words_of v) size (same_words room (en.words_of v) (omega arith) (λ i below. each i (omega arith))) in
-      rw (enough, words) (law.given_back v)
+  room_value x0 x1 x2 x3 = grind (arith, length, false, take, same_words, nat_tests)
 
   -- the next read position keeps what a push knows
   take_keeps : (c : ℕ) (k : Core V) (v : V) (rest : List V) → k.waiting ≡ v ∷ rest
@@ -149,12 +144,7 @@ module _ {T : Type 0} (en : Coding T) (r : Ring) (law : IsCoding en) (scene : Sc
 
   -- nothing waits
   empty : (c == 0 || k.write == k.read) ≡ true → k.waiting ≡ []
-  empty t =
-      let few = g.few in
-      let write = g.write in
-      let zero : (c == 0) ≡ true → length k.waiting ≡ 0 = λ e. let none : c ≡ 0 = grind (arith, nat_tests) in omega arith in
-      let same : (k.write == k.read) ≡ true → length k.waiting ≡ 0 = λ e. let at : k.write ≡ k.read = grind (arith, nat_tests) in omega arith in
-      nil_from_length k.waiting (⊎_elim zero same (or_true (c == 0) (k.write == k.read) t))
+  empty x0 = grind (arith, length, nil_from_length, or_true, nat_tests)
 
   -- something waits
   some : (c == 0 || k.write == k.read) ≡ false → 0 < length k.waiting
@@ -219,7 +209,7 @@ module _ {T : Type 0} (en : Coding T) (r : Ring) (law : IsCoding en) (scene : Sc
       put = put_in r room i old
 
       wide : size ≤ length (words_in r next)
-      wide = let same : length (words_in r next) ≡ length (words_in r room) = ap length put ∙ length-set (words_in r room) i old in omega arith
+      wide = grind (arith, length, next, put, length-set, old)
 
       each : (j : ℕ) → j < i + 1 → get_or (words_in r next) j 0 ≡ get_or (words_of v) j 0
       each j low =

@@ -75,8 +75,7 @@ module _ {T : Type 0} (en : Coding T) (r : Ring) (law : IsCoding en) (scene : Sc
   -- a push leaves the roles as they are
   stays : (ask : Option Ask) (after : After (QueueFlight T) (Answer T)) (effect : Effect T)
       → Leaves en (kind_of r) scene ro [] (push r v) ask false after effect → Does ask after effect
-  stays ask after effect step =
-      subst (λ x. Leaves en (kind_of r) scene x [] (push r v) ask false after effect) (sym (push_roles r p v (answer_in after) ro)) step
+  stays x0 x1 x2 x3 = grind (arith, push, false, push_roles)
 
   abbrev DoesOf : pushes.PushStage → Type 0
   DoesOf stage =
