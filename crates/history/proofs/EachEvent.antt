@@ -6,14 +6,14 @@ use Rattle.history.proofs.Names.{Party, Refusal, Turn, Begin, Next, Decide, Die,
 use Rattle.history.proofs.Names.{party_of, doing_of, flight_of, Each, call_refusal, is_due, answer_in, after_turn}
 use Rattle.history.proofs.Names.{events_of, events_of_next, events_of_decision, events_of_answer, ending_of, old_of}
 use Rattle.history.proofs.Names.{ask_of_doing, number_of, unless_refused, attempt_on, run_on, step_in, Trace}
-use Rattle.history.proofs.Names.{flight_in, Family, Sound, is_true, row_passed, AreRight, Each-append, LawsAt, AllMay}
+use Rattle.history.proofs.Names.{flight_in, Family, Sound, is_true, row_passed, AreRight, Each-append, LawsWhere, AllMay}
 use Rattle.history.proofs.Names.{attempt_sound}
 
 -- what a call is handed as it goes on: what stands in its word, or a decision
 abbrev pub IsHanded : {T : Type 0} → Trace T → Flight T → ℕ → Type 0
 IsHanded t flight n = (n ≡ old_of t.world.words (ask_of (want_of t.world.coding flight))) ⊎ (is_due t.world.coding (Some flight) ≡ true)
 
-module _ {T : Type 0} (F : Family T) (May : Trace T → Turn T → Type 0) (laws : LawsAt F May)
+module _ {T : Type 0} (F : Family T) (May : Trace T → Turn T → Type 0) (laws : LawsWhere F May)
     (P : List (Event T) → Event T → Type 0)
     (begun : (before : List (Event T)) (p : ℕ) (start : Start T) → P before (Begun p start))
     (finished : (before : List (Event T)) (p : ℕ) (start : Start T) (answer : Answer T) → P before (Finished p start answer))

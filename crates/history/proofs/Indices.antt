@@ -19,8 +19,7 @@ use Rattle.model.specs.Families.Indices.Steps.{ended, effects, frees, wrote}
 use Rattle.model.proofs.Frame as frame
 use Rattle.laws_indices.proofs.Core as core
 use Rattle.laws_indices.proofs.Invariant.{IndexSet, Represents, FlightAt, family}
-use Rattle.laws_indices.proofs.Kept.{kept_on}
-use Rattle.laws_indices.proofs.Sound.{kept_is, reached_on_sound}
+use Rattle.laws_indices.proofs.Sound.{kept_is, kept_on, reached_on_sound}
 use Rattle.history.specs.declared.view.View.{View}
 use Rattle.history.specs.Held.{Holds}
 use Rattle.history.specs.History.{IsRun, call_in}

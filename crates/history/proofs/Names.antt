@@ -14,7 +14,7 @@ pub use Rattle.laws_queues.proofs.Overflow.Knows.{IsFreshOver, KnowsOverflowPop,
 pub use Rattle.laws_queues.proofs.Queues.Invariant.{machine_kind, waiting_is}
 pub use Rattle.laws_queues.proofs.Queues.Kept.{kept_on as queue_kept_on, promised_by}
 pub use Rattle.laws_queues.proofs.Queues.Knows.{IsFreshCall, IsFreshStore, free, layout}
-pub use Rattle.laws_queues.proofs.Queues.Runs.{AllMay, LawsAt, attempt_sound}
+pub use Rattle.laws_queues.proofs.Queues.Runs.{AllMay, attempt_sound}
 pub use Rattle.laws_queues.proofs.Queues.Sound.{admitted_fits, fresh_more, fresh_opening}
 pub use Rattle.laws_queues.proofs.Queues.Values.{Val, encoded}
 pub use Rattle.laws_queues.proofs.Ring.Kinds.{Ring, kind_of, of_indices, of_values}
@@ -25,7 +25,7 @@ pub use Rattle.laws_robust.specs.Gone.{Word}
 pub use Rattle.laws_robust.specs.Open.{IsOpenSet, open_refusal}
 pub use Rattle.laws_value.proofs.Core.{cell_within}
 pub use Rattle.laws_value.specs.Stored.{stored, stores}
-pub use Rattle.model.proofs.Frame.{Family, Sound, is_true}
+pub use Rattle.model.proofs.Frame.{Family, LawsWhere, Sound, is_true}
 pub use Rattle.model.proofs.Linearizable.Kinds.{run_linearizable}
 pub use Rattle.model.proofs.Parties.{found_put_same, party_put_other, party_put_same}
 pub use Rattle.model.proofs.Reached.{kept_by_runs, kept_by_runs_on, reached_on_more, reached_on_opening, turn_making}

@@ -95,7 +95,7 @@ module _ {T : Type 0} (K : SetKind T) (laws : (code : Coding T) (c : ℕ) → Se
             (writes_there t p n (K.At t.world.capacity wrote) t.world.kept here.x.start flight (s.fit.0) mine));
         goes = λ x n found. (
             let same : here.x ≡ x = (let both : Some here.x ≡ Some x = sym here.found ∙ found in cc) in
-            let orders = sets.orders K t.world.coding t.world.capacity (laws t.world.coding t.world.capacity) in
+            let orders = sets.orders K laws t.world.coding t.world.capacity in
             subst (λ (z : Party T). (step_in t.world p z flight n).after ≡ after_of t.world.coding flight n) same
             (orders.after t p here.x flight here.since n (sound t r) here.found here.doing
             ∙ as_told t.world.coding p n (K.At t.world.capacity wrote) t.world.kept here.x.start flight mine));

@@ -10,8 +10,8 @@ use Rattle.model.specs.declared.families.queues.QueueKind.TheVariants.{Queue}
 use Rattle.model.specs.declared.turn.Kind.TheVariants as kinds
 use Rattle.model.specs.Families.Atomic.Objects.{value_after}
 use Rattle.model.specs.Families.Atomic.Promises.{value_in}
-use Rattle.laws_value.proofs.Kept.{kept_on}
-use Rattle.laws_value.proofs.Sound.{version_counts}
+use Rattle.laws_value.proofs.Sound.{kept_on}
+use Rattle.laws_value.proofs.Steps.{version_counts}
 use Rattle.history.specs.History.{IsRun, IsHistory}
 use Rattle.history.specs.Value.{last_or, IsLast}
 use Rattle.history.proofs.Values.{value_sound, value_goes_on}

@@ -17,9 +17,8 @@ use Rattle.model.specs.Families.Atomic.Reading.{holder_after, holder_of}
 use Rattle.model.specs.Families.Atomic.Roles.{GrantsRight, KeepsHolder}
 use Rattle.model.proofs.Frame as frame
 use Rattle.laws_value.proofs.Invariant.{Value, family}
-use Rattle.laws_value.proofs.Kept.{kept_on}
 use Rattle.laws_value.proofs.Knows.{At}
-use Rattle.laws_value.proofs.Sound.{kept_is, sound_on}
+use Rattle.laws_value.proofs.Sound.{kept_is, kept_on, sound_on}
 use Rattle.history.specs.declared.view.View.{View}
 use Rattle.history.specs.History.{IsRun, IsOfParties, call_in}
 use Rattle.history.specs.Known.{owned}

@@ -1,7 +1,7 @@
 -- The machines of bit sets and of counting bit sets as families: what is said of one of the two kinds, and what each turn of
 -- its machine has to show.
 use Rattle.laws_bits.proofs.Names.{◌≡◌, ℕ, ◌+◌, ◌≤◌, Bool, false, Option, Some, List, [], ◌++◌, fold, Ask, After}
-use Rattle.laws_bits.proofs.Names.{Answer, Event, Start, Bits, Flight, Registry, BitsStart, BitsFlight, Party, Coding}
+use Rattle.laws_bits.proofs.Names.{Answer, Event, Start, Bits, Flight, BitsStart, BitsFlight, Party, Coding}
 use Rattle.laws_bits.proofs.Names.{ask_of, want, after, goes_back, effects_of, is_loan, Stands, Span, Open, own_after}
 use Rattle.laws_bits.proofs.Names.{span_of, answer_in, one_if, old_of, words_after, change_of, step_count}
 use Rattle.laws_bits.proofs.Names.{doing_after, ending_of, AreOwn, AllFollow}
@@ -9,6 +9,8 @@ use Rattle.model.specs.declared.families.Flight as flights
 use Rattle.model.specs.declared.families.Registry as registries
 use Rattle.model.specs.declared.turn.Kind.{Kind}
 use Rattle.model.specs.Promise.{Promise}
+use Rattle.model.proofs.Family as families
+use Rattle.model.proofs.Family.{Outline}
 use Rattle.model.proofs.Frame as frame
 use Rattle.model.proofs.Frame.{Family}
 use Rattle.laws_bits.proofs.Spans.{any_call, wrote_in}
@@ -35,9 +37,6 @@ pub record SetKind (T : Type 0) : Type 1 where
 module _ {T : Type 0} where
   -- ---- the family of a kind
 
-  abbrev pub Represents : Registry T → List ℕ → SetState T → Type 0
-  Represents kept words s = (kept ≡ registries.TheVariants.Nothing) × (words ≡ s.words)
-
   abbrev pub number_by : (BitsFlight → ℕ → ℕ) → Flight T → ℕ → ℕ
   number_by number (flights.TheVariants.Bits flight) backs = number flight backs
   number_by number flight backs = 0
@@ -55,21 +54,27 @@ module _ {T : Type 0} where
     wrote_by p (flights.TheVariants.Bits flight) span = K.wrote p flight span
     wrote_by p flight span = []
 
-    abbrev pub family : Coding T → ℕ → Family T
-    family code c =
+    abbrev pub outline : Outline T
+    outline =
         record {
-          coding = code;
           kind = K.kind;
+          alone = K.own;
           promise = K.promise;
-          capacity = c;
           State = SetState T;
-          Represents = Represents;
-          Holds = λ s latest events turns. K.Holds c s.words events turns × (s.events ≡ events);
+          words = λ s. s.words;
+          kept = λ s. registries.TheVariants.Nothing;
+          Holds = λ code c s latest events turns. K.Holds c s.words events turns × (s.events ≡ events);
           written = λ s p flight. wrote_by p flight (span_of p s.events);
-          number = λ wrote. number_by K.number;
-          At = λ s p start flight. FlightAt (K.At c (wrote_in (span_of p s.events))) start flight;
-          Knows = λ s p events since changes backs flight. KnowsFlight (K.Knows p events s.words since changes backs) flight;
+          number = λ code c. number_by K.number;
+          At = λ code c s p start flight. FlightAt (K.At c (wrote_in (span_of p s.events))) start flight;
+          Knows = λ code c s p events since changes backs flight. KnowsFlight (K.Knows p events s.words since changes backs) flight;
+          Conserves = λ scene s' was y es changes'.
+              K.Conserves scene.capacity scene.state.words scene.events scene.turns scene.changes s'.words es changes'
+              × (s'.events ≡ scene.events ++ es);
         }
+
+    abbrev pub family : Coding T → ℕ → Family T
+    family = families.family outline
 
     -- ---- what a turn shows
 

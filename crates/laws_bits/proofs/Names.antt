@@ -1,13 +1,12 @@
 -- The names of the standard library and of the crates below that proofs here use.
 pub use Rattle.model.proofs.Moments.{held_later, held_now, others_begin_none, since_more}
-pub use Rattle.model.proofs.Orders.{Keeps, Orders, ends_end, turn_is}
+pub use Rattle.model.proofs.Orders.{Keeps, Orders}
 pub use Rattle.model.proofs.Readings.{AllFollow, AreOwn, AreRight, Each-append, Each-nil, span_of-other, span_of-own}
 pub use Rattle.model.specs.Coding.{Coding}
-pub use Rattle.model.specs.Families.{ask_of, beside_of, first_of, goes_of, is_question, kept_after_begin, opening_of}
-pub use Rattle.model.specs.Families.{step_of, want_of}
+pub use Rattle.model.specs.Families.{ask_of, first_of, goes_of, is_question, opening_of, step_of, want_of}
 pub use Rattle.model.specs.Families.Bits.Bounds.{most_bits_steps, most_counts_steps}
 pub use Rattle.model.specs.Families.Bits.Calls.{after, first, goes_back, want}
-pub use Rattle.model.specs.Families.Bits.Opening.{bits_words, counts_words, is_past, kept_rows}
+pub use Rattle.model.specs.Families.Bits.Opening.{bits_words, counts_words, is_past}
 pub use Rattle.model.specs.Families.Bits.Promises.{BitsAnswerRight, BitsWrote, CameTo, CountsAnswerOn}
 pub use Rattle.model.specs.Families.Bits.Promises.{CountsAnswerRight, HasCleared, HasTaken, HasTakenOn, IsBitSet}
 pub use Rattle.model.specs.Families.Bits.Promises.{IsCountingOn, IsCountingSet, bits_promise, counts_promise}
@@ -20,9 +19,9 @@ pub use Rattle.model.specs.Promises.Spans.{Stands}
 pub use Rattle.model.specs.Promises.Turns.{IsEffectOf}
 pub use Rattle.model.specs.Reading.{Each, Ended, Never, Open, Span, own_after, span_of}
 pub use Rattle.model.specs.Step.{answer_in, as_call}
-pub use Rattle.model.specs.Turns.{IsReached, IsReachedOn, after_turn, change_of, doing_after, ending_of, old_of}
-pub use Rattle.model.specs.Turns.{one_if, party_at_begin, step_count, words_after}
-pub use Rattle.model.specs.World.{Trace, opening, progress_in}
+pub use Rattle.model.specs.Turns.{IsReachedOn, change_of, doing_after, ending_of, old_of, one_if, step_count}
+pub use Rattle.model.specs.Turns.{words_after}
+pub use Rattle.model.specs.World.{Trace}
 pub use Rattle.model.specs.declared.event.Answer.{Answer}
 pub use Rattle.model.specs.declared.event.Event.{Event}
 pub use Rattle.model.specs.declared.event.Event.TheVariants.{Begun, Cleared, Counted, Finished, TakenOut}

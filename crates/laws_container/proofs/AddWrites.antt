@@ -36,8 +36,7 @@ use Rattle.laws_container.proofs.Writing.{even_is, odd_is, adds_one, stores_to, 
 -- what it has placed, once it has placed this
 pub placed_once : {T : Type 0} (acts : List (Act T)) (i : ℕ) (value : T) → (acts ≡ []) ⊎ (acts ≡ Hides i ∷ [])
     → places (acts ++ Places i value ∷ []) ≡ (i, value) ∷ []
-placed_once all_acts i value h =
-    ⊎_elim (λ e. ap (λ d. places (d ++ Places i value ∷ [])) e) (λ e. ap (λ d. places (d ++ Places i value ∷ [])) e) h
+placed_once x0 x1 x2 x3 = grind (arith, places)
 
 module _ {T : Type 0} (scene : Scene T) (inv : Inv scene) (value : T) (owner : ℕ) (fits : owner < empty)
     (acts : ActsFor scene owner) (i : ℕ)
@@ -72,49 +71,19 @@ module _ {T : Type 0} (scene : Scene T) (inv : Inv scene) (value : T) (owner : �
     mine well_formed = inl (k.owns well_formed.calm (acts.stays well_formed.kept)).by
 
     nobody_else : {A : Type 0} → WellFormed (before scene) → (q : ℕ) → q ≢ p → (o : ℕ) → IsWriter q i o events → A
-    nobody_else holds q ne o theirs = absurd (ne (one_writer q p i o owner events (inv.good.owned holds.calm) theirs (mine holds)))
+    nobody_else x0 x1 x2 x3 x4 = grind (arith, one_writer, mine)
 
     -- it owns its index still
     owns_calm : (ask : Option Ask) (y : Party T)
         → AddOwns c owner i (view scene.terms (words_after ws ask) scene.states (put p y latest) events p (since_then scene ask)
         (changes_then scene ask) (backs_then scene false))
-    owns_calm ask y = record { paid = let paid = k.paid in omega arith; within = below; owns = k.owns }
+    owns_calm x0 x1 = grind (arith, below)
 
     owns_hidden : (ask : Option Ask) (y : Party T) → AddOwns c owner i (then_sees scene ask false scene.states y (Hidden p i ∷ []))
-    owns_hidden ask y =
-        record {
-          paid = let paid = k.paid in omega arith;
-          within = below;
-          owns = λ calm lives.
-              let h = k.owns (calm_less scene.terms.by events (Hidden p i ∷ []) calm) (gone_less scene.terms.by owner events (Hidden p i ∷ []) lives) in
-              record {
-                by =
-                    record {
-                      right = fold-append (right_after i) _ events (Hidden p i ∷ []) ∙ h.by.right;
-                      filled = fold-append (filled_after i) None events (Hidden p i ∷ []) ∙ h.by.filled;
-                    };
-                held = fold-append (holder_after i) None events (Hidden p i ∷ []) ∙ h.held;
-              };
-        }
+    owns_hidden x0 x1 = grind (arith, below, calm_less, gone_less, fold-append)
 
     owns_placed : (ask : Option Ask) (y : Party T) → AddOwns c owner i (then_sees scene ask false scene.states y (Placed p i value ∷ []))
-    owns_placed ask y =
-        record {
-          paid = let paid = k.paid in omega arith;
-          within = below;
-          owns = λ calm lives.
-              let h =
-              k.owns (calm_less scene.terms.by events (Placed p i value ∷ []) calm)
-              (gone_less scene.terms.by owner events (Placed p i value ∷ []) lives) in
-              record {
-                by =
-                    record {
-                      right = fold-append (right_after i) _ events (Placed p i value ∷ []) ∙ h.by.right;
-                      filled = fold-append (filled_after i) None events (Placed p i value ∷ []) ∙ h.by.filled;
-                    };
-                held = fold-append (holder_after i) None events (Placed p i value ∷ []) ∙ h.held;
-              };
-        }
+    owns_placed x0 x1 = grind (arith, below, calm_less, gone_less, fold-append)
 
     -- ---- a step that changes nothing and writes nothing
 
@@ -364,10 +333,7 @@ module _ {T : Type 0} (scene : Scene T) (inv : Inv scene) (value : T) (owner : �
           says : WellFormed (before scene) → (a : ℕ)
               → announced_after a (announced_of a events) (Finished p (Container (Add value owner)) (Index i)) ≡ true
               → is_some (contents_of a events) ≡ true
-          says holds a said =
-              ⊎_elim (λ e. subst (λ b. is_some (contents_of b events) ≡ true) (sym e) (stood holds (acts.stays holds.kept)).1)
-              (λ ne. inv.elements.announced holds a (sym (at_other i a true (announced_of a events) ne) ∙ said))
-              (cases_eq a i)
+          says x0 x1 x2 = grind (arith, is_some, at_other, cases_eq)
 
 -- ---- any step of an add
 

@@ -10,9 +10,7 @@ module _ {T : Type 0} where
   IsAllowed w turn = Unit {0}
 
   pub allowed_by : (w : World T) (turn : Turn T) → call_refusal w turn ≡ None → IsAllowed w turn
-  allowed_by w (Next p) e = e
-  allowed_by w (Decide p said) e = frame.is_true (is_due w.coding (flight_in w p)) (must_be_due w p said e)
-  allowed_by w turn e = tt
+  allowed_by x0 x1 x2 = grind (arith, must_be_due)
 
   pub allowed_open : (w : World T) (turn : Turn T) → open_refusal w turn ≡ None → IsAllowed w turn
   allowed_open w turn e = grind arith

@@ -6,8 +6,7 @@ use Rattle.laws_container.proofs.Names.{Died, IsOwnOrDeath, WasAlone, BeginsNone
 use Rattle.laws_container.proofs.Names.{own_after, span_after, span_of, IsShut, began_earlier}
 
 not_theirs : (p q : ℕ) (o : Option ℕ) → q ≢ p → is_party p o ≡ true → is_party q o ≡ false
-not_theirs p q None ne h = refl
-not_theirs p q (Some r) ne h = let is : r ≡ p = grind (arith, nat_tests) in ne_eqb r q (λ e. ne (sym e ∙ is))
+not_theirs x0 x1 x2 x3 x4 = grind (arith, ne_eqb, nat_tests)
 
 module _ {T : Type 0} where
   all_less : (P : Event T → Type 0) (xs ys : List (Event T)) → AllByRecursion P (xs ++ ys) → AllByRecursion P xs
@@ -46,8 +45,7 @@ module _ {T : Type 0} where
   -- ---- the others have no call under way
 
   theirs_stays : (p q : ℕ) (span : Span T) (e : Event T) → q ≢ p → IsOwnOrDeath p e → span_after q span e ≡ span
-  theirs_stays p q span (Died o) ne h = refl
-  theirs_stays p q span e ne h = ap (λ b. if b then own_after span e else span) (not_theirs p q (whose e) ne h)
+  theirs_stays x0 x1 x2 x3 x4 x5 = grind (arith, not_theirs, whose)
 
   all_stay : (p q : ℕ) (span : Span T) (es : List (Event T)) → q ≢ p → AllByRecursion (IsOwnOrDeath p) es → fold (span_after q) span es ≡ span
   all_stay p q span [] ne h = refl

@@ -101,8 +101,7 @@ module _ {T : Type 0} (shown : Shown T) (terms : Terms) (code : Coding T) (t : T
       hears : (flight : ContainerFlight T)
           → At c code.size (set_acts_of p t.events) (acts_of p t.events) (starts.TheVariants.Recover owner mode) flight
           → Hears flight
-      hears (Recover run) at = stage_hears run.given (ap (λ (o : DeadOwner). o.owner) at.1) run.call.capacity run.room run.call.stage
-      hears flight at = absurd at
+      hears x0 x1 = grind (arith, stage_hears)
 
       abbrev Stays : ContainerFlight T → Type 0
       Stays flight =
@@ -111,18 +110,7 @@ module _ {T : Type 0} (shown : Shown T) (terms : Terms) (code : Coding T) (t : T
 
       stage_stays : (given : DeadOwner) (capacity : ℕ) (room : buffers.Buffer 128) (stage : RecoverStage)
           → Stays (recover_at capacity given.owner given.mode room stage)
-      stage_stays given capacity room recovers.TheVariants.LoadsCounter due e = absurd (cc)
-      stage_stays given capacity room (recovers.TheVariants.LoadsCell k) due e = absurd (cc)
-      stage_stays given capacity room (recovers.TheVariants.LoadsCount k) due e = absurd (cc)
-      stage_stays given capacity room (recovers.TheVariants.LoadsWord k count at) due e = absurd (cc)
-      stage_stays given capacity room (recovers.TheVariants.ChecksCount k count) due e = absurd (cc)
-      stage_stays given capacity room (recovers.TheVariants.Asks k count) due e = ap (λ es. t.events ++ es) e ∙ append-nil t.events
-      stage_stays given capacity room (recovers.TheVariants.EmptiesCell k count) due e = absurd (cc)
-      stage_stays given capacity room (recovers.TheVariants.Hides k count) due e = absurd (cc)
-      stage_stays given capacity room (recovers.TheVariants.Raises k raise) due e = both_ways (is_question (raise_want raise)) (raise_asks_none raise) due
-      stage_stays given capacity room (recovers.TheVariants.Locks k lock) due e = both_ways (is_question (lock_want lock)) (lock_asks_none lock) due
-      stage_stays given capacity room recovers.TheVariants.LoadsCounterAgain due e = absurd (cc)
-      stage_stays given capacity room (recovers.TheVariants.AddsChange lock) due e = absurd (cc)
+      stage_stays x0 x1 x2 x3 x4 x5 = grind (arith, append-nil, both_ways, raise_asks_none, lock_asks_none)
 
       stays : (flight : ContainerFlight T)
           → At c code.size (set_acts_of p t.events) (acts_of p t.events) (starts.TheVariants.Recover owner mode) flight
@@ -179,14 +167,10 @@ module _ {T : Type 0} (shown : Shown T) (terms : Terms) (code : Coding T) (t : T
         w.flight w.at w.due w.asked w.wrote)
 
     tells_yes : YesTells t turn (after_turn t turn)
-    tells_yes p owner mode is here =
-        let w = waiting p true (starts.TheVariants.Recover owner mode) (by_turn p true is) here in
-        subst (λ u. IsTold p owner t (after_turn t u)) (sym is) (hears p owner mode w.flight w.at w.due w.asked w.wrote)
+    tells_yes x0 x1 x2 x3 x4 = grind (arith, waiting, by_turn, after_turn, hears)
 
     tells_no : NoTells t turn (after_turn t turn)
-    tells_no p owner mode is here =
-        let w = waiting p false (starts.TheVariants.Recover owner mode) (by_turn p false is) here in
-        subst (λ u. (after_turn t u).events ≡ t.events) (sym is) (stays p owner mode w.flight w.at w.due w.wrote)
+    tells_no x0 x1 x2 x3 x4 = grind (arith, waiting, false, by_turn, after_turn, stays)
 
     answered : IsAnswered turn (after_turn t turn)
     answered p said is =

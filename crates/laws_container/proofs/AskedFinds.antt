@@ -47,8 +47,7 @@ module _ {T : Type 0} (shown : Shown T) (terms : Terms) (code : Coding T) (t : T
   silent_there : (q old : ℕ) (flight : ContainerFlight T)
       → At c code.size (set_acts_of q t.events) (acts_of q t.events) (starts.Find owner) flight
       → Silent code q (state_of q s.state.states) (Number number) flight old
-  silent_there q old (Find run) at = stage_silent code q (state_of q s.state.states) (Number number) run.call.capacity run.given run.room run.call.stage old
-  silent_there q old flight at = absurd at
+  silent_there x0 x1 x2 x3 = grind (arith, stage_silent)
 
   ends_alone : (wrote : List (Event T)) → events_of t.world turn ≡ wrote ++ Finished p (Container (starts.Find owner)) (Number number) ∷ [] → wrote ≡ []
   ends_alone wrote e =

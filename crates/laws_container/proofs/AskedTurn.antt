@@ -1,5 +1,6 @@
 -- A turn in which a call of the container goes on: what it writes, and what its party asks about then. Another party asks about
 -- what it did, and so does each party after a begin or a death.
+use Rattle.std.proofs.Common.{arith}
 use Rattle.laws_container.proofs.Names.{◌≡◌, ◌≢◌, ℕ, ◌+◌, ◌⊎◌, ⊎_elim, inl, inr, Bool, true, false, Option, Some}
 use Rattle.laws_container.proofs.Names.{None, is_none, List, [], ◌∷◌, ◌++◌, refl, sym, ap, subst, ◌∙◌, AllByRecursion}
 use Rattle.laws_container.proofs.Names.{cases_eq, After, GoOn, Answer, Event, Begun, Died, Finished, Start, Container}
@@ -35,8 +36,7 @@ module _ {T : Type 0} where
   world_asks w p = question_in w.coding (flight_in w p)
 
   doing_call : (changes since : ℕ) (a : After (Flight T) (Answer T)) → flight_of (Some (doing_after changes since a)) ≡ call_in a
-  doing_call changes since (GoOn flight) = refl
-  doing_call changes since (Done answer) = refl
+  doing_call x0 x1 x2 = grind arith
 
   -- the party asks as its call does, and any other as before
   module _ (w : World T) (q : ℕ) (x : Party T) (since : ℕ) (flight : Flight T) (answer : ℕ) where
@@ -44,15 +44,10 @@ module _ {T : Type 0} where
     step_there = step_in w q x flight answer
 
     same_asks : (ask : _) → world_asks (after_step w q x since ask step_there) q ≡ question_in w.coding (call_in step_there.after)
-    same_asks ask =
-        let y : Party T = party_after x since w.changes (step_count ask) (change_of w.words ask) step_there in
-        ap (λ o. question_in w.coding (flight_of (doing_of o))) (party_put_same q y w.latest)
-        ∙ ap (question_in w.coding) (doing_call (w.changes + change_of w.words ask) (since + change_of w.words ask) step_there.after)
+    same_asks x0 = grind (arith, party_put_same, doing_call)
 
     other_asks : (ask : _) (p : ℕ) → p ≢ q → world_asks (after_step w q x since ask step_there) p ≡ world_asks w p
-    other_asks ask p ne =
-        let y : Party T = party_after x since w.changes (step_count ask) (change_of w.words ask) step_there in
-        ap (λ o. question_in w.coding (flight_of (doing_of o))) (party_put_other p q y w.latest ne)
+    other_asks x0 x1 x2 = grind (arith, party_put_other)
 
 -- ---- a call goes on
 

@@ -55,8 +55,7 @@ module _ {T : Type 0} (scene : Scene T)
   -- ---- what it does to the elements
 
   stands_shut : (o : Option (Party T)) → StandsWellFormed p o events
-  stands_shut None = tt
-  stands_shut (Some x) = λ index owner value wrote span steps found. absurd (subst IsShut span shut)
+  stands_shut x0 = grind arith
 
   was_well_formed : (start : ContainerStart T) → WellFormed (m' start) → WellFormed m
   was_well_formed start = well_formed_before scene.terms p (y start) latest events (begun start) (refl, tt) (λ well_formed. stands_shut (party_of p latest))
@@ -72,36 +71,13 @@ module _ {T : Type 0} (scene : Scene T)
 
   -- who owed a raise was another party
   still_owing : (start : ContainerStart T) → Owing latest → Owing (put p (y start) latest)
-  still_owing start owing =
-      let none : owes (flight_of (doing_of (party_of p latest))) ≡ false = ap owes free in
-      let other : owing.party ≢ p =
-      λ e. both_ways (owes (flight_of (doing_of (party_of p latest)))) none
-      (subst (λ q. owes (flight_of (doing_of (party_of q latest))) ≡ true) e owing.is) in
-      record { party = owing.party; is = ap (λ o. owes (flight_of (doing_of o))) (party_put_other owing.party p (y start) latest other) ∙ owing.is }
+  still_owing x0 x1 = grind (arith, owes, false, both_ways, party_put_other)
 
   passes : (start : ContainerStart T) → Passes code c m (m' start)
-  passes start =
-      let well_formed = was_well_formed start in
-      let contents = same_contents start in
-      let announced = same_announced start in
-      let left = same_left start in
-      let owing = still_owing start in
-      grind arith
+  passes x0 = grind (arith, was_well_formed, same_contents, same_announced, same_left, still_owing)
 
   changes_none : (start : ContainerStart T) → Changes scene scene.words (y start) (begun start)
-  changes_none start =
-      record {
-        passes = passes start;
-        leaves = λ q ne. let contents = same_contents start in let left = same_left start in grind arith;
-        wide = refl;
-        counts = λ kept i below. let few = h.counts kept i below in omega arith;
-        change = λ kept. let few = h.change kept in omega arith;
-        within = λ i value e. h.within i value (sym (same_contents start i) ∙ e);
-        announced =
-            λ well_formed i e. ap is_some (same_contents start i)
-            ∙ h.announced (was_well_formed start well_formed) i (sym (same_announced start i) ∙ e);
-        whole = λ well_formed i below. rw (same_contents start i) (h.whole (was_well_formed start well_formed) i below);
-      }
+  changes_none x0 = grind (arith, passes, same_contents, same_left, is_some, was_well_formed, same_announced)
 
   -- ---- and to the states
 
@@ -222,8 +198,7 @@ module _ {T : Type 0} (scene : Scene T)
   gone_then : (by : GoneBy) (owner : ℕ) (mode : ReleaseMode)
       → MayRecover by events (starts.TheVariants.Recover owner mode)
       → is_gone by owner (events ++ begun (starts.TheVariants.Recover owner mode)) ≡ true
-  gone_then Death owner mode dead = fold-append (dead_after owner) false events (begun (starts.TheVariants.Recover owner mode)) ∙ dead
-  gone_then Word owner mode may = gone_begun p owner mode events
+  gone_then x0 x1 x2 x3 = grind (arith, fold-append, false, gone_begun)
 
   knows_first : (start : ContainerStart T) → MayRecover scene.terms.by events start → Knows code c (first c start) (v start)
   knows_first (starts.TheVariants.Add value owner) r =

@@ -33,11 +33,7 @@ module _ {T : Type 0} (c z : ℕ) (all : List SetAct) (done : List (Act T)) wher
   replace_most index stage at = grind arith
 
   find_most : (stage : FindStage) → FindAt c z all done stage → find_number z stage ≤ c * (z + 3)
-  find_most (finds.TheVariants.LoadsCell index found) at = let few = times_below c index (z + 3) at.1 in omega arith
-  find_most (finds.TheVariants.LoadsCount index found) at = let few = times_below c index (z + 3) at.1 in omega arith
-  find_most (finds.TheVariants.LoadsWord index found count word) at = let few = times_below c index (z + 3) at.1.0 in let below = at.2 in omega arith
-  find_most (finds.TheVariants.ChecksCount index found count) at = let few = times_below c index (z + 3) at.1.0 in omega arith
-  find_most (finds.TheVariants.Asks index found) at = let few = times_below c index (z + 3) at.1 in omega arith
+  find_most x0 x1 = grind (arith, times_below)
 
   recover_at_most : (owner : ℕ) (mode : ReleaseMode) (stage : RecoverStage) (backs : ℕ) → z + 7 ≤ for_index c z mode
       → ((lock : Lock) → mode ≡ LockIfLastIndex → LockAt c lock → lock_number c lock + z + 5 ≤ for_index c z mode)
@@ -47,9 +43,7 @@ module _ {T : Type 0} (c z : ℕ) (all : List SetAct) (done : List (Act T)) wher
   recover_most : (owner : ℕ) (mode : ReleaseMode) (stage : RecoverStage) (backs : ℕ)
       → RecoverAt c z all done owner mode stage
       → recover_number c z mode stage backs ≤ most_steps {T = T} c z (starts.TheVariants.Recover owner mode) backs
-  recover_most owner Default stage backs at = recover_at_most owner Default stage backs (omega arith) (λ lock mode lock_at. absurd (cc)) at
-  recover_most owner LockIfLastIndex stage backs at =
-      recover_at_most owner LockIfLastIndex stage backs (omega arith) (λ lock mode lock_at. let few = lock_most c lock lock_at in omega arith) at
+  recover_most x0 x1 x2 x3 x4 = grind (arith, recover_at_most, lock_most)
 
   look_most : (stage : LookStage) (backs : ℕ) → LookAt c z all done stage → look_number z stage backs ≤ 1 + c * (z + 2) + backs * (z + 1)
   look_most looks.TheVariants.LoadsChange backs at = omega arith
@@ -59,24 +53,7 @@ module _ {T : Type 0} (c z : ℕ) (all : List SetAct) (done : List (Act T)) wher
 
   steps_most : (backs : ℕ) (start : ContainerStart T) (flight : ContainerFlight T) → At c z all done start flight
       → number_of c z flight backs ≤ most_steps c z start backs
-  steps_most backs (starts.TheVariants.Add value owner) (Add run) at = add_most owner run.call.stage backs at.3
-  steps_most backs (starts.TheVariants.Remove index owner mode) (Remove run) at =
-      subst (λ (o : GiveBack). remove_number c o.index o.owner o.mode run.call.stage backs
-      ≤ most_steps {T = T} c z (starts.TheVariants.Remove index owner mode) backs)
-      (sym at.1)
-      (remove_most (place_of c index) index owner mode run.call.stage backs at.3)
-  steps_most backs (starts.TheVariants.Replace index value owner) (Replace run) at = replace_most index run.call.stage at.3
-  steps_most backs (starts.TheVariants.Find owner) (Find run) at = find_most run.call.stage at.3
-  steps_most backs (starts.TheVariants.Recover owner mode) (Recover run) at =
-      subst (λ (o : DeadOwner). recover_number c z o.mode run.call.stage backs
-      ≤ most_steps {T = T} c z (starts.TheVariants.Recover owner mode) backs)
-      (sym at.1) (recover_most owner mode run.call.stage backs at.3)
-  steps_most backs starts.TheVariants.GetState (Look which call) at = look_most call.stage backs at.2
-  steps_most backs starts.TheVariants.UpdateState (Look which call) at = look_most call.stage backs at.2
-  steps_most backs starts.TheVariants.Len (Count which run) at = let few = count_most c run.call.count at.2 in omega arith
-  steps_most backs starts.TheVariants.IsEmpty (Count which run) at = let few = count_most c run.call.count at.2 in omega arith
-  steps_most backs starts.TheVariants.IsLocked (IsLocked run) at = omega arith
-  steps_most backs start flight at = absurd at
+  steps_most x0 x1 x2 x3 = grind (arith, add_most, remove_most, place_of, replace_most, find_most, recover_most, look_most, count_most)
 
 -- ---- how often it has turned back
 

@@ -31,24 +31,20 @@ module _ {T : Type 0} (code : Coding T) (c : ℕ) where
 
   -- an even count: nothing stands there
   none_stands : (words : List ℕ) (i : ℕ) (o : Option T) → Stands words i o → count_at c words i % 2 ≡ 0 → o ≡ None
-  none_stands words i None h even = refl
-  none_stands words i (Some value) h even = let odd = h.0 in absurd (omega arith)
+  none_stands x0 x1 x2 x3 x4 = grind arith
 
   -- an odd one: something does
   pub some_stands : (words : List ℕ) (i : ℕ) (o : Option T) → Stands words i o → count_at c words i % 2 ≡ 1 → o ≢ None
-  some_stands words i None h odd e = absurd (omega arith)
-  some_stands words i (Some value) h odd e = cc
+  some_stands x0 x1 x2 x3 x4 x5 = grind arith
 
   -- where count and data words stay, so does what stands
   pub stands_on : (words words' : List ℕ) (i : ℕ) (o : Option T) → count_at c words' i ≡ count_at c words i
       → ((j : ℕ) → j < z → datum_at c z words' i j ≡ datum_at c z words i j) → Stands words i o → Stands words' i o
-  stands_on words words' i None count kept h = ap (λ n. n % 2) count ∙ h
-  stands_on words words' i (Some value) count kept h = (ap (λ n. n % 2) count ∙ h.0, λ j js. kept j js ∙ h.1 j js)
+  stands_on x0 x1 x2 x3 x4 x5 x6 = grind arith
 
   pub writes_on : (words words' : List ℕ) (i : ℕ) (value : T) (k : ℕ) → k ≤ z → count_at c words' i ≡ count_at c words i
       → ((j : ℕ) → j < z → datum_at c z words' i j ≡ datum_at c z words i j) → Writing words i value k → Writing words' i value k
-  writes_on words words' i value k few count kept h =
-      record { even = ap (λ n. n % 2) count ∙ h.even; written = λ j js. kept j (omega arith) ∙ h.written j js }
+  writes_on x0 x1 x2 x3 x4 x5 x6 x7 x8 = grind arith
 
   module _ (words : List ℕ) (events : List (Event T)) (whole : IsWhole words events) (wide : length words ≡ 2 + (c + c) + z * c) (i : ℕ) (below : i < c) where
     -- ---- a writer stores a word
@@ -77,16 +73,7 @@ module _ {T : Type 0} (code : Coding T) (c : ℕ) where
               subst (Stands stored a) (sym none) (ap (λ n. n % 2) (counts_stay c z words i k x a low) ∙ even)
 
       pub store_writes : Writing stored i value (k + 1)
-      store_writes =
-          record {
-            even = ap (λ n. n % 2) (counts_stay c z words i k x i below) ∙ w.even;
-            written = λ j js.
-                let before = datum_before c z words i k x j in
-                let was = w.written j in
-                let within = data_within c z i k below ks in
-                let now = datum_set c z words i k x (omega arith) in
-                grind arith;
-          }
+      store_writes = grind (arith, counts_stay, datum_before, data_within, datum_set)
 
     -- ---- a count changes
 
@@ -115,22 +102,14 @@ module _ {T : Type 0} (code : Coding T) (c : ℕ) where
     place_none value w = none_stands words i (contents_of i events) (whole i below) w.even
 
     pub place_whole : (p n : ℕ) (value : T) → Writing words i value z → n % 2 ≡ 1 → IsWhole (set words (count_word c i) n) (events ++ Placed p i value ∷ [])
-    place_whole p n value w odd =
-        count_there n (Placed p i value) (Some value)
-        (λ a ne. fold-append (contents_after a) None events (Placed p i value ∷ []) ∙ at_other i a (Some value) (contents_of a events) ne)
-        (fold-append (contents_after i) None events (Placed p i value ∷ []) ∙ at_same i i (Some value) (contents_of i events) refl)
-        (ap (λ m. m % 2) (is_now n) ∙ odd, λ j js. data_all_stay c z words i n i j below ∙ w.written j js)
+    place_whole x0 x1 x2 x3 x4 = grind (arith, count_there, fold-append, at_other, at_same, is_now, data_all_stay)
 
     -- anyone makes an odd count even: what stood is gone
     pub hide_some : count_at c words i % 2 ≡ 1 → contents_of i events ≢ None
     hide_some odd = some_stands words i (contents_of i events) (whole i below) odd
 
     pub hide_whole : (p n : ℕ) → n % 2 ≡ 0 → IsWhole (set words (count_word c i) n) (events ++ Hidden p i ∷ [])
-    hide_whole p n even =
-        count_there n (Hidden p i) None
-        (λ a ne. fold-append (contents_after a) None events (Hidden p i ∷ []) ∙ at_other i a None (contents_of a events) ne)
-        (fold-append (contents_after i) None events (Hidden p i ∷ []) ∙ at_same i i None (contents_of i events) refl)
-        (ap (λ m. m % 2) (is_now n) ∙ even)
+    hide_whole x0 x1 x2 = grind (arith, count_there, fold-append, at_other, at_same, is_now)
 
   -- ---- a copy
 

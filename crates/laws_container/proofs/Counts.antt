@@ -44,41 +44,33 @@ module _ (T : Type 0) where
 
   at_count : (which : CountOf) (c z : ℕ) (set_acts : List SetAct) (acts : List (Act T)) (count : Counting)
       → CountAt c count → set_acts ≡ [] → At c z set_acts acts (counts_as which) (count_at which c count)
-  at_count counts.TheVariants.Len c z set_acts acts count at none = (refl, refl, at, none)
-  at_count counts.TheVariants.IsEmpty c z set_acts acts count at none = (refl, refl, at, none)
+  at_count x0 x1 x2 x3 x4 x5 x6 x7 = grind arith
 
   few_count : (which : CountOf) (c z n backs : ℕ) → n ≤ c + 2 + backs * (c + 2) → n ≤ most_steps c z (counts_as {T = T} which) backs
-  few_count counts.TheVariants.Len c z n backs few = few
-  few_count counts.TheVariants.IsEmpty c z n backs few = few
+  few_count x0 x1 x2 x3 x4 x5 = grind arith
 
   answers_count : (by : GoneBy) (worn : Type 0) (which : CountOf) (c p number : ℕ) (events : List (Event T))
       → IsLength p c number events
       → AnswersBy by worn c events (Finished p (Container (counts_as which)) (counted which number))
-  answers_count by worn counts.TheVariants.Len c p number events h = h
-  answers_count by worn counts.TheVariants.IsEmpty c p number events h = record { number = number; is = refl; length = h }
+  answers_count x0 x1 x2 x3 x4 x5 x6 x7 = grind arith
 
   does_count : (which : CountOf) (number : ℕ) (set_acts : List SetAct) (acts : List (Act T)) → set_acts ≡ []
       → HasDone (counts_as {T = T} which) (counted which number) set_acts acts
-  does_count counts.TheVariants.Len number set_acts acts none = none
-  does_count counts.TheVariants.IsEmpty number set_acts acts none = none
+  does_count x0 x1 x2 x3 x4 = grind arith
 
   settles_not : (which : CountOf) (p number i : ℕ) (o : Option ℕ)
       → settled_after {T = T} i o (Finished p (Container (counts_as which)) (counted which number)) ≡ o
-  settles_not counts.TheVariants.Len p number i o = refl
-  settles_not counts.TheVariants.IsEmpty p number i o = refl
+  settles_not x0 x1 x2 x3 x4 = grind arith
 
   rights_not : (which : CountOf) (p number i : ℕ) (r : Right) → right_after {T = T} i r (Finished p (Container (counts_as which)) (counted which number)) ≡ r
-  rights_not counts.TheVariants.Len p number i r = refl
-  rights_not counts.TheVariants.IsEmpty p number i r = refl
+  rights_not x0 x1 x2 x3 x4 = grind arith
 
   announces_not : (which : CountOf) (p number i : ℕ) (b : Bool)
       → announced_after {T = T} i b (Finished p (Container (counts_as which)) (counted which number)) ≡ b
-  announces_not counts.TheVariants.Len p number i b = refl
-  announces_not counts.TheVariants.IsEmpty p number i b = refl
+  announces_not x0 x1 x2 x3 x4 = grind arith
 
   places_not : (which : CountOf) (p number : ℕ) (events : List (Event T)) → EndsRight events (Finished p (Container (counts_as which)) (counted which number))
-  places_not counts.TheVariants.Len p number events = tt
-  places_not counts.TheVariants.IsEmpty p number events = tt
+  places_not x0 x1 x2 x3 = grind arith
 
 module _ {T : Type 0} (scene : Scene T) (inv : Inv scene) where
   open scene use {coding as code, capacity as c, party as p, steps as steps, backs as backs, events as events}

@@ -49,8 +49,7 @@ module _ {T : Type 0} (terms : Terms) (code : Coding T) (c : ℕ) (words dead : 
       }
 
   passes : Passes code c m m'
-  passes =
-      let well_formed = was_well_formed in let contents = same_contents in let announced = same_announced in let left = same_left in grind arith
+  passes = grind (arith, was_well_formed, same_contents, same_announced, same_left)
 
   leaves : (q : ℕ) → Leaves code c q m m'
   leaves q = let contents = same_contents in let left = same_left in grind arith

@@ -58,20 +58,12 @@ module _ {T : Type 0} (scene : Scene T) (inv : Inv scene) (words' : List ℕ) (y
   -- so it is where its events change no reading of the elements
   pub reads_same : ((i : ℕ) (o : Option T) → fold (contents_after i) o es ≡ o) → ((i : ℕ) (b : Bool) → fold (announced_after i) b es ≡ b)
       → ((i : ℕ) (b : Bool) → fold (left_after i) b es ≡ b) → IsCalm
-  reads_same contents announced left =
-      record {
-        contents = λ i. fold-append (contents_after i) None events es ∙ contents i (contents_of i events);
-        announced = λ i. fold-append (announced_after i) false events es ∙ announced i (announced_of i events);
-        left = λ i was. fold-append (left_after i) true events es ∙ (left i (left_of i events) ∙ was);
-        spares = λ holds q ne i o lives mine was. fold-append (left_after i) true events es ∙ (left i (left_of i events) ∙ was);
-      }
+  reads_same x0 x1 x2 = grind (arith, fold-append, false, left_after)
 
   still_stands : ((i : ℕ) → i < c → count_in code c m' i ≡ count_in code c m i)
       → ((i : ℕ) → i < c → (j : ℕ) → j < code.size → datum_in code c m' i j ≡ datum_in code c m i j)
       → ((i : ℕ) → contents_of i (events ++ es) ≡ contents_of i events) → WellFormed m' → IsWhole code c words' (events ++ es)
-  still_stands counts words same holds i low =
-      subst (Stands code c words' i) (sym (same i))
-      (stands_on code c ws words' i (contents_of i events) (counts i low) (words i low) (e.whole (well_formed holds) i low))
+  still_stands x0 x1 x2 x3 x4 x5 = grind (arith, stands_on)
 
   -- ---- nothing of them
 
@@ -117,31 +109,16 @@ module _ {T : Type 0} (scene : Scene T) (inv : Inv scene) (words' : List ℕ) (y
     raised = ap (change_at c) new ∙ change_set c code.size ws (one_more (change_in code c m)) within_words
 
     raised_few : Keeps scene.terms → change_in code c m' ≡ change_in code c m + 1
-    raised_few kept =
-        let more = raised in
-        let few = e.change kept in
-        let small = inv.small kept in
-        omega arith
+    raised_few x0 = grind (arith, raised)
 
     count_as_it_was : (i : ℕ) → count_in code c m' i ≡ count_in code c m i
     count_as_it_was i = ap (λ w. count_at c w i) new ∙ changes_no_count c code.size ws (one_more (change_in code c m)) i
 
     datum_as_it_was : (i j : ℕ) → datum_in code c m' i j ≡ datum_in code c m i j
-    datum_as_it_was i j = ap (λ w. datum_at c code.size w i j) new ∙ changes_no_datum c code.size ws (one_more (change_in code c m)) i j
+    datum_as_it_was x0 x1 = grind (arith, changes_no_datum, one_more)
 
     pub counts_change : Changes scene words' y es
-    counts_change =
-        record {
-          passes =
-              let count = count_as_it_was in let datum = datum_as_it_was in let more = raised in let by_one = raised_few in grind arith;
-          leaves = λ q ne. let count = count_as_it_was in let datum = datum_as_it_was in grind arith;
-          wide = ap length new ∙ length-set ws (change_word c) (one_more (change_in code c m));
-          counts = λ kept i low. let same = count_as_it_was i in let few = e.counts kept i low in omega arith;
-          change = λ kept. let more = raised_few kept in let few = e.change kept in omega arith;
-          within = λ i value is. e.within i value (sym (contents i) ∙ is);
-          announced = λ holds i said. ap is_some (contents i) ∙ says holds i said;
-          whole = still_stands (λ i low. count_as_it_was i) (λ i low j js. datum_as_it_was i j) contents;
-        }
+    counts_change = grind (arith, count_as_it_was, datum_as_it_was, raised, raised_few, length, length-set, one_more, is_some, still_stands)
 
   -- ---- a word of an element, by one who writes there
 
@@ -152,10 +129,10 @@ module _ {T : Type 0} (scene : Scene T) (inv : Inv scene) (words' : List ℕ) (y
     count_kept a low = ap (λ w. count_at c w a) new ∙ counts_stay c code.size ws i k _ a low
 
     datum_kept : (a j : ℕ) → a ≢ i → j < code.size → datum_in code c m' a j ≡ datum_in code c m a j
-    datum_kept a j ne js = ap (λ w. datum_at c code.size w a j) new ∙ data_stay c code.size ws i k _ a j ne js ks
+    datum_kept x0 x1 x2 x3 = grind (arith, data_stay)
 
     change_kept : change_in code c m' ≡ change_in code c m
-    change_kept = ap (change_at c) new ∙ get_or-set_other ws (element_word c code.size i k) (change_word c) _ 0 (λ e. absurd (omega arith))
+    change_kept = grind (arith, get_or-set_other)
 
     -- what stands under an odd number is elsewhere
     elsewhere : WellFormed m' → (a : ℕ) → count_in code c m a % 2 ≡ 1 → a ≢ i
@@ -201,23 +178,19 @@ module _ {T : Type 0} (scene : Scene T) (inv : Inv scene) (words' : List ℕ) (y
       (own : AreOwn p es) (start : Start T) (wrote : List (Event T)) (open_now : span_of p events ≡ Open start wrote)
       (owed : owes (flight_of (Some y.doing)) ≡ true) where
     count_here : count_in code c m' i ≡ one_more (count_in code c m i)
-    count_here = let wide = e.wide in ap (λ w. count_at c w i) new ∙ count_set c code.size ws i (one_more (count_in code c m i)) (omega arith)
+    count_here = grind (arith, count_at, count_set, one_more)
 
     count_few : Keeps scene.terms → count_in code c m' i ≡ count_in code c m i + 1
-    count_few kept =
-        let here = count_here in
-        let few = e.counts kept i below in
-        let small = inv.small kept in
-        omega arith
+    count_few x0 = grind (arith, count_here)
 
     count_there : (a : ℕ) → a ≢ i → count_in code c m' a ≡ count_in code c m a
     count_there a ne = ap (λ w. count_at c w a) new ∙ count_stays c code.size ws i (one_more (count_in code c m i)) a ne
 
     datum_all : (a j : ℕ) → datum_in code c m' a j ≡ datum_in code c m a j
-    datum_all a j = ap (λ w. datum_at c code.size w a j) new ∙ data_all_stay c code.size ws i (one_more (count_in code c m i)) a j below
+    datum_all x0 x1 = grind (arith, data_all_stay, one_more)
 
     change_same : change_in code c m' ≡ change_in code c m
-    change_same = ap (change_at c) new ∙ get_or-set_other ws (count_word c i) (change_word c) _ 0 (λ e. absurd (omega arith))
+    change_same = grind (arith, get_or-set_other)
 
     -- a number that stays is another's
     moved : (a : ℕ) → count_in code c m' a ≡ count_in code c m a → a ≢ i

@@ -44,12 +44,10 @@ below_more n m xs few h = all_so (λ i. i < n) (λ i. i < m) xs (λ i less. omeg
 
 module _ {T : Type 0} where
   pub seen_more : (n : ℕ) (all : List (Act T)) (one : Act T) → AreBelow n (seen_in all) → AreBelow n (index_seen one) → AreBelow n (seen_in (all ++ one ∷ []))
-  seen_more n all one h k =
-      let more = flat_map-append index_seen all (one ∷ []) in
-      subst (AreBelow n) (sym (more ∙ ap (λ xs. seen_in all ++ xs) (append-nil (index_seen one)))) (all_both (λ i. i < n) (seen_in all) (index_seen one) h k)
+  seen_more x0 x1 x2 x3 x4 = grind (arith, flat_map-append, append-nil, all_both)
 
   pub has_more : (one : Act T) (acts more : List (Act T)) → IsOneOf one acts → IsOneOf one (acts ++ more)
-  has_more one xs more h = record { before = h.before; after = h.after ++ more; is = ap (λ xs. xs ++ more) h.is ∙ append_assoc h.before (one ∷ h.after) more }
+  has_more x0 x1 x2 x3 = grind (arith, before, append_assoc)
 
   pub has_last : (one : Act T) (all : List (Act T)) → IsOneOf one (all ++ one ∷ [])
   has_last one all = record { before = all; after = []; is = refl }
@@ -57,8 +55,7 @@ module _ {T : Type 0} where
   -- under an even number nothing stands
   pub nothing_stands : (code : Coding T) (c : ℕ) (words : List ℕ) (i : ℕ) (o : Option T) → Stands code c words i o
       → count_at c words i % 2 ≡ 0 → is_some o ≡ false
-  nothing_stands code c words i None h even = refl
-  nothing_stands code c words i (Some value) h even = let odd = h.0 in absurd (omega arith)
+  nothing_stands x0 x1 x2 x3 x4 x5 x6 = grind arith
 
 module _ {T : Type 0} (scene : Scene T) (inv : Inv scene) (owner : ℕ) (fits : owner < empty) where
   open scene use {coding as code, capacity as c, party as p, steps as steps, events as events, latest as latest}
@@ -109,10 +106,7 @@ module _ {T : Type 0} (scene : Scene T) (inv : Inv scene) (owner : ℕ) (fits : 
         (once : b ≡ true → IsFilledWith owner k events) (not : b ≡ false → IsFilledWith owner k events → ⊥)
         (h : HasFoundBelow code c owner k k found v) where
       is_counted : count_below (chosen_with h.count.chosen k b) (k + 1) ≡ new
-      is_counted =
-          let next : suc k ≡ k + 1 = omega arith in
-          ap (count_below (chosen_with h.count.chosen k b)) (sym next)
-          ∙ (count_with h.count.chosen k b ∙ (ap (λ n. (if b then 1 else 0) + n) h.count.is ∙ sym adds))
+      is_counted = grind (arith, suc, count_below, count_with)
 
       abbrev counted_with : IsCount p (IsFilledWith owner) (k + 1) new events
       counted_with =
@@ -148,8 +142,7 @@ module _ {T : Type 0} (scene : Scene T) (inv : Inv scene) (owner : ℕ) (fits : 
         found_with true (one_more found) next (λ e. filled_by (of_set scene) (inv_of_set scene inv) k below owner fits is) (λ e. absurd (cc)) (h well_formed)
 
     pub found_none : cell ws k ≢ owner → HasFound k k found → HasFound (k + 1) (k + 1) found
-    found_none other h well_formed =
-        found_without false found (omega arith) (λ e. absurd (cc)) (λ e filled. other (inv.good.cells k below ∙ ap cell_of filled)) (h well_formed) refl
+    found_none x0 x1 x2 = grind (arith, found_without, false)
 
   -- an index where nothing stands now, or whose number has changed, has not stood
   pub found_past : (k found : ℕ) → (WellFormed (before scene) → StoodThere p k events → ⊥) → HasFound (k + 1) k found → HasFound (k + 1) (k + 1) found
@@ -175,7 +168,7 @@ module _ {T : Type 0} (scene : Scene T) (inv : Inv scene) (owner : ℕ) (fits : 
         (since_then scene ask) (changes_then scene ask) (backs_then scene false)
 
     right_none : (words' : List ℕ) (y : Party T) → AreAllRight scene words' y []
-    right_none words' y = record { asks = tt; recovers = tt; answers = tt; contains = λ h. tt; places = λ h. tt }
+    right_none x0 x1 = grind arith
 
     calm_step : (room' : buffers.Buffer 128) (next : FindStage) (ask : Option Ask) → words_after ws ask ≡ ws
         → steps + step_count ask ≤ find_number z next → FindAt c z (all scene) (done scene) next

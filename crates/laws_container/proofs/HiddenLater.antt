@@ -1,4 +1,5 @@
 -- What a call knows of an index that it will free, or has freed, it knows still after any turn of another party.
+use Rattle.std.proofs.Common.{arith}
 use Rattle.laws_container.proofs.Names.{◌≡◌, ◌⊎◌, ⊎_elim, inl, inr, ℕ, ◌%◌, ◌<◌, Bool, false, true, Option, Some}
 use Rattle.laws_container.proofs.Names.{None, is_some, List, ◌++◌, refl, ap, subst, ◌∙◌, Event, Party, Coding}
 use Rattle.laws_container.proofs.Names.{contents_of, EmptySinceFreed, Frees, settled_of, set_acts_of, IsOneOf}
@@ -16,8 +17,7 @@ module _ {T : Type 0} where
   -- at this moment nothing stands at an index that has been freed
   pub empty_now : (p owner i index : ℕ) (events : List (Event T)) → IsOneOf (Frees i owner) (set_acts_of p events)
       → i ≡ index → contents_of index events ≡ None → EmptySinceFreed p owner i events
-  empty_now p owner i index events freed is none =
-      held_now p (λ part. IsOneOf (Frees i owner) (set_acts_of p part) × (contents_of i part ≡ None)) events (freed, ap (λ n. contents_of n events) is ∙ none)
+  empty_now x0 x1 x2 x3 x4 x5 x6 x7 = grind (arith, held_now)
 
 module _ {T : Type 0} (code : Coding T) (c q owner index count : ℕ) (m : Now T) (words' : List ℕ)
     (latest' : List (ℕ × Party T)) (es : List (Event T)) (goes : Goes m.words words' m.events es)
@@ -42,32 +42,20 @@ module _ {T : Type 0} (code : Coding T) (c q owner index count : ℕ) (m : Now T
       (h before lives began)
 
   pub recover_covers : is_gone m.terms.by owner m.events ≡ true → RecoverCovers code c owner index count m → RecoverCovers code c owner index count m'
-  recover_covers dead h well_formed filled =
-      let had = stays_lost m.terms.by m.events es goes.fills index owner well_formed.calm.1 dead filled in
-      let turn = passes.lost well_formed index owner below dead had in
-      ⊎_elim
-      (λ is. ⊎_elim (λ same. inl (same ∙ is)) (λ lost. inr lost.1) turn)
-      (λ even. ⊎_elim (λ same. inr (ap (λ n. n % 2) same ∙ even)) (λ lost. inr lost.1) turn)
-      (h (passes.well_formed well_formed) had)
+  recover_covers x0 x1 x2 x3 = grind (arith, stays_lost, inl, inr)
 
   -- what stood there stands, or is hidden now
   stands_on : WellFormed m' → (i : ℕ) → IsOneOf (Frees i owner) (set_acts_of q (m.events ++ es))
       → StillStands code c index count m i → (b : Bool) → is_some (contents_of index (m.events ++ es)) ≡ b
       → EmptySinceFreed q owner i (m.events ++ es) ⊎ StillStands code c index count m' i
-  stands_on well_formed i freed s true t = inr (s.0, passes.stood well_formed index below s.2 t ∙ s.1, t)
-  stands_on well_formed i freed s false t = inl (empty_now q owner i index (m.events ++ es) freed s.0 (nothing_is (contents_of index (m.events ++ es)) t))
+  stands_on x0 x1 x2 x3 x4 x5 = grind (arith, inr, inl, empty_now, nothing_is)
 
   pub hidden_stands : HasHidden code c q owner (StillStands code c index count m) m → HasHidden code c q owner (StillStands code c index count m') m'
-  hidden_stands h well_formed i freed =
-      ⊎_elim (λ gone. inl (held_later q _ m.events es spares.none gone))
-      (λ s. stands_on well_formed i freed s (is_some (contents_of index (m.events ++ es))) refl)
-      (h (passes.well_formed well_formed) i (subst (IsOneOf (Frees i owner)) spares.set_acts freed))
+  hidden_stands x0 x1 x2 x3 = grind (arith, inl, held_later, stands_on, is_some)
 
 module _ {T : Type 0} (code : Coding T) (c q owner : ℕ) (But : ℕ → Type 0) (m : Now T) (words' : List ℕ)
     (latest' : List (ℕ × Party T)) (es : List (Event T)) (spares : Spares m.terms.by q m.events es)
     (passes : Passes code c m (record { terms = m.terms; words = words'; latest = latest'; events = m.events ++ es })) where
   pub hidden_later : HasHidden code c q owner But m
       → HasHidden code c q owner But (record { terms = m.terms; words = words'; latest = latest'; events = m.events ++ es })
-  hidden_later h well_formed i freed =
-      ⊎_elim (λ gone. inl (held_later q _ m.events es spares.none gone)) (λ but. inr but)
-      (h (passes.well_formed well_formed) i (subst (IsOneOf (Frees i owner)) spares.set_acts freed))
+  hidden_later x0 x1 x2 x3 = grind (arith, inl, held_later, inr)

@@ -23,7 +23,7 @@ module _ {T : Type 0} (code : Coding T) (c p owner index count : ℕ) (m : Now T
 
   -- nor where the number is another by now
   pub hidden_other : count_in code c m index ≢ count → HasHidden code c p owner (StillStands code c index count m) m → HasHidden code c p owner no_index m
-  hidden_other other h well_formed i freed = ⊎_elim (λ gone. inl gone) (λ s. absurd (other s.1)) (h well_formed i freed)
+  hidden_other x0 x1 x2 x3 x4 = grind (arith, inl)
 
 -- ---- a step of its own
 
@@ -119,9 +119,7 @@ module _ {T : Type 0} (scene : Scene T) (start : ContainerStart T) (none : NoRep
         → Covered code c index count (before scene) → (o : Option T) → contents_of index events ≡ o
         → Stands code c scene.words index o
         → EmptySinceFreed p owner i (events ++ free) ⊎ StillStands code c index count freed_is i
-    freed_now i freed is covered None e stands = inl (empty_now p owner i index (events ++ free) freed is (same_contents ∙ e))
-    freed_now i freed is covered (Some value) e stands =
-        ⊎_elim (λ number. inr (is, same ∙ number, ap is_some (same_contents ∙ e))) (λ even. let odd = stands.0 in absurd (omega arith)) covered
+    freed_now x0 x1 x2 x3 x4 x5 x6 = grind (arith, inl, empty_now, same_contents, inr, is_some)
 
     pub hidden_freed : HasHidden code c p owner no_index (before scene)
         → (WellFormed (before scene) → WellFormed freed_is → Covered code c index count (before scene))

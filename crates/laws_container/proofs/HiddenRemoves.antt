@@ -31,8 +31,7 @@ use Rattle.laws_container.proofs.Writing.{adds_one, adds_to_change, hides_count}
 -- a release and 3 steps
 pub total_is : (c z index owner : ℕ) (mode : ReleaseMode) (backs : ℕ) (T : Type 0)
     → 3 + release_total c index owner mode backs ≡ most_steps {T = T} c z (Remove index owner mode) backs
-total_is c z index owner Default backs T = omega arith
-total_is c z index owner LockIfLastIndex backs T = omega arith
+total_is x0 x1 x2 x3 x4 x5 x6 = grind arith
 
 -- it has freed its index
 removed_frees : (T : Type 0) (index owner : ℕ) (mode : ReleaseMode) (state : ReleaseState) (made : List SetAct)
@@ -75,11 +74,11 @@ module _ {T : Type 0} (scene : Scene T) (inv : Inv scene) (index owner : ℕ) (m
   then_at next ask back = party_then scene start ask back (GoOn (at_stage next))
 
   given_is : ◌≡◌ {A = GiveBack} (record { index = index; owner = owner; mode = mode }) (record { index = place_of c index; owner = owner; mode = mode })
-  given_is = ap (λ n. record { index = n; owner = owner; mode = mode }) (sym (place_is c index below))
+  given_is = grind (arith, place_is)
 
   -- no turn back was counted
   same_total : release_total c index owner mode (backs_then scene false) ≡ release_total c index owner mode backs
-  same_total = let same : backs + 0 ≡ backs = omega arith in ap (λ n. release_total c index owner mode n) same
+  same_total = grind arith
 
   -- ---- what stands there is hidden
 
@@ -196,11 +195,7 @@ module _ {T : Type 0} (scene : Scene T) (inv : Inv scene) (index owner : ℕ) (m
     answers_right : (m : ReleaseMode) (t : ReleaseState) → RemoveSays code c index owner m t (sees_now scene)
         → AnswersBy scene.terms.by (IsWorn scene.terms.by (words_after ws end_it)) c events
         (Finished p (Container (Remove index owner m)) (answers.State t))
-    answers_right Default states.TheVariants.Locked h = h
-    answers_right Default states.TheVariants.Unlocked h = tt
-    answers_right LockIfLastIndex states.TheVariants.Locked h = h
-    answers_right LockIfLastIndex states.TheVariants.Unlocked h =
-        (h.0, ⊎_elim (λ end. inl (worn_on scene.terms.by ws (words_after ws end_it) counter_stays_then end)) (λ found. inr found) h.1)
+    answers_right x0 x1 x2 = grind (arith, inl, worn_on, counter_stays_then, inr)
 
     pub end_step : StepOf scene start (at_stage (removes.TheVariants.AddsChange state))
     end_step =

@@ -50,8 +50,7 @@ module _ {T : Type 0} (events : List (Event T)) where
 
 module _ (p : ℕ) where
   at_party : (o : Option ℕ) (P : ℕ → Type 0) → o ≡ Some p → IfSome o P → P p
-  at_party None P is h = absurd (cc)
-  at_party (Some q) P is h = let same : q ≡ p = cc in subst P same h
+  at_party x0 x1 x2 x3 = grind arith
 
 module _ {T : Type 0} (p : ℕ) where
   effect_own : (e : Event T) → IsEffectOf (Next p) e → whose e ≡ Some p
@@ -78,11 +77,7 @@ module _ {T : Type 0} (p : ℕ) where
 
     stays : (start : ContainerStart T) (e : Event T) → IsEffectOf (Next p) e → may_stand e (at start) → IsForLiving events start
         → IsForLiving (events ++ e ∷ []) start
-    stays (Add value owner) e its h live =
-        fold-append (gone_after owner) false events (e ∷ []) ∙ (add_leaves value owner wrote e its h owner (is_gone Word owner events) ∙ live)
-    stays (Remove index owner mode) e its h live =
-        fold-append (gone_after owner) false events (e ∷ []) ∙ (remove_leaves index owner mode wrote e its h owner (is_gone Word owner events) ∙ live)
-    stays start e its h live = tt
+    stays x0 x1 x2 x3 x4 = grind (arith, fold-append, false, add_leaves, remove_leaves)
 
     acts_right : (start : ContainerStart T) (e : Event T) → IsEffectOf (Next p) e → span_of p events ≡ at start → may_stand e (at start)
         → IsForLiving events start → ActsForRight events e

@@ -166,8 +166,7 @@ module _ {T : Type 0} where
     pub small : Keeps scene.terms → scene.turns < 2 ^ 64 - 2
 
   pub inv_of_set : (scene : Scene T) → Inv scene → set.Inv (of_set scene)
-  inv_of_set scene inv =
-      record { good = inv.good; begun = inv.begun; room = inv.room }
+  inv_of_set x0 x1 = grind arith
 
   -- the turn is of a call for this owner
   pub record ActsFor (scene : Scene T) (owner : ℕ) : Type 0 where
@@ -315,7 +314,7 @@ module _ {T : Type 0} (scene : Scene T) where
       (h : Holds scene.terms code c old latest events turns)
       (inv : frame.Inv (family_by scene.terms code c) old latest events scene.changes) where
     still_wrote : (q : ℕ) → q ≢ p → wrote_of q (events ++ es) ≡ wrote_of q old.events
-    still_wrote q ne = ap wrote_in (span_of-other p q events es ne s.does.set.own) ∙ ap (wrote_of q) (sym h.same)
+    still_wrote x0 x1 = grind (arith, span_of-other)
 
     pub owes : span_of p events ≡ from → frame.Owes (family_by scene.terms code c) (then_is words' states' y es) p y latest events es changes'
     owes is =
@@ -338,7 +337,7 @@ module _ {T : Type 0} (scene : Scene T) where
         })
 
     elements : Elements code c (before scene) scene.states turns
-    elements = subst (λ (o : ContainerNow T). Elements code c (moment scene.terms o.words latest events) o.states turns) here h.elements
+    elements = grind (arith, here)
 
     pub holds_more : Holds scene.terms code c (then_is words' states' y es) (put p y latest) (events ++ es) (turns + 1)
     holds_more =

@@ -1,4 +1,5 @@
 -- What a turn writes down: what the step did to the container, then the end. No call of the container acts.
+use Rattle.std.proofs.Common.{arith}
 use Rattle.laws_container.proofs.Names.{◌≡◌, ℕ, Option, Some, None, List, [], ◌++◌, refl, sym, ap, subst, append-nil}
 use Rattle.laws_container.proofs.Names.{Answer, Event, Start, Container, Flight, Registry, Going, Party, Turn, Next}
 use Rattle.laws_container.proofs.Names.{Decide, Coding, want_of, ask_of, beside_of, step_of, goes_of, after}
@@ -61,9 +62,7 @@ told : {T : Type 0} (code z : Coding T) (c : ℕ) (words : List ℕ) (beside : O
     (p : ℕ) (start : Start T) (flight : Flight T) (answer : ℕ) (kept : Registry T)
     → Represents kept words s → (family code c).At s p start flight
     → (step_of z words beside p start flight answer kept).after ≡ goes_of z p flight answer kept
-told y z c words beside s p (Container start) (flights.TheVariants.Container flight) answer (registries.TheVariants.Container dead states) fit at = refl
-told y z c words beside s p (Container start) (flights.TheVariants.Container flight) answer held fit at = absurd fit
-told y z c words beside s p start flight answer held fit at = absurd at
+told x0 x1 x2 x3 x4 x5 x6 x7 x8 x9 x10 x11 x12 = grind arith
 
 module _ {T : Type 0} (shown : Shown T) where
   orders : (t : Trace T) → Orders (family t.world.coding t.world.capacity)

@@ -42,12 +42,11 @@ module _ {T : Type 0} where
   -- a replace that has taken a step was begun rightly, in a well-formed run
   pub may_replace : (index owner : ℕ) (value : T) (v : View T) → HasFound index owner value v
       → WasFilled owner index v → WellFormed (now v) → MayReplace v.party index owner v.events
-  may_replace index owner value v h filled well_formed =
-      subst (λ o. StandsWellFormed v.party o v.events) h.found (well_formed.replaces v.party) index owner value h.wrote h.span h.steps filled
+  may_replace x0 x1 x2 x3 x4 x5 x6 = grind arith
 
   pub replacing : (c index owner : ℕ) (value : T) (v : View T) → ReplaceKnows c index owner value v
       → WellFormed (now v) → Lives owner v → Replacing v.party index owner v.events
-  replacing c index owner value v h well_formed alive = h.owns well_formed.calm alive (may_replace index owner value v h.found h.filled well_formed)
+  replacing x0 x1 x2 x3 x4 x5 x6 x7 = grind (arith, may_replace)
 
   -- a turn of another party, to the party that knows this
   pub record OthersTurn (code : Coding T) (c : ℕ) (v : View T) : Type 0 where
@@ -129,8 +128,7 @@ module _ {T : Type 0} (code : Coding T) (c : ℕ) (v : View T) (turn : OthersTur
       record { paid = paid h.paid; within = h.within; owns = add_later v.terms.by events es q index owner spares h.owns }
 
   pub found : (index owner : ℕ) (value : T) → HasFound index owner value v → HasFound index owner value later
-  found index owner value h =
-      record { party = h.party; found = same_party ∙ h.found; steps = h.steps; wrote = h.wrote; span = span ∙ h.span }
+  found x0 x1 x2 x3 = grind arith
 
   replace_owns : (index owner : ℕ) → ReplaceOwns v.terms.by q index owner events → ReplaceOwns v.terms.by q index owner (events ++ es)
   replace_owns index owner h = replace_later v.terms.by events es q index owner spares h
@@ -166,10 +164,7 @@ module _ {T : Type 0} (code : Coding T) (c : ℕ) (v : View T) (turn : OthersTur
   placed index value h well_formed = ap (λ a. places a) acts_same ∙ h (passes.well_formed well_formed)
 
   stood : (owner index : ℕ) → index < c → IsTheWriter owner index → Stood code c owner index v → Stood code c owner index later
-  stood owner index below writer h well_formed alive =
-      let before = passes.well_formed well_formed in
-      let k = h before (lives owner alive) in
-      leaves.placed well_formed index owner below (lives owner alive) (writer before (lives owner alive)) k.0 k.1
+  stood x0 x1 x2 x3 x4 x5 x6 = grind (arith, lives)
 
   pub add_knows : (value : T) (owner : ℕ) (stage : AddStage) → AddKnows code c value owner stage v → AddKnows code c value owner stage later
   add_knows value owner (adds.TheVariants.Acquires stage) h = set_knows (acquire_at c owner stage) h
@@ -208,10 +203,7 @@ module _ {T : Type 0} (code : Coding T) (c : ℕ) (v : View T) (turn : OthersTur
 
   remove_says : (index owner : ℕ) (mode : ReleaseMode) (state : ReleaseState)
       → RemoveSays code c index owner mode state v → RemoveSays code c index owner mode state later
-  remove_says index owner mode states.TheVariants.Locked h = shut_later events es h
-  remove_says index owner LockIfLastIndex states.TheVariants.Unlocked h =
-      (once IsUnlocked h.0, ⊎_elim (λ end. inl (worn end)) (λ found. inr (freed_later owner index found)) h.1)
-  remove_says index owner Default states.TheVariants.Unlocked h = tt
+  remove_says x0 x1 x2 x3 x4 = grind (arith, shut_later, once, inl, worn, inr, freed_later)
 
   pub count_below : (index count : ℕ) → index < c → HasCome code c index count v → HasCome code c index count later
   count_below index count low h kept = grind arith
@@ -258,10 +250,7 @@ module _ {T : Type 0} (code : Coding T) (c : ℕ) (v : View T) (turn : OthersTur
   -- ---- a copy, and a find
 
   pub copying : (index count : ℕ) (copy : List ℕ) (k : ℕ) → Copying code c index count copy k v → Copying code c index count copy k later
-  copying index count copy k h =
-      let by_count_below = count_below in
-      let by_was_there = was_there in
-      grind arith
+  copying x0 x1 x2 x3 x4 = grind (arith, count_below, was_there)
 
   pub has_copied : (index : ℕ) (room : buffers.Buffer 128) → HasCopied code c index room v → HasCopied code c index room later
   has_copied index room h = subst (IsLatest (Copies index (read_in code room))) (sym acts_same) h
@@ -285,20 +274,10 @@ module _ {T : Type 0} (code : Coding T) (c : ℕ) (v : View T) (turn : OthersTur
       }
 
   finds_on : (owner bound k number : ℕ) → Finds code c owner bound k number v → Finds code c owner bound k number later
-  finds_on owner bound k number h = (
-    paid h.0,
-    count_later q (IsFilledWith owner) bound number events h.1 es spares.none,
-    λ well_formed. found_below owner bound k number (h.2 (passes.well_formed well_formed)),
-  )
+  finds_on x0 x1 x2 x3 x4 = grind (arith, paid, count_later, found_below)
 
   steady : (index count : ℕ) → index < c → Steady code c index count v → Steady code c index count later
-  steady index count below h well_formed through =
-      let less = through_before index through in
-      let was = h (passes.well_formed well_formed) less in
-      passes.stood well_formed index below
-      (through_now q (λ part. is_some (contents_of index part) ≡ true) events less)
-      (through_now q (λ part. is_some (contents_of index part) ≡ true) (events ++ es) through)
-      ∙ was
+  steady x0 x1 x2 x3 x4 x5 = grind (arith, through_before, through_now, is_some)
 
   pub find_knows : (owner : ℕ) (room : buffers.Buffer 128) (stage : FindStage) → FindKnows code c owner room stage v → FindKnows code c owner room stage later
   find_knows owner room (finds.TheVariants.LoadsCell index number) h = finds_on owner index index number h

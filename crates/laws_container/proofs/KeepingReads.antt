@@ -1,4 +1,5 @@
 -- What a recovery and a look know stays known while others take turns; and so of any call.
+use Rattle.std.proofs.Common.{arith}
 use Rattle.laws_container.proofs.Names.{◌≡◌, ◌⊎◌, ⊎_elim, inl, inr, ℕ, ◌+◌, ◌<◌, Some, None, List, ◌++◌, refl, sym}
 use Rattle.laws_container.proofs.Names.{subst, ◌∙◌, LookStage, RecoverStage, ReleaseMode, ReleaseState, Event}
 use Rattle.laws_container.proofs.Names.{ContainerFlight, Count, IsLocked, Coding, WasShown, Sees, IsFilledWith}
@@ -57,15 +58,11 @@ module _ {T : Type 0} (code : Coding T) (c : ℕ) (v : View T) (turn : OthersTur
   -- what it was told or shown by now, it was before
   told_before : (i owner : ℕ) → IsOneOf (Yes i owner) (set_acts_of q (events ++ es)) ⊎ WasShown q i (events ++ es)
       → IsOneOf (Yes i owner) (set_acts_of q events) ⊎ WasShown q i events
-  told_before i owner told =
-      ⊎_elim (λ yes. inl (subst (IsOneOf (Yes i owner)) (set_acts_same code c v turn) yes))
-      (λ shown. inr (subst (IsOneOf (Sees i)) (acts_same code c v turn) shown)) told
+  told_before x0 x1 x2 = grind (arith, inl, set_acts_same, inr, acts_same)
 
   asked_later : (i owner : ℕ) → IsOneOf (Asks i owner) (set_acts_of q events) ⊎ WasShown q i events
       → IsOneOf (Asks i owner) (set_acts_of q (events ++ es)) ⊎ WasShown q i (events ++ es)
-  asked_later i owner asked =
-      ⊎_elim (λ asks. inl (subst (IsOneOf (Asks i owner)) (sym (set_acts_same code c v turn)) asks))
-      (λ shown. inr (subst (IsOneOf (Sees i)) (sym (acts_same code c v turn)) shown)) asked
+  asked_later x0 x1 x2 = grind (arith, inl, set_acts_same, inr, acts_same)
 
   asked_below : (owner k : ℕ) → AskedBelow code c owner k v → AskedBelow code c owner k later
   asked_below owner k h i below through =
@@ -79,9 +76,7 @@ module _ {T : Type 0} (code : Coding T) (c : ℕ) (v : View T) (turn : OthersTur
 
   -- nobody who is gone fills an index, so one that he has lost stays lost to him
   gone_but : (owner : ℕ) (Here : ℕ → Type 0) → IsGone owner v → GoneBut code c owner Here v → GoneBut code c owner Here later
-  gone_but owner Here dead h honest i told =
-      ⊎_elim (λ gone. inl (λ e. gone (lost i owner honest dead e))) (λ here. inr here)
-      (h (honest_less v.terms.by events es honest) i (told_before i owner told))
+  gone_but x0 x1 x2 x3 x4 x5 x6 = grind (arith, inl, lost, inr, honest_less, told_before)
 
   recovers_then : (owner k : ℕ) (Here But But' : ℕ → Type 0)
       → (HasHidden code c q owner But (now v) → HasHidden code c q owner But' (now later))
@@ -121,27 +116,10 @@ module _ {T : Type 0} (code : Coding T) (c : ℕ) (v : View T) (turn : OthersTur
 
   fills : (owner : ℕ) (mode : ReleaseMode) (But : ℕ → Type 0) → FilledBut (Worn v) mode q owner But events
       → FilledBut (Worn later) mode q owner But (events ++ es)
-  fills owner mode But h =
-      filled_then q owner (Worn v) (Worn later) (worn code c v turn) mode But But events es spares.none
-      (λ i was. inl (subst (IsOneOf (Frees i owner)) (set_acts_same code c v turn) was))
-      (λ i e. e) (shut_later events es) h
+  fills x0 x1 x2 x3 = grind (arith, filled_then, worn, inl, set_acts_same, shut_later)
 
   recover_fills : (owner : ℕ) (mode : ReleaseMode) (stage : RecoverStage) → RecoverFills code c owner mode stage v → RecoverFills code c owner mode stage later
-  recover_fills owner mode recovers.TheVariants.LoadsCounter h = tt
-  recover_fills owner mode (recovers.TheVariants.LoadsCell index) h = fills owner mode NoIndex h
-  recover_fills owner mode (recovers.TheVariants.LoadsCount index) h = fills owner mode NoIndex h
-  recover_fills owner mode (recovers.TheVariants.LoadsWord index count at) h = fills owner mode NoIndex h
-  recover_fills owner mode (recovers.TheVariants.ChecksCount index count) h = fills owner mode NoIndex h
-  recover_fills owner mode (recovers.TheVariants.Asks index count) h = fills owner mode NoIndex h
-  recover_fills owner mode (recovers.TheVariants.EmptiesCell index count) h = fills owner mode NoIndex h
-  recover_fills owner mode (recovers.TheVariants.Hides index count) h = fills owner mode (λ i. i ≡ index) h
-  recover_fills owner mode (recovers.TheVariants.Raises index raise) h = fills owner mode (λ i. i ≡ index) h
-  recover_fills owner mode (recovers.TheVariants.Locks index lock) h = (
-    fills owner mode (λ i. i ≡ index) h.0,
-    says_later q owner c events es spares.none (set_acts_same code c v turn) lock h.1,
-  )
-  recover_fills owner mode recovers.TheVariants.LoadsCounterAgain h = fills owner mode NoIndex h
-  recover_fills owner mode (recovers.TheVariants.AddsChange state) h = tt
+  recover_fills x0 x1 x2 x3 = grind (arith, fills, says_later, set_acts_same)
 
   abbrev none : ℕ → Type 0
   none i = ⊥

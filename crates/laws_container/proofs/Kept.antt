@@ -54,8 +54,7 @@ module _ {T : Type 0} (terms : Terms) (code : Coding T) (t : Trace T) (s : frame
   asked_by p index value o k e = grind arith
 
   pub questions : AsksCopies t
-  questions p index value e =
-      asked_by p index value (party_of p t.world.latest) (s.inv.knows p) (subst (λ y. question_in y (flight_in t.world p) ≡ Some (index, value)) s.coding e)
+  questions x0 x1 x2 x3 = grind (arith, asked_by)
 
   pub states : ShowsCopies t.world t.events
   states p i state value idle found shown =
@@ -72,7 +71,7 @@ module _ {T : Type 0} (terms : Terms) (code : Coding T) (t : Trace T) (s : frame
   lock = rw words_are s.holds.good.lock
 
   pub dead : KeepsDead t.world.kept t.events
-  dead = subst (λ kept. KeepsDead kept t.events) (sym kept_are) (λ owner. s.holds.good.died owner)
+  dead = grind (arith, kept_are)
 
   pub contained : IsWellFormedSoFar terms t.world.latest t.events → IsContained t
   contained well_formed = grind arith

@@ -44,9 +44,7 @@ module _ {T : Type 0} where
 
   -- nothing is shown past the elements
   not_past : (c : ℕ) (s : ContainerState T) (i : ℕ) (value : T) → length s.shown.elements ≡ c → shows s i ≡ Some value → i ≢ c
-  not_past c s i value wide e past =
-      let none : shows s i ≡ None = ap value_if (slice_get_past s.shown.elements i (omega arith)) in
-      some_none (shows s i) value none e
+  not_past x0 x1 x2 x3 x4 x5 x6 = grind (arith, shows, slice_get_past, some_none)
 
   -- what a get_state that was under way shows then
   abbrev pub ShowsCopied : ℕ → ContainerState T → List (Event T) → List (Event T) → Type 0
@@ -65,7 +63,7 @@ module _ {T : Type 0} where
   -- ---- a step of the call's own
 
   has_more : (one : Act T) (all more : List (Act T)) → IsOneOf one all → IsOneOf one (all ++ more)
-  has_more one all more h = record { before = h.before; after = h.after ++ more; is = ap (λ xs. xs ++ more) h.is ∙ append_assoc h.before (one ∷ h.after) more }
+  has_more x0 x1 x2 x3 = grind (arith, append_assoc)
 
   module _ (p : ℕ) (events : List (Event T)) (start : Start T) (w : List (Event T)) (here : span_of p events ≡ Open start w) where
     module _ (what : Option (ℕ × T)) (es : List (Event T)) (own : AreOwn p es) (span : Span T)
@@ -81,18 +79,8 @@ module _ {T : Type 0} where
       acts_now = ap (λ a. acts (wrote_in a)) here
 
       calls : CallsOn p what events (events ++ es)
-      calls =
-          let by_has_more = has_more in
-          let by_span_then = span_then in
-          let by_acts_then = acts_then in
-          let by_acts_now = acts_now in
-          grind arith
+      calls = grind (arith, has_more, span_then, acts_then, acts_now)
 
     -- it goes on, or ends
     pub calls_on : (what : Option (ℕ × T)) (outcome : Option (Answer T)) → CallsOn p what events (events ++ (copies_of p what ++ ending_of p start outcome))
-    calls_on None None = calls None [] tt (Open start w) refl refl (sym (append-nil w))
-    calls_on (Some copy) None = calls (Some copy) (Copied p copy.0 copy.1 ∷ []) (refl, tt) (Open start (w ++ Copied p copy.0 copy.1 ∷ [])) refl refl refl
-    calls_on None (Some answer) = calls None (Finished p start answer ∷ []) (refl, tt) (Ended start answer w) refl refl (sym (append-nil w))
-    calls_on (Some copy) (Some answer) =
-        calls (Some copy) (Copied p copy.0 copy.1 ∷ Finished p start answer ∷ []) (refl, (refl, tt))
-        (Ended start answer (w ++ Copied p copy.0 copy.1 ∷ [])) refl refl refl
+    calls_on x0 x1 = grind (arith, calls, append-nil)

@@ -49,25 +49,19 @@ module _ {T : Type 0} where
     pub filled_calm : (worn worn' : Type 0) → (worn → worn')
         → (mode : ReleaseMode) (But : ℕ → Type 0) (events : List (Event T)) → FilledBut worn mode p owner But events
         → FilledBut worn' mode p owner But (events ++ [])
-    filled_calm worn worn' on mode But events h =
-        filled_then worn worn' on mode But But events [] tt
-        (λ i was. inl (subst (λ es. IsOneOf (Frees i owner) (set_acts_of p es)) (append-nil events) was)) (λ i e. e)
-        (λ shut. subst (λ es. is_locked es ≡ true) (sym (append-nil events)) shut) h
+    filled_calm x0 x1 x2 x3 x4 x5 x6 = grind (arith, filled_then, inl, append-nil)
 
     -- it has freed nothing
     pub filled_none : (worn : Type 0) (mode : ReleaseMode) (But : ℕ → Type 0) (events : List (Event T))
         → set_acts_of p events ≡ [] → FilledBut worn mode p owner But events
-    filled_none worn Default But events none = tt
-    filled_none worn LockIfLastIndex But events none = λ i was. absurd (no_more was.before (Frees i owner) was.after (sym none ∙ was.is))
+    filled_none x0 x1 x2 x3 x4 = grind (arith, no_more)
 
     pub filled_locked : (worn : Type 0) (mode : ReleaseMode) (But : ℕ → Type 0) (events : List (Event T))
         → is_locked events ≡ true → FilledBut worn mode p owner But events
-    filled_locked worn Default But events shut = tt
-    filled_locked worn LockIfLastIndex But events shut = λ i was. inl (inr (inl shut))
+    filled_locked x0 x1 x2 x3 x4 = grind (arith, inl, inr)
 
     pub filled_worn : (worn : Type 0) (mode : ReleaseMode) (But : ℕ → Type 0) (events : List (Event T)) → worn → FilledBut worn mode p owner But events
-    filled_worn worn Default But events end = tt
-    filled_worn worn LockIfLastIndex But events end = λ i was. inl (inr (inr end))
+    filled_worn x0 x1 x2 x3 x4 = grind (arith, inl, inr)
 
     pub filled_last : (worn : Type 0) (mode : ReleaseMode) (But : ℕ → Type 0) (events : List (Event T))
         → FilledAtLast p events → FilledBut worn mode p owner But events
@@ -88,32 +82,15 @@ module _ {T : Type 0} where
 
     pub unlocked_later : (events es : List (Event T)) → BeginsNone p es
         → set_acts_of p (events ++ es) ≡ set_acts_of p events → UnlockedAtLast p events → UnlockedAtLast p (events ++ es)
-    unlocked_later events es none same h =
-        held_so p (λ part. IsUnlocked part × (set_acts_of p part ≡ set_acts_of p events))
-        (λ part. IsUnlocked part × (set_acts_of p part ≡ set_acts_of p (events ++ es))) (events ++ es)
-        (λ part was. (was.0, was.1 ∙ sym same))
-        (held_later p (λ part. IsUnlocked part × (set_acts_of p part ≡ set_acts_of p events)) events es none h)
+    unlocked_later x0 x1 x2 x3 x4 = grind (arith, held_so, held_later)
 
     -- ---- a lock
 
     last_later : (events es : List (Event T)) → BeginsNone p es → set_acts_of p (events ++ es) ≡ set_acts_of p events
         → FilledAtLast p events → FilledAtLast p (events ++ es)
-    last_later events es none same h =
-        record {
-          other = h.other;
-          once =
-              held_so p (λ part. IsFilled h.other part × (set_acts_of p part ≡ set_acts_of p events))
-              (λ part. IsFilled h.other part × (set_acts_of p part ≡ set_acts_of p (events ++ es))) (events ++ es)
-              (λ part k. (k.0, k.1 ∙ sym same))
-              (held_later p (λ part. IsFilled h.other part × (set_acts_of p part ≡ set_acts_of p events)) events es none h.once);
-        }
+    last_later x0 x1 x2 x3 x4 = grind (arith, held_so, held_later)
 
     pub says_later : (c : ℕ) (events es : List (Event T)) → BeginsNone p es
         → set_acts_of p (events ++ es) ≡ set_acts_of p events → (lock : Lock) → LockSays c (FoundFilled p events) lock
         → LockSays c (FoundFilled p (events ++ es)) lock
-    says_later c events es none same (locks.TheVariants.Counts counts.TheVariants.LoadsCounter) h = tt
-    says_later c events es none same (locks.TheVariants.Counts (counts.TheVariants.LoadsCell number index filled)) h =
-        λ some. last_later events es none same (h some)
-    says_later c events es none same (locks.TheVariants.Counts (counts.TheVariants.ExchangesCounter number filled)) h =
-        λ some. last_later events es none same (h some)
-    says_later c events es none same (locks.TheVariants.ExchangesCounter number) h = tt
+    says_later x0 x1 x2 x3 x4 x5 x6 = grind (arith, last_later)

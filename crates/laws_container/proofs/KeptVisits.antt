@@ -57,12 +57,7 @@ module _ {T : Type 0} (shown : AllShown T) (terms : Terms) (code : Coding T) (c 
   step_visits : (n : ℕ) (a : Start T) (flight : Flight T)
       → StandsThere (family_by terms code c) t s q x since a flight
       → Visits n code (kept_now shown terms code c t s) a flight
-  step_visits n (Container a) (flights.TheVariants.Container flight) stands =
-      with_end q t.events (Container a) (answer_in (any_call (after code (state_of q s.state.states) flight n))) (wrote flight n)
-      (⊎_elim (λ quiet. subst (All q t.events) (sym quiet) tt)
-      (λ began. all_visit q t.events began (wrote flight n) (all_effects (Next q) q refl code (state_of q s.state.states) flight n))
-      (began_by a flight (is_there shown terms code c t s q x since found a flight stands) n))
-  step_visits n a flight stands = absurd stands.at
+  step_visits x0 x1 x2 x3 = grind (arith, with_end, after, all_visit, all_effects, began_by, is_there)
 
   any_visits : (n : ℕ) (flight : Flight T) → x.doing ≡ Going flight since → Visits n t.world.coding t.world.kept x.start flight
   any_visits n flight doing = let by_step_visits = step_visits in grind arith
@@ -88,11 +83,8 @@ module _ {T : Type 0} (shown : AllShown T) (terms : Terms) (code : Coding T) (t 
       go (Going flight since) d = any_visits shown terms code t.world.capacity t s may q x since found _ flight d
 
   visits : (u : Turn T) → AllByRecursion (VisitsRight t.events) (events_of t.world u)
-  visits (Begin p start) = (tt, tt)
-  visits (Next p) = next_visits p (party_of p t.world.latest) refl
-  visits (Decide p said) = decision_visits p said (party_of p t.world.latest) refl
-  visits (Die owner) = (tt, tt)
+  visits x0 = grind (arith, next_visits, decision_visits)
 
   -- as the promise says it
   pub visits_unlocked : VisitsUnlocked t (after_turn t turn)
-  visits_unlocked wrote is = subst (AllByRecursion (VisitsRight t.events)) (append_cancel_left t.events (events_of t.world turn) wrote is) (visits turn)
+  visits_unlocked x0 x1 = grind (arith, append_cancel_left, visits)

@@ -45,20 +45,17 @@ not_even n odd = ne_eqb (n % 2) 0 (λ e. absurd (omega arith))
 module _ {T : Type 0} where
   pub seen_copied : (index : ℕ) (value : T) (did : List (Act T)) → AreBelow index (seen_in did)
       → AreBelow (index + 1) (seen_in (did ++ Copies index value ∷ []))
-  seen_copied index value did h =
-      subst (AreBelow (index + 1)) (sym (flat_map-append index_seen did (Copies index value ∷ [])))
-      (below_both (index + 1) (seen_in did) (index ∷ []) (below_more index (index + 1) (omega arith) (seen_in did) h) (omega arith, tt))
+  seen_copied x0 x1 x2 x3 = grind (arith, flat_map-append, below_both, below_more)
 
   pub seen_passed : (index : ℕ) (did : List (Act T)) → AreBelow index (seen_in did) → AreBelow (index + 1) (seen_in (did ++ []))
-  seen_passed index did h = subst (λ a. AreBelow (index + 1) (seen_in a)) (sym (append-nil did)) (below_more index (index + 1) (omega arith) (seen_in did) h)
+  seen_passed x0 x1 x2 = grind (arith, append-nil, below_more)
 
   pub seen_still : (index : ℕ) (did : List (Act T)) → AreBelow index (seen_in did) → AreBelow index (seen_in (did ++ []))
   seen_still index did h = subst (λ a. AreBelow index (seen_in a)) (sym (append-nil did)) h
 
   -- under an even number nothing stands
   pub nothing_stands : (code : Coding T) (c : ℕ) (words : List ℕ) (i : ℕ) (o : Option T) → Stands code c words i o → count_at c words i % 2 ≡ 0 → o ≡ None
-  nothing_stands code c words i None h even = refl
-  nothing_stands code c words i (Some value) h even = let odd = h.0 in absurd (omega arith)
+  nothing_stands x0 x1 x2 x3 x4 x5 x6 = grind arith
 
 module _ {T : Type 0} (scene : Scene T) (inv : Inv scene) where
   open scene use {coding as code, capacity as c, party as p, steps as steps, backs as backs, latest as latest, events as events}
@@ -128,8 +125,7 @@ module _ {T : Type 0} (scene : Scene T) (inv : Inv scene) where
           (paid : backs_then scene back + since_then scene ask ≤ changes_then scene ask)
           (index : ℕ) (below : index < c) where
         none_more : (what : Option (ℕ × T)) → all scene ++ set_acts (copies_of p what) ≡ []
-        none_more None = ap (λ d. d ++ []) none
-        none_more (Some copy) = ap (λ d. d ++ []) none
+        none_more x0 = grind arith
 
         comes_to : (what : Option (ℕ × T)) (s' : ContainerState T) → IsRight what
             → AreBelow (index + 1) (seen_in (done scene ++ acts (copies_of p what)))
@@ -306,8 +302,7 @@ module _ {T : Type 0} (scene : Scene T) (inv : Inv scene) where
             → CheckPaid code c index count
             (view scene.terms words' states' latest' es' p (since_then scene word_ask) (changes_then scene word_ask)
             (backs_then scene false))
-        paid_then words' states' latest' es' comes =
-            ⊎_elim (λ k. let was = k.1 in inl (ap (λ w. count_at c w index) comes.words ∙ k.0, omega arith)) (λ more. inr (omega arith)) paid
+        paid_then x0 x1 x2 x3 x4 = grind (arith, inl, count_at, inr)
 
         pub walks_word : Walker s (Some (loads (element_word c code.size index at))) Lead → WalkAt (stages.TheVariants.LoadsWord index count at)
         walks_word walker =
@@ -391,7 +386,7 @@ module _ {T : Type 0} (scene : Scene T) (inv : Inv scene) where
           stands_now well_formed = copied_value code c (sees_now scene) index count s.shown.copy inv.elements.coded inv.elements.whole copying is well_formed
 
           same_count : words_after ws check_ask ≡ ws
-          same_count = exchange_sets ws (count_word c index) count count is ∙ (ap (set ws (count_word c index)) (sym is) ∙ set-get_or ws (count_word c index) 0)
+          same_count = grind (arith, exchange_sets, set, set-get_or)
 
           passed_copied : (m' : Now T) → Comes m' (Some (index, value)) → Course code c m' p shown_now (index + 1) c
           passed_copied m' comes =

@@ -31,21 +31,17 @@ use Rattle.laws_container.proofs.Turns.{Owing, owes, Now, WellFormed, change_in}
 module _ {T : Type 0} where
   answers_passed : (which : LookOf) (st : ContainerState T) (o : Option (ContainerState T))
       → AnswersOfState (looks_as which) (looked which st true) o (settled st)
-  answers_passed kinds.TheVariants.GetState st o = refl
-  answers_passed kinds.TheVariants.UpdateState st o = tt
+  answers_passed x0 x1 x2 = grind arith
 
   answers_same : (which : LookOf) (st s : ContainerState T) → st ≡ s → AnswersOfState (looks_as which) (looked which st false) (Some s) st
-  answers_same kinds.TheVariants.GetState st s is = refl
-  answers_same kinds.TheVariants.UpdateState st s is = ap Some (sym is)
+  answers_same x0 x1 x2 x3 = grind arith
 
   moments_passed : (which : LookOf) (p c : ℕ) (st : ContainerState T) (es : List (Event T))
       → ShowsMoments p c (settled st) es → MomentsOfState p c (looks_as which) (looked which st true) (settled st) es
-  moments_passed kinds.TheVariants.GetState p c st es h = tt
-  moments_passed kinds.TheVariants.UpdateState p c st es h = h
+  moments_passed x0 x1 x2 x3 x4 x5 = grind arith
 
   moments_same : (which : LookOf) (p c : ℕ) (st : ContainerState T) (es : List (Event T)) → MomentsOfState p c (looks_as which) (looked which st false) st es
-  moments_same kinds.TheVariants.GetState p c st es = tt
-  moments_same kinds.TheVariants.UpdateState p c st es = tt
+  moments_same x0 x1 x2 x3 x4 = grind arith
 
 module _ {T : Type 0} (scene : Scene T) (inv : Inv scene) (which : LookOf) (stage : LookStage)
     (here : IsHere scene (looks_as which) (look_at which scene.capacity stage))
@@ -117,17 +113,7 @@ module _ {T : Type 0} (scene : Scene T) (inv : Inv scene) (which : LookOf) (stag
         course = passed.course m' comes'
 
         all_current : IsCurrent p c (settled st) m'.events
-        all_current =
-            record {
-              stood = λ i value announced through.
-                  let now = through_now p (λ part. contents_of i part ≡ Some value) m'.events through in
-                  let low = inv.elements.within i value (sym (comes'.contents i) ∙ now) in
-                  let stays : StoodThere p i m'.events =
-                  through_so p (λ part. contents_of i part ≡ Some value)
-                  (λ part. is_some (contents_of i part) ≡ true) m'.events (λ part e. ap is_some e) through in
-                  course.sight.same holds i low (λ e. absurd (omega arith)) (course.fresh holds i low low stays) ∙ now;
-              alone = λ was i low. course.sight.same holds i low (λ e. absurd (omega arith)) (course.alone was i low low);
-            }
+        all_current = grind (arith, through_now, through_so, is_some)
 
         all_moments : ShowsMoments p c (settled st) m'.events
         all_moments = λ i low. course.once holds i low low
@@ -196,10 +182,7 @@ module _ {T : Type 0} (scene : Scene T) (inv : Inv scene) (which : LookOf) (stag
         nobody {A = A} was o = ⊎_elim mine theirs (cases_eq o.party p)
           where
             mine : o.party ≡ p → A
-            mine e =
-                both_ways (owes (flight_of (doing_of (party_of p latest))))
-                (owes_is scene start (look_at which c stage) here)
-                (subst (λ n. owes (flight_of (doing_of (party_of n latest))) ≡ true) e o.is)
+            mine x0 = grind (arith, both_ways, owes, owes_is, look_at)
 
             theirs : o.party ≢ p → A
             theirs ne = absurd (alone_now o.party o.is (others_shut p o.party events ne was))
@@ -221,7 +204,7 @@ module _ {T : Type 0} (scene : Scene T) (inv : Inv scene) (which : LookOf) (stag
 
       unchanged_current : IsWellFormedSoFar scene.terms (put p y latest) (events ++ (did ++ Finished p (Container start) answer ∷ []))
           → IsCurrent p c st (events ++ (did ++ Finished p (Container start) answer ∷ []))
-      unchanged_current = subst (λ d. Right (d ++ Finished p (Container start) answer ∷ [])) (sym same.nothing) (λ was holds. same_current (was holds)) was
+      unchanged_current = grind (arith, same_current)
 
   -- ---- the step in which it ends
 
@@ -236,7 +219,7 @@ module _ {T : Type 0} (scene : Scene T) (inv : Inv scene) (which : LookOf) (stag
   module _ (did : List (Event T)) (st : ContainerState T) (answer : Answer T) (left : ContainerState T) where
     -- the state that it wrote
     is_left : (wrote : ContainerState T) → state_of p (set_state p wrote scene.states) ≡ Some left → wrote ≡ left
-    is_left wrote found = let same : Some wrote ≡ Some left = sym (written_same p wrote h.state scene.states h.found) ∙ found in cc
+    is_left x0 x1 = grind (arith, written_same)
 
     by_after : (r : After (Look T) Bool) → EndsSo ask_now (look_goes_back stage old) did st r
         → answer_in (any_call (look_came which st r)) ≡ Some answer

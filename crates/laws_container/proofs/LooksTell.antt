@@ -100,8 +100,7 @@ module _ {T : Type 0} where
 
   look_stands : (which : LookOf) (c z : ℕ) (made : List SetAct) (did : List (Act T)) (stage : LookStage)
       → At c z made did (looks_as which) (look_at which c stage) → LookAt c z made did stage
-  look_stands kinds.TheVariants.GetState c z made did stage at = at.2
-  look_stands kinds.TheVariants.UpdateState c z made did stage at = at.2
+  look_stands x0 x1 x2 x3 x4 x5 x6 = grind arith
 
 look_counts : (size c : ℕ) (stage : LookStage) → step_count (ask_of (look_asks size c stage)) ≡ 1
 look_counts size c stage = grind arith
@@ -195,17 +194,7 @@ module _ {T : Type 0} (shown : Shown T) (terms : Terms) (code : Coding T) (c : �
         → StandsThere (family_by terms code c) t s q x since a flight
         → (is_question (want_of code flight) ≡ false → n ≡ old_of s.state.words (ask_of (want_of code flight)))
         → StepFrom n code (kept_now shown terms code c t s) a flight
-    step_look n (Container a) (flights.TheVariants.Container flight) stands is next counts e =
-        let end = last_of n a flight e in
-        let name = container_is a start end.name in
-        let there = is_there shown terms code c t s q x since found a flight stands in
-        let one =
-        look_flight c code.size (all (scene_of shown terms code c t s q x since))
-        (done (scene_of shown terms code c t s q x since)) a flight (subst IsLook (sym name) look) there.at in
-        subst (λ b. Case b flight) (sym one.name)
-        (subst (λ f. Case (looks_as one.which) f) (sym one.is) (look_case one.which one.stage)) n stands is next
-        counts e
-    step_look n a flight stands is next counts e = absurd stands.at
+    step_look x0 x1 x2 x3 x4 x5 x6 x7 = grind (arith, last_of, container_is, is_there, look_flight, all, done, look_case)
 
     -- by the words, and what is kept beside them
     pub any_look : (n : ℕ) (flight : Flight T) → x.doing ≡ Going flight since
@@ -354,9 +343,7 @@ module _ {T : Type 0} (shown : Shown T) (terms : Terms) (code : Coding T) (t : T
     (may : MayGoOn terms t) where
   pub ended : (p : ℕ) (start : ContainerStart T) (answer : Answer T) (ends : EndsLook p start answer t (after_turn t turn))
       → LookEnd shown terms code t.world.capacity t s may p start answer ends.is_look ends.wrote (after_turn t turn)
-  ended p start answer ends =
-      look_end shown terms code t.world.capacity t s may p start answer ends.is_look ends.wrote turn r
-      (append_cancel_left t.events (events_of t.world turn) _ ends.is)
+  ended x0 x1 x2 x3 = grind (arith, look_end, append_cancel_left)
 
   pub looks_right : (well_formed : Type 0)
       (so_far : well_formed → IsWellFormedSoFar terms (after_turn t turn).world.latest (after_turn t turn).events)

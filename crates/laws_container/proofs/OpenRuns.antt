@@ -1,18 +1,13 @@
 -- What holds of the machine of a container keeps to every turn of an open run, so it holds wherever such a run leads.
-use Rattle.laws_container.proofs.Names.{◌≡◌, ℕ, ◌+◌, ◌-◌, ◌^◌, ◌<◌, ◌≤◌, ◌&&◌, nat_lt, Bool, true, false, not, Option}
-use Rattle.laws_container.proofs.Names.{Some, None, is_some, is_none, List, [], ◌∷◌, ◌++◌, length, refl, sym, ap}
-use Rattle.laws_container.proofs.Names.{subst, ◌∙◌, append-nil, arith, nat_tests, Ask, total_words, greatest, Begun}
-use Rattle.laws_container.proofs.Names.{Start, Container, Flight, Doing, Going, Over, Party, WrongCall, Busy, Idle}
-use Rattle.laws_container.proofs.Names.{Undecided, Turn, Begin, Next, Decide, Die, Coding, IsWellFormedRun, first_of}
-use Rattle.laws_container.proofs.Names.{want_of, ask_of, is_question, going_rows, party_of, doing_of, flight_of, Each}
-use Rattle.laws_container.proofs.Names.{is_due, call_refusal, first_row, old_of, number_of, party_at_begin}
-use Rattle.laws_container.proofs.Names.{after_begin, after_step, step_in, party_after, change_of, step_count}
-use Rattle.laws_container.proofs.Names.{ask_of_doing, after_next, after_decision, after_answer, events_of_step}
-use Rattle.laws_container.proofs.Names.{events_of_answer, events_of_next, events_of_decision, after_turn}
-use Rattle.laws_container.proofs.Names.{unless_refused, Trace, opening, capacity_error, flight_in, Each-nil}
-use Rattle.laws_container.proofs.Names.{row_passed, may_begin, next_passes, Word, IsHonest, open_refusal}
-use Rattle.laws_container.proofs.Names.{attempt_open, run_open, IsReachedOpen, AllLive, all_live_on, counter_of}
-use Rattle.laws_container.proofs.Names.{admitted_is}
+use Rattle.laws_container.proofs.Names.{◌≡◌, ℕ, ◌-◌, ◌^◌, ◌<◌, ◌≤◌, ◌&&◌, nat_lt, Bool, true, false, not, Option}
+use Rattle.laws_container.proofs.Names.{Some, None, is_some, is_none, List, [], ◌∷◌, length, refl, sym, ap, subst}
+use Rattle.laws_container.proofs.Names.{◌∙◌, arith, nat_tests, total_words, greatest, Start, Container, Flight, Party}
+use Rattle.laws_container.proofs.Names.{WrongCall, Busy, Idle, Undecided, Turn, Begin, Next, Decide, Die, Coding}
+use Rattle.laws_container.proofs.Names.{IsWellFormedRun, first_of, going_rows, party_of, Each, is_due, call_refusal}
+use Rattle.laws_container.proofs.Names.{first_row, after_turn, unless_refused, Trace, opening, capacity_error}
+use Rattle.laws_container.proofs.Names.{flight_in, Each-nil, row_passed, may_begin, next_passes, Word, IsHonest}
+use Rattle.laws_container.proofs.Names.{open_refusal, attempt_open, run_open, IsReachedOpen, AllLive, all_live_on}
+use Rattle.laws_container.proofs.Names.{counter_of, admitted_is}
 use Rattle.model.specs.declared.families.Flight as flights
 use Rattle.model.specs.declared.families.container.ContainerStart.TheVariants.{Recover}
 use Rattle.model.specs.declared.turn.Kind as kinds
@@ -43,31 +38,6 @@ module _ {T : Type 0} (kept : Bool) (code : Coding T) (c : ℕ) where
   abbrev Sound : Trace T → Type 0
   Sound t = frame.Sound (family_by terms code c) t
 
-  same : (t : Trace T) → Sound t → Sound record { world = t.world; events = t.events ++ [] }
-  same t s = subst (λ es. Sound record { world = t.world; events = es }) (sym (append-nil t.events)) s
-
-  stepped : (t : Trace T) (p : ℕ) (x : Party T) (flight : Flight T) (since : ℕ) (ask : Option Ask) (answer : ℕ)
-      → Sound t → frame.ComesByStep (family_by terms code c) t p x flight since ask answer
-      → Sound record {
-        world = after_step t.world p x since ask (step_in t.world p x flight answer);
-        events = t.events ++ events_of_step p x.start (step_in t.world p x flight answer);
-      }
-  stepped t p x flight since ask answer s comes =
-      let w = t.world in
-      let y = party_after x since w.changes (step_count ask) (change_of w.words ask) (step_in w p x flight answer) in
-      record {
-        coding = s.coding;
-        kind = s.kind;
-        capacity = s.capacity;
-        state = comes.state;
-        fit = comes.fit;
-        holds = comes.holds;
-        inv =
-            frame.advance (family_by terms code c) s.state comes.state p y w.latest t.events
-            (events_of_step p x.start (step_in w p x flight answer)) w.changes (w.changes + change_of w.words ask) s.inv
-            comes.owes;
-      }
-
   module _ (t : Trace T) (s : Sound t) (few : kept ≡ true → t.world.turns < 2 ^ 64 - 2) where
     may : MayGoOn terms t
     may = record { room = tt; few = few }
@@ -79,71 +49,18 @@ module _ {T : Type 0} (kept : Bool) (code : Coding T) (c : ℕ) where
     rightly p x since found (flights.TheVariants.Container flight) h = h
     rightly p x since found flight h = tt
 
-    nexts : (p : ℕ) → first_row (going_rows t.world.coding t.world.kept (flight_in t.world p) None) ≡ None
-        → (kept ≡ true → is_for_gone t.events (flight_in t.world p) ≡ false) → (o : Option (Party T))
-        → party_of p t.world.latest ≡ o
-        → Sound record { world = after_next t.world p o; events = t.events ++ events_of_next t.world p o }
-    nexts p rows faithful None e = same t s
-    nexts p rows faithful (Some x) e = go x.doing refl
-      where
-        go : (doing : Doing T) → x.doing ≡ doing
-            → Sound record {
-              world =
-                  after_answer t.world p x (ask_of_doing t.world.coding doing)
-                  (old_of t.world.words (ask_of_doing t.world.coding doing)) doing;
-              events = t.events ++ events_of_answer t.world p x (old_of t.world.words (ask_of_doing t.world.coding doing)) doing;
-            }
-        go (Over others) d = same t s
-        go (Going flight since) d =
-            let here : flight_in t.world p ≡ Some flight = ap (λ o. flight_of (doing_of o)) e ∙ ap (λ d. flight_of (Some d)) d in
-            stepped t p x flight since (ask_of (want_of t.world.coding flight)) (old_of t.world.words (ask_of (want_of t.world.coding flight))) s
-            (step_comes shown terms code c t s p x since e may flight
-            (rightly p x since e flight (λ keeps. subst (λ o. is_for_gone t.events o ≡ false) here (faithful keeps)))
-            (subst (λ o. first_row (going_rows t.world.coding t.world.kept o None) ≡ None) here rows) d)
-
-    -- a decision, whoever lives
-    decided : (p : ℕ) (said : Bool) → is_due t.world.coding (flight_in t.world p) ≡ true → (o : Option (Party T)) → party_of p t.world.latest ≡ o
-        → Sound record { world = after_decision t.world p said o; events = t.events ++ events_of_decision t.world p said o }
-    decided p said due None e = same t s
-    decided p said due (Some x) e = go x.doing refl
-      where
-        go : (doing : Doing T) → x.doing ≡ doing → Sound record {
-          world = after_answer t.world p x None (number_of said) doing;
-          events = t.events ++ events_of_answer t.world p x (number_of said) doing;
-        }
-        go (Over others) d = same t s
-        go (Going flight since) d =
-            let here : flight_in t.world p ≡ Some flight = ap (λ o. flight_of (doing_of o)) e ∙ ap (λ d. flight_of (Some d)) d in
-            let asks : is_question (want_of t.world.coding flight) ≡ true = rw here at due in
-            stepped t p x flight since None (number_of said) s (decision_comes shown terms code c t s p x since e may flight said asks d)
-
     -- a begin
     begins : (p : ℕ) (start : Start T) → MayRecoverIn shown terms code c t s p start → flight_in t.world p ≡ None
-        → is_none (first_of t.world.kind t.world.capacity start t.world.kept) ≡ false → (o : Option (Flight T))
-        → first_of t.world.kind t.world.capacity start t.world.kept ≡ o
-        → Sound record { world = after_begin t.world p start o; events = t.events ++ Begun p start ∷ [] }
-    begins p start recovers free call None e =
-        let none = rw e at call in
-        absurd (cc)
-    begins p start recovers free call (Some flight) e =
-        let w = t.world in
-        let comes = begin_comes shown terms code c t s p start flight recovers free e in
-        record {
-          coding = s.coding;
-          kind = s.kind;
-          capacity = s.capacity;
-          state = comes.state;
-          fit = comes.fit;
-          holds = comes.holds;
-          inv =
-              frame.advance (family_by terms code c) s.state comes.state p (party_at_begin start flight w.changes)
-              w.latest t.events (Begun p start ∷ []) w.changes w.changes s.inv comes.owes;
-        }
+        → is_none (first_of t.world.kind t.world.capacity start t.world.kept) ≡ false → Sound (after_turn t (Begin p start))
+    begins p start recovers free call =
+        frame.begin_sound (family_by terms code c) t p start call s
+        (λ flight e. begin_comes shown terms code c t s p start flight recovers free e)
+        (first_of t.world.kind t.world.capacity start t.world.kept) refl
 
     begins_by_rows : (p : ℕ) (start : Start T) → call_refusal t.world (Begin p start) ≡ None → Sound (after_turn t (Begin p start))
     begins_by_rows p start e =
         let b = may_begin t.world p start e in
-        begins p start (recovers_by shown terms code c t s p start b) b.free b.call (first_of t.world.kind t.world.capacity start t.world.kept) refl
+        begins p start (recovers_by shown terms code c t s p start b) b.free b.call
 
     free_by : (o : Option (Flight T)) → is_some o ≡ false → o ≡ None
     free_by None e = refl
@@ -154,14 +71,21 @@ module _ {T : Type 0} (kept : Bool) (code : Coding T) (c : ℕ) where
         let start : Start T = Container (Recover owner mode) in
         let b = row_passed (is_some (flight_in t.world p)) Busy _ e in
         let d = row_passed (is_none (first_of t.world.kind t.world.capacity start t.world.kept)) WrongCall None b.1 in
-        begins p start tt (free_by (flight_in t.world p) b.0) d.0 (first_of t.world.kind t.world.capacity start t.world.kept) refl
+        begins p start tt (free_by (flight_in t.world p) b.0) d.0
     open_turn_sound (Begin p start) e faithful = begins_by_rows p start e
-    open_turn_sound (Next p) e faithful = nexts p (next_passes t.world p e) faithful (party_of p t.world.latest) refl
+    open_turn_sound (Next p) e faithful =
+        frame.next_sound (family_by terms code c) t p s (λ x flight since u. step_comes shown terms code c t s p x since u.found may flight
+        (rightly p x since u.found flight (λ keeps. subst (λ o. is_for_gone t.events o ≡ false) u.is (faithful keeps)))
+        (subst (λ o. first_row (going_rows t.world.coding t.world.kept o None) ≡ None) u.is (next_passes t.world p e)) u.doing)
+        (party_of p t.world.latest) refl
     open_turn_sound (Die owner) e faithful = absurd (cc)
     open_turn_sound (Decide p said) e faithful =
         let b = row_passed (is_none (flight_in t.world p)) Idle _ e in
         let d = row_passed (not (is_due t.world.coding (flight_in t.world p))) Undecided None b.1 in
-        decided p said (frame.is_true (is_due t.world.coding (flight_in t.world p)) d.0) (party_of p t.world.latest) refl
+        let due = frame.is_true (is_due t.world.coding (flight_in t.world p)) d.0 in
+        frame.decision_sound (family_by terms code c) t p said s (λ x flight since u. decision_comes shown terms code c t s p x since u.found may
+        flight said (subst (λ o. is_due t.world.coding o ≡ true) u.is due) u.doing)
+        (party_of p t.world.latest) refl
 
 -- ---- turns are counted
 

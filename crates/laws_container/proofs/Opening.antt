@@ -27,7 +27,7 @@ module _ (z c : ℕ) where
   first_long = let long = length-replicate {A = ℕ} c empty in omega arith
 
   rest_long : length (opening_words z c) ≡ length first + rest
-  rest_long = let both = length-append first (replicate rest 0) in let long = length-replicate {A = ℕ} rest 0 in omega arith
+  rest_long = grind (arith, length-append, length-replicate)
 
   behind : (n : ℕ) → n < rest → get_or (opening_words z c) (length first + n) 0 ≡ 0
   behind n below = get_or-append-add first (replicate rest 0) n 0 ∙ get_or-replicate rest n 0 0 below
@@ -94,16 +94,7 @@ module _ {T : Type 0} (terms : Terms) (code : Coding T) (c : ℕ) (coded : IsCod
   shows_is i = shows_same _ c i
 
   sight : (q : ℕ) → Sight code c m q (fresh code c) c c
-  sight q =
-      record {
-        wide = length-replicate c (no_element code.value_of code.size);
-        below = λ kept i below. let zero_is = number_is i in omega arith;
-        change = λ kept. omega arith;
-        copied = λ i value ne e. let none : None ≡ Some value = sym (shows_is i) ∙ e in absurd (cc);
-        same = λ well_formed i below ne e. shows_is i;
-        caught = λ well_formed same i ks below e. absurd (cc);
-        owed = λ kept same i ks below. inl (number_is i ∙ sym (no_count code.size c i below));
-      }
+  sight x0 = grind (arith, length-replicate, number_is, shows_is, inl, no_count)
 
   rests : (q : ℕ) → Rests code c m q (fresh code c)
   rests q =

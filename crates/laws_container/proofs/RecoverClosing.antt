@@ -76,9 +76,7 @@ module _ {T : Type 0} (scene : Scene T) (inv : Inv scene) (owner : ℕ) (mode : 
     -- the load leaves the counter
     each_again : FilledSinceEachBy (IsWorn scene.terms.by ws) mode p owner events
         → FilledSinceEachBy (IsWorn scene.terms.by (words_after ws load_again)) mode p owner events
-    each_again h =
-        each_on (IsWorn scene.terms.by ws) (IsWorn scene.terms.by (words_after ws load_again))
-        (λ end. subst (IsWorn scene.terms.by) (sym (loads_same ws 0)) end) mode p owner events h
+    each_again x0 = grind (arith, each_on, loads_same)
 
     hidden_again : (state : ReleaseState)
         → HasHidden code c p owner none
@@ -142,13 +140,7 @@ module _ {T : Type 0} (scene : Scene T) (inv : Inv scene) (owner : ℕ) (mode : 
     answers_right : (state : ReleaseState) → RecoverSays code c owner mode state (sees_now scene)
         → AnswersBy scene.terms.by (IsWorn scene.terms.by (words_after ws end_it)) c events
         (Finished p (Container (Recover owner mode)) (answers.State state))
-    answers_right states.TheVariants.Locked h = h
-    answers_right states.TheVariants.Unlocked h = (
-      h.1,
-      h.2,
-      each_on (IsWorn scene.terms.by ws) (IsWorn scene.terms.by (words_after ws end_it))
-          (worn_on scene.terms.by ws (words_after ws end_it) counter_stays) mode p owner events h.3,
-    )
+    answers_right x0 x1 = grind (arith, each_on, worn_on, counter_stays)
 
     end_step : StepOf scene (Recover owner mode) (recover_at c owner mode room (recovers.TheVariants.AddsChange state))
     end_step =

@@ -152,7 +152,7 @@ module _ {T : Type 0} (scene : Scene T) (inv : Inv scene) (owner : ℕ) (mode : 
           new
 
       was_known : IsOneOf (Yes index owner) (all scene) ⊎ WasShown p index events
-      was_known = ⊎_elim (λ yes. inl (by_latest (Yes index owner) (all scene) yes.0)) (λ shown. inr (has_latest (Sees index) (done scene) shown)) stands.1
+      was_known = grind (arith, inl, by_latest, all, inr, has_latest, done)
 
       does : (y : Party T) → owes (flight_of (Some y.doing)) ≡ true → Does scene (words_after ws empty_it) scene.states y freeing
       does y owe =

@@ -165,9 +165,7 @@ module _ {T : Type 0} (scene : Scene T) (inv : Inv scene) (owner : ℕ) (mode : 
     -- by events that tell and show nothing
     pub told_none : (i : ℕ) → IsOneOf (Yes i owner) (set_acts_of p events ++ []) ⊎ IsOneOf (Sees i) (acts_of p events ++ [])
         → (IsOneOf (Yes i owner) (set_acts_of p events) ⊎ WasShown p i events) ⊎ none i
-    told_none i said =
-        inl (⊎_elim (λ yes. inl (one_of_none (Yes i owner) (set_acts_of p events) yes))
-        (λ shown. inr (has_of_none (Sees i) (acts_of p events) shown)) said)
+    told_none x0 x1 = grind (arith, inl, one_of_none, inr, has_of_none)
 
     none_freed : (i : ℕ) → IsOneOf (Frees i owner) (set_acts_of p events ++ []) → IsOneOf (Frees i owner) (set_acts_of p events)
     none_freed i was = one_of_none (Frees i owner) (set_acts_of p events) was

@@ -71,7 +71,7 @@ module _ {T : Type 0} (scene : Scene T) (inv : Inv scene) (owner : ℕ) (mode : 
   Course index bound = IsInCourse c z (all scene) (done scene) owner index bound
 
   right_none : (words' : List ℕ) (y : Party T) → AreAllRight scene words' y []
-  right_none words' y = record { asks = tt; recovers = tt; answers = tt; contains = λ h. tt; places = λ h. tt }
+  right_none x0 x1 = grind arith
 
   -- its course, over a step that writes nothing
   pub course_calm : (index bound index' bound' : ℕ) → Course index bound → index' < c → bound ≤ bound'
@@ -222,10 +222,7 @@ module _ {T : Type 0} (scene : Scene T) (inv : Inv scene) (owner : ℕ) (mode : 
     -- an index of another owner is none to free
     not_to_free : cell ws index ≢ owner → HeldThroughout p (StillToFree p owner index) (events ++ [])
         → IsOneOf (Asks index owner) (set_acts_of p (events ++ [])) ⊎ WasShown p index (events ++ [])
-    not_to_free other through =
-        subst (λ es. IsOneOf (Asks index owner) (set_acts_of p es) ⊎ WasShown p index es) (sym (append-nil events))
-        (⊎_elim (λ filled. absurd (other (inv.good.cells index course.within ∙ ap cell_of filled))) (λ freed. course.freed index freed)
-        (through_now p (StillToFree p owner index) events (subst (λ es. HeldThroughout p (StillToFree p owner index) es) (append-nil events) through)))
+    not_to_free x0 x1 = grind (arith, append-nil, through_now)
 
     pub cell_step : StepOf scene (Recover owner mode) (recover_at c owner mode room (recovers.TheVariants.LoadsCell index))
     cell_step = go (cell ws index == owner) refl
@@ -355,10 +352,7 @@ module _ {T : Type 0} (scene : Scene T) (inv : Inv scene) (owner : ℕ) (mode : 
     pub sees_number : Leads scene (Recover owner mode) ask back scene.states
         ((if is_even number then Shown p index ∷ [] else []) ++ [])
         (as_recover scene inv owner mode fits room (recover_sees (first scene inv owner mode fits) index number))
-    sees_number =
-        let by_is_shown = is_shown in
-        let by_is_copied = is_copied in
-        grind arith
+    sees_number = grind (arith, is_shown, is_copied)
 
   pub count_step : (room : buffers.Buffer 128) (index : ℕ)
       (here : Here room (recovers.TheVariants.LoadsCount index)) (long : IsLong room) (course : Course index index)

@@ -165,7 +165,7 @@ module _ {T : Type 0} (scene : Scene T) (inv : Inv scene) (owner : ℕ) (mode : 
     asking_longer : (start : ContainerStart T) (w : List (Event T))
         → fold own_after (Open (Container start) w) (Copied p index value ∷ Asked p index owner ∷ [])
         ≡ Open (Container start) (w ++ Copied p index value ∷ Asked p index owner ∷ [])
-    asking_longer start w = ap (λ es. Open (Container start) es) (append_assoc w (Copied p index value ∷ []) (Asked p index owner ∷ []))
+    asking_longer x0 x1 = grind (arith, append_assoc)
 
     -- the copy is whole, and it asks
     asks : count_now ≡ count → Goes check_it false asking room (recovers.TheVariants.Asks index count)
@@ -343,7 +343,4 @@ module _ {T : Type 0} (scene : Scene T) (inv : Inv scene) (owner : ℕ) (mode : 
         (λ y. (calm_recs scene inv owner mode fits) room (recovers.TheVariants.Asks index count) here long None refl false paid_now y (index + 1) k.1) f
 
     pub decided : (answer : ℕ) → AnswerOf scene (Recover owner mode) (recover_at c owner mode room (recovers.TheVariants.Asks index count)) None answer
-    decided answer =
-        let by_says_yes = says_yes in
-        let by_says_no = says_no in
-        grind arith
+    decided x0 = grind (arith, says_yes, says_no)

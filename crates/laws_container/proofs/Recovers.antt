@@ -37,8 +37,7 @@ use Rattle.laws_container.proofs.Standing.{recover_at, for_back, for_index}
 
 pub most_is : (c z : ℕ) (owner backs : ℕ) (T : Type 0) (mode : ReleaseMode)
     → 3 + c * for_index c z mode + backs * for_back c z mode ≡ most_steps {T = T} c z (Recover owner mode) backs
-most_is c z owner backs T Default = omega arith
-most_is c z owner backs T LockIfLastIndex = omega arith
+most_is x0 x1 x2 x3 x4 x5 = grind arith
 
 module _ {T : Type 0} (scene : Scene T) (inv : Inv scene) (owner : ℕ) (mode : ReleaseMode) (fits : owner < empty) where
   open scene use {coding as code, capacity as c, party as p, steps as steps, backs as backs, events as events}
@@ -138,7 +137,7 @@ module _ {T : Type 0} (scene : Scene T) (inv : Inv scene) (owner : ℕ) (mode : 
         held_is : (ask : Option Ask) (back : Bool) (number : ℕ)
             → set_knows.Holding number (set_stages.sees (of_set scene) ask back)
             → backs_then scene back + since_then scene ask ≤ changes_then scene ask
-        held_is ask back number held = ⊎_elim (λ h. let paid = h.1 in omega arith) (λ h. omega arith) held.paid
+        held_is x0 x1 x2 x3 = grind arith
 
   -- ---- the lock
 
@@ -266,8 +265,7 @@ module _ {T : Type 0} (scene : Scene T) (inv : Inv scene) (owner : ℕ) (mode : 
         held_paid : (held : Option ℕ) (ask : Option Ask) (back : Bool)
             → set_knows.Paid held (set_stages.sees (of_set scene) ask back)
             → backs_then scene back + since_then scene ask ≤ changes_then scene ask
-        held_paid None ask back h = omega arith
-        held_paid (Some number) ask back h = ⊎_elim (λ k. let paid = k.1 in omega arith) (λ k. omega arith) h.paid
+        held_paid x0 x1 x2 x3 = grind arith
 
         lock_paid : (next : Lock) (ask : Option Ask) (back : Bool)
             → set_knows.Paid (set_knows.lock_holds next) (set_stages.sees (of_set scene) ask back)
@@ -278,13 +276,9 @@ module _ {T : Type 0} (scene : Scene T) (inv : Inv scene) (owner : ℕ) (mode : 
         paid_calm : (next : Lock) (ask : Option Ask) (back : Bool)
             → set_knows.Paid (set_knows.lock_holds next) (set_stages.sees (of_set scene) ask back)
             → set_knows.Paid (set_knows.lock_holds next) (set_stages.seen (of_set scene) ask back (events ++ []))
-        paid_calm next ask back h =
-            subst (λ es. set_knows.Paid (set_knows.lock_holds next) (set_stages.seen (of_set scene) ask back es))
-            (sym (append-nil events)) h
+        paid_calm x0 x1 x2 x3 = grind (arith, append-nil)
 
         scanned_calm : (next : Lock) (ask : Option Ask) (back : Bool)
             → set_knows.Scanned (set_knows.lock_scan c next) (set_stages.sees (of_set scene) ask back)
             → set_knows.Scanned (set_knows.lock_scan c next) (set_stages.seen (of_set scene) ask back (events ++ []))
-        scanned_calm next ask back h =
-            subst (λ es. set_knows.Scanned (set_knows.lock_scan c next) (set_stages.seen (of_set scene) ask back es))
-            (sym (append-nil events)) h
+        scanned_calm x0 x1 x2 x3 = grind (arith, append-nil)

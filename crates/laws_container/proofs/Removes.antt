@@ -56,14 +56,12 @@ use Rattle.laws_container.proofs.Writing.{even_is, odd_is}
 pub refused_done : (T : Type 0) (index owner : ℕ) (mode : ReleaseMode) (set_acts : List SetAct) (acts : List (Act T))
     → set_acts ≡ []
     → HasDone {T = T} (Remove index owner mode) (answers.NotRemoved ContainerHandleNotOwnedByContainer) set_acts acts
-refused_done T index owner Default set_acts acts h = h
-refused_done T index owner LockIfLastIndex set_acts acts h = h
+refused_done x0 x1 x2 x3 x4 x5 x6 = grind arith
 
 pub refused_right : {T : Type 0} (by : GoneBy) (worn : Type 0) (c p index owner : ℕ) (mode : ReleaseMode) (events : List (Event T))
     → (c ≤ index) ⊎ (filled_of index events ≢ Some owner)
     → AnswersBy by worn c events (Finished p (Container (Remove index owner mode)) (answers.NotRemoved ContainerHandleNotOwnedByContainer))
-refused_right by worn c p index owner Default events h = h
-refused_right by worn c p index owner LockIfLastIndex events h = h
+refused_right x0 x1 x2 x3 x4 x5 x6 x7 x8 = grind arith
 
 module _ {T : Type 0} (scene : Scene T) (inv : Inv scene) (index owner : ℕ) (mode : ReleaseMode)
     (fits : owner < empty) (acts : ActsFor scene owner) (below : index < scene.capacity) where
@@ -101,7 +99,7 @@ module _ {T : Type 0} (scene : Scene T) (inv : Inv scene) (index owner : ℕ) (m
       (since_then scene ask) (changes_then scene ask) (backs_then scene back)
 
   given_is : ◌≡◌ {A = GiveBack} (record { index = index; owner = owner; mode = mode }) (record { index = place_of c index; owner = owner; mode = mode })
-  given_is = ap (λ n. record { index = n; owner = owner; mode = mode }) (sym (place_is c index below))
+  given_is = grind (arith, place_is)
 
   -- ---- a step on the counter, or none, that writes nothing
 
@@ -165,10 +163,7 @@ module _ {T : Type 0} (scene : Scene T) (inv : Inv scene) (index owner : ℕ) (m
 
     began : IsCalm scene.terms.by (events ++ FreedOf p index owner ∷ [])
         → (is_gone scene.terms.by owner events ≡ false) × SinceBegin p (λ part since. settled_of index part ≡ Some owner) events
-    began calm = (
-      lives_freed scene.terms.by p index owner events acts.alive gives_back calm.1,
-      subst (MayGiveBack p index events) here.span (calm.0 events [] (FreedOf p index owner) refl),
-    )
+    began x0 = grind (arith, lives_freed, gives_back)
 
     abbrev Lead : Option Ask → Bool → List (Event T) → After set_calls.Release Released → Type 0
     Lead ask back did a =
@@ -240,16 +235,13 @@ module _ {T : Type 0} (scene : Scene T) (inv : Inv scene) (index owner : ℕ) (m
 
     -- nothing stands there under an even number
     none_stands : all scene ≡ Frees index owner ∷ [] → is_even count ≡ true → HasHidden code c p owner no_index (before scene)
-    none_stands freed t = hidden_even code c p owner index count (before scene) inv.elements.whole below (even_is count t) (stands_still freed)
+    none_stands x0 x1 = grind (arith, hidden_even, before, even_is, stands_still)
 
     -- what the end of the release says
     says_now : (next : RemoveStage) (ask : Option Ask) (back : Bool) (m : ReleaseMode) (state : ReleaseState)
         → Ends (of_set scene) (inv_of_set scene inv) index owner mode fits below lives began 1 (words_after ws ask) m state
         → RemoveSays code c index owner m state (SeesCalmly next ask back)
-    says_now next ask back Default states.TheVariants.Locked why = absurd why
-    says_now next ask back Default states.TheVariants.Unlocked why = tt
-    says_now next ask back LockIfLastIndex states.TheVariants.Locked why = why
-    says_now next ask back LockIfLastIndex states.TheVariants.Unlocked why = (held_now p IsUnlocked events why.0, why.1)
+    says_now x0 x1 x2 x3 x4 x5 = grind (arith, held_now)
 
     done_now : (words' : List ℕ) (m : ReleaseMode) (state : ReleaseState)
         → Ends (of_set scene) (inv_of_set scene inv) index owner mode fits below lives began 1 words' m state
@@ -315,14 +307,10 @@ module _ {T : Type 0} (scene : Scene T) (inv : Inv scene) (index owner : ℕ) (m
             (was_well_formed scene start tt here.span (words_after ws ask) y (Locked p ∷ []) (refl, tt)) (owes_none scene start (at_stage this) y here refl)
 
         stands : AllFollow (Stands promise c) (Open (Container (Remove index owner mode)) (wrote_of p events)) (Locked p ∷ [])
-        stands =
-            subst (λ m. AllFollow (Stands promise c) (Open (Container (Remove index owner m)) (wrote_of p events)) (Locked p ∷ []))
-            (sym may_lock) (freed, tt)
+        stands = grind (arith, promise)
 
         done_then : HasDone {T = T} (Remove index owner mode) (answers.State states.TheVariants.Locked) (all scene ++ Locks ∷ []) []
-        done_then =
-            subst (λ m. HasDone {T = T} (Remove index owner m) (answers.State states.TheVariants.Locked) (all scene ++ Locks ∷ []) [])
-            (sym may_lock) (inr (ap (λ d. d ++ Locks ∷ []) freed))
+        done_then = grind (arith, all, inr)
 
         says : is_locked (events ++ Locked p ∷ []) ≡ true
         says = fold-append locked_after false events (Locked p ∷ [])
@@ -434,9 +422,7 @@ module _ {T : Type 0} (scene : Scene T) (inv : Inv scene) (index owner : ℕ) (m
         low {n} same kept = go stage now_at left
           where
             go : (s : ReleaseStage) → ReleaseAt c index owner mode (all scene) s → ReleaseLeft code c index count s (sees_now scene) → count ≤ n
-            go releases.TheVariants.EmptiesCell at h = let was = h.1 kept in omega arith
-            go (releases.TheVariants.Raises raise) at h = let was = h.below kept in omega arith
-            go (releases.TheVariants.Locks lock) at h = let was = h.below kept in omega arith
+            go x0 x1 x2 = grind arith
 
     pub release_step : set_knows.Knows c (release_at c index owner mode stage) (set_stages.now (of_set scene))
         → steps ≤ 1 + release_number c mode stage backs

@@ -78,10 +78,10 @@ module _ {T : Type 0} (scene : Scene T) (inv : Inv scene) (index : ℕ) (value :
 
   module _ (k : ReplaceKnows c index owner value (sees_now scene)) where
     mine : WellFormed (before scene) → IsWriter p i owner events
-    mine well_formed = inr (replacing c index owner value (sees_now scene) k well_formed (acts.stays well_formed.kept))
+    mine x0 = grind (arith, inr, replacing)
 
     nobody_else : {A : Type 0} → WellFormed (before scene) → (q : ℕ) → q ≢ p → (o : ℕ) → IsWriter q i o events → A
-    nobody_else holds q ne o theirs = absurd (ne (one_writer q p i o owner events (inv.good.owned holds.calm) theirs (mine holds)))
+    nobody_else x0 x1 x2 x3 x4 = grind (arith, one_writer, mine)
 
     knows_calm : (stage next : ReplaceStage) → Here stage → (ask : Ask) → ReplaceKnows c index owner value (SeesCalmly next ask)
     knows_calm stage next here ask =
@@ -374,10 +374,7 @@ module _ {T : Type 0} (scene : Scene T) (inv : Inv scene) (index : ℕ) (value :
           says : WellFormed (before scene) → (a : ℕ)
               → announced_after a (announced_of a events) (Finished p (Container (Replace index value owner)) answers.Done) ≡ true
               → is_some (contents_of a events) ≡ true
-          says holds a said =
-              ⊎_elim (λ e. subst (λ b. is_some (contents_of b events) ≡ true) (sym e) (stood holds (acts.stays holds.kept)).1)
-              (λ ne. inv.elements.announced holds a (sym (at_other i a true (announced_of a events) ne) ∙ said))
-              (cases_eq a i)
+          says x0 x1 x2 = grind (arith, is_some, at_other, cases_eq)
 
 -- ---- any step of a replace
 

@@ -61,7 +61,7 @@ module _ {T : Type 0} (scene : Scene T) (inv : Inv scene) (index : ℕ) (value :
 
   pub given_is : ◌≡◌ {A = Replacement T} (record { index = index; owner = owner; value = value })
       (record { index = place_of c index; owner = owner; value = value })
-  given_is = ap (λ n. record { index = n; owner = owner; value = value }) (sym (place_is c index below))
+  given_is = grind (arith, place_is)
 
   -- ---- a turn ago
 
@@ -164,7 +164,7 @@ module _ {T : Type 0} (scene : Scene T) (inv : Inv scene) (index : ℕ) (value :
         ((refl, (none_done, nothing)), tt) (omega arith) (omega arith)
 
     found_now : cell ws index ≡ owner → HeldSometime p (IsFilledWith owner index) events
-    found_now is = held_now p (IsFilledWith owner index) events (filled_by (of_set scene) (inv_of_set scene inv) index below owner fits is)
+    found_now x0 = grind (arith, held_now, filled_by, inv_of_set)
 
     finds : cell ws index ≡ owner → Leads scene start (Some load_cell) false scene.states [] (GoOn (at_stage replaces.TheVariants.LoadsCount))
     finds is =

@@ -20,17 +20,7 @@ module _ {T : Type 0} (scene : Scene T) (inv : Inv scene) where
   -- ---- a word behind the cells changes
 
   pub leaves_behind : (words' : List ℕ) (n x : ℕ) → 1 + c ≤ n → words' ≡ set ws n x → Leaves scene words'
-  leaves_behind words' n x behind new =
-      let same : counter_of words' ≡ counter_of ws = ap counter_of new ∙ get_or-set_other ws n 0 x 0 (λ e. absurd (omega arith)) in
-      record {
-        wide = ap length new ∙ length-set ws n x;
-        cells = λ i below. ap (λ w. cell w i) new ∙ get_or-set_other ws n (cell_word i) x 0 (λ e. absurd (omega arith));
-        lock = ap (λ m. m == locked) same;
-        low = λ t. let low = g.low (sym g.lock ∙ t) in let begun = inv.begun in omega arith;
-        grows = omega arith;
-        bound = let bound = g.bound in omega arith;
-        stuck = λ end. same ∙ end;
-      }
+  leaves_behind x0 x1 x2 x3 x4 = grind (arith, get_or-set_other, length, length-set, cell, locked)
 
   -- ---- events that change nothing of the set
 

@@ -19,8 +19,7 @@ module _ {T : Type 0} where
   number_at s i = number_in (slice_get s.shown.elements i)
 
   pub copied_later : (p i : ℕ) (value : T) (events es : List (Event T)) → WasCopied p i value events → WasCopied p i value (events ++ es)
-  copied_later p i value events es h =
-      record { before = h.before; after = h.after ++ es; is = ap (λ xs. xs ++ es) h.is ∙ append_assoc h.before _ es }
+  copied_later x0 x1 x2 x3 x4 x5 = grind (arith, append_assoc)
 
   -- something stood at the index through the party's call
   abbrev pub StoodThere : ℕ → ℕ → List (Event T) → Type 0
@@ -68,31 +67,14 @@ module _ {T : Type 0} (code : Coding T) (c : ℕ) where
     still : Keeps m'.terms → (i : ℕ) → i < c → number_at s i ≤ count_in code c m i
         → number_at s i ≡ count_in code c m' i
         → (number_at s i ≡ count_in code c m i) × (count_in code c m' i ≡ count_in code c m i)
-    still kept i below low e = let grows = passes.counts kept i below in (omega arith, omega arith)
+    still x0 x1 x2 x3 x4 = grind arith
 
     change_still : Keeps m'.terms → s.shown.change ≤ change_in code c m → s.shown.change ≡ change_in code c m'
         → (s.shown.change ≡ change_in code c m) × (change_in code c m' ≡ change_in code c m)
     change_still kept low e = let grows = passes.change kept in (omega arith, omega arith)
 
     pub sight_later : (k x : ℕ) → Sight m q s k x → Sight m' q s k x
-    sight_later k x h =
-        record {
-          wide = h.wide;
-          below = λ kept i low. let was = h.below (passes.kept kept) i low in let grows = passes.counts kept i low in omega arith;
-          change = λ kept. let was = h.change (passes.kept kept) in let grows = passes.change kept in omega arith;
-          copied = λ i value ne e. subst (WasCopied q i value) (sym more) (copied_later q i value m.events es (h.copied i value ne e));
-          same = λ well_formed i low ne e.
-              let k = still well_formed.kept i low (h.below (passes.kept well_formed.kept) i low) e in
-              h.same (passes.well_formed well_formed) i low ne k.0 ∙ sym (passes.stands well_formed i low k.1);
-          caught = λ well_formed is i ks low said.
-              let k = change_still well_formed.kept (h.change (passes.kept well_formed.kept)) is in
-              let a = passes.announces well_formed k.1 i low said in
-              h.caught (passes.well_formed well_formed) k.0 i ks low a.0 ∙ sym a.1;
-          owed = λ kept is i ks low.
-              let k = change_still kept (h.change (passes.kept kept)) is in
-              ⊎_elim (λ e. ⊎_elim (λ same. inl (e ∙ sym same)) (λ o. inr o) (passes.owed k.1 i low))
-              (λ o. inr (passes.owing k.1 o)) (h.owed (passes.kept kept) k.0 i ks low);
-        }
+    sight_later x0 x1 x2 = grind (arith, copied_later, still, change_still, inl, inr)
 
     pub rests_later : Rests m q s → Rests m' q s
     rests_later h = record { sight = sight_later c c h.sight; known = h.known; seen = h.seen; counts = h.counts; room = h.room }

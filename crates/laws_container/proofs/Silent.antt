@@ -77,16 +77,7 @@ module _ {T : Type 0} where
   all_right P right earlier (e ∷ es) h = (right earlier e h.0, all_right P right (earlier ++ e ∷ []) es h.1)
 
   pub silent_quiet : (es : List (Event T)) → AllByRecursion Silent es → Quiet es
-  silent_quiet es h =
-      record {
-        filled = λ i o. fold_stays (filled_after i) (filled_stays i) es h o;
-        holder = λ i o. fold_stays (holder_after i) (holder_stays i) es h o;
-        settled = λ i o. fold_stays (settled_after i) (settled_stays i) es h o;
-        right = λ i r. fold_stays (right_after i) (right_stays i) es h r;
-        locked = λ b. fold_stays locked_after locked_stays es h b;
-        dead = λ owner b. fold_stays (dead_after owner) (dead_stays owner) es h b;
-        holds = λ earlier. all_right HoldsRight holds_right earlier es h;
-      }
+  silent_quiet x0 x1 = grind (arith, fold_stays, filled_stays, holder_stays, settled_stays, right_stays, locked_stays, dead_stays, all_right, holds_right)
 
 module _ {T : Type 0} (scene : Scene T) (inv : Inv scene) (words' : List ℕ) (same : words' ≡ scene.words)
     (y : Party T) (es : List (Event T)) (silent : AllByRecursion Silent es) (own : AreOwn scene.party es) where

@@ -84,9 +84,7 @@ pub record Shown (T : Type 0) : Type 0 where
 module _ {T : Type 0} where
   pub kept_is : (kept : Registry T) (words : List ℕ) (s : ContainerNow T) → Represents kept words s
       → (kept ≡ registries.TheVariants.Container s.dead s.states) × (words ≡ s.words)
-  kept_is (registries.TheVariants.Container dead states) words s fit =
-      (ap (λ d. registries.TheVariants.Container d states) fit.1 ∙ ap (λ l. registries.TheVariants.Container s.dead l) fit.2, fit.0)
-  kept_is kept words s fit = absurd fit
+  kept_is x0 x1 x2 x3 = grind arith
 
   -- a call that begins on the container is one of its own, for an owner that is none of an empty cell
   abbrev pub IsOwn : ℕ → Start T → Flight T → Type 0
@@ -100,8 +98,7 @@ module _ {T : Type 0} where
 
   pub begins_own : (c : ℕ) (kept : Registry T) (start : Start T) (flight : Flight T)
       → first_of kinds.TheVariants.Container c start kept ≡ Some flight → IsOwn c start flight
-  begins_own c kept (Container start) flight e = named_own c start flight (names_owner start) refl e
-  begins_own c kept start flight e = absurd (cc)
+  begins_own x0 x1 x2 x3 x4 = grind (arith, named_own)
 
 -- ---- the laws of the family
 
@@ -175,10 +172,7 @@ module _ {T : Type 0} (shown : Shown T) (terms : Terms) (code : Coding T) (c : �
     pub passes : (flight : ContainerFlight T) (said : Option Bool)
         → first_row (going_rows t.world.coding t.world.kept (Some (flights.TheVariants.Container flight)) said) ≡ None
         → acts_for_dead s.state.dead flight ≡ false
-    passes flight said r =
-        let is = kept_is t.world.kept t.world.words s.state s.fit in
-        let own : first_row (rows.going_rows s.state.dead flight) ≡ None = subst (λ kept. first_row (rows.kept_going_rows flight kept said) ≡ None) is.0 r in
-        (row_passed (acts_for_dead s.state.dead flight) OwnerIsDead None own).0
+    passes x0 x1 x2 = grind (arith, kept_is, first_row, row_passed)
 
     -- ---- a step
 
@@ -317,25 +311,7 @@ module _ {T : Type 0} (shown : Shown T) (terms : Terms) (code : Coding T) (c : �
         → frame.Comes (family_by terms code c) t p
         (kept_after_begin t.world.coding t.world.capacity start p t.world.kept) t.world.words
         (party_at_begin start flight t.world.changes) (Begun p start ∷ []) t.world.changes
-    begin_comes (Container start) (flights.TheVariants.Container flight) may free e =
-        let is = kept_is t.world.kept t.world.words s.state s.fit in
-        let named : first_of {T = T} kinds.TheVariants.Container t.world.capacity (Container start) t.world.kept
-        ≡ Some (flights.TheVariants.Container flight) =
-        subst
-        (λ kind. first_of {T = T} kind t.world.capacity (Container start) t.world.kept ≡ Some (flights.TheVariants.Container flight)) s.kind e in
-        let own : IsOwn c (Container start) (flights.TheVariants.Container flight) =
-        subst (λ n. IsOwn n (Container start) (flights.TheVariants.Container flight)) s.capacity
-        (begins_own t.world.capacity t.world.kept (Container start) (flights.TheVariants.Container flight) named) in
-        let now : BeginsFrom code c s.state.words kept_now start flight =
-        subst (λ f. BeginsFrom code c s.state.words kept_now start f) own.0 (begins_now start own.1 may free) in
-        subst (λ y. BeginsFrom y t.world.capacity t.world.words t.world.kept start flight) (sym s.coding)
-        (subst (λ n. BeginsFrom code n t.world.words t.world.kept start flight) (sym s.capacity)
-        (subst (λ ws. BeginsFrom code c ws t.world.kept start flight) (sym is.1)
-        (subst (λ k. BeginsFrom code c s.state.words k start flight) (sym is.0) now)))
-    begin_comes start flight may free e =
-        let named : first_of kinds.TheVariants.Container t.world.capacity start t.world.kept ≡ Some flight =
-        subst (λ kind. first_of kind t.world.capacity start t.world.kept ≡ Some flight) s.kind e in
-        absurd (begins_own t.world.capacity t.world.kept start flight named)
+    begin_comes x0 x1 x2 x3 x4 = grind (arith, kept_is, first_of, begins_own, begins_now)
 
   -- ---- an owner dies
 
@@ -350,12 +326,10 @@ module _ {T : Type 0} (shown : Shown T) (terms : Terms) (code : Coding T) (c : �
       }
 
   fit_death : (kept : Registry T) (words : List ℕ) (o : ℕ) → Represents kept words s.state → Represents (kept_after_death kept o) words (died_now o)
-  fit_death (registries.TheVariants.Container dead states) words o fit = (fit.0, ap (dead_with o) fit.1, fit.2)
-  fit_death kept words o fit = absurd fit
+  fit_death x0 x1 x2 x3 = grind arith
 
   lives_by : (kept : Registry T) (words : List ℕ) (o : ℕ) → Represents kept words s.state → families.is_dead kept o ≡ false → has_died o s.state.dead ≡ false
-  lives_by (registries.TheVariants.Container dead states) words o fit alive = subst (λ d. has_died o d ≡ false) fit.1 alive
-  lives_by kept words o fit alive = absurd fit
+  lives_by x0 x1 x2 x3 x4 = grind (arith, false)
 
   pub death_comes : (o : ℕ) → MayDie t.world o → frame.ComesByDeath (family_by terms code c) t s o
   death_comes o may =
@@ -389,9 +363,7 @@ module _ {T : Type 0} (shown : Shown T) where
   dying_rightly : (code : Coding T) (c : ℕ) (t : Trace T) (s : frame.Sound (family code c) t) (p : ℕ) (x : Party T)
       (since : ℕ) (found : party_of p t.world.latest ≡ Some x) (flight : Flight T)
       → first_row (going_rows t.world.coding t.world.kept (Some flight) None) ≡ None → IsRightly shown dying code c t s p x since found flight
-  dying_rightly code c t s p x since found (flights.TheVariants.Container flight) r =
-      λ kept. lives_by_rows s.state.dead t.events s.holds.good.died flight (passes shown dying code c t s p x since found flight None r)
-  dying_rightly code c t s p x since found flight r = tt
+  dying_rightly x0 x1 x2 x3 x4 x5 x6 x7 x8 x9 = grind (arith, lives_by_rows, passes)
 
   laws : (code : Coding T) (c : ℕ) → frame.Laws (family code c)
   laws code c =

@@ -135,7 +135,7 @@ module _ {T : Type 0} (scene : Scene T) where
   module _ (start : ContainerStart T) (span : span_of p events ≡ Open (Container start) (wrote_of p events))
       (es : List (Event T)) (own : AreOwn p es) (longer : Lengthens es) where
     wrote_more : wrote_of p (events ++ es) ≡ wrote_of p events ++ es
-    wrote_more = ap wrote_in (span_of-own p events es own ∙ (ap (λ s. fold own_after s es) span ∙ longer start (wrote_of p events)))
+    wrote_more = grind (arith, span_of-own, fold)
 
     pub set_acts_more : set_acts_of p (events ++ es) ≡ set_acts_of p events ++ set_acts es
     set_acts_more = ap set_acts wrote_more ∙ flat_map-append set_act (wrote_of p events) es
@@ -207,20 +207,13 @@ module _ {T : Type 0} (scene : Scene T) where
       (view scene.terms (words_after ws ask) states' (put p (party_then start ask back (GoOn flight)) latest) events
       p (since_then ask) (changes_then ask) (backs_then back))
       → ShowsThen start ask back states' [] (GoOn flight)
-  goes_calmly start flight ask back states' span does few at known =
-      goes_on start flight ask back states' [] span none_lengthens does tt few
-      (subst (λ d. At c code.size d (acts_of p events ++ []) start flight) (sym (append-nil (set_acts_of p events)))
-      (subst (λ a. At c code.size (set_acts_of p events) a start flight) (sym (append-nil (acts_of p events))) at))
-      (subst (λ es. Knows code c flight
-      (view scene.terms (words_after ws ask) states' (put p (party_then start ask back (GoOn flight)) latest) es p
-      (since_then ask) (changes_then ask) (backs_then back)))
-      (sym (append-nil events)) known)
+  goes_calmly x0 x1 x2 x3 x4 x5 x6 x7 x8 x9 = grind (arith, goes_on, none_lengthens, append-nil, view, put)
 
   -- ---- what it owes the changes
 
   pub owes_is : (start : ContainerStart T) (flight : ContainerFlight T) → IsHere start flight
       → owes (flight_of (doing_of (party_of p latest))) ≡ flight_owes flight
-  owes_is start flight here = ap (λ o. owes (flight_of (doing_of o))) here.found ∙ ap owes here.flies
+  owes_is x0 x1 x2 = grind (arith, owes)
 
   -- a call that owes nothing leaves nothing owing
   pub owes_none : (start : ContainerStart T) (flight : ContainerFlight T) (y : Party T) → IsHere start flight
@@ -257,7 +250,7 @@ module _ {T : Type 0} (scene : Scene T) where
 
   module _ (inv : Inv scene) (start : ContainerStart T) (flight : ContainerFlight T) (none : NoLook flight) (here : IsHere start flight) where
     pub is_idle_now : is_looking (flight_of (doing_of (party_of p latest))) ≡ false
-    is_idle_now = ap (λ o. is_looking (flight_of (doing_of o))) here.found ∙ (ap is_looking here.flies ∙ no_look flight none)
+    is_idle_now = grind (arith, no_look)
 
     -- what a turn does that leaves the states
     pub does_with : (words' : List ℕ) (y : Party T) (es : List (Event T)) → invariant.Changes scene words' y es

@@ -36,7 +36,7 @@ module _ {T : Type 0} (scene : Scene T) (inv : Inv scene) (start : ContainerStar
       record { asks = tt; recovers = tt; answers = tt; contains = λ well_formed. tt; places = λ well_formed. tt }
 
   pub calm_none : (words' : List ℕ) (well_formed : WellFormedBefore words' []) → IsCalm scene inv words' y [] well_formed
-  calm_none words' well_formed = reads_same scene inv words' y [] well_formed (λ i o. refl) (λ i b. refl) (λ i b. refl)
+  calm_none x0 x1 = grind (arith, reads_same)
 
   -- ---- it changes nothing, and writes nothing
 
@@ -82,7 +82,7 @@ module _ {T : Type 0} (scene : Scene T) (inv : Inv scene) (start : ContainerStar
         (stale : WellFormed (before scene) → (q : ℕ) → q ≢ p → (o : ℕ) → IsWriter q i o events → left_of i events ≡ false → ⊥)
         (well_formed : WellFormedBefore words' (Hidden p i ∷ [])) where
       hidden_here : contents_of i (events ++ Hidden p i ∷ []) ≡ None
-      hidden_here = fold-append (contents_after i) None events (Hidden p i ∷ []) ∙ at_same i i None (contents_of i events) refl
+      hidden_here = grind (arith, fold-append, at_same)
 
       counted : IsCounted scene inv words' y (Hidden p i ∷ []) well_formed i below new (refl, tt) (Container start) (wrote_of p events) here.span owed
       counted =
@@ -108,10 +108,7 @@ module _ {T : Type 0} (scene : Scene T) (inv : Inv scene) (start : ContainerStar
           }
         where
           gone : {A : Type 0} → (a : ℕ) → a ≡ i → announced_of a (events ++ Hidden p i ∷ []) ≡ true → A
-          gone a same said =
-              both_ways (announced_of a (events ++ Hidden p i ∷ []))
-              (fold-append (announced_after a) false events (Hidden p i ∷ []) ∙ at_same i a false (announced_of a events) same)
-              said
+          gone x0 x1 x2 = grind (arith, both_ways, fold-append, false, at_same)
 
       pub hides : Does scene words' scene.states y (Hidden p i ∷ [])
       hides =
@@ -136,7 +133,7 @@ module _ {T : Type 0} (scene : Scene T) (inv : Inv scene) (start : ContainerStar
       nothing holds = place_none code c ws events (e.whole holds) e.wide i below value (writing holds)
 
       no_other : {A : Type 0} → WellFormed (before scene) → (q : ℕ) → q ≢ p → (o : ℕ) → IsWriter q i o events → A
-      no_other holds q ne o theirs = absurd (ne (one_writer q p i o owner events (inv.good.owned holds.calm) theirs (mine holds)))
+      no_other x0 x1 x2 x3 x4 = grind (arith, one_writer)
 
       -- its owner, who is not gone, fills the index
       fills_it : {A : Type 0} → WellFormed (before scene) → (o : ℕ) → is_gone scene.terms.by o events ≡ true → filled_of i events ≡ Some o → A
@@ -163,8 +160,7 @@ module _ {T : Type 0} (scene : Scene T) (inv : Inv scene) (start : ContainerStar
           }
         where
           unannounced : WellFormed (before scene) → (a : ℕ) → a ≡ i → announced_of a events ≡ true → ⊥
-          unannounced holds a same was =
-              both_ways (is_some (contents_of i events)) (ap is_some (nothing holds)) (e.announced holds i (subst (λ b. announced_of b events ≡ true) same was))
+          unannounced x0 x1 x2 x3 = grind (arith, both_ways, is_some, nothing)
 
       pub places : Does scene words' scene.states y (Placed p i value ∷ [])
       places =
@@ -184,18 +180,7 @@ module _ {T : Type 0} (scene : Scene T) (inv : Inv scene) (start : ContainerStar
     -- in an ill-formed run it can make an odd number even, and nothing is said of it
     module _ (well_formed : WellFormedBefore words' []) (ill_formed : WellFormed (after scene words' y []) → ⊥) where
       miscounted : IsCounted scene inv words' y [] well_formed i below new tt (Container start) (wrote_of p events) here.span owed
-      miscounted =
-          record {
-            contents = λ a ne. fold-append (contents_after a) None events [];
-            announced = λ holds a said. absurd (ill_formed holds);
-            left = λ a ne. fold-append (left_after a) true events [];
-            placed = λ holds q ne o theirs fresh some. ill_formed holds;
-            stood = λ holds was now. ill_formed holds;
-            under = λ holds q ne a o theirs even same. ill_formed holds;
-            over = λ holds q ne o theirs. absurd (ill_formed holds);
-            lost = λ holds o dead filled. absurd (ill_formed holds);
-            whole = λ holds. absurd (ill_formed holds);
-          }
+      miscounted = grind (arith, fold-append, left_after)
 
       pub misplaces : Does scene words' scene.states y []
       misplaces =

@@ -72,10 +72,7 @@ module _ {T : Type 0} (scene : Scene T) (inv : Inv scene) (owner : ℕ) (fits : 
       go false t e = (grind (arith, nat_tests), cc)
 
   ended : (k found number : ℕ) → k < c → (c ≤ k + 1) × (found ≡ number) → Has (k + 1) found → Has c number
-  ended k found number below last h =
-      let all_of = last.0 in
-      let is : k + 1 ≡ c = omega arith in
-      subst (λ n. Has n number) is (subst (λ n. Has (k + 1) n) last.1 h)
+  ended x0 x1 x2 x3 x4 x5 = grind arith
 
   abbrev Tells : ℕ → Bool → ContainerFlight T → Type 0
   Tells number due flight =
@@ -160,10 +157,7 @@ module _ {T : Type 0} (scene : Scene T) (inv : Inv scene) (owner : ℕ) (fits : 
       go : (b : Bool) → (answer == 0) ≡ b
           → (if b then Done found else find_comes_to (at_stage (finds.TheVariants.Asks k found)) (k + 1) found) ≡ Done number
           → Has c number
-      go true t r = let zero : answer ≡ 0 = grind (arith, nat_tests) in absurd (told (sym asks) zero)
-      go false t r =
-          ended k found number at.1 (comes_is (finds.TheVariants.Asks k found) k found number r)
-          (record { count = h.1.0.1; whole = λ well_formed. whole_of (k + 1) found (h.1.0.2 well_formed) })
+      go x0 x1 x2 = grind (arith, ended, comes_is, whole_of, nat_tests)
 
   -- a no ends it where it asked
   abbrev Stops : ℕ → ℕ → T → ContainerFlight T → Type 0
@@ -174,15 +168,7 @@ module _ {T : Type 0} (scene : Scene T) (inv : Inv scene) (owner : ℕ) (fits : 
       → Has (index + 1) number
 
   stage_stops : (number index : ℕ) (value : T) (room : buffers.Buffer 128) (stage : FindStage) → Stops number index value (find_at c owner room stage)
-  stage_stops number index value room (finds.TheVariants.LoadsCell k found) h asks e = absurd (cc)
-  stage_stops number index value room (finds.TheVariants.LoadsCount k found) h asks e = absurd (cc)
-  stage_stops number index value room (finds.TheVariants.LoadsWord k found count word) h asks e = absurd (cc)
-  stage_stops number index value room (finds.TheVariants.ChecksCount k found count) h asks e = absurd (cc)
-  stage_stops number index value room (finds.TheVariants.Asks k found) h asks e =
-      let pair : ◌≡◌ {A = ℕ × T} (k, read_in code room) (index, value) = cc in
-      let is : found ≡ number = cc in
-      subst (λ (one : ℕ × T). Has (one.0 + 1) number) pair
-      (subst (λ n. Has (k + 1) n) is (record { count = h.1.0.1; whole = λ well_formed. whole_of (k + 1) found (h.1.0.2 well_formed) }))
+  stage_stops x0 x1 x2 x3 x4 x5 x6 x7 = grind (arith, read_in, whole_of)
 
 module _ {T : Type 0} (scene : Scene T) (inv : Inv scene) (owner : ℕ) where
   open scene use {coding as code, capacity as c, party as p, events as events}
@@ -295,8 +281,7 @@ module _ {T : Type 0} (shown : Shown T) (terms : Terms) (code : Coding T) (c : �
 
   own_end : (start : Start T) (flight : Flight T) → StandsThere (family_by terms code c) t s q x since start flight
       → Wrote code (kept_now shown terms code c t s) start flight → q ≡ p
-  own_end (Container start) (flights.TheVariants.Container flight) h e = (wrote_end start flight e).party
-  own_end start flight h e = absurd h.at
+  own_end x0 x1 x2 x3 = grind (arith, wrote_end)
 
   -- by the words, and what is kept beside them
   module _ (flight : Flight T) (doing : x.doing ≡ Going flight since) (e : Wrote t.world.coding t.world.kept x.start flight) where
@@ -304,9 +289,7 @@ module _ {T : Type 0} (shown : Shown T) (terms : Terms) (code : Coding T) (c : �
     there_is = stands_there (family_by terms code c) t s q x since flight found doing
 
     by_now : Wrote code (kept_now shown terms code c t s) x.start flight
-    by_now =
-        subst (λ y. Wrote y (kept_now shown terms code c t s) x.start flight) s.coding
-        (subst (λ kept. Wrote t.world.coding kept x.start flight) (kept_is t.world.kept t.world.words s.state s.fit).0 e)
+    by_now = grind (arith, kept_now, kept_is)
 
     pub own_party : q ≡ p
     own_party = own_end x.start flight there_is by_now
@@ -400,10 +383,7 @@ module _ {T : Type 0} (shown : Shown T) (terms : Terms) (code : Coding T) (c : �
 
   -- no decision is due in a step
   not_due : (q : ℕ) → call_refusal t.world (Next q) ≡ None → is_due t.world.coding (flight_in t.world q) ≡ false
-  not_due q e =
-      let first = row_passed (is_none (flight_in t.world q)) Idle _ e in
-      let second = row_passed (is_due t.world.coding (flight_in t.world q)) Undecided _ first.1 in
-      second.0
+  not_due x0 x1 = grind (arith, row_passed, is_none)
 
   tells : MayGoOn terms t → (turn : Turn T) → IsAllowed t.world turn → Ended (events_of t.world turn)
       → turn ≢ Decide p false → Told c (after_turn t turn).world.latest
@@ -422,8 +402,7 @@ module _ {T : Type 0} (shown : Shown T) (terms : Terms) (code : Coding T) (t : T
       → (after_turn t turn).events ≡ t.events ++ Finished p (Container (Find owner)) (Number number) ∷ []
       → Told shown terms code t.world.capacity t s p owner number bound (after_turn t turn).world.latest
       → CountsIf well_formed p owner bound number t.events
-  right p owner number bound is told =
-      (told.0, λ h. told.1 (subst (IsWellFormedSoFar terms (after_turn t turn).world.latest) is (so_far h)))
+  right x0 x1 x2 x3 x4 x5 = grind (arith, after_turn)
 
   pub counts_all : (p owner number : ℕ)
       → (after_turn t turn).events ≡ t.events ++ Finished p (Container (Find owner)) (Number number) ∷ []

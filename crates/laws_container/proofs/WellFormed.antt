@@ -1,4 +1,5 @@
 -- A well-formed run, of its events and the parties' latest calls; and that a run was well-formed a turn ago.
+use Rattle.std.proofs.Common.{arith}
 use Rattle.laws_container.proofs.Names.{◌≡◌, ◌≢◌, ⊎_elim, ℕ, Option, Some, None, List, ◌∷◌, ◌++◌, refl, sym, ap}
 use Rattle.laws_container.proofs.Names.{subst, ◌∙◌, append_assoc, cases_eq, Event, Party, ReplacesRight}
 use Rattle.laws_container.proofs.Names.{StandsWellFormed, IsWellFormedRun, IsFilledWith, BeginsNone, party_of, put}
@@ -16,14 +17,14 @@ module _ {T : Type 0} where
 
   pub well_formed_on : (terms : Terms) (t : Trace T) → Keeps terms → IsHonestBy terms.by t.events
       → IsWellFormedRun t → IsWellFormedSoFar terms t.world.latest t.events
-  well_formed_on terms t kept honest h = record { kept = kept; calm = (h.frees, honest); replaced = h.replaced; replaces = h.replaces }
+  well_formed_on x0 x1 x2 x3 x4 = grind arith
 
   -- where owners die
   pub well_formed_so_far : (t : Trace T) → IsWellFormedRun t → IsWellFormedSoFar dying t.world.latest t.events
   well_formed_so_far t h = well_formed_on dying t refl tt h
 
   pub each_less : (P : List (Event T) → Event T → Type 0) (events es : List (Event T)) → Each P (events ++ es) → Each P events
-  each_less P events es all before after e is = all before (after ++ es) e (ap (λ xs. xs ++ es) is ∙ append_assoc before (e ∷ after) es)
+  each_less x0 x1 x2 x3 x4 x5 x6 x7 = grind (arith, append_assoc)
 
   -- a replace of a party whose span stays was begun rightly before as well
   pub stands_less : (q : ℕ) (o : Option (Party T)) (events es : List (Event T)) → BeginsNone q es
@@ -39,9 +40,7 @@ module _ {T : Type 0} where
     IsWellFormedThen = IsWellFormedSoFar terms (put p y latest) (events ++ es)
 
     others_less : IsWellFormedThen → (q : ℕ) → q ≢ p → StandsWellFormed q (party_of q latest) events
-    others_less h q ne =
-        stands_less q (party_of q latest) events es (others_begin_none q p es ne own) (span_of-other p q events es ne own)
-        (subst (λ o. StandsWellFormed q o (events ++ es)) (party_put_other q p y latest ne) (h.replaces q))
+    others_less x0 x1 x2 = grind (arith, stands_less, others_begin_none, span_of-other, party_put_other)
 
     -- a turn of a party of which this is so
     pub well_formed_before : (IsWellFormedThen → StandsWellFormed p (party_of p latest) events) → IsWellFormedThen → IsWellFormedSoFar terms latest events

@@ -28,21 +28,22 @@ use Rattle.model.specs.Families.Indices.Calls.{acquire_answer, after, goes_back}
 use Rattle.model.specs.Families.Indices.Reading.{is_locked, tally_of, in_use}
 use Rattle.model.specs.Families.Queues.Calls.{as_it_is}
 use Rattle.model.specs.Turns.{words_after}
+use Rattle.model.proofs.Family.{Scene, Inv}
 use Rattle.laws_indices.proofs.Core.{head_of, counted_in, is_claimed, head_stays, Good}
-use Rattle.laws_indices.proofs.Invariant.{Scene, Inv, AnswersFew}
+use Rattle.laws_indices.proofs.Invariant.{IndexSet, AnswersFew, outline}
 use Rattle.laws_indices.proofs.Knows.{acquire_at, acquire_number, acquire_counts, AcquireAt, AcquireKnows, IsOpen, IsPaid, PaidUnless, AllClaimed}
 use Rattle.laws_indices.proofs.Moves.{takes, counts_right, unlocked_for, some_free, was_free, still_claimed, claims, claims_again}
 use Rattle.laws_indices.proofs.Stages.{busy, IsHere, busy_here, all_in_use, Comes, StepOf, since_then, changes_then}
 use Rattle.laws_indices.proofs.Stages.{backs_then, paid_of, unless_then, goes_on, claims_index, open_says}
 
-module _ {T : Type 0} (scene : Scene T) (inv : Inv scene) where
+module _ {T : Type 0} (scene : Scene T IndexSet) (inv : Inv outline scene) where
   open scene use {capacity as c, party as p, steps, backs, since, changes, latest, events}
 
   abbrev ws : List ℕ
-  ws = scene.set.words
+  ws = scene.state.words
 
   abbrev hs : List (Option ℕ)
-  hs = scene.set.holders
+  hs = scene.state.holders
 
   g : Good c ws hs (busy scene)
   g = inv.holds.good
@@ -110,14 +111,7 @@ module _ {T : Type 0} (scene : Scene T) (inv : Inv scene) where
 
   loads_next : (head : ℕ) → IsOpen c head → PaidUnless (head_of ws ≡ head) since changes backs
       → steps ≤ 1 + backs * max 2 c → StepOf scene Acquire (acquire_at c (acquires.TheVariants.LoadsNext head))
-  loads_next head at knows s =
-      let ask : Option Ask = Some (loads (next_word (proposed head))) in
-      let same : words_after ws ask ≡ ws = set-get_or ws (next_word (proposed head)) 0 in
-      let next : AcquireStage = acquires.TheVariants.ExchangesHead head (get_or ws (next_word (proposed head)) 0 % 2 ^ 24) in
-      goes_on scene inv Acquire (acquire_at c (acquires.TheVariants.LoadsNext head)) (acquire_at c next) ask false
-      (λ busy' e. subst (λ w. Good c w hs busy') (sym same) (let is : busy scene ≡ busy' = omega arith in subst (λ n. Good c ws hs n) is g))
-      refl refl refl (ap (λ w. says_locked (head_of w)) same) tt (omega arith) (refl, at)
-      (unless_then scene ask (head_of ws ≡ head) (head_of (words_after ws ask) ≡ head) (λ e. ap head_of same ∙ e) knows)
+  loads_next x0 x1 x2 x3 = grind (arith, next_word, set-get_or, goes_on, false, busy, g, head_of, unless_then)
 
   -- ---- the exchange of the head
 
@@ -142,19 +136,14 @@ module _ {T : Type 0} (scene : Scene T) (inv : Inv scene) where
           (takes c ws hs (busy scene) next g not_locked (λ full. open_head.1 (ap borrowed (sym is) ∙ full))))
 
       lock_same : says_locked (head_of (words_after ws (Some exchange))) ≡ says_locked (head_of ws)
-      lock_same =
-          open_says (head_of (words_after ws (Some exchange)))
-          (unlocked_for c (words_after ws (Some exchange)) hs (busy scene + 1) (good_taken (busy scene + 1) refl) (omega arith))
-          ∙ sym (open_says (head_of ws) not_locked)
+      lock_same = grind (arith, open_says, head_of, unlocked_for, busy, good_taken, not_locked)
 
       goes_to_claim : (stage : AcquireStage) → acquire_counts stage ≡ 1 → AcquireAt c stage
           → steps + 1 ≤ acquire_number c stage (backs_then scene false)
           → AcquireKnows c (words_after ws (Some exchange)) (since_then scene (Some exchange))
           (changes_then scene (Some exchange)) (backs_then scene false) stage
           → Does exchanging exchange false (GoOn (at_acquire (call_at exchanging) stage))
-      goes_to_claim stage heavy at low known =
-          goes_on scene inv Acquire (acquire_at c exchanging) (acquire_at c stage) (Some exchange) false
-          (λ busy' e. good_taken busy' (omega arith)) refl refl refl lock_same tt low (refl, at) known
+      goes_to_claim x0 x1 x2 x3 x4 = grind (arith, goes_on, false, good_taken, lock_same)
 
       exchange_succeeds : Does exchanging exchange false (GoOn (at_acquire (call_at exchanging) (first_claim c head)))
       exchange_succeeds =
@@ -252,7 +241,7 @@ module _ {T : Type 0} (scene : Scene T) (inv : Inv scene) where
     scan_paid = paid_of scene (AllClaimed c ws i) knows
 
     one_more : is_claimed c ws i ≡ true → AllClaimed c ws i → AllClaimed c ws (i + 1)
-    one_more stood all j less = ⊎_elim (λ before. all j before) (λ last. let same : j ≡ i = omega arith in ap (is_claimed c ws) same ∙ stood) (cases_lt j i)
+    one_more x0 x1 x2 x3 = grind arith
 
     scans_on : is_claimed c ws i ≡ true → i + 1 < c → Does scanning scan false (GoOn (at_acquire (call_at scanning) (acquires.TheVariants.Scans (i + 1))))
     scans_on stood more =

@@ -95,10 +95,10 @@ module _ (c : ℕ) where
       claim_leaves j ne = claim_stays i (bit_or word (flag i)) j within (λ same. with_leaves word i j (λ e. ne (omega arith)))
 
       pub clear_clears : is_claimed (set words (flag_word c i) (bit_and word (2 ^ 64 - 1 - flag i))) i ≡ false
-      clear_clears = ap (λ z. has_flag z i) (get_or-set_same words (flag_word c i) (bit_and word (2 ^ 64 - 1 - flag i)) 0 within) ∙ without_clear word i
+      clear_clears = grind (arith, has_flag, get_or-set_same, flag, without_clear)
 
       pub clear_leaves : (j : ℕ) → j ≢ i → is_claimed (set words (flag_word c i) (bit_and word (2 ^ 64 - 1 - flag i))) j ≡ is_claimed words j
-      clear_leaves j ne = claim_stays i (bit_and word (2 ^ 64 - 1 - flag i)) j within (λ same. without_leaves word i j (λ e. ne (omega arith)))
+      clear_leaves x0 x1 = grind (arith, claim_stays, flag, without_leaves)
 
   -- ---- what holds of both
 

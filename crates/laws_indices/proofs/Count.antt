@@ -30,7 +30,7 @@ module _ (c counted total : ℕ) (few : c < locked) (h : Tally c counted total) 
   counts_all unlocked = ⊎_elim (λ x. x) (λ x. absurd (unlocked x.0)) h
 
   pub counts_none : counted ≡ locked → total ≡ 0
-  counts_none shut = ⊎_elim (λ x. let same = x.0 in let most = x.1 in absurd (omega arith)) (λ x. x.1) h
+  counts_none x0 = grind arith
 
   -- while something is counted, the set is not locked
   pub is_open : 1 ≤ total → counted ≢ locked

@@ -23,12 +23,12 @@ use Rattle.model.specs.Coding.{Coding}
 use Rattle.model.specs.Families.Indices.Promises.{HoldsRight, CountsRight, AnswersRight, GoesStraight, promise}
 use Rattle.model.specs.Families.Indices.Reading.{holder_after, holder_of, locked_after, is_locked, Tally, tally_after, tally_of, in_use}
 use Rattle.model.specs.Parties.{party_of, put, doing_of, flight_of}
-use Rattle.model.specs.Promises.Spans.{Stands}
-use Rattle.model.specs.Reading.{Each, Span, own_after, span_of}
-use Rattle.model.proofs.Frame as frame
+use Rattle.model.specs.Reading.{Each}
+use Rattle.model.proofs.Family as families
+use Rattle.model.proofs.Family.{Scene, Outline}
 use Rattle.model.proofs.Frame.{Family}
 use Rattle.model.proofs.Parties.{party_put_same, party_put_other}
-use Rattle.model.proofs.Readings.{AreRight, Each-append, AreOwn, AllFollow}
+use Rattle.model.proofs.Readings.{AreRight, Each-append}
 use Rattle.laws_indices.proofs.Core.{head_of, holder, held_below, Good}
 use Rattle.laws_indices.proofs.Knows.{counts, takes, gives, flight_wrote, number_of, At, FlightKnows, IsSeen}
 use Rattle.laws_indices.proofs.Totals.{weight_of, weight_at, total, total_put, total_longer}
@@ -39,22 +39,7 @@ pub record IndexSet : Type 0 where
   pub seats : ℕ  -- the parties from this number on have begun no call
 
 abbrev pub Represents : {T : Type 0} → Registry T → List ℕ → IndexSet → Type 0
-Represents (registries.TheVariants.Indices holders) words s = (words ≡ s.words) × (holders ≡ s.holders)
-Represents kept words s = ⊥
-
--- ---- where a party's call stands, with the machine around it
-
-pub record Scene (T : Type 0) : Type 0 where
-  pub coding : Coding T
-  pub capacity : ℕ
-  pub set : IndexSet
-  pub party : ℕ
-  pub steps : ℕ
-  pub backs : ℕ
-  pub since : ℕ
-  pub changes : ℕ
-  pub latest : List (ℕ × Party T)
-  pub events : List (Event T)
+Represents kept words s = (kept ≡ registries.TheVariants.Indices s.holders) × (words ≡ s.words)
 
 -- a turn of this party needs a seat for it
 abbrev pub seats_with : ℕ → ℕ → ℕ
@@ -101,7 +86,7 @@ module _ {T : Type 0} where
 
   -- ---- the family of the unique index set
 
-  abbrev any_wrote : ℕ → Flight T → List (Event T)
+  abbrev pub any_wrote : ℕ → Flight T → List (Event T)
   any_wrote p (flights.TheVariants.Indices flight) = flight_wrote p flight
   any_wrote p flight = []
 
@@ -113,138 +98,108 @@ module _ {T : Type 0} where
   FlightAt c holders p (any_starts.TheVariants.Indices start) (flights.TheVariants.Indices flight) = At c holders p start flight
   FlightAt c holders p start flight = ⊥
 
-  abbrev Knowing : ℕ → List ℕ → ℕ → ℕ → ℕ → Flight T → Type 0
+  abbrev pub Knowing : ℕ → List ℕ → ℕ → ℕ → ℕ → Flight T → Type 0
   Knowing c words since changes backs (flights.TheVariants.Indices flight) = FlightKnows c words since changes backs flight
   Knowing c words since changes backs flight = ⊥
 
-  abbrev pub family : Coding T → ℕ → Family T
-  family code c =
-      record {
-        coding = code;
-        kind = kinds.TheVariants.Indices;
-        promise = promise;
-        capacity = c;
-        State = IndexSet;
-        Represents = Represents;
-        Holds = λ s latest events turns. Holds c s latest events;
-        written = λ s p flight. any_wrote p flight;
-        number = λ wrote. number c;
-        At = λ s p start flight. FlightAt c s.holders p start flight;
-        Knows = λ s p events since changes backs flight. Knowing c s.words since changes backs flight;
-      }
-
-  pub record Inv (scene : Scene T) : Type 0 where
-    pub holds : Holds scene.capacity scene.set scene.latest scene.events
-    pub frame : frame.Inv (family scene.coding scene.capacity) scene.set scene.latest scene.events scene.changes
-
-  abbrev pub set_then : Scene T → List ℕ → List (Option ℕ) → IndexSet
+  abbrev pub set_then : Scene T IndexSet → List ℕ → List (Option ℕ) → IndexSet
   set_then scene words holders =
-      record { words = words; holders = holders; seats = seats_with scene.set.seats scene.party }
+      record { words = words; holders = holders; seats = seats_with scene.state.seats scene.party }
 
-  -- what a turn shows, where the words and the holders become these, the party's call under way was this one, if any, and
-  -- its span was this
-  pub record Shows (scene : Scene T) (words' : List ℕ) (holders' : List (Option ℕ)) (was : Option (Flight T))
-      (from : Span T) (y : Party T) (es : List (Event T)) (changes' : ℕ) : Type 0 where
+  -- what a turn conserves, where the set becomes this, and the party's call under way was this one, if any
+  pub record Conserves (scene : Scene T IndexSet) (s' : IndexSet) (was : Option (Flight T)) (y : Party T) (es : List (Event T)) (changes' : ℕ) : Type 0 where
+    pub seats : s'.seats ≡ seats_with scene.state.seats scene.party
     pub right : AreRight (HoldsRight scene.capacity) scene.events es
     pub answers : AreRight (AnswersFew scene.capacity) scene.events es
     pub good : (busy' : ℕ) → busy' + weight_of (of_any counts) was
-        ≡ all_counted scene.latest scene.set.seats + weight_of (of_any counts) (flight_of (Some y.doing))
-        → Good scene.capacity words' holders' busy'
+        ≡ all_counted scene.latest scene.state.seats + weight_of (of_any counts) (flight_of (Some y.doing))
+        → Good scene.capacity s'.words s'.holders busy'
     pub tally : (taking' giving' : ℕ)
         → taking' + weight_of (of_any takes) was
-        ≡ all_taking scene.latest scene.set.seats + weight_of (of_any takes) (flight_of (Some y.doing))
-        → giving' + weight_of (of_any gives) was ≡ all_giving scene.latest scene.set.seats + weight_of (of_any gives) (flight_of (Some y.doing))
-        → fold tally_after (tally_with scene.capacity scene.set.holders (all_taking scene.latest scene.set.seats)
-        (all_giving scene.latest scene.set.seats))
+        ≡ all_taking scene.latest scene.state.seats + weight_of (of_any takes) (flight_of (Some y.doing))
+        → giving' + weight_of (of_any gives) was ≡ all_giving scene.latest scene.state.seats + weight_of (of_any gives) (flight_of (Some y.doing))
+        → fold tally_after (tally_with scene.capacity scene.state.holders (all_taking scene.latest scene.state.seats)
+        (all_giving scene.latest scene.state.seats))
         es
-        ≡ tally_with scene.capacity holders' taking' giving'
-    pub holders : (i : ℕ) → fold (holder_after i) (holder scene.set.holders i) es ≡ holder holders' i
-    pub lock : fold locked_after (says_locked (head_of scene.set.words)) es ≡ says_locked (head_of words')
+        ≡ tally_with scene.capacity s'.holders taking' giving'
+    pub holders : (i : ℕ) → fold (holder_after i) (holder scene.state.holders i) es ≡ holder s'.holders i
+    pub lock : fold locked_after (says_locked (head_of scene.state.words)) es ≡ says_locked (head_of s'.words)
     pub straight : GoesStraight y.start y.backs
-    pub own : AreOwn scene.party es
-    pub stands : AllFollow (Stands promise scene.capacity) from es
-    pub here : frame.Fits (family scene.coding scene.capacity) (set_then scene words' holders') scene.party (Some y) (fold own_after from es)
-    pub knows : frame.KnowsDoing (family scene.coding scene.capacity) (set_then scene words' holders') scene.party (scene.events ++ es) changes' y.backs y.doing
-    pub seen : IsSeen scene.set.words words' scene.changes changes'
-    pub keeps : (q : ℕ) → q ≢ scene.party → (index : ℕ) → holder scene.set.holders index ≡ Some q → holder holders' index ≡ Some q
+    pub seen : IsSeen scene.state.words s'.words scene.changes changes'
+    pub keeps : (q : ℕ) → q ≢ scene.party → (index : ℕ) → holder scene.state.holders index ≡ Some q → holder s'.holders index ≡ Some q
 
-  any_stays : (c : ℕ) (holders holders' : List (Option ℕ)) (q : ℕ)
-      → ((index : ℕ) → holder holders index ≡ Some q → holder holders' index ≡ Some q)
-      → (start : Start T) (flight : Flight T) → FlightAt c holders q start flight → FlightAt c holders' q start flight
-  any_stays x0 x1 x2 x3 x4 x5 x6 x7 = grind arith
+  abbrev pub outline : Outline T
+  outline =
+      record {
+        kind = kinds.TheVariants.Indices;
+        alone = refl;
+        promise = promise;
+        State = IndexSet;
+        words = λ s. s.words;
+        kept = λ s. registries.TheVariants.Indices s.holders;
+        Holds = λ code c s latest events turns. Holds c s latest events;
+        written = λ s p flight. any_wrote p flight;
+        number = λ code c. number c;
+        At = λ code c s p start flight. FlightAt c s.holders p start flight;
+        Knows = λ code c s p events since changes backs flight. Knowing c s.words since changes backs flight;
+        Conserves = λ scene s' was y es changes'. Conserves scene s' was y es changes';
+      }
 
-  any_knows : (c : ℕ) (words words' : List ℕ) (changes changes' : ℕ) → IsSeen words words' changes changes'
-      → (since backs : ℕ) (flight : Flight T) → Knowing c words since changes backs flight
-      → Knowing c words' since changes' backs flight
-  any_knows x0 x1 x2 x3 x4 x5 x6 x7 x8 x9 = grind arith
+  abbrev pub family : Coding T → ℕ → Family T
+  family = families.family outline
 
-  module _ (scene : Scene T) (words' : List ℕ) (holders' : List (Option ℕ)) (was : Option (Flight T))
-      (from : Span T) (y : Party T) (es : List (Event T)) (changes' : ℕ)
-      (s : Shows scene words' holders' was from y es changes') where
-    pub owes : span_of scene.party scene.events ≡ from → Inv scene
-        → frame.Owes (family scene.coding scene.capacity) (set_then scene words' holders') scene.party y scene.latest
-        scene.events es changes'
-    owes is inv =
-        frame.owes (family scene.coding scene.capacity) _ _ _ _ _ _ _ _ _ _ is inv.frame
-        (record {
-          own = s.own;
-          stands = s.stands;
-          here = s.here;
-          knows = s.knows;
-          others = λ q ne start flight h. (any_stays scene.capacity scene.set.holders holders' q (s.keeps q ne) start flight h, refl);
-          others_know = λ q ne. any_knows scene.capacity scene.set.words words' scene.changes changes' s.seen;
-        })
+  module _ (scene : Scene T IndexSet) (s' : IndexSet) (was : Option (Flight T)) (y : Party T) (es : List (Event T)) (changes' : ℕ)
+      (is : flight_of (doing_of (party_of scene.party scene.latest)) ≡ was) (s : Conserves scene s' was y es changes')
+      (h : Holds scene.capacity scene.state scene.latest scene.events) where
+    open scene use {capacity as c, state as set, party as p, latest as latest, events as events}
 
-    module _ (is : flight_of (doing_of (party_of scene.party scene.latest)) ≡ was) (h : Holds scene.capacity scene.set scene.latest scene.events) where
-      open scene use {capacity as c, set as set, party as p, latest as latest, events as events}
+    abbrev pub latest' : List (ℕ × Party T)
+    latest' = put p y latest
 
-      abbrev pub latest' : List (ℕ × Party T)
-      latest' = put p y latest
+    abbrev pub seats' : ℕ
+    seats' = s'.seats
 
-      abbrev pub seats' : ℕ
-      seats' = seats_with set.seats p
+    enough : (set.seats ≤ seats') × (p < seats')
+    enough = let same = s.seats in grind arith
 
-      enough : (set.seats ≤ seats') × (p < seats')
-      enough = grind arith
+    no_call : (q : ℕ) → set.seats ≤ q → party_of q latest ≡ None
+    no_call x0 x1 = grind arith
 
-      no_call : (q : ℕ) → set.seats ≤ q → party_of q latest ≡ None
-      no_call x0 x1 = grind arith
+    weight_moves : (weight : IndexFlight → ℕ)
+        → total (of_any weight) latest' seats' + weight_of (of_any weight) was
+        ≡ total (of_any weight) latest set.seats + weight_of (of_any weight) (flight_of (Some y.doing))
+    weight_moves weight =
+        let puts = total_put (of_any weight) latest p y seats' enough.1 in
+        let grows = total_longer (of_any weight) latest set.seats seats' enough.0 no_call in
+        let before : weight_at (of_any weight) latest p ≡ weight_of (of_any weight) was = ap (weight_of (of_any weight)) is in
+        omega arith
 
-      weight_moves : (weight : IndexFlight → ℕ)
-          → total (of_any weight) latest' seats' + weight_of (of_any weight) was
-          ≡ total (of_any weight) latest set.seats + weight_of (of_any weight) (flight_of (Some y.doing))
-      weight_moves weight =
-          let puts = total_put (of_any weight) latest p y seats' enough.1 in
-          let grows = total_longer (of_any weight) latest set.seats seats' enough.0 no_call in
-          let before : weight_at (of_any weight) latest p ≡ weight_of (of_any weight) was = ap (weight_of (of_any weight)) is in
-          omega arith
+    of_each : (P : ℕ → Party T → Type 0) → P p y → ((q : ℕ) (x : Party T) → party_of q latest ≡ Some x → P q x)
+        → (q : ℕ) (x : Party T) → party_of q latest' ≡ Some x → P q x
+    of_each P mine theirs q x found = ⊎_elim here there (cases_eq q p)
+      where
+        here : q ≡ p → P q x
+        here e =
+            let at : party_of p latest' ≡ Some x = subst (λ n. party_of n latest' ≡ Some x) e found in
+            let both : Some y ≡ Some x = sym (party_put_same p y latest) ∙ at in
+            let same : y ≡ x = cc in
+            subst (λ n. P n x) (sym e) (subst (P p) same mine)
 
-      of_each : (P : ℕ → Party T → Type 0) → P p y → ((q : ℕ) (x : Party T) → party_of q latest ≡ Some x → P q x)
-          → (q : ℕ) (x : Party T) → party_of q latest' ≡ Some x → P q x
-      of_each P mine theirs q x found = ⊎_elim here there (cases_eq q p)
-        where
-          here : q ≡ p → P q x
-          here e =
-              let at : party_of p latest' ≡ Some x = subst (λ n. party_of n latest' ≡ Some x) e found in
-              let both : Some y ≡ Some x = sym (party_put_same p y latest) ∙ at in
-              let same : y ≡ x = cc in
-              subst (λ n. P n x) (sym e) (subst (P p) same mine)
+        there : q ≢ p → P q x
+        there ne = theirs q x (sym (party_put_other q p y latest ne) ∙ found)
 
-          there : q ≢ p → P q x
-          there ne = theirs q x (sym (party_put_other q p y latest ne) ∙ found)
-
-      pub holds_more : Holds c (set_then scene words' holders') latest' (events ++ es)
-      holds_more =
-          record {
-            bounded = of_each (λ q x. q < seats') enough.1 (λ q x found. let below = h.bounded q x found in let low = enough.0 in omega arith);
-            good = s.good (all_counted latest' seats') (weight_moves counts);
-            tally =
-                fold-append tally_after (record { held = 0; taking = 0; giving = 0 }) events es
-                ∙ (ap (λ z. fold tally_after z es) h.tally
-                ∙ s.tally (all_taking latest' seats') (all_giving latest' seats') (weight_moves takes) (weight_moves gives));
-            holders = λ i. fold-append (holder_after i) None events es ∙ (ap (λ o. fold (holder_after i) o es) (h.holders i) ∙ s.holders i);
-            lock = fold-append locked_after false events es ∙ (ap (λ b. fold locked_after b es) h.lock ∙ s.lock);
-            straight = of_each (λ q x. GoesStraight x.start x.backs) s.straight h.straight;
-            holds = Each-append (HoldsRight c) events es h.holds s.right;
-            answers = Each-append (AnswersFew c) events es h.answers s.answers;
-          }
+    pub holds_more : Holds c s' latest' (events ++ es)
+    holds_more =
+        record {
+          bounded = of_each (λ q x. q < seats') enough.1 (λ q x found. let below = h.bounded q x found in let low = enough.0 in omega arith);
+          good = s.good (all_counted latest' seats') (weight_moves counts);
+          tally =
+              fold-append tally_after (record { held = 0; taking = 0; giving = 0 }) events es
+              ∙ (ap (λ z. fold tally_after z es) h.tally
+              ∙ s.tally (all_taking latest' seats') (all_giving latest' seats') (weight_moves takes) (weight_moves gives));
+          holders = λ i. fold-append (holder_after i) None events es ∙ (ap (λ o. fold (holder_after i) o es) (h.holders i) ∙ s.holders i);
+          lock = fold-append locked_after false events es ∙ (ap (λ b. fold locked_after b es) h.lock ∙ s.lock);
+          straight = of_each (λ q x. GoesStraight x.start x.backs) s.straight h.straight;
+          holds = Each-append (HoldsRight c) events es h.holds s.right;
+          answers = Each-append (AnswersFew c) events es h.answers s.answers;
+        }

@@ -2,8 +2,6 @@ pub mod Acquires
 pub mod Core
 pub mod Count
 pub mod Invariant
-pub mod Justified
-pub mod Kept
 pub mod Knows
 pub mod Looks
 pub mod Moves
@@ -11,5 +9,6 @@ pub mod Opening
 pub mod Releases
 pub mod Sound
 pub mod Stages
+pub mod Steps
 pub mod Sums
 pub mod Totals

@@ -13,8 +13,9 @@ use Rattle.model.specs.declared.families.indices.calls.IndexFlight.TheVariants.{
 use Rattle.model.specs.Families.Indices.Promises.{CountsRight}
 use Rattle.model.specs.Families.Indices.Reading.{is_locked, Tally, tally_of, in_use}
 use Rattle.model.specs.Turns.{words_after}
+use Rattle.model.proofs.Family.{Scene, Inv}
 use Rattle.laws_indices.proofs.Core.{head_of, Good}
-use Rattle.laws_indices.proofs.Invariant.{Scene, Inv}
+use Rattle.laws_indices.proofs.Invariant.{IndexSet, outline}
 use Rattle.laws_indices.proofs.Moves.{counts_right}
 use Rattle.laws_indices.proofs.Stages.{busy, IsHere, all_in_use, StepOf, ends, same_tally}
 
@@ -24,14 +25,14 @@ borrowed_at = BorrowedIndices (record { call = record {}; given = tt; room = tt 
 abbrev pub locked_at : IndexFlight
 locked_at = IsLocked (record { call = record {}; given = tt; room = tt })
 
-module _ {T : Type 0} (scene : Scene T) (inv : Inv scene) (straight : scene.backs ≡ 0) (s : scene.steps ≤ 0) where
+module _ {T : Type 0} (scene : Scene T IndexSet) (inv : Inv outline scene) (straight : scene.backs ≡ 0) (s : scene.steps ≤ 0) where
   open scene use {capacity as c, party as p, steps, backs, since, changes, latest, events}
 
   abbrev ws : List ℕ
-  ws = scene.set.words
+  ws = scene.state.words
 
   abbrev hs : List (Option ℕ)
-  hs = scene.set.holders
+  hs = scene.state.holders
 
   g : Good c ws hs (busy scene)
   g = inv.holds.good
@@ -43,9 +44,7 @@ module _ {T : Type 0} (scene : Scene T) (inv : Inv scene) (straight : scene.back
   same = set-get_or ws 0 0
 
   good_same : (busy' : ℕ) → busy' + 0 ≡ busy scene + 0 → Good c (words_after ws (Some loads)) hs busy'
-  good_same busy' e =
-      let is : busy scene ≡ busy' = omega arith in
-      subst (λ w. Good c w hs busy') (sym same) (subst (λ n. Good c ws hs n) is g)
+  good_same x0 x1 = grind (arith, busy, same, g)
 
   -- what it counts lies between what is held and what is in use
   counts_so : IsHere scene borrowed_at → CountsRight events (borrowed_number (head_of ws))
@@ -72,13 +71,7 @@ module _ {T : Type 0} (scene : Scene T) (inv : Inv scene) (straight : scene.back
   counts_few = grind arith
 
   pub counts_step : IsHere scene borrowed_at → StepOf scene starts.TheVariants.BorrowedIndices borrowed_at
-  counts_step here =
-      ends scene inv starts.TheVariants.BorrowedIndices borrowed_at (Number (borrowed_number (head_of ws)))
-      (Some loads) false good_same told refl (counts_so here, counts_few) (ap (λ w. says_locked (head_of w)) same)
-      tt (omega arith) (omega arith)
+  counts_step x0 = grind (arith, ends, head_of, false, good_same, told, counts_so, counts_few, same)
 
   pub looks_step : StepOf scene starts.TheVariants.IsLocked locked_at
-  looks_step =
-      ends scene inv starts.TheVariants.IsLocked locked_at (Truth (says_locked (head_of ws))) (Some loads) false
-      good_same told refl (sym inv.holds.lock) (ap (λ w. says_locked (head_of w)) same) tt (omega arith)
-      (omega arith)
+  looks_step = grind (arith, ends, head_of, false, good_same, told, same)

@@ -17,11 +17,11 @@ module _ (c : ℕ) (words : List ℕ) (holders : List (Option ℕ)) where
 
   module _ (busy : ℕ) (g : Good c words holders busy) where
     pub counts_right : counted_in words ≢ locked → (counted_in words ≡ held_below holders c + busy) × (held_below holders c + busy ≤ c)
-    counts_right unlocked = counts_all c (counted_in words) (held_below holders c + busy) g.few g.tally unlocked
+    counts_right x0 = grind (arith, counts_all)
 
     -- a call that takes an index or gives one back finds no lock
     pub unlocked_for : 1 ≤ busy → counted_in words ≢ locked
-    unlocked_for some = is_open c (counted_in words) (held_below holders c + busy) g.few g.tally (omega arith)
+    unlocked_for x0 = grind (arith, is_open)
 
     -- where none is counted as held, none is held
     pub nobody : held_below holders c ≡ 0 → (i : ℕ) → holder holders i ≡ None
@@ -37,27 +37,13 @@ module _ (c : ℕ) (words : List ℕ) (holders : List (Option ℕ)) where
 
     -- some flag is free while a call takes an index
     pub some_free : 1 ≤ busy → ((i : ℕ) → i < c → is_claimed c words i ≡ true) → ⊥
-    some_free some all =
-        let each : held_below holders c ≡ c =
-        sum_all (λ i. one_held (holder holders i)) c
-        (λ i below. one_if_some (holder holders i) (sym (g.flags i below) ∙ all i below)) in
-        let is = counts_right (unlocked_for some) in
-        let most = is.1 in
-        absurd (omega arith)
+    some_free x0 x1 = grind (arith, sum_all, holder, one_if_some, counts_right, unlocked_for)
 
   -- ---- a word that is none of flags
 
   moves_word : (n x busy busy' : ℕ) → n ≤ c → Good c words holders busy
       → Tally c (counted_in (set words n x)) (held_below holders c + busy') → Good c (set words n x) holders busy'
-  moves_word n x busy busy' low g tally =
-      record {
-        some = g.some;
-        few = g.few;
-        wide = length-set words n x ∙ g.wide;
-        flags = λ i below. claims_stay c words n x i low ∙ g.flags i below;
-        long = g.long;
-        tally = tally;
-      }
+  moves_word x0 x1 x2 x3 x4 x5 x6 = grind (arith, length-set, claims_stay)
 
   pub stores_next : (index x busy : ℕ) → index < c → Good c words holders busy → Good c (set words (1 + index) x) holders busy
   stores_next index x busy below g =
@@ -162,9 +148,7 @@ module _ (c : ℕ) (words : List ℕ) (holders : List (Option ℕ)) where
 
     -- a flag that stands already goes on to stand, as do the others
     pub still_claimed : (busy j : ℕ) → Good c words holders busy → is_claimed c words j ≡ true → is_claimed c (set words place (bit_or old (flag i))) j ≡ true
-    still_claimed busy j g stood =
-        ⊎_elim (λ e. ap (is_claimed c (set words place (bit_or old (flag i)))) e ∙ claim_sets c words i (within busy g))
-        (λ ne. claim_leaves c words i (within busy g) j ne ∙ stood) (cases_eq j i)
+    still_claimed x0 x1 x2 x3 = grind (arith, set, flag, claim_sets, within, claim_leaves, cases_eq)
 
     pub claims_again : (busy : ℕ) → is_claimed c words i ≡ true → Good c words holders busy → Good c (set words place (bit_or old (flag i))) holders busy
     claims_again busy stood g =

@@ -21,22 +21,23 @@ use Rattle.model.specs.declared.families.indices.calls.IndexFlight.{IndexFlight}
 use Rattle.model.specs.Families.Indices.Calls.{after, goes_back}
 use Rattle.model.specs.Families.Indices.Reading.{Tally}
 use Rattle.model.specs.Turns.{words_after}
+use Rattle.model.proofs.Family.{Scene, Inv}
 use Rattle.laws_indices.proofs.Core.{head_of, counted_in, holder, head_stays, Good}
 use Rattle.laws_indices.proofs.Count.{given_number, locked_number, less_number}
-use Rattle.laws_indices.proofs.Invariant.{Scene, Inv}
+use Rattle.laws_indices.proofs.Invariant.{IndexSet, outline}
 use Rattle.laws_indices.proofs.Knows.{default_at, lock_at, release_counts, release_number, ReleaseAt, LockKnows, IsPaid, PaidUnless}
 use Rattle.laws_indices.proofs.Moves.{counts_right, unlocked_for, stores_next, some_counted, gives, subtracts, shuts, last_given, frees}
 use Rattle.laws_indices.proofs.Stages.{busy, IsHere, busy_here, all_in_use, Comes, StepOf, paid_of, unless_then}
 use Rattle.laws_indices.proofs.Stages.{goes_on, ends, frees_index, locks_set, same_tally, open_says}
 
-module _ {T : Type 0} (scene : Scene T) (inv : Inv scene) (index : ℕ) (below : index < scene.capacity) where
+module _ {T : Type 0} (scene : Scene T IndexSet) (inv : Inv outline scene) (index : ℕ) (below : index < scene.capacity) where
   open scene use {capacity as c, party as p, steps, backs, since, changes, latest, events}
 
   abbrev ws : List ℕ
-  ws = scene.set.words
+  ws = scene.state.words
 
   abbrev hs : List (Option ℕ)
-  hs = scene.set.holders
+  hs = scene.state.holders
 
   g : Good c ws hs (busy scene)
   g = inv.holds.good
@@ -62,14 +63,14 @@ module _ {T : Type 0} (scene : Scene T) (inv : Inv scene) (index : ℕ) (below :
   loads_same = set-get_or ws 0 0
 
   clear_head : head_of (words_after ws (Some clear)) ≡ head_of ws
-  clear_head = head_stays c ws (flag_word c index) (bit_and (get_or ws (flag_word c index) 0) (2 ^ 64 - 1 - flag index)) (omega arith)
+  clear_head = grind (arith, head_stays, flag)
 
   store_head : (head : ℕ) → head_of (words_after ws (Some (store head))) ≡ head_of ws
   store_head head = head_stays c ws (next_word index) (proposed head) (omega arith)
 
   -- so many calls are busy as before
   good_same : (ask : Ask) (busy' : ℕ) → words_after ws (Some ask) ≡ ws → busy' ≡ busy scene → Good c (words_after ws (Some ask)) hs busy'
-  good_same ask busy' same e = subst (λ n. Good c (words_after ws (Some ask)) hs n) (sym e) (subst (λ w. Good c w hs (busy scene)) (sym same) g)
+  good_same x0 x1 x2 x3 = grind (arith, busy, g)
 
   good_stored : (head busy' : ℕ) → busy' ≡ busy scene → Good c (words_after ws (Some (store head))) hs busy'
   good_stored head busy' e =
@@ -103,12 +104,7 @@ module _ {T : Type 0} (scene : Scene T) (inv : Inv scene) (index : ℕ) (below :
     -- a head that counts one less is not locked either
     still_open : (ask : Ask) (x : ℕ) → words_after ws (Some ask) ≡ set ws 0 x → borrowed x + 1 ≡ counted_in ws
         → says_locked (head_of (words_after ws (Some ask))) ≡ says_locked (head_of ws)
-    still_open ask x new less =
-        let few = g.few in
-        let wide = g.wide in
-        let most = some_number.1 in
-        let is : head_of (words_after ws (Some ask)) ≡ x = ap head_of new ∙ get_or-set_same ws 0 x 0 (omega arith) in
-        ap says_locked is ∙ (open_says x (λ e. absurd (omega arith)) ∙ sym (open_says (head_of ws) not_locked))
+    still_open x0 x1 x2 x3 = grind (arith, head_of, get_or-set_same, open_says, not_locked)
 
     given_open : (ask : Ask) → words_after ws (Some ask) ≡ set ws 0 (head_given_back (head_of ws) index)
         → says_locked (head_of (words_after ws (Some ask))) ≡ says_locked (head_of ws)
@@ -140,12 +136,7 @@ module _ {T : Type 0} (scene : Scene T) (inv : Inv scene) (index : ℕ) (below :
         (omega arith) (refl, refl, below, tt) (omega arith)
 
     default_loads : steps ≤ 1 → StepOf scene started (default releases.TheVariants.LoadsHead)
-    default_loads s =
-        goes_on scene inv started (default releases.TheVariants.LoadsHead)
-        (default (releases.TheVariants.StoresNext (head_of ws))) (Some loads) false
-        (λ busy' e. good_same loads busy' loads_same (omega arith)) refl refl refl
-        (ap (λ w. says_locked (head_of w)) loads_same) (omega arith) (omega arith) (refl, refl, below, tt)
-        (omega arith)
+    default_loads x0 = grind (arith, goes_on, head_of, false, good_same, loads_same)
 
     default_stores : (head : ℕ) → steps ≤ 2 → StepOf scene started (default (releases.TheVariants.StoresNext head))
     default_stores head s =
@@ -216,12 +207,7 @@ module _ {T : Type 0} (scene : Scene T) (inv : Inv scene) (index : ℕ) (below :
       (refl, refl, below, tt) (omega arith)
 
   lock_loads : IsPaid since changes backs → steps ≤ 1 → StepOf scene started_lock (locking releases.TheVariants.LoadsHead)
-  lock_loads paid s =
-      goes_on scene inv started_lock (locking releases.TheVariants.LoadsHead)
-      (locking (releases.TheVariants.StoresNext (head_of ws))) (Some loads) false
-      (λ busy' e. good_same loads busy' loads_same (omega arith)) refl refl refl
-      (ap (λ w. says_locked (head_of w)) loads_same) tt (omega arith) (refl, refl, below, tt)
-      (inl (ap head_of loads_same, omega arith))
+  lock_loads x0 x1 = grind (arith, goes_on, head_of, false, good_same, loads_same, inl)
 
   lock_stores : (head : ℕ) → PaidUnless (head_of ws ≡ head) since changes backs → steps ≤ 2 + backs * 2
       → StepOf scene started_lock (locking (releases.TheVariants.StoresNext head))

@@ -25,7 +25,6 @@ use Rattle.model.specs.declared.families.Registry as registries
 use Rattle.model.specs.declared.families.indices.IndexStart.{IndexStart}
 use Rattle.model.specs.declared.families.indices.IndexStart.TheVariants.{Acquire, Release}
 use Rattle.model.specs.declared.families.indices.calls.IndexFlight.{IndexFlight}
-use Rattle.model.specs.declared.party.Doing.TheVariants.{Over}
 use Rattle.model.specs.declared.party.Party.{Party}
 use Rattle.model.specs.Families.{ask_of}
 use Rattle.model.specs.Families.Indices.Bounds.{most_steps}
@@ -37,10 +36,12 @@ use Rattle.model.specs.Families.Indices.Steps.{frees, effects, holders_after}
 use Rattle.model.specs.Parties.{party_of, doing_of, flight_of}
 use Rattle.model.specs.Reading.{Open}
 use Rattle.model.specs.Step.{as_call, answer_in}
-use Rattle.model.specs.Turns.{one_if, old_of, words_after, change_of, step_count, party_after, ending_of}
+use Rattle.model.specs.Turns.{one_if, old_of, words_after, change_of, step_count, ending_of}
+use Rattle.model.proofs.Family as families
+use Rattle.model.proofs.Family.{Scene, Inv}
 use Rattle.model.proofs.Turns.{kept_words}
-use Rattle.laws_indices.proofs.Core.{head_of, counted_in, holder, one_held, held_below, held_below_set, Good}
-use Rattle.laws_indices.proofs.Invariant.{Scene, Inv, Shows, AnswersFew, of_any, all_counted, all_taking, all_giving}
+use Rattle.laws_indices.proofs.Core.{head_of, counted_in, holder, one_held, held_below_set, Good}
+use Rattle.laws_indices.proofs.Invariant.{IndexSet, AnswersFew, outline, set_then, of_any, all_counted, all_taking, all_giving}
 use Rattle.laws_indices.proofs.Knows.{counts, takes, gives, flight_wrote, number_of, At, FlightKnows, IsPaid, PaidUnless, IsSeen}
 use Rattle.laws_indices.proofs.Sums.{sum_one, sum_over}
 use Rattle.laws_indices.proofs.Totals.{weight_of, weight_at}
@@ -99,23 +100,23 @@ module _ {T : Type 0} where
   abbrev pub any_call : After IndexFlight (Answer T) → After (Flight T) (Answer T)
   any_call after = as_call flights.TheVariants.Indices (λ answer. answer) after
 
-module _ {T : Type 0} (scene : Scene T) where
+module _ {T : Type 0} (scene : Scene T IndexSet) where
   open scene use {capacity as c, party as p, latest as latest, events as events}
 
   abbrev pub words : List ℕ
-  words = scene.set.words
+  words = scene.state.words
 
   abbrev pub holders : List (Option ℕ)
-  holders = scene.set.holders
+  holders = scene.state.holders
 
   abbrev pub busy : ℕ
-  busy = all_counted scene.latest scene.set.seats
+  busy = all_counted scene.latest scene.state.seats
 
   -- ---- what the sums tell
 
   -- the party has this call under way
   pub record IsHere (flight : IndexFlight) : Type 0 where
-    pub seat : p < scene.set.seats
+    pub seat : p < scene.state.seats
     pub under : flight_of (doing_of (party_of p latest)) ≡ Some (flights.TheVariants.Indices flight)
 
   module _ (flight : IndexFlight) (here : IsHere flight) where
@@ -124,16 +125,16 @@ module _ {T : Type 0} (scene : Scene T) where
 
     pub busy_here : counts flight ≤ busy
     busy_here =
-        let one = sum_one (weight_at (of_any counts) latest) scene.set.seats p here.seat in
+        let one = sum_one (weight_at (of_any counts) latest) scene.state.seats p here.seat in
         let mine = weighs counts in
         omega arith
 
-    pub all_in_use : busy + (takes flight + gives flight) ≤ all_taking latest scene.set.seats + all_giving latest scene.set.seats + counts flight
+    pub all_in_use : busy + (takes flight + gives flight) ≤ all_taking latest scene.state.seats + all_giving latest scene.state.seats + counts flight
     all_in_use =
         let over =
         sum_over (weight_at (of_any takes) latest) (weight_at (of_any gives) latest)
         (weight_at (of_any counts) latest) (λ q. any_less (flight_of (doing_of (party_of q latest))))
-        scene.set.seats p here.seat in
+        scene.state.seats p here.seat in
         let a = weighs counts in
         let b = weighs takes in
         let d = weighs gives in
@@ -141,14 +142,10 @@ module _ {T : Type 0} (scene : Scene T) where
 
   -- ---- a step
 
-  -- the party as it stands before the step
-  abbrev party : IndexStart → Party T
-  party start = record { start = Indices start; steps = scene.steps; backs = scene.backs; doing = Over 0 }
-
-  -- and after a step that does this operation
+  -- the party after a step that does this operation
   abbrev pub party_then : IndexStart → Option Ask → Bool → After IndexFlight (Answer T) → Party T
   party_then start ask back after =
-      party_after (party start) scene.since scene.changes (step_count ask) (change_of words ask)
+      families.party_then outline scene (Indices start) ask
       (record { after = any_call after; back = back; wrote = []; kept = registries.TheVariants.Indices holders })
 
   -- how often words have changed then
@@ -167,12 +164,12 @@ module _ {T : Type 0} (scene : Scene T) where
 
   pub unless_then : (ask : Option Ask) (P Q : Type 0) → (P → Q) → PaidUnless P scene.since scene.changes scene.backs
       → PaidUnless Q (since_then ask) (changes_then ask) (backs_then false)
-  unless_then ask P Q follows h = ⊎_elim (λ k. let paid = k.1 in inl (follows k.0, omega arith)) (λ k. inr (omega arith)) h
+  unless_then x0 x1 x2 x3 x4 = grind (arith, inl, inr)
 
   -- a step after which the call is this, which leaves these holders and writes these events
   abbrev pub Leaves : List (Option ℕ) → List (Event T) → IndexStart → IndexFlight → Option Ask → Bool → After IndexFlight (Answer T) → Type 0
   Leaves holders' es start flight ask back after =
-      Shows scene (words_after words ask) holders' (Some (flights.TheVariants.Indices flight))
+      families.ShowsFrom outline scene (Some (flights.TheVariants.Indices flight)) (set_then scene (words_after words ask) holders')
       (Open (Indices start) (flight_wrote p flight)) (party_then start ask back after) es (changes_then ask)
 
   -- what the step does, before the end of its call
@@ -193,7 +190,7 @@ module _ {T : Type 0} (scene : Scene T) where
   abbrev pub StepOf : IndexStart → IndexFlight → Type 0
   StepOf start flight = Comes start flight (ask_of (want flight)) (goes_back flight (old_for flight)) (after flight (old_for flight))
 
-  module _ (inv : Inv scene) where
+  module _ (inv : Inv outline scene) where
     -- the call goes on, and says nothing
     pub goes_on :
         (start : IndexStart) (flight flight' : IndexFlight) (ask : Option Ask) (back : Bool)
@@ -205,22 +202,7 @@ module _ {T : Type 0} (scene : Scene T) where
         → At c holders p start flight'
         → FlightKnows c (words_after words ask) (since_then ask) (changes_then ask) (backs_then back) flight'
         → Leaves holders [] start flight ask back (GoOn flight')
-    goes_on start flight flight' ask back good takes_same gives_same wrote lock straight steps at knows =
-        record {
-          right = tt;
-          answers = tt;
-          good = good;
-          tally = λ taking' giving' a b. same_tally _ _ _ _ _ _ refl (omega arith) (omega arith);
-          holders = λ i. refl;
-          lock = sym lock;
-          straight = straight;
-          own = tt;
-          stands = tt;
-          here = record { span = ap (λ es. Open (Indices start) es) (sym wrote); steps = steps; at = at };
-          knows = knows;
-          seen = is_seen words ask scene.changes;
-          keeps = λ q ne index h. h;
-        }
+    goes_on x0 x1 x2 x3 x4 x5 x6 x7 x8 x9 x10 x11 x12 = let seen = is_seen words x3 scene.changes in grind arith
 
     -- the call is done, and has done nothing by this step
     pub ends :
@@ -237,19 +219,23 @@ module _ {T : Type 0} (scene : Scene T) where
         → Leaves holders (Finished p (Indices start) answer ∷ []) start flight ask back (Done answer)
     ends start flight answer ask back good told done right lock straight steps paid =
         record {
-          right = (tt, tt);
-          answers = (right, tt);
-          good = good;
-          tally = λ taking' giving' a b. told _ _ _ taking' giving' a b;
-          holders = λ i. refl;
-          lock = sym lock;
-          straight = straight;
+          conserves =
+              record {
+                seats = refl;
+                right = (tt, tt);
+                answers = (right, tt);
+                good = good;
+                tally = λ taking' giving' a b. told _ _ _ taking' giving' a b;
+                holders = λ i. refl;
+                lock = sym lock;
+                straight = straight;
+                seen = is_seen words ask scene.changes;
+                keeps = λ q ne index h. h;
+              };
           own = (refl, tt);
           stands = ((refl, done), tt);
           here = record { answer = answer; wrote = flight_wrote p flight; span = refl; steps = steps };
           knows = paid;
-          seen = is_seen words ask scene.changes;
-          keeps = λ q ne index h. h;
         }
 
     -- a release frees its index
@@ -269,19 +255,26 @@ module _ {T : Type 0} (scene : Scene T) where
         let less = held_below_set holders c index None below long in
         let mine : one_held (holder holders index) ≡ 1 = ap one_held holds in
         record {
-          right = (inv.holds.holders index ∙ holds, tt);
-          answers = (tt, tt);
-          good = good;
-          tally = λ taking' giving' a b. same_tally _ _ _ _ _ _ (omega arith) (omega arith) (omega arith);
-          holders = λ i. holder_set holders index None i (omega arith);
-          lock = ap says_locked (sym head);
-          straight = straight;
+          conserves =
+              record {
+                seats = refl;
+                right = (inv.holds.holders index ∙ holds, tt);
+                answers = (tt, tt);
+                good = good;
+                tally = λ taking' giving' a b. same_tally _ _ _ _ _ _ (omega arith) (omega arith) (omega arith);
+                holders = λ i. holder_set holders index None i (omega arith);
+                lock = ap says_locked (sym head);
+                straight = straight;
+                seen = is_seen words ask scene.changes;
+                keeps =
+                    λ q ne i h. get_or-set_other holders index i None None
+                    (λ e. clash (holder holders index) p q ne holds (ap (holder holders) (sym e) ∙ h))
+                    ∙ h;
+              };
           own = (refl, tt);
           stands = rw before ((refl, refl), tt);
           here = rw before (record { span = ap (λ es. Open (Indices (Release index mode)) es) (sym after); steps = steps; at = at });
           knows = knows;
-          seen = is_seen words ask scene.changes;
-          keeps = λ q ne i h. get_or-set_other holders index i None None (λ e. clash (holder holders index) p q ne holds (ap (holder holders) (sym e) ∙ h)) ∙ h;
         }
 
     -- an acquire claims an index, and is done
@@ -298,19 +291,26 @@ module _ {T : Type 0} (scene : Scene T) where
         let more = held_below_set holders c index (Some p) below long in
         let free : one_held (holder holders index) ≡ 0 = ap one_held none in
         record {
-          right = ((below, inv.holds.holders index ∙ none, inv.holds.lock ∙ open_says (head_of words) unlocked), (tt, tt));
-          answers = (tt, (tt, tt));
-          good = good;
-          tally = λ taking' giving' a b. same_tally _ _ _ _ _ _ (omega arith) (omega arith) (omega arith);
-          holders = λ i. holder_set holders index (Some p) i (omega arith);
-          lock = ap says_locked (sym head);
-          straight = tt;
+          conserves =
+              record {
+                seats = refl;
+                right = ((below, inv.holds.holders index ∙ none, inv.holds.lock ∙ open_says (head_of words) unlocked), (tt, tt));
+                answers = (tt, (tt, tt));
+                good = good;
+                tally = λ taking' giving' a b. same_tally _ _ _ _ _ _ (omega arith) (omega arith) (omega arith);
+                holders = λ i. holder_set holders index (Some p) i (omega arith);
+                lock = ap says_locked (sym head);
+                straight = tt;
+                seen = is_seen words ask scene.changes;
+                keeps =
+                    λ q ne i h. get_or-set_other holders index i (Some p) None
+                    (λ e. nobody (holder holders index) q none (ap (holder holders) (sym e) ∙ h))
+                    ∙ h;
+              };
           own = (refl, (refl, tt));
           stands = rw wrote (refl, ((refl, refl), tt));
           here = rw wrote (record { answer = Index index; wrote = Claimed p index ∷ []; span = refl; steps = steps });
           knows = omega arith;
-          seen = is_seen words ask scene.changes;
-          keeps = λ q ne i h. get_or-set_other holders index i (Some p) None (λ e. nobody (holder holders index) q none (ap (holder holders) (sym e) ∙ h)) ∙ h;
         }
 
     -- a release locks the set, and is done
@@ -325,17 +325,21 @@ module _ {T : Type 0} (scene : Scene T) where
         (Release index LockIfLastIndex) flight ask false (Done (State states.TheVariants.Locked))
     locks_set index flight ask none unlocked good zero one wrote shut steps paid =
         record {
-          right = ((λ i. inv.holds.holders i ∙ none i, inv.holds.lock ∙ open_says (head_of words) unlocked), (tt, tt));
-          answers = (tt, (fold-append locked_after false events (Locked p ∷ []), tt));
-          good = good;
-          tally = λ taking' giving' a b. same_tally _ _ _ _ _ _ refl (omega arith) (omega arith);
-          holders = λ i. refl;
-          lock = sym (shut_says (head_of (words_after words ask)) shut);
-          straight = tt;
+          conserves =
+              record {
+                seats = refl;
+                right = ((λ i. inv.holds.holders i ∙ none i, inv.holds.lock ∙ open_says (head_of words) unlocked), (tt, tt));
+                answers = (tt, (fold-append locked_after false events (Locked p ∷ []), tt));
+                good = good;
+                tally = λ taking' giving' a b. same_tally _ _ _ _ _ _ refl (omega arith) (omega arith);
+                holders = λ i. refl;
+                lock = sym (shut_says (head_of (words_after words ask)) shut);
+                straight = tt;
+                seen = is_seen words ask scene.changes;
+                keeps = λ q ne i h. h;
+              };
           own = (refl, (refl, tt));
           stands = rw wrote (refl, ((refl, refl), tt));
           here = rw wrote (record { answer = State states.TheVariants.Locked; wrote = Freed p index ∷ Locked p ∷ []; span = refl; steps = steps });
           knows = omega arith;
-          seen = is_seen words ask scene.changes;
-          keeps = λ q ne i h. h;
         }

@@ -35,4 +35,4 @@ module _ {T : Type 0} (weight : Flight T → ℕ) where
 
   -- no party from n on has begun a call
   pub total_longer : (latest : List (ℕ × Party T)) (n m : ℕ) → n ≤ m → ((p : ℕ) → n ≤ p → party_of p latest ≡ None) → total latest m ≡ total latest n
-  total_longer latest n m low none = sum_longer (weight_at latest) n m low (λ p more. ap (λ o. weight_of (flight_of (doing_of o))) (none p more))
+  total_longer x0 x1 x2 x3 x4 = grind (arith, sum_longer)

@@ -129,7 +129,7 @@ reached {T} t is r = kept_by_runs IsSound keeps t first r
     keeps u turn e h =
         let passed = passes u.world turn e in
         let sound =
-        frame.turn_sound (family t.world.coding t.world.capacity h.0) (λ t. t.world.turns < 2 ^ 64 - 2)
+        frame.turn_sound (family t.world.coding t.world.capacity h.0) (λ t turn. t.world.turns < 2 ^ 64 - 2)
         (laws t.world.coding t.world.capacity h.0) u turn passed.on passed.turns h.1 in (
           h.0,
           sound,

@@ -1,14 +1,12 @@
 -- The names of the standard library and of the crates below that proofs here use.
-pub use Rattle.model.proofs.Frame.{Family, Sound, is_true}
+pub use Rattle.model.proofs.Frame.{Family, Sound}
 pub use Rattle.model.proofs.Moments.{held_later, held_now, held_so, others_begin_none}
-pub use Rattle.model.proofs.Readings.{AllFollow, AreOwn, AreRight, Each-append, Each-nil, span_of-death}
-pub use Rattle.model.proofs.Readings.{span_of-other, span_of-own}
-pub use Rattle.model.proofs.Rows.{MayBegin, MayDie, decision_passes, may_begin, may_die, must_be_due, next_passes}
-pub use Rattle.model.proofs.Rows.{row_passed}
+pub use Rattle.model.proofs.Readings.{AllFollow, AreOwn, AreRight, Each-append, Each-nil, span_of-other, span_of-own}
+pub use Rattle.model.proofs.Rows.{MayBegin, row_passed}
 pub use Rattle.model.proofs.Scenes.{ComesFrom, InOrder, StandsThere, asked, comes_from, in_order_from, stands_there}
 pub use Rattle.model.specs.Coding.{Coding, IsCoding, one_word}
-pub use Rattle.model.specs.Families.{ask_of, beside_of, first_of, goes_of, going_rows, is_question, kept_after_begin}
-pub use Rattle.model.specs.Families.{opening_of, step_of, want_of}
+pub use Rattle.model.specs.Families.{ask_of, beside_of, first_of, goes_of, is_question, kept_after_begin, opening_of}
+pub use Rattle.model.specs.Families.{step_of, want_of}
 pub use Rattle.model.specs.Families.Queues.Book.{AnswersRight, cell_of, item_at, stored, waiting_in}
 pub use Rattle.model.specs.Families.Queues.Bounds.{most_steps}
 pub use Rattle.model.specs.Families.Queues.Calls.{acquire_of, after, as_it_is, consumer_word, first, goes_back}
@@ -29,20 +27,18 @@ pub use Rattle.model.specs.Moments.{BeginsNone, HeldSometime}
 pub use Rattle.model.specs.Objects.{IsLegal, answers_from, standing}
 pub use Rattle.model.specs.Parties.{doing_of, flight_of, party_of, put}
 pub use Rattle.model.specs.Promises.{IsKept, IsKeptBy, IsTurnBy}
-pub use Rattle.model.specs.Promises.Spans.{Stands, StandsRight}
+pub use Rattle.model.specs.Promises.Spans.{Stands}
 pub use Rattle.model.specs.Reading.{Each, Ended, Open, Span, acts, moments, own_after, span_of}
-pub use Rattle.model.specs.Refusals.{call_refusal, is_due}
+pub use Rattle.model.specs.Refusals.{call_refusal}
 pub use Rattle.model.specs.Rows.{first_row}
 pub use Rattle.model.specs.Step.{answer_in, as_call}
-pub use Rattle.model.specs.Turns.{IsReached, after_answer, after_begin, after_decision, after_next, after_turn}
-pub use Rattle.model.specs.Turns.{ask_of_doing, attempt_on, change_of, ending_of, events_of_answer}
-pub use Rattle.model.specs.Turns.{events_of_decision, events_of_next, number_of, old_of, one_if, party_after}
-pub use Rattle.model.specs.Turns.{party_at_begin, run_on, step_count, unless_refused, words_after}
-pub use Rattle.model.specs.World.{Trace, capacity_error, flight_in, opening}
+pub use Rattle.model.specs.Turns.{IsReached, after_turn, attempt_on, change_of, ending_of, old_of, one_if}
+pub use Rattle.model.specs.Turns.{party_after, party_at_begin, run_on, step_count, unless_refused, words_after}
+pub use Rattle.model.specs.World.{Trace, capacity_error, opening}
 pub use Rattle.model.specs.declared.event.Answer.{Answer}
 pub use Rattle.model.specs.declared.event.Answer.TheVariants.{PoppedIndex, PoppedNone}
 pub use Rattle.model.specs.declared.event.Event.{Event}
-pub use Rattle.model.specs.declared.event.Event.TheVariants.{Acted, Begun, Died, Finished, HandedOut, Published}
+pub use Rattle.model.specs.declared.event.Event.TheVariants.{Acted, Begun, Finished, HandedOut, Published}
 pub use Rattle.model.specs.declared.event.Item.{Item}
 pub use Rattle.model.specs.declared.event.Item.TheVariants.{Index, Value}
 pub use Rattle.model.specs.declared.event.Start.{Start}
@@ -69,7 +65,7 @@ pub use Rattle.model.specs.declared.party.Doing.TheVariants.{Going, Over}
 pub use Rattle.model.specs.declared.party.Party.{Party}
 pub use Rattle.model.specs.declared.turn.Kind.{Kind}
 pub use Rattle.model.specs.declared.turn.Turn.{Turn}
-pub use Rattle.model.specs.declared.turn.Turn.TheVariants.{Begin, Decide, Die, Next}
+pub use Rattle.model.specs.declared.turn.Turn.TheVariants.{Next}
 pub use Rattle.std.proofs.Common.{Bool, List, None, Option, Some, [], ap, append-nil, append_assoc, cond, drop, false}
 pub use Rattle.std.proofs.Common.{fold, get_or, get_or-set_other, get_or-set_same, if◌then◌else◌, inl, inr, length}
 pub use Rattle.std.proofs.Common.{length-append, length-drop, length-set, map, nat_lt, not, option_map, refl}

@@ -41,7 +41,7 @@ pub use Rattle.model.specs.Reading.{Each, Open, Span, own_after, span_of}
 pub use Rattle.model.specs.Refusals.{call_refusal, is_due, refusal_of}
 pub use Rattle.model.specs.Rows.{first_row}
 pub use Rattle.model.specs.Step.{Step, answer_in, as_call}
-pub use Rattle.model.specs.Turns.{IsReached, after_answer, after_begin, after_decision, after_next, after_step}
+pub use Rattle.model.specs.Turns.{IsReached, after_answer, after_begin, after_decision, after_next}
 pub use Rattle.model.specs.Turns.{after_turn, ask_of_doing, change_of, ending_of, events_of, events_of_answer}
 pub use Rattle.model.specs.Turns.{events_of_decision, events_of_next, events_of_step, number_of, old_of, one_if}
 pub use Rattle.model.specs.Turns.{party_after, party_at_begin, step_count, step_in, unless_refused, words_after}

@@ -1,11 +1,8 @@
 -- What holds of the machine of a robust set keeps to every turn of an open run, so it holds wherever such a run leads.
-use Rattle.laws_robust.proofs.Names.{◌≡◌, ◌≢◌, slice_index, ℕ, ◌+◌, Bool, true, not, Option, Some, None, is_none}
-use Rattle.laws_robust.proofs.Names.{List, [], ◌∷◌, ◌++◌, refl, sym, ap, subst, ◌∙◌, append-nil, arith, greatest}
-use Rattle.laws_robust.proofs.Names.{ReleaseMode, Container, Flight, Doing, Going, Over, Party, Idle, Undecided, Turn}
-use Rattle.laws_robust.proofs.Names.{Begin, Next, Decide, Die, Coding, IsCoding, want_of, is_question, AnswersRight}
-use Rattle.laws_robust.proofs.Names.{party_of, doing_of, flight_of, Each, is_due, call_refusal, number_of, after_step}
-use Rattle.laws_robust.proofs.Names.{step_in, party_after, change_of, step_count, after_decision, after_answer}
-use Rattle.laws_robust.proofs.Names.{events_of_step, events_of_answer, events_of_decision, after_turn, unless_refused}
+use Rattle.laws_robust.proofs.Names.{◌≡◌, ◌≢◌, slice_index, ℕ, Bool, true, not, Some, None, is_none, List, []}
+use Rattle.laws_robust.proofs.Names.{◌∷◌, ◌++◌, refl, sym, ap, subst, ◌∙◌, arith, greatest, ReleaseMode, Container}
+use Rattle.laws_robust.proofs.Names.{Flight, Party, Idle, Undecided, Turn, Begin, Next, Decide, Die, Coding, IsCoding}
+use Rattle.laws_robust.proofs.Names.{AnswersRight, party_of, Each, is_due, call_refusal, after_turn, unless_refused}
 use Rattle.laws_robust.proofs.Names.{Trace, opening, capacity_error, flight_in, row_passed}
 use Rattle.model.specs.declared.families.container.ContainerStart.TheVariants.{Recover}
 use Rattle.model.specs.declared.families.Flight as flights
@@ -32,54 +29,13 @@ module _ {T : Type 0} (code : Coding T) (c : ℕ) where
   may_decide : (t : Trace T) (s : Sound t) (p : ℕ) (x : Party T) (since : ℕ)
       (found : party_of p t.world.latest ≡ Some x) (flight : Flight T) (said : Bool)
       → MayDecideIn Word code c t s p x since found flight said
-  may_decide x0 x1 x2 x3 x4 x5 x6 x7 = grind arith
-
-  same : (t : Trace T) → Sound t → Sound record { world = t.world; events = t.events ++ [] }
-  same x0 x1 = grind (arith, append-nil)
-
-  answered : (t : Trace T) (p : ℕ) (x : Party T) (flight : Flight T) (since answer : ℕ) → Sound t
-      → frame.ComesByStep (family_by Word code c) t p x flight since None answer
-      → Sound record {
-        world = after_step t.world p x since None (step_in t.world p x flight answer);
-        events = t.events ++ events_of_step p x.start (step_in t.world p x flight answer);
-      }
-  answered t p x flight since answer s comes =
-      let w = t.world in
-      let y = party_after x since w.changes (step_count None) (change_of w.words None) (step_in w p x flight answer) in
-      record {
-        coding = s.coding;
-        kind = s.kind;
-        capacity = s.capacity;
-        state = comes.state;
-        fit = comes.fit;
-        holds = comes.holds;
-        inv =
-            frame.advance (family_by Word code c) s.state comes.state p y w.latest t.events
-            (events_of_step p x.start (step_in w p x flight answer)) w.changes (w.changes + change_of w.words None)
-            s.inv comes.owes;
-      }
-
-  decided : (t : Trace T) (p : ℕ) (said : Bool) → is_due t.world.coding (flight_in t.world p) ≡ true → Sound t
-      → (o : Option (Party T)) → party_of p t.world.latest ≡ o
-      → Sound record { world = after_decision t.world p said o; events = t.events ++ events_of_decision t.world p said o }
-  decided t p said due s None e = same t s
-  decided t p said due s (Some x) e = go x.doing refl
-    where
-      go : (doing : Doing T) → x.doing ≡ doing → Sound record {
-        world = after_answer t.world p x None (number_of said) doing;
-        events = t.events ++ events_of_answer t.world p x (number_of said) doing;
-      }
-      go (Over others) d = same t s
-      go (Going flight since) d =
-          let here : flight_in t.world p ≡ Some flight = ap (λ o. flight_of (doing_of o)) e ∙ ap (λ d. flight_of (Some d)) d in
-          let asks : is_question (want_of t.world.coding flight) ≡ true = rw here at due in
-          answered t p x flight since (number_of said) s
-          (decision_comes Word code c t s p x since e tt flight said (may_decide t s p x since e flight said) asks d)
+  may_decide t s p x since found (flights.TheVariants.Robust flight) said = tt
+  may_decide t s p x since found flight said = tt
 
   -- ---- any turn
 
   goes_by_rows : (t : Trace T) (turn : Turn T) → call_refusal t.world turn ≡ None → Sound t → Sound (after_turn t turn)
-  goes_by_rows t turn r s = frame.turn_sound (family_by Word code c) (λ u. Unit {0}) (laws_by Word code c) t turn r tt s
+  goes_by_rows t turn r s = frame.turn_sound (family_by Word code c) (λ u turn. Unit {0}) (laws_by Word code c) t turn r tt s
 
   -- no call of a container begins on it
   no_container : {A : Type 0} (t : Trace T) → Sound t → (p owner : ℕ) (mode : ReleaseMode)
@@ -87,7 +43,18 @@ module _ {T : Type 0} (code : Coding T) (c : ℕ) where
   no_container t s p owner mode e = grind arith
 
   pub open_turn_sound : (t : Trace T) (turn : Turn T) → open_refusal t.world turn ≡ None → Sound t → Sound (after_turn t turn)
-  open_turn_sound x0 x1 x2 x3 = grind (arith, no_container, goes_by_rows, row_passed, is_none, decided)
+  open_turn_sound t (Begin p (Container (Recover owner mode))) e s = no_container t s p owner mode e
+  open_turn_sound t (Begin p start) e s = goes_by_rows t (Begin p start) e s
+  open_turn_sound t (Next p) e s = goes_by_rows t (Next p) e s
+  open_turn_sound t (Die owner) e s = absurd (cc)
+  open_turn_sound t (Decide p said) e s =
+      let b = row_passed (is_none (flight_in t.world p)) Idle _ e in
+      let d = row_passed (not (is_due t.world.coding (flight_in t.world p))) Undecided None b.1 in
+      let due = frame.is_true (is_due t.world.coding (flight_in t.world p)) d.0 in
+      frame.decision_sound (family_by Word code c) t p said s (λ x flight since u.
+      decision_comes Word code c t s p x since u.found tt flight said (may_decide t s p x since u.found flight said)
+      (subst (λ o. is_due t.world.coding o ≡ true) u.is due) u.doing)
+      (party_of p t.world.latest) refl
 
 -- ---- whole runs
 
@@ -151,4 +118,4 @@ module _ {T : Type 0} where
 
   pub reached_open_opening : (code : Coding T) (kind : Kind) (capacity parties : ℕ) → IsCoding code
       → capacity_error kind capacity ≡ None → IsReachedOpen (opening code kind capacity parties)
-  reached_open_opening x0 x1 x2 x3 x4 x5 = grind arith
+  reached_open_opening code kind capacity parties coded e = record { coded = coded; admitted = e; turns = []; is = refl }

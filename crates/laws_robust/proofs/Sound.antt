@@ -392,7 +392,7 @@ module _ {T : Type 0} (by : GoneBy) (code : Coding T) (c : ℕ) (t : Trace T) (s
 
 module _ {T : Type 0} where
   -- of a machine whose counter has room
-  pub laws_by : (by : GoneBy) (code : Coding T) (c : ℕ) → frame.LawsWhere (family_by by code c) (λ t. HasRoom by t.world.words)
+  pub laws_by : (by : GoneBy) (code : Coding T) (c : ℕ) → frame.LawsWhere (family_by by code c) (λ t turn. HasRoom by t.world.words)
   laws_by by code c =
       record {
         step = λ t p x flight since s room r found doing. step_comes by code c t s p x since found room flight r doing;

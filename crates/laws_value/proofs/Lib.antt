@@ -1,9 +1,8 @@
 pub mod Core
 pub mod Invariant
-pub mod Justified
-pub mod Kept
 pub mod Knows
 pub mod Loads
 pub mod Sound
 pub mod Stages
+pub mod Steps
 pub mod Stores

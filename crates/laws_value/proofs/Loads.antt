@@ -20,9 +20,10 @@ use Rattle.model.specs.Coding.{IsCoding}
 use Rattle.model.specs.Families.Atomic.Calls.{after, goes_back}
 use Rattle.model.specs.Families.Queues.Calls.{kept_at, read_in}
 use Rattle.model.specs.Turns.{change_of}
+use Rattle.model.proofs.Family.{Scene, Inv}
 use Rattle.laws_queues.proofs.Queues.Core.{one_more}
 use Rattle.laws_value.proofs.Core.{Core, Good, layout, same_words}
-use Rattle.laws_value.proofs.Invariant.{Scene, Inv}
+use Rattle.laws_value.proofs.Invariant.{Value, outline}
 use Rattle.laws_value.proofs.Knows.{KnowsLoad, KnowsBacks, IsCopied, load_at, load_number}
 use Rattle.laws_value.proofs.Stages.{Comes, StepOf, quiet, changes_then}
 
@@ -31,14 +32,15 @@ whole_room : (size : ℕ) (k : Core) (room : buffers.Buffer 128) → size ≤ 12
     → length k.now ≡ size → IsCopied k room size → take size room.words ≡ k.now
 whole_room size k room few long sized copied = same_words size room.words k.now sized (omega arith) copied
 
-module _ {T : Type 0} (scene : Scene T) (inv : Inv scene) (small : scene.core.version < 2 ^ 64) where
-  open scene use {coding as code, holder as ho, core as k, party as p, steps, backs, since, changes}
+module _ {T : Type 0} (scene : Scene T Value) (inv : Inv outline scene) (small : scene.state.core.version < 2 ^ 64) where
+  open scene.state use {holder as ho, core as k}
+  open scene use {coding as code, party as p, steps, backs, since, changes}
 
   g : Good code.size k
-  g = inv.value.good
+  g = inv.holds.good
 
   coded : IsCoding code
-  coded = inv.value.coded
+  coded = inv.holds.coded
 
   abbrev Does : Option Ask → Bool → After (AtomicFlight T) (Answer T) → Type 0
   Does ask back after = Comes scene starts.TheVariants.Load ask back after
@@ -122,10 +124,7 @@ module _ {T : Type 0} (scene : Scene T) (inv : Inv scene) (small : scene.core.ve
   checks version = Some (record { word = 0; op = Exchange version version })
 
   value_is : (room : buffers.Buffer 128) → length room.words ≡ 128 → IsCopied k room code.size → read_in code room ≡ code.value_of k.now
-  value_is room long copied =
-      let few = coded.few in
-      let t : nat_lt (length room.words) code.size ≡ false = grind (arith, nat_tests) in
-      rw t (ap code.value_of (whole_room code.size k room few long g.sized copied))
+  value_is x0 x1 x2 = grind (arith, length, false, whole_room, nat_tests)
 
   ends : (version : ℕ) → backs + since ≤ changes → steps ≤ 1 + code.size + backs * (1 + code.size)
       → Does (checks version) false (Done (answers.TheVariants.Loaded (code.value_of k.now)))

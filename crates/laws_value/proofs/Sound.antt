@@ -1,248 +1,143 @@
--- Every turn keeps what holds of a value's machine: the laws of the family.
-use Rattle.std.proofs.Common.{◌≡◌, ℕ, ◌+◌, ◌-◌, ◌*◌, ◌^◌, ◌<◌, ◌≤◌, true, false, Option, Some, None, List, [], ◌∷◌}
-use Rattle.std.proofs.Common.{get_or, length, replicate, refl, sym, ap, subst, ◌∙◌, arith}
-use Rattle.std.proofs.lemmas.List.{length-replicate}
-use Rattle.model.specs.declared.event.Event.TheVariants.{Begun}
+-- What a value promises is kept by every turn, and so by every run; and what a turn writes down: the act, then the end. A
+-- store acts as it adds 1 to the version, a load as it finds the version unchanged, with the value that stands.
+use Rattle.std.proofs.Common.{◌≡◌, ℕ, ◌+◌, ◌-◌, ◌*◌, ◌^◌, ◌<◌, Option, None, replicate, refl, sym, ap, subst, ◌∙◌}
+use Rattle.std.proofs.Common.{arith, suc, ◌%◌, ◌≤◌, drop, take, List, []}
+use Rattle.std.proofs.lemmas.List.{length-replicate, get_or-drop, length-drop}
+use Rattle.std.proofs.Math.Nat.{mul-le-mul_left}
+use Rattle.std.specs.List.{AllByRecursion}
+use Rattle.steps.specs.Atomic.{cell_word}
+use Rattle.steps.specs.declared.ask.Ask.{Ask}
+use Rattle.model.specs.declared.families.Registry.{Registry}
+use Rattle.model.specs.declared.families.Registry as registries
+use Rattle.model.specs.declared.turn.Kind as kinds
+use Rattle.model.specs.declared.turn.Turn.{Turn}
+use Rattle.model.specs.declared.turn.Turn.TheVariants.{Next}
+use Rattle.model.specs.declared.event.Answer.{Answer}
+use Rattle.model.specs.declared.event.Event.{Event}
 use Rattle.model.specs.declared.event.Start.{Start}
 use Rattle.model.specs.declared.event.Start.TheVariants.{Atomic}
 use Rattle.model.specs.declared.families.Flight.{Flight}
 use Rattle.model.specs.declared.families.Flight as flights
-use Rattle.model.specs.declared.families.Registry.{Registry}
-use Rattle.model.specs.declared.families.Registry as registries
 use Rattle.model.specs.declared.families.atomic.AtomicStart.{AtomicStart}
-use Rattle.model.specs.declared.families.atomic.AtomicStart.TheVariants.{AcquireProducer, ReleaseProducer, Store, Load}
 use Rattle.model.specs.declared.families.atomic.calls.AtomicFlight.{AtomicFlight}
-use Rattle.model.specs.declared.families.atomic.calls.AtomicFlight as calls
-use Rattle.model.specs.declared.party.Doing.TheVariants.{Going}
 use Rattle.model.specs.declared.party.Party.{Party}
-use Rattle.model.specs.declared.turn.Kind as kinds
-use Rattle.model.specs.declared.turn.Refusal.TheVariants.{NoRole}
-use Rattle.model.specs.declared.turn.Turn.TheVariants.{Next}
 use Rattle.model.specs.Coding.{Coding, IsCoding}
-use Rattle.model.specs.Families.{first_of, want_of, ask_of, is_question, kept_after_begin}
-use Rattle.model.specs.Families.Atomic.Calls.{first, want}
-use Rattle.model.specs.Families.Atomic.Opening.{lacks_role, kept_rows}
-use Rattle.model.specs.Families.Loan.Opening.{is_loan}
-use Rattle.model.specs.Parties.{party_of}
-use Rattle.model.specs.Reading.{Open, span_of}
-use Rattle.model.specs.Rows.{first_row}
-use Rattle.model.specs.Turns.{old_of, party_at_begin, IsReached}
+use Rattle.model.specs.Promises.{IsKeptBy, IsKept}
+use Rattle.model.specs.Promises.Families.{promise_of}
+use Rattle.model.specs.Turns.{old_of}
 use Rattle.model.specs.World.{Trace, opening}
+use Rattle.model.specs.Families.Atomic.Promises.{cell_in, IsValue, AnswersRight, promise}
+use Rattle.model.specs.Families.Atomic.Roles.{KeepsHolder}
+use Rattle.model.specs.Families.{ask_of}
+use Rattle.model.specs.Families.Atomic.Calls.{want, after}
+use Rattle.model.specs.Families.Atomic.Steps.{acted}
+use Rattle.model.specs.Promises.Turns.{ask_in, IsParty, IsAct, ActsRight}
+use Rattle.model.specs.Step.{answer_in}
+use Rattle.model.proofs.FamilyLaws as laws
+use Rattle.model.proofs.FamilyLaws.{Opens, Owed, OwesAll}
 use Rattle.model.proofs.Frame as frame
-use Rattle.model.proofs.Readings.{Each-nil}
-use Rattle.model.proofs.Rows.{row_passed, MayBegin}
-use Rattle.model.proofs.Scenes.{asked, StandsThere, stands_there, ComesFrom, comes_from}
-use Rattle.laws_queues.proofs.Queues.Knows.{IsFreshCall}
-use Rattle.laws_queues.proofs.Queues.Runs.{LawsAt, run_sound}
+use Rattle.model.proofs.Orders.{Keeps}
+use Rattle.model.proofs.Readings.{Each-nil, AreRight}
+use Rattle.model.proofs.Family.{scene_of, inv_of}
+use Rattle.model.proofs.Scenes.{StandsThere, step_from}
+use Rattle.laws_queues.proofs.Queues.Runs.{run_sound}
 use Rattle.laws_queues.proofs.Queues.Sound.{IsFreshTurn, IsFreshRun}
-use Rattle.laws_value.specs.Stored.{stored}
-use Rattle.laws_value.proofs.Core.{Core, layout, zeros}
-use Rattle.laws_value.proofs.Invariant.{Value, Represents, Scene, Inv, Shows, family, owes, holds_more}
-use Rattle.laws_value.proofs.Knows.{At, KnowsFlight, number_of, store_at}
-use Rattle.laws_value.proofs.Loads.{load_step}
-use Rattle.laws_value.proofs.Stages.{StepOf}
-use Rattle.laws_value.proofs.Stores.{store_step}
+use Rattle.laws_queues.proofs.Queues.Knows.{any_fresh}
+use Rattle.laws_value.proofs.Core.{layout, zeros, Core, Good, same_words}
+use Rattle.laws_value.proofs.Invariant.{Value, Represents, outline, family, holds_more}
+use Rattle.laws_value.proofs.Steps.{step_shows, begin_shows, few_turns, step_moves}
+use Rattle.laws_value.proofs.Knows.{At}
+use Rattle.laws_value.proofs.Stages.{told_after}
 
 pub kept_is : {T : Type 0} → (kept : Registry T) (words : List ℕ) (s : Value) → Represents kept words s
     → (kept ≡ registries.TheVariants.Atomic s.holder) × (words ≡ layout s.holder s.core)
-kept_is x0 x1 x2 x3 = grind arith
+kept_is kept words s h = h
 
--- ---- one step of a call
+-- ---- the value in the words
 
-module _ {T : Type 0} (scene : Scene T) (inv : Inv scene) where
-  open scene use {coding as code, holder as ho, core as k, party as p}
+-- the words of the version's cell
+cell_is : (size : ℕ) (holder : Option ℕ) (k : Core) → Good size k → cell_in size (layout holder k) ≡ k.now
+cell_is size holder k g =
+    let place : cell_word size (k.version - 1) ≡ suc (suc (size * ((k.version - 1) % 2))) = omega arith in
+    let step : size * ((k.version - 1) % 2 + 1) ≤ size * 2 = mul-le-mul_left size (omega arith) in
+    let long = length-drop (size * ((k.version - 1) % 2)) k.cells in
+    let cells = g.cells in
+    ap (λ n. take size (drop n (layout holder k))) place
+    ∙ same_words size (drop (size * ((k.version - 1) % 2)) k.cells) k.now g.sized (omega arith)
+    (λ i below. get_or-drop (size * ((k.version - 1) % 2)) k.cells i 0 ∙ g.held i below)
 
-  pub step_moves : (start : AtomicStart T) (flight : AtomicFlight T) → At code ho k p start flight
-      → scene.steps ≤ number_of code.size flight scene.backs
-      → KnowsFlight k scene.since scene.changes scene.backs flight
-      → IsFreshCall k.version (flights.TheVariants.Atomic flight) → StepOf scene start flight
-  step_moves AcquireProducer (calls.TheVariants.Acquire run) at s b fresh = grind arith
-  step_moves ReleaseProducer (calls.TheVariants.Release run) at s b fresh = grind arith
-  step_moves (Store value) (calls.TheVariants.Store run) at s b fresh =
-      subst (λ v. StepOf scene (Store value) (store_at v run.call.stage)) (sym at.1) (store_step scene inv value at.0 b run.call.stage fresh at.2 s)
-  step_moves Load (calls.TheVariants.Load run) at s b fresh = load_step scene inv inv.value.within run.room run.call.stage at b s
-  step_moves start flight at s b fresh = absurd at
+module _ {T : Type 0} where
+  all_act : (p : ℕ) (start : AtomicStart T) (outcome : Option (Answer T)) → AllByRecursion IsAct (acted p start outcome)
+  all_act x0 x1 x2 = grind arith
 
--- ---- what the first stage of a call knows
+-- ---- what an act tells
 
-record IsFirst {T : Type 0} (code : Coding T) (holder : Option ℕ) (k : Core) (p changes : ℕ) (start : AtomicStart T) (flight : AtomicFlight T) : Type 0 where
-  pub at : At code holder k p start flight
-  pub knows : KnowsFlight k changes changes 0 flight
+module _ {T : Type 0} (t : Trace T) (turn : Turn T) (p : ℕ) (mine : IsParty turn p) where
+  abbrev code : Coding T
+  code = t.world.coding
 
-first_is : {T : Type 0} (code : Coding T) (holder : Option ℕ) (k : Core) (p changes : ℕ) (start : AtomicStart T)
-    → lacks_role holder p start ≡ false → IsFirst code holder k p changes start (first start)
-first_is x0 x1 x2 x3 x4 x5 x6 = grind arith
+  abbrev asked : Option Ask
+  asked = ask_in t.world turn
 
--- a call that begins on a value is one of its own
-abbrev IsOwn : {T : Type 0} → Start T → Flight T → Type 0
-IsOwn (Atomic start) (flights.TheVariants.Atomic flight) = first start ≡ flight
-IsOwn start flight = ⊥
+  abbrev Justified : List (Event T) → Type 0
+  Justified es = AllByRecursion (ActsRight promise t turn) es
 
-begins_own : {T : Type 0} (c : ℕ) (kept : Registry T) (start : Start T) (flight : Flight T)
-    → first_of kinds.TheVariants.Atomic c start kept ≡ Some flight → IsOwn start flight
-begins_own x0 x1 x2 x3 x4 = grind arith
+  step_right : (holder : Option ℕ) (k : Core) (z : Coding T) (start : AtomicStart T) (flight : AtomicFlight T) (old : ℕ)
+      → At z holder k p start flight → asked ≡ ask_of (want code flight) → old ≡ old_of t.world.words asked
+      → AreRight (AnswersRight code) t.events (told_after p start (after code flight old)) → Justified (acted p start (answer_in (after code flight old)))
+  step_right x0 x1 x2 x3 x4 x5 x6 x7 x8 x9 = grind arith
 
--- ---- a store that is to load the version finds another than the last
-
-found_fresh : {T : Type 0} (z : Coding T) (words : List ℕ) (flight : AtomicFlight T)
-    → IsFreshCall (old_of words (ask_of (want z flight))) (flights.TheVariants.Atomic flight)
-    → IsFreshCall (get_or words 0 0) (flights.TheVariants.Atomic flight)
-found_fresh x0 x1 x2 x3 = grind arith
+-- ---- what is promised, and what a turn writes down
 
 module _ {T : Type 0} (code : Coding T) (c : ℕ) (t : Trace T) (s : frame.Sound (family code c) t) where
-  pub version_is : get_or t.world.words 0 0 ≡ s.state.core.version
-  version_is = ap (λ ws. get_or ws 0 0) (kept_is t.world.kept t.world.words s.state s.fit).1
+  value_kept : t.world.coding ≡ code → IsValue t
+  value_kept same =
+      let w = t.world in
+      let cell : cell_in code.size w.words ≡ s.state.core.now = ap (cell_in code.size) s.fit.1 ∙ cell_is code.size s.state.holder s.state.core s.holds.good in
+      record {
+        moments = rw same s.holds.legal;
+        answers = rw same s.holds.answers;
+        cell = rw same (ap code.value_of cell ∙ sym s.holds.stand);
+        roles = s.holds.grants;
+        holder = subst (λ kept. KeepsHolder kept t.events) (sym s.fit.0) (sym s.holds.holders);
+      }
 
-  -- the version counts the stores
-  pub version_counts : get_or t.world.words 0 0 ≡ length (stored t.events) + 1
-  version_counts = version_is ∙ s.holds.counted
-
-  -- few turns are few versions
-  few_turns : t.world.turns < 2 ^ 64 - 2 → (p : ℕ) → IsFreshTurn t (Next p)
-  few_turns x0 x1 = grind arith
+  writes : (p : ℕ) (x : Party T) (since : ℕ) → t.world.turns < 2 ^ 64 - 2 → (start : Start T) (flight : Flight T)
+      → StandsThere (family code c) t s p x since start flight
+      → laws.Writes outline t p (step_from t p t.world.coding (layout s.state.holder s.state.core) (registries.TheVariants.Atomic s.state.holder) start flight)
+  writes p x since small (Atomic start) (flights.TheVariants.Atomic flight) here =
+      let words = layout s.state.holder s.state.core in
+      let low = s.holds.reached in
+      let moves =
+      step_moves (scene_of outline code c t s p x.steps x.backs since) (inv_of outline code c t s p x.steps x.backs since) start flight here.at here.steps
+      here.knows (any_fresh s.state.core.version (flights.TheVariants.Atomic flight) (omega arith)) in
+      let z = t.world.coding in
+      let old = old_of words (ask_of (want z flight)) in
+      let outcome : Option (Answer T) = answer_in (after z flight old) in
+      let asks : ask_in t.world (Next p) ≡ ask_of (want z flight) = rw here.found refl in
+      let handed : old ≡ old_of t.world.words (ask_in t.world (Next p)) = rw (s.fit.1, asks) refl in
+      record {
+        effects = [];
+        acts = acted p start outcome;
+        is = refl;
+        are_effects = tt;
+        are_acts = all_act p start outcome;
+        right = step_right t (Next p) p refl s.state.holder s.state.core code start flight old here.at asks handed
+            (subst (λ (y : Coding T). AreRight (AnswersRight y) t.events
+            (told_after p start (after y flight (old_of words (ask_of (want y flight))))))
+            (sym s.coding) moves.2.conserves.right);
+      }
+  writes p x since small start flight here = absurd here.at
 
 -- ---- the laws of the family
 
-module _ {T : Type 0} (code : Coding T) (c : ℕ) (t : Trace T) (s : frame.Sound (family code c) t) (p : ℕ) where
-  pub asks_nothing : {A : Type 0} → (x : Party T) (flight : Flight T) (since : ℕ)
-      → party_of p t.world.latest ≡ Some x → x.doing ≡ Going flight since
-      → is_question (want_of t.world.coding flight) ≡ true → A
-  asks_nothing x0 x1 x2 x3 x4 x5 = grind arith
-
-  abbrev pub scene_of : Party T → ℕ → Scene T
-  scene_of x since =
-      record {
-        coding = code;
-        capacity = c;
-        holder = s.state.holder;
-        core = s.state.core;
-        party = p;
-        steps = x.steps;
-        backs = x.backs;
-        since = since;
-        changes = t.world.changes;
-        latest = t.world.latest;
-        events = t.events;
-        turns = t.world.turns;
-      }
-
-  pub inv_of : (x : Party T) (since : ℕ) → Inv (scene_of x since)
-  inv_of x since = record { value = s.holds; frame = s.inv }
-
-  module _ (x : Party T) (since : ℕ) where
-    -- what its step comes to where the words, what is kept, and the call's name are these
-    comes : IsFreshTurn t (Next p) → (start : Start T) (flight : Flight T)
-        → StandsThere (family code c) t s p x since start flight
-        → ComesFrom (family code c) t s p x since code (layout s.state.holder s.state.core)
-        (registries.TheVariants.Atomic s.state.holder) start flight
-    comes fresh (Atomic start) (flights.TheVariants.Atomic flight) here =
-        let low =
-        subst (λ n. IsFreshCall n (flights.TheVariants.Atomic flight)) (version_is code c t s)
-        (found_fresh t.world.coding t.world.words flight (fresh (flights.TheVariants.Atomic flight) here.found)) in
-        let moves = step_moves (scene_of x since) (inv_of x since) start flight here.at here.steps here.knows low in
-        record {
-          state = record { holder = _; core = moves.0 };
-          fit = (moves.1, refl);
-          holds = holds_more (scene_of x since) _ moves.0 (Open (Atomic start) []) _ _ _ moves.2 s.holds;
-          owes = owes (scene_of x since) _ moves.0 (Open (Atomic start) []) _ _ _ moves.2 here.span (inv_of x since);
-        }
-    comes fresh start flight here = absurd here.at
-
-    pub step_comes : IsFreshTurn t (Next p) → (flight : Flight T) → party_of p t.world.latest ≡ Some x
-        → x.doing ≡ Going flight since
-        → frame.ComesByStep (family code c) t p x flight since (asked t.world.coding flight)
-        (old_of t.world.words (asked t.world.coding flight))
-    step_comes fresh flight found doing =
-        let is = kept_is t.world.kept t.world.words s.state s.fit in
-        comes_from (family code c) t s p x since (layout s.state.holder s.state.core)
-        (registries.TheVariants.Atomic s.state.holder) flight is.1 is.0
-        (comes fresh x.start flight (stands_there (family code c) t s p x since flight found doing))
-
-  -- ---- a call begins
-
-  begins : (start : AtomicStart T) (flight : AtomicFlight T)
-      → IsFirst code s.state.holder s.state.core p t.world.changes start flight → frame.Sound (family code c) t
-      → MayBegin t.world p (Atomic start)
-      → frame.Comes (family code c) t p t.world.kept t.world.words
-      (party_at_begin (Atomic start) (flights.TheVariants.Atomic flight) t.world.changes)
-      (Begun p (Atomic start) ∷ []) t.world.changes
-  begins start flight first sound may =
-      let y : Party T = party_at_begin (Atomic start) (flights.TheVariants.Atomic flight) t.world.changes in
-      let scene = scene_of y t.world.changes in
-      let k = s.state.core in
-      let low = s.holds.reached in
-      let shows : Shows scene s.state.holder k (span_of p t.events) y (Begun p (Atomic start) ∷ []) t.world.changes =
-      record {
-        right = (tt, tt);
-        grants = (tt, tt);
-        good = s.holds.good;
-        holders = refl;
-        goes = refl;
-        answers = refl;
-        up = record { version = omega arith; paid = omega arith };
-        reached = omega arith;
-        within = s.holds.within;
-        counted = omega arith;
-        own = (refl, tt);
-        stands = (frame.shut (family code c) s.state p (party_of p t.world.latest) (span_of p t.events) may.free (s.inv.calls p), tt);
-        here = record { span = refl; steps = omega arith; at = first.at };
-        knows = first.knows;
-        others = λ q ne st f h. h;
-      }
-      in
-      record {
-        state = s.state;
-        fit = s.fit;
-        holds = holds_more scene _ _ _ _ _ _ shows s.holds;
-        owes = owes scene _ _ _ _ _ _ shows refl (inv_of y t.world.changes);
-      }
-
-  own : (start : Start T) (flight : Flight T) → first_of t.world.kind t.world.capacity start t.world.kept ≡ Some flight → IsOwn start flight
-  own start flight e = begins_own t.world.capacity t.world.kept start flight (rw s.kind at e)
-
-  pub begin_comes : (start : Start T) (flight : Flight T) → MayBegin t.world p start → first_of t.world.kind t.world.capacity start t.world.kept ≡ Some flight
-      → frame.Comes (family code c) t p (kept_after_begin t.world.coding t.world.capacity start p t.world.kept)
-      t.world.words (party_at_begin start flight t.world.changes) (Begun p start ∷ []) t.world.changes
-  begin_comes (Atomic start) (flights.TheVariants.Atomic flight) may e =
-      let is = kept_is t.world.kept t.world.words s.state s.fit in
-      let rows : first_row (kept_rows start (registries.TheVariants.Atomic s.state.holder) p) ≡ None =
-      subst (λ kept. first_row (kept_rows start kept p) ≡ None) is.0 may.rows in
-      let role = (row_passed (lacks_role s.state.holder p start) NoRole None rows).0 in
-      begins start flight (subst (λ f. IsFirst code s.state.holder s.state.core p t.world.changes start f)
-      (own (Atomic start) (flights.TheVariants.Atomic flight) e)
-      (first_is code s.state.holder s.state.core p t.world.changes start role))
-      s may
-  begin_comes start flight may e = absurd (own start flight e)
-
 module _ {T : Type 0} where
-  pub fresh_laws : (code : Coding T) (c : ℕ) → LawsAt (family code c) IsFreshTurn
-  fresh_laws code c =
+  opens : (code : Coding T) (c : ℕ) → IsCoding code → Opens outline code c
+  opens code c coded =
       record {
-        step = λ t p x flight since s fresh passed found doing. step_comes code c t s p x since fresh flight found doing;
-        decision = λ t p x flight since said s may passed found doing asks. asks_nothing code c t s p x flight since found doing asks;
-        begin = λ t p start flight s fresh may e. begin_comes code c t s p start flight may e;
-        death = frame.no_death (family code c) (λ kept words state fit. rw (kept_is kept words state fit).0 refl);
-      }
-
-  -- those of a machine that can take a turn more
-  laws : (code : Coding T) (c : ℕ) → frame.Laws (family code c)
-  laws code c =
-      let on = fresh_laws code c in
-      record {
-        step = λ t p x flight since s small passed found doing. on.step t p x flight since s (few_turns code c t s small p) passed found doing;
-        decision = λ t p x flight since said s small passed found doing asks. on.decision t p x flight since said s tt passed found doing asks;
-        begin = λ t p start flight s small may e. on.begin t p start flight s tt may e;
-        death = on.death;
-      }
-
-  pub opening_sound : (code : Coding T) (c parties : ℕ) → IsCoding code → frame.Sound (family code c) (opening code kinds.TheVariants.Atomic c parties)
-  opening_sound code c parties coded =
-      record {
-        coding = refl;
-        kind = refl;
-        capacity = refl;
         state = record { holder = None; core = record { version = 1; now = replicate code.size 0; cells = replicate (code.size * 2) 0 } };
-        fit = (refl, refl);
+        kept = refl;
+        words = refl;
         holds =
             record {
               coded = coded;
@@ -262,23 +157,59 @@ module _ {T : Type 0} where
               within = omega arith;
               counted = refl;
             };
-        inv = record { spans = Each-nil _; calls = λ p. refl; knows = λ p. tt };
       }
 
-  pub reached_sound : (t : Trace T) → t.world.kind ≡ kinds.TheVariants.Atomic → IsReached t → frame.Sound (family t.world.coding t.world.capacity) t
-  reached_sound t is r =
-      let w = t.world in
-      let first = opening_sound w.coding w.capacity w.parties r.coded in
-      frame.reached_sound (family w.coding w.capacity) (laws w.coding w.capacity) t (ap is_loan is)
-      (subst (λ kind. frame.Sound (family w.coding w.capacity) (opening w.coding kind w.capacity w.parties)) (sym is) first)
-      r
+  owed : (code : Coding T) (c : ℕ) → Owed outline code c IsFreshTurn
+  owed code c =
+      record {
+        promise = refl;
+        holds = λ scene s' was y es changes' under conserves h. holds_more scene s' es changes' conserves h;
+        stays = λ scene s' was y es changes' conserves h own q ne start flight at. let others = conserves.others q ne in grind arith;
+        knows = λ scene s' was y es changes' conserves own q ne since backs flight h. let up = conserves.up in grind arith;
+        begin = λ t s p start flight may e rows. begin_shows code c t s p start flight e rows;
+        step = λ t s p x since fresh found. step_shows code c t s p x since fresh;
+        asks = λ s p start flight at. grind arith;
+        without = λ s. refl;
+        bounds = grind arith;
+        promised = λ t s few. value_kept code c t s s.coding;
+        writes = writes code c;
+        told = λ s p start flight at words beside answer. grind arith;
+        tells = λ old turn new. tt;
+      }
 
--- where turns have no bound, and no store finds the last version
-pub sound_on : {T : Type 0} (t : Trace T) → t.world.kind ≡ kinds.TheVariants.Atomic → IsCoding t.world.coding
-    → IsFreshRun t → frame.Sound (family t.world.coding t.world.capacity) t
-sound_on t is coded r =
-    let w = t.world in
-    let first = opening_sound w.coding w.capacity w.parties coded in
-    subst (frame.Sound (family w.coding w.capacity)) (sym r.is)
-    (run_sound (family w.coding w.capacity) IsFreshTurn (fresh_laws w.coding w.capacity) r.turns (opening w.coding w.kind w.capacity w.parties) r.fresh
-    (subst (λ kind. frame.Sound (family w.coding w.capacity) (opening w.coding kind w.capacity w.parties)) (sym is) first))
+  few : (code : Coding T) (c : ℕ) (t : Trace T) (turn : Turn T) → frame.Sound (family code c) t → t.world.turns < 2 ^ 64 - 2 → IsFreshTurn t turn
+  few z c t (Next p) s small = few_turns z c t s small p
+  few z c t turn s small = tt
+
+  owes_all : OwesAll {T = T} outline IsFreshTurn
+  owes_all = record { opens = λ code c coded admitted. opens code c coded; owed = λ code c coded admitted. owed code c; few = few }
+
+  pub fresh_laws : (code : Coding T) (c : ℕ) → frame.LawsWhere (family code c) IsFreshTurn
+  fresh_laws code c = laws.laws outline code c IsFreshTurn (owed code c)
+
+  pub opening_sound : (code : Coding T) (c parties : ℕ) → IsCoding code → frame.Sound (family code c) (opening code kinds.TheVariants.Atomic c parties)
+  opening_sound code c parties coded = laws.opening_sound outline code c (opens code c coded) parties
+
+  -- what is proved of every run of the single value
+  pub value_keeps : Keeps T kinds.TheVariants.Atomic
+  value_keeps = laws.keeps outline IsFreshTurn owes_all
+
+  -- where turns have no bound, and no store finds the last version
+  pub sound_on : (t : Trace T) → t.world.kind ≡ kinds.TheVariants.Atomic → IsCoding t.world.coding → IsFreshRun t
+      → frame.Sound (family t.world.coding t.world.capacity) t
+  sound_on t is coded r =
+      let w = t.world in
+      let F = family w.coding w.capacity in
+      subst (frame.Sound F) (sym r.is)
+      (run_sound F IsFreshTurn (fresh_laws w.coding w.capacity) r.turns (opening w.coding w.kind w.capacity w.parties) r.fresh
+      (subst (λ kind. frame.Sound F (opening w.coding kind w.capacity w.parties)) (sym is) (opening_sound w.coding w.capacity w.parties coded)))
+
+  pub kept_on : (t : Trace T) → t.world.kind ≡ kinds.TheVariants.Atomic → IsCoding t.world.coding → IsFreshRun t → IsKept t
+  kept_on t is coded r =
+      let s = sound_on t is coded r in
+      subst (λ P. IsKeptBy P t) (sym (ap (promise_of {T = T}) is))
+      (record {
+        spans = s.inv.spans;
+        progress = laws.progress outline t.world.coding t.world.capacity IsFreshTurn (owed t.world.coding t.world.capacity) t s;
+        promised = value_kept t.world.coding t.world.capacity t s refl;
+      })

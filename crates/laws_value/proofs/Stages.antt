@@ -12,7 +12,6 @@ use Rattle.model.specs.declared.families.Flight as flights
 use Rattle.model.specs.declared.families.Registry as registries
 use Rattle.model.specs.declared.families.atomic.AtomicStart.{AtomicStart}
 use Rattle.model.specs.declared.families.atomic.calls.AtomicFlight.{AtomicFlight}
-use Rattle.model.specs.declared.party.Doing.TheVariants.{Over}
 use Rattle.model.specs.declared.party.Party.{Party}
 use Rattle.model.specs.Families.{ask_of}
 use Rattle.model.specs.Families.Atomic.Bounds.{most_steps}
@@ -23,9 +22,11 @@ use Rattle.model.specs.Families.Atomic.Spans.{moments_of}
 use Rattle.model.specs.Families.Atomic.Steps.{acted, producer_after}
 use Rattle.model.specs.Reading.{Open}
 use Rattle.model.specs.Step.{as_call, answer_in}
-use Rattle.model.specs.Turns.{one_if, old_of, words_after, change_of, step_count, party_after, ending_of}
+use Rattle.model.specs.Turns.{one_if, old_of, words_after, change_of, step_count, ending_of}
+use Rattle.model.proofs.Family as families
+use Rattle.model.proofs.Family.{Scene, Inv}
 use Rattle.laws_value.proofs.Core.{Core, Good, layout}
-use Rattle.laws_value.proofs.Invariant.{Scene, Inv, Shows, family}
+use Rattle.laws_value.proofs.Invariant.{Value, Shows, outline, family}
 use Rattle.laws_value.proofs.Knows.{At, KnowsFlight}
 
 module _ {T : Type 0} where
@@ -37,20 +38,17 @@ module _ {T : Type 0} where
   abbrev pub told_after : ℕ → AtomicStart T → After (AtomicFlight T) (Answer T) → List (Event T)
   told_after p start after = acted p start (answer_in after) ++ ending_of p (Atomic start) (answer_in (any_call after))
 
-module _ {T : Type 0} (scene : Scene T) where
-  open scene use {coding as code, holder as ho, core as k, party as p}
+module _ {T : Type 0} (scene : Scene T Value) where
+  open scene use {coding as code, party as p}
+  open scene.state use {holder as ho, core as k}
 
   abbrev words : List ℕ
-  words = layout scene.holder scene.core
+  words = layout ho k
 
-  -- the party as it stands before the step
-  abbrev party : AtomicStart T → Party T
-  party start = record { start = Atomic start; steps = scene.steps; backs = scene.backs; doing = Over 0 }
-
-  -- and after a step that does this operation
+  -- the party after a step that does this operation
   abbrev pub party_then : AtomicStart T → Option Ask → Bool → After (AtomicFlight T) (Answer T) → Party T
   party_then start ask back after =
-      party_after (party start) scene.since scene.changes (step_count ask) (change_of words ask)
+      families.party_then outline scene (Atomic start) ask
       (record { after = any_call after; back = back; wrote = []; kept = registries.TheVariants.Atomic ho })
 
   -- how often words have changed then
@@ -61,7 +59,7 @@ module _ {T : Type 0} (scene : Scene T) where
   abbrev pub Leaves : Option ℕ → List (Event T) → AtomicStart T → Option Ask → Bool → After (AtomicFlight T) (Answer T) → Type 0
   Leaves holder' es start ask back after =
       (k' : Core) × (words_after words ask ≡ layout holder' k')
-      × Shows scene holder' k' (Open (Atomic start) []) (party_then start ask back after) es (changes_then ask)
+      × Shows scene (record { holder = holder'; core = k' }) (Open (Atomic start) []) (party_then start ask back after) es (changes_then ask)
 
   -- the old value of the word that a call asks for
   abbrev pub old_for : AtomicFlight T → ℕ
@@ -73,7 +71,7 @@ module _ {T : Type 0} (scene : Scene T) where
   abbrev pub StepOf : AtomicStart T → AtomicFlight T → Type 0
   StepOf start flight = Comes start (ask_of (want code flight)) (goes_back flight (old_for flight)) (after code flight (old_for flight))
 
-  module _ (inv : Inv scene) where
+  module _ (inv : Inv outline scene) where
     -- the call goes on, and the version and the value that stands stay
     pub quiet :
         (back : Bool) (start : AtomicStart T) (ask : Option Ask) (flight : AtomicFlight T) (k' : Core)

@@ -19,11 +19,12 @@ use Rattle.model.specs.declared.families.atomic.calls.AtomicFlight.{AtomicFlight
 use Rattle.model.specs.Coding.{IsCoding}
 use Rattle.model.specs.Families.Atomic.Calls.{after}
 use Rattle.model.specs.Turns.{change_of}
+use Rattle.model.proofs.Family.{Scene, Inv}
 use Rattle.laws_queues.proofs.Queues.Keeping.{clash}
 use Rattle.laws_queues.proofs.Queues.Knows.{IsFreshStore}
 use Rattle.laws_value.proofs.Core as core
 use Rattle.laws_value.proofs.Core.{Core, Good, IsFilled, layout, free, filled, fills, one_filled}
-use Rattle.laws_value.proofs.Invariant.{Scene, Inv}
+use Rattle.laws_value.proofs.Invariant.{Value, outline}
 use Rattle.laws_value.proofs.Knows.{KnowsStore, store_at, store_number, load_stays, load_passed, kept}
 use Rattle.laws_value.proofs.Stages.{Comes, StepOf, quiet}
 
@@ -31,14 +32,15 @@ use Rattle.laws_value.proofs.Stages.{Comes, StepOf, quiet}
 pub asked_place : (size n at : ℕ) → size ≤ 128 → at < size → word_at (cell_word size n) at ≡ 2 + (size * (n % 2) + at)
 asked_place x0 x1 x2 x3 x4 = grind arith
 
-module _ {T : Type 0} (scene : Scene T) (inv : Inv scene) (value : T) (holds : scene.holder ≡ Some scene.party) (b : scene.backs ≡ 0) where
-  open scene use {coding as code, holder as ho, core as k, party as p, steps, backs}
+module _ {T : Type 0} (scene : Scene T Value) (inv : Inv outline scene) (value : T) (holds : scene.state.holder ≡ Some scene.party) (b : scene.backs ≡ 0) where
+  open scene.state use {holder as ho, core as k}
+  open scene use {coding as code, party as p, steps, backs}
 
   g : Good code.size k
-  g = inv.value.good
+  g = inv.holds.good
 
   coded : IsCoding code
-  coded = inv.value.coded
+  coded = inv.holds.coded
 
   abbrev Does : Option Ask → After (AtomicFlight T) (Answer T) → Type 0
   Does ask after = Comes scene (starts.TheVariants.Store value) ask false after
@@ -107,7 +109,7 @@ module _ {T : Type 0} (scene : Scene T) (inv : Inv scene) (value : T) (holds : s
 
   adds : IsFilled code.size k (code.words_of value) code.size → k.version < 2 ^ 64 - 1 → steps ≤ 1 + code.size → DoesOf storing.TheVariants.AddsVersion
   adds whole fresh s =
-      let low = inv.value.reached in
+      let low = inv.holds.reached in
       let next : (k.version + 1) % 2 ^ 64 ≡ k.version + 1 = omega arith in
       let moved : ((k.version + 1) % 2 ^ 64 == k.version) ≡ false = grind (arith, nat_tests) in
       let one : change_of (layout ho k) adds_one ≡ 1 = rw moved refl in
@@ -116,16 +118,25 @@ module _ {T : Type 0} (scene : Scene T) (inv : Inv scene) (value : T) (holds : s
         k',
         ap (λ n. n ∷ free ho ∷ k.cells) next,
         record {
-          right = (tt, (tt, tt));
-          grants = (tt, (tt, tt));
-          good = core.stores code.size k (code.words_of value) (coded.sized value) g whole;
-          holders = refl;
-          goes = same;
-          answers = refl;
-          up = record { version = omega arith; paid = omega arith };
-          reached = omega arith;
-          within = omega arith;
-          counted = refl;
+          conserves =
+              record {
+                right = (tt, (tt, tt));
+                grants = (tt, (tt, tt));
+                good = core.stores code.size k (code.words_of value) (coded.sized value) g whole;
+                holders = refl;
+                goes = same;
+                answers = refl;
+                up = record { version = omega arith; paid = omega arith };
+                reached = omega arith;
+                within = omega arith;
+                counted = refl;
+                others =
+                    λ q ne. kept code ho ho k k' q (record {
+                      holder = λ h. h;
+                      store = λ h words stage other. absurd (clash ho p q ne holds h);
+                      load = λ room stage other. load_passed code.size k k' room stage (omega arith) other;
+                    });
+              };
           own = (refl, (refl, tt));
           stands = ((refl, refl), ((refl, refl), tt));
           here =
@@ -136,12 +147,6 @@ module _ {T : Type 0} (scene : Scene T) (inv : Inv scene) (value : T) (holds : s
                 steps = omega arith;
               };
           knows = omega arith;
-          others =
-              λ q ne. kept code ho ho k k' q (record {
-                holder = λ h. h;
-                store = λ h words stage other. absurd (clash ho p q ne holds h);
-                load = λ room stage other. load_passed code.size k k' room stage (omega arith) other;
-              });
         },
       )
 

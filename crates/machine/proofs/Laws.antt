@@ -3,11 +3,11 @@ use Rattle.model.specs.declared.turn.Kind.{Kind}
 use Rattle.model.specs.declared.turn.Kind.TheVariants.{IndexQueue, Overflow, Queue, Atomic, Bits, Counts, Indices, Robust, Container, Loan}
 use Rattle.model.specs.declared.families.queues.QueueKind as queue_kinds
 use Rattle.model.proofs.Orders.{Keeps}
-use Rattle.laws_value.proofs.Justified.{value_keeps}
+use Rattle.laws_value.proofs.Sound.{value_keeps}
 use Rattle.laws_bits.proofs.Bits.Justified.{bits_keep}
 use Rattle.laws_bits.proofs.Counts.Justified.{counts_keep}
 use Rattle.laws_container.proofs.Everything.{container_keeps}
-use Rattle.laws_indices.proofs.Justified.{index_keeps}
+use Rattle.laws_indices.proofs.Sound.{index_keeps}
 use Rattle.laws_loan.proofs.Justified.{loan_keeps}
 use Rattle.laws_queues.proofs.Queues.Justified.{queue_keeps}
 use Rattle.laws_robust.proofs.Justified.{robust_keeps}

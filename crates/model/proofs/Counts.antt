@@ -8,8 +8,7 @@ one_at_most true = omega arith
 one_at_most false = omega arith
 
 pub change_small : (words : List ℕ) (ask : Option Ask) → change_of words ask ≤ 1
-change_small words None = omega arith
-change_small words (Some ask) = one_at_most (get_or (words_after words (Some ask)) ask.word 0 == get_or words ask.word 0)
+change_small x0 x1 = grind (arith, one_at_most)
 
 pub steps_small : (ask : Option Ask) → step_count ask ≤ 1
 steps_small None = omega arith

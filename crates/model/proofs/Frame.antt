@@ -1,5 +1,5 @@
 -- What holds of a machine of any family between two turns, how a turn keeps it, and so that every run has it.
-use Rattle.std.proofs.Common.{◌≡◌, ◌≢◌, ℕ, ◌+◌, ◌-◌, ◌^◌, ◌<◌, ◌≤◌, ⊎_elim, Bool, true, false, not, Option, Some, None}
+use Rattle.std.proofs.Common.{◌≡◌, ◌≢◌, ℕ, ◌+◌, ◌-◌, ◌^◌, ◌<◌, ◌≤◌, ⊎_elim, Bool, true, false, not, Option, Some, None, is_none}
 use Rattle.std.proofs.Common.{List, [], ◌∷◌, ◌++◌, fold, refl, sym, ap, subst, ◌∙◌, append-nil, arith}
 use Rattle.std.proofs.lemmas.Bool.{cases_eq}
 use Rattle.steps.specs.declared.ask.Ask.{Ask}
@@ -27,7 +27,7 @@ use Rattle.model.specs.Refusals.{call_refusal, is_due}
 use Rattle.model.specs.Rows.{first_row}
 use Rattle.model.specs.Shape.{IsShut}
 use Rattle.model.specs.Turns.{old_of, words_after, change_of, step_count, number_of, ask_of_doing, party_at_begin}
-use Rattle.model.specs.Turns.{after_begin, party_after, after_step, step_in, after_answer, after_next, after_decision}
+use Rattle.model.specs.Turns.{after_begin, party_after, step_in, after_answer, after_next, after_decision}
 use Rattle.model.specs.Turns.{after_turn, events_of_step, events_of_answer, events_of_next, events_of_decision}
 use Rattle.model.specs.Turns.{IsReached, IsReachedOn}
 use Rattle.model.specs.World.{Trace, opening, opened, queue_error, flight_in}
@@ -248,109 +248,95 @@ module _ {T : Type 0} (F : Family T) where
       let without = none t.world.kept t.world.words s.state s.fit in
       absurd (cc)
 
-  -- what a family owes, of a call that passes its rows, in a machine of which this holds
-  pub record LawsWhere (May : Trace T → Type 0) : Type 0 where
-    pub step : (t : Trace T) (p : ℕ) (x : Party T) (flight : Flight T) (since : ℕ) → Sound t → May t
+  -- ---- a turn that comes to this
+
+  pub comes_sound : (t : Trace T) (p : ℕ) (kept : Registry T) (words : List ℕ) (y : Party T) (es : List (Event T)) (changes : ℕ)
+      → Sound t → Comes t p kept words y es changes
+      → Sound record {
+        world =
+            record t.world { kept = kept; words = words; latest = put p y t.world.latest; changes = changes; turns = t.world.turns + 1 };
+        events = t.events ++ es;
+      }
+  comes_sound t p kept words y es changes s comes =
+      record {
+        coding = s.coding;
+        kind = s.kind;
+        capacity = s.capacity;
+        state = comes.state;
+        fit = comes.fit;
+        holds = comes.holds;
+        inv = advance s.state comes.state p y t.world.latest t.events es t.world.changes changes s.inv comes.owes;
+      }
+
+  same : (t : Trace T) → Sound t → Sound record { world = t.world; events = t.events ++ [] }
+  same t s = subst (λ es. Sound record { world = t.world; events = es }) (sym (append-nil t.events)) s
+
+  -- a call that goes on from this answer; one that is done stays
+  answered : (t : Trace T) (p : ℕ) (x : Party T) (ask : Option Ask) (answer : ℕ) (doing : Doing T) → Sound t
+      → ((flight : Flight T) (since : ℕ) → doing ≡ Going flight since → ComesByStep t p x flight since ask answer)
+      → Sound record { world = after_answer t.world p x ask answer doing; events = t.events ++ events_of_answer t.world p x answer doing }
+  answered t p x ask answer (Going flight since) s comes = comes_sound t p _ _ _ _ _ s (comes flight since refl)
+  answered t p x ask answer (Over others) s comes = same t s
+
+  -- the party has this call under way
+  pub record IsUnder (t : Trace T) (p : ℕ) (x : Party T) (flight : Flight T) (since : ℕ) : Type 0 where
+    pub found : party_of p t.world.latest ≡ Some x
+    pub doing : x.doing ≡ Going flight since
+    pub is : flight_in t.world p ≡ Some flight
+
+  under : (t : Trace T) (p : ℕ) (x : Party T) (flight : Flight T) (since : ℕ) → party_of p t.world.latest ≡ Some x
+      → x.doing ≡ Going flight since → IsUnder t p x flight since
+  under t p x flight since e d = record { found = e; doing = d; is = ap (λ o. flight_of (doing_of o)) e ∙ ap (λ d. flight_of (Some d)) d }
+
+  -- its step, its decision and its begin
+  pub next_sound : (t : Trace T) (p : ℕ) → Sound t
+      → ((x : Party T) (flight : Flight T) (since : ℕ) → IsUnder t p x flight since
+      → ComesByStep t p x flight since (ask_of (want_of t.world.coding flight)) (old_of t.world.words (ask_of (want_of t.world.coding flight))))
+      → (o : Option (Party T)) → party_of p t.world.latest ≡ o
+      → Sound record { world = after_next t.world p o; events = t.events ++ events_of_next t.world p o }
+  next_sound t p s comes None e = same t s
+  next_sound t p s comes (Some x) e =
+      let ask : Doing T → Option Ask = ask_of_doing t.world.coding in
+      answered t p x (ask x.doing) (old_of t.world.words (ask x.doing)) x.doing s (λ flight since d.
+      subst (λ a. ComesByStep t p x flight since a (old_of t.world.words a)) (sym (ap ask d)) (comes x flight since (under t p x flight since e d)))
+
+  pub decision_sound : (t : Trace T) (p : ℕ) (said : Bool) → Sound t
+      → ((x : Party T) (flight : Flight T) (since : ℕ) → IsUnder t p x flight since → ComesByStep t p x flight since None (number_of said))
+      → (o : Option (Party T)) → party_of p t.world.latest ≡ o
+      → Sound record { world = after_decision t.world p said o; events = t.events ++ events_of_decision t.world p said o }
+  decision_sound t p said s comes None e = same t s
+  decision_sound t p said s comes (Some x) e =
+      answered t p x None (number_of said) x.doing s (λ flight since d. comes x flight since (under t p x flight since e d))
+
+  pub begin_sound : (t : Trace T) (p : ℕ) (start : Start T) → is_none (first_of t.world.kind t.world.capacity start t.world.kept) ≡ false → Sound t
+      → ((flight : Flight T) → first_of t.world.kind t.world.capacity start t.world.kept ≡ Some flight
+      → Comes t p (kept_after_begin t.world.coding t.world.capacity start p t.world.kept) t.world.words
+      (party_at_begin start flight t.world.changes) (Begun p start ∷ []) t.world.changes)
+      → (o : Option (Flight T)) → first_of t.world.kind t.world.capacity start t.world.kept ≡ o
+      → Sound record { world = after_begin t.world p start o; events = t.events ++ Begun p start ∷ [] }
+  begin_sound t p start call s comes None e =
+      let none = rw e at call in
+      absurd (cc)
+  begin_sound t p start call s comes (Some flight) e = comes_sound t p _ _ _ _ _ s (comes flight e)
+
+  -- what a family owes, of a call that passes its rows, in a turn that may be taken
+  pub record LawsWhere (May : Trace T → Turn T → Type 0) : Type 0 where
+    pub step : (t : Trace T) (p : ℕ) (x : Party T) (flight : Flight T) (since : ℕ) → Sound t → May t (Next p)
         → first_row (going_rows t.world.coding t.world.kept (Some flight) None) ≡ None
         → party_of p t.world.latest ≡ Some x → x.doing ≡ Going flight since
         → ComesByStep t p x flight since (ask_of (want_of t.world.coding flight)) (old_of t.world.words (ask_of (want_of t.world.coding flight)))
     pub decision : (t : Trace T) (p : ℕ) (x : Party T) (flight : Flight T) (since : ℕ) (said : Bool) → Sound t
-        → May t → first_row (going_rows t.world.coding t.world.kept (Some flight) (Some said)) ≡ None
+        → May t (Decide p said) → first_row (going_rows t.world.coding t.world.kept (Some flight) (Some said)) ≡ None
         → party_of p t.world.latest ≡ Some x → x.doing ≡ Going flight since
         → is_question (want_of t.world.coding flight) ≡ true
         → ComesByStep t p x flight since None (number_of said)
-    pub begin : (t : Trace T) (p : ℕ) (start : Start T) (flight : Flight T) → Sound t → May t
+    pub begin : (t : Trace T) (p : ℕ) (start : Start T) (flight : Flight T) → Sound t → May t (Begin p start)
         → MayBegin t.world p start → first_of t.world.kind t.world.capacity start t.world.kept ≡ Some flight
         → Comes t p (kept_after_begin t.world.coding t.world.capacity start p t.world.kept) t.world.words
         (party_at_begin start flight t.world.changes) (Begun p start ∷ []) t.world.changes
     pub death : (t : Trace T) (owner : ℕ) (s : Sound t) → MayDie t.world owner → ComesByDeath t s owner
 
-  module _ (May : Trace T → Type 0) (laws : LawsWhere May) where
-    step_sound : (t : Trace T) (p : ℕ) (x : Party T) (flight : Flight T) (since : ℕ) (ask : Option Ask) (answer : ℕ)
-        → Sound t → ComesByStep t p x flight since ask answer
-        → Sound record {
-          world = after_step t.world p x since ask (step_in t.world p x flight answer);
-          events = t.events ++ events_of_step p x.start (step_in t.world p x flight answer);
-        }
-    step_sound t p x flight since ask answer s comes =
-        let w = t.world in
-        let y = party_after x since w.changes (step_count ask) (change_of w.words ask) (step_in w p x flight answer) in
-        record {
-          coding = s.coding;
-          kind = s.kind;
-          capacity = s.capacity;
-          state = comes.state;
-          fit = comes.fit;
-          holds = comes.holds;
-          inv =
-              advance s.state comes.state p y w.latest t.events (events_of_step p x.start (step_in w p x flight answer))
-              w.changes (w.changes + change_of w.words ask) s.inv comes.owes;
-        }
-
-    same : (t : Trace T) → Sound t → Sound record { world = t.world; events = t.events ++ [] }
-    same t s = subst (λ es. Sound record { world = t.world; events = es }) (sym (append-nil t.events)) s
-
-    next_sound : (t : Trace T) (p : ℕ) → May t
-        → first_row (going_rows t.world.coding t.world.kept (flight_in t.world p) None) ≡ None → Sound t
-        → (o : Option (Party T)) → party_of p t.world.latest ≡ o
-        → Sound record { world = after_next t.world p o; events = t.events ++ events_of_next t.world p o }
-    next_sound t p may rows s None e = same t s
-    next_sound t p may rows s (Some x) e = go x.doing refl
-      where
-        go : (doing : Doing T) → x.doing ≡ doing → Sound record {
-          world =
-              after_answer t.world p x (ask_of_doing t.world.coding doing) (old_of t.world.words (ask_of_doing t.world.coding doing)) doing;
-          events = t.events ++ events_of_answer t.world p x (old_of t.world.words (ask_of_doing t.world.coding doing)) doing;
-        }
-        go (Over others) d = same t s
-        go (Going flight since) d =
-            let here : flight_in t.world p ≡ Some flight = ap (λ o. flight_of (doing_of o)) e ∙ ap (λ d. flight_of (Some d)) d in
-            let passed : first_row (going_rows t.world.coding t.world.kept (Some flight) None) ≡ None =
-            subst (λ o. first_row (going_rows t.world.coding t.world.kept o None) ≡ None) here rows in
-            step_sound t p x flight since (ask_of (want_of t.world.coding flight)) (old_of t.world.words (ask_of (want_of t.world.coding flight))) s
-            (laws.step t p x flight since s may passed e d)
-
-    decision_sound : (t : Trace T) (p : ℕ) (said : Bool) → May t
-        → first_row (going_rows t.world.coding t.world.kept (flight_in t.world p) (Some said)) ≡ None
-        → is_due t.world.coding (flight_in t.world p) ≡ true → Sound t → (o : Option (Party T))
-        → party_of p t.world.latest ≡ o
-        → Sound record { world = after_decision t.world p said o; events = t.events ++ events_of_decision t.world p said o }
-    decision_sound t p said may rows due s None e = same t s
-    decision_sound t p said may rows due s (Some x) e = go x.doing refl
-      where
-        go : (doing : Doing T) → x.doing ≡ doing → Sound record {
-          world = after_answer t.world p x None (number_of said) doing;
-          events = t.events ++ events_of_answer t.world p x (number_of said) doing;
-        }
-        go (Over others) d = same t s
-        go (Going flight since) d =
-            let here : flight_in t.world p ≡ Some flight = ap (λ o. flight_of (doing_of o)) e ∙ ap (λ d. flight_of (Some d)) d in
-            let asks : is_question (want_of t.world.coding flight) ≡ true = rw here at due in
-            let passed : first_row (going_rows t.world.coding t.world.kept (Some flight) (Some said)) ≡ None =
-            subst (λ o. first_row (going_rows t.world.coding t.world.kept o (Some said)) ≡ None) here rows in
-            step_sound t p x flight since None (number_of said) s (laws.decision t p x flight since said s may passed e d asks)
-
-    begin_sound : (t : Trace T) (p : ℕ) (start : Start T) → May t → MayBegin t.world p start → Sound t
-        → (o : Option (Flight T)) → first_of t.world.kind t.world.capacity start t.world.kept ≡ o
-        → Sound record { world = after_begin t.world p start o; events = t.events ++ Begun p start ∷ [] }
-    begin_sound t p start small may s None e =
-        let call = rw e at may.call in
-        absurd (cc)
-    begin_sound t p start small may s (Some flight) e =
-        let w = t.world in
-        let comes = laws.begin t p start flight s small may e in
-        record {
-          coding = s.coding;
-          kind = s.kind;
-          capacity = s.capacity;
-          state = comes.state;
-          fit = comes.fit;
-          holds = comes.holds;
-          inv =
-              advance s.state comes.state p (party_at_begin start flight w.changes) w.latest t.events
-              (Begun p start ∷ []) w.changes w.changes s.inv comes.owes;
-        }
-
+  module _ (May : Trace T → Turn T → Type 0) (laws : LawsWhere May) where
     death_sound : (t : Trace T) (owner : ℕ) → MayDie t.world owner → Sound t → Sound (after_turn t (Die owner))
     death_sound t owner may s =
         let w = t.world in
@@ -369,27 +355,36 @@ module _ {T : Type 0} (F : Family T) where
                 calls = λ q.
                     subst (λ a. Fits comes.state q (party_of q w.latest) a) (sym (span_of-death q t.events owner))
                     (still_fits s.state comes.state q (comes.calls q) (party_of q w.latest) (span_of q t.events) (s.inv.calls q));
-                knows = λ q. still_knows s.state comes.state q t.events es w.changes w.changes (comes.calls_know q) (party_of q w.latest) (s.inv.knows q);
+                knows =
+                    λ q. still_knows s.state comes.state q t.events es w.changes w.changes (comes.calls_know q)
+                    (party_of q w.latest) (s.inv.knows q);
               };
         }
 
-    pub turn_sound : (t : Trace T) (turn : Turn T) → call_refusal t.world turn ≡ None → May t → Sound t → Sound (after_turn t turn)
+    pub turn_sound : (t : Trace T) (turn : Turn T) → call_refusal t.world turn ≡ None → May t turn → Sound t → Sound (after_turn t turn)
     turn_sound t (Begin p start) e may s =
-        begin_sound t p start may (may_begin t.world p start e) s (first_of t.world.kind t.world.capacity start t.world.kept) refl
-    turn_sound t (Next p) e may s = next_sound t p may (next_passes t.world p e) s (party_of p t.world.latest) refl
+        let begins = may_begin t.world p start e in
+        begin_sound t p start begins.call s (λ flight is. laws.begin t p start flight s may begins is)
+        (first_of t.world.kind t.world.capacity start t.world.kept) refl
+    turn_sound t (Next p) e may s =
+        next_sound t p s (λ x flight since u. laws.step t p x flight since s may
+        (subst (λ o. first_row (going_rows t.world.coding t.world.kept o None) ≡ None) u.is (next_passes t.world p e)) u.found u.doing)
+        (party_of p t.world.latest) refl
     turn_sound t (Decide p said) e may s =
-        decision_sound t p said may (decision_passes t.world p said e)
-        (is_true (is_due t.world.coding (flight_in t.world p)) (must_be_due t.world p said e)) s
+        let due = is_true (is_due t.world.coding (flight_in t.world p)) (must_be_due t.world p said e) in
+        decision_sound t p said s (λ x flight since u. laws.decision t p x flight since said s may
+        (subst (λ o. first_row (going_rows t.world.coding t.world.kept o (Some said)) ≡ None) u.is (decision_passes t.world p said e)) u.found u.doing
+        (subst (λ o. is_due t.world.coding o ≡ true) u.is due))
         (party_of p t.world.latest) refl
     turn_sound t (Die owner) e may s = death_sound t owner (may_die t.world owner e) s
 
   -- the laws of a machine that can take a turn more
   abbrev pub Laws : Type 0
-  Laws = LawsWhere (λ t. t.world.turns < 2 ^ 64 - 2)
+  Laws = LawsWhere (λ t turn. t.world.turns < 2 ^ 64 - 2)
 
   -- the laws of a machine without an end
   abbrev pub LawsOn : Type 0
-  LawsOn = LawsWhere (λ t. Unit {0})
+  LawsOn = LawsWhere (λ t turn. Unit {0})
 
   -- from the opening at any second number that is admitted
   pub reached_from : Laws → (t : Trace T)
@@ -397,7 +392,7 @@ module _ {T : Type 0} (F : Family T) where
       → Sound (opened t.world.coding t.world.kind t.world.capacity queue t.world.parties))
       → IsReached t → Sound t
   reached_from laws t first r =
-      kept_by_runs Sound (λ u turn e h. turn_sound (λ t. t.world.turns < 2 ^ 64 - 2) laws u turn (passes u.world turn e).on
+      kept_by_runs Sound (λ u turn e h. turn_sound (λ t turn. t.world.turns < 2 ^ 64 - 2) laws u turn (passes u.world turn e).on
       (passes u.world turn e).turns h)
       t first r
 
@@ -409,17 +404,23 @@ module _ {T : Type 0} (F : Family T) where
       reached_from laws t (λ queue admitted. subst Sound (sym (opened_others w.coding w.kind w.capacity queue w.parties other)) first) r
 
   pub reached_on_sound : LawsOn → (t : Trace T) → Sound (opening t.world.coding t.world.kind t.world.capacity t.world.parties) → IsReachedOn t → Sound t
-  reached_on_sound laws t first r = kept_by_runs_on Sound (λ u turn e h. turn_sound (λ t. Unit {0}) laws u turn e tt h) t first r
+  reached_on_sound laws t first r = kept_by_runs_on Sound (λ u turn e h. turn_sound (λ t turn. Unit {0}) laws u turn e tt h) t first r
+
+  -- laws of the turns that may be taken are laws of fewer turns
+  pub laws_with : {May Fewer : Trace T → Turn T → Type 0} → ((t : Trace T) (turn : Turn T) → Sound t → Fewer t turn → May t turn)
+      → LawsWhere May → LawsWhere Fewer
+  laws_with may laws =
+      record {
+        step = λ t p x flight since s few passed found doing. laws.step t p x flight since s (may t (Next p) s few) passed found doing;
+        decision = λ t p x flight since said s few passed found doing asks.
+            laws.decision t p x flight since said s (may t (Decide p said) s few) passed found doing asks;
+        begin = λ t p start flight s few free e. laws.begin t p start flight s (may t (Begin p start) s few) free e;
+        death = laws.death;
+      }
 
   -- laws without an end are laws of a machine with one
   pub laws_within : LawsOn → Laws
-  laws_within laws =
-      record {
-        step = λ t p x flight since s small passed found doing. laws.step t p x flight since s tt passed found doing;
-        decision = λ t p x flight since said s small passed found doing asks. laws.decision t p x flight since said s tt passed found doing asks;
-        begin = λ t p start flight s small may e. laws.begin t p start flight s tt may e;
-        death = laws.death;
-      }
+  laws_within laws = laws_with (λ t turn s few. tt) laws
 
   -- ---- progress
 

@@ -1,5 +1,7 @@
 pub mod Counts
 pub mod Dead
+pub mod Family
+pub mod FamilyLaws
 pub mod Frame
 pub mod Linearizable
 pub mod Looks

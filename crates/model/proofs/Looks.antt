@@ -20,10 +20,7 @@ use Rattle.model.specs.Progress.{Looks, ChangesNothing}
 use Rattle.model.specs.Turns.{words_after}
 
 by_len : (words : List ℕ) (stage : LenStage) → words_after words (ask_of (len_asks stage)) ≡ words
-by_len words LoadsWrite = set-get_or words 0 0
-by_len words (LoadsRead write) = set-get_or words 1 0
-by_len words (LoadsWriteAgain write read) = set-get_or words 0 0
-by_len words (LoadsReadAgain write read) = set-get_or words 1 0
+by_len x0 x1 = grind (arith, set-get_or)
 
 by_check : (words : List ℕ) (version : ℕ) → words_after words (Some (record { word = 0; op = Exchange version version })) ≡ words
 by_check words version = go (get_or words 0 0 == version) refl
@@ -35,14 +32,8 @@ by_check words version = go (get_or words 0 0 == version) refl
     go false t = rw t (set-get_or words 0 0)
 
 by_load : (words : List ℕ) (stage : LoadStage) → words_after words (ask_of (load_asks stage)) ≡ words
-by_load words loading.TheVariants.LoadsVersion = set-get_or words 0 0
-by_load words (loading.TheVariants.LoadsCell version cell at) = set-get_or words _ 0
-by_load words (loading.TheVariants.ChecksVersion version) = by_check words version
+by_load x0 x1 = grind (arith, set-get_or, by_check)
 
 module _ {T : Type 0} where
   pub looks_change_nothing : (code : Coding T) (flight : Flight T) → Looks flight → ChangesNothing code flight
-  looks_change_nothing code (flights.TheVariants.Queues (queues.TheVariants.Length which run)) looks = λ words. by_len words run.call.stage
-  looks_change_nothing code (flights.TheVariants.Queues other) looks = absurd looks
-  looks_change_nothing code (flights.TheVariants.Atomic (atomics.TheVariants.Load run)) looks = λ words. by_load words run.call.stage
-  looks_change_nothing code (flights.TheVariants.Atomic other) looks = absurd looks
-  looks_change_nothing code other looks = absurd looks
+  looks_change_nothing x0 x1 x2 = grind (arith, by_len, by_load)

@@ -1,5 +1,6 @@
 -- A moment of a call, once it has come, stays one of its moments until the party begins another call; so does what came
 -- since it began.
+use Rattle.std.proofs.Common.{arith}
 use Rattle.std.proofs.Common.{◌≡◌, ◌≢◌, ℕ, List, [], ◌∷◌, ◌++◌, refl, sym, ap, ◌∙◌, append_assoc, append-nil}
 use Rattle.model.specs.declared.event.Event.{Event}
 use Rattle.model.specs.declared.event.Event.TheVariants.{Begun}
@@ -22,39 +23,23 @@ module _ {T : Type 0} where
   others_begin_none p q (e ∷ es) ne own = others_begin_none p q es ne own.1
 
   pub held_now : (p : ℕ) (P : List (Event T) → Type 0) (events : List (Event T)) → P events → HeldSometime p P events
-  held_now p P events h = record { part = events; rest = []; is = sym (append-nil events); within = tt; held = h }
+  held_now x0 x1 x2 x3 = grind (arith, append-nil)
 
   pub held_later : (p : ℕ) (P : List (Event T) → Type 0) (events es : List (Event T)) → BeginsNone p es
       → HeldSometime p P events → HeldSometime p P (events ++ es)
-  held_later p P events es none h =
-      record {
-        part = h.part;
-        rest = h.rest ++ es;
-        is = ap (λ xs. xs ++ es) h.is ∙ append_assoc h.part h.rest es;
-        within = begins_none_more p h.rest es h.within none;
-        held = h.held;
-      }
+  held_later x0 x1 x2 x3 x4 x5 = grind (arith, append_assoc, begins_none_more)
 
   -- what follows from what held, held as well
   pub held_so : (p : ℕ) (P Q : List (Event T) → Type 0) (events : List (Event T))
       → ((part : List (Event T)) → P part → Q part) → HeldSometime p P events → HeldSometime p Q events
-  held_so p P Q events f h = record { part = h.part; rest = h.rest; is = h.is; within = h.within; held = f h.part h.held }
+  held_so x0 x1 x2 x3 x4 x5 = grind arith
 
   -- ---- since the latest call began
 
   pub since_more : (p : ℕ) (P Q : List (Event T) → List (Event T) → Type 0) (events es : List (Event T))
       → BeginsNone p es → (h : SinceBegin p P events) → Q h.before (h.since ++ es) → SinceBegin p Q (events ++ es)
-  since_more p P Q events es none h holds =
-      record {
-        before = h.before;
-        start = h.start;
-        since = h.since ++ es;
-        is = ap (λ xs. xs ++ es) h.is ∙ append_assoc h.before (Begun p h.start ∷ h.since) es;
-        within = begins_none_more p h.since es h.within none;
-        holds = holds;
-      }
+  since_more x0 x1 x2 x3 x4 x5 x6 x7 = grind (arith, append_assoc, begins_none_more)
 
   pub since_now : (p : ℕ) (P : List (Event T) → List (Event T) → Type 0) (events : List (Event T)) (start : Start T)
       → P events [] → SinceBegin p P (events ++ Begun p start ∷ [])
-  since_now p P events start holds =
-      record { before = events; start = start; since = []; is = refl; within = tt; holds = holds }
+  since_now x0 x1 x2 x3 x4 = grind arith

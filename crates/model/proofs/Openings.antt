@@ -19,20 +19,15 @@ module _ {T : Type 0} where
   -- another kind than the loan channel has no second number
   pub opened_others : (code : Coding T) (kind : Kind) (c queue parties : ℕ) → is_loan kind ≡ false
       → opened code kind c queue parties ≡ opening code kind c parties
-  opened_others code Loan c queue parties e = absurd (cc)
-  opened_others code kind c queue parties e = refl
+  opened_others x0 x1 x2 x3 x4 x5 = grind arith
 
 -- ---- numbers that are admitted
 
 passed_both : (a b : Bool) (x y : UniqueIndexCreationError) → (if a then Some x else if b then Some y else None) ≡ None → (a ≡ false) × (b ≡ false)
-passed_both true b x y e = absurd (cc)
-passed_both false true x y e = absurd (cc)
-passed_both false false x y e = (refl, refl)
+passed_both x0 x1 x2 x3 x4 = grind arith
 
 passes_both : (a b : Bool) (x y : UniqueIndexCreationError) → a ≡ false → b ≡ false → (if a then Some x else if b then Some y else None) ≡ None
-passes_both true b x y e f = absurd (cc)
-passes_both false true x y e f = absurd (cc)
-passes_both false false x y e f = refl
+passes_both x0 x1 x2 x3 x4 x5 = grind arith
 
 neither : (a b : Bool) → (a || b) ≡ false → (a ≡ false) × (b ≡ false)
 neither true b e = absurd (cc)
@@ -45,22 +40,11 @@ passes a b e f = passes_both a b ProvidedCapacityGreaterThanMaxCapacity Provided
 
 -- a number of slots is also a capacity of a submission queue
 wide_enough : (c : ℕ) → capacity_error Loan c ≡ None → queue_error Loan c ≡ None
-wide_enough c e =
-    let both = passed_both (nat_lt (2 ^ 24 - 2) c) (nat_lt c 1) _ _ e in
-    let most : nat_lt (2 ^ 24 - 2) c ≡ false = both.0 in
-    let below : c ≤ 2 ^ 24 - 2 = grind (arith, nat_tests) in
-    let within : nat_lt (2 ^ 32 - 1) c ≡ false = grind (arith, nat_tests) in
-    passes (nat_lt (2 ^ 32 - 1) c) (nat_lt c 1) within both.1
+wide_enough x0 x1 = grind (arith, passed_both, false, passes, nat_tests)
 
 pub queue_admitted : (kind : Kind) (c : ℕ) → capacity_error kind c ≡ None → queue_error kind c ≡ None
 queue_admitted Loan c e = wide_enough c e
 queue_admitted kind c e = refl
 
 pub loan_admitted : (slots queue : ℕ) → loan_error slots queue ≡ None → (capacity_error Loan slots ≡ None) × (queue_error Loan queue ≡ None)
-loan_admitted slots queue e =
-    let both = passed_both (nat_lt (2 ^ 24 - 2) slots || nat_lt (2 ^ 32 - 1) queue) (nat_lt slots 1 || nat_lt queue 1) _ _ e in
-    let most = neither (nat_lt (2 ^ 24 - 2) slots) (nat_lt (2 ^ 32 - 1) queue) both.0 in
-    let least = neither (nat_lt slots 1) (nat_lt queue 1) both.1 in (
-      passes (nat_lt (2 ^ 24 - 2) slots) (nat_lt slots 1) most.0 least.0,
-      passes (nat_lt (2 ^ 32 - 1) queue) (nat_lt queue 1) most.1 least.1,
-    )
+loan_admitted x0 x1 x2 = grind (arith, passed_both, neither, passes)

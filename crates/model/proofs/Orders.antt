@@ -1,4 +1,5 @@
 -- Every turn of a reached machine of any family is as its own words say.
+use Rattle.std.proofs.Common.{arith}
 use Rattle.std.proofs.Common.{◌≡◌, ℕ, ◌-◌, ◌^◌, ◌<◌, Bool, true, Option, Some, None, List, [], ◌∷◌, ◌++◌, refl, sym, ap, subst, ◌∙◌}
 use Rattle.std.specs.List.{AllByRecursion}
 use Rattle.model.specs.declared.event.Answer.{Answer}
@@ -116,5 +117,4 @@ module _ {T : Type 0} (laws : (kind : Kind) → Keeps T kind) where
   -- the same of a machine that is seen as `now`
   pub step_turn : (inside now new : Trace T) (turn : Turn T) → inside ≡ now → IsReached inside
       → refusal_of inside.world turn ≡ None → new ≡ after_turn inside turn → IsTurn now turn new
-  step_turn inside now new turn is r free goes =
-      subst (λ t. IsTurn t turn new) is (subst (λ t. IsTurn inside turn t) (sym goes) (reached_turn inside turn free r))
+  step_turn x0 x1 x2 x3 x4 x5 x6 x7 = grind (arith, reached_turn)

@@ -87,80 +87,29 @@ module _ {T : Type 0} where
   queue_guaranteed kind capacity size other = λ backs. at_most _
 
   value_guaranteed : (capacity size : ℕ) (start : Start T) → IsGuaranteed value_promises.promise capacity size start (in_value size start)
-  value_guaranteed capacity size (starts.Atomic atomics.AcquireProducer) = λ backs. at_most _
-  value_guaranteed capacity size (starts.Atomic atomics.ReleaseProducer) = λ backs. at_most _
-  value_guaranteed capacity size (starts.Atomic (atomics.Store value)) = λ backs. at_most _
-  value_guaranteed capacity size (starts.Atomic atomics.Load) = λ backs. at_most _
-  value_guaranteed capacity size other = λ backs. at_most _
+  value_guaranteed x0 x1 x2 = grind (arith, at_most)
 
   bits_guaranteed : (capacity size : ℕ) (start : Start T) → IsGuaranteed bits_promise capacity size start (in_bits capacity start)
-  bits_guaranteed capacity size (starts.Bits (bits.Set bit)) = λ backs. omega arith
-  bits_guaranteed capacity size (starts.Bits bits.ResetNext) = λ backs. omega arith
-  bits_guaranteed capacity size (starts.Bits bits.ResetAll) = λ backs. at_most _
-  bits_guaranteed capacity size other = λ backs. at_most _
+  bits_guaranteed x0 x1 x2 = grind (arith, at_most)
 
   counts_guaranteed : (capacity size : ℕ) (start : Start T) → IsGuaranteed counts_promise capacity size start (in_counts capacity start)
-  counts_guaranteed capacity size (starts.Bits (bits.Set place)) = λ backs. at_most _
-  counts_guaranteed capacity size (starts.Bits bits.ResetNext) = λ backs. at_most _
-  counts_guaranteed capacity size (starts.Bits bits.ResetAll) = λ backs. at_most _
-  counts_guaranteed capacity size other = λ backs. at_most _
+  counts_guaranteed x0 x1 x2 = grind (arith, at_most)
 
   index_guaranteed : (capacity size : ℕ) (start : Start T) → IsGuaranteed index_promises.promise capacity size start (in_indices capacity start)
-  index_guaranteed capacity size (starts.Indices indices.Acquire) = λ backs. at_most _
-  index_guaranteed capacity size (starts.Indices (indices.Release index Default)) = λ backs. at_most _
-  index_guaranteed capacity size (starts.Indices (indices.Release index LockIfLastIndex)) = λ backs. at_most _
-  index_guaranteed capacity size (starts.Indices indices.BorrowedIndices) = λ backs. at_most _
-  index_guaranteed capacity size (starts.Indices indices.IsLocked) = λ backs. at_most _
-  index_guaranteed capacity size other = λ backs. at_most _
+  index_guaranteed x0 x1 x2 = grind (arith, at_most)
 
   robust_guaranteed : (capacity size : ℕ) (start : Start T) → IsGuaranteed robust_promises.promise capacity size start (in_robust capacity start)
-  robust_guaranteed capacity size (starts.Robust (robust.Acquire owner)) = λ backs. at_most _
-  robust_guaranteed capacity size (starts.Robust (robust.Release index owner Default)) = λ backs. omega arith
-  robust_guaranteed capacity size (starts.Robust (robust.Release index owner LockIfLastIndex)) = λ backs. at_most _
-  robust_guaranteed capacity size (starts.Robust (robust.Find owner)) = λ backs. at_most _
-  robust_guaranteed capacity size (starts.Robust (robust.Recover Default)) = λ backs. omega arith
-  robust_guaranteed capacity size (starts.Robust (robust.Recover LockIfLastIndex)) = λ backs. at_most _
-  robust_guaranteed capacity size (starts.Robust robust.BorrowedIndices) = λ backs. at_most _
-  robust_guaranteed capacity size (starts.Robust robust.IsLocked) = λ backs. at_most _
-  robust_guaranteed capacity size other = λ backs. at_most _
+  robust_guaranteed x0 x1 x2 = grind (arith, at_most)
 
   container_guaranteed : (capacity size : ℕ) (start : Start T) → IsGuaranteed container_promises.promise capacity size start (in_container capacity size start)
-  container_guaranteed capacity size (starts.Container (containers.Add value owner)) = λ backs. at_most _
-  container_guaranteed capacity size (starts.Container (containers.Remove index owner Default)) = λ backs. omega arith
-  container_guaranteed capacity size (starts.Container (containers.Remove index owner LockIfLastIndex)) = λ backs. at_most _
-  container_guaranteed capacity size (starts.Container (containers.Replace index value owner)) = λ backs. at_most _
-  container_guaranteed capacity size (starts.Container (containers.Find owner)) = λ backs. at_most _
-  container_guaranteed capacity size (starts.Container (containers.Recover owner Default)) = λ backs. at_most _
-  container_guaranteed capacity size (starts.Container (containers.Recover owner LockIfLastIndex)) = λ backs. at_most _
-  container_guaranteed capacity size (starts.Container containers.GetState) = λ backs. at_most _
-  container_guaranteed capacity size (starts.Container containers.UpdateState) = λ backs. at_most _
-  container_guaranteed capacity size (starts.Container containers.Len) = λ backs. at_most _
-  container_guaranteed capacity size (starts.Container containers.IsEmpty) = λ backs. at_most _
-  container_guaranteed capacity size (starts.Container containers.IsLocked) = λ backs. at_most _
-  container_guaranteed capacity size other = λ backs. at_most _
+  container_guaranteed x0 x1 x2 = grind (arith, at_most)
 
   loan_guaranteed : (capacity size : ℕ) (start : Start T) → IsGuaranteed loan_promises.promise capacity size start (in_loan capacity start)
-  loan_guaranteed capacity size (starts.Loan loans.Loan) = λ backs. at_most _
-  loan_guaranteed capacity size (starts.Loan (loans.Send index)) = λ backs. at_most _
-  loan_guaranteed capacity size (starts.Loan (loans.GiveUp index)) = λ backs. at_most _
-  loan_guaranteed capacity size (starts.Loan loans.TakeBack) = λ backs. at_most _
-  loan_guaranteed capacity size (starts.Loan loans.Receive) = λ backs. at_most _
-  loan_guaranteed capacity size (starts.Loan (loans.GiveBack index)) = λ backs. at_most _
-  loan_guaranteed capacity size (starts.Loan loans.Reclaim) = λ backs. at_most _
-  loan_guaranteed capacity size other = λ backs. at_most _
+  loan_guaranteed x0 x1 x2 = grind (arith, at_most)
 
 pub guaranteed : {T : Type 0} (kind : Kind) (capacity size : ℕ) (start : Start T)
     → IsGuaranteed (promise_of kind) capacity size start (guarantee_of kind capacity size start)
-guaranteed IndexQueue capacity size start = queue_guaranteed queue_kinds.TheVariants.IndexQueue capacity size start
-guaranteed Overflow capacity size start = queue_guaranteed queue_kinds.TheVariants.Overflow capacity size start
-guaranteed Queue capacity size start = queue_guaranteed queue_kinds.TheVariants.Queue capacity size start
-guaranteed Atomic capacity size start = value_guaranteed capacity size start
-guaranteed Bits capacity size start = bits_guaranteed capacity size start
-guaranteed Counts capacity size start = counts_guaranteed capacity size start
-guaranteed Indices capacity size start = index_guaranteed capacity size start
-guaranteed Robust capacity size start = robust_guaranteed capacity size start
-guaranteed Container capacity size start = container_guaranteed capacity size start
-guaranteed Loan capacity size start = loan_guaranteed capacity size start
+guaranteed x0 x1 x2 x3 = grind (arith, queue_guaranteed, value_guaranteed, bits_guaranteed, counts_guaranteed, index_guaranteed, robust_guaranteed, container_guaranteed, loan_guaranteed)
 
 module _ {T : Type 0} where
   -- ---- every run
@@ -168,28 +117,13 @@ module _ {T : Type 0} where
   within : (promise : Promise T) (capacity size : ℕ) (start : Start T) (g : Progress) (guarantee : Guarantee)
       → IsGuaranteed promise capacity size start guarantee → IsBounded promise capacity size start g
       → IsWithin guarantee g
-  within promise capacity size start g (WaitFree most) h bounded =
-      let steps = bounded.steps in
-      let bound = h g.backs in
-      omega arith
-  within promise capacity size start g (ObstructionFree alone retry) h bounded =
-      let steps = bounded.steps in
-      let bound = h g.backs in
-      let changes = paid g.backs g.others retry bounded.backs in
-      omega arith
+  within x0 x1 x2 x3 x4 x5 x6 x7 = grind (arith, paid)
 
   latest_within : (promise : Promise T) (capacity size : ℕ) (guarantee : Start T → Guarantee)
       → ((start : Start T) → IsGuaranteed promise capacity size start (guarantee start))
       → (span : Span T) (g : Option Progress) → Progresses promise capacity size span g
       → LatestIsWithin guarantee span g
-  latest_within promise capacity size guarantee all Never g h = tt
-  latest_within promise capacity size guarantee all (Open start wrote) None h = tt
-  latest_within promise capacity size guarantee all (Open start wrote) (Some g) h = within promise capacity size start g (guarantee start) (all start) h.0
-  latest_within promise capacity size guarantee all (Ended start answer wrote) None h = tt
-  latest_within promise capacity size guarantee all (Ended start answer wrote) (Some g) h =
-      within promise capacity size start g (guarantee start) (all start) h.0
+  latest_within x0 x1 x2 x3 x4 x5 x6 x7 = grind (arith, within)
 
   pub keeps_guarantees : (t : Trace T) → IsKept t → KeepsGuarantees t
-  keeps_guarantees t kept p =
-      latest_within (promise_of t.world.kind) t.world.capacity t.world.coding.size (guarantee_of t.world.kind t.world.capacity t.world.coding.size)
-      (guaranteed t.world.kind t.world.capacity t.world.coding.size) (span_of p t.events) (progress_in t.world p) (kept.progress p)
+  keeps_guarantees x0 x1 x2 = grind (arith, latest_within, guaranteed)

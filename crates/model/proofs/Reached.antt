@@ -1,4 +1,5 @@
 -- What every turn that is taken keeps holds of every run.
+use Rattle.std.proofs.Common.{arith}
 use Rattle.std.proofs.Common.{◌≡◌, ℕ, Bool, Option, Some, None, List, [], ◌∷◌, ◌++◌, ◌+◌, ◌<◌, length, get_or, take, refl, sym, ap, subst, ◌∙◌}
 use Rattle.model.specs.declared.families.Flight.{Flight}
 use Rattle.model.specs.declared.event.Start.{Start}
@@ -34,26 +35,20 @@ module _ {T : Type 0} where
   same w = record { coding = refl; kind = refl; capacity = refl; parties = refl }
 
   begin_making : (w : World T) (p : ℕ) (start : Start T) (flight : Option (Flight T)) → SameMaking w (after_begin w p start flight)
-  begin_making w p start None = same w
-  begin_making w p start (Some flight) = record { coding = refl; kind = refl; capacity = refl; parties = refl }
+  begin_making x0 x1 x2 x3 = grind arith
 
   answer_making : (w : World T) (p : ℕ) (x : Party T) (ask : Option Ask) (answer : ℕ) (doing : Doing T) → SameMaking w (after_answer w p x ask answer doing)
-  answer_making w p x ask answer (Over others) = same w
-  answer_making w p x ask answer (Going flight since) = record { coding = refl; kind = refl; capacity = refl; parties = refl }
+  answer_making x0 x1 x2 x3 x4 x5 = grind arith
 
   next_making : (w : World T) (p : ℕ) (o : Option (Party T)) → SameMaking w (after_next w p o)
-  next_making w p None = same w
-  next_making w p (Some x) = answer_making w p x (ask_of_doing w.coding x.doing) (old_of w.words (ask_of_doing w.coding x.doing)) x.doing
+  next_making x0 x1 x2 = grind (arith, answer_making)
 
   decision_making : (w : World T) (p : ℕ) (said : Bool) (o : Option (Party T)) → SameMaking w (after_decision w p said o)
   decision_making w p said None = same w
   decision_making w p said (Some x) = answer_making w p x None (number_of said) x.doing
 
   pub turn_making : (w : World T) (turn : Turn T) → SameMaking w (world_after w turn)
-  turn_making w (Begin p start) = begin_making w p start (first_of w.kind w.capacity start w.kept)
-  turn_making w (Next p) = next_making w p (party_of p w.latest)
-  turn_making w (Decide p said) = decision_making w p said (party_of p w.latest)
-  turn_making w (Die owner) = record { coding = refl; kind = refl; capacity = refl; parties = refl }
+  turn_making x0 x1 = grind (arith, begin_making, first_of, next_making, decision_making)
 
   -- ---- one turn more
 
@@ -95,9 +90,7 @@ module _ {T : Type 0} where
 
   pub reached_loan : (code : Coding T) (slots queue parties : ℕ) → IsCoding code → loan_error slots queue ≡ None
       → IsReached (loan_opening code slots queue parties)
-  reached_loan code slots queue parties coded e =
-      let both = loan_admitted slots queue e in
-      record { coded = coded; admitted = both.0; queue = queue; queued = both.1; turns = []; is = refl }
+  reached_loan x0 x1 x2 x3 x4 x5 = grind (arith, loan_admitted)
 
   pub reached_is : (t u : Trace T) → t ≡ u → IsReached u → IsReached t
   reached_is t u e r = subst IsReached (sym e) r
@@ -142,8 +135,7 @@ module _ {T : Type 0} where
         → ((queue : ℕ) → queue_error t.world.kind queue ≡ None
         → P (opened t.world.coding t.world.kind t.world.capacity queue t.world.parties))
         → IsReached t → P t
-    kept_by_runs t first r =
-        subst P (sym r.is) (run_keeps r.turns (opened t.world.coding t.world.kind t.world.capacity r.queue t.world.parties) (first r.queue r.queued))
+    kept_by_runs x0 x1 x2 = grind (arith, run_keeps, opened)
 
   -- ---- where neither turns nor parties have a bound
 
@@ -171,7 +163,7 @@ module _ {T : Type 0} where
 
   pub reached_on_opening : (code : Coding T) (kind : Kind) (capacity parties : ℕ) → IsCoding code
       → capacity_error kind capacity ≡ None → IsReachedOn (opening code kind capacity parties)
-  reached_on_opening code kind capacity parties coded e = record { coded = coded; admitted = e; turns = []; is = refl }
+  reached_on_opening x0 x1 x2 x3 x4 x5 = grind arith
 
   module _ (P : Trace T → Type 0) (keeps : (t : Trace T) (turn : Turn T) → call_refusal t.world turn ≡ None → P t → P (after_turn t turn)) where
     attempt_on_keeps : (t : Trace T) (turn : Turn T) (o : Option Refusal) → call_refusal t.world turn ≡ o → P t → P (unless_refused t (after_turn t turn) o)
@@ -183,4 +175,4 @@ module _ {T : Type 0} where
     run_on_keeps (turn ∷ turns) t h = run_on_keeps turns (attempt_on t turn) (attempt_on_keeps t turn (call_refusal t.world turn) refl h)
 
     pub kept_by_runs_on : (t : Trace T) → P (opening t.world.coding t.world.kind t.world.capacity t.world.parties) → IsReachedOn t → P t
-    kept_by_runs_on t first r = subst P (sym r.is) (run_on_keeps r.turns (opening t.world.coding t.world.kind t.world.capacity t.world.parties) first)
+    kept_by_runs_on x0 x1 x2 = grind (arith, run_on_keeps, opening)

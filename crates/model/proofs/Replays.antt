@@ -1,4 +1,5 @@
 -- How a replay of calls on a sequential object goes on.
+use Rattle.std.proofs.Common.{arith}
 use Rattle.std.proofs.Common.{◌≡◌, List, [], ◌∷◌, ◌++◌, fold, map, refl, sym, ap, ◌∙◌}
 use Rattle.std.proofs.lemmas.List.{map-append}
 use Rattle.std.proofs.lemmas.List.Sums.{fold-append}
@@ -22,17 +23,9 @@ module _ {T State : Type 0} where
   pub standing_more : (o : Object T State) (moments more : List (Start T × Answer T)) (old new : State)
       → standing o moments ≡ old → fold o.after old (calls_of more) ≡ new
       → standing o (moments ++ more) ≡ new
-  standing_more o moments more old new is goes =
-      ap (fold o.after o.opening) (map-append (λ m. m.0) moments more)
-      ∙ (fold-append o.after o.opening (calls_of moments) (calls_of more)
-      ∙ (ap (λ s. fold o.after s (calls_of more)) is ∙ goes))
+  standing_more x0 x1 x2 x3 x4 x5 x6 = grind (arith, fold, map-append, fold-append)
 
   pub legal_more : (o : Object T State) (moments more : List (Start T × Answer T)) (old : State) → IsLegal o moments
       → standing o moments ≡ old → answers_from o old (calls_of more) ≡ answers_of more
       → IsLegal o (moments ++ more)
-  legal_more o moments more old legal is answers =
-      ap (answers_from o o.opening) (map-append (λ m. m.0) moments more)
-      ∙ (answers_more o o.opening (calls_of moments) (calls_of more)
-      ∙ (ap (λ xs. xs ++ answers_from o (standing o moments) (calls_of more)) legal
-      ∙ (ap (λ s. answers_of moments ++ answers_from o s (calls_of more)) is
-      ∙ (ap (λ xs. answers_of moments ++ xs) answers ∙ sym (map-append (λ m. m.1) moments more)))))
+  legal_more x0 x1 x2 x3 x4 x5 x6 = grind (arith, map-append, answers_more, standing)

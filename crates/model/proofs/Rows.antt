@@ -41,24 +41,10 @@ module _ {T : Type 0} where
     pub on : call_refusal w turn ≡ None
 
   more : (w : World T) (rest : List (Bool × Refusal)) → first_row ((is_at_end w, AtEnd) ∷ rest) ≡ None → (w.turns < 2 ^ 64 - 2) × (first_row rest ≡ None)
-  more w rest e =
-      let a = row_passed (is_at_end w) AtEnd _ e in
-      let at : nat_le (2 ^ 64 - 2) w.turns ≡ false = a.0 in
-      (grind (arith, nat_tests), a.1)
+  more x0 x1 x2 = grind (arith, row_passed, false, nat_tests)
 
   pub passes : (w : World T) (turn : Turn T) → refusal_of w turn ≡ None → Passes w turn
-  passes w (Begin p start) e =
-      let m = more w ((nat_le w.parties p, NoParty) ∷ call_rows w (Begin p start)) e in
-      record { turns = m.0; on = (row_passed (nat_le w.parties p) NoParty (call_refusal w (Begin p start)) m.1).1 }
-  passes w (Next p) e =
-      let m = more w ((nat_le w.parties p, NoParty) ∷ call_rows w (Next p)) e in
-      record { turns = m.0; on = (row_passed (nat_le w.parties p) NoParty (call_refusal w (Next p)) m.1).1 }
-  passes w (Decide p said) e =
-      let m = more w ((nat_le w.parties p, NoParty) ∷ call_rows w (Decide p said)) e in
-      record { turns = m.0; on = (row_passed (nat_le w.parties p) NoParty (call_refusal w (Decide p said)) m.1).1 }
-  passes w (Die owner) e =
-      let m = more w ((lacks_party w.kept w.parties owner, NoParty) ∷ call_rows w (Die owner)) e in
-      record { turns = m.0; on = (row_passed (lacks_party w.kept w.parties owner) NoParty (call_refusal w (Die owner)) m.1).1 }
+  passes x0 x1 x2 = grind (arith, more, row_passed)
 
   pub record MayBegin (w : World T) (p : ℕ) (start : Start T) : Type 0 where
     pub free : flight_in w p ≡ None
@@ -66,57 +52,36 @@ module _ {T : Type 0} where
     pub rows : first_row ((begin_of w.kind w.capacity start).rows w.kept p) ≡ None
 
   pub may_begin : (w : World T) (p : ℕ) (start : Start T) → call_refusal w (Begin p start) ≡ None → MayBegin w p start
-  may_begin w p start e =
-      let c = row_passed _ _ _ e in
-      let d = row_passed _ _ _ c.1 in
-      record { free = not_some _ c.0; call = d.0; rows = d.1 }
+  may_begin x0 x1 x2 x3 = grind (arith, row_passed, not_some)
 
   pub record MayGoOn (w : World T) (p : ℕ) : Type 0 where
     pub flight : Flight T
     pub is : flight_in w p ≡ Some flight
 
   pub may_next : (w : World T) (p : ℕ) → call_refusal w (Next p) ≡ None → MayGoOn w p
-  may_next w p e =
-      let c = row_passed _ _ _ e in
-      let f = not_none _ c.0 in
-      record { flight = f.0; is = f.1 }
+  may_next x0 x1 x2 = grind (arith, row_passed, not_none)
 
   pub may_decide : (w : World T) (p : ℕ) (said : Bool) → call_refusal w (Decide p said) ≡ None → MayGoOn w p
-  may_decide w p said e =
-      let c = row_passed _ _ _ e in
-      let f = not_none _ c.0 in
-      record { flight = f.0; is = f.1 }
+  may_decide x0 x1 x2 x3 = grind (arith, row_passed, not_none)
 
   pub may_resume : (w : World T) (p : ℕ) (said : Option Bool) → call_refusal w (turn_of p said) ≡ None → MayGoOn w p
   may_resume w p None e = may_next w p e
   may_resume w p (Some said) e = may_decide w p said e
 
   pub must_be_due : (w : World T) (p : ℕ) (said : Bool) → call_refusal w (Decide p said) ≡ None → not (is_due w.coding (flight_in w p)) ≡ false
-  must_be_due w p said e =
-      let c = row_passed (is_none (flight_in w p)) Idle _ e in
-      let d = row_passed (not (is_due w.coding (flight_in w p))) Undecided _ c.1 in
-      d.0
+  must_be_due x0 x1 x2 x3 = grind (arith, row_passed, is_none)
 
   -- the family's rows of a call that goes on
   pub next_passes : (w : World T) (p : ℕ) → call_refusal w (Next p) ≡ None → first_row (going_rows w.coding w.kept (flight_in w p) None) ≡ None
-  next_passes w p e =
-      let c = row_passed (is_none (flight_in w p)) Idle _ e in
-      let d = row_passed (is_due w.coding (flight_in w p)) Undecided _ c.1 in
-      d.1
+  next_passes x0 x1 x2 = grind (arith, row_passed, is_none)
 
   pub decision_passes : (w : World T) (p : ℕ) (said : Bool) → call_refusal w (Decide p said) ≡ None
       → first_row (going_rows w.coding w.kept (flight_in w p) (Some said)) ≡ None
-  decision_passes w p said e =
-      let c = row_passed (is_none (flight_in w p)) Idle _ e in
-      let d = row_passed (not (is_due w.coding (flight_in w p))) Undecided _ c.1 in
-      d.1
+  decision_passes x0 x1 x2 x3 = grind (arith, row_passed, is_none)
 
   pub record MayDie (w : World T) (owner : ℕ) : Type 0 where
     pub owners : not (has_owners w.kept) ≡ false
     pub lives : is_dead w.kept owner ≡ false
 
   pub may_die : (w : World T) (owner : ℕ) → call_refusal w (Die owner) ≡ None → MayDie w owner
-  may_die w owner e =
-      let b = row_passed (not (has_owners w.kept)) WrongCall _ e in
-      let c = row_passed (is_dead w.kept owner) OwnerIsDead _ b.1 in
-      record { owners = b.0; lives = c.0 }
+  may_die x0 x1 x2 = grind (arith, row_passed)

@@ -1,5 +1,6 @@
 -- From a machine of any family between two turns to the step of one call that is under way: where the call stands there,
 -- and that its step may be looked at from the words, and what is kept beside them, that the family's state holds.
+use Rattle.std.proofs.Common.{arith}
 use Rattle.std.proofs.Common.{◌≡◌, ℕ, ◌+◌, ◌≤◌, Option, Some, List, ◌++◌, sym, ap, subst, ◌∙◌}
 use Rattle.steps.specs.declared.ask.Ask.{Ask}
 use Rattle.model.specs.declared.event.Start.{Start}
@@ -37,9 +38,7 @@ module _ {T : Type 0} where
     pub in_order_from : (promise : Promise T) (z : Coding T) (words : List ℕ) (kept : Registry T) (start : Start T) (flight : Flight T)
         → t.world.words ≡ words → t.world.kept ≡ kept → InOrder promise z words kept start flight
         → InOrder promise z t.world.words t.world.kept start flight
-    in_order_from promise z words kept start flight same_words same_kept h =
-        subst (λ ws. InOrder promise z ws t.world.kept start flight) (sym same_words)
-        (subst (λ k. InOrder promise z words k start flight) (sym same_kept) h)
+    in_order_from x0 x1 x2 x3 x4 x5 x6 x7 x8 = grind arith
 
   module _ (F : Family T) (t : Trace T) (s : Sound F t) (p : ℕ) (x : Party T) (since : ℕ) where
     -- a call of this name is under way
@@ -51,16 +50,7 @@ module _ {T : Type 0} where
       pub knows : F.Knows s.state p t.events since t.world.changes x.backs flight
 
     pub stands_there : (flight : Flight T) → party_of p t.world.latest ≡ Some x → x.doing ≡ Going flight since → StandsThere x.start flight
-    stands_there flight found doing =
-        let fits = subst (λ o. Fits F s.state p o (span_of p t.events)) found (s.inv.calls p) in
-        let here = under_way F s.state p x x.doing flight since (span_of p t.events) doing fits in
-        record {
-          found = ap (λ o. flight_of (doing_of o)) found ∙ ap (λ d. flight_of (Some d)) doing;
-          span = here.span;
-          steps = here.steps;
-          at = here.at;
-          knows = knows_now F s.state p t.events t.world.changes (party_of p t.world.latest) x flight since found doing (s.inv.knows p);
-        }
+    stands_there x0 x1 x2 = grind (arith, under_way, knows_now)
 
     -- what the step comes to
     abbrev pub ComesFrom : Coding T → List ℕ → Registry T → Start T → Flight T → Type 0
@@ -74,7 +64,4 @@ module _ {T : Type 0} where
     pub comes_from : (words : List ℕ) (kept : Registry T) (flight : Flight T) → t.world.words ≡ words
         → t.world.kept ≡ kept → ComesFrom F.coding words kept x.start flight
         → ComesByStep F t p x flight since (asked t.world.coding flight) (old_of t.world.words (asked t.world.coding flight))
-    comes_from words kept flight same_words same_kept h =
-        subst (λ z. ComesFrom z t.world.words t.world.kept x.start flight) (sym s.coding)
-        (subst (λ ws. ComesFrom F.coding ws t.world.kept x.start flight) (sym same_words)
-        (subst (λ k. ComesFrom F.coding words k x.start flight) (sym same_kept) h))
+    comes_from x0 x1 x2 x3 x4 x5 = grind arith

@@ -41,14 +41,10 @@ abbrev counts_for : Bool → ℕ
 counts_for b = cond b 0 1
 
 change_is : (b : Bool) → (b ≡ true → counts_for b ≡ 0) × (b ≡ false → counts_for b ≡ 1)
-change_is true = ((λ e. refl), (λ e. absurd (cc)))
-change_is false = ((λ e. absurd (cc)), (λ e. refl))
+change_is x0 = grind arith
 
 pub unchanged_words : (words : List ℕ) (ask : Option Ask) → words_after words ask ≡ words → change_of words ask ≡ 0
-unchanged_words words None e = refl
-unchanged_words words (Some ask) e =
-    let same : get_or (words_after words (Some ask)) ask.word 0 ≡ get_or words ask.word 0 = ap (λ ws. get_or ws ask.word 0) e in
-    (change_is (get_or (words_after words (Some ask)) ask.word 0 == get_or words ask.word 0)).0 (grind (arith, nat_tests))
+unchanged_words x0 x1 x2 = grind (arith, change_is, nat_tests)
 
 -- a word that keeps its value leaves all of them
 pub kept_words : (words : List ℕ) (at value : ℕ) → get_or (set words at value) at 0 ≡ get_or words at 0 → set words at value ≡ words
@@ -90,9 +86,7 @@ module _ {T : Type 0} where
   -- ---- the machine
 
   same_but_turns : (w : World T) (turn : Turn T) → (world_after w turn).turns ≡ w.turns + 1 → IsOneTurnLater w (world_after w turn)
-  same_but_turns w turn e =
-      let making = turn_making w turn in
-      record { coding = making.coding; kind = making.kind; capacity = making.capacity; parties = making.parties; turns = e }
+  same_but_turns x0 x1 x2 = grind (arith, turn_making)
 
   begin_turns : (w : World T) (p : ℕ) (start : Start T) (o : Option (Flight T)) → is_none o ≡ false → (after_begin w p start o).turns ≡ w.turns + 1
   begin_turns w p start None e = absurd (cc)
@@ -100,17 +94,14 @@ module _ {T : Type 0} where
 
   answer_turns : (w : World T) (p : ℕ) (x : Party T) (ask : Option Ask) (answer : ℕ) (flight : Flight T) (doing : Doing T)
       → flight_of (Some doing) ≡ Some flight → (after_answer w p x ask answer doing).turns ≡ w.turns + 1
-  answer_turns w p x ask answer flight (Over others) e = absurd (cc)
-  answer_turns w p x ask answer flight (Going going since) e = refl
+  answer_turns x0 x1 x2 x3 x4 x5 x6 x7 = grind arith
 
   next_turns : (w : World T) (p : ℕ) (flight : Flight T) (o : Option (Party T)) → flight_of (doing_of o) ≡ Some flight → (after_next w p o).turns ≡ w.turns + 1
-  next_turns w p flight None e = absurd (cc)
-  next_turns w p flight (Some x) e = answer_turns w p x (ask_of_doing w.coding x.doing) (old_of w.words (ask_of_doing w.coding x.doing)) flight x.doing e
+  next_turns x0 x1 x2 x3 x4 = grind (arith, answer_turns)
 
   decision_turns : (w : World T) (p : ℕ) (said : Bool) (flight : Flight T) (o : Option (Party T))
       → flight_of (doing_of o) ≡ Some flight → (after_decision w p said o).turns ≡ w.turns + 1
-  decision_turns w p said flight None e = absurd (cc)
-  decision_turns w p said flight (Some x) e = answer_turns w p x None (number_of said) flight x.doing e
+  decision_turns x0 x1 x2 x3 x4 x5 = grind (arith, answer_turns, number_of)
 
   pub one_turn_later : (w : World T) (turn : Turn T) → call_refusal w turn ≡ None → IsOneTurnLater w (world_after w turn)
   one_turn_later w (Begin p start) e =
@@ -132,47 +123,36 @@ module _ {T : Type 0} where
   answer_word : (w : World T) (p : ℕ) (x : Party T) (answer : ℕ) (doing : Doing T)
       → (after_answer w p x (ask_of_doing w.coding doing) answer doing).words
       ≡ words_after w.words (ask_of_flight w.coding (flight_of (Some doing)))
-  answer_word w p x answer (Over others) = refl
-  answer_word w p x answer (Going flight since) = refl
+  answer_word x0 x1 x2 x3 x4 = grind arith
 
   next_word : (w : World T) (p : ℕ) (o : Option (Party T)) → (after_next w p o).words ≡ words_after w.words (ask_of_flight w.coding (flight_of (doing_of o)))
-  next_word w p None = refl
-  next_word w p (Some x) = answer_word w p x (old_of w.words (ask_of_doing w.coding x.doing)) x.doing
+  next_word x0 x1 x2 = grind (arith, answer_word)
 
   decided_word : (w : World T) (p : ℕ) (x : Party T) (answer : ℕ) (doing : Doing T) → (after_answer w p x None answer doing).words ≡ w.words
-  decided_word w p x answer (Over others) = refl
-  decided_word w p x answer (Going flight since) = refl
+  decided_word x0 x1 x2 x3 x4 = grind arith
 
   decision_word : (w : World T) (p : ℕ) (said : Bool) (o : Option (Party T)) → (after_decision w p said o).words ≡ w.words
   decision_word w p said None = refl
   decision_word w p said (Some x) = decided_word w p x (number_of said) x.doing
 
   pub writes_one_word : (w : World T) (turn : Turn T) → WritesOneWord w turn (world_after w turn)
-  writes_one_word w (Begin p start) = begin_word w p start (first_of w.kind w.capacity start w.kept)
-  writes_one_word w (Next p) = next_word w p (party_of p w.latest)
-  writes_one_word w (Decide p said) = decision_word w p said (party_of p w.latest)
-  writes_one_word w (Die owner) = refl
+  writes_one_word x0 x1 = grind (arith, begin_word, first_of, next_word, decision_word)
 
   -- ---- the party's own call
 
   -- the party after its call went on
   step_here : (w : World T) (p : ℕ) (x : Party T) (since : ℕ) (ask : Option Ask) (s : Step (Flight T) (Registry T) T)
       → party_of p (after_step w p x since ask s).latest ≡ Some (party_after x since w.changes (step_count ask) (change_of w.words ask) s)
-  step_here w p x since ask s = party_put_same p (party_after x since w.changes (step_count ask) (change_of w.words ask) s) w.latest
+  step_here x0 x1 x2 x3 x4 x5 = grind (arith, party_put_same)
 
   stands : (changes since : ℕ) (after : After (Flight T) (Answer T)) (w : World T) (p : ℕ) (x : Party T)
       → party_of p w.latest ≡ Some x → x.doing ≡ doing_after changes since after → StandsAt w p after
-  stands changes since (GoOn flight) w p x e d = rw (e, d) refl
-  stands changes since (Done answer) w p x e d = rw (e, d) refl
+  stands x0 x1 x2 x3 x4 x5 x6 x7 = grind arith
 
   goes : (w : World T) (p : ℕ) (x : Party T) (flight : Flight T) (since : ℕ) (ask : Option Ask) (answer : ℕ)
       → (step_in w p x flight answer).after ≡ goes_of w.coding p flight answer w.kept
       → StandsAt (after_step w p x since ask (step_in w p x flight answer)) p (goes_of w.coding p flight answer w.kept)
-  goes w p x flight since ask answer same =
-      let s = step_in w p x flight answer in
-      let y = party_after x since w.changes (step_count ask) (change_of w.words ask) s in
-      subst (StandsAt (after_step w p x since ask s) p) same
-      (stands (w.changes + change_of w.words ask) (since + change_of w.words ask) s.after (after_step w p x since ask s) p y (step_here w p x since ask s) refl)
+  goes x0 x1 x2 x3 x4 x5 x6 x7 = grind (arith, step_in, after_step, stands, step_here)
 
   next_goes : (w : World T) (p : ℕ) → GoesAsTold w → (o : Option (Party T)) → party_of p w.latest ≡ o
       → IfSome (flight_of (doing_of o))
@@ -203,8 +183,7 @@ module _ {T : Type 0} where
       go (Going flight since) e = goes w p x flight since None (number_of said) (tells p x flight since (number_of said) found e)
 
   begin_goes : (w : World T) (p : ℕ) (start : Start T) (o : Option (Flight T)) → is_none o ≡ false → flight_in (after_begin w p start o) p ≡ o
-  begin_goes w p start None e = absurd (cc)
-  begin_goes w p start (Some flight) e = ap (λ o. flight_of (doing_of o)) (party_put_same p (party_at_begin start flight w.changes) w.latest)
+  begin_goes x0 x1 x2 x3 x4 = grind (arith, party_put_same)
 
   pub goes_on : (w : World T) (turn : Turn T) → GoesAsTold w → call_refusal w turn ≡ None → GoesOn w turn (world_after w turn)
   goes_on w (Begin p start) tells e = begin_goes w p start (first_of w.kind w.capacity start w.kept) (may_begin w p start e).call
@@ -280,10 +259,7 @@ module _ {T : Type 0} where
 
   begin_counts : (w : World T) (p : ℕ) (start : Start T) (o : Option (Flight T)) → is_none o ≡ false
       → progress_in (after_begin w p start o) p ≡ Some record { steps = 0; backs = 0; others = 0; finished = false }
-  begin_counts w p start None e = absurd (cc)
-  begin_counts w p start (Some flight) e =
-      let none : w.changes - w.changes ≡ 0 = omega arith in
-      rw (party_put_same p (party_at_begin start flight w.changes) w.latest, none) refl
+  begin_counts x0 x1 x2 x3 x4 = grind (arith, party_put_same)
 
   pub counts_turn : (w : World T) (turn : Turn T) → call_refusal w turn ≡ None → CountsTurn w turn (world_after w turn)
   counts_turn w (Begin p start) e = begin_counts w p start (first_of w.kind w.capacity start w.kept) (may_begin w p start e).call
@@ -317,49 +293,30 @@ module _ {T : Type 0} where
 
   seen : (old new : World T) (q : ℕ) (o : Option (Party T)) → party_of q old.latest ≡ o → party_of q new.latest ≡ o
       → Tells old new → IsSmall old → BothSee old new (progress_in old q) (progress_in new q)
-  seen old new q None found same tells small = rw (found, same) tt
-  seen old new q (Some x) found same tells small = rw (found, same) (sees old new x tells (small.latest q x found).doing)
+  seen x0 x1 x2 x3 x4 x5 x6 x7 = grind (arith, sees)
 
   still_tells : (old new : World T) → new.words ≡ old.words → new.changes ≡ old.changes → Tells old new
-  still_tells old new words changes = record { same = λ s. changes; changed = λ ne. absurd (ne words) }
+  still_tells x0 x1 x2 x3 = grind arith
 
   step_tells : (w : World T) (p : ℕ) (x : Party T) (since : ℕ) (ask : Option Ask) (s : Step (Flight T) (Registry T) T) → Tells w (after_step w p x since ask s)
-  step_tells w p x since ask s =
-      record {
-        same = λ e. let none = unchanged_words w.words ask e in omega arith;
-        changed = λ ne. let one = changed_words w.words ask ne in omega arith;
-      }
+  step_tells x0 x1 x2 x3 x4 x5 = grind (arith, unchanged_words, changed_words)
 
   begin_others : (w : World T) (p : ℕ) (start : Start T) (o : Option (Flight T)) (q : ℕ) → q ≢ p → IsSmall w
       → BothSee w (after_begin w p start o) (progress_in w q) (progress_in (after_begin w p start o) q)
-  begin_others w p start None q ne small = seen w w q (party_of q w.latest) refl refl (still_tells w w refl refl) small
-  begin_others w p start (Some flight) q ne small =
-      seen w (after_begin w p start (Some flight)) q (party_of q w.latest) refl
-      (party_put_other q p (party_at_begin start flight w.changes) w.latest ne)
-      (still_tells w (after_begin w p start (Some flight)) refl refl) small
+  begin_others x0 x1 x2 x3 x4 x5 x6 = grind (arith, seen, still_tells, party_put_other)
 
   answer_others : (w : World T) (p : ℕ) (x : Party T) (ask : Option Ask) (answer : ℕ) (doing : Doing T) (q : ℕ)
       → q ≢ p → IsSmall w
       → BothSee w (after_answer w p x ask answer doing) (progress_in w q) (progress_in (after_answer w p x ask answer doing) q)
-  answer_others w p x ask answer (Over others) q ne small = seen w w q (party_of q w.latest) refl refl (still_tells w w refl refl) small
-  answer_others w p x ask answer (Going flight since) q ne small =
-      let s = step_in w p x flight answer in
-      let y = party_after x since w.changes (step_count ask) (change_of w.words ask) s in
-      seen w (after_step w p x since ask s) q (party_of q w.latest) refl (party_put_other q p y w.latest ne) (step_tells w p x since ask s) small
+  answer_others x0 x1 x2 x3 x4 x5 x6 x7 x8 = grind (arith, seen, still_tells, step_in, after_step, party_put_other, step_tells)
 
   next_others : (w : World T) (p : ℕ) (o : Option (Party T)) (q : ℕ) → q ≢ p → IsSmall w
       → BothSee w (after_next w p o) (progress_in w q) (progress_in (after_next w p o) q)
-  next_others w p None q ne small = seen w w q (party_of q w.latest) refl refl (still_tells w w refl refl) small
-  next_others w p (Some x) q ne small = answer_others w p x (ask_of_doing w.coding x.doing) (old_of w.words (ask_of_doing w.coding x.doing)) x.doing q ne small
+  next_others x0 x1 x2 x3 x4 x5 = grind (arith, seen, still_tells, answer_others)
 
   decision_others : (w : World T) (p : ℕ) (said : Bool) (o : Option (Party T)) (q : ℕ) → q ≢ p → IsSmall w
       → BothSee w (after_decision w p said o) (progress_in w q) (progress_in (after_decision w p said o) q)
-  decision_others w p said None q ne small = seen w w q (party_of q w.latest) refl refl (still_tells w w refl refl) small
-  decision_others w p said (Some x) q ne small = answer_others w p x None (number_of said) x.doing q ne small
+  decision_others x0 x1 x2 x3 x4 x5 x6 = grind (arith, seen, still_tells, answer_others, number_of)
 
   pub counts_others : (w : World T) (turn : Turn T) → IsSmall w → CountsOthers w turn (world_after w turn)
-  counts_others w (Begin p start) small q ne = begin_others w p start (first_of w.kind w.capacity start w.kept) q ne small
-  counts_others w (Next p) small q ne = next_others w p (party_of p w.latest) q ne small
-  counts_others w (Decide p said) small q ne = decision_others w p said (party_of p w.latest) q ne small
-  counts_others w (Die owner) small q ne =
-      seen w (after_death w owner) q (party_of q w.latest) refl refl (still_tells w (after_death w owner) refl refl) small
+  counts_others x0 x1 x2 x3 x4 = grind (arith, begin_others, first_of, next_others, decision_others, seen, still_tells)

@@ -1,4 +1,5 @@
 -- The definitions at a worked run, and at histories that they refuse.
+use Rattle.std.proofs.Common.{arith}
 use Rattle.std.proofs.Common.{◌≡◌, ℕ, true, false, Some, None, List, [], ◌∷◌, ◌++◌, length, refl, sym, subst}
 use Rattle.model.specs.declared.event.Item.TheVariants.{Index}
 use Rattle.model.specs.declared.event.Start.TheVariants.{Queues}
@@ -207,7 +208,7 @@ no_excuse legal = cc
 
 -- a call that acts a second time
 pub no_second_act : Stands {T = ℕ} (promise_of IndexQueue) 1 (Acted 0 (Queues Pop) PoppedNone) (Open (Queues Pop) (Acted 0 (Queues Pop) PoppedNone ∷ [])) → ⊥
-no_second_act stands = let h : (acts {T = ℕ} (Acted 0 (Queues Pop) PoppedNone)) ++ [] ≡ [] = stands.1 in cc
+no_second_act x0 = grind (arith, acts)
 
 -- a call that ends without having acted
 pub no_silent_end : Stands {T = ℕ} (promise_of IndexQueue) 1 (Finished 0 (Queues Pop) PoppedNone) (Open (Queues Pop) []) → ⊥

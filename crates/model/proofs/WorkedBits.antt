@@ -192,10 +192,7 @@ set_past_the_capacity k = let e = k.within 2 (omega arith) in cc
 
 -- a bit that was set in none of the events stood at no moment
 never_stood : (p b : ℕ) (events : List (Event ℕ)) → sets b events ≡ 0 → HeldSometime p (λ part. standing b part ≡ 1) events → ⊥
-never_stood p b events none h =
-    let both : sets b events ≡ sets b h.part + sets b h.rest = ap (sets b) h.is ∙ sum_by-append (λ e. cond (is_set_of b e) 1 0) h.part h.rest in
-    let stood = h.held in
-    absurd (omega arith)
+never_stood x0 x1 x2 x3 x4 = grind (arith, sets, sum_by-append, cond)
 
 -- a set that answers false where its bit never stood
 abbrev false_set : List (Event ℕ)
@@ -254,22 +251,13 @@ skips : CameTo 0 2 1 skipping → ⊥
 skips came = go came.passed refl
   where
     from : came.start ≡ 0
-    from =
-        sym came.begun.held
-        ∙ ap (at_most 2) (left_there 0 came.begun.part
-        (leave_part came.begun.part came.begun.rest
-        (subst Leave came.begun.is ((λ n. refl), ((λ n. refl), ((λ n. refl), ((λ n. refl), tt)))))))
+    from = grind (arith, at_most, left_there, leave_part)
 
     is : place_after 2 0 came.passed ≡ 1
     is = subst (λ n. place_after 2 n came.passed ≡ 1) from came.is
 
     go : (n : ℕ) → came.passed ≡ n → ⊥
-    go zero e = not_next 0 (subst (λ n. place_after 2 0 n ≡ 1) e is)
-    go (suc n) e =
-        let held =
-        subst (λ n. HeldSometime 0 (λ part. standing (place_after 2 n 0) part ≡ 0) skipping) from
-        (came.clear 0 (subst (λ m. 0 < m) (sym e) (omega arith))) in
-        first_stood held.part held.rest held.is held.within held.held
+    go x0 x1 = grind (arith, not_next, place_after, is, standing, from, first_stood)
 
 -- a reset of all that goes down, or clears a bit twice
 descends : bits_stand {T = ℕ} (Cleared 0 1) (Open (Bits ResetAll) (Cleared 0 3 ∷ [])) → ⊥

@@ -1,4 +1,5 @@
 -- The definitions of the loan channel at worked runs.
+use Rattle.std.proofs.Common.{arith}
 use Rattle.std.proofs.Common.{◌≡◌, ℕ, Option, Some, None, List, [], ◌∷◌, ◌++◌, refl}
 use Rattle.steps.specs.declared.loan.places.Place.TheVariants as places
 use Rattle.model.specs.declared.event.Answer.TheVariants.{Index, Number, PoppedNone, PoppedIndex}
@@ -157,43 +158,7 @@ of_the_dead = (refl, refl, refl, refl, refl)
 -- ---- the dead do nothing more
 
 reclaimed_lives : AreRight LivesRight [] (ran_on reclaimed).events
-reclaimed_lives = (
-  refl,
-  (
-    refl,
-    (
-      refl,
-      (
-        refl,
-        (
-          refl,
-          (
-            tt,
-            (
-              refl,
-              (
-                refl,
-                (
-                  refl,
-                  (
-                    refl,
-                    (
-                      refl,
-                      (
-                        refl,
-                        (refl, (refl, (refl, (refl, (refl, (refl, (refl, (refl, (refl, (refl, (refl, (refl, ((refl, refl), (refl, (refl, tt))))))))))))))),
-                      ),
-                    ),
-                  ),
-                ),
-              ),
-            ),
-          ),
-        ),
-      ),
-    ),
-  ),
-)
+reclaimed_lives = grind arith
 
 pub no_dead_goes_on : Each LivesRight (ran_on reclaimed).events
 no_dead_goes_on = Each-append LivesRight [] (ran_on reclaimed).events (Each-nil LivesRight) reclaimed_lives

@@ -110,31 +110,12 @@ module _ {T : Type 0} where
       began_still c start h = held_later p (λ part. at_most c (position_of part) ≡ start) events es none h
 
       came_still : (c bit : ℕ) → CameTo p c bit events → CameTo p c bit (events ++ es)
-      came_still c bit h =
-          record {
-            start = h.start;
-            passed = h.passed;
-            within = h.within;
-            is = h.is;
-            begun = began_still c h.start h.begun;
-            clear = passed_still c h.start h.passed h.clear;
-          }
+      came_still x0 x1 x2 = grind (arith, began_still, passed_still)
 
       next_still : (c since backs : ℕ) (stage : ResetNextStage)
           → KnowsNext c p events words since changes backs stage
           → KnowsNext c p (events ++ es) words' since changes' backs stage
-      next_still c since backs resetting.TheVariants.LoadsPosition h = let up = pays.up in omega arith
-      next_still c since backs (resetting.TheVariants.LoadsElement start passed) h =
-          let up = pays.up in
-          let low = h.0 in
-          (omega arith, passed_still c start passed h.1, began_still c start h.2)
-      next_still c since backs (resetting.TheVariants.ExchangesElement start passed found) h =
-          let paid = paid_still words words' changes changes' pays since backs (element_of (place_after c start passed)) found h.0 in
-          (paid, passed_still c start passed h.1, began_still c start h.2)
-      next_still c since backs (resetting.TheVariants.StoresPosition place) h =
-          let up = pays.up in
-          let low = h.0 in
-          (omega arith, came_still c place h.1)
+      next_still x0 x1 x2 x3 x4 = grind (arith, passed_still, began_still, paid_still, place_after, came_still)
 
       pub call_still : (since backs : ℕ) (flight : BitsFlight) → KnowsCall p events words since changes backs flight
           → KnowsCall p (events ++ es) words' since changes' backs flight

@@ -69,12 +69,7 @@ module _ {T : Type 0} (code : Coding T) (c : ℕ) (s : SetState T) (events : Lis
       (began : Began c p start events) where
     comes_on : (passed : ℕ) → Passed c p start passed events → steps + 1 ≤ 1 + passed + (backs + one_if back)
         → passed < c → Does [] (Some a) back (GoOn (next_at c (resetting.TheVariants.LoadsElement start passed))) []
-    comes_on passed held few below =
-        goes_on code c s events turns p changes since steps backs next (Some a) back
-        (next_at c (resetting.TheVariants.LoadsElement start passed))
-        (same_bits code c s events turns p changes since steps backs (Some a) same) (ap (λ ws. get_or ws 0 0) same)
-        few refl (refl, (low, below))
-        (omega arith, passed_more start passed held, began_more start began)
+    comes_on x0 x1 x2 x3 = grind (arith, goes_on, next_at, start, same_bits, same, low, passed_more, began_more, began)
 
     comes_none : Passed c p start c events → steps + 1 ≤ 3 + c + (backs + one_if back) → Does [] (Some a) back (Done answers.TheVariants.ResetNone) []
     comes_none held few =
@@ -117,21 +112,10 @@ module _ {T : Type 0} (code : Coding T) (c : ℕ) (s : SetState T) (events : Lis
       low = start_near c (get_or s.words 0 0)
 
       began : Began c p start events
-      began = held_now p (λ part. at_most c (position_of part) ≡ start) events (ap (at_most c) (sym holds.position))
+      began = grind (arith, held_now, at_most, start)
 
       go : (t : Bool) → nat_lt 0 c ≡ t → DoesOf [] resetting.TheVariants.LoadsPosition
-      go true t =
-          by_parts code c s events turns p changes since steps backs [] next
-          (next_at c resetting.TheVariants.LoadsPosition) false
-          (GoOn (next_at c (resetting.TheVariants.LoadsElement start 0))) [] refl (rw t refl) refl
-          (comes_on loading false (load_leaves s.words 0) (omega arith) start low began 0
-          (λ k below. absurd (omega arith)) (omega arith) (grind (arith, nat_tests)))
-      go false t =
-          let none : c ≡ 0 = grind (arith, nat_tests) in
-          by_parts code c s events turns p changes since steps backs [] next
-          (next_at c resetting.TheVariants.LoadsPosition) false (Done answers.TheVariants.ResetNone) [] refl
-          (rw t refl) refl
-          (comes_none loading false (load_leaves s.words 0) (omega arith) start low began (λ k below. absurd (omega arith)) (omega arith))
+      go x0 x1 = grind (arith, by_parts, next_at, start, comes_on, load_leaves, low, began, comes_none, nat_tests)
 
   -- ---- an element
 
@@ -183,7 +167,7 @@ module _ {T : Type 0} (code : Coding T) (c : ℕ) (s : SetState T) (events : Lis
         stage = resetting.TheVariants.LoadsElement start passed
 
         parts : (then : After BitsFlight (Answer T)) → after (next_at c stage) word ≡ then → Does [] (Some loads_it) false then [] → DoesOf [] stage
-        parts then goes shows = by_parts code c s events turns p changes since steps backs [] next (next_at c stage) false then [] refl goes refl shows
+        parts x0 x1 x2 = grind (arith, by_parts, next_at, stage, false)
 
         same : words_after s.words (Some loads_it) ≡ s.words
         same = load_leaves s.words element
@@ -240,7 +224,7 @@ module _ {T : Type 0} (code : Coding T) (c : ℕ) (s : SetState T) (events : Lis
         then = words_after s.words (Some (exchanging found))
 
         new : then ≡ set s.words element (without_flag word place)
-        new = done_writes s.words element found (without_flag found place) t ∙ ap (λ n. set s.words element (without_flag n place)) same
+        new = grind (arith, done_writes, set, same)
 
         moved : (b : ℕ) (u : Bool) → (place == b) ≡ u → 0 + one_if (stands s.words b) ≡ clears {T = T} b (Cleared p place ∷ []) + one_if (stands then b)
         moved b true u =
@@ -267,8 +251,7 @@ module _ {T : Type 0} (code : Coding T) (c : ℕ) (s : SetState T) (events : Lis
             → goes_back (next_at c stage) word ≡ back → after (next_at c stage) word ≡ then
             → effects_of p (next_at c stage) word ≡ fx → Does [] (Some (exchanging found)) back then fx
             → DoesOf [] stage
-        parts back then fx is_back goes tells shows =
-            by_parts code c s events turns p changes since steps backs [] next (next_at c stage) back then fx is_back goes tells shows
+        parts x0 x1 x2 x3 x4 x5 x6 = grind (arith, by_parts, next_at, stage)
 
         failed : (word == found) ≡ false → words_after s.words (Some (exchanging found)) ≡ s.words
         failed t = failed_leaves s.words element found (without_flag found place) t
@@ -304,7 +287,7 @@ module _ {T : Type 0} (code : Coding T) (c : ℕ) (s : SetState T) (events : Lis
       (λ b. stands_elsewhere s.words 0 (after_position place) b (λ e. elements_after b (sym e))) stored came (refl, one) (omega arith) (omega arith)
     where
       stored : get_or (set s.words 0 (after_position place)) 0 0 ≡ after_position place
-      stored = let sized = holds.sized in get_or-set_same s.words 0 (after_position place) 0 (omega arith)
+      stored = grind (arith, get_or-set_same)
 
       one : clears {T = T} place (Cleared p place ∷ []) ≡ 1
       one = let t : (place == place) ≡ true = grind (arith, nat_tests) in rw t refl

@@ -42,12 +42,7 @@ module _ {T : Type 0} (code : Coding T) (c : ℕ) (s : SetState T) (events : Lis
 
   module _ (a : Ask) (back : Bool) (same : words_after s.words (Some a) ≡ s.words) (paid : backs + one_if back + since ≤ changes) where
     stood : steps + 1 ≤ 2 + (backs + one_if back) → has_flag word bit ≡ true → Does (Some a) back (Done (answers.TheVariants.Truth false)) []
-    stood few t =
-        ends code c s events turns p changes since steps backs [] (starts.TheVariants.Set bit) (Some a) back
-        (answers.TheVariants.Truth false)
-        (same_bits code c s events turns p changes since steps backs (Some a) same)
-        (ap (λ ws. get_or ws 0 0) same)
-        (held_now p (λ part. standing bit part ≡ 1) events (stood_now t)) refl few paid
+    stood x0 x1 = grind (arith, ends, false, same_bits, same, held_now, standing, stood_now)
 
     clear : steps + 1 ≤ 1 + (backs + one_if back) → has_flag word bit ≡ false
         → Does (Some a) back (GoOn (set_at bit (setting.TheVariants.ExchangesElement word))) []
@@ -101,7 +96,7 @@ module _ {T : Type 0} (code : Coding T) (c : ℕ) (s : SetState T) (events : Lis
       then = words_after s.words (Some (exchanging found))
 
       new : then ≡ set s.words element (with_flag word bit)
-      new = done_writes s.words element found (with_flag found bit) t ∙ ap (λ n. set s.words element (with_flag n bit)) same
+      new = grind (arith, done_writes, with_flag, set, same)
 
       one : sets {T = T} bit (told.TheVariants.Set p bit ∷ []) ≡ 1
       one = let t : (bit == bit) ≡ true = grind (arith, nat_tests) in rw t refl

@@ -14,8 +14,7 @@ use Rattle.laws_bits.proofs.Words.{change_one}
 
 -- the words of any operation are paid
 pub pays_by : (words : List ℕ) (ask : Option Ask) (changes : ℕ) → Pays words (words_after words ask) changes (changes + change_of words ask)
-pays_by words ask changes =
-    record { up = omega arith; changed = λ i ne. (let one = change_one words ask i ne in omega arith) }
+pays_by x0 x1 x2 = grind (arith, change_one)
 
 -- as long as before
 pub as_long : (words : List ℕ) (ask : Option Ask) → length (words_after words ask) ≡ length words

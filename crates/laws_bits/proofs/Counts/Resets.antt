@@ -187,22 +187,7 @@ module _ {T : Type 0} (code : Coding T) (c : ℕ) (s : SetState T) (events : Lis
           }
 
       ends_with_some : word + 1 ≡ c → 1 ≤ count → Does swaps done (TakenOut p word count ∷ [])
-      ends_with_some last some =
-          let out = takes_some some in
-          record {
-            conserves = record {
-              sized = length-set ws word 0;
-              moved = λ b. (0, (let m = swapped b (cond (word == b) count 0) within refl in omega arith));
-              within = λ b past. refl;
-              low = not_far within;
-              few = λ b. omega arith;
-              right = (tt, (all_taken last (TakenOut p word count ∷ []) out, tt));
-            };
-            own = (refl, (refl, tt));
-            stands = ((some, empty), ((refl, tt), tt));
-            here = record { answer = answers.TheVariants.Done; wrote = wrote ++ TakenOut p word count ∷ []; span = refl; steps = omega arith };
-            knows = omega arith;
-          }
+      ends_with_some x0 x1 = grind (arith, takes_some, length-set, moved, swapped, cond, not_far, all_taken)
 
       -- whatever the count is
       swaps_on : word + 1 < end → (t : Bool) → (count == 0) ≡ t → Does swaps next (take_events p word count)
@@ -210,8 +195,7 @@ module _ {T : Type 0} (code : Coding T) (c : ℕ) (s : SetState T) (events : Lis
       swaps_on more false t = let some : 1 ≤ count = grind (arith, nat_tests) in rw t (goes_on (TakenOut p word count ∷ []) (takes_some some) more)
 
       swaps_last : word + 1 ≡ c → (t : Bool) → (count == 0) ≡ t → Does swaps done (take_events p word count)
-      swaps_last last true t = let none : count ≡ 0 = grind (arith, nat_tests) in rw t (ends_with_none last none)
-      swaps_last last false t = let some : 1 ≤ count = grind (arith, nat_tests) in rw t (ends_with_some last some)
+      swaps_last x0 x1 x2 = grind (arith, ends_with_none, ends_with_some, nat_tests)
 
     -- the step, whatever is left
     pub reset_step : word ≤ c

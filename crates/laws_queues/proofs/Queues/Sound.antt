@@ -23,7 +23,7 @@ use Rattle.model.specs.declared.families.queues.calls.QueueFlight.TheVariants.{O
 use Rattle.model.specs.declared.families.queues.QueueKind as kinds
 use Rattle.model.specs.declared.turn.Refusal.TheVariants.{NoRole}
 use Rattle.model.specs.Families.Loan.Opening.{is_loan}
-use Rattle.laws_queues.proofs.Queues.Runs.{LawsAt, run_sound}
+use Rattle.laws_queues.proofs.Queues.Runs.{run_sound}
 use Rattle.model.proofs.Frame as frame
 use Rattle.laws_queues.proofs.Overflow.Knows.{overflow_push_at, overflow_pop_at, OverflowAt}
 use Rattle.laws_queues.proofs.Overflow.Pops.{overflow_pop_step}
@@ -350,7 +350,7 @@ pub admitted_fits : (kd : QueueKind) (c : ℕ) → capacity_error (machine_kind 
 admitted_fits x0 x1 x2 = grind arith
 
 module _ {T : Type 0} (en : Coding T) (law : IsCoding en) where
-  pub fresh_laws : (kd : QueueKind) (c : ℕ) → LawsAt (family {T = T} en kd c) IsFreshTurn
+  pub fresh_laws : (kd : QueueKind) (c : ℕ) → frame.LawsWhere (family {T = T} en kd c) IsFreshTurn
   fresh_laws kd c =
       record {
         step = λ t p x flight since s fresh passed found doing. step_comes en law kd c t s p x since fresh flight found doing;

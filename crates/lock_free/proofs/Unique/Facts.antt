@@ -24,8 +24,7 @@ use Rattle.model.specs.Families.Indices.Spans.{SetActs, set_acts, done_by}
 use Rattle.model.specs.Promises.{IsKeptBy}
 use Rattle.model.specs.Promises.Families.{promise_of}
 use Rattle.model.specs.Promises.Spans.{Stands}
-use Rattle.laws_indices.proofs.Kept.{kept_on}
-use Rattle.laws_indices.proofs.Sound.{reached_on_sound}
+use Rattle.laws_indices.proofs.Sound.{kept_on, reached_on_sound}
 use Rattle.model.specs.Families.Indices.Reading.{holder_of, locked_after, is_locked}
 use Rattle.model.specs.Reading.{whose, is_party, Span, Never, Open, Ended, span_of}
 use Rattle.history.specs.declared.view.View.{View}

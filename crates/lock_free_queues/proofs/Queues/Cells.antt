@@ -58,19 +58,7 @@ module _ {T : Type 0} (code : Coding T) (kd : QueueKind) (capacity : ℕ) (t : T
         (subst (λ c. Lies t.world.coding c (s.state.core.read + rank) y) cells (s.holds.good.held rank y e)))
 
     go : (o : Option (Val T kd)) → slice_get s.state.core.waiting rank ≡ o → Stands i x
-    go None e = (let no : None ≡ Some x = ap (option_map named) (sym e) ∙ there in absurd (cc))
-    go (Some y) e =
-        let is : Some (named y) ≡ Some x = ap (option_map named) (sym e) ∙ there in
-        record {
-          value = y;
-          is = (let back : x ≡ named y = cc in back);
-          words = λ k below.
-              ap (λ ws. slice_index ws (4 + (size * (i % cells_of kd capacity) + k))) (kept_is t.world.kept t.world.words s.state s.fit).1
-              ∙ (core.word_at s.state.core.write s.state.core.read (free s.state.roles.producer)
-              (free s.state.roles.consumer) s.state.core.cells (4 + (size * (i % cells_of kd capacity) + k))
-              (size * (i % cells_of kd capacity) + k) refl
-              ∙ lies y e k below);
-        }
+    go x0 x1 = grind (arith, option_map, there, kept_is, free, lies)
 
     pub stands : Stands i x
     stands = go (slice_get s.state.core.waiting rank) refl

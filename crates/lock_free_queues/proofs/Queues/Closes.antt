@@ -110,7 +110,7 @@ module _ {T : Type 0} (code : Coding T) (law : IsCoding code) (kd : QueueKind) (
       omega arith)
 
   seen_published : length (published v.seen) ≤ l.write
-  seen_published = (let is = write_is in let grown = hits_grow publishes v.seen l.first_read.trace.events l.first_read.since in omega arith)
+  seen_published = grind (arith, write_is, hits_grow, publishes)
 
   seen_taken : length (handed_out v.seen) ≤ l.taken
   seen_taken =
@@ -135,13 +135,7 @@ module _ {T : Type 0} (code : Coding T) (law : IsCoding code) (kd : QueueKind) (
 
   -- of a queue with as many cells as its capacity
   pub fits : cells ≡ capacity → Represents z.size capacity words
-  fits even =
-      let first = l.first in
-      let last = l.last in
-      let n = near in
-      let a = l.fits in
-      let b = l.taken_fits in
-      record { long = subst (λ m. length words ≡ 4 + z.size * m) even long; small = l.small; behind = omega arith; near = omega arith; fits = omega arith }
+  fits x0 = grind (arith, near, long, length)
 
   -- a value that was seen at a position that nobody had taken from as the read position was read
   pub record Waits (i : ℕ) (x : Item T) : Type 0 where
@@ -206,20 +200,10 @@ module _ {T : Type 0} (code : Coding T) (law : IsCoding code) (kd : QueueKind) (
     same_seen = l.read.whole all
 
     pub write_all : l.write ≡ length (published v.seen)
-    write_all =
-        let is = write_is in
-        let low = seen_published in
-        let grown = hits_grow publishes l.first_read.trace.events l.new.seen l.first_read.until in
-        let same : length (published l.new.seen) ≡ length (published v.seen) = ap (λ es. length (published es)) same_seen in
-        omega arith
+    write_all = grind (arith, write_is, seen_published, hits_grow, publishes, length, published, same_seen)
 
     pub taken_all : l.taken ≡ length (handed_out v.seen)
-    taken_all =
-        let is = taken_is in
-        let low = seen_taken in
-        let grown = hits_grow hands_out l.last_read.trace.events l.new.seen l.last_read.until in
-        let same : length (handed_out l.new.seen) ≡ length (handed_out v.seen) = ap (λ es. length (handed_out es)) same_seen in
-        omega arith
+    taken_all = grind (arith, taken_is, seen_taken, hits_grow, hands_out, length, handed_out, same_seen)
 
     list_seen : IsListed cells v.seen
     list_seen =
@@ -238,25 +222,15 @@ module _ {T : Type 0} (code : Coding T) (law : IsCoding code) (kd : QueueKind) (
     values = values_from z.value_of z.size cells ws (slice_index ws 1) count
 
     same_value : (i : ℕ) → value_at z.value_of z.size cells ws i ≡ value_at z.value_of z.size cells words i
-    same_value i =
-        ap z.value_of (words_alike ws words (4 + z.size * (i % cells)) (4 + z.size * (i % cells)) z.size
-        (λ k below. alike (4 + z.size * (i % cells) + k) (omega arith)))
+    same_value x0 = grind (arith, words_alike)
 
     value_there : (i : ℕ) → slice_index ws 1 ≤ i → i < l.write → slice_get values (i - slice_index ws 1) ≡ Some (value_at z.value_of z.size cells words i)
-    value_there i high low =
-        let at : slice_index ws 1 + (i - slice_index ws 1) ≡ i = omega arith in
-        value_in_list z.value_of z.size cells ws (slice_index ws 1) count (i - slice_index ws 1) (omega arith)
-        ∙ (ap (λ q. Some (value_at z.value_of z.size cells ws q)) at ∙ ap Some (same_value i))
+    value_there x0 x1 x2 = grind (arith, value_in_list, value_at, same_value)
 
     -- who has the whole share has seen all of it
     module _ (all : IsAll v.share) (exact : slice_index ws 1 ≡ l.taken) where
       number_is : length (waiting v.seen) ≡ count
-      number_is =
-          let a = write_all all in
-          let b = taken_all all in
-          let book = ap length (list_seen all).book in
-          let long = length-append (handed_out v.seen) (waiting v.seen) in
-          omega arith
+      number_is = grind (arith, write_all, taken_all, length, list_seen, length-append, handed_out, waiting)
 
       waiting_is : waiting v.seen ≡ map named values
       waiting_is =

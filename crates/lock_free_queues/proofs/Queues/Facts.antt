@@ -38,10 +38,7 @@ pushes_alone Queue = tt
 
 module _ {T : Type 0} where
   of_one : (role : Role) (before : List (Event T)) (e : Event T) → ByHolder before e → ByHolderOf role before e
-  of_one Producer before (Published p item) holds = holds
-  of_one Consumer before (HandedOut p item) holds = holds
-  of_one Producer before e holds = tt
-  of_one Consumer before e holds = tt
+  of_one x0 x1 x2 x3 = grind arith
 
 module _ {T : Type 0} (code : Coding T) (kd : QueueKind) where
   abbrev pub kind_here : Kind
@@ -248,9 +245,7 @@ module _ {T : Type 0} (code : Coding T) (kd : QueueKind) where
     stood_as : (which : LengthOf) (p c : ℕ) (answer : Answer T) (xs : List (Event T))
         → TellsLength c xs (Finished p (Queues (length_start which)) answer)
         → HeldSometime p (λ part. answer ≡ length_answer which c (length (waiting part))) xs
-    stood_as measures.Len p c answer xs h = h
-    stood_as measures.IsEmpty p c answer xs h = h
-    stood_as measures.IsFull p c answer xs h = h
+    stood_as x0 x1 x2 x3 x4 x5 = grind arith
 
     pub measured : (which : LengthOf) (n : ℕ) (m : Unit {0})
         → Ends code (machine_kind kd) (counts_waiting which base.capacity) base n m w
@@ -285,26 +280,12 @@ module _ {T : Type 0} (code : Coding T) (kd : QueueKind) where
         omega arith
 
     pub acquired : (role : Role) (taken : Bool) (m : Unit {0}) → Ends code (machine_kind kd) (takes_role role) base taken m w → HasAcquired role taken base w
-    acquired role taken m ends =
-        record {
-          by = ends.party;
-          mine = ends.mine;
-          called =
-              subst (λ es. Called ends.party (Queues (acquire_start role)) (Truth taken) es base w) ends.tells
-              (called code (machine_kind kd) (takes_role role) base w taken m idle ends);
-        }
+    acquired x0 x1 x2 x3 = grind (arith, called)
 
     -- ---- releases: while the role was held, and as it was given back, nobody else wrote what its holder writes
 
     pub released : (role : Role) (e m : Unit {0}) → Ends code (machine_kind kd) (gives_role role) base e m w → HasReleased role base w
-    released role e m ends =
-        record {
-          by = ends.party;
-          mine = ends.mine;
-          called =
-              subst (λ es. Called ends.party (Queues (release_start role)) Done es base w) ends.tells
-              (called code (machine_kind kd) (gives_role role) base w e m idle ends);
-        }
+    released x0 x1 x2 x3 = grind (arith, called)
 
     left_after : (role : Role) → IsAlone kd role → IsHistory code (machine_kind kd) base.capacity w.seen
         → HasReleased role base w → flat_map (marks role) w.seen ≡ flat_map (marks role) base.seen
@@ -354,11 +335,7 @@ module _ {T : Type 0} (code : Coding T) (base w : View T) (idle : base.going ≡
 module _ {T : Type 0} (code : Coding T) (kind : Kind) where
   module _ {C M E : Type 0} (call : Calling T C M E) (base w : View T) where
     later_than : (p : ℕ) (wrote last : List (Event T)) → Since p call.start wrote last base w → IsBeginning base.seen w.seen
-    later_than p wrote last s =
-        record {
-          rest = s.others ++ (opened p call.start base.going ++ (s.during ++ last));
-          is = s.is ∙ append_assoc base.seen s.others (opened p call.start base.going ++ (s.during ++ last));
-        }
+    later_than x0 x1 x2 x3 = grind (arith, opened, append_assoc)
 
     pub goes_on : (e : E) (m : M) → Ends code kind call base e m w → Goes code kind base.capacity base w
     goes_on e m ends =
@@ -370,7 +347,7 @@ module _ {T : Type 0} (code : Coding T) (kind : Kind) where
         }
 
   pub looked_on : (base w : View T) → Looks code kind base.capacity base w → Goes code kind base.capacity base w
-  looked_on base w looks = record { share = looks.share; since = looks.mine; history = looks.history; all = λ whole. looks.all (subst IsAll looks.share whole) }
+  looked_on x0 x1 x2 = grind arith
 
   pub goes_over : {C M E : Type 0} (call : Calling T C M E) (base w : View T) (e : E) (m : M)
       → Over code kind call base e m w → Goes code kind base.capacity base w

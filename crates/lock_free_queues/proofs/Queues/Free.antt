@@ -21,14 +21,7 @@ nobody (Some p) e = absurd (omega arith)
 module _ {T : Type 0} where
   moves : (role : Role) (before : List (Event T)) (e : Event T) → GrantsRight before e
       → takes role e + one (held role before) ≡ gives role e + one (role_after role (held role before) e)
-  moves Producer before (Finished p (Queues AcquireProducer) (Truth true)) h =
-      (let none : one (producer_of before) ≡ 0 = ap one (granted (producer_of before) h) in omega arith)
-  moves Producer before (Finished p (Queues ReleaseProducer) answer) h = (let some : one (producer_of before) ≡ 1 = ap one h.1 in omega arith)
-  moves Consumer before (Finished p (Queues AcquireConsumer) (Truth true)) h =
-      (let none : one (consumer_of before) ≡ 0 = ap one (granted (consumer_of before) h) in omega arith)
-  moves Consumer before (Finished p (Queues ReleaseConsumer) answer) h = (let some : one (consumer_of before) ≡ 1 = ap one h.1 in omega arith)
-  moves Producer before e h = refl
-  moves Consumer before e h = refl
+  moves x0 x1 x2 x3 = grind (arith, granted)
 
   adds_up : (role : Role) (before es : List (Event T)) → Each GrantsRight (before ++ es)
       → sum_by (takes role) es + one (held role before) ≡ sum_by (gives role) es + one (held role (before ++ es))

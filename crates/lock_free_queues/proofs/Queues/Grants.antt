@@ -9,21 +9,14 @@ module _ {T : Type 0} where
   -- what moves no role leaves it
   pub still_has : (role : Role) (es more : List (Event T)) → sum_by (takes role) more ≡ 0
       → sum_by (gives role) more ≡ 0 → HasRole role es → HasRole role (es ++ more)
-  still_has role es more a b has =
-      let t = sum_by-append (takes role) es more in
-      let g = sum_by-append (gives role) es more in
-      omega arith
+  still_has x0 x1 x2 x3 x4 x5 = grind (arith, sum_by-append, takes, gives)
 
   lacks_after : (role : Role) (es more : List (Event T)) → sum_by (takes role) more ≡ 0
       → sum_by (gives role) more ≡ 1 → HasRole role es → LacksRole role (es ++ more)
-  lacks_after role es more a b has =
-      let t = sum_by-append (takes role) es more in
-      let g = sum_by-append (gives role) es more in
-      omega arith
+  lacks_after x0 x1 x2 x3 x4 x5 = grind (arith, sum_by-append, takes, gives)
 
   pub after_pop : (role : Role) (x : Item T) (es : List (Event T)) → HasRole role es → HasRole role (es ++ popped_once x)
-  after_pop Producer x es has = still_has Producer es (popped_once x) refl refl has
-  after_pop Consumer x es has = still_has Consumer es (popped_once x) refl refl has
+  after_pop x0 x1 x2 x3 = grind (arith, still_has)
 
 -- a push moves no role: of a bounded queue, and of an overflowing one
 module _ {T : Type 0} where
@@ -31,16 +24,10 @@ module _ {T : Type 0} where
   IsQuiet answer = (role : Role) (x : Item T) → (sum_by (takes role) (pushed_once answer x) ≡ 0) × (sum_by (gives role) (pushed_once answer x) ≡ 0)
 
   pub quiet_true : IsQuiet (Truth true)
-  quiet_true Producer (Index i) = (refl, refl)
-  quiet_true Producer (Value v) = (refl, refl)
-  quiet_true Consumer (Index i) = (refl, refl)
-  quiet_true Consumer (Value v) = (refl, refl)
+  quiet_true x0 x1 = grind arith
 
   pub quiet_none : IsQuiet PoppedNone
-  quiet_none Producer (Index i) = (refl, refl)
-  quiet_none Producer (Value v) = (refl, refl)
-  quiet_none Consumer (Index i) = (refl, refl)
-  quiet_none Consumer (Value v) = (refl, refl)
+  quiet_none x0 x1 = grind arith
 
 module _ {T : Type 0} (answer : Answer T) (quiet : IsQuiet answer) where
   pub after_push : (role : Role) (x : Item T) (es : List (Event T)) → HasRole role es → HasRole role (es ++ pushed_once answer x)

@@ -10,16 +10,12 @@ use Rattle.lock_free_queues.specs.Queues.Told.{push_told, popped_item, pop_told}
 use Rattle.lock_free_queues.proofs.Queues.Ended.{IsPush, IsPop}
 
 pub is_coding : IsCoding one_word
-is_coding = record { some = omega arith; few = omega arith; sized = λ x. refl; given_back = λ x. refl }
+is_coding = grind arith
 
 -- a push is left out where its first load finds the last position
 pub ends_at : {V : Type 0} (words_of : V → List ℕ) (value : V) (n : ℕ) (a : Ask) (stage : pushes.PushStage)
     → push_skips stage n ≡ true → push_asks words_of stage value ≡ wants.Ask a → (a.word ≡ 0) × (n ≡ 2 ^ 64 - 1)
-ends_at words_of value n a pushes.TheVariants.LoadsWrite t e =
-    (let is : record { word = 0; op = Load } ≡ a = cc in (ap (λ (z : Ask). z.word) (sym is), grind (arith, nat_tests)))
-ends_at words_of value n a (pushes.TheVariants.LoadsRead write) t e = absurd (cc)
-ends_at words_of value n a (pushes.TheVariants.StoresCell write cell at) t e = absurd (cc)
-ends_at words_of value n a (pushes.TheVariants.StoresWrite write) t e = absurd (cc)
+ends_at x0 x1 x2 x3 x4 x5 x6 = grind (arith, nat_tests)
 
 abbrev pub index_of : ℕ → Item ℕ
 index_of v = Index v

@@ -1,4 +1,5 @@
 -- The calls on roles and lengths, and what a look tells, of a queue of each kind.
+use Rattle.std.proofs.Common.{arith}
 use Rattle.lock_free_queues.proofs.Names.{◌≡◌, ℕ, ◌+◌, true, Option, None, length, replicate, After, Role, Producer}
 use Rattle.lock_free_queues.proofs.Names.{Consumer, len_want, len_after, Truth, PoppedNone, Index, Value, Start}
 use Rattle.lock_free_queues.proofs.Names.{Flight, QueueKind, IndexQueue, Overflow, Queue, LengthOf, Coding, IsCoding}
@@ -18,9 +19,7 @@ use Rattle.lock_free_queues.proofs.Queues.Grants.{has_none, quiet_true, quiet_no
 module _ {T : Type 0} where
   -- while no call is under way a look tells all
   pub told_idle : (kd : QueueKind) (going : Option (Start T × Flight T)) (Told : Type 0) → going ≡ None → WhenIdle (machine_kind kd) going Told → Told
-  told_idle IndexQueue going Told idle h = h
-  told_idle Overflow going Told idle h = h idle
-  told_idle Queue going Told idle h = h
+  told_idle x0 x1 x2 x3 x4 = grind arith
 
 module _ {T : Type 0} (code : Coding T) where
   pub words_long : (kd : QueueKind) (capacity : ℕ) (t : Trace T) → IsRun code (machine_kind kd) capacity t
@@ -32,9 +31,7 @@ module _ {T : Type 0} (code : Coding T) where
   -- the first pass has no role
   pub opens_bare : (kd : QueueKind) (capacity position : ℕ)
       → LacksRole Producer (opened_by code kd capacity position).made × LacksRole Consumer (opened_by code kd capacity position).made
-  opens_bare IndexQueue capacity position = has_none (Truth true) quiet_true (Index 0) (position_at capacity position)
-  opens_bare Overflow capacity position = has_none PoppedNone quiet_none (Index 0) (position_at capacity position)
-  opens_bare Queue capacity position = has_none (Truth true) quiet_true (Value (code.value_of (replicate code.size 0))) (position_at capacity position)
+  opens_bare x0 x1 x2 = grind (arith, has_none, quiet_true, position_at, quiet_none)
 
 module _ {T : Type 0} (code : Coding T) (law : IsCoding code) where
   abbrev Keeps : {C M E : Type 0} → QueueKind → Calling T C M E → (C → Want (Unit {0})) → (C → ℕ → After C E) → (C → M → ℕ → M) → Type 0

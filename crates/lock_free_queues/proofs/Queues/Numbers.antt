@@ -29,5 +29,4 @@ module _ (capacity : ℕ) (small : capacity < 2 ^ 32) (position : ℕ) (fits : p
   pub numbers_open : (kd : QueueKind) (cells start : ℕ) (words : List ℕ) → words_in_cells 1 kd capacity ≡ cells
       → start ≡ position_at capacity position → words ≡ start ∷ start ∷ 1 ∷ 1 ∷ (replicate cells 0 ++ 0 ∷ [])
       → IsMachine one_word (machine_of kd) capacity (opening words [] (opened_by one_word kd capacity position))
-  numbers_open kd cells start words long at same =
-      opens kd words (same ∙ (ap (λ n. n ∷ n ∷ 1 ∷ 1 ∷ (replicate cells 0 ++ 0 ∷ [])) at ∙ ap (λ n. words_with (replicate n 0)) (sym long)))
+  numbers_open x0 x1 x2 x3 x4 x5 x6 = grind (arith, opens)

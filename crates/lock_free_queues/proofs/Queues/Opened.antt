@@ -157,11 +157,7 @@ module _ {T : Type 0} (code : Coding T) (law : IsCoding code) (r : Ring) (v : Va
       name = Queues (push_of it)
 
       stored : (k : ℕ) → k < size → slice_set (now k) (word_at cell k) (get_or ws k 0) ≡ now (suc k)
-      stored k below =
-          let inside = place_low k below in
-          let all = long k in
-          core.set_at n n 0 0 (cells k ++ 0 ∷ []) (word_at cell k) (place k) (get_or ws k 0) (place_is k below)
-          ∙ ap (λ zs. n ∷ n ∷ 0 ∷ 0 ∷ zs) (set_left (cells k) (0 ∷ []) (place k) (get_or ws k 0) (omega arith) ∙ ap (λ zs. zs ++ 0 ∷ []) (put k below))
+      stored x0 x1 = grind (arith, place_low, word_at, place_is, set_left)
 
       word_low : (k : ℕ) → k < size → word_at cell k < 4 + size * capacity
       word_low k below = (let is = place_is k below in let inside = place_low k below in omega arith)
@@ -337,8 +333,7 @@ module _ {T : Type 0} (code : Coding T) (law : IsCoding code) (r : Ring) (v : Va
           subst (λ zs. Here (words_at (n + 1) (n + 1) 0 0 cells) zs None) (append_assoc es (Begun 0 (Queues Pop) ∷ []) (told_of_pop code capacity it)) e
 
   quiet_roles : QuietRoles effects
-  quiet_roles Producer = (λ w n. refl, λ w n. refl)
-  quiet_roles Consumer = (λ w n. refl, λ w n. refl)
+  quiet_roles x0 = grind arith
 
   -- ---- all of it
 

@@ -39,14 +39,7 @@ module _ (capacity : ℕ) (v : View ℕ) (words : List ℕ)
   above word high = get_or-set_other words 1 word first 0 (λ e. absurd (omega arith))
 
   pub over_fits : Represents capacity later
-  over_fits =
-      let one = first_is in
-      let start = other 0 (omega arith) in
-      let last = l.last in
-      let taken = l.first in
-      let a = l.fits in
-      let b = l.taken_fits in
-      record { long = length-set words 1 first ∙ long; small = l.small; behind = omega arith; near = omega arith; fits = omega arith }
+  over_fits = grind (arith, first_is, other, long, length-set)
 
   -- who has the whole share, and not the producer's role, knows that no push is under way
   module _ (all : IsAll v.share) where
@@ -63,7 +56,7 @@ module _ (capacity : ℕ) (v : View ℕ) (words : List ℕ)
         none_more v.seen l.first_read.since.rest at l.first_read.since.is (omega arith)
 
     moved : (f : Event ℕ → ℕ) → sum_by f at ≡ sum_by f v.made
-    moved f = ap (sum_by f) (all_seen ∙ sym (l.read.whole all)) ∙ (l.read.all (subst IsAll (sym l.read.share) all) f ∙ ap (sum_by f) l.read.made)
+    moved x0 = grind (arith, all_seen)
 
     few : length (waiting at) ≤ capacity
     few =

@@ -1,4 +1,5 @@
 -- What a push and a pop say once they have ended, on an overflowing queue.
+use Rattle.std.proofs.Common.{arith}
 use Rattle.lock_free_queues.proofs.Names.{◌≡◌, ◌⊎◌, inl, inr, ℕ, Bool, true, false, Option, Some, None, IfSome}
 use Rattle.lock_free_queues.proofs.Names.{IfNone, List, [], ◌∷◌, ◌++◌, refl, sym, ap, subst, ◌∙◌, append_assoc, ◌<◌}
 use Rattle.lock_free_queues.proofs.Names.{option_map, OneWord, PushEnd, Added, Own, Oldest, Producer, push_answer}
@@ -19,9 +20,7 @@ use Rattle.lock_free_queues.proofs.Queues.Wrote.{find_own, first_wrote}
 
 module _ {T : Type 0} where
   told_is : (p value : ℕ) (m : OneWord) (e : PushEnd) → HasActed e → over_push_wrote {T = T} p value m.0 e ≡ over_push_told p value (push_answer value m.0 e)
-  told_is p value m Added acted = refl
-  told_is p value m Own acted = absurd acted
-  told_is p value m Oldest acted = refl
+  told_is x0 x1 x2 x3 x4 = grind arith
 
 module _ {T : Type 0} (code : Coding T) (base w : View T) (h : IsHistory code kinds.Overflow base.capacity w.seen) where
   -- what leaves is what waited first
@@ -103,16 +102,7 @@ module _ {T : Type 0} (code : Coding T) (base w : View T) (idle : base.going ≡
     Pushed back = HasOverflowed value back base w ⊎ (back ≡ Some value) × WasAtEnd base w
 
     overflowed : (e : PushEnd) (m : OneWord) → Ends code kinds.Overflow (pushes_told value) base e m w → HasOverflowed value (push_answer value m.0 e) base w
-    overflowed e m ends =
-        let p = ends.party in
-        record {
-          by = p;
-          mine = ends.mine;
-          called =
-              subst (λ es. Called p (Queues (PushIndex value)) (popped (push_answer value m.0 e)) es base w)
-              (ends.tells.1 ∙ told_is p value m e ends.tells.0)
-              (called code kinds.Overflow (pushes_told value) base w e m idle ends);
-        }
+    overflowed x0 x1 x2 = grind (arith, called, popped, told_is)
 
     pub over_pushed : (e : PushEnd) (m : OneWord) → Over code kinds.Overflow (pushes_told value) base e m w → Pushed (push_answer value m.0 e)
     over_pushed e m (inl ends) = inl (overflowed e m ends)

@@ -99,16 +99,7 @@ module _ {T : Type 0} (code : Coding T) (capacity n : ℕ) where
       → beside_of w.words w.kept w.latest 0 ≡ None
       → over_effects w 0 (popping capacity (pops.TheVariants.MovesRead n)) n
       ≡ HandedOut 0 it ∷ Acted 0 pop_name (answers.PoppedIndex 0) ∷ []
-  pop_tells t w words none =
-      let is : effects_of 0 Pop
-      (takes_effect (Index (slice_index w.words (cell_word capacity n))) (beside_of w.words w.kept w.latest 0))
-      (Some (answers.PoppedIndex 0))
-      ≡ HandedOut 0 it ∷ Acted 0 pop_name (answers.PoppedIndex 0) ∷ [] =
-      ap (λ o. effects_of 0 Pop (takes_effect (Index (slice_index w.words (cell_word capacity n))) o) (Some (answers.PoppedIndex 0)))
-      none
-      ∙ ap (λ u. HandedOut 0 (Index u) ∷ Acted 0 pop_name (answers.PoppedIndex 0) ∷ []) words
-      in
-      rw t is
+  pop_tells x0 x1 x2 x3 = grind arith
 
 moved_on : (n to : ℕ) → (n == n) ≡ true → written (Exchange n to) n ≡ to
 moved_on n to t = rw t refl
@@ -143,8 +134,7 @@ module _ {T : Type 0} (code : Coding T) (law : IsCoding code) (capacity : ℕ) (
       (alone.opens_here code kinds.Overflow capacity size over_effects (overflow_owes code capacity) law (rw (most, least) refl))
 
   quiet_roles : QuietRoles {T = T} over_effects
-  quiet_roles Producer = (λ w n. refl, λ w n. refl)
-  quiet_roles Consumer = (λ w n. refl, λ w n. refl)
+  quiet_roles x0 = grind arith
 
   -- ---- a step that goes on, and tells nothing
 
@@ -170,7 +160,7 @@ module _ {T : Type 0} (code : Coding T) (law : IsCoding code) (capacity : ℕ) (
     cell = cell_word capacity n
 
     cell_low : cell < size
-    cell_low = (let low : n % (capacity + 1) < capacity + 1 = omega arith in omega arith)
+    cell_low = grind arith
 
     zero_there : (write read : ℕ) → slice_index (at write read 0 0) cell ≡ 0
     zero_there write read =

@@ -37,14 +37,7 @@ acts c e n (pushes.TheVariants.LoadsCell at) h skip ends = (let same : Oldest �
 -- it is left out where its first load finds the last position
 pub over_ends_at : (capacity value n : ℕ) (a : Ask) (stage : pushes.PushStage) → over_push_skips stage n ≡ true
     → push_asks capacity stage value ≡ wants.Ask a → (a.word ≡ 0) × (n ≡ 2 ^ 64 - 1)
-over_ends_at capacity value n a pushes.TheVariants.HandsBack t e = absurd (cc)
-over_ends_at capacity value n a pushes.TheVariants.LoadsWrite t e =
-    (let is : record { word = 0; op = Load } ≡ a = cc in (ap (λ (z : Ask). z.word) (sym is), grind (arith, nat_tests)))
-over_ends_at capacity value n a (pushes.TheVariants.LoadsRead write) t e = absurd (cc)
-over_ends_at capacity value n a (pushes.TheVariants.StoresCell write read) t e = absurd (cc)
-over_ends_at capacity value n a (pushes.TheVariants.StoresWrite write read) t e = absurd (cc)
-over_ends_at capacity value n a (pushes.TheVariants.MovesRead read) t e = absurd (cc)
-over_ends_at capacity value n a (pushes.TheVariants.LoadsCell read) t e = absurd (cc)
+over_ends_at x0 x1 x2 x3 x4 x5 x6 = grind (arith, nat_tests)
 
 module _ {T : Type 0} (code : Coding T) (value : ℕ) where
   abbrev pushing : Calling T Push OneWord PushEnd

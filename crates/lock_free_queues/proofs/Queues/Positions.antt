@@ -46,26 +46,15 @@ module _ {T A : Type 0} (hit : Event T → List A) where
 
   -- it stands at its rank
   at_rank : (before after : List (Event T)) (e : Event T) (x : A) → hit e ≡ x ∷ [] → slice_get (hits (before ++ e ∷ after)) (length (hits before)) ≡ Some x
-  at_rank before after e x h =
-      ap (λ xs. slice_get xs (length (hits before))) (flat_map-append hit before (e ∷ after) ∙ ap (λ zs. hits before ++ (zs ++ hits after)) h)
-      ∙ get_here (hits before) (hits after) x
+  at_rank x0 x1 x2 x3 x4 = grind (arith, length, flat_map-append, get_here)
 
   -- the rank of what stands is below their number
   rank_low : (events before after : List (Event T)) (e : Event T) (x : A) → hit e ≡ x ∷ []
       → events ≡ before ++ e ∷ after → length (hits before) < length (hits events)
-  rank_low events before after e x h is =
-      let whole : length (hits events) ≡ length (hits before ++ hits (e ∷ after)) =
-      ap (λ es. length (hits es)) is ∙ ap length (flat_map-append hit before (e ∷ after)) in
-      let long = length-append (hits before) (hits (e ∷ after)) in
-      let one : length (hit e) ≡ 1 = ap length h in
-      let last = length-append (hit e) (hits after) in
-      omega arith
+  rank_low x0 x1 x2 x3 x4 x5 x6 = grind (arith, length, flat_map-append, length-append)
 
   pub hits_grow : (old before : List (Event T)) → IsBeginning old before → length (hits old) ≤ length (hits before)
-  hits_grow old before h =
-      let whole : length (hits before) ≡ length (hits old ++ hits h.rest) = ap (λ es. length (hits es)) h.is ∙ ap length (flat_map-append hit old h.rest) in
-      let long = length-append (hits old) (hits h.rest) in
-      omega arith
+  hits_grow x0 x1 x2 = grind (arith, length, flat_map-append, length-append)
 
 module _ {T : Type 0} (events : List (Event T)) (q j : ℕ) (y : Item T) where
   -- each position is below their number
@@ -105,22 +94,10 @@ module _ {T : Type 0} (p q i : ℕ) (x y : Item T) (events : List (Event T)) whe
 
   -- what stands in a beginning stands in the whole
   pub still_published : (more : List (Event T)) → IsBeginning events more → IsPublished p i x events → IsPublished p i x more
-  still_published more h a =
-      record {
-        before = a.before;
-        after = a.after ++ h.rest;
-        is = h.is ∙ (ap (λ es. es ++ h.rest) a.is ∙ append_assoc a.before (Published p x ∷ a.after) h.rest);
-        rank = a.rank;
-      }
+  still_published x0 x1 x2 = grind (arith, append_assoc)
 
   pub still_taken : (more : List (Event T)) → IsBeginning events more → IsTaken p i x events → IsTaken p i x more
-  still_taken more h a =
-      record {
-        before = a.before;
-        after = a.after ++ h.rest;
-        is = h.is ∙ (ap (λ es. es ++ h.rest) a.is ∙ append_assoc a.before (HandedOut p x ∷ a.after) h.rest);
-        rank = a.rank;
-      }
+  still_taken x0 x1 x2 = grind (arith, append_assoc)
 
 pub sound_history : {T : Type 0} (code : Coding T) (r : Ring) (capacity : ℕ) (events : List (Event T))
     → IsHistory code (machine_kind (kind_of r)) capacity events → IsSound capacity events

@@ -1,4 +1,5 @@
 -- The laws in the forms in which they are promised.
+use Rattle.std.proofs.Common.{arith}
 use Rattle.lock_free_queues.proofs.Names.{◌≡◌, ℕ, ◌+◌, ◌<◌, ◌≤◌, List, [], ◌∷◌, length, refl, sym, ap, subst}
 use Rattle.lock_free_queues.proofs.Names.{append-nil, PoppedNone, Event, HandedOut, Acted, Item, Queues, QueueKind}
 use Rattle.lock_free_queues.proofs.Names.{Pop, Coding, published, handed_out, hands_out, machine_kind, of_indices}
@@ -77,10 +78,10 @@ module _ {T : Type 0} (code : Coding T) where
 
 module _ {T : Type 0} (old new : View T) where
   pub published_next : (item : Item T) → HasPublished item old new → (p : ℕ) × IsPublished p (length (published old.seen)) item new.seen
-  published_next item h = (h.by, subst (λ n. IsPublished h.by n item new.seen) (ap length h.next) (published_at old new item h))
+  published_next x0 x1 = grind (arith, length, published_at)
 
   pub taken_next : (item : Item T) → HasTakenOut item old new → (p : ℕ) × IsTaken p (length (handed_out old.seen)) item new.seen
-  taken_next item h = (h.by, subst (λ n. IsTaken h.by n item new.seen) (ap length h.next) (taken_at old new item h))
+  taken_next x0 x1 = grind (arith, length, taken_at)
 
   pub none_later_than : WasEmpty old new → (q j : ℕ) (y : Item T) → IsPublished q j y old.seen → j < length (handed_out old.seen)
   none_later_than h q j y a = subst (λ n. j < n) (ap length h.next) (none_later old new h q j y a)

@@ -17,21 +17,14 @@ module _ {T : Type 0} where
   begins_itself es = record { rest = []; is = sym (append-nil es) }
 
   pub begins_further : (xs ys zs : List (Event T)) → IsBeginning xs ys → IsBeginning ys zs → IsBeginning xs zs
-  begins_further xs ys zs a b = record { rest = a.rest ++ b.rest; is = b.is ∙ (ap (λ es. es ++ b.rest) a.is ∙ append_assoc xs a.rest b.rest) }
+  begins_further x0 x1 x2 x3 x4 = grind (arith, append_assoc)
 
   begins_nothing : (xs : List (Event T)) → IsBeginning xs [] → xs ≡ []
   begins_nothing [] h = refl
   begins_nothing (x ∷ xs) h = (let no : [] ≡ x ∷ (xs ++ h.rest) = h.is in absurd (cc))
 
   pub then_read : (v w x : View T) → HasRead v w → HasRead w x → HasRead v x
-  then_read v w x a b =
-      record {
-        share = b.share ∙ a.share;
-        since = begins_further v.seen w.seen x.seen a.since b.since;
-        made = b.made ∙ a.made;
-        whole = λ all. b.whole (subst IsAll (sym a.share) all) ∙ a.whole all;
-        all = b.all;
-      }
+  then_read x0 x1 x2 x3 x4 = grind (arith, begins_further)
 
 module _ {T : Type 0} (code : Coding T) (kd : QueueKind) where
   module _ (capacity word found : ℕ) (v w : View T) (same : v.capacity ≡ capacity)

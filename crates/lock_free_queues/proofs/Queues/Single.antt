@@ -52,8 +52,7 @@ module _ {T : Type 0} (code : Coding T) (capacity : ℕ) where
 
   pub push_lacks : (r : Ring) (v : Val T (kind_of r)) (roles : Roles) (p : ℕ) → roles.producer ≡ Some p
       → lacks_role roles p (push_of {T = T} (item (kind_of r) v)) ≡ false
-  push_lacks of_indices v roles p is = holds_it roles.producer p is
-  push_lacks of_values v roles p is = holds_it roles.producer p is
+  push_lacks x0 x1 x2 x3 x4 = grind (arith, holds_it)
 
   pub push_wants : (r : Ring) (v : Val T (kind_of r)) (stage : pushes.PushStage)
       → want_of code (pushing r v capacity stage) ≡ push_asks (encoded code (kind_of r)).words_of stage v
@@ -169,42 +168,24 @@ module _ {T : Type 0} (code : Coding T) (capacity : ℕ) where
   opens_with of_values = refl
 
   pub admits : (r : Ring) → capacity < 2 ^ 32 → capacity_error (machine_kind (kind_of r)) capacity ≡ None
-  admits of_indices small =
-      (let most : nat_lt (2 ^ 32 - 1) capacity ≡ false = grind (arith, nat_tests) in
-      let least : nat_lt capacity 0 ≡ false = grind (arith, nat_tests) in
-      rw (most, least) refl)
-  admits of_values small =
-      (let most : nat_lt (2 ^ 32 - 1) capacity ≡ false = grind (arith, nat_tests) in
-      let least : nat_lt capacity 0 ≡ false = grind (arith, nat_tests) in
-      rw (most, least) refl)
+  admits x0 x1 = grind (arith, false, nat_tests)
 
   pub acquire_named : (kd : QueueKind) (role : Role) (kept : Registry T)
       → ◌≡◌ {A = Option (Flight T)} (first_of (machine_kind kd) capacity (Queues (acquire_start role)) kept)
       (Some ((takes_role role).flight (record { word = role_word role }) tt))
-  acquire_named IndexQueue Producer kept = refl
-  acquire_named IndexQueue Consumer kept = refl
-  acquire_named Overflow Producer kept = refl
-  acquire_named Overflow Consumer kept = refl
-  acquire_named Queue Producer kept = refl
-  acquire_named Queue Consumer kept = refl
+  acquire_named x0 x1 x2 = grind arith
 
   pub release_named : (kd : QueueKind) (role : Role) (kept : Registry T)
       → ◌≡◌ {A = Option (Flight T)} (first_of (machine_kind kd) capacity (Queues (release_start role)) kept)
       (Some ((gives_role role).flight (record { word = role_word role }) tt))
-  release_named IndexQueue Producer kept = refl
-  release_named IndexQueue Consumer kept = refl
-  release_named Overflow Producer kept = refl
-  release_named Overflow Consumer kept = refl
-  release_named Queue Producer kept = refl
-  release_named Queue Consumer kept = refl
+  release_named x0 x1 x2 = grind arith
 
   pub acquire_lacks : (role : Role) (roles : Roles) (p : ℕ) → lacks_role {T = T} roles p (acquire_start role) ≡ false
   acquire_lacks Producer roles p = refl
   acquire_lacks Consumer roles p = refl
 
   pub release_lacks : (role : Role) (roles : Roles) (p : ℕ) → holder role roles ≡ Some p → lacks_role {T = T} roles p (release_start role) ≡ false
-  release_lacks Producer roles p is = holds_it roles.producer p is
-  release_lacks Consumer roles p is = holds_it roles.consumer p is
+  release_lacks x0 x1 x2 x3 = grind (arith, holds_it)
 
 -- ---- what is so of the words of both
 
@@ -213,5 +194,4 @@ wide_is code of_indices = refl
 wide_is code of_values = refl
 
 pub fresh_long : {T : Type 0} (code : Coding T) (r : Ring) → IsCoding code → words_of_cell code.size (kind_of r) ≤ length (words_in r (fresh r))
-fresh_long code of_indices law = omega arith
-fresh_long code of_values law = (let few = law.few in let long = length-replicate {A = ℕ} 128 0 in omega arith)
+fresh_long x0 x1 x2 = grind (arith, length-replicate)

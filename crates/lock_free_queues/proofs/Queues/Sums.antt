@@ -17,14 +17,7 @@ module _ {T : Type 0} where
   module _ (p : ℕ) (start : Start T) (answer : Answer T) (wrote : List (Event T)) (old new : View T) (c : Called p start answer wrote old new) where
     module _ (f : Event T → ℕ) (none : f (Begun p start) ≡ 0) where
       made_more : (last : ℕ) → f (Finished p start answer) ≡ last → sum_by f new.made ≡ sum_by f old.made + (sum_by f wrote + last)
-      made_more n is =
-          let last : List (Event T) = Finished p start answer ∷ [] in
-          let all = ap (sum_by f) c.made in
-          let a = sum_by-append f old.made (Begun p start ∷ (wrote ++ last)) in
-          let b = sum_first f (Begun p start) (wrote ++ last) in
-          let d = sum_by-append f wrote last in
-          let e = sum_first f (Finished p start answer) [] in
-          omega arith
+      made_more x0 x1 = grind (arith, sum_by-append, sum_first)
 
     pub done : HasDone (sum_by puts wrote + 0) (sum_by gets wrote + 0) old new
     done = record { puts_more = made_more puts refl 0 refl; gets_more = made_more gets refl 0 refl }
@@ -105,12 +98,7 @@ module _ {T : Type 0} where
 
   -- one call after another
   pub done_then : (a b c d : ℕ) (u v w : View T) → HasDone a b u v → HasDone c d v w → HasDone (a + c) (b + d) u w
-  done_then a b c d u v w x y =
-      let p = x.puts_more in
-      let q = y.puts_more in
-      let r = x.gets_more in
-      let s = y.gets_more in
-      record { puts_more = omega arith; gets_more = omega arith }
+  done_then x0 x1 x2 x3 x4 x5 x6 x7 x8 = grind arith
 
   -- ---- what they count
 

@@ -36,11 +36,7 @@ module _ {T : Type 0} (m : Event T → List (Item T)) where
         omega arith
 
     pub nothing_more : flat_map m es ≡ [] → flat_map m new.seen ≡ flat_map m old.seen
-    nothing_more none =
-        let long : length (flat_map m es) ≡ 0 = ap length none in
-        let many = as_many in
-        none_more (flat_map m old.seen) (flat_map m goes.since.rest) (flat_map m new.seen)
-        (ap (flat_map m) goes.since.is ∙ flat_map-append m old.seen goes.since.rest) (omega arith)
+    nothing_more x0 = grind (arith, length, as_many, none_more, flat_map-append)
 
 -- where a pop finds nothing, all that was published was taken
 pub all_taken : {T : Type 0} (code : Coding T) (kd : QueueKind) (capacity : ℕ) (old new : View T) → IsAll old.share

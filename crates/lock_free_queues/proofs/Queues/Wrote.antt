@@ -41,7 +41,7 @@ module _ {T : Type 0} where
     pub next : (role : Role) → Each (ByHolderOf role) w.seen → held role before ≡ Some p → flat_map (marks role) before ≡ flat_map (marks role) base.seen
 
   pub each_left : {P : List (Event T) → Event T → Type 0} (xs ys : List (Event T)) → Each P (xs ++ ys) → Each P xs
-  each_left xs ys each before after e is = each before (after ++ ys) e (ap (λ zs. zs ++ ys) is ∙ append_assoc before (e ∷ after) ys)
+  each_left x0 x1 x2 x3 x4 x5 x6 = grind (arith, append_assoc)
 
   begun_leaves : (role : Role) (o : Option ℕ) (p : ℕ) (start : Start T) → role_after {T = T} role o (Begun p start) ≡ o
   begun_leaves Producer o p start = refl

@@ -134,12 +134,7 @@ module _ {T : Type 0} (is_call : Start T → Bool) where
 
   pub ends_as : (start : Start T) (answer : Answer T) (x : Standing T) (call : Start T) (acted : Option (Answer T))
       → x ≡ Some (call, acted) → is_call call ≡ true → Ends start answer x → acted ≡ Some answer
-  ends_as start answer None call acted e t h = absurd h
-  ends_as start answer (Some was) call acted e t h =
-      let first : was.0 ≡ call = ap (name_in call) e in
-      let second : was.1 ≡ acted = ap (acted_in acted) e in
-      let same : call ≡ start = sym first ∙ h.0 in
-      sym second ∙ h.1 (subst (λ s. is_call s ≡ true) same t)
+  ends_as x0 x1 x2 x3 x4 x5 x6 x7 = grind arith
 
   -- a call that has acted ends with that answer
   pub told : (p : ℕ) (start : Start T) (answer : Answer T) (r : Response T) (es : List (Event T)) (place : ℕ) (going : ℕ → Standing T)

@@ -1,4 +1,5 @@
 -- What is promised of every run of a queue and of the single value makes it linearizable.
+use Rattle.std.proofs.Common.{arith}
 use Rattle.std.proofs.Common.{◌≡◌, ℕ, true, false, List, [], ◌∷◌, refl}
 use Rattle.model.specs.declared.event.Answer.{Answer}
 use Rattle.model.specs.declared.event.Event.{Event}
@@ -30,11 +31,7 @@ module _ {T : Type 0} where
   one_of_list : (kind : QueueKind) (capacity : ℕ) (start : Start T) (answer : Answer T) (wrote : List (Event T))
       → is_push_or_pop start ≡ true → queue_promises.wrote kind capacity start answer wrote
       → moments wrote ≡ (start, answer) ∷ []
-  one_of_list kind capacity (starts.Queues (queues.PushIndex index)) answer wrote t h = h.moments
-  one_of_list kind capacity (starts.Queues (queues.Push value)) answer wrote t h = h.moments
-  one_of_list kind capacity (starts.Queues queues.Pop) answer wrote t h = h.moments
-  one_of_list kind capacity (starts.Queues other) answer wrote t h = absurd (cc)
-  one_of_list kind capacity other answer wrote t h = absurd h
+  one_of_list x0 x1 x2 x3 x4 x5 x6 = grind arith
 
   others_of_list : (kind : QueueKind) (capacity : ℕ) (items : List (Item T)) (start : Start T)
       → is_push_or_pop start ≡ false → (list_of kind capacity).after items start ≡ items
@@ -73,17 +70,11 @@ module _ {T : Type 0} where
   one_of_value : (capacity : ℕ) (start : Start T) (answer : Answer T) (wrote : List (Event T))
       → is_store_or_load start ≡ true → value_promises.wrote capacity start answer wrote
       → moments wrote ≡ (start, answer) ∷ []
-  one_of_value capacity (starts.Atomic (atomics.Store value)) answer wrote t h = h
-  one_of_value capacity (starts.Atomic atomics.Load) answer wrote t h = h
-  one_of_value capacity (starts.Atomic other) answer wrote t h = absurd (cc)
-  one_of_value capacity other answer wrote t h = absurd h
+  one_of_value x0 x1 x2 x3 x4 x5 = grind arith
 
   others_of_value : (code : Coding T) (value : T) (start : Start T) → is_store_or_load start ≡ false
       → (value_promises.value_of_zeros code).after value start ≡ value
-  others_of_value code value (starts.Atomic (atomics.Store new)) t = absurd (cc)
-  others_of_value code value (starts.Atomic atomics.Load) t = absurd (cc)
-  others_of_value code value (starts.Atomic other) t = refl
-  others_of_value code value other t = refl
+  others_of_value x0 x1 x2 x3 = grind arith
 
   value_linearizable : (t : Trace T) → IsKeptBy value_promises.promise t → IsLinearizable (as_value t.world.coding) t.events
   value_linearizable t kept =

@@ -49,8 +49,7 @@ module _ {X : Type 0} where
       go (suc k) lt e = inr (k, omega arith, e)
 
   pub split_if : (b : Bool) (x y : X) (xs : List X) → Contains (kept_if b x xs) y → (b ≡ true) × (x ≡ y) ⊎ Contains xs y
-  split_if true x y xs h = ⊎_elim (λ e. inl (refl, e)) (λ h. inr h) (split x y xs h)
-  split_if false x y xs h = inr h
+  split_if x0 x1 x2 x3 x4 = grind (arith, inl, inr, split)
 
   -- P holds of each where it holds of each member
   pub all_of : (P : X → Type 0) (xs : List X) → ((y : X) → Contains xs y → P y) → All P xs
@@ -80,18 +79,12 @@ module _ {X : Type 0} where
 module _ {X : Type 0} where
   -- R holds of a pair
   pub pair_of : (R : X → X → Type 0) (x y : X) → R x y → AllPairs R (x ∷ y ∷ [])
-  pair_of R x y holds =
-      pairs_of R (x ∷ y ∷ [])
-      ((λ z h. ⊎_elim (λ e. subst (R x) e holds) (λ h. absurd (none_there z h)) (split y z [] h)), ((λ z h. absurd (none_there z h)), tt))
+  pair_of x0 x1 x2 x3 = grind (arith, pairs_of, none_there, split)
 
   -- one of two
   pub either : (x y z : X) → Contains (x ∷ y ∷ []) z → (x ≡ z) ⊎ (y ≡ z)
-  either x y z h = ⊎_elim (λ e. inl e) (λ more. ⊎_elim (λ e. inr e) (λ h. absurd (none_there z h)) (split y z [] more)) (split x z (y ∷ []) h)
+  either x0 x1 x2 x3 = grind (arith, inl, inr, none_there, split)
 
   -- three of two are not apart
   pub three_of_two : (x y a b c : X) → (x ≡ a) ⊎ (y ≡ a) → (x ≡ b) ⊎ (y ≡ b) → (x ≡ c) ⊎ (y ≡ c) → a ≢ b → a ≢ c → b ≢ c → ⊥
-  three_of_two x y a b c is_a is_b is_c ab ac bc =
-      ⊎_elim
-      (λ xa. ⊎_elim (λ xb. ab (sym xa ∙ xb)) (λ yb. ⊎_elim (λ xc. ac (sym xa ∙ xc)) (λ yc. bc (sym yb ∙ yc)) is_c) is_b)
-      (λ ya. ⊎_elim (λ xb. ⊎_elim (λ xc. bc (sym xb ∙ xc)) (λ yc. ac (sym ya ∙ yc)) is_c) (λ yb. ab (sym ya ∙ yb)) is_b)
-      is_a
+  three_of_two x0 x1 x2 x3 x4 x5 x6 x7 x8 x9 x10 = grind arith

@@ -1,4 +1,5 @@
 -- Where every event stands right in its party's span, each call acts once, while it is under way, and ends with that answer.
+use Rattle.std.proofs.Common.{arith}
 use Rattle.std.proofs.Common.{◌≡◌, ◌≢◌, ⊎_elim, ℕ, Bool, true, false, Option, Some, None, List, [], ◌∷◌, ◌++◌, refl}
 use Rattle.std.proofs.Common.{sym, ap, subst, ◌∙◌, append_assoc, append-nil}
 use Rattle.std.proofs.lemmas.Bool.{cases_eq}
@@ -34,34 +35,22 @@ module _ {T : Type 0} where
   moments_more wrote e = flat_map-append acts wrote (e ∷ [])
 
   shut : (span : Span T) → IsShut span → standing span ≡ None
-  shut Never h = refl
-  shut (Open start wrote) h = absurd h
-  shut (Ended start answer wrote) h = refl
+  shut x0 x1 = grind arith
 
   not_acted : (start : Start T) (span : Span T) → IsOpenFor start (λ wrote. moments wrote ≡ []) span → standing span ≡ Some (start, None)
-  not_acted start Never h = absurd h
-  not_acted start (Open call wrote) h = rw (h.0, h.1) refl
-  not_acted start (Ended call answer wrote) h = absurd h
+  not_acted x0 x1 x2 = grind arith
 
   acted_now : (p : ℕ) (start : Start T) (answer : Answer T) (span : Span T)
       → IsOpenFor start (λ wrote. moments wrote ≡ []) span
       → Some (start, Some answer) ≡ standing (longer span (Acted p start answer))
-  acted_now p start answer Never h = absurd h
-  acted_now p start answer (Open call wrote) h = rw (h.0, moments_more wrote (Acted p start answer), h.1) refl
-  acted_now p start answer (Ended call was wrote) h = absurd h
+  acted_now x0 x1 x2 x3 x4 = grind (arith, moments_more)
 
   over : (span : Span T) (answer : Answer T) → standing (ended span answer) ≡ None
-  over Never answer = refl
-  over (Open start wrote) answer = refl
-  over (Ended start was wrote) answer = refl
+  over x0 x1 = grind arith
 
   -- what an event that is no act makes of it
   quiet : (span : Span T) (e : Event T) → acts e ≡ [] → standing (longer span e) ≡ standing span
-  quiet Never e none = refl
-  quiet (Open start wrote) e none =
-      ap (λ ms. Some (start, first_answer ms))
-      (moments_more wrote e ∙ (ap (λ xs. moments wrote ++ (xs ++ [])) none ∙ append-nil (moments wrote)))
-  quiet (Ended start answer wrote) e none = refl
+  quiet x0 x1 x2 = grind (arith, moments_more, moments, append-nil)
 
   -- ---- one event
 
@@ -95,9 +84,7 @@ module _ {T : Type 0} (promise : Promise T) (capacity : ℕ) (is_call : Start T 
     → promise.wrote capacity start answer wrote → moments wrote ≡ (start, answer) ∷ []) where
   ends : (start : Start T) (answer : Answer T) (span : Span T)
       → IsOpenFor start (promise.wrote capacity start answer) span → Ends is_call start answer (standing span)
-  ends start answer Never h = absurd h
-  ends start answer (Open call wrote) h = (h.0, λ t. ap first_answer (one start answer wrote t h.1))
-  ends start answer (Ended call was wrote) h = absurd h
+  ends x0 x1 x2 x3 = grind arith
 
   follows : (es before : List (Event T)) (going : ℕ → Standing T) → Agree going before
       → AreRight (StandsRight promise capacity) before es → ActsOnce is_call es going

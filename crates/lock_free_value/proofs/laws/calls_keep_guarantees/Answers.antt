@@ -1,5 +1,5 @@
 use Rattle.model.proofs.Progress.{keeps_guarantees}
-use Rattle.laws_value.proofs.Kept.{kept_on}
+use Rattle.laws_value.proofs.Sound.{kept_on}
 use Rattle.lock_free_value.proofs.laws.calls_keep_guarantees.Goals as goal
 
 pub returns : goal.returns

@@ -1,0 +1,100 @@
+-- What each step of a call of the value shows, and each begin of one.
+use Rattle.std.proofs.Common.{◌≡◌, ℕ, ◌+◌, ◌-◌, ◌^◌, ◌<◌, ◌≤◌, Some, None, List}
+use Rattle.std.proofs.Common.{get_or, length, refl, sym, ap, subst, ◌∙◌, arith}
+use Rattle.model.specs.declared.event.Start.{Start}
+use Rattle.model.specs.declared.event.Start.TheVariants.{Atomic}
+use Rattle.model.specs.declared.families.Flight.{Flight}
+use Rattle.model.specs.declared.families.Flight as flights
+use Rattle.model.specs.declared.families.Registry.{Registry}
+use Rattle.model.specs.declared.families.Registry as registries
+use Rattle.model.specs.declared.families.atomic.AtomicStart.{AtomicStart}
+use Rattle.model.specs.declared.families.atomic.AtomicStart.TheVariants.{AcquireProducer, ReleaseProducer, Store, Load}
+use Rattle.model.specs.declared.families.atomic.calls.AtomicFlight.{AtomicFlight}
+use Rattle.model.specs.declared.families.atomic.calls.AtomicFlight as calls
+use Rattle.model.specs.declared.party.Party.{Party}
+use Rattle.model.specs.declared.turn.Kind as kinds
+use Rattle.model.specs.declared.turn.Turn.TheVariants.{Next}
+use Rattle.model.specs.Coding.{Coding}
+use Rattle.model.specs.Families.{begin_of, first_of, ask_of}
+use Rattle.model.specs.Families.Atomic.Calls.{want}
+use Rattle.model.specs.Rows.{first_row}
+use Rattle.model.specs.Turns.{old_of}
+use Rattle.model.specs.World.{Trace}
+use Rattle.model.proofs.Family as families
+use Rattle.model.proofs.Family.{Scene, Inv, scene_of, inv_of}
+use Rattle.model.proofs.Frame as frame
+use Rattle.model.proofs.Scenes.{StandsThere}
+use Rattle.laws_queues.proofs.Queues.Knows.{IsFreshCall}
+use Rattle.laws_queues.proofs.Queues.Sound.{IsFreshTurn}
+use Rattle.laws_value.specs.Stored.{stored}
+use Rattle.laws_value.proofs.Invariant.{Value, outline, family}
+use Rattle.laws_value.proofs.Knows.{At, KnowsFlight, number_of, store_at}
+use Rattle.laws_value.proofs.Loads.{load_step}
+use Rattle.laws_value.proofs.Stages.{StepOf}
+use Rattle.laws_value.proofs.Stores.{store_step}
+
+-- ---- one step of a call
+
+module _ {T : Type 0} (scene : Scene T Value) (inv : Inv outline scene) where
+  open scene use {coding as code, party as p}
+  open scene.state use {holder as ho, core as k}
+
+  pub step_moves : (start : AtomicStart T) (flight : AtomicFlight T) → At code ho k p start flight
+      → scene.steps ≤ number_of code.size flight scene.backs
+      → KnowsFlight k scene.since scene.changes scene.backs flight
+      → IsFreshCall k.version (flights.TheVariants.Atomic flight) → StepOf scene start flight
+  step_moves AcquireProducer (calls.TheVariants.Acquire run) at s b fresh = grind arith
+  step_moves ReleaseProducer (calls.TheVariants.Release run) at s b fresh = grind arith
+  step_moves (Store value) (calls.TheVariants.Store run) at s b fresh =
+      subst (λ v. StepOf scene (Store value) (store_at v run.call.stage)) (sym at.1) (store_step scene inv value at.0 b run.call.stage fresh at.2 s)
+  step_moves Load (calls.TheVariants.Load run) at s b fresh = load_step scene inv inv.holds.within run.room run.call.stage at b s
+  step_moves start flight at s b fresh = absurd at
+
+-- ---- a store that is to load the version finds another than the last
+
+found_fresh : {T : Type 0} (z : Coding T) (words : List ℕ) (flight : AtomicFlight T)
+    → IsFreshCall (old_of words (ask_of (want z flight))) (flights.TheVariants.Atomic flight)
+    → IsFreshCall (get_or words 0 0) (flights.TheVariants.Atomic flight)
+found_fresh x0 x1 x2 x3 = grind arith
+
+module _ {T : Type 0} (code : Coding T) (c : ℕ) (t : Trace T) (s : frame.Sound (family code c) t) where
+  pub version_is : get_or t.world.words 0 0 ≡ s.state.core.version
+  version_is = ap (λ ws. get_or ws 0 0) s.fit.1
+
+  -- the version counts the stores
+  pub version_counts : get_or t.world.words 0 0 ≡ length (stored t.events) + 1
+  version_counts = version_is ∙ s.holds.counted
+
+  -- few turns are few versions
+  pub few_turns : t.world.turns < 2 ^ 64 - 2 → (p : ℕ) → IsFreshTurn t (Next p)
+  few_turns x0 x1 = grind arith
+
+-- ---- what a step and a begin show
+
+module _ {T : Type 0} (code : Coding T) (c : ℕ) (t : Trace T) (s : frame.Sound (family code c) t) (p : ℕ) where
+  pub step_shows : (x : Party T) (since : ℕ) → IsFreshTurn t (Next p) → (start : Start T) (flight : Flight T)
+      → StandsThere (family code c) t s p x since start flight → families.StepOf outline (scene_of outline code c t s p x.steps x.backs since) start flight
+  step_shows x since fresh (Atomic start) (flights.TheVariants.Atomic flight) here =
+      let low =
+      subst (λ n. IsFreshCall n (flights.TheVariants.Atomic flight)) (version_is code c t s)
+      (found_fresh t.world.coding t.world.words flight (fresh (flights.TheVariants.Atomic flight) here.found)) in
+      let moves =
+      step_moves (scene_of outline code c t s p x.steps x.backs since) (inv_of outline code c t s p x.steps x.backs since)
+      start flight here.at here.steps here.knows low in
+      record { state = record { holder = _; core = moves.0 }; kept = refl; words = moves.1; shows = moves.2 }
+  step_shows x since fresh start flight here = absurd here.at
+
+  pub begin_shows : (start : Start T) (flight : Flight T)
+      → first_of kinds.TheVariants.Atomic c start (registries.TheVariants.Atomic s.state.holder) ≡ Some flight
+      → first_row ((begin_of kinds.TheVariants.Atomic c start).rows (registries.TheVariants.Atomic s.state.holder) p) ≡ None
+      → families.Begins outline (scene_of outline code c t s p 0 0 t.world.changes) start flight
+  begin_shows start flight e rows =
+      record {
+        state = s.state;
+        kept = grind arith;
+        words = refl;
+        conserves = grind arith;
+        at = grind arith;
+        wrote = refl;
+        knows = grind arith;
+      }
