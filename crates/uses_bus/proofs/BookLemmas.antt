@@ -4,18 +4,20 @@ use Rattle.std.proofs.Common.{true≢false, if◌then◌else◌, ◌⊎◌, Some
 use Rattle.std.proofs.Common.{sum_by, get_or-set_same, get_or-set_other, subst, sym, refl, ap, ◌∙◌, ⊎_elim, arith}
 use Rattle.std.proofs.lemmas.Bool.{cases_eq}
 use Rattle.std.proofs.lemmas.Bool.Decides.{nat_tests}
+use Rattle.std.proofs.lemmas.List.Sums.{sum_by-cons}
 use Rattle.std.proofs.lemmas.Nat.Bits.{bit_at-zero}
 use Rattle.std.specs.Int.{bit_at}
 use Rattle.lock_free.specs.ReleaseState.{ReleaseState}
+use Rattle.lock_free.specs.Shares.{IsAll}
 use Rattle.lock_free.specs.UniqueIndexSetAcquireFailure.{UniqueIndexSetAcquireFailure}
 use Rattle.lock_free.specs.HistoryHeld.{claims, frees, Holds}
 use Rattle.lock_free.specs.HistoryView.View.{View}
-use Rattle.lock_free.specs.Unique.Held.{one_if, HoldsNothing}
+use Rattle.lock_free.specs.Unique.Held.{one_if, times, HeldBy, HoldsAll, HoldsNothing}
 use Rattle.lock_free.specs.Unique.Told.{HasAcquired, HasCounted, HasGiven, WasRefused}
 use Rattle.lock_free.proofs.Unique.Holding.{counted_moves, given_moves, refused_moves, taken_moves}
 use Rattle.uses_bus.specs.declared.holders.Holder.{Holder}
 use Rattle.uses_bus.specs.declared.holders.Holders.{Holders}
-use Rattle.uses_bus.specs.Books.{holders_at, AllFree, ChangesAt, Exchanges, GainsNone, GainsOnly, HasNone, HasSlot}
+use Rattle.uses_bus.specs.Books.{holders_at, AllFree, ChangesAt, Exchanges, GainsNone, GainsOnly, HasNone, HasSlot, held_number}
 use Rattle.uses_bus.specs.Books.{IsBookOf, KeepsAllOrNone, KeepsLoans, KeepsOthers}
 use Rattle.uses_bus.specs.Holders.{is_held, nobody, Has, SameBut}
 
@@ -56,6 +58,64 @@ free_at (suc n) (suc slot) = free_at n slot
 -- where nobody holds a slot, none is held
 pub all_nobody : (n : ℕ) → AllFree (replicate n nobody)
 all_nobody n slot = ap is_held (free_at n slot)
+
+-- ---- how many are held
+
+-- the slots that somebody holds, by their numbers, of which this is the first
+abbrev pub held_from : ℕ → List Holders → List ℕ
+held_from n [] = []
+held_from n (h ∷ table) = if is_held h then n ∷ held_from (suc n) table else held_from (suc n) table
+
+module _ (n : ℕ) (h : Holders) (table : List Holders) where
+  one_more : length (held_from n (h ∷ table)) ≡ counts (is_held h) + length (held_from (suc n) table)
+  one_more = go (is_held h) refl
+    where
+      go : (b : Bool) → is_held h ≡ b → length (held_from n (h ∷ table)) ≡ counts (is_held h) + length (held_from (suc n) table)
+      go true e = rw e (omega arith)
+      go false e = rw e (omega arith)
+
+  times_more : (i : ℕ) → times i (held_from n (h ∷ table)) ≡ (if n == i then counts (is_held h) else 0) + times i (held_from (suc n) table)
+  times_more i = go (is_held h) refl
+    where
+      go : (b : Bool) → is_held h ≡ b
+          → times i (held_from n (h ∷ table)) ≡ (if n == i then counts (is_held h) else 0) + times i (held_from (suc n) table)
+      go true e = rw e (sum_by-cons (λ x. one_if x i) n (held_from (suc n) table))
+      go false e = let none = none_if (n == i) in rw e (omega arith)
+
+-- they are as many as are held
+pub as_many : (n : ℕ) (table : List Holders) → length (held_from n table) ≡ held_number table
+as_many n [] = refl
+as_many n (h ∷ table) =
+    let more = one_more n h table in
+    let rest = as_many (suc n) table in
+    omega arith ∙ sym (sum_by-cons (λ x. counts (is_held x)) h table)
+
+-- none is below the first
+none_below : (i n : ℕ) (table : List Holders) → i < n → times i (held_from n table) ≡ 0
+none_below i n [] lt = refl
+none_below i n (h ∷ table) lt =
+    let more = times_more n h table i in
+    let other : (n == i) ≡ false = grind (arith, nat_tests) in
+    let here = ap (λ b. if b then counts (is_held h) else 0) other in
+    let rest = none_below i (suc n) table (omega arith) in
+    omega arith
+
+-- each is there once
+pub once_where_held : (i n : ℕ) (table : List Holders) → times (n + i) (held_from n table) ≡ counts (is_held (holders_at table i))
+once_where_held i n [] = refl
+once_where_held zero n (h ∷ table) =
+    let more = times_more n h table (n + 0) in
+    let same : (n == (n + 0)) ≡ true = grind (arith, nat_tests) in
+    let here = ap (λ b. if b then counts (is_held h) else 0) same in
+    let rest = none_below (n + 0) (suc n) table (omega arith) in
+    omega arith
+once_where_held (suc i) n (h ∷ table) =
+    let more = times_more n h table (suc n + i) in
+    let other : (n == (suc n + i)) ≡ false = grind (arith, nat_tests) in
+    let here = ap (λ b. if b then counts (is_held h) else 0) other in
+    let rest = once_where_held i (suc n) table in
+    let once : times (suc n + i) (held_from n (h ∷ table)) ≡ counts (is_held (holders_at table i)) = omega arith in
+    subst (λ k. times k (held_from n (h ∷ table)) ≡ counts (is_held (holders_at table i))) (omega arith) once
 
 -- ---- the book
 
@@ -163,9 +223,17 @@ module _ {v : View ℕ} {table : List Holders} (book : IsBookOf v table) where
         held = λ j. (let m = counted_moves v w j n counted in let a = m.claimed in let b = m.freed in let was = book.held j in omega arith);
       }
 
-  -- where nobody holds a slot the pass holds nothing
-  pub holds_nothing : AllFree table → HoldsNothing v.made
-  holds_nothing free i = let was = book.held i in let none = ap counts (free i) in omega arith
+  -- the pass holds what somebody holds
+  pub holds_all : HeldBy (held_from 0 table) v.made
+  holds_all i =
+      let was = book.held i in
+      let once : times i (held_from 0 table) ≡ counts (is_held (holders_at table i)) =
+      subst (λ k. times k (held_from 0 table) ≡ counts (is_held (holders_at table i))) (omega arith) (once_where_held i 0 table) in
+      omega arith
+
+  -- which are all that are out, with the whole share
+  pub all_are_held : (n : ℕ) → HoldsAll n v → IsAll v.share → held_number table ≡ n
+  all_are_held n holds all = sym (as_many 0 table) ∙ holds all (held_from 0 table) holds_all
 
 -- who holds nothing has a book of which nobody holds a slot
 pub book_opens : (v : View ℕ) (n : ℕ) → HoldsNothing v.made → IsBookOf v (replicate n nobody)

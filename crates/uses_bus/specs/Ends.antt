@@ -1,7 +1,13 @@
 -- What clauses see of the ends of a bus.
-use Rattle.std.specs.Prelude.{◌≡◌, ℕ, List}
+use Rattle.std.specs.Prelude.{◌≡◌, ◌⊎◌, ℕ, ◌≤◌, Ok, List}
+use Rattle.lock_free.specs.Coding.{Coding}
+use Rattle.lock_free.specs.Container.Handles.{knows, pass_in}
+use Rattle.lock_free.specs.Container.Names.{code_of}
+use Rattle.lock_free.specs.Container.Told.{HasAdded}
 use Rattle.lock_free.specs.HistoryView.View.{View}
-use Rattle.lock_free.specs.Queues.Rings.{consumer_view, producer_view}
+use Rattle.lock_free.specs.Queues.Item.TheVariants.{Index}
+use Rattle.lock_free.specs.Queues.Rings.{QueueId, consumer_queue, consumer_view, producer_queue, producer_view}
+use Rattle.lock_free.specs.Queues.Told.{FoundNone, HasTakenFirst, WasAtEnd, WasFull}
 use Rattle.lock_free.specs.Share.{Share}
 use Rattle.lock_free.specs.UniqueIndexSet.{SetId}
 use Rattle.uses_bus.specs.declared.holders.Holders.{Holders}
@@ -72,9 +78,48 @@ slots_before s = slots_in s.records.now
 abbrev pub words_before : Seat → ℕ
 words_before s = words_in s.records.now
 
+-- the place of the lane whose end it has
+abbrev pub place_before : Seat → ℕ
+place_before s = s.place
+
+-- how the registry's records are written in words, and what is known of it
+abbrev pub code_before : Seat → Coding ℕ
+code_before s = code_of (pass_in s.members)
+
+abbrev pub members_before : Seat → View ℕ
+members_before s = knows s.members
+
+abbrev pub members_view : Subscriber → View ℕ
+members_view s = knows s.members
+
+-- the registry was given a record of the seat's place, by this owner
+abbrev pub IsLetIn : ℕ → Seat → Subscriber → Type 0
+IsLetIn owner seat s =
+    (index : ℕ) × HasAdded (code_before seat) (record { value = place_before seat; owner = owner }) (Ok index)
+    (members_before seat) (members_view s)
+
 -- what it knows of the queue that it receives from, and of the one by which it gives back
 abbrev pub receives_view : Subscriber → View ℕ
 receives_view s = consumer_view s.inlet.receives
 
 abbrev pub returns_view : Subscriber → View ℕ
 returns_view s = producer_view s.inlet.returns
+
+abbrev pub receives_queue : Subscriber → QueueId
+receives_queue s = consumer_queue s.inlet.receives
+
+abbrev pub returns_queue : Subscriber → QueueId
+returns_queue s = producer_queue s.inlet.returns
+
+-- nothing waited, as ever in a queue that has no room, or what came is no slot
+abbrev pub ReceivedNone : Subscriber → Subscriber → Type 0
+ReceivedNone old new =
+    FoundNone (receives_view old) (receives_view new)
+    ⊎ ((receives_queue old).capacity ≡ 0) × (receives_view new ≡ receives_view old)
+    ⊎ (number : ℕ) × (slots_at old ≤ number) × HasTakenFirst (Index number) (receives_view old) (receives_view new)
+
+-- the slot was not taken back: as many waited as the queue has room for, or its last position is reached
+abbrev pub TookNoneBack : ℕ → Subscriber → Subscriber → Type 0
+TookNoneBack slot old new =
+    WasFull (returns_queue old).capacity (Index slot) (returns_view old) (returns_view new)
+    ⊎ WasAtEnd (returns_view old) (returns_view new)

@@ -1,9 +1,9 @@
 //! The slots of a bus, and who holds each: a slot is out of the set of free indices as long as anybody holds it.
-ghost use Rattle.std.specs.Prelude.{◌≡◌, ◌<◌, ◌↔◌, true, false, length, replicate, IsTrue, IsFalse, IfOk, OnErr};
+ghost use Rattle.std.specs.Prelude.{◌≡◌, ◌<◌, ◌≤◌, ◌↔◌, true, false, length, replicate, IsTrue, IsFalse, IfOk, OnErr};
 ghost use Rattle.lock_free.specs.Shares.{IsAll};
 ghost use Rattle.lock_free.specs.Unique.Held.{HoldsNothing};
 ghost use Rattle.lock_free.specs.UniqueIndexSet.{capacity_of, made, set_of, share, view, IsPassOf};
-ghost use Rattle.uses_bus.specs.Books.{holders_at, AllFree, CanSend, ChangesAt, Exchanges, GainsNone, GainsOnly, HasNone, HasSlot, IsBookOf, KeepsOthers};
+ghost use Rattle.uses_bus.specs.Books.{holders_at, AllFree, CanSend, ChangesAt, Exchanges, GainsNone, GainsOnly, HasNone, HasSlot, IsBookOf, KeepsOthers, held_number};
 ghost use Rattle.uses_bus.specs.Holders.{is_held, nobody};
 
 use crate::error::BusError;
@@ -185,10 +185,12 @@ impl<'a> Pool<'a> {
         }
     }
 
-    /// How many slots are out: none where nobody holds one, and nobody else has a share of the set.
+    /// How many slots are out: at least those that somebody holds, and just those where nobody else has a share of the set.
     pub fn borrowed(&mut self) -> usize
         ensures table { table_of self.new ≡ table_of self.old }
-        ensures none { IsAll (share_in self.old) → AllFree (table_of self.old) → result ≡ 0 }
+        ensures least { held_number (table_of self.old) ≤ result }
+        ensures most { result ≤ slots_of self.old }
+        ensures whole { IsAll (share_in self.old) → result ≡ held_number (table_of self.old) }
         ensures same { IsSame self.old self.new }
     {
         self.set.borrowed_indices(&mut self.pass)

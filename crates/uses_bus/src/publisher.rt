@@ -1,8 +1,8 @@
 //! The end of a bus that writes records and publishes them.
-ghost use Rattle.std.specs.Prelude.{◌≡◌, ◌<◌, ◌↔◌, Bool, false, count_by, IsTrue, IfOk, IfSome, OnErr};
+ghost use Rattle.std.specs.Prelude.{◌≡◌, ◌<◌, ◌≤◌, ◌↔◌, Bool, false, count_by, IsTrue, IfOk, IfSome, OnErr};
 ghost use Rattle.lock_free.specs.Shares.{IsAll};
 ghost use Rattle.lock_free.specs.UniqueIndexSet.{set_of, share};
-ghost use Rattle.uses_bus.specs.Books.{holders_at, AllFree, ChangesAt, GainsNone, GainsOnly, IsLoaned, KeepsAllOrNone, KeepsLoans, KeepsLoansBut};
+ghost use Rattle.uses_bus.specs.Books.{holders_at, AllFree, ChangesAt, GainsNone, GainsOnly, IsLoaned, KeepsAllOrNone, KeepsLoans, KeepsLoansBut, held_number};
 ghost use Rattle.uses_bus.specs.Holders.{is_held, publisher};
 ghost use Rattle.uses_bus.specs.Outlets.{has_gained, holders_in, open_in, AreShown, EachLane, HaveTheirPlaces, IsServed, IsSettled, IsTakenBack, KeepsRest, NobodyTakesPart};
 ghost use Rattle.uses_bus.specs.Pools as pools;
@@ -199,10 +199,13 @@ impl<'a> Publisher<'a> {
         self.pool.is_free()
     }
 
-    /// How many slots are not free: none where nobody holds one, and nobody else has a share of the pool.
+    /// How many slots are not free: at least those that somebody holds, and just those where nobody else has a share of the
+    /// pool.
     pub fn borrowed(&mut self) -> usize
         ensures table { table_of self.new ≡ table_of self.old }
-        ensures none { IsAll (share_in self.old) → AllFree (table_of self.old) → result ≡ 0 }
+        ensures least { held_number (table_of self.old) ≤ result }
+        ensures most { result ≤ slots_of self.old }
+        ensures whole { IsAll (share_in self.old) → result ≡ held_number (table_of self.old) }
         ensures same { IsSame self.old self.new }
     {
         self.pool.borrowed()

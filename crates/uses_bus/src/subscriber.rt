@@ -1,5 +1,6 @@
 //! The end of a bus that receives records and reads them.
-ghost use Rattle.std.specs.Prelude.{◌≡◌, ◌<◌, ◌↔◌, IsTrue, IsSome, IfOk, IfErr, IfSome};
+ghost use Rattle.std.specs.Prelude.{◌≡◌, ◌<◌, ◌↔◌, IsTrue, IsFalse, IsSome, IfOk, IfErr, IfSome, IfNone};
+ghost use Rattle.lock_free.specs.Container.Told.{WasNotAdded};
 ghost use Rattle.lock_free.specs.Queues.Item.TheVariants.{Index};
 ghost use Rattle.lock_free.specs.Queues.Told.{HasPublished, HasTakenFirst};
 ghost use Rattle.uses_bus.specs.Records.{slots_in, words_in};
@@ -22,7 +23,7 @@ pub struct Seat<'a> {
 }
 
 impl<'a> Seat<'a> {
-    ghost use Rattle.uses_bus.specs.Ends.{slots_at, slots_before, words_at, words_before};
+    ghost use Rattle.uses_bus.specs.Ends.{code_before, members_before, place_before, slots_at, slots_before, words_at, words_before, IsLetIn};
 
     pub(crate) fn of(
         inlet: Inlet<'a>,
@@ -32,6 +33,7 @@ impl<'a> Seat<'a> {
     ) -> Seat<'a>
         ensures slots { slots_before result ≡ slots_in records.now }
         ensures words { words_before result ≡ words_in records.now }
+        ensures place { place_before result ≡ place }
     {
         Seat {
             inlet,
@@ -47,10 +49,14 @@ impl<'a> Seat<'a> {
         rt: &impl Wait,
         owner: OwnerId,
     ) -> Result<Subscriber<'a>, (ContainerAddFailure, Seat<'a>)>
+        ensures joined { IfOk result (IsLetIn owner self.entry) }
         ensures slots { IfOk result (λ s. slots_at s ≡ slots_before self.entry) }
         ensures words { IfOk result (λ s. words_at s ≡ words_before self.entry) }
         ensures back { IfErr result (λ e. (slots_before e.1 ≡ slots_before self.entry)
             × (words_before e.1 ≡ words_before self.entry)) }
+        ensures place { IfErr result (λ e. place_before e.1 ≡ place_before self.entry) }
+        ensures refused { IfErr result (λ e. WasNotAdded (code_before self.entry) (place_before self.entry) owner e.0
+            (members_before self.entry) (members_before e.1)) }
     {
         let Seat {
             inlet,
@@ -105,13 +111,14 @@ pub struct Subscriber<'a> {
 }
 
 impl<'a> Subscriber<'a> {
-    ghost use Rattle.uses_bus.specs.Ends.{received, receives_view, returns_view, slots_at, words_at};
+    ghost use Rattle.uses_bus.specs.Ends.{received, receives_view, returns_view, slots_at, words_at, ReceivedNone, TookNoneBack};
 
     /// The oldest record that waits. None where none does.
     pub fn receive(&mut self, rt: &impl Wait) -> Option<Sample>
         ensures within { IfSome result (λ s. received s < slots_at self.old) }
         ensures oldest { IfSome result
             (λ s. HasTakenFirst (Index (received s)) (receives_view self.old) (receives_view self.new)) }
+        ensures none { IfNone result (ReceivedNone self.old self.new) }
         ensures same { (slots_at self.new ≡ slots_at self.old) × (words_at self.new ≡ words_at self.old) }
     {
         let number = self.inlet.receives.pop(rt)?;
@@ -136,6 +143,7 @@ impl<'a> Subscriber<'a> {
     pub fn give_back(&mut self, sample: Sample) -> bool
         ensures given { IsTrue result
             → HasPublished (Index (received sample)) (returns_view self.old) (returns_view self.new) }
+        ensures full { IsFalse result → TookNoneBack (received sample) self.old self.new }
         ensures same { (slots_at self.new ≡ slots_at self.old) × (words_at self.new ≡ words_at self.old) }
     {
         let Sample { slot } = sample;
