@@ -8,9 +8,9 @@ use lib.ListN.{get_elem?}
 use Rattle.threaded.proofs.Shares.{shares_alone, shares_stay, shares_split, shares_join, others_none, positive}
 use Rattle.history.specs.declared.view.View.{View}
 use Rattle.history.specs.Views.{right_view, left_view, joined_view, spent_view}
-use Rattle.history.specs.History.{IsBeginning, Fits, IsLate}
+use Rattle.history.specs.History.{IsBeginning, Fits}
 use Rattle.history.specs.Known.{HasSeen, Known, own_of, events_by, owned, if_owned, of_none}
-use Rattle.history.proofs.Known.{nat_cases, within, nil_left, nil_right, own_mine, sum_first, late_none}
+use Rattle.history.proofs.Known.{nat_cases, within, nil_left, nil_right, own_mine, sum_first}
 
 there_is : {A : Type 0} → (xs : List A) (j : ℕ) → j < length xs → (x : A) × (get_elem? xs j ≡ some x)
 there_is [] j low = absurd (omega arith)

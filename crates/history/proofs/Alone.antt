@@ -21,7 +21,7 @@ use Rattle.history.proofs.Calls.{call_then, stateless_none}
 use Rattle.history.proofs.Known.{by_mine, AreOf}
 use Rattle.history.proofs.AllSeen.{known_alone}
 use Rattle.history.proofs.Steps.{settle}
-use Rattle.history.proofs.Turns.{KeptLaws, MachineLaws, kept_laws, goes_on_alike, Between, begun, begun_at, gone, goes_to, told, own_told}
+use Rattle.history.proofs.Turns.{KeptLaws, MachineLaws, kept_laws, Between, begun, begun_at, gone, goes_to, told, own_told}
 
 -- each party is its own seat
 abbrev pub same_seat : ℕ → ℕ

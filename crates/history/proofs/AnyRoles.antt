@@ -3,15 +3,12 @@ use Rattle.history.proofs.Names.{inl, ◌≡◌, ℕ, ◌<◌, ◌≤◌, false,
 use Rattle.history.proofs.Names.{After, Want, Producer, Consumer, first_len, Event, Queues, Flight, Registry}
 use Rattle.history.proofs.Names.{QueueKind, Roles, LengthOf, Coding, first_of, opening_of, machine_kind}
 use Rattle.steps.specs.declared.queues.roles.Role.{Role}
-use Rattle.model.specs.declared.families.queues.QueueKind.TheVariants.{IndexQueue, Overflow, Queue}
-use Rattle.model.specs.declared.families.queues.calls.LengthOf.TheVariants.{Len, IsEmpty, IsFull}
 use Rattle.model.specs.Families.Queues.Opening.{lacks_role}
 use Rattle.history.specs.declared.view.View.{View}
 use Rattle.history.specs.Queues.{takes_role, gives_role, length_start, counts_waiting}
 use Rattle.history.specs.Roles.{role_word, holder, acquire_start, release_start, HasRole}
 use Rattle.history.specs.Stages.{Calling, At}
 use Rattle.history.proofs.Drives.{IsCallOf}
-use Rattle.history.proofs.QueueCalls.{holds_it}
 use Rattle.history.proofs.Queues.{plain_starts, role_starts}
 
 -- a call of a structure is one of a structure with more words

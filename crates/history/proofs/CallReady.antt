@@ -1,5 +1,5 @@
 -- The machine before a step of a call: what the view says there, as which party the call goes on, and what is written.
-use Rattle.history.proofs.Names.{◌≡◌, inl, inr, ⊎_elim, ℕ, ◌<◌, Option, Some, None, IfSome, List, [], ◌∷◌, ◌++◌, refl}
+use Rattle.history.proofs.Names.{◌≡◌, inl, inr, ⊎_elim, ℕ, ◌<◌, Option, Some, None, IfSome, List, [], ◌∷◌, ◌++◌}
 use Rattle.history.proofs.Names.{sym, ap, subst, ◌∙◌, append_assoc, append-nil, arith, sum_by, Event, Begun, Start}
 use Rattle.history.proofs.Names.{Flight, Registry, Kind, Begin, Coding, first_of, kept_after_begin, state_in}
 use Rattle.history.proofs.Names.{first_row, after_turn, World, Trace, IsAll}
@@ -9,8 +9,8 @@ use Rattle.atomic_table.specs.Table.{State}
 use Rattle.history.specs.declared.view.View.{View}
 use Rattle.history.specs.Known.{events_by, by_party, owned}
 use Rattle.history.specs.History.{IsRun, IsMachine, Fits, IsLate, call_in}
-use Rattle.history.specs.Stages.{Calling, LeavesState, Since, opened, Starts, At, rows_as}
-use Rattle.history.proofs.Known.{by_more, nil_right, idle_seat, late_none, none_late}
+use Rattle.history.specs.Stages.{Calling, LeavesState, opened, Starts, At, rows_as}
+use Rattle.history.proofs.Known.{by_more, nil_right, idle_seat, none_late}
 use Rattle.history.proofs.AllSeen.{known_whole}
 use Rattle.history.proofs.Calls.{begins_no_look}
 use Rattle.history.proofs.Turns.{KeptLaws, Between, at_first, begun, begun_at, begun_kept, begins_free}

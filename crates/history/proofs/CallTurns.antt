@@ -1,6 +1,6 @@
 -- A step of a call as a turn of the machine: what the view says then.
 use Rattle.std.proofs.Common.{arith}
-use Rattle.history.proofs.Names.{false, ◌≡◌, inl, inr, ℕ, ◌<◌, Option, Some, None, IfSome, List, [], ◌∷◌, ◌++◌, refl}
+use Rattle.history.proofs.Names.{false, ◌≡◌, ℕ, ◌<◌, Option, Some, None, IfSome, List, [], ◌∷◌, ◌++◌, refl}
 use Rattle.history.proofs.Names.{sym, ap, subst, ◌∙◌, append_assoc, sum_by, fold, sum_by-append, Ask, After, GoOn}
 use Rattle.history.proofs.Names.{Answer, Event, Finished, Flight, Kind, Turn, Next, Coding, want_of, goes_of, ask_of}
 use Rattle.history.proofs.Names.{answer_in, span_of, own_after, Open, after_turn, events_of, ending_of, words_after}

@@ -1,7 +1,7 @@
 -- What a caller knows of a whole call.
 use Rattle.std.proofs.Common.{arith}
-use Rattle.history.proofs.Names.{◌≡◌, inl, inr, ℕ, Option, Some, None, List, [], ◌∷◌, ◌++◌, refl, sym, ap, subst, ◌∙◌}
-use Rattle.history.proofs.Names.{append-nil, Event, Begun, Finished, Start, Flight, Kind, Coding, IsAll}
+use Rattle.history.proofs.Names.{◌≡◌, inl, inr, ℕ, Option, Some, None, [], ◌++◌, refl, sym, ap, subst, ◌∙◌}
+use Rattle.history.proofs.Names.{append-nil, Start, Flight, Kind, Coding, IsAll}
 use Rattle.history.specs.declared.view.View.{View}
 use Rattle.history.specs.History.{IsHistory, HasStood, Called}
 use Rattle.history.specs.Stages.{Calling, opened, At, Ends}

@@ -1,29 +1,21 @@
 -- Where the calls of a machine stand after a turn.
-use Rattle.history.proofs.Names.{◌≡◌, ◌≢◌, ℕ, zero, suc, ◌<◌, ◌==◌, ◌&&◌, Bool, true, false, Option, Some, None, List}
-use Rattle.history.proofs.Names.{[], ◌∷◌, ◌++◌, length, get_or, set, refl, ap, ◌∙◌, arith, nat_tests, Ask, After}
-use Rattle.history.proofs.Names.{GoOn, Answer, Event, Start, Container, GetState, UpdateState, Flight, Registry}
+use Rattle.history.proofs.Names.{◌≡◌, ◌≢◌, ℕ, zero, suc, ◌<◌, ◌==◌, Bool, false, Option, Some, None, List}
+use Rattle.history.proofs.Names.{[], ◌∷◌, ◌++◌, length, get_or, set, refl, ap, arith, nat_tests, Ask, After}
+use Rattle.history.proofs.Names.{GoOn, Answer, Event, Start, Flight, Registry}
 use Rattle.history.proofs.Names.{Doing, Going, Over, Party, Kind, Begin, Next, Coding, opening_of, kept_after_begin}
 use Rattle.history.proofs.Names.{want_of, after_of, goes_of, ask_of, is_look_of, state_in, is_looking, party_of}
-use Rattle.history.proofs.Names.{doing_of, flight_of, Step, answer_in, after_begin, after_next, after_answer}
-use Rattle.history.proofs.Names.{after_decision, after_step, party_after, party_at_begin, step_count, change_of}
+use Rattle.history.proofs.Names.{Step, answer_in, after_begin, after_next, after_answer}
+use Rattle.history.proofs.Names.{after_decision, after_step}
 use Rattle.history.proofs.Names.{number_of, step_in, events_of_next, events_of_decision, events_of_step}
-use Rattle.history.proofs.Names.{events_of_answer, ending_of, old_of, ask_of_doing, World, flight_in, party_put_same}
+use Rattle.history.proofs.Names.{ending_of, old_of, ask_of_doing, World, flight_in, party_put_same}
 use Rattle.history.proofs.Names.{party_put_other}
 use Rattle.steps.specs.declared.ask.After.TheVariants.{Done}
-use Rattle.model.specs.declared.families.Flight as flights
 use Rattle.model.specs.declared.families.Registry as registries
-use Rattle.model.specs.declared.turn.Kind as kinds
-use Rattle.model.specs.declared.turn.Kind.TheVariants.{IndexQueue, Overflow, Queue, Atomic, Bits, Counts, Indices}
-use Rattle.model.specs.declared.turn.Kind.TheVariants.{Robust, Loan}
 use Rattle.history.specs.History.{call_at, call_of, call_in}
 use Rattle.history.specs.Stages.{is_state_look}
 
 other_number : (p q : ℕ) → q ≢ p → (p == q) ≡ false
 other_number p q ne = grind (arith, nat_tests)
-
-steps_no_look : (same b : Bool) → b ≡ false → (same && b) ≡ false
-steps_no_look true b e = e
-steps_no_look false b e = refl
 
 module _ {T : Type 0} where
   -- ---- the party of a call under way
@@ -35,18 +27,11 @@ module _ {T : Type 0} where
     pub named : x.start ≡ start
     pub doing : x.doing ≡ Going flight since
 
-  at_doing : (start : Start T) (doing : Doing T) (name : Start T) (flight : Flight T)
-      → call_at start doing ≡ Some (name, flight) → (start ≡ name) × (since : ℕ) × (doing ≡ Going flight since)
-  at_doing x0 x1 x2 x3 x4 = grind arith
-
   pub stands : (w : World T) (p : ℕ) (start : Start T) (flight : Flight T) → call_in w p ≡ Some (start, flight) → Stands w p start flight
   stands x0 x1 x2 x3 x4 = grind arith
 
   pub flight_is : (w : World T) (p : ℕ) (start : Start T) (flight : Flight T) → Stands w p start flight → flight_in w p ≡ Some flight
   flight_is x0 x1 x2 x3 x4 = grind arith
-
-  no_doing : (start : Start T) (doing : Doing T) → call_at start doing ≡ None → flight_of (Some doing) ≡ None
-  no_doing x0 x1 x2 = grind arith
 
   pub no_flight : (w : World T) (p : ℕ) → call_in w p ≡ None → flight_in w p ≡ None
   no_flight x0 x1 x2 = grind arith

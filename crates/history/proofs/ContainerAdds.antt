@@ -1,14 +1,14 @@
 -- That an add and a replace of the container are calls of the model.
-use Rattle.history.proofs.Names.{◌≡◌, inl, ℕ, ◌+◌, ◌<◌, ◌==◌, nat_lt, true, false, None, Ok, Err, List, [], ◌++◌}
-use Rattle.history.proofs.Names.{append_assoc, append-nil, refl, sym, ap, subst, ◌∙◌, arith, nat_tests, is_even}
+use Rattle.history.proofs.Names.{◌≡◌, inl, ℕ, ◌+◌, ◌<◌, nat_lt, true, false, None, List, [], ◌++◌}
+use Rattle.history.proofs.Names.{append_assoc, refl, sym, ap, subst, ◌∙◌, arith, nat_tests, is_even}
 use Rattle.history.proofs.Names.{total_words, Replaced, first_replace, replace_asks, replace_want, replace_takes}
-use Rattle.history.proofs.Names.{replace_after, empty, by_test, went_on, Ask, After, GoOn, ReplaceStage, AcquireStage}
+use Rattle.history.proofs.Names.{replace_after, empty, went_on, Ask, After, GoOn, ReplaceStage, AcquireStage}
 use Rattle.history.proofs.Names.{Answer, Event, Hidden, Add, Replace, Coding, IsCoding, opening_of, replace_of, added}
-use Rattle.history.proofs.Names.{replaced, hidden, placed, add_effects, replace_effects, acquire_effects, as_it_is}
+use Rattle.history.proofs.Names.{replaced, hidden, placed, add_effects, replace_effects, as_it_is}
 use Rattle.history.proofs.Names.{as_call, data_within, answered, KeepsRule}
 use Rattle.steps.specs.Container.Add.{Added, first_add, inner_acquire, add_asks, add_want, add_acquired, add_takes}
 use Rattle.steps.specs.Container.Add.{add_after}
-use Rattle.steps.specs.Indices.Robust.Acquire.{Acquired, acquire_takes}
+use Rattle.steps.specs.Indices.Robust.Acquire.{Acquired}
 use Rattle.steps.specs.declared.ask.After.TheVariants.{Done}
 use Rattle.steps.specs.declared.ask.Want.TheVariants as wants
 use Rattle.steps.specs.declared.container.add.Add.{Add as Adding}
@@ -18,44 +18,29 @@ use Rattle.steps.specs.declared.container.add.Owned.{Owned}
 use Rattle.steps.specs.declared.container.replace.Replace.{Replace as Replacing}
 use Rattle.steps.specs.declared.container.replace.ReplaceStage.TheVariants as replaces
 use Rattle.steps.specs.declared.container.replace.Replacement.{Replacement}
-use Rattle.steps.specs.declared.indices.enums.UniqueIndexSetAcquireFailure.TheVariants as failures
 use Rattle.steps.specs.declared.indices.robust.acquire.Acquire.{Acquire as Acquiring}
 use Rattle.model.specs.declared.families.Flight.TheVariants as flights
 use Rattle.model.specs.declared.families.container.calls.ContainerFlight.TheVariants as calls
 use Rattle.model.specs.declared.turn.Kind.TheVariants as kinds
 use Rattle.history.specs.declared.view.View.{View}
-use Rattle.history.specs.Container.{when, HasCleared, HasPut, AddIn, taken, AddedAt, HasAdded, adds_value, ReplaceIn, ReplacedAt, HasReplaced, replaces_value}
+use Rattle.history.specs.Container.{when, HasCleared, HasPut, AddIn, AddedAt, HasAdded, adds_value, ReplaceIn, ReplacedAt, HasReplaced, replaces_value}
 use Rattle.history.specs.History.{IsMachine}
 use Rattle.history.specs.Stages.{Calling, At, Ends}
 use Rattle.history.proofs.CallsIn.{AsksFor}
 use Rattle.history.proofs.ContainerCalls.{set_words, change_low, count_low, place_is}
 use Rattle.history.proofs.Containers.{plain_effects, container_words, container_keeps, container_first, container_starts, fewer}
 use Rattle.history.proofs.Drives.{IsCallOf, goes}
-use Rattle.history.proofs.RobustCalls.{acquire_found, acquire_words, AcquireGoes, takes_so}
-use Rattle.history.proofs.RobustParts.{found_of}
+use Rattle.history.proofs.RobustCalls.{acquire_words, AcquireGoes}
 
 -- ---- what is written of an element
 
 module _ {T : Type 0} (p index : ℕ) (before : List (Event T)) where
-  calm : (es all : List (Event T)) → es ≡ all → es ++ [] ≡ all
-  calm es all at = append-nil es ∙ at
-
-  still_cleared : (es : List (Event T)) → HasCleared p index before es → HasCleared p index before (es ++ [])
-  still_cleared es h = (h.0, append-nil es ∙ h.1)
-
-  -- nothing stood there, or it was hidden
-  nothing_there : (es : List (Event T)) → es ≡ before → HasCleared p index before (es ++ [])
-  nothing_there es at = (false, append-nil es ∙ (at ∙ sym (append-nil before)))
-
   cleared : (es : List (Event T)) (count old : ℕ) → es ≡ before → HasCleared p index before (es ++ hidden p index count old)
   cleared es count old at = grind (arith, hidden)
 
   put : (es : List (Event T)) (value : T) (old : ℕ) → HasCleared p index before es → HasPut p index value before (es ++ placed p index value old)
   put es value old h =
       (h.0, is_even old, ap (λ zs. zs ++ placed p index value old) h.1 ∙ append_assoc before (when h.0 (Hidden p index)) (placed p index value old))
-
-  still_put : (es : List (Event T)) (value : T) → HasPut p index value before es → HasPut p index value before (es ++ [])
-  still_put es value h = (h.0, h.1, append-nil es ∙ h.2)
 
 -- ---- add
 
@@ -85,15 +70,6 @@ module _ {T : Type 0} (capacity size : ℕ) (some : 0 < size) (c : Adding T) (sa
 
   acquired : (stage : AcquireStage) (es : List (Event T)) (r : After Acquiring Acquired) → IsAcquired stage es r → AddGoes es (add_acquired c r)
   acquired x0 x1 x2 x3 = grind arith
-
-  adds_so : (stage : AddStage) (k : ℕ) (es : List (Event T)) → AddIn size capacity stage → AddedAt p given stage es
-      → AddGoes (es ++ add_effects p given stage k) (add_takes size c stage k)
-  adds_so (adds.Acquires stage) k es h at = grind (arith, acquired, takes_so)
-  adds_so (adds.LoadsCount index) k es h at = grind (arith, by_test, nothing_there, taken, calm)
-  adds_so (adds.Hides index count) k es h at = ((same, (h, some)), cleared p index (taken p index given.owner) es count k at)
-  adds_so (adds.Stores index at) k es h was = grind (arith, by_test, still_cleared, taken, nat_tests)
-  adds_so (adds.AddsCount index) k es h at = ((same, h), put p index (taken p index given.owner) es given.value k at)
-  adds_so (adds.AddsChange index) k es h at = (h, still_put p index (taken p index given.owner) es given.value at)
 
   -- it may have written something where it stands
   some_added : (stage : AddStage) → (es : List (Event T)) × AddedAt p given stage es
@@ -187,16 +163,6 @@ module _ {T : Type 0} (capacity size : ℕ) (some : 0 < size) (c : Replacing T) 
   abbrev ReplaceGoes : List (Event T) → After (Replacing T) Replaced → Type 0
   ReplaceGoes es (GoOn d) = (replaces_value size given).stands capacity d × ReplacedAt p given d.stage es
   ReplaceGoes es (Done e) = HasReplaced p given e es
-
-  replaces_so : (stage : ReplaceStage) (k : ℕ) (es : List (Event T)) → ReplaceIn size stage → ReplacedAt p given stage es
-      → ReplaceGoes (es ++ replace_effects p given stage k) (replace_takes size c stage given k)
-  replaces_so replaces.Refuses k es h at = absurd h
-  replaces_so replaces.LoadsCell k es h at = grind (arith, by_test, calm)
-  replaces_so replaces.LoadsCount k es h at = grind (arith, by_test, nothing_there, calm)
-  replaces_so (replaces.Hides count) k es h at = ((same, low, some), cleared p given.index [] es count k at)
-  replaces_so (replaces.Stores at) k es h was = grind (arith, by_test, still_cleared, nat_tests)
-  replaces_so replaces.AddsCount k es h at = grind (arith, put)
-  replaces_so replaces.AddsChange k es h at = still_put p given.index [] es given.value at
 
   some_replaced : (stage : ReplaceStage) → (es : List (Event T)) × ReplacedAt p given stage es
   some_replaced x0 = grind arith

@@ -1,7 +1,7 @@
 -- That a remove of the container, and its looks at its set, are calls of the model.
-use Rattle.history.proofs.Names.{◌≡◌, inl, ℕ, ◌+◌, ◌<◌, ◌≤◌, ◌==◌, nat_lt, true, false, None, Ok, Err, List, [], ◌++◌}
-use Rattle.history.proofs.Names.{append-nil, refl, sym, ap, subst, arith, nat_tests, is_even, change_word, count_word}
-use Rattle.history.proofs.Names.{total_words, first_borrowed, borrowed_want, empty, count_after, Released, by_test}
+use Rattle.history.proofs.Names.{◌≡◌, inl, ℕ, ◌+◌, ◌<◌, ◌≤◌, ◌==◌, nat_lt, true, None, List, [], ◌++◌}
+use Rattle.history.proofs.Names.{append-nil, refl, sym, ap, subst, arith, nat_tests, change_word, count_word}
+use Rattle.history.proofs.Names.{total_words, first_borrowed, borrowed_want, empty, count_after, Released}
 use Rattle.history.proofs.Names.{load, went_on, Ask, After, GoOn, GiveBack, ReleaseStage, Answer, Event, Remove}
 use Rattle.history.proofs.Names.{Coding, first_call, place_of, remove_of, removed, counted, opening_of, names_owner}
 use Rattle.history.proofs.Names.{remove_effects, release_effects, as_it_is, as_call, answered, KeepsRule}
@@ -30,8 +30,8 @@ use Rattle.history.specs.Stages.{At, Ends}
 use Rattle.history.proofs.CallsIn.{AsksFor}
 use Rattle.history.proofs.Containers.{plain_effects, container_words, container_keeps, container_first, container_starts, fewer}
 use Rattle.history.proofs.Drives.{IsCallOf, goes}
-use Rattle.history.proofs.RobustCalls.{release_found, release_words, ReleaseGoes, gives_so, CountGoes, counts_so}
-use Rattle.history.proofs.RobustParts.{found_of, count_found, count_asks, count_on}
+use Rattle.history.proofs.RobustCalls.{release_words, ReleaseGoes, gives_so, counts_so}
+use Rattle.history.proofs.RobustParts.{count_found, count_asks, count_on}
 
 -- the words of the set are some of the container's
 pub set_words : (capacity size : ℕ) → capacity + 1 ≤ total_words capacity size
@@ -124,13 +124,6 @@ module _ (T : Type 0) (capacity : ℕ) (c : Removing) (same : c.capacity ≡ cap
   abbrev StandsThen : After Removing Removed → Type 0
   StandsThen (GoOn d) = (removes_value {T = T} given).stands capacity d
   StandsThen (Done e) = Unit {0}
-
-  released_there : (count : ℕ) (stage : ReleaseStage) (es : List (Event T)) (r : After Releasing Released)
-      → ReleaseGoes T capacity (inner_release c.capacity stage) same p given low es r → StandsThen (remove_released c count r)
-  released_there x0 x1 x2 x3 x4 = grind arith
-
-  stands_then : (stage : RemoveStage) (k : ℕ) → RemoveIn capacity given.mode stage → StandsThen (remove_takes c stage given k)
-  stands_then x0 x1 x2 = grind arith
 
   removes_so : (stage : RemoveStage) (k : ℕ) (es : List (Event T)) → RemoveIn capacity given.mode stage → RemovedAt p given stage es
       → RemoveGoes (es ++ remove_effects p given stage k) (remove_takes c stage given k)

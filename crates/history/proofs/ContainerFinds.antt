@@ -3,9 +3,9 @@ use Rattle.history.proofs.Names.{Bool, true, false, if◌then◌else◌, option_
 use Rattle.history.proofs.Names.{◌≤◌, ◌==◌, nat_lt, Option, Some, None, List, [], ◌∷◌, ◌++◌, slice_set, append-nil}
 use Rattle.history.proofs.Names.{append_assoc, fold, refl, sym, ap, subst, ◌∙◌, arith, mul-le-mul_left, nat_tests}
 use Rattle.history.proofs.Names.{map-append, find_asks, find_keeps, first_find, find_want, find_comes_to, find_takes}
-use Rattle.history.proofs.Names.{find_after, is_even, total_words, empty, by_test, went_on, Ask, After, GoOn, Want}
+use Rattle.history.proofs.Names.{find_after, is_even, total_words, empty, went_on, Ask, After, GoOn, Want}
 use Rattle.history.proofs.Names.{FindStage, Answer, Event, Start, Container, Flight, Registry, Find, Coding, IsCoding}
-use Rattle.history.proofs.Names.{opening_of, goes_of, is_question, find_of, is_owner, find_effects, as_it_is}
+use Rattle.history.proofs.Names.{opening_of, goes_of, is_question, find_of, find_effects, as_it_is}
 use Rattle.history.proofs.Names.{fresh_cell, kept_at, read_in, own_after, Open, as_call, number_of, KeepsRule, Owes}
 use Rattle.history.proofs.Names.{answered}
 use Rattle.steps.specs.declared.ask.After.TheVariants.{Done}
@@ -27,15 +27,11 @@ use Rattle.history.specs.Settled.{IsResting, RestsAt, EndsAsked}
 use Rattle.history.specs.Value.{value_of_room}
 use Rattle.history.proofs.CallsIn.{goes, AsksFor, StepsOf}
 use Rattle.history.proofs.Containers.{container_effects, plain_effects, container_words, containers_owe, plain_acts}
-use Rattle.history.proofs.Containers.{goes_plain, container_first, container_starts}
+use Rattle.history.proofs.Containers.{container_first, container_starts}
 use Rattle.history.proofs.Decisions.{IsAskingIn, keeps_said, keeps_word, hears_said, ends_said}
-use Rattle.history.proofs.RobustParts.{found_of}
 use Rattle.history.proofs.Rooms.{room_set, room_read}
 use Rattle.history.proofs.Written.{same_written}
 use Rattle.history.specs.Stages.{Calling, IsUnderWay, Ends, AtAsked}
-
-find_found : (size capacity : ℕ) (stage : FindStage) (a : Ask) (n : ℕ) → find_asks size capacity stage ≡ wants.Ask a → answered a.op n ≡ n
-find_found x0 x1 x2 x3 x4 x5 = grind arith
 
 find_words : (capacity size : ℕ) (stage : FindStage) → FindIn size capacity stage → is_question (find_asks size capacity stage) ≡ false
     → AsksFor (total_words capacity size) (find_asks size capacity stage)
@@ -348,15 +344,6 @@ module _ {T R : Type 0} (code : Coding T) (law : IsCoding code) (words_in : R �
           sym x.2 ∙ (one_list x.3.party x.1.1 y.1.1 lists ∙ y.2)
 
   -- ---- where it rests
-
-  asked_at : (c : Finding T R) (said : Bool) (e : ℕ) (stage : FindStage) → is_question (find_asks code.size c.capacity stage) ≡ true
-      → find_takes code.size c stage owner (number_of said) ≡ Done e → (m : Room)
-      → as_model (room m.0) (find_takes code.size (call_at c.capacity stage) stage owner (number_of false)) ≡ Done (answers.Number e)
-  asked_at x0 x1 x2 x3 x4 x5 x6 = grind arith
-
-  asks_room : (capacity : ℕ) (stage : FindStage) (m : Room) → is_question (find_asks code.size capacity stage) ≡ true
-      → find_keeps kept_at stage (room m.0) (number_of false) ≡ room m.0
-  asks_room x0 x1 x2 x3 = grind arith
 
   -- a no would end it, with the number that it has answered
   pub no_ends : (base v : View T) (e : ℕ) (m : Room) (h : RestsAt code kinds.Container after kept finding base v e m) (there : Registry T)

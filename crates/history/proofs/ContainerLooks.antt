@@ -1,18 +1,17 @@
 -- What a look of a state comes to, where the machine has the state for its party that its drive has.
-use Rattle.history.proofs.Names.{◌≡◌, inl, inr, ℕ, suc, ◌+◌, ◌<◌, ◌≤◌, ◌==◌, nat_lt, Bool, true, false, Option, List}
-use Rattle.history.proofs.Names.{[], ◌∷◌, ◌++◌, slice_index_or, append-nil, refl, sym, ap, subst, ◌∙◌, arith}
-use Rattle.history.proofs.Names.{nat_tests, is_even, total_words, look_asks, look_comes_to, look_finds, look_takes}
+use Rattle.history.proofs.Names.{◌≡◌, inl, inr, ℕ, suc, ◌+◌, ◌<◌, ◌≤◌, ◌==◌, Bool, true, false, Option, List}
+use Rattle.history.proofs.Names.{[], ◌∷◌, ◌++◌, append-nil, refl, sym, ap, subst, arith}
+use Rattle.history.proofs.Names.{nat_tests, total_words, look_asks, look_comes_to, look_finds, look_takes}
 use Rattle.history.proofs.Names.{look_after, look_kept, Numbers, Showing, by_test, Ask, After, GoOn, LookStage}
-use Rattle.history.proofs.Names.{ContainerState, Answer, Event, Copied, Container, Registry, ContainerStart, LookOf}
-use Rattle.history.proofs.Names.{Coding, goes_of, step_of, look_came, settled_if, look_effects, look_effects_of}
-use Rattle.history.proofs.Names.{as_call, World, data_within, answered}
+use Rattle.history.proofs.Names.{Event, Copied, Container, Registry, ContainerStart, LookOf}
+use Rattle.history.proofs.Names.{Coding, goes_of, step_of, settled_if, look_effects}
+use Rattle.history.proofs.Names.{World, data_within, answered}
 use Rattle.steps.specs.Copied.{value_in}
 use Rattle.steps.specs.declared.ask.After.TheVariants.{Done}
 use Rattle.steps.specs.declared.ask.Want.TheVariants as wants
 use Rattle.steps.specs.declared.container.look.Look.{Look as Looking}
 use Rattle.steps.specs.declared.container.look.LookStage.TheVariants as looks
 use Rattle.model.specs.declared.families.Flight.TheVariants as flights
-use Rattle.model.specs.declared.families.Registry.TheVariants as registries
 use Rattle.model.specs.declared.families.container.calls.ContainerFlight.TheVariants as calls
 use Rattle.laws_container.proofs.Looks.{written_same}
 use Rattle.history.specs.ContainerFind.{HasCopied}
@@ -22,7 +21,6 @@ use Rattle.history.proofs.CallsIn.{AsksFor}
 use Rattle.history.proofs.ContainerCalls.{change_low, count_low}
 use Rattle.history.proofs.Containers.{container_effects}
 use Rattle.history.proofs.Drives.{goes}
-use Rattle.history.proofs.RobustParts.{found_of}
 
 -- ---- what it asks for
 
@@ -81,12 +79,6 @@ module _ {T : Type 0} (code : Coding T) (which : LookOf) (capacity : ℕ) (seen 
 
   abbrev kept_shown : Looking T → Showing T → ℕ → Showing T
   kept_shown c m n = look_kept code.value_of code.size c m n
-
-  came_so : (m : Showing T) (r : After (Looking T) Bool)
-      → as_call flights.Container (λ (answer : Answer T). answer) (look_came which (state_of_look capacity seen m) r)
-      ≡ goes drives r m
-  came_so m (GoOn d) = refl
-  came_so m (Done changed) = refl
 
   -- the look goes on from it as its drive does
   pub look_goes_so : (c : Looking T) (m : Showing T) (n : ℕ) (kept : Registry T) → HasState kept p (state_of_look capacity seen m)

@@ -1,23 +1,21 @@
 -- That a recovery of the container is a call of the model, which puts questions.
-use Rattle.history.proofs.Names.{◌≡◌, ◌⊎◌, inl, inr, ℕ, ◌+◌, ◌<◌, ◌==◌, nat_lt, Bool, true, false, Option, Some, None}
+use Rattle.history.proofs.Names.{◌≡◌, ◌⊎◌, inl, inr, ℕ, ◌+◌, ◌<◌, Bool, true, false, Option, Some, None}
 use Rattle.history.proofs.Names.{option_map, List, [], ◌∷◌, ◌++◌, slice_set, if◌then◌else◌, fold, refl, sym, ap}
-use Rattle.history.proofs.Names.{subst, ◌∙◌, arith, nat_tests, append_cancel_right, is_even, recover_keeps, empty}
-use Rattle.history.proofs.Names.{locked, raise_want, raise_after, lock_want, lock_after, went_on, After, GoOn, Want}
-use Rattle.history.proofs.Names.{DeadOwner, ReleaseMode, LockIfLastIndex, Default, ReleaseState, Lock, Raise, Answer}
-use Rattle.history.proofs.Names.{Event, Start, Flight, Coding, IsCoding, opening_of, after_of, is_question}
-use Rattle.history.proofs.Names.{recover_of, is_owner, question_of, as_it_is, fresh_cell, kept_at, read_in, own_after}
-use Rattle.history.proofs.Names.{Open, as_call, number_of, raise_asks_none, lock_asks_none, KeepsRule}
-use Rattle.steps.specs.Container.Recover.{first_recover, recover_asks, recover_want, recover_raised}
-use Rattle.steps.specs.Container.Recover.{recover_locked, recover_takes, recover_after}
+use Rattle.history.proofs.Names.{subst, ◌∙◌, arith, append_cancel_right, recover_keeps, empty}
+use Rattle.history.proofs.Names.{After, GoOn, Want}
+use Rattle.history.proofs.Names.{DeadOwner, ReleaseState, Answer}
+use Rattle.history.proofs.Names.{Event, Start, Flight, Coding, IsCoding, after_of, is_question}
+use Rattle.history.proofs.Names.{recover_of, is_owner, question_of, fresh_cell, kept_at, read_in, own_after}
+use Rattle.history.proofs.Names.{Open, number_of, KeepsRule}
+use Rattle.steps.specs.Container.Recover.{first_recover, recover_asks, recover_want}
+use Rattle.steps.specs.Container.Recover.{recover_takes, recover_after}
 use Rattle.steps.specs.declared.ask.After.TheVariants.{Done}
 use Rattle.steps.specs.declared.container.recover.Recover.{Recover as Recovering}
 use Rattle.steps.specs.declared.container.recover.RecoverStage.{RecoverStage}
 use Rattle.steps.specs.declared.container.recover.RecoverStage.TheVariants as recovers
 use Rattle.steps.specs.declared.copied.Buffer as buffers
-use Rattle.steps.specs.declared.indices.enums.ReleaseState.TheVariants as states
 use Rattle.model.specs.declared.event.Answer.TheVariants.{State}
 use Rattle.model.specs.declared.families.Flight.TheVariants as flights
-use Rattle.model.specs.declared.families.container.ContainerStart.TheVariants.{Recover}
 use Rattle.model.specs.declared.families.container.calls.ContainerFlight.TheVariants as calls
 use Rattle.model.specs.declared.turn.Kind.TheVariants as kinds
 use Rattle.model.specs.Families.Container.Steps.{recover_effects}
@@ -27,13 +25,13 @@ use Rattle.history.specs.History.{IsMachine}
 use Rattle.history.specs.Rooms.{room_of}
 use Rattle.history.specs.Stages.{Calling, IsUnderWay, Ends, AtAsked}
 use Rattle.history.specs.ValueQueue.{value_there}
-use Rattle.history.proofs.CallsIn.{by_bool, AsksFor}
-use Rattle.history.proofs.Containers.{container_effects, plain_effects, plain_acts, containers_owe, container_words, container_first, container_starts}
+use Rattle.history.proofs.CallsIn.{AsksFor}
+use Rattle.history.proofs.Containers.{container_effects, plain_effects, plain_acts, containers_owe, container_words}
 use Rattle.history.proofs.Decisions.{IsAskingOf, keeps_asked, hears_answer}
 use Rattle.history.proofs.Drives.{goes}
 use Rattle.history.proofs.Rooms.{room_set, room_read}
 use Rattle.history.proofs.Written.{same_written}
-use Rattle.history.proofs.RecoverySteps.{recover_words, recover_found, AnswersOn, no_answer, answers_on, Keeps, RecoverGoes, recovers_so, some_visits, wrote}
+use Rattle.history.proofs.RecoverySteps.{recover_words, recover_found, AnswersOn, answers_on, Keeps, RecoverGoes, recovers_so, some_visits, wrote}
 use Rattle.history.proofs.RecoveryVisits.{one_list, inside_both, inside_visits, inside_yet}
 
 -- ---- a recovery
@@ -83,16 +81,6 @@ module _ {T R : Type 0} (code : Coding T) (law : IsCoding code) (words_in : R �
     abbrev SameTakes : RecoverStage → Type 0
     SameTakes stage =
         after_of code (flight_at c.capacity stage room) n ≡ goes_with (recover_keeps kept_at stage room n) (recover_takes code.size c stage given n)
-
-    same_raised : (index : ℕ) (mode : ReleaseMode) (r : After Raise ReleaseState) → as_call flights.Container (λ (answer : Answer T). answer)
-        (as_call calls.Recover State (went_on as_it_is given room (recover_raised (model_call c) index mode r)))
-        ≡ goes_with room (recover_raised c index mode r)
-    same_raised x0 x1 x2 = grind arith
-
-    same_locked : (index : ℕ) (r : After Lock ReleaseState) → as_call flights.Container (λ (answer : Answer T). answer)
-        (as_call calls.Recover State (went_on as_it_is given room (recover_locked (model_call c) index r))) ≡ goes_with room (recover_locked c index r)
-    same_locked index (GoOn lock) = refl
-    same_locked index (Done state) = refl
 
     same_takes : (stage : RecoverStage) → SameTakes stage
     same_takes x0 = grind arith

@@ -1,20 +1,13 @@
 -- Each call of a container on a pass whose last call may rest at a find's question.
 use Rattle.std.proofs.Common.{arith}
-use Rattle.history.proofs.Names.{Bool, true, false, ◌≡◌, inl, inr, ℕ, ◌+◌, ◌<◌, Option, Some, None, List, [], refl}
-use Rattle.history.proofs.Names.{sym, ap, ◌∙◌, Allows, find_asks, replace_asks, After, GoOn, Want, FindStage}
-use Rattle.history.proofs.Names.{ReplaceStage, Answer, Event, Start, Flight, ContainerFlight, Coding, want_of}
-use Rattle.history.proofs.Names.{goes_of, is_question, number_of, World, count_asks_none, raise_asks_none}
-use Rattle.history.proofs.Names.{lock_asks_none, look_asks_none, KeepsRule}
-use Rattle.steps.specs.Container.Recover.{recover_asks}
+use Rattle.history.proofs.Names.{Bool, true, false, ◌≡◌, ℕ, ◌+◌, ◌<◌, Option, None, List, []}
+use Rattle.history.proofs.Names.{sym, ◌∙◌, Allows, After, GoOn, Want}
+use Rattle.history.proofs.Names.{Answer, Event, Start, Flight, ContainerFlight, Coding, want_of}
+use Rattle.history.proofs.Names.{goes_of, is_question, number_of, World}
+use Rattle.history.proofs.Names.{KeepsRule}
 use Rattle.steps.specs.declared.ask.After.TheVariants.{Done}
-use Rattle.steps.specs.declared.container.find.FindStage.TheVariants as finds
-use Rattle.steps.specs.declared.container.recover.RecoverStage.{RecoverStage}
-use Rattle.steps.specs.declared.container.recover.RecoverStage.TheVariants as recovers
-use Rattle.steps.specs.declared.container.replace.ReplaceStage.TheVariants as replaces
 use Rattle.model.specs.declared.families.Flight as flights
-use Rattle.model.specs.declared.families.container.calls.ContainerFlight.TheVariants as calls
 use Rattle.model.specs.declared.turn.Kind.TheVariants as kinds
-use Rattle.laws_container.proofs.Moves.{add_asks_none, remove_asks_none}
 use Rattle.history.specs.declared.view.View.{View}
 use Rattle.history.specs.History.{IsMachine, IsLate}
 use Rattle.history.specs.Settled.{IsResting, Settles, AtRested, EndsRested}
@@ -27,9 +20,6 @@ pub clash : {A : Type 0} (b : Bool) → b ≡ true → b ≡ false → A
 clash b due still = (let both : true ≡ false = sym due ∙ still in absurd (cc))
 
 module _ {T : Type 0} where
-  replace_asks_none : (code : Coding T) (c : ℕ) (stage : ReplaceStage) (given : _) → is_question (replace_asks code.words_of code.size c stage given) ≡ false
-  replace_asks_none x0 x1 x2 x3 = grind arith
-
   -- ---- an answer that ends a call writes nothing
 
   module _ (code : Coding T) (w : World T) (p : ℕ) (answer : Answer T) where
@@ -42,9 +32,6 @@ module _ {T : Type 0} where
     abbrev IsOn : After (Flight T) (Answer T) → Type 0
     IsOn (GoOn flight) = Unit {0}
     IsOn (Done answer) = ⊥
-
-    ends_quietly : (flight : ContainerFlight T) → EndsBy flight
-    ends_quietly x0 x1 x2 = grind arith
 
     quietly : (flight : Flight T) → is_question (want_of code flight) ≡ true → goes_of code p flight (number_of false) w.kept ≡ Done answer
         → container_effects w p flight (number_of false) ≡ []
@@ -74,9 +61,6 @@ module _ {T : Type 0} (code : Coding T) where
   module _ {C M E : Type 0} (call : Calling T C M E) (want : C → Want (Unit {0})) (same_want : (c : C) (m : M) → want_of code (call.flight c m) ≡ want c) where
     module _ (Begins : ℕ → C → M → Type 0)
         (asks : (capacity : ℕ) (c : C) (m : M) → Begins capacity c m → AsksFor (container_words code capacity) (want c)) where
-      at_word : (capacity : ℕ) (c : C) (m : M) → Begins capacity c m → is_question (want c) ≡ false
-      at_word capacity c m begins = ap is_question (asks capacity c m begins).2
-
       -- who rests has not begun the next
       apart_at : (base v : View T) (c : C) (m k : M) → IsResting code v → Begins v.capacity c k → At code kinds.Container call base v c m → ⊥
       apart_at x0 x1 x2 x3 x4 x5 x6 x7 = grind arith

@@ -1,17 +1,14 @@
 -- What the container owes, from the laws of its open runs, which party may begin a call on it, and that a call which is no
 -- look of a state goes on by itself.
 use Rattle.history.proofs.Names.{◌≡◌, ℕ, ◌+◌, ◌≤◌, true, false, Option, Some, None, IfSome, List, [], ◌++◌, length}
-use Rattle.history.proofs.Names.{sum_by, refl, sym, ap, subst, ◌∙◌, arith, After, Want, ContainerState, total_words}
-use Rattle.history.proofs.Names.{Event, Start, Container, Flight, Registry, ContainerStart, Add, Remove, Replace}
-use Rattle.history.proofs.Names.{Find, GetState, UpdateState, ContainerFlight, Party, Turn, Next, Coding, first_of}
-use Rattle.history.proofs.Names.{step_of, beside_of, goes_of, after_of, going_rows, first, is_look_of, state_in}
+use Rattle.history.proofs.Names.{sum_by, sym, ap, subst, ◌∙◌, arith, After, Want, ContainerState, total_words}
+use Rattle.history.proofs.Names.{Event, Start, Container, Flight, Registry, ContainerStart}
+use Rattle.history.proofs.Names.{Party, Turn, Coding, first_of}
+use Rattle.history.proofs.Names.{step_of, beside_of, goes_of, going_rows, first, is_look_of, state_in}
 use Rattle.history.proofs.Names.{names_owner, questions, has_died, SetAct, set_acts_of, first_row, step_in}
 use Rattle.history.proofs.Names.{after_turn, World, Trace, stands_there, Word, open_refusal, AllLive, KeepsRule}
 use Rattle.model.specs.declared.families.Flight as flights
 use Rattle.model.specs.declared.families.Registry as registries
-use Rattle.model.specs.declared.families.container.ContainerStart.TheVariants.{Recover}
-use Rattle.model.specs.declared.families.container.ContainerStart.TheVariants.{Len, IsEmpty}
-use Rattle.model.specs.declared.families.container.ContainerStart.TheVariants.{IsLocked}
 use Rattle.model.specs.declared.families.container.calls.ContainerFlight.TheVariants as calls
 use Rattle.model.specs.declared.turn.Kind.TheVariants as kinds
 use Rattle.model.specs.Families.Container.Reading.{Act, acts_of}
@@ -24,7 +21,6 @@ use Rattle.laws_container.proofs.OpenRuns.{reached_open_sound, reached_open_live
 use Rattle.laws_container.proofs.OpenRuns.{reached_open_kept, reached_open_tells}
 use Rattle.laws_container.proofs.Sound.{kept_is}
 use Rattle.laws_container.proofs.Terms.{Terms}
-use Rattle.laws_container.proofs.Written.{all_effects}
 use Rattle.history.specs.declared.view.View.{View}
 use Rattle.history.specs.History.{IsRun, IsMachine, call_in}
 use Rattle.history.specs.Known.{owned}
@@ -33,7 +29,6 @@ use Rattle.history.proofs.Calls.{stands}
 use Rattle.history.proofs.CallsIn.{AsksFor, ActsAlone, steps_alone}
 use Rattle.history.proofs.Drives.{IsCallOf, keeps_all_there}
 use Rattle.history.proofs.Known.{AreOf, by_other}
-use Rattle.history.proofs.Sets.{effects_own}
 use Rattle.history.proofs.Starting.{starts_by_last}
 use Rattle.history.proofs.Turns.{StepsOn, KeptLaws, all_someone}
 
@@ -54,33 +49,12 @@ module _ {T : Type 0} where
   pub effects_of_party : (code : Coding T) (kept : Registry T) (p : ℕ) (flight : Flight T) (n : ℕ) → AreOf p (kept_effects code kept p flight n)
   effects_of_party x0 x1 x2 x3 x4 = grind arith
 
-  plain_of_party : (code : Coding T) (p : ℕ) (flight : Flight T) (n : ℕ) → AreOf p (plain_effects code p flight n)
-  plain_of_party x0 x1 x2 x3 = grind arith
-
   -- ---- a call that is no look of a state
 
   abbrev pub IsPlain : Flight T → Type 0
   IsPlain (flights.TheVariants.Container (calls.Look which call)) = ⊥
   IsPlain (flights.TheVariants.Container flight) = Unit {0}
   IsPlain flight = ⊥
-
-  plain_writes : (code : Coding T) (kept : Registry T) (p : ℕ) (flight : ContainerFlight T) (n : ℕ) → IsPlain (flights.TheVariants.Container flight)
-      → kept_effects code kept p (flights.TheVariants.Container flight) n ≡ plain_effects code p (flights.TheVariants.Container flight) n
-  plain_writes x0 x1 x2 x3 x4 x5 = grind arith
-
-  -- it writes by itself
-  writes_alike : (code : Coding T) (kept : Registry T) (p : ℕ) (flight : Flight T) (n : ℕ) → IsPlain flight
-      → kept_effects code kept p flight n ≡ plain_effects code p flight n
-  writes_alike x0 x1 x2 x3 x4 x5 = grind arith
-
-  plain_goes : (code : Coding T) (p : ℕ) (flight : ContainerFlight T) (n : ℕ) (kept : Registry T) → IsPlain (flights.TheVariants.Container flight)
-      → goes_of code p (flights.TheVariants.Container flight) n kept ≡ after_of code (flights.TheVariants.Container flight) n
-  plain_goes x0 x1 x2 x3 x4 x5 = grind arith
-
-  -- and goes on by itself
-  pub goes_plain : (code : Coding T) (p : ℕ) (flight : Flight T) (n : ℕ) (kept : Registry T) → IsPlain flight
-      → goes_of code p flight n kept ≡ after_of code flight n
-  goes_plain x0 x1 x2 x3 x4 x5 = grind arith
 
 -- the words of the set, how often an element has changed, and for each index a number and its element
 abbrev pub container_words : {T : Type 0} → Coding T → ℕ → ℕ

@@ -13,7 +13,7 @@ use Rattle.steps.specs.declared.ask.Want.TheVariants as wants
 use Rattle.threaded.specs.Driver.{Told}
 use Rattle.history.specs.declared.view.View.{View}
 use Rattle.history.specs.Known.{events_by}
-use Rattle.history.specs.History.{IsRun, IsMachine, HasStood, call_in, refusal_as}
+use Rattle.history.specs.History.{IsRun, IsMachine, call_in, refusal_as}
 use Rattle.history.specs.Stages.{Calling, LeavesState, Since, IsUnderWay, At, Ends, HasHeard, AtAsked}
 use Rattle.history.proofs.Known.{by_more, within}
 use Rattle.history.proofs.Reached.{MayDecide, decide_as}
@@ -22,7 +22,7 @@ use Rattle.history.proofs.Turns.{KeptLaws, Between, heard, decided, decided_at, 
 use Rattle.history.proofs.Steps.{view_after, settle}
 use Rattle.history.proofs.CallsIn.{by_bool, goes, AsksFor, StepsOf, StepsThere, ActsAlone, written_alone, steps_alone}
 use Rattle.history.proofs.CallTurns.{since_turn}
-use Rattle.history.proofs.CallReady.{still_stands, Ready, ready, Told_by}
+use Rattle.history.proofs.CallReady.{Ready, ready, Told_by}
 use Rattle.history.proofs.Drives.{ToldOver, keeps_at, next_ended}
 
 -- A call that may put questions. It begins with none, and puts none right after another.
@@ -112,12 +112,6 @@ module _ {T C M E : Type 0} (code : Coding T) (kind : Kind) (decides : MayDecide
         (GoOn (call.flight c m)) h.said y.there free comes
 
     module _ (base : View T) (k : Heard base v c m) where
-      same_flight : call.flight k.asking k.room ≡ from
-      same_flight = grind arith
-
-      same_asking : k.asking ≡ h.asking
-      same_asking = same_call k.asking h.asking k.room h.room same_flight
-
       stage_then : Stage base v h.asking h.room
       stage_then = grind arith
 
@@ -178,9 +172,6 @@ module _ {T C M E : Type 0} (code : Coding T) (kind : Kind) (decides : MayDecide
           }
 
   -- ---- who is at a word, and who has heard an answer
-
-  clash : {A : Type 0} (b : Bool) → b ≡ true → b ≡ false → A
-  clash b due still = (let both : true ≡ false = sym due ∙ still in absurd (cc))
 
   -- no other drive of it says otherwise
   never_both : {A : Type 0} (base other v : View T) (c : C) (m : M) → is_question (want c) ≡ false → Stage base v c m → Heard other v c m → A

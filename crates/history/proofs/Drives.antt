@@ -16,7 +16,7 @@ use Rattle.history.specs.Known.{events_by}
 use Rattle.history.specs.History.{IsRun, IsMachine, IsLate, call_in}
 use Rattle.history.specs.Stages.{Calling, IsFirst, At, Ends, LeftOut, Over}
 use Rattle.history.specs.Views.{Looks}
-use Rattle.history.proofs.Known.{by_mine, late_none, AreOf}
+use Rattle.history.proofs.Known.{by_mine, AreOf}
 use Rattle.history.proofs.Calls.{get_left}
 use Rattle.history.proofs.Turns.{KindLaws, KeptLaws, MachineLaws, kept_laws, goes_on_alike, machine_laws, Between}
 use Rattle.history.proofs.Steps.{settle}

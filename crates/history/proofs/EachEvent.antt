@@ -1,12 +1,12 @@
 -- What holds of each event of a run, where it holds of what each step of a call writes, and of every begin and end.
 use Rattle.std.proofs.Common.{arith}
-use Rattle.history.proofs.Names.{◌≡◌, ◌⊎◌, inl, inr, ℕ, Bool, true, not, is_none, Option, Some, None, List, [], ◌∷◌}
+use Rattle.history.proofs.Names.{◌≡◌, ◌⊎◌, inl, ℕ, Bool, true, Option, Some, None, List, [], ◌∷◌}
 use Rattle.history.proofs.Names.{◌++◌, refl, Answer, Event, Begun, Finished, Died, Start, Flight, Doing, Going, Over}
-use Rattle.history.proofs.Names.{Party, Refusal, Turn, Begin, Next, Decide, Die, Idle, Undecided, want_of, ask_of}
-use Rattle.history.proofs.Names.{party_of, doing_of, flight_of, Each, call_refusal, is_due, answer_in, after_turn}
+use Rattle.history.proofs.Names.{Party, Refusal, Turn, Decide, want_of, ask_of}
+use Rattle.history.proofs.Names.{party_of, doing_of, flight_of, Each, call_refusal, is_due, after_turn}
 use Rattle.history.proofs.Names.{events_of, events_of_next, events_of_decision, events_of_answer, ending_of, old_of}
-use Rattle.history.proofs.Names.{ask_of_doing, number_of, unless_refused, attempt_on, run_on, step_in, Trace}
-use Rattle.history.proofs.Names.{flight_in, Family, Sound, is_true, row_passed, AreRight, Each-append, LawsWhere, AllMay}
+use Rattle.history.proofs.Names.{ask_of_doing, unless_refused, attempt_on, run_on, step_in, Trace}
+use Rattle.history.proofs.Names.{flight_in, Family, Sound, AreRight, Each-append, LawsWhere, AllMay}
 use Rattle.history.proofs.Names.{attempt_sound}
 
 -- what a call is handed as it goes on: what stands in its word, or a decision

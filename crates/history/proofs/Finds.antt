@@ -1,6 +1,6 @@
 -- A look at the cell of an index says whether the index has an owner just then, so a find tells of one index after another.
-use Rattle.history.proofs.Names.{◌≡◌, ◌≢◌, ⊎_elim, ℕ, ◌+◌, ◌<◌, Option, Some, None, List, [], ◌∷◌, ◌++◌, sym, ap}
-use Rattle.history.proofs.Names.{subst, ◌∙◌, append_assoc, append-nil, arith, Contains, cases_eq, All-nil, All-push}
+use Rattle.history.proofs.Names.{◌≡◌, ◌≢◌, ⊎_elim, ℕ, ◌+◌, ◌<◌, Option, Some, List, [], ◌∷◌, ◌++◌, sym, ap}
+use Rattle.history.proofs.Names.{subst, ◌∙◌, append_assoc, append-nil, arith, Contains, cases_eq, All-push}
 use Rattle.history.proofs.Names.{All-weaker, Contains-push, Contains-append_left, empty, Event, Coding, filled_of}
 use Rattle.steps.specs.Indices.Robust.Parts.{cell_word}
 use Rattle.model.specs.declared.turn.Kind.TheVariants as kinds

@@ -1,12 +1,12 @@
 -- Which party holds an index that a pass holds: one of its own.
-use Rattle.history.proofs.Names.{◌≡◌, ◌≢◌, ◌≤◌, ⊎_elim, ℕ, ◌+◌, ◌==◌, true, false, Some, None, List, refl, subst}
-use Rattle.history.proofs.Names.{arith, sum_by, cases_eq, nat_tests, Event, Claimed, Freed, HoldsRight, Each}
+use Rattle.history.proofs.Names.{◌≡◌, ◌≤◌, ℕ, ◌+◌, Some, List}
+use Rattle.history.proofs.Names.{arith, sum_by, Event, HoldsRight, Each}
 use Rattle.model.specs.Families.Indices.Reading.{holder_after, holder_of}
 use Rattle.history.specs.declared.view.View.{View}
 use Rattle.history.specs.Held.{claims, frees, Holds}
 use Rattle.history.specs.History.{IsOfParties}
 use Rattle.history.specs.Known.{owned}
-use Rattle.history.proofs.Ledger.{Moves, still, taken, given, held_by_one, at_most}
+use Rattle.history.proofs.Ledger.{Moves, held_by_one, at_most}
 
 module _ {T : Type 0} (owner : ℕ → ℕ) (j c i : ℕ) where
   abbrev MovesIt : List (Event T) → Event T → Type 0

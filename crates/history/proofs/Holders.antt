@@ -1,15 +1,15 @@
 -- In a bounded queue only the holder of a role publishes, or takes out; there is room for what is published, and what is
 -- taken out waited first.
-use Rattle.history.proofs.Names.{◌≡◌, ◌<◌, ◌≤◌, ℕ, Bool, true, false, Option, Some, None, is_none, List, [], ◌∷◌}
-use Rattle.history.proofs.Names.{◌++◌, ◌==◌, length, map, fold, refl, sym, ap, subst, ◌∙◌, append-nil, append_assoc}
-use Rattle.history.proofs.Names.{arith, length-map, nat_tests, fold-append, flat_map, Producer, Consumer, Answer}
-use Rattle.history.proofs.Names.{Event, Published, HandedOut, Finished, Item, Start, Queues, Flight, Registry}
-use Rattle.history.proofs.Names.{QueueStart, AcquireConsumer, ReleaseConsumer, PushIndex, Pop, Roles, QueueFlight}
-use Rattle.history.proofs.Names.{Values, Length, Doing, Going, Over, Party, Refusal, Turn, Begin, Next, Decide, Die}
-use Rattle.history.proofs.Names.{Coding, one_word, step_of, producer_after, consumer_after, producer_of, consumer_of}
+use Rattle.history.proofs.Names.{◌≡◌, ◌<◌, ◌≤◌, ℕ, Bool, true, false, Option, Some, None, List, [], ◌∷◌}
+use Rattle.history.proofs.Names.{◌++◌, length, map, fold, refl, sym, ap, subst, ◌∙◌, append-nil, append_assoc}
+use Rattle.history.proofs.Names.{arith, length-map, fold-append, flat_map, Answer}
+use Rattle.history.proofs.Names.{Event, Published, HandedOut, Item, Start, Queues, Flight, Registry}
+use Rattle.history.proofs.Names.{QueueStart, PushIndex, Pop, Roles, QueueFlight}
+use Rattle.history.proofs.Names.{Values, Length, Doing, Party, Refusal, Turn}
+use Rattle.history.proofs.Names.{Coding, one_word, step_of, producer_of, consumer_of}
 use Rattle.history.proofs.Names.{publishes, hands_out, published, handed_out, waiting, push_effect, pop_effect}
-use Rattle.history.proofs.Names.{acts_if_done, party_of, Each, whose, is_party, Truth, call_refusal, answer_in}
-use Rattle.history.proofs.Names.{after_turn, events_of, events_of_answer, ending_of, old_of, ask_of_doing, number_of}
+use Rattle.history.proofs.Names.{acts_if_done, party_of, Each, whose, is_party, call_refusal}
+use Rattle.history.proofs.Names.{after_turn, events_of, events_of_answer, ending_of, number_of}
 use Rattle.history.proofs.Names.{unless_refused, attempt_on, run_on, step_in, Trace, capacity_error, AreRight}
 use Rattle.history.proofs.Names.{Each-append, Each-nil, stands_there, machine_kind, waiting_is, Val, Ring, of_indices}
 use Rattle.history.proofs.Names.{of_values, kind_of, KnowsPush, KnowsPop, AllMay, attempt_sound, admitted_fits}
@@ -21,7 +21,6 @@ use Rattle.steps.specs.declared.queues.ring.PopStage as pops
 use Rattle.model.specs.declared.families.Flight as flights
 use Rattle.model.specs.declared.families.Registry as registries
 use Rattle.model.specs.declared.families.queues.QueueKind.TheVariants.{IndexQueue, Queue}
-use Rattle.model.specs.declared.families.queues.QueueStart.TheVariants.{AcquireProducer, ReleaseProducer}
 use Rattle.model.specs.declared.families.queues.QueueStart.TheVariants.{Push}
 use Rattle.model.specs.declared.families.queues.calls.RingCall as rings
 use Rattle.model.specs.declared.families.queues.calls.QueueFlight.TheVariants.{Role, Indices, Overflow}
@@ -259,9 +258,6 @@ module _ {T : Type 0} (c : ℕ) where
       → IsHistory code (machine_kind (kind_of r)) c events → (part rest : List (Event T)) → events ≡ part ++ rest
       → IsListed part
   always_listed code r events h = listed_in events (subst (Each (KeepsList c)) (sym h.is) (lists_kept code r c h.trace h.run))
-
-is_other : (p q : ℕ) (A : Type 0) → (q == p) ≡ false → ◌≡◌ {A = Option ℕ} (Some q) (Some p) → A
-is_other p q A ne e = (let same : q ≡ p = cc in absurd (grind (arith, nat_tests)))
 
 -- what is so of both roles is so of one
 module _ {T : Type 0} where

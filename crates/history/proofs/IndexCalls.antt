@@ -1,15 +1,14 @@
 -- That an acquire and a release of the unique index set are calls of the model.
-use Rattle.history.proofs.Names.{◌≡◌, inl, ℕ, ◌+◌, ◌<◌, ◌==◌, nat_lt, Bool, true, false, None, Ok, Err, List, [], ◌∷◌}
-use Rattle.history.proofs.Names.{◌++◌, refl, sym, ap, subst, ◌∙◌, arith, nat_tests, by_test, went_on, Ask, After}
-use Rattle.history.proofs.Names.{GoOn, Exchange, Want, ReleaseState, load, Answer, Event, Freed, Flight, Coding}
+use Rattle.history.proofs.Names.{◌≡◌, inl, ℕ, ◌+◌, ◌<◌, true, false, None, List, [], ◌∷◌}
+use Rattle.history.proofs.Names.{◌++◌, refl, arith, went_on, Ask, After}
+use Rattle.history.proofs.Names.{GoOn, Want, ReleaseState, load, Answer, Event, Freed, Flight, Coding}
 use Rattle.history.proofs.Names.{as_it_is, as_call, answer_in, answered, KeepsRule}
-use Rattle.steps.specs.Indices.Head.{flag_word, has_flag, proposed, borrowed, says_locked}
+use Rattle.steps.specs.Indices.Head.{flag_word, proposed}
 use Rattle.steps.specs.Indices.Unique.{borrowed_after, locked_after, Acquired, first_acquire, acquire_asks}
-use Rattle.steps.specs.Indices.Unique.{acquire_want, acquire_sees, acquire_takes, first_claim, scanned_next}
-use Rattle.steps.specs.Indices.Unique.{acquire_after, at_release, first_release, head_released, release_asks}
+use Rattle.steps.specs.Indices.Unique.{acquire_want, acquire_takes}
+use Rattle.steps.specs.Indices.Unique.{acquire_after, at_release, first_release, release_asks}
 use Rattle.steps.specs.Indices.Unique.{release_want, release_takes, release_after}
 use Rattle.steps.specs.declared.ask.After.TheVariants.{Done}
-use Rattle.steps.specs.declared.ask.Op.TheVariants.{Load}
 use Rattle.steps.specs.declared.ask.Want.TheVariants as wants
 use Rattle.steps.specs.declared.indices.unique.Acquire.{Acquire as Acquiring}
 use Rattle.steps.specs.declared.indices.unique.AcquireStage as acquires
@@ -21,7 +20,6 @@ use Rattle.steps.specs.declared.indices.looks.BorrowedIndices.{BorrowedIndices a
 use Rattle.steps.specs.declared.indices.looks.IsLocked.{IsLocked as Looking}
 use Rattle.steps.specs.declared.indices.enums.ReleaseMode.TheVariants as modes
 use Rattle.model.specs.declared.families.Flight as flights
-use Rattle.model.specs.declared.families.indices.IndexStart.TheVariants.{Acquire, BorrowedIndices, IsLocked}
 use Rattle.model.specs.declared.families.indices.calls.IndexFlight as calls
 use Rattle.model.specs.declared.turn.Kind.TheVariants as kinds
 use Rattle.model.specs.Families.Indices.Calls.{acquire_answer}
@@ -42,15 +40,6 @@ Standing n (GoOn d) = (takes_index {T = ℕ}).stands n d
 Standing n (Done e) = Unit {0}
 
 module _ (n : ℕ) (c : Acquiring) (same : c.capacity ≡ n) (some : 0 < n) where
-  sees_on : (k : ℕ) → Standing n (acquire_sees c k)
-  sees_on x0 = grind arith
-
-  claims_on : (head : ℕ) → StandsIn n (first_claim c.capacity head)
-  claims_on x0 = grind arith
-
-  scans_on : (index : ℕ) → scanned_next c.capacity index < n
-  scans_on x0 = grind arith
-
   takes_on : (stage : acquires.AcquireStage) (k : ℕ) → StandsIn n stage → Standing n (acquire_takes c stage k)
   takes_on x0 x1 x2 = grind arith
 
@@ -60,11 +49,6 @@ module _ (n : ℕ) (c : Acquiring) (same : c.capacity ≡ n) (some : 0 < n) wher
   asks_one (acquires.TheVariants.ExchangesHead head next) h = (_, omega arith, refl)
   asks_one (acquires.TheVariants.Claims index) h = (_, (let low : flag_word c.capacity index < core.size n = omega arith in low), refl)
   asks_one (acquires.TheVariants.Scans index) h = (_, (let low : flag_word c.capacity index < core.size n = omega arith in low), refl)
-
--- an ask that is no store is answered by what was found
-hears_load : (c : Acquiring) (w : Want (Unit {0})) (b a : Ask) (n : ℕ) → w ≡ wants.Ask b → answered b.op n ≡ n
-    → w ≡ wants.Ask a → acquire_after c (answered a.op n) ≡ acquire_after c n
-hears_load x0 x1 x2 x3 x4 x5 x6 x7 = grind arith
 
 hears_at : (c : Acquiring) (stage : acquires.AcquireStage) (a : Ask) (n : ℕ)
     → acquire_asks c.capacity stage ≡ wants.Ask a → acquire_after c (answered a.op n) ≡ acquire_after c n
@@ -254,9 +238,6 @@ module _ {T : Type 0} (code : Coding T) (index : ℕ) where
       })
 
 -- ---- looks at the head
-
-look_heard : {R : Type 0} (f : ℕ → R) (a : Ask) (n : ℕ) → load 0 ≡ wants.Ask a → f (answered a.op n) ≡ f n
-look_heard x0 x1 x2 x3 = grind arith
 
 module _ {T : Type 0} (code : Coding T) where
   pub count_call : IsCallOf code index_effects core.size (λ c. load 0) borrowed_after (λ c m n. m) counts_out

@@ -1,21 +1,18 @@
 -- What the unique index set owes, from its laws.
 use Rattle.history.proofs.Names.{◌≡◌, ℕ, ◌<◌, ◌==◌, nat_le, true, false, Option, Some, None, is_none, IfSome, List}
 use Rattle.history.proofs.Names.{[], length, refl, sym, ap, subst, ◌∙◌, arith, sum_by, slice_index_or, nat_tests}
-use Rattle.history.proofs.Names.{ReleaseMode, Answer, Event, Start, Flight, Registry, Party, Coding, first_of}
+use Rattle.history.proofs.Names.{ReleaseMode, Event, Start, Flight, Registry, Party, Coding, first_of}
 use Rattle.history.proofs.Names.{begin_rows, step_of, beside_of, after_of, going_rows, IsIndexSet, IsKeptBy}
-use Rattle.history.proofs.Names.{promise_of, first_row, answer_in, step_in, Trace, stands_there}
-use Rattle.steps.specs.declared.indices.enums.ReleaseState.TheVariants.{Locked}
-use Rattle.model.specs.declared.event.Answer.TheVariants.{Index, State}
+use Rattle.history.proofs.Names.{promise_of, first_row, step_in, Trace, stands_there}
 use Rattle.model.specs.declared.event.Start.TheVariants.{Indices}
 use Rattle.model.specs.declared.families.Flight as flights
 use Rattle.model.specs.declared.families.Registry as registries
 use Rattle.model.specs.declared.families.indices.IndexStart.{IndexStart}
 use Rattle.model.specs.declared.families.indices.IndexStart.TheVariants.{Release}
 use Rattle.model.specs.declared.turn.Kind as kinds
-use Rattle.model.specs.Families.Indices.Calls.{after}
 use Rattle.model.specs.Families.Indices.Opening.{call_rows, kept_rows}
 use Rattle.model.specs.Families.Indices.Promises.{KeepsHolders}
-use Rattle.model.specs.Families.Indices.Steps.{ended, effects, frees, wrote}
+use Rattle.model.specs.Families.Indices.Steps.{wrote}
 use Rattle.model.proofs.Frame as frame
 use Rattle.laws_indices.proofs.Core as core
 use Rattle.laws_indices.proofs.Invariant.{IndexSet, Represents, FlightAt, family}
@@ -36,13 +33,6 @@ module _ {T : Type 0} where
   abbrev pub index_effects : ℕ → Flight T → ℕ → List (Event T)
   index_effects p (flights.TheVariants.Indices flight) old = wrote p flight old
   index_effects p flight old = []
-
-  ended_own : (p : ℕ) (o : Option (Answer T)) → AreOf p (ended p o)
-  ended_own x0 x1 = grind arith
-
-  effects_own : (p : ℕ) (freed : Option ℕ) (o : Option (Answer T)) → AreOf p (effects p freed o)
-  effects_own p (Some index) o = (refl, tt)
-  effects_own p None o = ended_own p o
 
   -- the promise of the machine, whatever the number of turns
   pub is_index_set : (t : Trace T) → t.world.kind ≡ kinds.TheVariants.Indices → Rattle.model.specs.Turns.IsReachedOn t → IsIndexSet t

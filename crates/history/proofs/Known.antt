@@ -1,14 +1,11 @@
 -- Whose events they are: those of a party, those of the parties of a seat, and what may be late.
-use Rattle.history.proofs.Names.{◌≡◌, ◌≢◌, inl, inr, ⊎_elim, ℕ, zero, suc, ◌+◌, ◌<◌, Option, Some, None, List, []}
+use Rattle.history.proofs.Names.{◌≡◌, ◌≢◌, ⊎_elim, ℕ, zero, suc, ◌+◌, ◌<◌, Option, Some, None, List, []}
 use Rattle.history.proofs.Names.{◌∷◌, ◌++◌, length, refl, sym, ap, subst, ◌∙◌, arith, append_assoc, append-nil}
-use Rattle.history.proofs.Names.{sum_by, ◌==◌, true, false, if◌then◌else◌, ◌≤◌, ◌⊎◌, cases_eq, nat_tests}
-use Rattle.history.proofs.Names.{sum_by-append, sum_by-cons, AllByRecursion, PoppedNone, Event, Acted, whose, Trace}
+use Rattle.history.proofs.Names.{sum_by, ◌==◌, false, if◌then◌else◌, ◌≤◌, ◌⊎◌, cases_eq, nat_tests}
+use Rattle.history.proofs.Names.{sum_by-append, sum_by-cons, AllByRecursion, Event, whose, Trace}
 use Rattle.history.proofs.Names.{Start, Flight, Kind}
 use mathlib.Core.Option.{some, some-ne-none}
 use lib.ListN.{get_elem?}
-use Rattle.model.specs.declared.families.Flight as flights
-use Rattle.model.specs.declared.families.queues.calls.OverflowCall as overflows
-use Rattle.model.specs.declared.families.queues.calls.QueueFlight.TheVariants.{Overflow}
 use Rattle.history.specs.declared.view.View.{View}
 use Rattle.model.specs.declared.turn.Kind as kinds
 use Rattle.history.specs.History.{IsBeginning, Fits, call_in, IsLate, IsLateFor, MayBeLate}

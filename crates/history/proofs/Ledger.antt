@@ -1,12 +1,9 @@
 -- Which party holds what a pass holds, where what it took and gave back is read from what it made: one of its own.
-use Rattle.history.proofs.Names.{◌≡◌, ◌≢◌, ◌≤◌, ⊎_elim, ℕ, ◌+◌, ◌==◌, true, false, Option, Some, None, List, [], ◌∷◌}
-use Rattle.history.proofs.Names.{◌++◌, fold, refl, sym, ap, subst, ◌∙◌, append_assoc, append-nil, arith, sum_by}
-use Rattle.history.proofs.Names.{cases_eq, nat_tests, fold-append, Event, Each, whose}
+use Rattle.history.proofs.Names.{◌≡◌, ◌≤◌, ℕ, ◌+◌, Option, Some, None, List, [], ◌∷◌}
+use Rattle.history.proofs.Names.{◌++◌, fold, refl, sym, ap, subst, append_assoc, append-nil, arith, sum_by}
+use Rattle.history.proofs.Names.{fold-append, Event, Each, whose}
 use Rattle.history.specs.Known.{owned, if_owned}
 use Rattle.history.proofs.Known.{sum_first}
-
-pub nothing_owned : (owner : ℕ → ℕ) (j : ℕ) (o : Option ℕ) → if_owned owner j o 0 ≡ 0
-nothing_owned x0 x1 x2 = grind arith
 
 one_of : (owner : ℕ → ℕ) (j : ℕ) (o : Option ℕ) → if_owned owner j o 1 ≡ 1 → (p : ℕ) × (owner p ≡ j) × (o ≡ Some p)
 one_of x0 x1 x2 x3 = grind arith

@@ -1,11 +1,11 @@
 -- A look after a look is one look.
-use Rattle.history.proofs.Names.{◌≡◌, ◌≢◌, inl, inr, ⊎_elim, ℕ, ◌<◌, ◌==◌, if◌then◌else◌, true, false, Option, Some}
-use Rattle.history.proofs.Names.{None, List, [], ◌∷◌, ◌++◌, length, sum_by, refl, sym, ap, subst, ◌∙◌, append_assoc}
-use Rattle.history.proofs.Names.{arith, cases_eq, nat_tests, Event, Kind, Coding, whose, IsAll}
+use Rattle.history.proofs.Names.{◌≡◌, ◌≢◌, inl, inr, ⊎_elim, ℕ, ◌<◌, ◌==◌, if◌then◌else◌}
+use Rattle.history.proofs.Names.{List, [], ◌∷◌, ◌++◌, length, sum_by, refl, sym, ap, subst, ◌∙◌, append_assoc}
+use Rattle.history.proofs.Names.{arith, cases_eq, Event, Kind, Coding, IsAll}
 use Rattle.std.proofs.Common.{length-append}
 use Rattle.history.specs.declared.view.View.{View}
 use Rattle.history.specs.History.{IsOfParties}
-use Rattle.history.specs.Known.{own_of, events_by, owned, if_owned}
+use Rattle.history.specs.Known.{own_of, events_by, owned}
 use Rattle.history.specs.Views.{Looks}
 use Rattle.history.proofs.Known.{by_more, nil_right, none_before, sum_first}
 use Rattle.history.proofs.Passes.{begins_with}
@@ -36,10 +36,6 @@ module _ {T : Type 0} (p : ℕ) where
       omega arith
 
   module _ (owner : ℕ → ℕ) (j : ℕ) where
-    -- those of another seat are none of it
-    none_of : (q : ℕ) (e : Event T) → (owner p ≡ j → q ≢ p) → (if owner q == j then length (if q == p then e ∷ [] else []) else 0) ≡ 0
-    none_of x0 x1 x2 = grind arith
-
     one_none : owner p ≢ j → (e : Event T) → owned owner j ones e ≡ 0
     one_none x0 x1 = grind arith
 

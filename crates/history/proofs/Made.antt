@@ -1,7 +1,7 @@
 -- What a call that is told of step by step has made from its begin on.
 use Rattle.std.proofs.Common.{arith}
-use Rattle.history.proofs.Names.{◌≡◌, ◌⊎◌, inl, inr, ℕ, Option, Some, None, IfSome, List, [], ◌∷◌, ◌++◌, refl, sym}
-use Rattle.history.proofs.Names.{ap, subst, ◌∙◌, append_assoc, append-nil, Event, Begun, Start, Flight}
+use Rattle.history.proofs.Names.{◌≡◌, ◌⊎◌, inr, ℕ, Some, None, IfSome, List, [], ◌∷◌, ◌++◌, refl}
+use Rattle.history.proofs.Names.{ap, ◌∙◌, append_assoc, append-nil, Event, Begun, Start, Flight}
 use Rattle.history.specs.declared.view.View.{View}
 use Rattle.history.specs.Stages.{Since, opened}
 

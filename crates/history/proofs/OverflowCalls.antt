@@ -1,12 +1,12 @@
 -- The calls on the overflowing queue as calls of the model. What a push has written is read from the machine, since a pop
 -- may have written its act.
-use Rattle.history.proofs.Names.{inl, ◌≡◌, ◌≢◌, ℕ, ◌+◌, ◌-◌, ◌^◌, ◌%◌, ◌<◌, ◌==◌, Bool, true, false, cond, Option}
+use Rattle.history.proofs.Names.{inl, ◌≡◌, ℕ, ◌+◌, ◌^◌, ◌%◌, ◌<◌, ◌==◌, true, false, Option}
 use Rattle.history.proofs.Names.{Some, None, List, [], ◌∷◌, ◌++◌, get_or, slice_index, fold, refl, sym, ap, subst}
 use Rattle.history.proofs.Names.{◌∙◌, append_assoc, append-nil, arith, nat_tests, AllByRecursion, written, Ask}
-use Rattle.history.proofs.Names.{Exchange, After, GoOn, OneWord, Producer, after_position, distance, Answer}
-use Rattle.history.proofs.Names.{PoppedNone, PoppedIndex, Event, Published, HandedOut, Acted, Start, Queues, Flight}
-use Rattle.history.proofs.Names.{QueueStart, PushIndex, Effect, Quiet, Acts, Publishes, PublishesAndActs, HandsOut}
-use Rattle.history.proofs.Names.{TakesOut, MakesRoom, Coding, after_of, ask_of, popped, overflow_push_effect}
+use Rattle.history.proofs.Names.{Exchange, GoOn, OneWord, Producer, after_position, Answer}
+use Rattle.history.proofs.Names.{PoppedNone, Event, Acted, Start, Flight}
+use Rattle.history.proofs.Names.{QueueStart, PushIndex, Effect}
+use Rattle.history.proofs.Names.{Coding, after_of, ask_of, popped, overflow_push_effect}
 use Rattle.history.proofs.Names.{acts_if_done, Open, longer, own_after, old_of, World, Trace, stands_there}
 use Rattle.history.proofs.Names.{IsFreshOver, overflow_wrote, layout, free, answered, KeepsRule}
 use Rattle.steps.specs.declared.ask.Op.TheVariants.{Load, Store}
@@ -14,9 +14,9 @@ use Rattle.steps.specs.declared.ask.After.TheVariants.{Done}
 use Rattle.steps.specs.declared.ask.Want.TheVariants as wants
 use Rattle.steps.specs.declared.queues.overflow.Push.{Push as Pushing}
 use Rattle.steps.specs.declared.queues.overflow.PushEnd.{PushEnd}
-use Rattle.steps.specs.declared.queues.overflow.PushEnd.TheVariants.{Added, Own, Oldest}
+use Rattle.steps.specs.declared.queues.overflow.PushEnd.TheVariants.{Own}
 use Rattle.steps.specs.declared.queues.overflow.PushStage as pushes
-use Rattle.steps.specs.Queues.Overflow.{cell_word, first_push, at_push, push_asks, push_want, push_takes, push_after}
+use Rattle.steps.specs.Queues.Overflow.{cell_word, first_push, push_asks, push_want, push_takes, push_after}
 use Rattle.steps.specs.Queues.Overflow.{push_keeps, push_kept, push_answer}
 use Rattle.model.specs.declared.event.Item.TheVariants.{Index}
 use Rattle.model.specs.declared.families.queues.QueueKind as queues

@@ -3,14 +3,14 @@
 use Rattle.history.proofs.Names.{◌≡◌, inl, inr, ℕ, ◌+◌, ◌%◌, ◌<◌, ◌==◌, Bool, true, false, cond, Option, Some, None}
 use Rattle.history.proofs.Names.{List, [], ◌∷◌, ◌++◌, get_or, length, map, slice_index, refl, sym, ap, subst, ◌∙◌}
 use Rattle.history.proofs.Names.{append_assoc, append-nil, arith, nat_tests, length-map, fold-append, OneWord}
-use Rattle.history.proofs.Names.{Producer, Answer, PoppedNone, Event, Published, HandedOut, Acted, Item, Start}
-use Rattle.history.proofs.Names.{Queues, Flight, PushIndex, Pop, OnRole, Values, Length, Effect, Quiet, Acts}
+use Rattle.history.proofs.Names.{Producer, Answer, PoppedNone, Event, Published, Acted, Item, Start}
+use Rattle.history.proofs.Names.{Queues, Flight, PushIndex, Pop, OnRole, Values, Length, Effect, Quiet}
 use Rattle.history.proofs.Names.{Publishes, PublishesAndActs, HandsOut, TakesOut, MakesRoom, Going, Party, Coding}
-use Rattle.history.proofs.Names.{ask_of, beside_of, is_question, words_of_index, answer_in, producer_after}
+use Rattle.history.proofs.Names.{ask_of, beside_of, words_of_index, answer_in, producer_after}
 use Rattle.history.proofs.Names.{consumer_after, producer_of, consumer_of, waiting, overflow_push_effect}
 use Rattle.history.proofs.Names.{overflow_pop_effect, takes_effect, acts_if_done, party_of, Each, step_in, old_of}
 use Rattle.history.proofs.Names.{Trace, capacity_error, AreRight, Each-nil, stands_there, oldest, KnowsOverflowPush}
-use Rattle.history.proofs.Names.{KnowsOverflowPop, waiting_is, layout, free, admitted_fits}
+use Rattle.history.proofs.Names.{KnowsOverflowPop, waiting_is, layout, admitted_fits}
 use Rattle.steps.specs.declared.queues.overflow.Pop.{Pop as Popping}
 use Rattle.steps.specs.declared.queues.overflow.PushStage as pushes
 use Rattle.steps.specs.declared.routine.Running.{Running}
@@ -27,7 +27,7 @@ use Rattle.model.specs.Families.Queues.Steps.{effects_of}
 use Rattle.model.specs.World.{opening}
 use Rattle.model.proofs.Frame as frame
 use Rattle.laws_queues.proofs.Overflow.Waiting.{Pushing}
-use Rattle.laws_queues.proofs.Queues.Core.{Core, Good, word_at}
+use Rattle.laws_queues.proofs.Queues.Core.{Core, Good}
 use Rattle.laws_queues.proofs.Queues.Invariant.{family}
 use Rattle.laws_queues.proofs.Queues.Sound.{kept_is, opening_sound, fresh_laws, IsFreshTurn}
 use Rattle.history.specs.History.{IsRun, IsHistory}
@@ -202,7 +202,8 @@ module _ {T : Type 0} (c : ℕ) where
     over_right : (p n : ℕ) (start : Start T) (flight : Flight T)
         → (family en queues.TheVariants.Overflow c).At s.state p start flight → IsHanded t flight n
         → Right t.events (over_effects t.world p flight n)
-    over_right p n (Queues (PushIndex v)) (flights.TheVariants.Queues (Overflow (overflows.TheVariants.Push run))) at handed = grind (arith, push_right, after, push_effect_own, push_fits, its_waiting, its_read, its_cell, push_handed)
+    over_right p n (Queues (PushIndex v)) (flights.TheVariants.Queues (Overflow (overflows.TheVariants.Push run))) at handed =
+        grind (arith, push_right, after, push_effect_own, push_fits, its_waiting, its_read, its_cell, push_handed)
     over_right p n (Queues Pop) (flights.TheVariants.Queues (Overflow (overflows.TheVariants.Pop run))) at handed =
         pop_right t.world.words run.call.capacity p n (beside_of t.world.words t.world.kept t.world.latest p)
         run.call.stage (answer_in (after t.world.coding (Overflow (overflows.TheVariants.Pop run)) n)) t.events

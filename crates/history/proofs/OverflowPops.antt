@@ -1,10 +1,10 @@
 -- The pop of the overflowing queue as a call of the model. The value that it takes out is the one that it has read, for as
 -- long as the read position stays.
-use Rattle.history.proofs.Names.{inl, ◌≡◌, ◌≢◌, ℕ, ◌+◌, ◌^◌, ◌%◌, ◌<◌, ◌==◌, Bool, true, false, cond, Option, Some}
+use Rattle.history.proofs.Names.{inl, ◌≡◌, ◌≢◌, ℕ, ◌+◌, ◌^◌, ◌%◌, ◌<◌, ◌==◌, Bool, false, Option, Some}
 use Rattle.history.proofs.Names.{None, List, [], ◌∷◌, ◌++◌, get_or, length, slice_index, refl, sym, ap, subst, ◌∙◌}
-use Rattle.history.proofs.Names.{arith, nat_tests, Ask, Exchange, After, GoOn, OneWord, Consumer, after_position}
-use Rattle.history.proofs.Names.{Answer, PoppedIndex, Event, HandedOut, Acted, Item, Start, Queues, Flight, PushIndex}
-use Rattle.history.proofs.Names.{Pop, Acts, HandsOut, Coding, after_of, ask_of, beside_of, popped}
+use Rattle.history.proofs.Names.{arith, nat_tests, Ask, Exchange, GoOn, OneWord, Consumer, after_position}
+use Rattle.history.proofs.Names.{Answer, Event, HandedOut, Acted, Item, Start, Queues, Flight, PushIndex}
+use Rattle.history.proofs.Names.{Pop, Coding, after_of, ask_of, beside_of, popped}
 use Rattle.history.proofs.Names.{overflow_pop_effect, takes_effect, old_of, World, Trace, stands_there, oldest}
 use Rattle.history.proofs.Names.{KnowsOverflowPop, free, answered, KeepsRule}
 use Rattle.steps.specs.declared.ask.Op.TheVariants.{Load}
@@ -12,9 +12,8 @@ use Rattle.steps.specs.declared.ask.After.TheVariants.{Done}
 use Rattle.steps.specs.declared.ask.Want.TheVariants as wants
 use Rattle.steps.specs.declared.queues.overflow.Pop.{Pop as Popping}
 use Rattle.steps.specs.declared.queues.overflow.PopStage as pops
-use Rattle.steps.specs.Queues.Overflow.{cell_word, first_pop, at_pop, pop_asks, pop_want, pop_takes, pop_after}
+use Rattle.steps.specs.Queues.Overflow.{cell_word, first_pop, pop_asks, pop_want, pop_takes, pop_after}
 use Rattle.steps.specs.Queues.Overflow.{pop_keeps, pop_kept, pop_answer}
-use Rattle.model.specs.declared.event.Item.TheVariants.{Index}
 use Rattle.model.specs.declared.families.queues.QueueKind as queues
 use Rattle.model.specs.declared.turn.Kind.TheVariants as kinds
 use Rattle.model.specs.Families.Queues.Steps.{effects_of}
@@ -22,7 +21,7 @@ use Rattle.laws_queues.proofs.Queues.Core.{word_at}
 use Rattle.laws_queues.proofs.Queues.Invariant.{family}
 use Rattle.laws_queues.proofs.Queues.Sound.{kept_is}
 use Rattle.history.specs.declared.view.View.{View}
-use Rattle.history.specs.History.{IsMachine, call_in}
+use Rattle.history.specs.History.{IsMachine}
 use Rattle.history.specs.Known.{events_by}
 use Rattle.history.specs.Overflow.{HasPopWord, pops_over}
 use Rattle.history.specs.Queues.{pop_wrote}

@@ -15,7 +15,7 @@ use Rattle.history.proofs.AnyRoles.{wider}
 use Rattle.history.proofs.Drives.{IsCallIn, in_machine, keeps_all_in, keeps_sized}
 use Rattle.history.proofs.Overflows.{over_effects, overflow_owes}
 use Rattle.history.proofs.Passes.{opens}
-use Rattle.history.proofs.QueueRoles.{acquire_is_call, release_is_call, len_is_call}
+use Rattle.history.proofs.QueueRoles.{len_is_call}
 use Rattle.history.proofs.Queues.{queue_effects}
 
 module _ {T : Type 0} (code : Coding T) where

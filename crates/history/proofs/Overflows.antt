@@ -1,11 +1,11 @@
 -- What the overflowing queue owes, from the laws of the queues: a pop may write, for a push that waits, that it acts.
-use Rattle.history.proofs.Names.{◌≡◌, ◌≢◌, ⊎_elim, ℕ, ◌+◌, ◌==◌, Bool, true, false, cond, Option, Some, None, List}
-use Rattle.history.proofs.Names.{[], ◌∷◌, ◌++◌, length, slice_index, sum_by, refl, sym, ap, subst, ◌∙◌, append-nil}
-use Rattle.history.proofs.Names.{arith, cases_eq, Answer, PoppedNone, Event, Acted, Item, Start, Queues, Flight}
+use Rattle.history.proofs.Names.{◌≡◌, ◌≢◌, ℕ, ◌+◌, ◌==◌, Bool, true, false, cond, Option, Some, None, List}
+use Rattle.history.proofs.Names.{[], ◌∷◌, length, slice_index, sum_by, sym, ap, subst, ◌∙◌}
+use Rattle.history.proofs.Names.{arith, Answer, PoppedNone, Event, Acted, Item, Start, Queues, Flight}
 use Rattle.history.proofs.Names.{Registry, QueueStart, PushIndex, Pop, Roles, QueueFlight, OnRole, Values, Length}
-use Rattle.history.proofs.Names.{Effect, Quiet, Acts, Publishes, PublishesAndActs, HandsOut, TakesOut, MakesRoom}
+use Rattle.history.proofs.Names.{Effect, Quiet, Acts, HandsOut, MakesRoom}
 use Rattle.history.proofs.Names.{Party, Coding, step_of, beside_of, after_of, going_rows, read_word, holds, effect_of}
-use Rattle.history.proofs.Names.{pending, overflow_push_effect, overflow_pop_effect, takes_effect, acts_if_done}
+use Rattle.history.proofs.Names.{pending, overflow_push_effect, overflow_pop_effect, takes_effect}
 use Rattle.history.proofs.Names.{party_of, producer_of, whose, first_row, answer_in, World, Trace, stands_there}
 use Rattle.steps.specs.declared.queues.overflow.PushStage as pushes
 use Rattle.steps.specs.declared.queues.overflow.PopStage as pops
@@ -20,12 +20,11 @@ use Rattle.model.specs.Families.Queues.Steps.{effects_of}
 use Rattle.model.proofs.Frame as frame
 use Rattle.laws_queues.proofs.Queues.Core.{Core}
 use Rattle.laws_queues.proofs.Queues.Invariant.{family}
-use Rattle.laws_queues.proofs.Queues.Knows.{At}
 use Rattle.laws_queues.proofs.Queues.Sound.{kept_is}
 use Rattle.laws_queues.proofs.Overflow.Waiting.{pending_is, IsPending, Pushing}
-use Rattle.history.specs.History.{IsLate, IsLateFor, call_at, call_of, call_in}
+use Rattle.history.specs.History.{IsLate, call_at, call_of, call_in}
 use Rattle.history.specs.Known.{events_by, of_none}
-use Rattle.history.proofs.Known.{AreOf, by_mine, by_other, by_more, none_late}
+use Rattle.history.proofs.Known.{AreOf, by_other, none_late}
 use Rattle.history.proofs.Calls.{stands, IsStateless, goes_alike}
 use Rattle.history.proofs.Queues.{IsOf, sound_of, sized_so}
 use Rattle.history.proofs.Turns.{StepsOn, MachineLaws}
@@ -38,15 +37,8 @@ module _ {T : Type 0} where
   IsOwn (MakesRoom item q pushed) = ⊥
   IsOwn effect = Unit {0}
 
-  acts_own : (p : ℕ) (start : QueueStart T) (o : Option (Answer T)) → AreOf p (acts_if_done p start o)
-  acts_own p start None = tt
-  acts_own p start (Some answer) = (refl, tt)
-
   pub own_of_effect : (p : ℕ) (start : QueueStart T) (effect : Effect T) (o : Option (Answer T)) → IsOwn effect → AreOf p (effects_of p start effect o)
   own_of_effect x0 x1 x2 x3 x4 = grind arith
-
-  someone_of : (p : ℕ) (start : QueueStart T) (effect : Effect T) (o : Option (Answer T)) → sum_by (λ e. of_none (whose e)) (effects_of p start effect o) ≡ 0
-  someone_of x0 x1 x2 x3 = grind arith
 
   -- a pop that makes room writes as one that does not, and for the push its act
   pub room_by_other : (p q r : ℕ) (item : Item T) (pushed : ℕ) (o : Option (Answer T)) → r ≢ p
@@ -72,9 +64,6 @@ module _ {T : Type 0} where
   abbrev pub over_effects : World T → ℕ → Flight T → ℕ → List (Event T)
   over_effects w p (flights.TheVariants.Queues flight) n = over_flight_effects w p flight n
   over_effects w p flight n = []
-
-  someone_flight : (w : World T) (p : ℕ) (flight : QueueFlight T) (n : ℕ) → sum_by (λ e. of_none (whose e)) (over_flight_effects w p flight n) ≡ 0
-  someone_flight x0 x1 x2 x3 = grind arith
 
   someone : (w : World T) (p : ℕ) (flight : Flight T) (n : ℕ) → sum_by (λ e. of_none (whose e)) (over_effects w p flight n) ≡ 0
   someone x0 x1 x2 x3 = grind arith
@@ -103,12 +92,6 @@ module _ {T : Type 0} (code : Coding T) (capacity : ℕ) where
     pub goes : (step_of w.coding w.words (beside_of w.words w.kept w.latest p) p start flight n kept).after ≡ after_of w.coding flight n
 
   module _ (w : World T) (en : Coding T) (c p n : ℕ) (ro : Roles) (k : Core ℕ) where
-    writes_it : (start : QueueStart T) (flight : QueueFlight T) → At {T = T} en queues.TheVariants.Overflow c ro k p start flight
-        → (step_of w.coding w.words (beside_of w.words w.kept w.latest p) p (Queues start)
-        (flights.TheVariants.Queues flight) n (registries.TheVariants.Queues ro)).wrote
-        ≡ over_flight_effects w p flight n
-    writes_it x0 x1 x2 = grind arith
-
     pub facts : (start : Start T) (flight : Flight T) (kept : Registry T) → kept ≡ registries.TheVariants.Queues ro
         → (family en queues.TheVariants.Overflow c).At (record { roles = ro; core = k }) p start flight
         → Facts w p n start flight kept

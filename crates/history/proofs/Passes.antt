@@ -1,5 +1,5 @@
 -- How passes are made of one another, and the first, under the rule of a machine.
-use Rattle.history.proofs.Names.{◌≡◌, ◌≢◌, ◌⊎◌, inl, inr, ⊎_elim, ℕ, zero, suc, ◌+◌, ◌<◌, ◌≤◌, ◌==◌, true, false}
+use Rattle.history.proofs.Names.{◌≡◌, ◌≢◌, ◌⊎◌, inl, inr, ⊎_elim, ℕ, zero, suc, ◌+◌, ◌<◌, ◌≤◌, false}
 use Rattle.history.proofs.Names.{Option, Some, None, IfSome, List, [], ◌∷◌, ◌++◌, length, replicate, get_or, set}
 use Rattle.history.proofs.Names.{refl, sym, ap, subst, ◌∙◌, append_assoc, append-nil, arith, length-set, sum_by}
 use Rattle.history.proofs.Names.{Splits, Joins, at_set, Event, Kind, Coding, IsCoding, cases_eq, nat_tests}
@@ -9,7 +9,7 @@ use lib.ListN.{get_elem?}
 use Rattle.atomic_table.specs.Table.{State, opening}
 use Rattle.model.specs.World as worlds
 use Rattle.history.specs.declared.view.View.{View}
-use Rattle.history.specs.History.{IsBeginning, IsMachine, Fits, HasSeenOf, IsLate, call_in}
+use Rattle.history.specs.History.{IsBeginning, IsMachine, Fits, HasSeenOf, call_in}
 use Rattle.history.specs.Views.{first_view, left_view, right_view, joined_view, spent_view}
 use Rattle.history.specs.Known.{events_by}
 use Rattle.history.proofs.Reached.{reached_as_opening, fresh_as_opening}

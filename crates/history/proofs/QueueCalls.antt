@@ -1,8 +1,8 @@
 -- The pushes and pops of the index queue as calls of the model.
-use Rattle.history.proofs.Names.{inl, not, ◌≡◌, ◌≢◌, nat_lt, ℕ, ◌+◌, ◌-◌, ◌^◌, ◌%◌, ◌*◌, ◌<◌, ◌==◌, ◌||◌, cond, Bool}
-use Rattle.history.proofs.Names.{true, false, Option, Some, None, List, [], ◌∷◌, ◌++◌, refl, sym, ap, subst, ◌∙◌}
-use Rattle.history.proofs.Names.{arith, nat_tests, written, Ask, After, GoOn, OneWord, after_position, distance}
-use Rattle.history.proofs.Names.{Answer, Truth, Event, Published, HandedOut, Acted, Queues, Flight, PushIndex, Pop}
+use Rattle.history.proofs.Names.{inl, not, ◌≡◌, ℕ, ◌+◌, ◌^◌, ◌%◌, ◌*◌, ◌<◌, ◌==◌, Bool}
+use Rattle.history.proofs.Names.{true, false, Option, Some, None, [], ◌++◌, refl, ap, ◌∙◌}
+use Rattle.history.proofs.Names.{arith, nat_tests, written, Ask, After, GoOn, OneWord, after_position}
+use Rattle.history.proofs.Names.{Answer, Truth, Flight, PushIndex, Pop}
 use Rattle.history.proofs.Names.{Coding, after_of, words_of_index, popped, push_effect, pop_effect, answered}
 use Rattle.history.proofs.Names.{KeepsRule, IsFresh, Producer, Consumer, holds}
 use Rattle.steps.specs.declared.ask.Op.TheVariants.{Load, Store}
@@ -12,8 +12,8 @@ use Rattle.steps.specs.declared.queues.ring.Push.{Push}
 use Rattle.steps.specs.declared.queues.ring.PushStage as pushes
 use Rattle.steps.specs.declared.queues.ring.PopStage as pops
 use Rattle.steps.specs.Copied.{kept_in_one}
-use Rattle.steps.specs.Queues.Ring.{first_push, first_pop, cell_word, word_at, at_push, push_asks, push_want}
-use Rattle.steps.specs.Queues.Ring.{push_takes, push_after, at_pop, pop_asks, pop_want}
+use Rattle.steps.specs.Queues.Ring.{first_push, first_pop, cell_word, word_at, push_asks, push_want}
+use Rattle.steps.specs.Queues.Ring.{push_takes, push_after, pop_asks, pop_want}
 use Rattle.steps.specs.Queues.Ring.{pop_takes, pop_after, pop_kept, pop_keeps, pop_answer}
 use Rattle.model.specs.declared.event.Item.TheVariants.{Index}
 use Rattle.model.specs.Families.Queues.Steps.{effects_of}

@@ -1,11 +1,10 @@
 -- The calls on the roles and the lengths of the index queue as calls of the model.
-use Rattle.history.proofs.Names.{inl, if◌then◌else◌, ◌≡◌, ℕ, ◌+◌, ◌<◌, ◌==◌, Bool, true, false, Option, Some, None}
-use Rattle.history.proofs.Names.{[], ◌++◌, refl, sym, ap, subst, ◌∙◌, arith, Ask, Exchange, After, GoOn, Queues}
-use Rattle.history.proofs.Names.{Flight, Coding, after_of, first_of, opening_of, length_answer, answered, KeepsRule}
-use Rattle.history.proofs.Names.{number_waiting, first_len, at_len, len_asks, len_want, len_takes, len_after}
+use Rattle.history.proofs.Names.{inl, ◌≡◌, ℕ, ◌+◌, ◌<◌, Bool, false, Option, Some, None}
+use Rattle.history.proofs.Names.{[], refl, sym, arith, Ask, GoOn, Queues}
+use Rattle.history.proofs.Names.{Flight, Coding, after_of, first_of, opening_of, answered, KeepsRule}
+use Rattle.history.proofs.Names.{first_len, len_asks, len_want, len_takes, len_after}
 use Rattle.history.proofs.Names.{Producer, Consumer, Registry, Roles, LengthOf}
-use Rattle.steps.specs.declared.ask.Op.TheVariants.{Load, Store}
-use Rattle.steps.specs.declared.ask.After.TheVariants.{Done}
+use Rattle.steps.specs.declared.ask.Op.TheVariants.{Load}
 use Rattle.steps.specs.declared.ask.Want.TheVariants as wants
 use Rattle.history.specs.Stages.{Calling, At, Ends}
 use Rattle.model.specs.declared.turn.Kind.TheVariants as kinds
@@ -27,10 +26,6 @@ use Rattle.history.proofs.Queues.{queue_effects, index_owes, plain_starts, role_
 use Rattle.history.proofs.QueueCalls.{holds_it}
 
 -- ---- roles
-
-word_low : (role : Role) (capacity : ℕ) → role_word role < 4 + capacity
-word_low Producer capacity = omega arith
-word_low Consumer capacity = omega arith
 
 module _ {T : Type 0} (code : Coding T) (role : Role) where
   abbrev acquiring : Calling T AcquireRole (Unit {0}) Bool

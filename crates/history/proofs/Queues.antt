@@ -1,13 +1,11 @@
 -- What the bounded queues owe, from the laws of the queues, and which party may begin a call on a queue.
 use Rattle.history.proofs.Names.{◌≡◌, ℕ, ◌+◌, ◌*◌, false, Option, Some, None, IfSome, List, [], length, sum_by, fold}
-use Rattle.history.proofs.Names.{refl, sym, ap, subst, ◌∙◌, arith, Answer, Event, Item, Start, Queues, Flight}
-use Rattle.history.proofs.Names.{Registry, QueueKind, QueueStart, PushIndex, Pop, Roles, QueueFlight, OnRole, Values}
-use Rattle.history.proofs.Names.{Length, Party, Coding, first_of, step_of, beside_of, after_of, going_rows, read_in}
-use Rattle.history.proofs.Names.{cells_of, words_of_cell, IsKeptBy, Producer, Consumer, push_effect, pop_effect}
-use Rattle.history.proofs.Names.{acts_if_done, party_of, first_row, answer_in, Step, Trace, stands_there}
+use Rattle.history.proofs.Names.{refl, sym, ap, subst, ◌∙◌, arith, Event, Start, Queues, Flight}
+use Rattle.history.proofs.Names.{Registry, QueueKind, QueueStart, PushIndex, Pop, Roles, QueueFlight, Values}
+use Rattle.history.proofs.Names.{Party, Coding, first_of, step_of, beside_of, after_of, going_rows, read_in}
+use Rattle.history.proofs.Names.{cells_of, words_of_cell, IsKeptBy, push_effect, pop_effect}
+use Rattle.history.proofs.Names.{party_of, first_row, answer_in, Step, Trace, stands_there}
 use Rattle.history.proofs.Names.{machine_kind, promised_by, free, Val, encoded, Ring, of_indices, of_values, kind_of}
-use Rattle.steps.specs.declared.queues.ring.PushStage as pushes
-use Rattle.steps.specs.declared.queues.ring.PopStage as pops
 use Rattle.model.specs.declared.event.Item.TheVariants.{Index, Value}
 use Rattle.model.specs.declared.families.Flight as flights
 use Rattle.model.specs.declared.families.Registry as registries
@@ -15,7 +13,7 @@ use Rattle.model.specs.declared.families.queues.QueueKind as queues
 use Rattle.model.specs.declared.families.queues.QueueKind.TheVariants.{IndexQueue}
 use Rattle.model.specs.declared.families.queues.QueueStart.TheVariants.{Push}
 use Rattle.model.specs.declared.families.queues.calls.RingCall as rings
-use Rattle.model.specs.declared.families.queues.calls.QueueFlight.TheVariants.{Indices, Overflow}
+use Rattle.model.specs.declared.families.queues.calls.QueueFlight.TheVariants.{Indices}
 use Rattle.model.specs.declared.turn.Kind as kinds
 use Rattle.model.specs.Families.Queues.Calls.{after}
 use Rattle.model.specs.Families.Queues.Opening.{lacks_role, kept_rows}
@@ -24,10 +22,8 @@ use Rattle.model.specs.Families.Queues.Roles.{KeepsHolders}
 use Rattle.steps.specs.declared.queues.roles.Role.{Role}
 use Rattle.model.specs.Families.Queues.Steps.{effects_of}
 use Rattle.model.proofs.Frame as frame
-use Rattle.laws_queues.proofs.Queues.Core.{Core}
 use Rattle.laws_queues.proofs.Queues.Invariant.{Queue, family}
 use Rattle.laws_queues.proofs.Queues.Kept.{kept_on}
-use Rattle.laws_queues.proofs.Queues.Knows.{At}
 use Rattle.laws_queues.proofs.Queues.Sound.{kept_is, sound_on}
 use Rattle.history.specs.declared.view.View.{View}
 use Rattle.history.specs.Known.{owned}
@@ -66,17 +62,6 @@ module _ {T : Type 0} (code : Coding T) where
 
   -- ---- they are events of its party
 
-  acts_own : (p : ℕ) (start : QueueStart T) (o : Option (Answer T)) → AreOf p (acts_if_done p start o)
-  acts_own p start None = tt
-  acts_own p start (Some answer) = (refl, tt)
-
-  push_own : (p : ℕ) (start : QueueStart T) (item : Item T) (stage : pushes.PushStage) (o : Option (Answer T))
-      → AreOf p (effects_of p start (push_effect item stage) o)
-  push_own x0 x1 x2 x3 x4 = grind arith
-
-  pop_own : (p : ℕ) (item : Item T) (stage : pops.PopStage) (o : Option (Answer T)) → AreOf p (effects_of p Pop (pop_effect item stage) o)
-  pop_own x0 x1 x2 x3 = grind arith
-
   effects_own : (p : ℕ) (flight : Flight T) (n : ℕ) → AreOf p (queue_effects p flight n)
   effects_own x0 x1 x2 = grind arith
 
@@ -85,10 +70,6 @@ module _ {T : Type 0} (code : Coding T) where
   module _ (words : List ℕ) (waits : Option (ℕ × ℕ)) (c p n : ℕ) (ro : Roles) where
     abbrev step_now : QueueStart T → QueueFlight T → Step (Flight T) (Registry T) T
     step_now start flight = step_of code words waits p (Queues start) (flights.TheVariants.Queues flight) n (registries.TheVariants.Queues ro)
-
-    writes_it : (r : Ring) (k : Core (Val T (kind_of r))) (start : QueueStart T) (flight : QueueFlight T)
-        → At {T = T} code (kind_of r) c ro k p start flight → (step_now start flight).wrote ≡ ring_effects p flight n
-    writes_it x0 x1 x2 x3 x4 = grind arith
 
 -- ---- of a queue of any kind
 

@@ -1,16 +1,14 @@
 -- How machines are reached, by kind: one turn more, and what is so of each kind but the two on owners.
 use Rattle.std.proofs.Common.{arith}
-use Rattle.history.proofs.Names.{Bool, true, is_none, ◌≡◌, ℕ, Some, None, [], ◌∷◌, refl, sym, subst, Start, Container}
-use Rattle.history.proofs.Names.{Flight, Registry, QueueKind, Kind, WrongCall, Turn, Begin, Next, Decide, Coding}
-use Rattle.history.proofs.Names.{IsCoding, first_of, begin_rows, want_of, is_question, call_refusal, first_row}
+use Rattle.history.proofs.Names.{Bool, true, ◌≡◌, ℕ, Some, None, Start}
+use Rattle.history.proofs.Names.{Flight, Registry, QueueKind, Kind, Turn, Next, Decide, Coding}
+use Rattle.history.proofs.Names.{IsCoding, begin_rows, want_of, is_question, call_refusal, first_row}
 use Rattle.history.proofs.Names.{IsReachedOn, after_turn, World, Trace, capacity_error, flight_in, reached_on_more}
-use Rattle.history.proofs.Names.{reached_on_opening, row_passed, machine_kind, fresh_more, fresh_opening}
-use Rattle.model.specs.declared.families.container.ContainerStart.TheVariants.{Recover}
-use Rattle.model.specs.declared.families.queues.QueueKind as queues
+use Rattle.history.proofs.Names.{machine_kind, fresh_more}
 use Rattle.model.specs.declared.turn.Kind.TheVariants as kinds
 use Rattle.model.specs.World.{opening}
 use Rattle.laws_queues.specs.Fresh.{IsFreshTurn, IsFreshRun}
-use Rattle.laws_robust.proofs.OpenRuns.{reached_open_more, reached_open_opening}
+use Rattle.laws_robust.proofs.OpenRuns.{reached_open_more}
 use Rattle.history.specs.History.{IsReachedAs, IsFreshAs, IsRun, refusal_as}
 use Rattle.history.specs.Stages.{rows_as}
 
@@ -27,19 +25,6 @@ module _ {T : Type 0} where
   pub rows_free : (kind : Kind) (capacity : ℕ) (kept : Registry T) (p : ℕ) (start : Start T) → first_row (begin_rows kind capacity kept p start) ≡ None
       → first_row (rows_as kind capacity kept p start) ≡ None
   rows_free x0 x1 x2 x3 x4 x5 = grind arith
-
-  -- a party with no call under way begins one that those do not refuse
-  begin_free : (w : World T) (p : ℕ) (start : Start T) → flight_in w p ≡ None → first_row (begin_rows w.kind w.capacity w.kept p start) ≡ None
-      → call_refusal w (Begin p start) ≡ None
-  begin_free w p start free rows = rw free rows
-
-  at_kind : (kind : Kind) (w : World T) (p : ℕ) (start : Start T) → w.kind ≡ kind → first_row (begin_rows kind w.capacity w.kept p start) ≡ None
-      → first_row (begin_rows w.kind w.capacity w.kept p start) ≡ None
-  at_kind x0 x1 x2 x3 x4 x5 = grind arith
-
-  pub begin_as : (kind : Kind) (w : World T) (p : ℕ) (start : Start T) → w.kind ≡ kind → flight_in w p ≡ None
-      → first_row (rows_as kind w.capacity w.kept p start) ≡ None → refusal_as kind w (Begin p start) ≡ None
-  begin_as x0 x1 x2 x3 x4 x5 x6 = grind arith
 
   -- a step is refused alike
   pub next_as : (kind : Kind) (w : World T) (p : ℕ) → call_refusal w (Next p) ≡ None → refusal_as kind w (Next p) ≡ None
@@ -71,19 +56,10 @@ module _ {T : Type 0} where
 
   -- ---- each kind but the two on owners
 
-  pub reached_as_on : (kind : Kind) → (MayDecide kind → ⊥) → (t : Trace T) → IsReachedAs kind t → IsReachedOn t
-  reached_as_on x0 x1 x2 x3 = grind arith
-
-  fresh_as_on : (kind : Kind) → (MayDecide kind → ⊥) → (t : Trace T) → IsFreshAs kind t → IsFreshRun t
-  fresh_as_on x0 x1 x2 x3 = grind arith
-
   -- a run of a machine as its own laws have it
   pub record IsRunOn (t : Trace T) : Type 0 where
     pub reached : IsReachedOn t
     pub fresh : IsFreshRun t
-
-no_queue : (kd : QueueKind) → MayDecide (machine_kind kd) → ⊥
-no_queue x0 x1 = grind arith
 
 -- so it is of a queue of any kind
 pub queue_run : {T : Type 0} (code : Coding T) (capacity : ℕ) (kd : QueueKind) (t : Trace T) → IsRun code (machine_kind kd) capacity t → IsRunOn t

@@ -1,11 +1,11 @@
 -- The stages of a container's recovery: what each asks for, where it goes on, and what it has written then.
-use Rattle.history.proofs.Names.{◌≡◌, ℕ, ◌+◌, ◌<◌, ◌≤◌, ◌==◌, nat_lt, Bool, true, false, Option, Some, None, List, []}
-use Rattle.history.proofs.Names.{◌∷◌, ◌++◌, if◌then◌else◌, append_assoc, append-nil, refl, sym, ap, subst, ◌∙◌, arith}
-use Rattle.history.proofs.Names.{nat_tests, is_even, total_words, goes_to, recover_sees, locked, raise_want}
-use Rattle.history.proofs.Names.{raise_after, first_lock, lock_want, lock_after, by_test, Ask, After, GoOn, DeadOwner}
-use Rattle.history.proofs.Names.{ReleaseMode, LockIfLastIndex, Default, ReleaseState, Lock, Raise, Event, FreedOf}
-use Rattle.history.proofs.Names.{Asked, Hidden, Copied, Shown, Coding, is_question, hidden, question_of}
-use Rattle.history.proofs.Names.{raise_asks_none, lock_asks_none, data_within, answered}
+use Rattle.history.proofs.Names.{◌≡◌, ℕ, ◌+◌, ◌<◌, ◌≤◌, ◌==◌, Bool, true, false, Option, Some, None, List, []}
+use Rattle.history.proofs.Names.{◌∷◌, ◌++◌, if◌then◌else◌, append_assoc, append-nil, refl, sym, ap, ◌∙◌, arith}
+use Rattle.history.proofs.Names.{nat_tests, is_even, total_words, goes_to, recover_sees, locked}
+use Rattle.history.proofs.Names.{first_lock, by_test, Ask, After, GoOn, DeadOwner}
+use Rattle.history.proofs.Names.{ReleaseMode, LockIfLastIndex, ReleaseState, Lock, Raise, Event, FreedOf}
+use Rattle.history.proofs.Names.{Shown, Coding, is_question, hidden, question_of}
+use Rattle.history.proofs.Names.{data_within, answered}
 use Rattle.steps.specs.Container.Recover.{recover_asks, recover_want, recover_comes_to, recover_raised}
 use Rattle.steps.specs.Container.Recover.{recover_locked, recover_takes}
 use Rattle.steps.specs.declared.ask.After.TheVariants.{Done}
@@ -13,20 +13,17 @@ use Rattle.steps.specs.declared.ask.Want.TheVariants as wants
 use Rattle.steps.specs.declared.container.recover.Recover.{Recover as Recovering}
 use Rattle.steps.specs.declared.container.recover.RecoverStage.{RecoverStage}
 use Rattle.steps.specs.declared.container.recover.RecoverStage.TheVariants as recovers
-use Rattle.steps.specs.declared.indices.enums.ReleaseState.TheVariants as states
 use Rattle.steps.specs.declared.indices.robust.parts.Lock.TheVariants as locks
 use Rattle.steps.specs.declared.indices.robust.parts.Raise.TheVariants as raises
 use Rattle.model.specs.declared.event.Event.TheVariants.{Told, Locked}
 use Rattle.model.specs.Families.Container.Steps.{recover_effects}
-use Rattle.history.specs.Container.{when}
-use Rattle.history.specs.ContainerRecovery.{RecoverIn, Came, HasAsked, HasFound, HasFreed, wrote_found, wrote_of}
+use Rattle.history.specs.ContainerRecovery.{RecoverIn, Came, HasAsked, HasFound, HasFreed, wrote_of}
 use Rattle.history.specs.ContainerRecovery.{wrote_visits, with_last, told, freed, hides, came_locked, seen_under}
 use Rattle.history.specs.ContainerRecovery.{visits_after, IsToFree, IsFreed, VisitsAt, told_yet, recovers_values}
 use Rattle.history.proofs.CallsIn.{by_bool, AsksFor}
 use Rattle.history.proofs.ContainerCalls.{set_words, change_low, count_low}
 use Rattle.history.proofs.Containers.{fewer}
-use Rattle.history.proofs.Drives.{goes}
-use Rattle.history.proofs.RobustParts.{found_of, raise_found, lock_found, raise_asks, lock_asks, LockOn, lock_on}
+use Rattle.history.proofs.RobustParts.{raise_asks, lock_asks, LockOn, lock_on}
 
 -- ---- what it asks for
 

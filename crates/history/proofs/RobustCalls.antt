@@ -1,33 +1,29 @@
 -- That an acquire and a release of the robust index set, and its looks, are calls of the model.
-use Rattle.history.proofs.Names.{◌≡◌, inl, inr, ℕ, ◌+◌, ◌<◌, ◌==◌, nat_lt, nat_le, Bool, true, false, None, List, []}
-use Rattle.history.proofs.Names.{◌∷◌, ◌++◌, refl, sym, ap, subst, ◌∙◌, arith, nat_tests, first_borrowed}
-use Rattle.history.proofs.Names.{borrowed_want, borrowed_counted, empty, locked, greatest, raise_after, count_after}
-use Rattle.history.proofs.Names.{lock_after, Released, release_raised, release_locked, by_test, load, went_on, Ask}
-use Rattle.history.proofs.Names.{After, GoOn, ReleaseMode, LockIfLastIndex, Default, ReleaseState, AcquireStage}
-use Rattle.history.proofs.Names.{Count, Lock, Raise, GiveBack, ReleaseStage, Answer, Number, Event, Filled, FreedOf}
-use Rattle.history.proofs.Names.{Coding, granted, acquire_effects, release_effects, as_it_is, as_call, answered}
+use Rattle.history.proofs.Names.{◌≡◌, inl, ℕ, ◌+◌, ◌<◌, nat_lt, nat_le, true, false, None, List, []}
+use Rattle.history.proofs.Names.{◌∷◌, ◌++◌, refl, arith, nat_tests, first_borrowed}
+use Rattle.history.proofs.Names.{borrowed_want, borrowed_counted, empty, count_after}
+use Rattle.history.proofs.Names.{Released, release_raised, load, went_on, Ask}
+use Rattle.history.proofs.Names.{After, GoOn, ReleaseMode, ReleaseState, AcquireStage}
+use Rattle.history.proofs.Names.{Count, Raise, GiveBack, ReleaseStage, Answer, Number, Event, FreedOf}
+use Rattle.history.proofs.Names.{Coding, acquire_effects, release_effects, as_it_is, as_call, answered}
 use Rattle.history.proofs.Names.{KeepsRule}
-use Rattle.steps.specs.Indices.Robust.Acquire.{Acquired, first_acquire, at_acquire, acquire_asks, acquire_want}
-use Rattle.steps.specs.Indices.Robust.Acquire.{acquire_tries, acquire_sees, acquire_raised, acquire_takes}
+use Rattle.steps.specs.Indices.Robust.Acquire.{Acquired, first_acquire, acquire_asks, acquire_want}
+use Rattle.steps.specs.Indices.Robust.Acquire.{acquire_tries, acquire_sees}
 use Rattle.steps.specs.Indices.Robust.Acquire.{acquire_after}
 use Rattle.steps.specs.Indices.Robust.Looks.{borrowed_after, locked_after}
 use Rattle.steps.specs.Indices.Robust.Release.{first_release, release_asks, release_want}
 use Rattle.steps.specs.Indices.Robust.Release.{release_takes, release_after}
 use Rattle.steps.specs.declared.ask.After.TheVariants.{Done}
 use Rattle.steps.specs.declared.ask.Want.TheVariants as wants
-use Rattle.steps.specs.declared.indices.enums.ReleaseState.TheVariants as states
 use Rattle.steps.specs.declared.indices.robust.acquire.Acquire.{Acquire as Acquiring}
 use Rattle.steps.specs.declared.indices.robust.acquire.AcquireStage.TheVariants as acquires
 use Rattle.steps.specs.declared.indices.robust.looks.BorrowedIndices.{BorrowedIndices as Counting}
 use Rattle.steps.specs.declared.indices.robust.looks.IsLocked.{IsLocked as Looking}
 use Rattle.steps.specs.declared.indices.robust.parts.Counted.{Counted}
-use Rattle.steps.specs.declared.indices.robust.parts.Counted.TheVariants as ends
-use Rattle.steps.specs.declared.indices.robust.parts.Lock.TheVariants as locks
 use Rattle.steps.specs.declared.indices.robust.release.Release.{Release as Releasing}
 use Rattle.steps.specs.declared.indices.robust.release.ReleaseStage.TheVariants as releases
 use Rattle.model.specs.declared.families.Flight.TheVariants as flights
-use Rattle.model.specs.declared.families.indices.robust.RobustStart.TheVariants.{Acquire, Release, BorrowedIndices}
-use Rattle.model.specs.declared.families.indices.robust.RobustStart.TheVariants.{IsLocked}
+use Rattle.model.specs.declared.families.indices.robust.RobustStart.TheVariants.{Acquire, Release}
 use Rattle.model.specs.declared.families.indices.robust.calls.RobustFlight.TheVariants as calls
 use Rattle.model.specs.declared.turn.Kind.TheVariants as kinds
 use Rattle.model.specs.Families.Indices.Robust.Calls.{acquire_answer, release_answer}
@@ -37,7 +33,7 @@ use Rattle.history.specs.Robust.{AcquireIn, ReleaseIn, filled_at, AcquireWrote, 
 use Rattle.history.specs.Stages.{At, Ends}
 use Rattle.history.proofs.CallsIn.{AsksFor}
 use Rattle.history.proofs.Drives.{IsCallOf, goes, keeps_all}
-use Rattle.history.proofs.RobustParts.{found_of, raise_found, count_found, lock_found, raise_asks, count_asks, lock_asks, LockOn, count_on, lock_on, CountOn}
+use Rattle.history.proofs.RobustParts.{count_found, raise_asks, count_asks, lock_asks, count_on, CountOn}
 use Rattle.history.proofs.Robusts.{robust_effects, cells_and_counter, robusts_owe, robust_starts}
 
 -- ---- acquire
@@ -62,10 +58,6 @@ module _ (T : Type 0) (capacity : ℕ) (c : Acquiring) (same : c.capacity ≡ ca
 
   sees : (k : ℕ) → AcquireGoes [] (acquire_sees c k)
   sees x0 = grind arith
-
-  pub takes_so : (stage : AcquireStage) (k : ℕ) → AcquireIn capacity stage
-      → AcquireGoes (filled_at p owner stage ++ acquire_effects p owner stage k) (acquire_takes c stage k)
-  takes_so x0 x1 x2 = grind arith
 
 module _ {T : Type 0} (code : Coding T) (owner : ℕ) where
   as_taken : (r : After Acquiring Acquired) → as_call flights.Robust (λ answer. answer)
@@ -124,9 +116,6 @@ module _ (T : Type 0) (capacity : ℕ) (c : Releasing) (same : c.capacity ≡ ca
 
   raised : (mode : ReleaseMode) → given.mode ≡ mode → (r : After Raise ReleaseState) → ReleaseGoes freed_it (release_raised c mode r)
   raised x0 x1 x2 = grind arith
-
-  locked_so : given.mode ≡ LockIfLastIndex → (r : After Lock ReleaseState) → LockOn capacity r → ReleaseGoes freed_it (release_locked c r)
-  locked_so x0 x1 x2 = grind arith
 
   pub gives_so : (stage : ReleaseStage) (k : ℕ) → ReleaseIn capacity given.mode stage
       → ReleaseGoes (freed_at p given stage ++ release_effects p given stage k) (release_takes c stage given k)

@@ -1,13 +1,12 @@
 -- The parts of the calls on robust index sets, raise, count and lock: the words that they ask for, and where they go on.
-use Rattle.history.proofs.Names.{◌≡◌, ℕ, ◌+◌, ◌<◌, ◌==◌, ◌&&◌, nat_lt, not, refl, sym, ap, ◌∙◌, arith, nat_tests}
-use Rattle.history.proofs.Names.{locked, greatest, raise_want, count_want, count_comes_to, count_after, lock_want}
-use Rattle.history.proofs.Names.{lock_counted, lock_after, by_test, Ask, After, GoOn, Want, ReleaseState, Count, Lock}
+use Rattle.history.proofs.Names.{◌≡◌, ℕ, ◌+◌, ◌<◌, refl, arith}
+use Rattle.history.proofs.Names.{raise_want, count_want, count_after, lock_want}
+use Rattle.history.proofs.Names.{lock_after, Ask, After, GoOn, ReleaseState, Count, Lock}
 use Rattle.history.proofs.Names.{Raise, answered}
 use Rattle.steps.specs.declared.ask.After.TheVariants.{Done}
 use Rattle.steps.specs.declared.ask.Want.TheVariants as wants
 use Rattle.steps.specs.declared.indices.robust.parts.Count.TheVariants as counts
 use Rattle.steps.specs.declared.indices.robust.parts.Counted.{Counted}
-use Rattle.steps.specs.declared.indices.robust.parts.Counted.TheVariants as ends
 use Rattle.steps.specs.declared.indices.robust.parts.Lock.TheVariants as locks
 use Rattle.steps.specs.declared.indices.robust.parts.Raise.TheVariants as raises
 use Rattle.history.specs.Robust.{CountIn, LockIn}
@@ -15,17 +14,8 @@ use Rattle.history.proofs.CallsIn.{AsksFor}
 
 -- ---- an ask that is no store is answered by what was found
 
-pub found_of : (b a : Ask) (n : ℕ) → answered b.op n ≡ n → ◌≡◌ {A = Want (Unit {0})} (wants.Ask b) (wants.Ask a) → answered a.op n ≡ n
-found_of x0 x1 x2 x3 x4 = grind arith
-
-pub raise_found : (raise : Raise) (a : Ask) (n : ℕ) → raise_want raise ≡ wants.Ask a → answered a.op n ≡ n
-raise_found x0 x1 x2 x3 = grind arith
-
 pub count_found : (count : Count) (a : Ask) (n : ℕ) → count_want count ≡ wants.Ask a → answered a.op n ≡ n
 count_found x0 x1 x2 x3 = grind arith
-
-pub lock_found : (lock : Lock) (a : Ask) (n : ℕ) → lock_want lock ≡ wants.Ask a → answered a.op n ≡ n
-lock_found x0 x1 x2 x3 = grind arith
 
 -- ---- the words
 
@@ -54,14 +44,8 @@ module _ (capacity : ℕ) where
   LockOn (Done e) = Unit {0}
 
   module _ (cap : ℕ) (same : cap ≡ capacity) where
-    comes_on : (counter index filled : ℕ) → CountOn (count_comes_to cap counter index filled)
-    comes_on x0 x1 x2 = grind arith
-
     pub count_on : (count : Count) (k : ℕ) → CountOn (count_after cap count k)
     count_on x0 x1 = grind arith
-
-    counted_on : (r : After Count Counted) → CountOn r → LockOn (lock_counted r)
-    counted_on x0 x1 = grind arith
 
     pub lock_on : (lock : Lock) (k : ℕ) → LockOn (lock_after cap lock k)
     lock_on x0 x1 = grind arith

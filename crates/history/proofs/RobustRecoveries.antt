@@ -1,12 +1,12 @@
 -- That a recovery of the robust index set is a call of the model, which puts questions.
-use Rattle.history.proofs.Names.{◌≡◌, inl, inr, ℕ, ◌+◌, ◌<◌, ◌≤◌, ◌==◌, nat_lt, Bool, true, false, Option, Some, None}
+use Rattle.history.proofs.Names.{◌≡◌, inl, inr, ℕ, ◌+◌, ◌<◌, ◌≤◌, ◌==◌, Bool, true, false, Option, Some, None}
 use Rattle.history.proofs.Names.{List, [], ◌∷◌, ◌++◌, append_assoc, append-nil, refl, sym, ap, subst, ◌∙◌, arith}
-use Rattle.history.proofs.Names.{nat_tests, empty, locked, raise_want, raise_after, lock_want, lock_after, by_test}
+use Rattle.history.proofs.Names.{nat_tests, empty, locked, raise_after, lock_after, by_test}
 use Rattle.history.proofs.Names.{went_on, Ask, After, GoOn, Want, ReleaseMode, LockIfLastIndex, Default, ReleaseState}
-use Rattle.history.proofs.Names.{Lock, Raise, Answer, Event, Begun, FreedOf, Asked, Start, Flight, Coding}
+use Rattle.history.proofs.Names.{Lock, Raise, Answer, Event, Begun, FreedOf, Flight, Coding}
 use Rattle.history.proofs.Names.{is_question, as_it_is, as_call, number_of, raise_asks_none, lock_asks_none, answered}
 use Rattle.history.proofs.Names.{Owes, NextKnown, ToldOf, KeepsRule}
-use Rattle.steps.specs.Indices.Robust.Recover.{first_recover, at_recover, recover_asks, recover_want}
+use Rattle.steps.specs.Indices.Robust.Recover.{first_recover, recover_asks, recover_want}
 use Rattle.steps.specs.Indices.Robust.Recover.{recover_comes_to}
 use Rattle.steps.specs.Indices.Robust.Recover.{recover_raised, recover_locked, recover_takes, recover_after}
 use Rattle.steps.specs.declared.ask.After.TheVariants.{Done}
@@ -31,9 +31,9 @@ use Rattle.history.specs.Robust.{came_to, HasCome, VisitsAt, visits_locked, visi
 use Rattle.history.specs.Robust.{wrote_now, recovers_owned}
 use Rattle.history.specs.Stages.{opened, IsFirst, IsUnderWay, Ends, AtAsked}
 use Rattle.history.proofs.CallsIn.{AsksFor}
-use Rattle.history.proofs.Decisions.{IsAskingOf, keeps_asked, hears_answer}
+use Rattle.history.proofs.Decisions.{IsAskingOf, keeps_asked}
 use Rattle.history.proofs.Drives.{goes, all_kept_laws, acts_alone}
-use Rattle.history.proofs.RobustParts.{found_of, raise_found, lock_found, raise_asks, lock_asks, LockOn, lock_on}
+use Rattle.history.proofs.RobustParts.{LockOn, lock_on}
 use Rattle.history.proofs.RobustVisits.{same_before, none_yet, wider, one_more, came_past, comes_on, wrote_last, wrote_on, same_visits}
 use Rattle.history.proofs.Robusts.{robust_effects, cells_and_counter, robusts_owe, robust_starts}
 

@@ -1,6 +1,6 @@
 -- The lists of a recovery's visits: that they ascend, what was written of them, and that this tells what they are.
 use Rattle.history.proofs.Names.{◌≡◌, ℕ, ◌+◌, ◌<◌, ◌≤◌, List, [], ◌∷◌, ◌++◌, fold, append_assoc, append-nil, refl}
-use Rattle.history.proofs.Names.{sym, ap, subst, ◌∙◌, arith, All-nil, All-push, All-weaker, fold-append, ReleaseMode}
+use Rattle.history.proofs.Names.{sym, ap, subst, ◌∙◌, arith, All-push, All-weaker, fold-append, ReleaseMode}
 use Rattle.history.proofs.Names.{Event, Begun, FreedOf, Asked, Start}
 use Rattle.std.proofs.lemmas.List.Concat.{flat_map-append}
 use Rattle.std.proofs.lemmas.List.Quantifiers.{all_pairs_push}

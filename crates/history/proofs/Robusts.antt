@@ -1,9 +1,9 @@
 -- What the robust index set owes, from the laws of its open runs, and which party may begin a call on it.
 use Rattle.std.proofs.Common.{arith}
 use Rattle.history.proofs.Names.{◌≡◌, ℕ, ◌+◌, false, Option, Some, None, is_none, IfSome, List, [], length, sum_by}
-use Rattle.history.proofs.Names.{refl, sym, ap, subst, ◌∙◌, Event, Start, Flight, Registry, Party, Coding, first_of}
+use Rattle.history.proofs.Names.{sym, ap, subst, ◌∙◌, Event, Start, Flight, Registry, Party, Coding, first_of}
 use Rattle.history.proofs.Names.{begin_rows, step_of, beside_of, after_of, going_rows, has_died, SetAct, set_acts_of}
-use Rattle.history.proofs.Names.{whose, first_row, step_in, Trace, stands_there, Word, IsOpenSet, AllLive}
+use Rattle.history.proofs.Names.{first_row, step_in, Trace, stands_there, Word, IsOpenSet, AllLive}
 use Rattle.model.specs.declared.event.Start.TheVariants.{Robust}
 use Rattle.model.specs.declared.families.Flight as flights
 use Rattle.model.specs.declared.families.Registry as registries
@@ -17,7 +17,6 @@ use Rattle.laws_robust.proofs.Living.{has_not_died, step_is_free}
 use Rattle.laws_robust.proofs.OpenRuns.{reached_open_sound, reached_open_lives, reached_open_kept}
 use Rattle.laws_robust.proofs.Sound.{kept_is}
 use Rattle.laws_robust.proofs.Wide.{reached_open_wide}
-use Rattle.laws_robust.proofs.Written.{effects_hold}
 use Rattle.history.specs.declared.view.View.{View}
 use Rattle.history.specs.History.{IsRun, call_in}
 use Rattle.history.specs.Known.{owned}

@@ -1,16 +1,15 @@
 -- Which party holds a role that a pass holds: one of its own.
 use Rattle.std.proofs.Common.{arith}
 use Rattle.history.proofs.Names.{◌≡◌, ◌≤◌, ℕ, ◌+◌, true, Option, Some, None, is_none, List, refl, sym, sum_by, fold}
-use Rattle.history.proofs.Names.{Producer, Consumer, Answer, Truth, Event, Finished, Queues, AcquireConsumer}
-use Rattle.history.proofs.Names.{ReleaseConsumer, producer_of, consumer_of, Each}
+use Rattle.history.proofs.Names.{Answer, Truth, Event}
+use Rattle.history.proofs.Names.{Each}
 use Rattle.steps.specs.declared.queues.roles.Role.{Role}
-use Rattle.model.specs.declared.families.queues.QueueStart.TheVariants.{AcquireProducer, ReleaseProducer}
 use Rattle.model.specs.Families.Queues.Roles.{GrantsRight}
 use Rattle.history.specs.declared.view.View.{View}
 use Rattle.history.specs.History.{IsOfParties}
 use Rattle.history.specs.Known.{owned}
 use Rattle.history.specs.Roles.{takes, gives, role_after, HasRole}
-use Rattle.history.proofs.Ledger.{Moves, still, taken, given, held_by_one, at_most}
+use Rattle.history.proofs.Ledger.{Moves, held_by_one, at_most}
 
 nobody : (o : Option ℕ) → is_none o ≡ true → o ≡ None
 nobody None e = refl

@@ -1,9 +1,8 @@
 -- A room of fewer words than the model's goes on as one of the model.
-use Rattle.history.proofs.Names.{◌≡◌, ℕ, zero, suc, ◌+◌, ◌-◌, ◌<◌, ◌≤◌, nat_lt, Bool, true, false, List, ◌∷◌, ◌++◌}
-use Rattle.history.proofs.Names.{length, set, replicate, refl, sym, ap, ◌∙◌, arith, length-set, nat_tests}
+use Rattle.history.proofs.Names.{◌≡◌, ℕ, zero, suc, ◌+◌, ◌<◌, ◌≤◌, nat_lt, Bool, false, List, ◌∷◌, ◌++◌}
+use Rattle.history.proofs.Names.{length, set, replicate, refl, ap, ◌∙◌, arith, length-set, nat_tests}
 use Rattle.history.proofs.Names.{length-replicate, take-append-le, Coding, kept_at, read_in}
 use Rattle.std.proofs.Common.{length-append}
-use Rattle.steps.specs.declared.copied.Buffer as buffers
 use Rattle.steps.specs.Copied.{value_in}
 use Rattle.history.specs.Rooms.{room_of}
 use Rattle.history.proofs.Calls.{set_left}

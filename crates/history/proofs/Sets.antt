@@ -7,7 +7,6 @@ use Rattle.history.proofs.Names.{after_of, goes_of, going_rows, IsEffectOf, whos
 use Rattle.history.proofs.Names.{IsReachedOn, Trace, stands_there, wrote_in, counting_set, counts_laws, bit_set}
 use Rattle.history.proofs.Names.{bits_laws}
 use Rattle.atomic_table.specs.Table.{opening}
-use Rattle.model.specs.declared.event.Event as events
 use Rattle.model.specs.declared.event.Start.TheVariants.{Bits}
 use Rattle.model.specs.declared.families.Flight as flights
 use Rattle.model.specs.declared.families.Registry as registries

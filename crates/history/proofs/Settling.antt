@@ -1,7 +1,7 @@
 -- A pass whose last call rests at a question takes a step: the machine is handed the answer first.
 use Rattle.history.proofs.Names.{true, false, ◌≡◌, inl, inr, ⊎_elim, ℕ, ◌+◌, ◌<◌, Option, Some, None, IfSome, List}
 use Rattle.history.proofs.Names.{[], ◌∷◌, ◌++◌, slice_index, slice_set, set-set, refl, sym, ap, subst, ◌∙◌, arith}
-use Rattle.history.proofs.Names.{sum_by, sum_by-append, Allows, set_here, written, Ask, After, GoOn, Want, Answer}
+use Rattle.history.proofs.Names.{sum_by, sum_by-append, Allows, set_here, written, Ask, After, Want, Answer}
 use Rattle.history.proofs.Names.{Event, Finished, Start, Flight, Kind, Decide, Coding, want_of, goes_of, is_question}
 use Rattle.history.proofs.Names.{after_turn, events_of, number_of, World, Trace, Owes, OwesAsk, NextKnown, KeepsRule}
 use Rattle.history.proofs.Names.{IsAll}
@@ -10,7 +10,6 @@ use lib.ListN.{get_elem?}
 use Rattle.atomic_table.specs.Table.{State}
 use Rattle.atomic_table.specs.Table as table
 use Rattle.steps.specs.declared.ask.After.TheVariants.{Done}
-use Rattle.steps.specs.declared.ask.Want.TheVariants as wants
 use Rattle.threaded.specs.Driver.{Told}
 use Rattle.history.specs.declared.view.View.{View}
 use Rattle.history.specs.Known.{events_by}
@@ -206,10 +205,6 @@ module _ {T : Type 0} (code : Coding T) (kind : Kind) (decides : MayDecide kind)
 
     never : {A : Type 0} (base other v : View T) (c : C) (m : M) → Stage base v c m → Waits code kind Begins other v c m → A
     never x0 x1 x2 x3 x4 x5 x6 = grind arith
-
-    -- who has begun
-    told_begun : (base₀ v w : View T) (c : C) (m : M) (n : ℕ) → Stage base₀ v c m → ToldStage c m v n w → ToldRested c m v n w
-    told_begun x0 x1 x2 x3 x4 x5 x6 x7 = grind arith
 
     begun_keeps : (base₀ v : View T) (c : C) (m : M) (key words slots id : ℕ) → Stage base₀ v c m → (w : Want (Unit {0}))
         → Owes (IsMachine code kind key) words slots id (ToldStage c m) w (v, []) → Owes (IsMachine code kind key) words slots id (ToldRested c m) w (v, [])

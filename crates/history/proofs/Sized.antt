@@ -1,8 +1,7 @@
 -- Calls whose answer names the capacity: one family of them for all capacities.
 use Rattle.std.proofs.Common.{arith}
-use Rattle.history.proofs.Names.{◌≡◌, inl, inr, ℕ, ◌+◌, [], sym, ap, subst, ◌∙◌, After, GoOn, Want, Kind, Coding}
+use Rattle.history.proofs.Names.{◌≡◌, ℕ, ◌+◌, [], After, Want, Kind, Coding}
 use Rattle.history.proofs.Names.{Owes, NextKnown, KeepsRule}
-use Rattle.steps.specs.declared.ask.After.TheVariants.{Done}
 use Rattle.steps.specs.declared.ask.Want.TheVariants as wants
 use Rattle.threaded.specs.Driver.{Told}
 use Rattle.history.specs.declared.view.View.{View}

@@ -1,6 +1,6 @@
 -- A call that each party may begin, begins as the party that the pass was last.
 use Rattle.std.proofs.Common.{arith}
-use Rattle.history.proofs.Names.{◌≡◌, ℕ, Option, Some, None, IfSome, sym, refl, subst, Kind, Coding, first_of}
+use Rattle.history.proofs.Names.{◌≡◌, ℕ, Option, Some, None, IfSome, Kind, Coding, first_of}
 use Rattle.history.proofs.Names.{first_row, Trace}
 use Rattle.history.specs.declared.view.View.{View}
 use Rattle.history.specs.Stages.{Calling, Starts, rows_as}

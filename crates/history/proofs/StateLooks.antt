@@ -1,9 +1,9 @@
 -- That a look of a state is a call of the model: a get_state, and an update_state of the state that the pass's party has.
-use Rattle.history.proofs.Names.{◌≡◌, inl, inr, ℕ, zero, suc, ◌+◌, ◌<◌, Bool, true, false, Option, Some, None, IfSome}
+use Rattle.history.proofs.Names.{◌≡◌, inl, inr, ℕ, zero, suc, ◌+◌, ◌<◌, Bool, true, false, Some, None, IfSome}
 use Rattle.history.proofs.Names.{List, [], ◌++◌, slice_index, slice_set, append-nil, refl, sym, ap, subst, ◌∙◌, arith}
-use Rattle.history.proofs.Names.{written, first_look, look_asks, look_want, look_after, look_kept, Numbers, Showing}
+use Rattle.history.proofs.Names.{written, first_look, look_want, look_after, look_kept, Numbers, Showing}
 use Rattle.history.proofs.Names.{shown_at, Ask, After, GoOn, Want, LookStage, ContainerState, Event, Container}
-use Rattle.history.proofs.Names.{Flight, Registry, LookOf, Next, Coding, IsCoding, opening_of, kept_after_begin}
+use Rattle.history.proofs.Names.{Flight, Registry, LookOf, Next, Coding, IsCoding, kept_after_begin}
 use Rattle.history.proofs.Names.{step_of, beside_of, first_call, settled_if, state_in, is_looking, WasCopied}
 use Rattle.history.proofs.Names.{names_owner, look_effects, after_turn, flight_in, found_put_same, answered, Owes}
 use Rattle.history.proofs.Names.{NextKnown, KeepsRule}
@@ -15,12 +15,11 @@ use Rattle.steps.specs.Copied.{value_in}
 use Rattle.steps.specs.declared.ask.After.TheVariants.{Done}
 use Rattle.steps.specs.declared.ask.Want.TheVariants as wants
 use Rattle.steps.specs.declared.container.look.Look.{Look as Looking}
-use Rattle.steps.specs.declared.container.look.LookStage.TheVariants as looks
 use Rattle.model.specs.declared.families.Flight.TheVariants as flights
 use Rattle.model.specs.declared.families.Registry.TheVariants as registries
 use Rattle.model.specs.declared.families.container.calls.LookOf.TheVariants as which_looks
 use Rattle.model.specs.declared.turn.Kind.TheVariants as kinds
-use Rattle.model.specs.Families.Container.States.{state_of, fresh}
+use Rattle.model.specs.Families.Container.States.{fresh}
 use Rattle.threaded.specs.Driver.{Told}
 use Rattle.history.specs.declared.view.View.{View}
 use Rattle.history.specs.ContainerFind.{HasCopied}

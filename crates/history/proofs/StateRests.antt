@@ -1,19 +1,18 @@
 -- A look of a state on a pass whose last call may rest at a find's question.
 use Rattle.std.proofs.Common.{arith}
-use Rattle.history.proofs.Names.{◌≡◌, inl, inr, ℕ, ◌<◌, Bool, Option, Some, None, [], refl, sym, ap, subst, ◌∙◌}
-use Rattle.history.proofs.Names.{first_look, look_want, look_after, look_kept, Numbers, Showing, After, Want, Start}
-use Rattle.history.proofs.Names.{Container, Flight, LookOf, Coding, IsCoding, want_of, is_question, look_asks_none}
+use Rattle.history.proofs.Names.{◌≡◌, inl, inr, ℕ, ◌<◌, Bool, None, [], refl, sym, subst}
+use Rattle.history.proofs.Names.{look_want, look_after, look_kept, Numbers, Showing, After, Want}
+use Rattle.history.proofs.Names.{LookOf, Coding, IsCoding}
 use Rattle.steps.specs.declared.container.look.Look.{Look as Looking}
 use Rattle.steps.specs.declared.container.look.LookStage.TheVariants as looks
-use Rattle.model.specs.declared.families.container.calls.LookOf.TheVariants as which_looks
 use Rattle.model.specs.declared.turn.Kind.TheVariants as kinds
 use Rattle.history.specs.declared.view.View.{View}
-use Rattle.history.specs.ContainerLooks.{look_start, looking, BeginsWith, StateLooks, StateLooked, BeginsLook, RestedLooks, RestedLooked}
+use Rattle.history.specs.ContainerLooks.{looking, BeginsWith, StateLooks, StateLooked, BeginsLook, RestedLooks, RestedLooked}
 use Rattle.history.specs.Settled.{IsResting, Settles}
 use Rattle.history.specs.Stages.{At}
 use Rattle.history.proofs.CallsIn.{AsksFor}
 use Rattle.history.proofs.ContainerLooks.{look_words}
-use Rattle.history.proofs.ContainerRests.{Keeps, clash, never_late, ends_quiet}
+use Rattle.history.proofs.ContainerRests.{Keeps, never_late, ends_quiet}
 use Rattle.history.proofs.Containers.{container_effects, container_words, containers_owe}
 use Rattle.history.proofs.Settling.{keeps_waiting}
 use Rattle.history.proofs.StateLooks.{plain, state_looks_keep, state_look_first}

@@ -1,13 +1,12 @@
 -- A step of a seat's call, its begin with the first one, is allowed by the rule of a table that is a machine.
-use Rattle.history.proofs.Names.{◌≡◌, ◌≢◌, inl, ⊎_elim, ℕ, ◌<◌, ◌≤◌, List, [], ◌++◌, length, slice_set, refl, sym, ap}
-use Rattle.history.proofs.Names.{subst, append-nil, arith, length-set, Some, ◌∙◌, sum_by-append, at_set, Event, Kind}
+use Rattle.history.proofs.Names.{◌≡◌, ◌≢◌, inl, ⊎_elim, ℕ, ◌<◌, ◌≤◌, List, [], ◌++◌, length, slice_set, refl, sym}
+use Rattle.history.proofs.Names.{append-nil, arith, length-set, Some, sum_by-append, at_set, Event, Kind}
 use Rattle.history.proofs.Names.{Coding, state_in, Trace}
 use mathlib.Core.Option.{some}
 use lib.ListN.{get_elem?}
 use Rattle.atomic_table.specs.Table.{State}
 use Rattle.history.specs.declared.view.View.{View}
 use Rattle.history.specs.History.{IsBeginning, IsMachine, Fits, call_in}
-use Rattle.history.specs.Known.{events_by}
 use Rattle.history.proofs.Known.{within, none_late}
 use Rattle.history.proofs.AllSeen.{known_step}
 use Rattle.history.proofs.Turns.{Between}

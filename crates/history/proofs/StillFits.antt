@@ -1,11 +1,11 @@
 -- What a seat knows stays where another party takes a turn.
-use Rattle.history.proofs.Names.{◌≡◌, ◌≢◌, inl, inr, ℕ, ⊎_elim, Option, Some, None, IfSome, List, [], ◌++◌, refl, sym}
+use Rattle.history.proofs.Names.{◌≡◌, ◌≢◌, ℕ, Option, Some, None, List, [], ◌++◌, refl, sym}
 use Rattle.history.proofs.Names.{ap, subst, ◌∙◌, append_assoc, append-nil, arith, sum_by, cases_eq, sum_by-append}
 use Rattle.history.proofs.Names.{Event, Kind, state_in, Trace}
 use Rattle.history.specs.declared.view.View.{View}
 use Rattle.history.specs.Known.{events_by, by_party, owned}
 use Rattle.history.specs.History.{IsBeginning, Fits, HasSeenOf, call_in, IsLate}
-use Rattle.history.proofs.Known.{by_more, by_same, by_twice, by_apart, owned_none, owned_one, late_none, late_more}
+use Rattle.history.proofs.Known.{by_more, by_same, by_twice, by_apart, owned_none, owned_one, late_more}
 
 module _ {T : Type 0} where
   pub longer : (seen events more : List (Event T)) → IsBeginning seen events → IsBeginning seen (events ++ more)

@@ -1,6 +1,6 @@
 -- What a begin and a step of a reached machine leave, where a table stands at its words.
 use Rattle.history.proofs.Names.{Bool, false, ◌≡◌, ◌≢◌, ℕ, ◌+◌, ◌<◌, ◌≤◌, Option, Some, None, IfSome, List, [], ◌∷◌}
-use Rattle.history.proofs.Names.{◌++◌, length, slice_index, slice_set, refl, sym, ap, subst, ◌∙◌, arith, sum_by}
+use Rattle.history.proofs.Names.{◌++◌, length, slice_index, refl, sym, ap, subst, ◌∙◌, arith, sum_by}
 use Rattle.history.proofs.Names.{sum_by-append, written, Ask, After, Want, Answer, Event, Begun, Start, Flight, Party}
 use Rattle.history.proofs.Names.{Kind, Turn, Begin, Next, Decide, Coding, first_of, kept_after_begin, going_rows}
 use Rattle.history.proofs.Names.{want_of, after_of, goes_of, ask_of, is_look_of, state_in, party_of, ask_in}
@@ -19,10 +19,10 @@ use Rattle.history.specs.History.{IsRun, IsMachine, Fits, call_in, IsLate, refus
 use Rattle.history.specs.Stages.{rows_as}
 use Rattle.history.proofs.Known.{by_more, by_same, by_other, by_mine, owned_one, late_none, none_late, AreOf, sum_first}
 use Rattle.history.proofs.AllSeen.{owned_whole}
-use Rattle.history.proofs.Reached.{begin_as, next_as, reached_as_more, fresh_as_more}
+use Rattle.history.proofs.Reached.{next_as, reached_as_more, fresh_as_more}
 use Rattle.history.proofs.StillFits.{still_fits}
-use Rattle.history.proofs.Calls.{IsStateless, goes_alike, stateless_none, look_begin, look_next, stands, flight_is}
-use Rattle.history.proofs.Calls.{no_flight, next_other, begin_other, decision_other, begin_own, begin_kept, next_kept}
+use Rattle.history.proofs.Calls.{IsStateless, goes_alike, look_begin, look_next, stands, flight_is}
+use Rattle.history.proofs.Calls.{next_other, begin_other, decision_other, begin_own, next_kept}
 use Rattle.history.proofs.Calls.{call_then, moved, heard_going, heard_events, get_left, set_left, Moved}
 
 -- what is wanted, where it is a word or nothing
@@ -246,9 +246,6 @@ module _ {T : Type 0} where
 
         here : flight_in u.world p ≡ Some flight
         here = flight_is u.world p start flight (stands u.world p start flight at)
-
-        asks_here : want_of u.world.coding flight ≡ want_for ask
-        asks_here = rw b.run.coded asks
 
         pub goes_free : call_refusal u.world (Next p) ≡ None
         goes_free = grind arith

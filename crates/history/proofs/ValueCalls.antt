@@ -1,11 +1,11 @@
 -- The calls on the single value as calls of the model.
-use Rattle.history.proofs.Names.{inl, ◌≡◌, ◌≢◌, nat_lt, ℕ, ◌+◌, ◌-◌, ◌^◌, ◌*◌, ◌<◌, ◌==◌, cond, Bool, true, false}
-use Rattle.history.proofs.Names.{Option, Some, None, List, [], ◌∷◌, ◌++◌, slice_set, slice_index, refl, sym, ap}
-use Rattle.history.proofs.Names.{subst, ◌∙◌, arith, nat_tests, written, Ask, After, GoOn, before_version, first_store}
-use Rattle.history.proofs.Names.{at_store, store_asks, store_want, store_takes, store_after, first_load, at_load}
+use Rattle.history.proofs.Names.{inl, ◌≡◌, nat_lt, ℕ, ◌+◌, ◌^◌, ◌*◌, ◌<◌, ◌==◌, cond, Bool, true, false}
+use Rattle.history.proofs.Names.{Option, Some, None, List, [], ◌∷◌, slice_set, slice_index, refl, sym, ap}
+use Rattle.history.proofs.Names.{arith, written, Ask, After, GoOn, before_version, first_store}
+use Rattle.history.proofs.Names.{store_asks, store_want, store_takes, store_after, first_load, at_load}
 use Rattle.history.proofs.Names.{load_asks, load_begins, load_want, load_takes, load_after, load_keeps, load_kept}
 use Rattle.history.proofs.Names.{Truth, Acted, Flight, Coding, IsCoding, after_of, producer_word, kept_at, answered}
-use Rattle.history.proofs.Names.{KeepsRule, cell_within, IsFreshStore}
+use Rattle.history.proofs.Names.{KeepsRule, IsFreshStore}
 use Rattle.steps.specs.declared.ask.Op.TheVariants as ops
 use Rattle.steps.specs.declared.ask.After.TheVariants.{Done}
 use Rattle.steps.specs.declared.ask.Want.TheVariants as wants
@@ -20,7 +20,7 @@ use Rattle.steps.specs.Queues.Roles.{acquire_want, acquire_after, release_want, 
 use Rattle.model.specs.declared.event.Answer.TheVariants as answers
 use Rattle.model.specs.declared.event.Start.TheVariants.{Atomic}
 use Rattle.model.specs.declared.families.Flight as flights
-use Rattle.model.specs.declared.families.atomic.AtomicStart.TheVariants.{AcquireProducer, ReleaseProducer, Store}
+use Rattle.model.specs.declared.families.atomic.AtomicStart.TheVariants.{ReleaseProducer, Store}
 use Rattle.model.specs.declared.families.atomic.AtomicStart.TheVariants.{Load}
 use Rattle.model.specs.declared.families.atomic.calls.AtomicFlight as calls
 use Rattle.model.specs.declared.turn.Kind.TheVariants as kinds

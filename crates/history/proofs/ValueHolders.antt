@@ -1,25 +1,17 @@
 -- Only the holder of the producer's role stores, so while a pass has it the stores are its own.
-use Rattle.history.proofs.Names.{◌≡◌, ℕ, Bool, true, false, Option, Some, None, is_none, List, [], ◌∷◌, ◌++◌, ◌==◌}
-use Rattle.history.proofs.Names.{refl, sym, ap, subst, ◌∙◌, append-nil, append_assoc, arith, nat_tests, fold-append}
-use Rattle.history.proofs.Names.{flat_map, Answer, Truth, Event, Acted, Finished, Start, Flight, Registry}
-use Rattle.history.proofs.Names.{AtomicStart, AtomicFlight, Going, Party, Coding, step_of, acted, party_of, Each}
-use Rattle.history.proofs.Names.{whose, is_party, step_in, Trace, AreRight, Each-nil, stands_there, stores}
-use Rattle.model.specs.declared.event.Start.TheVariants.{Atomic}
-use Rattle.model.specs.declared.families.Flight as flights
-use Rattle.model.specs.declared.families.Registry as registries
-use Rattle.model.specs.declared.families.atomic.AtomicStart.TheVariants.{AcquireProducer, ReleaseProducer, Store}
-use Rattle.model.specs.declared.families.atomic.AtomicStart.TheVariants.{Load}
-use Rattle.model.specs.declared.families.atomic.calls.AtomicFlight as calls
+use Rattle.history.proofs.Names.{◌≡◌, ℕ, Bool, true, false, Some, None, List, [], ◌∷◌, ◌++◌}
+use Rattle.history.proofs.Names.{refl, sym, ap, subst, ◌∙◌, append-nil, append_assoc, arith, fold-append}
+use Rattle.history.proofs.Names.{flat_map, Event, Flight}
+use Rattle.history.proofs.Names.{Going, Party, Coding, party_of, Each}
+use Rattle.history.proofs.Names.{whose, is_party, step_in, Trace, AreRight, Each-nil, stores}
 use Rattle.model.specs.declared.turn.Kind.TheVariants as kinds
 use Rattle.model.specs.Families.Atomic.Reading.{holder_after, holder_of}
 use Rattle.model.specs.Families.Atomic.Roles.{GrantsRight}
 use Rattle.model.specs.World.{opening}
 use Rattle.model.proofs.Frame as frame
 use Rattle.laws_queues.proofs.Queues.Sound.{IsFreshTurn}
-use Rattle.laws_value.proofs.Core.{Core}
 use Rattle.laws_value.proofs.Invariant.{family}
-use Rattle.laws_value.proofs.Knows.{At}
-use Rattle.laws_value.proofs.Sound.{kept_is, opening_sound, fresh_laws}
+use Rattle.laws_value.proofs.Sound.{opening_sound, fresh_laws}
 use Rattle.history.specs.History.{IsRun, IsHistory}
 use Rattle.history.specs.Known.{events_by}
 use Rattle.history.specs.Value.{ByProducer}
@@ -29,25 +21,7 @@ module _ {T : Type 0} where
   abbrev Right : List (Event T) → List (Event T) → Type 0
   Right before es = AreRight ByProducer before es
 
-  store_right : (p : ℕ) (value : T) (o : Option (Answer T)) (before : List (Event T)) → holder_of before ≡ Some p → Right before (acted p (Store value) o)
-  store_right x0 x1 x2 x3 x4 = grind arith
-
-  load_right : (p : ℕ) (o : Option (Answer T)) (before : List (Event T)) → Right before (acted p Load o)
-  load_right p None before = tt
-  load_right p (Some answer) before = (tt, tt)
-
-  flight_right : (z en : Coding T) (words : List ℕ) (waits : Option (ℕ × ℕ)) (p n : ℕ) (holder : Option ℕ)
-      (k : Core) (before : List (Event T))
-      → holder_of before ≡ holder → (start : AtomicStart T) (flight : AtomicFlight T) → At en holder k p start flight
-      → Right before (step_of z words waits p (Atomic start) (flights.TheVariants.Atomic flight) n (registries.TheVariants.Atomic holder)).wrote
-  flight_right x0 x1 x2 x3 x4 x5 x6 x7 x8 x9 x10 x11 x12 = grind arith
-
   module _ (en : Coding T) (c : ℕ) (t : Trace T) (s : frame.Sound (family en c) t) where
-    any_right : (p n : ℕ) (waits : Option (ℕ × ℕ)) (start : Start T) (flight : Flight T) (kept : Registry T)
-        → kept ≡ registries.TheVariants.Atomic s.state.holder → (family en c).At s.state p start flight
-        → Right t.events (step_of t.world.coding t.world.words waits p start flight n kept).wrote
-    any_right x0 x1 x2 x3 x4 x5 x6 x7 = grind arith
-
     step_right : (p n : ℕ) (x : Party T) (flight : Flight T) (since : ℕ) → party_of p t.world.latest ≡ Some x
         → x.doing ≡ Going flight since → Right t.events (step_in t.world p x flight n).wrote
     step_right x0 x1 x2 x3 x4 x5 x6 = grind arith
@@ -68,9 +42,6 @@ module _ {T : Type 0} (code : Coding T) (capacity : ℕ) where
 
   pub history_by_producers : (events : List (Event T)) → IsHistory code kinds.Atomic capacity events → Each ByProducer events
   history_by_producers events h = subst (Each ByProducer) (sym h.is) (by_producers h.trace h.run)
-
-is_other : (p q : ℕ) (A : Type 0) → (q == p) ≡ false → ◌≡◌ {A = Option ℕ} (Some q) (Some p) → A
-is_other p q A ne e = (let same : q ≡ p = cc in absurd (grind (arith, nat_tests)))
 
 -- ---- while a party holds the role nobody else stores
 

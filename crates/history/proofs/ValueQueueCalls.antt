@@ -1,9 +1,9 @@
 -- The calls on a queue of values as calls of the model.
-use Rattle.history.proofs.Names.{inl, ◌≡◌, ◌≢◌, nat_lt, ℕ, ◌+◌, ◌-◌, ◌^◌, ◌%◌, ◌*◌, ◌<◌, ◌≤◌, ◌==◌, ◌||◌, cond, Bool}
-use Rattle.history.proofs.Names.{true, false, Option, Some, None, List, [], ◌∷◌, ◌++◌, slice_set, slice_index, refl}
-use Rattle.history.proofs.Names.{sym, ap, subst, ◌∙◌, arith, nat_tests, mul-le-mul_left, written, Ask, After, GoOn}
-use Rattle.history.proofs.Names.{after_position, distance, Truth, PoppedNone, Event, Published, HandedOut, Acted}
-use Rattle.history.proofs.Names.{Queues, Flight, Pop, Values, Coding, IsCoding, after_of, fresh_cell, kept_at}
+use Rattle.history.proofs.Names.{inl, ◌≡◌, nat_lt, ℕ, ◌+◌, ◌^◌, ◌*◌, ◌<◌, ◌==◌, ◌||◌, cond, Bool}
+use Rattle.history.proofs.Names.{true, false, Option, Some, None, List, [], ◌++◌, slice_set, slice_index, refl}
+use Rattle.history.proofs.Names.{sym, ap, ◌∙◌, arith, written, Ask, After, GoOn}
+use Rattle.history.proofs.Names.{after_position, Truth}
+use Rattle.history.proofs.Names.{Flight, Pop, Values, Coding, IsCoding, after_of, fresh_cell, kept_at}
 use Rattle.history.proofs.Names.{push_effect, answered, KeepsRule, IsFresh, Producer, Consumer}
 use Rattle.steps.specs.declared.ask.Op.TheVariants.{Load, Store}
 use Rattle.steps.specs.declared.ask.After.TheVariants.{Done}
@@ -13,10 +13,9 @@ use Rattle.steps.specs.declared.queues.ring.Pop.{Pop as Popping}
 use Rattle.steps.specs.declared.queues.ring.PopStage as pops
 use Rattle.steps.specs.declared.queues.ring.Push.{Push as Pushing}
 use Rattle.steps.specs.declared.queues.ring.PushStage as pushes
-use Rattle.steps.specs.Queues.Ring.{first_push, first_pop, cell_word, word_at, at_push, push_asks, push_want}
+use Rattle.steps.specs.Queues.Ring.{first_push, first_pop, cell_word, word_at, push_asks, push_want}
 use Rattle.steps.specs.Queues.Ring.{push_takes, push_after, at_pop, pop_asks, pop_want}
 use Rattle.steps.specs.Queues.Ring.{pop_takes, pop_after, pop_kept, pop_keeps}
-use Rattle.model.specs.declared.event.Answer.TheVariants as answers
 use Rattle.model.specs.declared.event.Item.TheVariants.{Value}
 use Rattle.model.specs.declared.families.Flight as flights
 use Rattle.model.specs.declared.families.queues.QueueKind as queues

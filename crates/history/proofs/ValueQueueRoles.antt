@@ -1,6 +1,6 @@
 -- The calls on the roles and the lengths of a queue of values: they are those of an index queue, over wider cells.
 use Rattle.history.proofs.Names.{◌≡◌, ℕ, ◌+◌, ◌-◌, ◌*◌, ◌^◌, ◌<◌, ◌≤◌, nat_lt, false, None, List, [], ◌∷◌, ◌++◌}
-use Rattle.history.proofs.Names.{replicate, refl, arith, nat_tests, mul-le-mul_left, After, Want, first_len, len_want}
+use Rattle.history.proofs.Names.{replicate, refl, arith, nat_tests, After, Want, first_len, len_want}
 use Rattle.history.proofs.Names.{len_after, LengthOf, Coding, IsCoding, KeepsRule}
 use Rattle.atomic_table.specs.Table.{opening}
 use Rattle.steps.specs.declared.queues.roles.Role.{Role}

@@ -1,6 +1,6 @@
 -- What the single value owes, from its laws, and which party may begin a call on it.
-use Rattle.history.proofs.Names.{◌≡◌, ℕ, ◌+◌, ◌*◌, ◌≤◌, true, false, Option, Some, None, IfSome, List, [], length}
-use Rattle.history.proofs.Names.{sum_by, refl, sym, ap, subst, ◌∙◌, arith, Answer, Truth, Event, Finished, Start}
+use Rattle.history.proofs.Names.{◌≡◌, ℕ, ◌+◌, ◌*◌, ◌≤◌, false, Option, Some, None, IfSome, List, [], length}
+use Rattle.history.proofs.Names.{sum_by, refl, sym, ap, subst, ◌∙◌, arith, Event, Start}
 use Rattle.history.proofs.Names.{Flight, Registry, AtomicStart, AtomicFlight, Party, Coding, first_of, step_of}
 use Rattle.history.proofs.Names.{beside_of, after_of, going_rows, IsValue, acted, party_of, IsKeptBy, promise_of}
 use Rattle.history.proofs.Names.{Each, first_row, answer_in, Trace, stands_there}
@@ -26,8 +26,7 @@ use Rattle.history.specs.Stages.{Starts, Calling}
 use Rattle.history.specs.Value.{takes_producer, gives_producer, HasProducer}
 use Rattle.history.proofs.Calls.{stands, IsStateless}
 use Rattle.history.proofs.Known.{AreOf}
-use Rattle.history.proofs.Ledger.{Moves, still, taken, given, held_by_one, at_most}
-use Rattle.history.proofs.Roles.{granted}
+use Rattle.history.proofs.Ledger.{Moves, held_by_one, at_most}
 use Rattle.history.proofs.Turns.{CallGoesOn, KindLaws}
 
 module _ {T : Type 0} where
@@ -42,14 +41,6 @@ module _ {T : Type 0} where
   abbrev pub value_effects : Coding T → ℕ → Flight T → ℕ → List (Event T)
   value_effects code p (flights.TheVariants.Atomic flight) found = acted p (start_of flight) (answer_in (after code flight found))
   value_effects code p flight found = []
-
-  -- they are events of its party
-  store_own : (p : ℕ) (value : T) (o : Option (Answer T)) → AreOf p (acted p (Store value) o)
-  store_own x0 x1 x2 = grind arith
-
-  load_own : (p : ℕ) (o : Option (Answer T)) → AreOf p (acted p Load o)
-  load_own p None = tt
-  load_own p (Some answer) = (refl, tt)
 
   effects_own : (code : Coding T) (p : ℕ) (flight : Flight T) (n : ℕ) → AreOf p (value_effects code p flight n)
   effects_own x0 x1 x2 x3 = grind arith

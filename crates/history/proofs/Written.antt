@@ -1,9 +1,8 @@
 -- What a call has written since it began is what its pass has seen of its party since.
 use Rattle.std.proofs.Common.{arith}
-use Rattle.history.proofs.Names.{◌≡◌, ℕ, Option, Some, None, [], ◌++◌, sym, ap, ◌∙◌, append-nil, fold, Kind, Coding}
+use Rattle.history.proofs.Names.{◌≡◌, ℕ, Option, Some, None, [], sym, ap, ◌∙◌, append-nil, fold, Kind, Coding}
 use Rattle.history.proofs.Names.{Span, span_of, own_after, Open}
 use Rattle.history.specs.declared.view.View.{View}
-use Rattle.history.specs.Known.{events_by}
 use Rattle.history.specs.Stages.{Calling, opened, IsUnderWay}
 use Rattle.history.proofs.CallsIn.{span_since}
 

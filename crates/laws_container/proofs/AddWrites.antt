@@ -7,8 +7,8 @@ use Rattle.laws_container.proofs.Names.{first_add, at_add, change_word, count_wo
 use Rattle.laws_container.proofs.Names.{one_more, went_on, Answer, Index, Placed, Hidden, Finished, Container}
 use Rattle.laws_container.proofs.Names.{ContainerStart, ContainerFlight, Party, added, Act, Places, Hides, places}
 use Rattle.laws_container.proofs.Names.{contents_after, contents_of, announced_after, announced_of, SetAct}
-use Rattle.laws_container.proofs.Names.{filled_after, holder_after, as_it_is, put, as_call, words_after, step_count}
-use Rattle.laws_container.proofs.Names.{at_same, at_other, calm_less, gone_less, lives_settled, right_after}
+use Rattle.laws_container.proofs.Names.{as_it_is, put, as_call, words_after, step_count}
+use Rattle.laws_container.proofs.Names.{at_same, at_other, calm_less, gone_less, lives_settled}
 use Rattle.laws_container.proofs.Names.{loads_same, exchanges, fails_same}
 use Rattle.steps.specs.declared.ask.After.TheVariants.{Done}
 use Rattle.steps.specs.declared.container.add.Add as add_calls

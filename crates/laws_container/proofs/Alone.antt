@@ -1,9 +1,9 @@
 -- A call that was alone, by the events: it was so a turn ago, and no other party has a call under way.
-use Rattle.laws_container.proofs.Names.{◌≡◌, ◌≢◌, ℕ, if◌then◌else◌, true, false, Option, Some, None, List, [], ◌∷◌}
+use Rattle.laws_container.proofs.Names.{◌≡◌, ◌≢◌, ℕ, if◌then◌else◌, true, false, Option, Some, List, [], ◌∷◌}
 use Rattle.laws_container.proofs.Names.{◌++◌, fold, refl, sym, ap, subst, ◌∙◌, append_assoc, arith, eq-eqb, ne_eqb}
 use Rattle.laws_container.proofs.Names.{nat_tests, append_cancel_left, fold-append, AllByRecursion, Event, Begun}
-use Rattle.laws_container.proofs.Names.{Died, IsOwnOrDeath, WasAlone, BeginsNone, Span, Never, whose, is_party}
-use Rattle.laws_container.proofs.Names.{own_after, span_after, span_of, IsShut, began_earlier}
+use Rattle.laws_container.proofs.Names.{IsOwnOrDeath, WasAlone, BeginsNone, Span, Never, whose, is_party}
+use Rattle.laws_container.proofs.Names.{span_after, span_of, IsShut, began_earlier}
 
 not_theirs : (p q : ℕ) (o : Option ℕ) → q ≢ p → is_party p o ≡ true → is_party q o ≡ false
 not_theirs x0 x1 x2 x3 x4 = grind (arith, ne_eqb, nat_tests)

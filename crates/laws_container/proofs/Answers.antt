@@ -1,12 +1,10 @@
 -- What a container's answers say, once its counter may be worn; and in the words of a machine whose owners die.
 use Rattle.std.proofs.Common.{arith}
-use Rattle.laws_container.proofs.Names.{⊎_elim, inl, inr, ℕ, List, ◌∷◌, subst, ReleaseMode, LockIfLastIndex, Default}
-use Rattle.laws_container.proofs.Names.{State, NoPlace, Event, FreedOf, Asked, Told, Finished, Container, AsksRight}
-use Rattle.laws_container.proofs.Names.{FreedRight, RecoversRight, AnswersRight, FilledSinceEach, Each, Span, Open}
-use Rattle.laws_container.proofs.Names.{span_of, GoneBy, Death, IsHonestBy, honest_less}
+use Rattle.laws_container.proofs.Names.{inl, inr, ℕ, List, ReleaseMode}
+use Rattle.laws_container.proofs.Names.{Event, AsksRight}
+use Rattle.laws_container.proofs.Names.{FreedRight, RecoversRight, AnswersRight, FilledSinceEach, Each, Span}
+use Rattle.laws_container.proofs.Names.{GoneBy, Death, IsHonestBy, honest_less}
 use Rattle.steps.specs.declared.container.enums.ContainerAddFailure.TheVariants as failures
-use Rattle.steps.specs.declared.indices.enums.ReleaseState.TheVariants.{Unlocked}
-use Rattle.model.specs.declared.families.container.ContainerStart.TheVariants.{Add, Remove, Recover}
 use Rattle.laws_container.specs.Gone.{AsksBy, FreedBy, RecoversBy, FilledSinceEachBy, AnswersBy}
 
 module _ {T : Type 0} where

@@ -2,7 +2,7 @@
 -- no question is left.
 use Rattle.laws_container.proofs.Names.{◌≡◌, ℕ, ⊎_elim, Bool, true, false, Option, Some, None, List, [], ◌∷◌, ◌++◌}
 use Rattle.laws_container.proofs.Names.{refl, sym, ap, subst, ◌∙◌, append-nil, arith, cases_eq, FindStage, DeadOwner}
-use Rattle.laws_container.proofs.Names.{RecoverStage, ContainerState, ReleaseMode, raise_want, lock_want, Number}
+use Rattle.laws_container.proofs.Names.{RecoverStage, ContainerState, ReleaseMode, Number}
 use Rattle.laws_container.proofs.Names.{Event, Copied, Finished, Container, ContainerStart, ContainerFlight, Turn}
 use Rattle.laws_container.proofs.Names.{Decide, Coding, is_question, want, after, question_in, question_at, AllRight}
 use Rattle.laws_container.proofs.Names.{HasWritten, AsksOnce, IsAnswered, IsTold, YesTells, NoTells, QuestionsRight}

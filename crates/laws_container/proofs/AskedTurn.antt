@@ -3,19 +3,18 @@
 use Rattle.std.proofs.Common.{arith}
 use Rattle.laws_container.proofs.Names.{◌≡◌, ◌≢◌, ℕ, ◌+◌, ◌⊎◌, ⊎_elim, inl, inr, Bool, true, false, Option, Some}
 use Rattle.laws_container.proofs.Names.{None, is_none, List, [], ◌∷◌, ◌++◌, refl, sym, ap, subst, ◌∙◌, AllByRecursion}
-use Rattle.laws_container.proofs.Names.{cases_eq, After, GoOn, Answer, Event, Begun, Died, Finished, Start, Container}
+use Rattle.laws_container.proofs.Names.{cases_eq, After, Answer, Event, Begun, Died, Finished, Start, Container}
 use Rattle.laws_container.proofs.Names.{Flight, Registry, ContainerStart, ContainerFlight, Doing, Going, Over, Party}
 use Rattle.laws_container.proofs.Names.{Idle, Undecided, Turn, Begin, Next, Decide, Die, Coding, first_of, want_of}
 use Rattle.laws_container.proofs.Names.{is_question, beside_of, step_of, want, after, question_in, question_at}
 use Rattle.laws_container.proofs.Names.{WritesRight, acts_of, state_of, effects, questions, set_acts_of, party_of}
 use Rattle.laws_container.proofs.Names.{doing_of, flight_of, IsParty, Open, span_of, is_due, call_refusal, Step}
-use Rattle.laws_container.proofs.Names.{answer_in, old_of, number_of, doing_after, party_after, party_at_begin}
+use Rattle.laws_container.proofs.Names.{answer_in, old_of, number_of, doing_after, party_at_begin}
 use Rattle.laws_container.proofs.Names.{after_begin, after_step, after_answer, after_next, after_decision, step_in}
-use Rattle.laws_container.proofs.Names.{step_count, change_of, events_of_step, events_of_answer, events_of_next}
+use Rattle.laws_container.proofs.Names.{events_of_step, events_of_answer, events_of_next}
 use Rattle.laws_container.proofs.Names.{events_of_decision, events_of, ending_of, ask_of_doing, after_turn, World}
 use Rattle.laws_container.proofs.Names.{Trace, flight_in, party_put_same, party_put_other, row_passed, StandsThere}
 use Rattle.laws_container.proofs.Names.{stands_there}
-use Rattle.steps.specs.declared.ask.After.TheVariants.{Done}
 use Rattle.model.specs.declared.families.Flight as flights
 use Rattle.model.specs.declared.turn.Kind as kinds
 use Rattle.model.proofs.Frame as frame

@@ -1,14 +1,14 @@
 -- What a call does as it begins, and what its first stage knows. The party's span was shut.
 use Rattle.laws_container.proofs.Names.{◌≡◌, ◌≢◌, ℕ, ⊎_elim, if◌then◌else◌, nat_lt, Bool, true, false, Option, Some}
-use Rattle.laws_container.proofs.Names.{None, is_some, List, [], ◌∷◌, ◌++◌, refl, sym, ap, subst, ◌∙◌, arith}
+use Rattle.laws_container.proofs.Names.{None, is_some, List, [], ◌∷◌, ◌++◌, refl, sym, ap, ◌∙◌, arith}
 use Rattle.laws_container.proofs.Names.{nat_tests, length-replicate, fold-append, ContainerState, ReleaseMode, Event}
 use Rattle.laws_container.proofs.Names.{Begun, Container, ContainerStart, Party, first, is_looking, names_owner}
 use Rattle.laws_container.proofs.Names.{states_at_begin, StandsWellFormed, WasShown, Sees, contents_after}
 use Rattle.laws_container.proofs.Names.{contents_of, announced_after, announced_of, acts, acts_of, state_of}
-use Rattle.laws_container.proofs.Names.{with_state, fresh, IsFilledWith, Yes, set_acts, set_acts_of, dead_after}
+use Rattle.laws_container.proofs.Names.{with_state, fresh, IsFilledWith, Yes, set_acts, set_acts_of}
 use Rattle.laws_container.proofs.Names.{settled_of, wrote_in, IsOneOf, party_of, put, doing_of, flight_of, Open}
 use Rattle.laws_container.proofs.Names.{span_of, IsShut, party_put_other, found_put_same, found_put_other, no_more}
-use Rattle.laws_container.proofs.Names.{span_of-own, count_none, GoneBy, Death, Word, is_gone, both_ways, calm_less}
+use Rattle.laws_container.proofs.Names.{span_of-own, count_none, GoneBy, is_gone, both_ways, calm_less}
 use Rattle.laws_container.proofs.Names.{gone_begun, since_begun}
 use Rattle.steps.specs.declared.container.remove.RemoveStage as removes
 use Rattle.steps.specs.declared.container.replace.ReplaceStage as replaces

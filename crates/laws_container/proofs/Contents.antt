@@ -1,9 +1,9 @@
 -- What stands in a container by its events stands in its words; and what a writer knows of the words that it has stored. No
 -- value is ever half there: under an even count nothing is said of the data words but by the one writer.
 use Rattle.laws_container.proofs.Names.{◌≡◌, ◌≢◌, ℕ, ◌+◌, ◌*◌, ◌%◌, ◌<◌, ◌≤◌, ⊎_elim, Option, Some, None, List, []}
-use Rattle.laws_container.proofs.Names.{◌∷◌, ◌++◌, length, get_or, set, refl, sym, ap, subst, ◌∙◌, arith, cases_eq}
+use Rattle.laws_container.proofs.Names.{◌∷◌, ◌++◌, length, get_or, set, sym, ap, subst, ◌∙◌, arith, cases_eq}
 use Rattle.laws_container.proofs.Names.{fold-append, count_word, element_word, Event, Placed, Hidden, Coding}
-use Rattle.laws_container.proofs.Names.{contents_after, contents_of, at_same, at_other}
+use Rattle.laws_container.proofs.Names.{contents_of, at_same, at_other}
 use Rattle.laws_container.proofs.Core.{count_at, datum_at, data_within, counts_stay, datum_set, datum_before, data_stay, count_set, count_stays, data_all_stay}
 
 module _ {T : Type 0} (code : Coding T) (c : ℕ) where

@@ -1,6 +1,6 @@
 -- What a turn does to the elements, by what it changes: nothing of them; the number of changes; a word of an element; or the
 -- number of an element, where a value is placed or hidden.
-use Rattle.laws_container.proofs.Names.{◌≡◌, ◌≢◌, inl, ℕ, ◌+◌, ◌%◌, ◌<◌, ◌≤◌, Bool, true, false, Option, Some, None}
+use Rattle.laws_container.proofs.Names.{◌≡◌, ◌≢◌, inl, ℕ, ◌+◌, ◌%◌, ◌<◌, ◌≤◌, Bool, true, false, Option, Some}
 use Rattle.laws_container.proofs.Names.{is_some, List, ◌++◌, length, get_or, set, fold, sym, ap, subst, ◌∙◌, arith}
 use Rattle.laws_container.proofs.Names.{get_or-set_other, length-set, fold-append, change_word, count_word}
 use Rattle.laws_container.proofs.Names.{element_word, one_more, Event, Start, Party, WasAlone, contents_after}
@@ -9,7 +9,7 @@ use Rattle.laws_container.proofs.Names.{doing_of, flight_of, Open, span_of, IsSh
 use Rattle.laws_container.proofs.Names.{party_put_other, AreOwn, is_gone}
 use Rattle.laws_container.proofs.Alone.{alone_less, others_shut}
 use Rattle.laws_container.proofs.Contents.{IsWhole, Writing, Stands, stands_on, store_whole}
-use Rattle.laws_container.proofs.Core.{count_at, datum_at, change_at, counts_stay, data_stay, count_set, count_stays}
+use Rattle.laws_container.proofs.Core.{count_at, change_at, counts_stay, data_stay, count_set, count_stays}
 use Rattle.laws_container.proofs.Core.{data_all_stay, change_set, changes_no_count, changes_no_datum}
 use Rattle.laws_container.proofs.Invariant.{Scene, Inv, Elements, Changes, before, after}
 use Rattle.laws_container.proofs.Left.{left_after, left_of}

@@ -1,6 +1,6 @@
 -- The steps of a find.
 use Rattle.laws_container.proofs.Names.{◌≡◌, ◌≢◌, ⊎_elim, ℕ, ◌+◌, ◌*◌, ◌%◌, ◌<◌, ◌≤◌, ◌==◌, if◌then◌else◌, nat_lt}
-use Rattle.laws_container.proofs.Names.{Bool, false, true, Option, Some, None, is_some, List, [], ◌∷◌, ◌++◌, suc}
+use Rattle.laws_container.proofs.Names.{Bool, false, true, Option, Some, is_some, List, [], ◌∷◌, ◌++◌, suc}
 use Rattle.laws_container.proofs.Names.{refl, sym, ap, subst, ◌∙◌, append-nil, append_assoc, arith, AllByRecursion}
 use Rattle.laws_container.proofs.Names.{cases_eq, nat_tests, length-set, flat_map-append, Ask, After, GoOn, FindStage}
 use Rattle.laws_container.proofs.Names.{at_find, find_comes_to, count_word, element_word, is_even, cell_word, empty}

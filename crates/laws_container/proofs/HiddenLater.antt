@@ -1,7 +1,7 @@
 -- What a call knows of an index that it will free, or has freed, it knows still after any turn of another party.
 use Rattle.std.proofs.Common.{arith}
 use Rattle.laws_container.proofs.Names.{◌≡◌, ◌⊎◌, ⊎_elim, inl, inr, ℕ, ◌%◌, ◌<◌, Bool, false, true, Option, Some}
-use Rattle.laws_container.proofs.Names.{None, is_some, List, ◌++◌, refl, ap, subst, ◌∙◌, Event, Party, Coding}
+use Rattle.laws_container.proofs.Names.{None, is_some, List, ◌++◌, refl, ap, ◌∙◌, Event, Party, Coding}
 use Rattle.laws_container.proofs.Names.{contents_of, EmptySinceFreed, Frees, settled_of, set_acts_of, IsOneOf}
 use Rattle.laws_container.proofs.Names.{SinceBegin, held_now, held_later, is_gone, IsCalm, gone_less, stays_lost}
 use Rattle.laws_container.proofs.Names.{Goes, Spares, since_less, IsBy}

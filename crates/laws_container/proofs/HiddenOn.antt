@@ -1,5 +1,5 @@
 -- What a call knows of an index that it will free, or has freed, after a step of its own.
-use Rattle.laws_container.proofs.Names.{◌≡◌, ◌≢◌, ◌⊎◌, ⊎_elim, inl, inr, ℕ, ◌%◌, ◌<◌, Option, Some, None, is_some}
+use Rattle.laws_container.proofs.Names.{◌≡◌, ◌≢◌, ◌⊎◌, ⊎_elim, inl, inr, ℕ, ◌%◌, ◌<◌, Option, None, is_some}
 use Rattle.laws_container.proofs.Names.{List, [], ◌∷◌, ◌++◌, refl, sym, ap, subst, ◌∙◌, append-nil, arith}
 use Rattle.laws_container.proofs.Names.{fold-append, Event, FreedOf, Hidden, Container, ContainerStart, Party, Coding}
 use Rattle.laws_container.proofs.Names.{contents_after, contents_of, EmptySinceFreed, Frees, filled_of, set_acts}

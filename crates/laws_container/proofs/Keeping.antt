@@ -2,9 +2,9 @@
 use Rattle.laws_container.proofs.Names.{◌≡◌, ⊎_elim, inl, inr, ℕ, ◌+◌, ◌<◌, Bool, false, true, is_some, List, [], ◌∷◌}
 use Rattle.laws_container.proofs.Names.{◌++◌, fold, refl, sym, ap, subst, ◌∙◌, arith, fold-append, AddStage}
 use Rattle.laws_container.proofs.Names.{FindStage, RemoveStage, ReplaceStage, ContainerState, ReleaseMode}
-use Rattle.laws_container.proofs.Names.{LockIfLastIndex, Default, ReleaseState, ReleaseStage, Event, Locked, Party}
-use Rattle.laws_container.proofs.Names.{Coding, StandsWellFormed, MayReplace, Copies, acts, acts_of, places}
-use Rattle.laws_container.proofs.Names.{contents_of, state_of, locked_after, is_locked, IsFilledWith, IsUnlocked}
+use Rattle.laws_container.proofs.Names.{ReleaseState, ReleaseStage, Event, Locked, Party}
+use Rattle.laws_container.proofs.Names.{Coding, MayReplace, Copies, acts, acts_of, places}
+use Rattle.laws_container.proofs.Names.{contents_of, state_of, locked_after, is_locked, IsFilledWith}
 use Rattle.laws_container.proofs.Names.{FilledSinceFreed, set_acts_of, wrote_in, IsLatest, IsOneOf, read_in}
 use Rattle.laws_container.proofs.Names.{HeldSometime, party_of, span_of, held_later, gone_less, worn_on, count_later}
 use Rattle.laws_container.proofs.Names.{Goes, Spares, IsSeen, knows_later, through_less, through_now, acquire_at}

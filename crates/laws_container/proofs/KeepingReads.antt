@@ -1,9 +1,9 @@
 -- What a recovery and a look know stays known while others take turns; and so of any call.
 use Rattle.std.proofs.Common.{arith}
-use Rattle.laws_container.proofs.Names.{◌≡◌, ◌⊎◌, ⊎_elim, inl, inr, ℕ, ◌+◌, ◌<◌, Some, None, List, ◌++◌, refl, sym}
-use Rattle.laws_container.proofs.Names.{subst, ◌∙◌, LookStage, RecoverStage, ReleaseMode, ReleaseState, Event}
-use Rattle.laws_container.proofs.Names.{ContainerFlight, Count, IsLocked, Coding, WasShown, Sees, IsFilledWith}
-use Rattle.laws_container.proofs.Names.{IsUnlocked, StillToFree, filled_of, Frees, Asks, Yes, set_acts_of, IsOneOf}
+use Rattle.laws_container.proofs.Names.{◌≡◌, ◌⊎◌, inl, inr, ℕ, ◌+◌, ◌<◌, Some, None, List, ◌++◌, refl}
+use Rattle.laws_container.proofs.Names.{◌∙◌, LookStage, RecoverStage, ReleaseMode, ReleaseState, Event}
+use Rattle.laws_container.proofs.Names.{ContainerFlight, Count, IsLocked, Coding, WasShown, IsFilledWith}
+use Rattle.laws_container.proofs.Names.{IsUnlocked, StillToFree, filled_of, Asks, Yes, set_acts_of, IsOneOf}
 use Rattle.laws_container.proofs.Names.{IsHonestBy, gone_more, honest_less, stays_lost, held_paid, still_scanned}
 use Rattle.laws_container.proofs.Names.{through_less, borrowed_at, looking}
 use Rattle.steps.specs.declared.container.look.LookStage as looks
@@ -21,7 +21,7 @@ use Rattle.laws_container.proofs.Knows.{AskedBelow}
 use Rattle.laws_container.proofs.Knows.{GoneBut, Recovers, RecoverSays, RecoverKnows, RecoverFills, Looks, LookCopies}
 use Rattle.laws_container.proofs.Knows.{LookRests, LookKnows, Knows}
 use Rattle.laws_container.proofs.KeptCopies.{CallsOn, own_later, calls_same}
-use Rattle.laws_container.proofs.KeptLocks.{NoIndex, FilledBut, filled_then, each_later, says_later, unlocked_later}
+use Rattle.laws_container.proofs.KeptLocks.{FilledBut, filled_then, each_later, says_later, unlocked_later}
 use Rattle.laws_container.proofs.Sights.{rests_later, course_later}
 use Rattle.laws_container.proofs.Turns.{Now}
 use Rattle.laws_container.proofs.Keeping as keeping

@@ -5,7 +5,7 @@ use Rattle.laws_container.proofs.Names.{cell_word, locked, Party, Coding, state_
 use Rattle.laws_container.proofs.Names.{HasElements, IsContained, IsContainer, KeepsDead, promise, AsksCopies}
 use Rattle.laws_container.proofs.Names.{question_in, Copies, acts_of, state_of, is_locked, cell_of, filled_of}
 use Rattle.laws_container.proofs.Names.{IsLatest, party_of, doing_of, flight_of, IsKeptBy, IsKept, promise_of}
-use Rattle.laws_container.proofs.Names.{span_of, IsReached, Trace, flight_in, progress_in, cell, Death}
+use Rattle.laws_container.proofs.Names.{span_of, IsReached, Trace, progress_in, cell, Death}
 use Rattle.model.specs.declared.families.Registry as registries
 use Rattle.model.specs.declared.turn.Kind as kinds
 use Rattle.model.specs.Promises.Bounds.{Progresses}

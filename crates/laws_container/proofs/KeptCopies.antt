@@ -1,7 +1,7 @@
 -- What a get_state shows, it has itself copied: how that is said, and that it stays so while the call goes on.
-use Rattle.laws_container.proofs.Names.{◌≡◌, ◌≢◌, ℕ, Option, Some, None, List, [], ◌∷◌, ◌++◌, fold, length, refl, sym}
+use Rattle.laws_container.proofs.Names.{◌≡◌, ◌≢◌, ℕ, Option, Some, None, List, [], ◌∷◌, ◌++◌, fold, length}
 use Rattle.laws_container.proofs.Names.{ap, ◌∙◌, append-nil, append_assoc, arith, flat_map-append, slice_get_past}
-use Rattle.laws_container.proofs.Names.{value_if, ContainerState, Answer, Event, Copied, Finished, Start, Container}
+use Rattle.laws_container.proofs.Names.{ContainerState, Answer, Event, Copied, Start, Container}
 use Rattle.laws_container.proofs.Names.{GetState, shows, Act, Copies, act, acts, acts_of, wrote_in, IsOneOf, Span}
 use Rattle.laws_container.proofs.Names.{Never, Open, Ended, own_after, span_of, ending_of, AreOwn, span_of-own}
 use Rattle.laws_container.proofs.Names.{some_none}

@@ -1,8 +1,8 @@
 -- In mode LockIfLastIndex a recovery finds some index filled after each that it frees, or the container locked, or its counter
 -- at its end.
-use Rattle.laws_container.proofs.Names.{◌≡◌, ◌⊎◌, ⊎_elim, inl, inr, ℕ, ◌<◌, true, false, List, [], ◌++◌, sym, subst}
-use Rattle.laws_container.proofs.Names.{◌∙◌, append-nil, arith, ReleaseMode, LockIfLastIndex, Default, Lock, Event}
-use Rattle.laws_container.proofs.Names.{UnlockedAtLast, is_locked, IsFilled, IsUnlocked, FilledSinceFreed, Frees}
+use Rattle.laws_container.proofs.Names.{◌≡◌, ◌⊎◌, ⊎_elim, inl, inr, ℕ, ◌<◌, true, false, List, [], ◌++◌, subst}
+use Rattle.laws_container.proofs.Names.{append-nil, arith, ReleaseMode, LockIfLastIndex, Default, Lock, Event}
+use Rattle.laws_container.proofs.Names.{UnlockedAtLast, is_locked, IsFilled, FilledSinceFreed, Frees}
 use Rattle.laws_container.proofs.Names.{set_acts_of, IsOneOf, BeginsNone, HeldSometime, held_later, held_so, no_more}
 use Rattle.laws_container.proofs.Names.{LockSays}
 use Rattle.steps.specs.declared.indices.robust.parts.Count as counts

@@ -1,5 +1,5 @@
 -- A turn moves a party's state in a look of its own alone, and an update that answers false has taken one step.
-use Rattle.laws_container.proofs.Names.{◌≡◌, ◌≢◌, ◌⊎◌, ⊎_elim, inr, ℕ, ◌==◌, ◌&&◌, ◌≤◌, if◌then◌else◌, Bool, true}
+use Rattle.laws_container.proofs.Names.{◌≡◌, ◌≢◌, ◌⊎◌, inr, ℕ, ◌==◌, ◌&&◌, ◌≤◌, if◌then◌else◌, Bool, true}
 use Rattle.laws_container.proofs.Names.{false, Option, Some, None, is_some, List, refl, sym, ap, subst, ◌∙◌, arith}
 use Rattle.laws_container.proofs.Names.{nat_tests, LookStage, ContainerState, Truth, Start, Container, Loan, Flight}
 use Rattle.laws_container.proofs.Names.{Registry, ContainerStart, GetState, UpdateState, ContainerFlight, LookOf}
@@ -7,7 +7,7 @@ use Rattle.laws_container.proofs.Names.{Doing, Going, Over, Party, Turn, Begin, 
 use Rattle.laws_container.proofs.Names.{is_question, beside_of, step_of, kept_after_begin, kept_after_death}
 use Rattle.laws_container.proofs.Names.{goes_after, states_after, writes_state, is_look_of, MovesInLooks}
 use Rattle.laws_container.proofs.Names.{BeginsWithState, KeepsStates, steps_of, state_in, is_looking, EndsLook, keeps}
-use Rattle.laws_container.proofs.Names.{state_of, with_state, fresh, loan_keeps, party_of, put, doing_of, flight_of}
+use Rattle.laws_container.proofs.Names.{state_of, with_state, fresh, loan_keeps, party_of, put}
 use Rattle.laws_container.proofs.Names.{progress_after, is_due, answer_in, old_of, number_of, after_begin, after_next}
 use Rattle.laws_container.proofs.Names.{after_decision, after_answer, ask_of_doing, after_turn, World, Trace}
 use Rattle.laws_container.proofs.Names.{flight_in, progress_in, party_put_same, found_put_other, StandsThere}

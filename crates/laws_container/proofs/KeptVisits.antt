@@ -1,17 +1,16 @@
 -- A recovery that began after the lock comes to no index.
-use Rattle.laws_container.proofs.Names.{◌≡◌, ◌⊎◌, ⊎_elim, ℕ, Bool, Option, Some, None, List, [], ◌∷◌, ◌++◌, refl, sym}
-use Rattle.laws_container.proofs.Names.{subst, arith, append_cancel_left, AllByRecursion, Answer, Event, Start}
-use Rattle.laws_container.proofs.Names.{Container, Flight, Registry, ContainerStart, ContainerFlight, Doing, Going}
-use Rattle.laws_container.proofs.Names.{Over, Party, Turn, Begin, Next, Decide, Die, Coding, beside_of, step_of}
+use Rattle.laws_container.proofs.Names.{◌≡◌, ◌⊎◌, ℕ, Bool, Option, Some, None, List, [], ◌∷◌, ◌++◌, refl}
+use Rattle.laws_container.proofs.Names.{arith, append_cancel_left, AllByRecursion, Answer, Event, Start}
+use Rattle.laws_container.proofs.Names.{Flight, Registry, ContainerStart, ContainerFlight, Doing, Going}
+use Rattle.laws_container.proofs.Names.{Over, Party, Turn, Next, Coding, beside_of, step_of}
 use Rattle.laws_container.proofs.Names.{after, BeganUnlocked, VisitsRight, VisitsUnlocked, state_of, effects}
-use Rattle.laws_container.proofs.Names.{questions, party_of, IsEffectOf, answer_in, old_of, number_of, ask_of_doing}
+use Rattle.laws_container.proofs.Names.{questions, party_of, IsEffectOf, old_of, number_of, ask_of_doing}
 use Rattle.laws_container.proofs.Names.{events_of_step, events_of_answer, events_of_next, events_of_decision}
 use Rattle.laws_container.proofs.Names.{events_of, ending_of, after_turn, Trace, StandsThere}
 use Rattle.model.specs.declared.families.Flight as flights
 use Rattle.model.proofs.Frame as frame
 use Rattle.laws_container.proofs.Invariant.{family_by}
 use Rattle.laws_container.proofs.Sound.{MayGoOn, Shown as AllShown, kept_now, IsThere, is_there}
-use Rattle.laws_container.proofs.Stages.{any_call}
 use Rattle.laws_container.proofs.Terms.{Terms}
 use Rattle.laws_container.proofs.Written.{all_effects}
 

@@ -7,7 +7,7 @@ use Rattle.laws_container.proofs.Names.{ne_eqb, nat_tests, set-get_or, flat_map-
 use Rattle.laws_container.proofs.Names.{ContainerState, change_word, count_word, element_word, is_even, look_asks}
 use Rattle.laws_container.proofs.Names.{look_goes_back, look_comes_to, look_finds, look_after, with_change, with_word}
 use Rattle.laws_container.proofs.Names.{Event, Copied, Party, Coding, ask_of, look_shows, shows, WasCopied, Act}
-use Rattle.laws_container.proofs.Names.{Copies, index_seen, seen_in, acts, contents_of, state_of, look_effects}
+use Rattle.laws_container.proofs.Names.{Copies, seen_in, acts, contents_of, state_of, look_effects}
 use Rattle.laws_container.proofs.Names.{copy_in, set_acts, old_of, words_after, step_count, some_none, loads}
 use Rattle.laws_container.proofs.Names.{exchanges, loads_same, fails_same, exchange_sets}
 use Rattle.steps.specs.declared.ask.After.TheVariants.{Done}

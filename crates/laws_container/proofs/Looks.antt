@@ -6,7 +6,7 @@ use Rattle.laws_container.proofs.Names.{ContainerState, look_asks, look_goes_bac
 use Rattle.laws_container.proofs.Names.{Container, ContainerStart, LookOf, Party, ask_of, most_steps, looked}
 use Rattle.laws_container.proofs.Names.{look_came, look_goes, settled_if, writes_state, is_looking, WasCopied, Act}
 use Rattle.laws_container.proofs.Names.{acts, seen_in, contents_after, contents_of, may_stand, HasDone, state_of}
-use Rattle.laws_container.proofs.Names.{set_state, settled, look_effects_of, SetAct, set_act, set_acts, BeginsNone}
+use Rattle.laws_container.proofs.Names.{set_state, settled, look_effects_of, SetAct, set_acts, BeginsNone}
 use Rattle.laws_container.proofs.Names.{put, flight_of, Open, old_of, words_after, step_count, ending_of, apart}
 use Rattle.laws_container.proofs.Names.{itself, AreOwn, GoneBy, IsWorn}
 use Rattle.std.specs.BTreeMap.{is_at}

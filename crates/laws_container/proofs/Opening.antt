@@ -1,5 +1,5 @@
 -- The container as it opens: nothing stands in it, and nobody has died.
-use Rattle.laws_container.proofs.Names.{◌≡◌, ℕ, zero, suc, ◌+◌, ◌*◌, ◌%◌, ◌^◌, ◌<◌, ◌≤◌, inl, Some, None, List, []}
+use Rattle.laws_container.proofs.Names.{◌≡◌, ℕ, zero, suc, ◌+◌, ◌*◌, ◌%◌, ◌^◌, ◌<◌, ◌≤◌, inl, None, List, []}
 use Rattle.laws_container.proofs.Names.{length, replicate, get_or, slice_get, refl, sym, ap, ◌∙◌, length-append}
 use Rattle.laws_container.proofs.Names.{arith, length-replicate, get_or-replicate, get_or-append-add, change_word}
 use Rattle.laws_container.proofs.Names.{count_word, no_element, value_if, Element, empty, Coding, IsCoding, shows}

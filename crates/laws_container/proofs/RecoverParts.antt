@@ -1,5 +1,5 @@
 -- What the steps of a recovery have in common: how it goes on, and how it comes to the next index.
-use Rattle.laws_container.proofs.Names.{◌≡◌, ◌≢◌, ◌⊎◌, ⊎_elim, inl, inr, ℕ, ◌+◌, ◌*◌, ◌<◌, ◌≤◌, if◌then◌else◌, nat_lt}
+use Rattle.laws_container.proofs.Names.{◌≡◌, ◌≢◌, ◌⊎◌, inl, inr, ℕ, ◌+◌, ◌*◌, ◌<◌, ◌≤◌, if◌then◌else◌, nat_lt}
 use Rattle.laws_container.proofs.Names.{Bool, false, true, Option, Some, List, [], ◌++◌, refl, sym, ap, subst, arith}
 use Rattle.laws_container.proofs.Names.{AllByRecursion, nat_tests, Ask, After, GoOn, RecoverStage, ReleaseMode}
 use Rattle.laws_container.proofs.Names.{ReleaseState, recover_comes_to, empty, went_on, Answer, Event, Container}

@@ -5,7 +5,7 @@ use Rattle.laws_container.proofs.Names.{refl, sym, ap, subst, ◌∙◌, append-
 use Rattle.laws_container.proofs.Names.{ReleaseState, RecoverStage, ReleaseMode, LockIfLastIndex, Default, count_word}
 use Rattle.laws_container.proofs.Names.{is_even, recover_comes_to, recover_ends, recover_sees, cell_word, empty}
 use Rattle.laws_container.proofs.Names.{locked, Event, Shown, Party, WasShown, Act, Sees, acts_of, seen_in}
-use Rattle.laws_container.proofs.Names.{contents_of, cell_of, IsFilledWith, IsUnlocked, HeldThroughout, StillToFree}
+use Rattle.laws_container.proofs.Names.{contents_of, IsFilledWith, IsUnlocked, HeldThroughout, StillToFree}
 use Rattle.laws_container.proofs.Names.{SetAct, Frees, Asks, Yes, set_acts_of, IsOneOf, asked_in, words_after}
 use Rattle.laws_container.proofs.Names.{step_count, held_now, held_later, no_more, IsWorn, counter_of, cell}
 use Rattle.laws_container.proofs.Names.{filled_by, is_shut, unlocked, through_now, loads_same}

@@ -1,6 +1,6 @@
 -- What a recovery knows once its party has taken a turn: of moments, of what it has asked about, and of what it has lost.
 use Rattle.laws_container.proofs.Names.{◌≡◌, ◌≢◌, ◌⊎◌, ⊎_elim, inl, inr, ℕ, ◌+◌, ◌<◌, ◌≤◌, Some, List, [], ◌∷◌, ◌++◌}
-use Rattle.laws_container.proofs.Names.{sym, ap, subst, ◌∙◌, append_assoc, append-nil, arith, cases_eq}
+use Rattle.laws_container.proofs.Names.{sym, subst, append_assoc, append-nil, arith, cases_eq}
 use Rattle.laws_container.proofs.Names.{flat_map-append, ContainerState, Event, Party, Coding, WasShown, Act, Sees}
 use Rattle.laws_container.proofs.Names.{acts, acts_of, index_seen, seen_in, IsUnlocked, HeldThroughout, StillToFree}
 use Rattle.laws_container.proofs.Names.{SetAct, Frees, Asks, Yes, index_asked, asked_in, set_acts, set_acts_of}

@@ -4,11 +4,11 @@ use Rattle.laws_container.proofs.Names.{◌≡◌, ◌≢◌, ◌⊎◌, ⊎_eli
 use Rattle.laws_container.proofs.Names.{false, true, Option, Some, None, List, [], ◌∷◌, ◌++◌, set, refl, sym, ap}
 use Rattle.laws_container.proofs.Names.{subst, ◌∙◌, arith, Ok, fold-append, Ask, After, GoOn}
 use Rattle.laws_container.proofs.Names.{ContainerHandleNotOwnedByContainer, RemoveStage, ReleaseMode, LockIfLastIndex}
-use Rattle.laws_container.proofs.Names.{Default, ReleaseState, GiveBack, ReleaseStage, count_word, is_even, Removed}
+use Rattle.laws_container.proofs.Names.{ReleaseState, GiveBack, ReleaseStage, count_word, is_even, Removed}
 use Rattle.laws_container.proofs.Names.{at_remove, remove_released, cell_word, empty, locked, greatest, went_on}
 use Rattle.laws_container.proofs.Names.{Answer, Event, FreedOf, Locked, Finished, Container, ContainerStart}
 use Rattle.laws_container.proofs.Names.{ContainerFlight, Party, place_of, removed, promise, Act, contents_after}
-use Rattle.laws_container.proofs.Names.{HasDone, locked_after, is_locked, IsUnlocked, LivesToRelease, MayGiveBack}
+use Rattle.laws_container.proofs.Names.{HasDone, locked_after, is_locked, LivesToRelease}
 use Rattle.laws_container.proofs.Names.{SetAct, Frees, Locks, set_acts, filled_of, holder_of, settled_of, IsOneOf}
 use Rattle.laws_container.proofs.Names.{as_it_is, SinceBegin, put, Stands, Open, span_of, as_call, words_after}
 use Rattle.laws_container.proofs.Names.{step_count, held_now, AllFollow, no_more, GoneBy, Word, is_gone}

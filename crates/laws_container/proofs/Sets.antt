@@ -1,8 +1,8 @@
 -- What the container's own steps do to its set of indices: nothing, but that the end of an add gives its right away.
-use Rattle.laws_container.proofs.Names.{◌≡◌, ℕ, ◌+◌, ◌≤◌, ◌==◌, false, true, None, List, [], ◌∷◌, ◌++◌, length, set}
-use Rattle.laws_container.proofs.Names.{refl, sym, ap, ◌∙◌, arith, get_or-set_other, length-set, fold-append}
-use Rattle.laws_container.proofs.Names.{cell_word, locked, Index, Event, Placed, Hidden, Finished, Container}
-use Rattle.laws_container.proofs.Names.{holder_after, holder_of, IsCalm, counter_of, cell, Quiet, gives, Scene, Inv}
+use Rattle.laws_container.proofs.Names.{◌≡◌, ℕ, ◌+◌, ◌≤◌, false, true, None, List, [], ◌∷◌, ◌++◌, length, set}
+use Rattle.laws_container.proofs.Names.{refl, ◌∙◌, arith, get_or-set_other, length-set, fold-append}
+use Rattle.laws_container.proofs.Names.{locked, Index, Event, Placed, Hidden, Finished, Container}
+use Rattle.laws_container.proofs.Names.{holder_after, holder_of, IsCalm, cell, Quiet, gives, Scene, Inv}
 use Rattle.laws_container.proofs.Names.{Good, Does}
 use Rattle.model.specs.declared.families.container.ContainerStart.TheVariants.{Add}
 use Rattle.laws_robust.proofs.Effects.{Leaves}

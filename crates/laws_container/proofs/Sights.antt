@@ -1,6 +1,6 @@
 -- What is so of a party's state: between its looks, and while a look goes over the indices. It stays so over any turn.
-use Rattle.laws_container.proofs.Names.{◌≡◌, ◌≢◌, ◌⊎◌, ⊎_elim, inl, inr, ℕ, ◌<◌, ◌≤◌, true, Option, Some, None}
-use Rattle.laws_container.proofs.Names.{is_some, List, ◌++◌, length, slice_get, slice_index_or, sym, ap, subst, ◌∙◌}
+use Rattle.laws_container.proofs.Names.{◌≡◌, ◌≢◌, ◌⊎◌, inl, inr, ℕ, ◌<◌, ◌≤◌, true, Option, Some, None}
+use Rattle.laws_container.proofs.Names.{is_some, List, ◌++◌, length, slice_get, slice_index_or, sym, subst, ◌∙◌}
 use Rattle.laws_container.proofs.Names.{append_assoc, arith, ContainerState, Element, Event, Coding, shows, WasCopied}
 use Rattle.laws_container.proofs.Names.{WasAlone, contents_of, announced_of, HeldThroughout, BeginsNone, HeldSometime}
 use Rattle.laws_container.proofs.Names.{held_later, through_less, through_now}

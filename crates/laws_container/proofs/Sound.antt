@@ -3,7 +3,7 @@
 use Rattle.laws_container.proofs.Names.{◌≡◌, ℕ, ◌+◌, ◌-◌, ◌^◌, ◌<◌, ◌≤◌, inl, if◌then◌else◌, Bool, true, false}
 use Rattle.laws_container.proofs.Names.{Option, Some, None, option_map, List, [], ◌∷◌, ◌++◌, refl, sym, ap, subst}
 use Rattle.laws_container.proofs.Names.{◌∙◌, arith, ContainerState, Event, Begun, Died, Start, Container, Flight}
-use Rattle.laws_container.proofs.Names.{Registry, ContainerStart, ContainerFlight, Going, Party, OwnerIsDead, Coding}
+use Rattle.laws_container.proofs.Names.{Registry, ContainerStart, ContainerFlight, Going, Party, Coding}
 use Rattle.laws_container.proofs.Names.{IsCoding, first_of, want_of, is_question, going_rows, beside_of, step_of}
 use Rattle.laws_container.proofs.Names.{kept_after_death, kept_after_begin, first, acts_for_dead, opening_words}
 use Rattle.laws_container.proofs.Names.{names_owner, states_at_begin, has_died, dead_with, is_dead, wrote_in, is_loan}

@@ -5,7 +5,7 @@ use Rattle.laws_container.proofs.Names.{fold-append, Ask, After, GoOn, Container
 use Rattle.laws_container.proofs.Names.{Container, Flight, ContainerStart, ContainerFlight, Over, Party, ask_of}
 use Rattle.laws_container.proofs.Names.{most_steps, want, after, goes_back, states_after, is_looking}
 use Rattle.laws_container.proofs.Names.{StandsWellFormed, promise, Act, act, acts, acts_of, state_of, effects}
-use Rattle.laws_container.proofs.Names.{questions, SetAct, set_act, set_acts, wrote_in, set_acts_of, party_of, put}
+use Rattle.laws_container.proofs.Names.{questions, SetAct, set_act, set_acts, set_acts_of, party_of, put}
 use Rattle.laws_container.proofs.Names.{doing_of, flight_of, Stands, Open, own_after, span_of, as_call, answer_in}
 use Rattle.laws_container.proofs.Names.{old_of, words_after, change_of, step_count, number_of, party_after, ending_of}
 use Rattle.laws_container.proofs.Names.{one_if, AreOwn, AllFollow, span_of-own, both_ways, is_seen}

@@ -5,7 +5,7 @@ use Rattle.laws_container.proofs.Names.{Option, Some, None, is_none, is_some, Li
 use Rattle.laws_container.proofs.Names.{subst, ◌∙◌, arith, nat_tests, append_cancel_left, After, GoOn, FindStage}
 use Rattle.laws_container.proofs.Names.{at_find, find_comes_to, is_even, empty, one_more, went_on, Answer, Number}
 use Rattle.laws_container.proofs.Names.{Event, Finished, Start, Container, Flight, Registry, ContainerStart}
-use Rattle.laws_container.proofs.Names.{ContainerFlight, Doing, Going, Over, Party, Idle, Undecided, Turn, Begin}
+use Rattle.laws_container.proofs.Names.{ContainerFlight, Doing, Going, Over, Party, Turn, Begin}
 use Rattle.laws_container.proofs.Names.{Next, Decide, Die, Coding, want_of, ask_of, is_question, beside_of, step_of}
 use Rattle.laws_container.proofs.Names.{want, after, IsFoundWhole, question_in, question_at, contents_of, state_of}
 use Rattle.laws_container.proofs.Names.{effects, questions, IsFilledWith, IsCount, as_it_is, read_in, party_of, put}

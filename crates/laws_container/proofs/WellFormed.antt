@@ -1,6 +1,6 @@
 -- A well-formed run, of its events and the parties' latest calls; and that a run was well-formed a turn ago.
 use Rattle.std.proofs.Common.{arith}
-use Rattle.laws_container.proofs.Names.{◌≡◌, ◌≢◌, ⊎_elim, ℕ, Option, Some, None, List, ◌∷◌, ◌++◌, refl, sym, ap}
+use Rattle.laws_container.proofs.Names.{◌≡◌, ◌≢◌, ⊎_elim, ℕ, Option, Some, None, List, ◌++◌, refl, sym}
 use Rattle.laws_container.proofs.Names.{subst, ◌∙◌, append_assoc, cases_eq, Event, Party, ReplacesRight}
 use Rattle.laws_container.proofs.Names.{StandsWellFormed, IsWellFormedRun, IsFilledWith, BeginsNone, party_of, put}
 use Rattle.laws_container.proofs.Names.{Each, span_of, Trace, others_begin_none, held_later, party_put_other, AreOwn}

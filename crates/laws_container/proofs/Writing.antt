@@ -1,6 +1,6 @@
 -- The steps of a call that may write at an index, an add or a replace: it loads the number there, hides what an earlier owner
 -- left, stores the words of its value, and places it. What each step leads to is what the caller makes of it.
-use Rattle.laws_container.proofs.Names.{◌≡◌, ℕ, ◌%◌, ◌<◌, false, true, Some, List, set, refl, sym, ap, ◌∙◌, arith}
+use Rattle.laws_container.proofs.Names.{◌≡◌, ℕ, ◌%◌, ◌<◌, false, true, Some, List, set, refl, arith}
 use Rattle.laws_container.proofs.Names.{nat_tests, Ask, change_word, count_word, is_even, one_more, words_after}
 use Rattle.laws_container.proofs.Names.{exchanges, exchange_sets}
 use Rattle.steps.specs.declared.ask.Op.TheVariants.{Add, Store}

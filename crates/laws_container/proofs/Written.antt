@@ -1,6 +1,6 @@
 -- What a step writes down apart from an end: events of its party.
-use Rattle.laws_container.proofs.Names.{ℕ, ◌==◌, if◌then◌else◌, Bool, true, false, Option, List, [], ◌∷◌, ◌++◌, arith}
-use Rattle.laws_container.proofs.Names.{AllByRecursion, DeadOwner, RecoverStage, ContainerState, Event, Asked}
+use Rattle.laws_container.proofs.Names.{ℕ, if◌then◌else◌, Bool, true, false, Option, List, [], ◌∷◌, ◌++◌, arith}
+use Rattle.laws_container.proofs.Names.{AllByRecursion, DeadOwner, RecoverStage, ContainerState, Event}
 use Rattle.laws_container.proofs.Names.{ContainerFlight, Turn, Coding, effects, question_of, questions, IsParty}
 use Rattle.laws_container.proofs.Names.{IsEffectOf}
 use Rattle.steps.specs.declared.container.recover.RecoverStage as recovers

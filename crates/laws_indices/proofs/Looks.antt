@@ -1,12 +1,11 @@
 -- The steps of the calls that look at the head: how many indices are borrowed, and whether the set is locked.
-use Rattle.std.proofs.Common.{◌≡◌, ◌≢◌, ℕ, ◌+◌, ◌≤◌, true, false, Option, Some, List, refl, sym, ap, subst, ◌∙◌, arith}
+use Rattle.std.proofs.Common.{◌≡◌, ◌≢◌, ℕ, ◌+◌, ◌≤◌, true, false, Option, Some, List, refl, sym, ◌∙◌, arith}
 use Rattle.std.proofs.lemmas.Bool.Decides.{nat_tests}
 use Rattle.std.proofs.lemmas.List.{set-get_or}
 use Rattle.steps.specs.declared.ask.Ask.{Ask}
 use Rattle.steps.specs.declared.ask.Op.TheVariants.{Load}
 use Rattle.steps.specs.Indices.Head.{borrowed, locked, says_locked}
 use Rattle.steps.specs.Indices.Unique.{borrowed_number}
-use Rattle.model.specs.declared.event.Answer.TheVariants.{Number, Truth}
 use Rattle.model.specs.declared.families.indices.IndexStart as starts
 use Rattle.model.specs.declared.families.indices.calls.IndexFlight.{IndexFlight}
 use Rattle.model.specs.declared.families.indices.calls.IndexFlight.TheVariants.{BorrowedIndices, IsLocked}

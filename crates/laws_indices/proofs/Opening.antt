@@ -1,6 +1,6 @@
 -- The unique index set as it opens: nobody holds an index, and no flag stands.
-use Rattle.std.proofs.Common.{◌≡◌, ℕ, zero, suc, ◌+◌, ◌/◌, ◌<◌, ◌≤◌, inl, Option, None, is_some, ◌++◌, length}
-use Rattle.std.proofs.Common.{replicate, get_or, refl, sym, ap, ◌∙◌, arith, length-append, get_or-append-add}
+use Rattle.std.proofs.Common.{◌≡◌, ℕ, zero, suc, ◌+◌, ◌/◌, ◌<◌, ◌≤◌, inl, None, is_some, ◌++◌, length}
+use Rattle.std.proofs.Common.{replicate, get_or, refl, ap, ◌∙◌, arith, length-append, get_or-append-add}
 use Rattle.std.proofs.lemmas.List.{length-replicate}
 use Rattle.std.proofs.lemmas.List.FromFn.{length-range_with_len}
 use Rattle.std.specs.List.{range_with_len}

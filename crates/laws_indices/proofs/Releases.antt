@@ -1,6 +1,6 @@
 -- The steps of a release, in both modes.
-use Rattle.std.proofs.Common.{◌≡◌, ◌≢◌, ℕ, ◌+◌, ◌-◌, ◌*◌, ◌%◌, ◌^◌, ◌<◌, ◌≤◌, ◌==◌, inl, Bool, true, false, bit_and}
-use Rattle.std.proofs.Common.{Option, Some, None, List, get_or, set, refl, sym, ap, subst, ◌∙◌, arith, get_or-set_same}
+use Rattle.std.proofs.Common.{◌≡◌, ◌≢◌, ℕ, ◌+◌, ◌-◌, ◌*◌, ◌%◌, ◌^◌, ◌<◌, ◌≤◌, ◌==◌, inl, Bool, true, false}
+use Rattle.std.proofs.Common.{Option, Some, None, List, set, refl, sym, ap, subst, ◌∙◌, arith, get_or-set_same}
 use Rattle.std.proofs.lemmas.Bool.Decides.{nat_tests}
 use Rattle.std.proofs.lemmas.List.{set-get_or}
 use Rattle.steps.specs.declared.ask.Ask.{Ask}

@@ -1,8 +1,8 @@
 -- The state of a loan channel's machine: its three parts with what they hold, its book and the events, what holds of them
 -- between two turns, and how it opens.
-use Rattle.laws_loan.proofs.Names.{◌≡◌, ◌≢◌, ℕ, zero, suc, ◌+◌, ◌^◌, ◌<◌, ◌≤◌, ⊎_elim, Option, None, List, [], ◌++◌}
-use Rattle.laws_loan.proofs.Names.{replicate, refl, ◌∙◌, length-replicate, Place, locked, place_at, Event, Registry}
-use Rattle.laws_loan.proofs.Names.{Book, opening_words, opening_book, opening_kept, KeepsBook, Free, Passing, With}
+use Rattle.laws_loan.proofs.Names.{◌≡◌, ◌≢◌, ℕ, zero, suc, ◌+◌, ◌^◌, ◌<◌, ◌≤◌, Option, None, List, [], ◌++◌}
+use Rattle.laws_loan.proofs.Names.{replicate, refl, length-replicate, Place, locked, place_at, Event, Registry}
+use Rattle.laws_loan.proofs.Names.{Book, opening_words, opening_book, opening_kept, KeepsBook, Free}
 use Rattle.laws_loan.proofs.Names.{words_of_index, Core, layout}
 use Rattle.std.proofs.Common.{arith}
 use Rattle.steps.specs.declared.loan.places.Place.TheVariants as places

@@ -4,7 +4,7 @@ use Rattle.laws_loan.proofs.Names.{[], ◌∷◌, ◌++◌, refl, sym, ap, subst
 use Rattle.laws_loan.proofs.Names.{fold-append, Event, Died, Start, Flight, Registry, LoanStart, LoanFlight, Party}
 use Rattle.laws_loan.proofs.Names.{Coding, kept_after_death, has_died, dead_with, MovesRight, BeginsRight}
 use Rattle.laws_loan.proofs.Names.{AnswersRight, spot_of, receiver_after, receiver_of, died_after, has_died_by}
-use Rattle.laws_loan.proofs.Names.{reclaims_after, span_of, Trace, Each-append, span_of-death, MayDie}
+use Rattle.laws_loan.proofs.Names.{reclaims_after, Trace, Each-append, span_of-death, MayDie}
 use Rattle.std.proofs.Common.{arith}
 use Rattle.model.specs.declared.event.Start.TheVariants as starts
 use Rattle.model.specs.declared.families.Flight as flights

@@ -3,9 +3,9 @@ use Rattle.laws_loan.proofs.Names.{◌≡◌, ◌≢◌, ℕ, suc, ◌+◌, ◌%
 use Rattle.laws_loan.proofs.Names.{not, Option, Some, List, [], ◌∷◌, ◌++◌, length, get_or, refl, sym, ap, subst, ◌∙◌}
 use Rattle.laws_loan.proofs.Names.{append-nil, length-append, nat_tests, nil_from_length, set-get_or, flat_map-append}
 use Rattle.laws_loan.proofs.Names.{fold-append, Ask, After, GoOn, ReclaimStage, submission_word, reclaim_goes_back}
-use Rattle.laws_loan.proofs.Names.{load, Answer, Event, HandedOut, Item, Index, LoanFlight, Effect, Party, Coding}
+use Rattle.laws_loan.proofs.Names.{load, Answer, Event, HandedOut, Index, LoanFlight, Effect, Party, Coding}
 use Rattle.laws_loan.proofs.Names.{ask_of, Waiting, spot_of, receiver_after, takes_back, taken_back, freed, sent_at}
-use Rattle.laws_loan.proofs.Names.{words_of_index, answer_of_item, hands_out, handed_out, Open, span_of, old_of}
+use Rattle.laws_loan.proofs.Names.{words_of_index, hands_out, handed_out, Open, span_of, old_of}
 use Rattle.laws_loan.proofs.Names.{words_after, change_of, step_count, oldest, pop_front, Core, taken, layout}
 use Rattle.std.proofs.Common.{arith}
 use Rattle.steps.specs.declared.loan.reclaim.ReclaimStage as reclaims
@@ -26,7 +26,7 @@ use Rattle.laws_loan.proofs.ReclaimGoes as steps
 use Rattle.laws_loan.proofs.ReclaimGoes.{start, asked, old, Does}
 use Rattle.laws_loan.proofs.Reclaiming.{reclaim_at, none_more, passing_before, passing_sent}
 use Rattle.laws_loan.proofs.Rooms.{sent_below}
-use Rattle.laws_loan.proofs.Spots.{is_waiting, waits_there}
+use Rattle.laws_loan.proofs.Spots.{waits_there}
 use Rattle.laws_loan.proofs.Submission as submission
 use Rattle.laws_loan.proofs.Table.{waiting_away, hands_it_out}
 use Rattle.laws_loan.proofs.Told.{items, Tells}

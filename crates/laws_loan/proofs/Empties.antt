@@ -6,7 +6,7 @@ use Rattle.laws_loan.proofs.Names.{flat_map-append, fold-append, Ask, After, GoO
 use Rattle.laws_loan.proofs.Names.{next_sent, reclaim_goes_back, reclaim_releases, load, Answer, Number, Event}
 use Rattle.laws_loan.proofs.Names.{TakenBack, LoanFlight, Reclaim, Effect, Party, Coding, ask_of, Returning, spot_of}
 use Rattle.laws_loan.proofs.Names.{receiver_after, takes_back, taken_back, freed, given_back_at, words_of_index, Open}
-use Rattle.laws_loan.proofs.Names.{Ended, own_after, span_of, as_call, old_of, words_after, step_count, span_of-own}
+use Rattle.laws_loan.proofs.Names.{Ended, span_of, as_call, old_of, words_after, step_count, span_of-own}
 use Rattle.laws_loan.proofs.Names.{Core, taken, layout}
 use Rattle.std.proofs.Common.{arith}
 use Rattle.steps.specs.declared.ask.After.TheVariants.{Done}
@@ -33,7 +33,7 @@ use Rattle.laws_loan.proofs.Reclaiming.{reclaim_at, none_more, passing_before, p
 use Rattle.laws_loan.proofs.Rooms.{back_below}
 use Rattle.laws_loan.proofs.Sender.{party_then, Steps}
 use Rattle.laws_loan.proofs.Sents.{ComesTo, IsHome, comes_to, all_home}
-use Rattle.laws_loan.proofs.Spots.{is_returning, returns_there}
+use Rattle.laws_loan.proofs.Spots.{returns_there}
 use Rattle.laws_loan.proofs.Table.{returning_away, takes_it_back}
 use Rattle.laws_loan.proofs.Theirs.{dead_stays}
 use Rattle.laws_loan.proofs.Told.{is_reclaiming}

@@ -14,7 +14,7 @@ use Rattle.model.proofs.Frame as frame
 use Rattle.laws_indices.proofs.Core as indices
 use Rattle.laws_queues.proofs.Queues.Core.{Good}
 use Rattle.laws_loan.proofs.Channel.{Channel, Holds, words_in}
-use Rattle.laws_loan.proofs.Invariant.{Hangs, sends_at, counted_for, hung, reclaims_in, Carries, HoldsNow, family}
+use Rattle.laws_loan.proofs.Invariant.{sends_at, counted_for, reclaims_in, Carries, HoldsNow, family}
 use Rattle.laws_loan.proofs.Knows.{number_of, wrote_in, At, FlightKnows}
 use Rattle.laws_loan.proofs.Mine.{Gives, given_then, at_given}
 use Rattle.laws_loan.proofs.OnQueues.{silent_tells}

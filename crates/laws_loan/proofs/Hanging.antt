@@ -1,10 +1,10 @@
 -- A send that has published over a full queue and waits for the read position: which send that is, and what becomes of a span
 -- where a receive makes it act.
-use Rattle.laws_loan.proofs.Names.{◌≡◌, ℕ, ◌<◌, ⊎_elim, inl, inr, Option, Some, None, option_map, List, [], ◌∷◌, ◌++◌}
-use Rattle.laws_loan.proofs.Names.{fold, refl, ap, ◌∙◌, append-nil, eq-eqb, flat_map-append, submission_word, load}
-use Rattle.laws_loan.proofs.Names.{Event, Published, Acted, PoppedNone, Index, Start, Flight, LoanStart, LoanFlight}
-use Rattle.laws_loan.proofs.Names.{Send, Party, Coding, gives_back, takes_back, read_in, pending_send, pending}
-use Rattle.laws_loan.proofs.Names.{beside, room_made, hands_out, doing_of, flight_of, Span, Never, Open, Ended}
+use Rattle.laws_loan.proofs.Names.{◌≡◌, ℕ, ◌<◌, inl, inr, Option, Some, None, option_map, List, [], ◌∷◌, ◌++◌}
+use Rattle.laws_loan.proofs.Names.{fold, append-nil, eq-eqb, flat_map-append, submission_word, load}
+use Rattle.laws_loan.proofs.Names.{Event, Published, Index, Start, Flight, LoanStart, LoanFlight}
+use Rattle.laws_loan.proofs.Names.{Party, Coding, gives_back, takes_back, read_in, pending}
+use Rattle.laws_loan.proofs.Names.{beside, room_made, hands_out, doing_of, flight_of, Span, Open}
 use Rattle.laws_loan.proofs.Names.{own_after, span_of, AreOwn}
 use Rattle.std.proofs.Common.{flat_map, arith}
 use Rattle.model.specs.declared.event.Start.TheVariants as starts
@@ -16,7 +16,7 @@ use Rattle.model.specs.Parties.{party_of}
 use Rattle.model.proofs.Frame as frame
 use Rattle.laws_loan.proofs.Channel.{Channel, words_in}
 use Rattle.laws_loan.proofs.Invariant.{sends_at, counted_for, hung, reclaims_in, Carries, HoldsNow, family}
-use Rattle.laws_loan.proofs.Knows.{send_of, wrote_in, At}
+use Rattle.laws_loan.proofs.Knows.{send_of, At}
 use Rattle.laws_loan.proofs.Parts.{submission_long, submission_old}
 use Rattle.laws_loan.proofs.Still.{AreStill}
 

@@ -1,10 +1,10 @@
 -- Who has died does nothing more: what a turn writes down finds its party alive, since the turn has passed its rows.
-use Rattle.laws_loan.proofs.Names.{◌≡◌, ℕ, Bool, false, Option, Some, None, List, [], ◌∷◌, ◌++◌, refl, sym, subst}
-use Rattle.laws_loan.proofs.Names.{◌∙◌, fold-append, Event, Begun, Start, Flight, Registry, Doing, Going, Over, Party}
+use Rattle.laws_loan.proofs.Names.{◌≡◌, ℕ, Bool, false, Option, Some, None, List, [], ◌∷◌, ◌++◌, refl, subst}
+use Rattle.laws_loan.proofs.Names.{◌∙◌, fold-append, Event, Begun, Start, Flight, Registry, Doing, Party}
 use Rattle.laws_loan.proofs.Names.{Turn, Begin, Next, Decide, Die, Coding, step_of, going_rows, is_dead, has_died}
 use Rattle.laws_loan.proofs.Names.{LivesRight, died_after, has_died_by, Each, call_refusal, first_row, events_of_step}
-use Rattle.laws_loan.proofs.Names.{events_of_answer, events_of_next, events_of_decision, events_of, old_of}
-use Rattle.laws_loan.proofs.Names.{ask_of_doing, number_of, after_turn, Trace, flight_in, AreRight, Each-append}
+use Rattle.laws_loan.proofs.Names.{events_of_answer, events_of_next, events_of_decision, events_of}
+use Rattle.laws_loan.proofs.Names.{number_of, after_turn, Trace, flight_in, AreRight, Each-append}
 use Rattle.laws_loan.proofs.Names.{may_begin, may_die, next_passes, decision_passes, MayBegin, stands_there}
 use native.Mathlib.Omega.{arith}
 use Rattle.model.specs.Parties.{party_of}

@@ -1,7 +1,7 @@
 -- A loan's acquire, as steps of the machine.
 use Rattle.std.proofs.Common.{arith}
 use Rattle.laws_loan.proofs.Names.{Ok, Err, ◌≡◌, ℕ, ◌-◌, ◌^◌, ◌<◌, false, Bool, Option, Some, List, [], ◌∷◌, ◌++◌}
-use Rattle.laws_loan.proofs.Names.{set, refl, sym, ap, subst, ◌∙◌, Ask, After, GoOn, AcquireStage, Acquired}
+use Rattle.laws_loan.proofs.Names.{set, refl, sym, subst, Ask, After, GoOn, AcquireStage, Acquired}
 use Rattle.laws_loan.proofs.Names.{acquire_asks, acquire_takes, acquire_goes_back, went_on, Answer, Event, Claimed}
 use Rattle.laws_loan.proofs.Names.{Finished, Book, LoanFlight, Party, Coding, ask_of, book_after, as_it_is, Open}
 use Rattle.laws_loan.proofs.Names.{span_of, as_call, old_of, words_after, Trace}

@@ -1,7 +1,7 @@
 -- A step of the sender's call that changes no word of the indices, and those of the two queues so.
 use Rattle.std.proofs.Common.{arith}
-use Rattle.laws_loan.proofs.Names.{◌≡◌, ℕ, ◌+◌, ◌≤◌, Bool, Some, List, [], ◌++◌, fold, sym, ap, subst, ◌∙◌}
-use Rattle.laws_loan.proofs.Names.{append-nil, refl, Event, Book, Party, MovesRight, BeginsRight, AnswersRight}
+use Rattle.laws_loan.proofs.Names.{◌≡◌, ℕ, ◌+◌, ◌≤◌, Bool, Some, List, [], ◌++◌, fold, ap, ◌∙◌}
+use Rattle.laws_loan.proofs.Names.{append-nil, Event, Book, Party, MovesRight, BeginsRight, AnswersRight}
 use Rattle.laws_loan.proofs.Names.{Passing, spot_of, receiver_of, given_back, taken_back, reclaims_after, as_queue}
 use Rattle.laws_loan.proofs.Names.{words_of_index, handed_out, put, doing_of, flight_of, span_of, party_put_same}
 use Rattle.laws_loan.proofs.Names.{AreRight, Core}

@@ -1,6 +1,6 @@
 -- A step of the sender's call that changes no word but those of the indices, and tells of neither queue.
-use Rattle.laws_loan.proofs.Names.{◌≡◌, ◌≢◌, ℕ, ◌+◌, ◌≤◌, Option, Some, None, List, [], ◌++◌, fold, sym, ap, subst}
-use Rattle.laws_loan.proofs.Names.{◌∙◌, append-nil, refl, locked, Event, Book, Party, MovesRight, BeginsRight}
+use Rattle.laws_loan.proofs.Names.{◌≡◌, ◌≢◌, ℕ, ◌+◌, ◌≤◌, Option, Some, None, List, [], ◌++◌, fold, ap}
+use Rattle.laws_loan.proofs.Names.{append-nil, locked, Event, Book, Party, MovesRight, BeginsRight}
 use Rattle.laws_loan.proofs.Names.{AnswersRight, Passing, spot_of, receiver_of, given_back, taken_back}
 use Rattle.laws_loan.proofs.Names.{reclaims_after, as_queue, handed_out, put, doing_of, flight_of, span_of}
 use Rattle.laws_loan.proofs.Names.{party_put_same, AreRight}
@@ -8,7 +8,7 @@ use Rattle.std.proofs.Common.{arith}
 use Rattle.model.specs.Families.Queues.Reading.{published}
 use Rattle.laws_indices.proofs.Core as indices
 use Rattle.laws_loan.proofs.Channel.{Channel, Holds}
-use Rattle.laws_loan.proofs.Invariant.{Hangs, sends_at, counted_for, hung, reclaims_in, Carries, HoldsNow}
+use Rattle.laws_loan.proofs.Invariant.{sends_at, counted_for, hung, reclaims_in, Carries, HoldsNow}
 use Rattle.laws_loan.proofs.Placed.{Placed}
 use Rattle.laws_loan.proofs.Told.{items, is_reclaiming, Tells}
 use Rattle.laws_loan.proofs.Turns.{Shows}

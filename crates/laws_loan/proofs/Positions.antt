@@ -1,5 +1,5 @@
 -- The words of a loan channel at which its sends and receives act: the positions of the submission queue.
-use Rattle.laws_loan.proofs.Names.{◌≡◌, ℕ, ◌+◌, ◌-◌, ◌^◌, ◌<◌, Some, List, ◌∷◌, ◌++◌, length, get_or, sym, ap, subst}
+use Rattle.laws_loan.proofs.Names.{◌≡◌, ℕ, ◌+◌, ◌-◌, ◌^◌, ◌<◌, Some, List, ◌∷◌, ◌++◌, length, get_or, sym, ap}
 use Rattle.laws_loan.proofs.Names.{◌∙◌, get_or-append-add, Exchange, submission_word, shifted, move, after_position}
 use Rattle.laws_loan.proofs.Names.{ask_of, read_word, AddsOne, old_of, words_after, layout}
 use Rattle.std.proofs.Common.{arith}

@@ -4,7 +4,7 @@ use Rattle.laws_loan.proofs.Names.{[], ◌∷◌, ◌++◌, length, fold, refl, 
 use Rattle.laws_loan.proofs.Names.{length-append, nat_tests, map-append, fold-append, Ask, After, GoOn}
 use Rattle.laws_loan.proofs.Names.{submission_word, distance, Answer, Event, Published, Acted, Finished, Item, Index}
 use Rattle.laws_loan.proofs.Names.{Start, Book, LoanFlight, Effect, Party, Coding, MovesRight, BeginsRight}
-use Rattle.laws_loan.proofs.Names.{AnswersRight, promise, Passing, Waiting, spot_of, receiver_after, receiver_of}
+use Rattle.laws_loan.proofs.Names.{AnswersRight, promise, Passing, Waiting, spot_of, receiver_of}
 use Rattle.laws_loan.proofs.Names.{reclaims_after, read_in, book_after, words_of_index, answer_of_item, flight_of}
 use Rattle.laws_loan.proofs.Names.{Stands, Open, own_after, span_of, change_of, AreOwn, AllFollow, AreRight}
 use Rattle.laws_loan.proofs.Names.{span_of-own, push_room, push_waits, publish_keeps_pop, Core, Holds}

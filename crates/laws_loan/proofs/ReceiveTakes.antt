@@ -1,6 +1,6 @@
 -- The step of a receive that takes an index out: what it shows, and what it owes to the sender, whose send may have waited for it.
 use Rattle.laws_loan.proofs.Names.{◌≡◌, ◌≢◌, ℕ, suc, ◌+◌, ◌-◌, ◌*◌, ◌^◌, ◌<◌, ◌≤◌, ⊎_elim, inr, false, Option, Some}
-use Rattle.laws_loan.proofs.Names.{None, List, [], ◌∷◌, ◌++◌, length, set, refl, sym, ap, subst, ◌∙◌, cases_eq, Ask}
+use Rattle.laws_loan.proofs.Names.{List, [], ◌∷◌, ◌++◌, length, set, refl, sym, ap, subst, ◌∙◌, cases_eq, Ask}
 use Rattle.laws_loan.proofs.Names.{submission_word, shifted, Event, Start, Flight, Book, Party, Coding, ask_of}
 use Rattle.laws_loan.proofs.Names.{has_died, Passing, Waiting, spot_of, put, doing_of, flight_of, Open, span_of}
 use Rattle.laws_loan.proofs.Names.{words_after, change_of, party_put_other, Core, GoesUp, layout}
@@ -18,7 +18,7 @@ use Rattle.laws_loan.proofs.Channel.{Channel, Holds, no_roles, words_in}
 use Rattle.laws_loan.proofs.Hanging.{made, reclaims_made, carries_made, past_none, hung_span}
 use Rattle.laws_loan.proofs.HungSends.{Takes, taken_out, taken_then, sender_fits, none_reclaims}
 use Rattle.laws_loan.proofs.Invariant.{Hangs, sends_at, counted_for, hung, reclaims_in, Carries, HoldsNow, family}
-use Rattle.laws_loan.proofs.Knows.{wrote_in, At}
+use Rattle.laws_loan.proofs.Knows.{At}
 use Rattle.laws_loan.proofs.Lists.{first_there}
 use Rattle.laws_loan.proofs.Parts.{submission_long, submission_words, submission_change}
 use Rattle.laws_loan.proofs.Placed.{Placed}
@@ -27,7 +27,7 @@ use Rattle.laws_loan.proofs.Received.{passing_run, has_it, elsewhere, moves_told
 use Rattle.laws_loan.proofs.Received.{senders_then, others_then, stands_told, tells_told}
 use Rattle.laws_loan.proofs.Rooms.{sent_below}
 use Rattle.laws_loan.proofs.Sender.{party_then}
-use Rattle.laws_loan.proofs.Spots.{is_waiting, waits_there, with_passes, waiting_passes, passing_on}
+use Rattle.laws_loan.proofs.Spots.{waits_there, with_passes, waiting_passes, passing_on}
 use Rattle.laws_loan.proofs.Still.{placed_still}
 use Rattle.laws_loan.proofs.Submission as submission
 use Rattle.laws_loan.proofs.Table.{hands_it_out, receive_ends}

@@ -3,7 +3,7 @@ use Rattle.laws_loan.proofs.Names.{◌≡◌, ◌≢◌, ℕ, ◌<◌, ◌≤◌
 use Rattle.laws_loan.proofs.Names.{length, map, take, drop, fold, refl, sym, ap, subst, ◌∙◌, append-nil, append_assoc}
 use Rattle.laws_loan.proofs.Names.{fold-append, Answer, Event, Published, HandedOut, Acted, Finished, Item, Index}
 use Rattle.laws_loan.proofs.Names.{Start, Book, MovesRight, BeginsRight, AnswersRight, promise, Passing, With}
-use Rattle.laws_loan.proofs.Names.{Waiting, spot_of, receiver_after, receiver_of, reclaims_after, book_after}
+use Rattle.laws_loan.proofs.Names.{Waiting, spot_of, receiver_of, reclaims_after, book_after}
 use Rattle.laws_loan.proofs.Names.{answer_of_item, cut_off, Stands, StandsRight, Open, Ended, own_after, span_of}
 use Rattle.laws_loan.proofs.Names.{AreRight, span_of-own, span_of-other, pop_front, pop_room, Core}
 use Rattle.std.proofs.Common.{arith}

@@ -1,9 +1,9 @@
 -- What the steps of a reclaim share, and how it ends: each index is free or with the sender.
 use Rattle.laws_loan.proofs.Names.{◌≡◌, ℕ, ◌+◌, ◌%◌, ◌^◌, ◌<◌, ◌≢◌, inl, ⊎_elim, false, Option, Some, List, [], ◌∷◌}
-use Rattle.laws_loan.proofs.Names.{◌++◌, refl, sym, ap, subst, ◌∙◌, append-nil, cases_eq, flat_map-append}
+use Rattle.laws_loan.proofs.Names.{◌++◌, sym, ap, ◌∙◌, append-nil, cases_eq, flat_map-append}
 use Rattle.laws_loan.proofs.Names.{fold-append, ReclaimStage, place_at, Answer, Event, Finished, Book, LoanFlight}
-use Rattle.laws_loan.proofs.Names.{Reclaim, KeepsBook, IsIn, Passing, Spot, Move, move_of, spot_of, receiver_after}
-use Rattle.laws_loan.proofs.Names.{receiver_of, died_after}
+use Rattle.laws_loan.proofs.Names.{Reclaim, KeepsBook, Passing, Spot, Move, move_of, spot_of, receiver_after}
+use Rattle.laws_loan.proofs.Names.{receiver_of}
 use Rattle.std.proofs.Common.{arith}
 use Rattle.std.specs.List.{flat_map}
 use Rattle.steps.specs.declared.loan.places.Place.TheVariants as places
@@ -14,7 +14,7 @@ use Rattle.laws_loan.proofs.Knows.{StageAt, ReclaimAt}
 use Rattle.laws_loan.proofs.Lists.{lists_stay}
 use Rattle.laws_loan.proofs.Placed.{Placed, placed_on}
 use Rattle.laws_loan.proofs.Sents.{IsHome, home_by, home_stays}
-use Rattle.laws_loan.proofs.Spots.{is_waiting, is_returning, spot_stays, spot_other, spot_moved}
+use Rattle.laws_loan.proofs.Spots.{spot_stays, spot_other, spot_moved}
 use Rattle.laws_loan.proofs.Table.{IsAway, sent_there}
 
 abbrev pub reclaim_at : ℕ → ℕ → ReclaimStage → LoanFlight

@@ -1,6 +1,6 @@
 -- The release with which a give-up, a send and a take-back end, as steps of the machine.
 use Rattle.laws_loan.proofs.Names.{◌≡◌, ℕ, ◌+◌, ◌-◌, ◌^◌, ◌<◌, ◌≤◌, false, Option, Some, None, List, [], ◌∷◌, ◌++◌}
-use Rattle.laws_loan.proofs.Names.{set, refl, sym, ap, subst, ◌∙◌, append-nil, Ask, After, GoOn, ReleaseState}
+use Rattle.laws_loan.proofs.Names.{set, sym, ap, subst, ◌∙◌, append-nil, Ask, After, GoOn, ReleaseState}
 use Rattle.laws_loan.proofs.Names.{DefaultMode, Release, ReleaseStage, back_asks, back_takes, Answer, Event, Freed}
 use Rattle.laws_loan.proofs.Names.{Finished, LoanFlight, Effect, Party, Coding, ask_of, book_after, release_effect}
 use Rattle.laws_loan.proofs.Names.{Open, span_of, old_of, words_after, Trace, release_counts, release_number}

@@ -34,7 +34,7 @@ use Rattle.laws_loan.proofs.Rooms.{sent_below, index_is}
 use Rattle.laws_loan.proofs.Sender.{party_then}
 use Rattle.laws_loan.proofs.Sends.{pushes_at, asked, old, queued, goes, effect_at, StepTo, Does, does_by, Here, reached, long, old_is, words_are, change_is}
 use Rattle.laws_loan.proofs.Sends.{loads_write, loads_read, stores_cell}
-use Rattle.laws_loan.proofs.Spots.{is_waiting, waits_there, passing_same, waiting_passes, passing_on, spot_other, spot_moved}
+use Rattle.laws_loan.proofs.Spots.{waits_there, passing_same, waiting_passes, passing_on, spot_other, spot_moved}
 use Rattle.laws_loan.proofs.Still.{AreStill, spots_still, placed_still}
 use Rattle.laws_loan.proofs.Submission as submission
 use Rattle.laws_loan.proofs.Table.{hands_it_out}

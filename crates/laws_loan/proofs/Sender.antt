@@ -1,6 +1,6 @@
 -- A step of the sender's call, which writes events of its own alone: what it shows, and that it so comes to what the frame asks.
 use Rattle.std.proofs.Common.{arith}
-use Rattle.laws_loan.proofs.Names.{◌≡◌, ◌≢◌, ℕ, ◌+◌, Bool, false, Option, Some, List, [], ◌++◌, fold, sym, ap, subst}
+use Rattle.laws_loan.proofs.Names.{◌≡◌, ◌≢◌, ℕ, ◌+◌, Bool, false, Option, Some, List, [], ◌++◌, fold, ap}
 use Rattle.laws_loan.proofs.Names.{◌∙◌, Ask, After, Answer, Event, Start, Flight, LoanStart, LoanFlight, Effect}
 use Rattle.laws_loan.proofs.Names.{Party, Coding, promise, ended_book, book_after, effects_of, Stands, Span}
 use Rattle.laws_loan.proofs.Names.{own_after, span_of, as_call, answer_in, words_after, change_of, step_count}
@@ -11,7 +11,7 @@ use Rattle.model.specs.declared.families.Registry as registries
 use Rattle.model.proofs.Frame as frame
 use Rattle.laws_loan.proofs.Channel.{Channel, words_in}
 use Rattle.laws_loan.proofs.Invariant.{family}
-use Rattle.laws_loan.proofs.Knows.{wrote_in, At}
+use Rattle.laws_loan.proofs.Knows.{At}
 use Rattle.laws_loan.proofs.Theirs.{Stays, theirs_stay, knows_keeps}
 use Rattle.laws_loan.proofs.Turns.{Shows}
 

@@ -2,7 +2,7 @@
 use Rattle.laws_loan.proofs.Names.{◌≡◌, ◌≢◌, ℕ, ◌+◌, ◌-◌, ◌^◌, ◌<◌, ◌≤◌, ◌==◌, false, Option, Some, None, List, []}
 use Rattle.laws_loan.proofs.Names.{◌++◌, length, refl, sym, ap, subst, ◌∙◌, append-nil, nat_tests, Ask, After, GoOn}
 use Rattle.laws_loan.proofs.Names.{OneWord, submission_word, shifted, send_takes, load, went_on, Answer, Event, Start}
-use Rattle.laws_loan.proofs.Names.{LoanFlight, Send, Effect, Party, Coding, ask_of, spot_of, receiver_of, read_in}
+use Rattle.laws_loan.proofs.Names.{LoanFlight, Send, Effect, Party, Coding, ask_of, spot_of, read_in}
 use Rattle.laws_loan.proofs.Names.{push_effect, as_it_is, popped, words_of_index, Open, span_of, as_call, old_of}
 use Rattle.laws_loan.proofs.Names.{words_after, change_of, step_count, fill_keeps_pop, KnowsOverflowPush}
 use Rattle.laws_loan.proofs.Names.{KnowsOverflowPop, overflow_push_number, Core, filled, layout}
@@ -20,7 +20,7 @@ use Rattle.model.specs.declared.families.loan.effects.Effect.TheVariants as effe
 use Rattle.laws_queues.proofs.Queues.Core.{Good}
 use Rattle.laws_loan.proofs.Channel.{Channel, no_roles, words_in}
 use Rattle.laws_loan.proofs.Cuts.{IsOn}
-use Rattle.laws_loan.proofs.Invariant.{Hangs, sends_at, counted_for, hung, reclaims_in, Carries, HoldsNow}
+use Rattle.laws_loan.proofs.Invariant.{Hangs, sends_at, counted_for, hung, Carries, HoldsNow}
 use Rattle.laws_loan.proofs.Knows.{Passes, PushAt, push_wrote, wrote_in, At}
 use Rattle.laws_loan.proofs.OnQueues.{OnQueues, queues_show, silent_tells}
 use Rattle.laws_loan.proofs.Parts.{submission_old, submission_words, submission_change}
@@ -28,7 +28,6 @@ use Rattle.laws_loan.proofs.Placed.{Placed}
 use Rattle.laws_loan.proofs.Sender.{party_then, StepBy}
 use Rattle.laws_loan.proofs.Submission as submission
 use Rattle.laws_loan.proofs.Theirs.{stays_beside}
-use Rattle.laws_loan.proofs.Told.{is_reclaiming, Tells}
 
 abbrev pub pushes_at : ℕ → ℕ → PushStage → ℕ → LoanFlight
 pushes_at slots queue stage index =

@@ -4,7 +4,7 @@ use Rattle.laws_loan.proofs.Names.{◌≡◌, ◌≢◌, ℕ, zero, suc, ◌+◌
 use Rattle.laws_loan.proofs.Names.{false, true≢false, Option, Some, None, List, [], refl, sym, ap, subst, ◌∙◌, Place}
 use Rattle.laws_loan.proofs.Names.{is_sent, place_at, sent_within, next_sent, by_test, Event, Book, has_died, IsIn}
 use Rattle.laws_loan.proofs.Names.{IsReclaiming, MayFree, Spot, Free, Passing, With, Waiting, Returning, spot_of}
-use Rattle.laws_loan.proofs.Names.{receiver_of, has_died_by, span_of, one_if}
+use Rattle.laws_loan.proofs.Names.{receiver_of, span_of, one_if}
 use Rattle.std.proofs.Common.{arith}
 use Rattle.steps.specs.declared.loan.places.Place.TheVariants as places
 use Rattle.laws_loan.proofs.Lists.{times, Lists}

@@ -4,7 +4,7 @@ use Rattle.laws_loan.proofs.Names.{◌≡◌, ◌≢◌, ℕ, ◌+◌, ◌-◌, 
 use Rattle.laws_loan.proofs.Names.{bit_or, Option, Some, None, List, length, get_or, set, refl, sym, ap, subst, ◌∙◌}
 use Rattle.laws_loan.proofs.Names.{Ok, Err, cases_lt, nat_tests, set-get_or, Ask, Or, After, GoOn, ReleaseState}
 use Rattle.laws_loan.proofs.Names.{AcquireStage, DefaultMode, Release, ReleaseStage, next_word, flag_word, flag}
-use Rattle.laws_loan.proofs.Names.{has_flag, proposed, borrowed, locked, says_locked, Acquired, at_acquire}
+use Rattle.laws_loan.proofs.Names.{has_flag, proposed, borrowed, locked, Acquired, at_acquire}
 use Rattle.laws_loan.proofs.Names.{acquire_asks, acquire_takes, acquire_sees, acquire_goes_back, head_taken}
 use Rattle.laws_loan.proofs.Names.{head_given_back, first_claim, back_asks, back_takes, inner_release, by_test, by_eq}
 use Rattle.laws_loan.proofs.Names.{ask_of, old_of, words_after, head_of, counted_in, holder, one_held, held_below}

@@ -1,6 +1,6 @@
 -- Where an index is after one event more.
 use Rattle.laws_loan.proofs.Names.{◌≡◌, ◌≢◌, ℕ, ◌==◌, if◌then◌else◌, Bool, true, false, Some, None, List, [], ◌∷◌}
-use Rattle.laws_loan.proofs.Names.{◌++◌, refl, sym, ap, ◌∙◌, eq-eqb, ne_eqb, fold-append, Event, Spot, Free, Passing}
+use Rattle.laws_loan.proofs.Names.{◌++◌, ap, ◌∙◌, eq-eqb, ne_eqb, fold-append, Event, Spot, Free, Passing}
 use Rattle.laws_loan.proofs.Names.{With, Waiting, Returning, Move, move_of, moved, spot_after, spot_of}
 use native.Mathlib.Omega.{arith}
 

@@ -1,6 +1,6 @@
 -- From what a step shows to what it comes to for the frame.
 use Rattle.std.proofs.Common.{arith}
-use Rattle.laws_loan.proofs.Names.{◌≡◌, ℕ, ◌+◌, Bool, Option, List, ◌++◌, sym, subst, fold, Ask, After, GoOn, Answer}
+use Rattle.laws_loan.proofs.Names.{◌≡◌, ℕ, ◌+◌, Bool, Option, List, ◌++◌, subst, fold, Ask, After, GoOn, Answer}
 use Rattle.laws_loan.proofs.Names.{Event, Book, LoanStart, LoanFlight, Effect, Party, Coding, ended_book, book_after}
 use Rattle.laws_loan.proofs.Names.{effects_of, put, Span, span_of, answer_in, words_after, change_of, step_count}
 use Rattle.laws_loan.proofs.Names.{party_after, ending_of, Trace, Core}

@@ -1,6 +1,6 @@
 -- What each operation of a push and of a pop does to the submission queue: the words then, the queue that they hold, and what
 -- the call finds.
-use Rattle.laws_loan.proofs.Names.{◌≡◌, ℕ, ◌+◌, ◌-◌, ◌*◌, ◌%◌, ◌^◌, ◌<◌, ◌≤◌, ◌==◌, true, false, Option, Some, List}
+use Rattle.laws_loan.proofs.Names.{◌≡◌, ℕ, ◌+◌, ◌-◌, ◌%◌, ◌^◌, ◌<◌, ◌≤◌, ◌==◌, true, false, Option, Some, List}
 use Rattle.laws_loan.proofs.Names.{◌∷◌, length, get_or, refl, nat_tests, Ask, Store, Exchange, GoOn, inner_push}
 use Rattle.laws_loan.proofs.Names.{after_position, distance, words_of_index, words_after, change_of, Core, Holds}
 use Rattle.laws_loan.proofs.Names.{filled, taken, fills, one_filled, set_at, layout}

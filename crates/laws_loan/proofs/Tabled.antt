@@ -1,13 +1,13 @@
 -- The sender's table says of each index what the events say, since both go on by the events of a turn.
-use Rattle.laws_loan.proofs.Names.{◌≡◌, ◌≢◌, ℕ, ◌<◌, ◌==◌, if◌then◌else◌, ⊎_elim, true, false, Option, Some, None}
+use Rattle.laws_loan.proofs.Names.{◌≡◌, ◌≢◌, ℕ, ◌<◌, ◌==◌, if◌then◌else◌, ⊎_elim, true, false, Option, Some}
 use Rattle.laws_loan.proofs.Names.{List, [], ◌∷◌, ◌++◌, length, set, fold, refl, sym, ap, subst, ◌∙◌, append-nil}
 use Rattle.laws_loan.proofs.Names.{append_assoc, length-set, cases_eq, nat_tests, fold-append, Ask, Place, place_at}
-use Rattle.laws_loan.proofs.Names.{Answer, Event, Begun, Published, Claimed, Freed, Died, Index, Start, Flight}
-use Rattle.laws_loan.proofs.Names.{Registry, Book, LoanStart, Doing, Going, Over, Party, Turn, Begin, Next, Decide}
+use Rattle.laws_loan.proofs.Names.{Answer, Event, Begun, Died, Start, Flight}
+use Rattle.laws_loan.proofs.Names.{Registry, Book, LoanStart, Doing, Party, Turn, Begin, Next, Decide}
 use Rattle.laws_loan.proofs.Names.{Die, Coding, first_of, step_of, kept_after_death, MovesRight, place_after}
 use Rattle.laws_loan.proofs.Names.{place_of, book_after, ended_book, effect_of, effects_of, Each, as_call, answer_in}
 use Rattle.laws_loan.proofs.Names.{events_of_step, events_of_answer, events_of_next, events_of_decision, events_of}
-use Rattle.laws_loan.proofs.Names.{ending_of, old_of, ask_of_doing, number_of, after_begin, after_answer, after_next}
+use Rattle.laws_loan.proofs.Names.{ending_of, number_of, after_begin, after_answer, after_next}
 use Rattle.laws_loan.proofs.Names.{after_decision, after_turn, Trace, AreRight, stands_there}
 use Rattle.std.proofs.Common.{arith}
 use Rattle.std.proofs.lemmas.List.{get_or-set_same, get_or-set_other}

@@ -5,7 +5,7 @@ use Rattle.laws_loan.proofs.Names.{nat_tests, set-get_or, fold-append, Ask, Afte
 use Rattle.laws_loan.proofs.Names.{shifted, take_back_takes, went_on, Answer, Event, Finished, TakenBack, Start}
 use Rattle.laws_loan.proofs.Names.{LoanFlight, TakeBack, Effect, Party, Coding, one_word, ask_of, Passing, Returning}
 use Rattle.laws_loan.proofs.Names.{spot_of, receiver_after, receiver_of, taken_back, take_back_effect, as_it_is}
-use Rattle.laws_loan.proofs.Names.{popped, words_of_index, Span, Open, own_after, span_of, as_call, old_of}
+use Rattle.laws_loan.proofs.Names.{popped, words_of_index, Span, Open, span_of, as_call, old_of}
 use Rattle.laws_loan.proofs.Names.{words_after, step_count, span_of-own, Core, taken, layout, in_one, KnowsPop}
 use Rattle.laws_loan.proofs.Names.{pop_number}
 use Rattle.std.proofs.Common.{arith}
@@ -24,7 +24,7 @@ use Rattle.laws_loan.proofs.Carried.{moved_on}
 use Rattle.laws_loan.proofs.Channel.{Channel, no_roles, words_in}
 use Rattle.laws_loan.proofs.Completion as completion
 use Rattle.laws_loan.proofs.Cuts.{IsOn}
-use Rattle.laws_loan.proofs.Invariant.{Hangs, sends_at, counted_for, hung, reclaims_in, Carries, HoldsNow}
+use Rattle.laws_loan.proofs.Invariant.{Hangs, sends_at, counted_for, reclaims_in, Carries, HoldsNow}
 use Rattle.laws_loan.proofs.Knows.{wrote_in, At}
 use Rattle.laws_loan.proofs.Lists.{first_there}
 use Rattle.laws_loan.proofs.OnQueues.{OnQueues, queues_then, queues_show, silent_tells}
@@ -35,7 +35,7 @@ use Rattle.laws_loan.proofs.Rests.{KeepsSet, keeps_all}
 use Rattle.laws_loan.proofs.Rests as rests
 use Rattle.laws_loan.proofs.Rooms.{back_below, index_is}
 use Rattle.laws_loan.proofs.Sender.{party_then, StepBy}
-use Rattle.laws_loan.proofs.Spots.{is_returning, returns_there, passing_same, returning_passes, passing_on, spot_other, spot_moved}
+use Rattle.laws_loan.proofs.Spots.{returns_there, passing_same, returning_passes, passing_on, spot_other, spot_moved}
 use Rattle.laws_loan.proofs.Table.{takes_it_back}
 use Rattle.laws_loan.proofs.Theirs.{stays_beside}
 use Rattle.laws_loan.proofs.Told.{is_reclaiming}

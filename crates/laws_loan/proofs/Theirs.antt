@@ -1,12 +1,11 @@
 -- What a receiver's call goes on to know where the sender takes a step.
-use Rattle.laws_loan.proofs.Names.{◌≡◌, ◌≢◌, ℕ, true, false, List, OneWord, Event, LoanStart, LoanFlight, Send}
-use Rattle.laws_loan.proofs.Names.{GiveUp, TakeBack, Receive, GiveBack, Reclaim, one_word, has_died, Passing, spot_of}
+use Rattle.laws_loan.proofs.Names.{◌≡◌, ◌≢◌, ℕ, true, false, List, OneWord, Event, LoanStart, LoanFlight}
+use Rattle.laws_loan.proofs.Names.{one_word, has_died, Passing, spot_of}
 use Rattle.laws_loan.proofs.Names.{KnowsOverflowPop, GoesUp, KnowsPush}
 use native.Mathlib.Omega.{arith}
 use Rattle.steps.specs.declared.queues.overflow.PopStage.{PopStage}
 use Rattle.steps.specs.declared.queues.ring.PushStage.{PushStage}
 use Rattle.model.specs.declared.families.loan.LoanStart.TheVariants as calls
-use Rattle.model.specs.declared.families.loan.calls.LoanFlight.TheVariants.{Loan}
 use Rattle.laws_loan.proofs.Channel.{Channel}
 use Rattle.laws_loan.proofs.Knows.{Passes, At, FlightKnows}
 

@@ -2,13 +2,13 @@
 use Rattle.laws_loan.proofs.Names.{◌≡◌, ◌≢◌, ℕ, zero, suc, ◌+◌, ◌-◌, ◌*◌, ◌%◌, ◌<◌, ◌≤◌, ◌==◌, ⊎_elim, Bool, true}
 use Rattle.laws_loan.proofs.Names.{Some, Contains, AllPairs, List, [], ◌∷◌, ◌++◌, length, get_or, map, slice_get}
 use Rattle.laws_loan.proofs.Names.{refl, sym, ap, ◌∙◌, append_assoc, append-nil, drop_at, cases_eq}
-use Rattle.laws_loan.proofs.Names.{get_or_append_left, get_or-map, length-map, submission_word, completion_word}
+use Rattle.laws_loan.proofs.Names.{get_or_append_left, get_or-map, length-map, completion_word}
 use Rattle.laws_loan.proofs.Names.{Event, Item, Index, Coding, sent_in, given_back_in, AreThose, Spot, spot_of}
 use Rattle.laws_loan.proofs.Names.{words_of_index, cells_of, words_of_cell, one_if, Core, at_below, layout}
 use Rattle.std.proofs.Common.{arith}
 use Rattle.steps.specs.Queues.Ring.{cell_word}
 use Rattle.model.specs.declared.families.queues.QueueKind.{QueueKind}
-use Rattle.model.specs.declared.families.queues.QueueKind.TheVariants.{IndexQueue, Overflow}
+use Rattle.model.specs.declared.families.queues.QueueKind.TheVariants.{IndexQueue}
 use Rattle.model.specs.Families.Queues.Book.{item_at, cell_of, stored, waiting_in}
 use Rattle.laws_queues.proofs.Queues.Core.{Good, word_at}
 use Rattle.laws_loan.proofs.Channel.{Channel, Holds, no_roles, words_in}

@@ -2,7 +2,7 @@
 use Rattle.std.proofs.Common.{arith}
 use Rattle.laws_robust.proofs.Names.{◌≡◌, ℕ, Bool, false, Option, Some, None, List, [], ◌∷◌, fold, refl, ap, ◌∙◌}
 use Rattle.laws_robust.proofs.Names.{AllByRecursion, fold-append, Answer, Event, Start, Flight, Doing, Going, Over}
-use Rattle.laws_robust.proofs.Names.{Party, Turn, Begin, Next, Decide, Die, dead_after, is_dead, party_of, old_of}
+use Rattle.laws_robust.proofs.Names.{Party, Turn, dead_after, is_dead, party_of, old_of}
 use Rattle.laws_robust.proofs.Names.{number_of, ask_of_doing, step_in, events_of_step, events_of_answer}
 use Rattle.laws_robust.proofs.Names.{events_of_next, events_of_decision, events_of, ending_of, after_turn, Trace}
 use Rattle.laws_robust.specs.Open.{open_refusal}

@@ -1,11 +1,11 @@
 -- What a call does to a robust index set, or to the set of a container, as it begins: nothing but that a release or a remove
 -- takes the right to give its index back.
 use Rattle.laws_robust.proofs.Names.{◌≡◌, ℕ, ◌==◌, if◌then◌else◌, Option, Some, None, List, [], ◌∷◌, ◌++◌, refl, sym}
-use Rattle.laws_robust.proofs.Names.{ap, ◌∙◌, arith, eq-eqb, fold-append, Event, Begun, Start, NoneTakes}
-use Rattle.laws_robust.proofs.Names.{filled_after, filled_of, holder_after, holder_of, settled_after, settled_of}
+use Rattle.laws_robust.proofs.Names.{◌∙◌, arith, eq-eqb, fold-append, Event, Begun, Start, NoneTakes}
+use Rattle.laws_robust.proofs.Names.{filled_of, holder_after, holder_of, settled_after, settled_of}
 use Rattle.laws_robust.proofs.Effects.{Keeps, Leaves, at_same, hands_on, same_filled}
 use Rattle.laws_robust.proofs.Invariant.{Scene, Good, Does}
-use Rattle.laws_robust.proofs.Rights.{Right, Nobody, Settled, By, taken_by, right_after, right_of, IsBy, AreOwned}
+use Rattle.laws_robust.proofs.Rights.{Right, Settled, By, taken_by, right_after, right_of, IsBy, AreOwned}
 
 -- ---- the right to one index
 

@@ -3,7 +3,7 @@ use Rattle.laws_robust.proofs.Names.{◌≡◌, ℕ, ◌+◌, ◌==◌, ◌||◌
 use Rattle.laws_robust.proofs.Names.{◌∙◌, arith, fold-append, Event, Died, Flight, locked_after, is_locked, has_died}
 use Rattle.laws_robust.proofs.Names.{dead_with, cell_of, SetDoes, HoldsRight, set_acts, filled_after, filled_of}
 use Rattle.laws_robust.proofs.Names.{holder_after, holder_of, settled_after, settled_of, dead_after, is_dead}
-use Rattle.laws_robust.proofs.Names.{wrote_in, Each-append, span_of-death}
+use Rattle.laws_robust.proofs.Names.{Each-append, span_of-death}
 use Rattle.model.specs.declared.families.Flight as flights
 use Rattle.model.proofs.Dead.{died_now, died_before}
 use Rattle.laws_robust.specs.Gone.{GoneBy, AnswersBy}

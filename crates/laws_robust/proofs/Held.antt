@@ -1,12 +1,12 @@
 -- The steps of an acquire, in any call that holds it. What a step leads to is what the caller makes of it.
-use Rattle.laws_robust.proofs.Names.{◌≡◌, ◌≢◌, ℕ, ◌+◌, ◌*◌, ◌<◌, ◌≤◌, ◌==◌, ◌⊎◌, ⊎_elim, inl, inr, if◌then◌else◌}
+use Rattle.laws_robust.proofs.Names.{◌≡◌, ◌≢◌, ℕ, ◌+◌, ◌*◌, ◌<◌, ◌≤◌, ◌==◌, ◌⊎◌, inl, inr, if◌then◌else◌}
 use Rattle.laws_robust.proofs.Names.{nat_lt, Bool, true, false, not, Option, Some, None, is_some, List, [], ◌∷◌, ◌++◌}
-use Rattle.laws_robust.proofs.Names.{set, refl, sym, ap, ◌∙◌, arith, Ok, Err, cases_lt, nat_tests, set-get_or}
+use Rattle.laws_robust.proofs.Names.{set, refl, sym, ap, ◌∙◌, arith, Ok, Err, nat_tests, set-get_or}
 use Rattle.laws_robust.proofs.Names.{fold-append, Ask, After, GoOn, Done, ReleaseState, AcquireStage, Raise, Acquired}
 use Rattle.laws_robust.proofs.Names.{at_acquire, acquire_tries, acquire_sees, acquire_raised, acquire_asks}
 use Rattle.laws_robust.proofs.Names.{acquire_takes, acquire_goes_back, cell_word, empty, locked, greatest}
 use Rattle.laws_robust.proofs.Names.{raise_after, raise_goes_back, by_test, by_eq, Event, Filled, Granted, IsFilled}
-use Rattle.laws_robust.proofs.Names.{IsUnlocked, Fills, filled_after, filled_of, holder_after, holder_of, is_dead}
+use Rattle.laws_robust.proofs.Names.{Fills, filled_after, filled_of, holder_after, holder_of, is_dead}
 use Rattle.laws_robust.proofs.Names.{ask_of, is_locked, FilledLate, granted, acquire_effects, HeldSometime, old_of}
 use Rattle.laws_robust.proofs.Names.{words_after, step_count, held_now}
 use Rattle.steps.specs.declared.indices.enums.UniqueIndexSetAcquireFailure as failures

@@ -1,12 +1,12 @@
 -- The steps of a release, in any call that holds it. What a step leads to is what the caller makes of it.
 use Rattle.laws_robust.proofs.Names.{inr, inl, ◌⊎◌, ◌≡◌, ◌≢◌, ℕ, ◌+◌, ◌*◌, ◌<◌, ◌≤◌, ◌==◌, if◌then◌else◌, Bool, true}
 use Rattle.laws_robust.proofs.Names.{false, Option, Some, None, is_some, List, [], ◌∷◌, ◌++◌, set, refl, ap, subst}
-use Rattle.laws_robust.proofs.Names.{◌∙◌, arith, sym, Ok, Err, nat_tests, Ask, After, GoOn, Done, ReleaseMode}
+use Rattle.laws_robust.proofs.Names.{arith, sym, Ok, Err, nat_tests, Ask, After, GoOn, Done, ReleaseMode}
 use Rattle.laws_robust.proofs.Names.{LockIfLastIndex, Default, ReleaseState, IndexIsNotOwnedByProvidedOwner, Lock}
-use Rattle.laws_robust.proofs.Names.{Raise, ReleaseStage, cell_word, empty, locked, greatest, first_lock, raise_after}
+use Rattle.laws_robust.proofs.Names.{Raise, ReleaseStage, cell_word, empty, locked, greatest, raise_after}
 use Rattle.laws_robust.proofs.Names.{raise_goes_back, lock_after, lock_goes_back, Released, at_release}
 use Rattle.laws_robust.proofs.Names.{release_raised, release_locked, release_asks, release_takes, release_goes_back}
-use Rattle.laws_robust.proofs.Names.{Event, FreedOf, Locked, is_locked, most_steps, cell_of, IsFilled}
+use Rattle.laws_robust.proofs.Names.{Event, FreedOf, Locked, is_locked, most_steps, IsFilled}
 use Rattle.laws_robust.proofs.Names.{FilledSinceFreed, LivesToRelease, holder_of, Frees, filled_of, settled_of}
 use Rattle.laws_robust.proofs.Names.{set_acts_of, IsOneOf, locked_by, release_effects, ask_of, SinceBegin, span_of}
 use Rattle.laws_robust.proofs.Names.{old_of, words_after, step_count, held_now}
@@ -26,7 +26,7 @@ use Rattle.laws_robust.proofs.Invariant.{IsWorn, Scene, Inv, Good, Does}
 use Rattle.laws_robust.proofs.Knows.{Knows, IsPaid, FoundOne}
 use Rattle.laws_robust.proofs.Standing.{at_least_one, release_at, release_number, raise_number, lock_number, for_back, ReleaseAt, LockAt}
 use Rattle.laws_robust.proofs.Parts.{raise_ask, lock_ask, raise_step, lock_step, IsSaid}
-use Rattle.laws_robust.proofs.Rights.{Settled, By, right_of, IsBy}
+use Rattle.laws_robust.proofs.Rights.{right_of, IsBy}
 use Rattle.laws_robust.proofs.Stages.{all, now, sees, then_sees, backs_then, exchanges, fails_same, exchange_sets}
 
 first_few : (c index owner backs n : ℕ) (mode : ReleaseMode) → n ≤ 1 → n ≤ most_steps c (Release index owner mode) backs

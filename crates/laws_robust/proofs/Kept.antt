@@ -1,15 +1,14 @@
 -- What the invariant says of the events, in the promise's words.
-use Rattle.laws_robust.proofs.Names.{◌≡◌, ℕ, ◌+◌, ◌-◌, ◌*◌, ◌≤◌, ⊎_elim, Option, Some, None, List, sym, ap, subst}
-use Rattle.laws_robust.proofs.Names.{◌∙◌, arith, ReleaseMode, LockIfLastIndex, Default, AcquireStage, FindStage}
-use Rattle.laws_robust.proofs.Names.{Count, Lock, RecoverStage, GiveBack, ReleaseStage, RobustStart, RobustFlight}
+use Rattle.laws_robust.proofs.Names.{◌≡◌, ℕ, ◌+◌, ◌-◌, ◌*◌, ◌≤◌, Option, List, sym, ap, subst}
+use Rattle.laws_robust.proofs.Names.{◌∙◌, arith, ReleaseMode, LockIfLastIndex, AcquireStage, FindStage}
+use Rattle.laws_robust.proofs.Names.{Count, Lock, RecoverStage, ReleaseStage, RobustStart, RobustFlight}
 use Rattle.laws_robust.proofs.Names.{Coding, most_steps, KeepsDead, IsRobustSet, promise, SetAct, party_of, IsKeptBy}
 use Rattle.laws_robust.proofs.Names.{IsKept, promise_of, span_of, IsReached, Trace, progress_in}
 use Rattle.steps.specs.declared.indices.robust.find.FindStage as finds
 use Rattle.steps.specs.declared.indices.robust.parts.Lock as locks
 use Rattle.model.specs.declared.families.indices.robust.RobustStart as starts
-use Rattle.model.specs.declared.families.indices.robust.calls.RobustFlight.TheVariants.{Acquire, Release, Find}
-use Rattle.model.specs.declared.families.indices.robust.calls.RobustFlight.TheVariants.{Recover, BorrowedIndices}
-use Rattle.model.specs.declared.families.indices.robust.calls.RobustFlight.TheVariants.{IsLocked}
+use Rattle.model.specs.declared.families.indices.robust.calls.RobustFlight.TheVariants.{Release}
+use Rattle.model.specs.declared.families.indices.robust.calls.RobustFlight.TheVariants.{Recover}
 use Rattle.model.specs.declared.turn.Kind as kinds
 use Rattle.model.specs.Promises.Bounds.{Progresses}
 use Rattle.model.proofs.Frame as frame

@@ -23,7 +23,6 @@ use Rattle.laws_robust.proofs.Counting.{count_later}
 use Rattle.laws_robust.proofs.Gone.{gone_more, gone_less, honest_less, calm_less, stays_lost}
 use Rattle.laws_robust.proofs.Past.{through_less, since_less}
 use Rattle.laws_robust.proofs.Rights.{IsBy}
-use Rattle.laws_robust.proofs.Standing.{}
 
 -- ---- what they see of the machine
 

@@ -1,7 +1,7 @@
 -- What holds of the machine of a robust set keeps to every turn of an open run, so it holds wherever such a run leads.
 use Rattle.laws_robust.proofs.Names.{◌≡◌, ◌≢◌, slice_index, ℕ, Bool, true, not, Some, None, is_none, List, []}
 use Rattle.laws_robust.proofs.Names.{◌∷◌, ◌++◌, refl, sym, ap, subst, ◌∙◌, arith, greatest, ReleaseMode, Container}
-use Rattle.laws_robust.proofs.Names.{Flight, Party, Idle, Undecided, Turn, Begin, Next, Decide, Die, Coding, IsCoding}
+use Rattle.laws_robust.proofs.Names.{Flight, Party, Idle, Undecided, Turn, Begin, Next, Decide, Die, Coding}
 use Rattle.laws_robust.proofs.Names.{AnswersRight, party_of, Each, is_due, call_refusal, after_turn, unless_refused}
 use Rattle.laws_robust.proofs.Names.{Trace, opening, capacity_error, flight_in, row_passed}
 use Rattle.model.specs.declared.families.container.ContainerStart.TheVariants.{Recover}
@@ -115,7 +115,3 @@ module _ {T : Type 0} where
         turns = r.turns ++ turn ∷ [];
         is = rw (making.coding, making.kind, making.capacity, making.parties) more;
       }
-
-  pub reached_open_opening : (code : Coding T) (kind : Kind) (capacity parties : ℕ) → IsCoding code
-      → capacity_error kind capacity ≡ None → IsReachedOpen (opening code kind capacity parties)
-  reached_open_opening code kind capacity parties coded e = record { coded = coded; admitted = e; turns = []; is = refl }

@@ -1,6 +1,6 @@
 -- What every turn of an open run keeps holds wherever the run leads.
 use Rattle.std.proofs.Common.{arith}
-use Rattle.laws_robust.proofs.Names.{◌≡◌, Option, Some, None, List, [], ◌∷◌, refl, sym, subst, Turn, after_turn}
+use Rattle.laws_robust.proofs.Names.{◌≡◌, Option, Some, None, List, [], ◌∷◌, refl, Turn, after_turn}
 use Rattle.laws_robust.proofs.Names.{unless_refused, Trace, opening}
 use Rattle.model.specs.declared.turn.Refusal.{Refusal}
 use Rattle.laws_robust.specs.Open.{open_refusal, attempt_open, run_open, IsReachedOpen}

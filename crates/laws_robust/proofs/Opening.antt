@@ -1,6 +1,6 @@
 -- The robust index set as it opens: no index is filled, and nobody has died.
-use Rattle.laws_robust.proofs.Names.{◌≡◌, ℕ, zero, suc, ◌+◌, ◌^◌, ◌<◌, ◌≤◌, None, [], replicate, get_or, refl, ap}
-use Rattle.laws_robust.proofs.Names.{◌∙◌, arith, length-replicate, empty, opening_words, capacity_error, Each-nil}
+use Rattle.laws_robust.proofs.Names.{◌≡◌, ℕ, zero, suc, ◌^◌, ◌<◌, ◌≤◌, None, [], replicate, get_or, refl}
+use Rattle.laws_robust.proofs.Names.{arith, length-replicate, empty, opening_words, capacity_error, Each-nil}
 use Rattle.model.specs.declared.turn.Kind as kinds
 use Rattle.laws_robust.specs.Gone.{GoneBy}
 use Rattle.laws_robust.proofs.Core.{cell}

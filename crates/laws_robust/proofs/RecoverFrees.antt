@@ -5,7 +5,7 @@ use Rattle.laws_robust.proofs.Names.{cases_lt, nat_tests, fold-append, Ask, Afte
 use Rattle.laws_robust.proofs.Names.{LockIfLastIndex, Default, ReleaseState, Raise, RecoverStage, cell_word, empty}
 use Rattle.laws_robust.proofs.Names.{locked, first_lock, raise_after, raise_goes_back, at_recover, recover_comes_to}
 use Rattle.laws_robust.proofs.Names.{recover_raised, went_on, State, Event, FreedOf, Told, cell_of, StillToFree}
-use Rattle.laws_robust.proofs.Names.{LivesToRelease, SetAct, Frees, Asks, Yes, filled_after, filled_of, set_acts_of}
+use Rattle.laws_robust.proofs.Names.{LivesToRelease, SetAct, Frees, Asks, Yes, filled_of, set_acts_of}
 use Rattle.laws_robust.proofs.Names.{IsOneOf, HasJustFreed, as_it_is, as_call, words_after, step_count}
 use Rattle.steps.specs.declared.indices.enums.ReleaseState as states
 use Rattle.steps.specs.declared.indices.robust.parts.Raise as raises

@@ -1,6 +1,6 @@
 -- The lock of a recovery, and any step of it.
 use Rattle.laws_robust.proofs.Names.{◌<◌, ◌≡◌, ◌≢◌, ℕ, ◌+◌, ◌*◌, ◌≤◌, Bool, false, Option, Some, None, List, [], ◌∷◌}
-use Rattle.laws_robust.proofs.Names.{◌++◌, set, refl, sym, ap, subst, arith, Ask, After, ReleaseMode, LockIfLastIndex}
+use Rattle.laws_robust.proofs.Names.{◌++◌, set, refl, ap, arith, Ask, After, ReleaseMode, LockIfLastIndex}
 use Rattle.laws_robust.proofs.Names.{ReleaseState, Lock, RecoverStage, locked, greatest, lock_after, lock_goes_back}
 use Rattle.laws_robust.proofs.Names.{recover_comes_to, recover_locked, went_on, State, Event, Locked, Robust, promise}
 use Rattle.laws_robust.proofs.Names.{SetAct, Locks, holder_of, set_acts_of, HasJustFreed, locked_by, as_it_is, Stands}

@@ -1,12 +1,12 @@
 -- The steps of a recovery.
 use Rattle.laws_robust.proofs.Names.{◌≡◌, ◌≢◌, ℕ, ◌+◌, ◌*◌, ◌<◌, ◌≤◌, ◌==◌, ◌⊎◌, ⊎_elim, inl, inr, if◌then◌else◌}
-use Rattle.laws_robust.proofs.Names.{nat_lt, Bool, true, false, Option, Some, None, List, [], ◌∷◌, ◌++◌, refl, sym}
-use Rattle.laws_robust.proofs.Names.{ap, subst, ◌∙◌, arith, AllByRecursion, cases_lt, nat_tests, fold-append, Ask}
+use Rattle.laws_robust.proofs.Names.{nat_lt, Bool, true, false, Option, Some, List, [], ◌∷◌, ◌++◌, refl, sym}
+use Rattle.laws_robust.proofs.Names.{subst, ◌∙◌, arith, AllByRecursion, cases_lt, nat_tests, fold-append, Ask}
 use Rattle.laws_robust.proofs.Names.{After, GoOn, Done, ReleaseMode, LockIfLastIndex, Default, ReleaseState, Lock}
 use Rattle.laws_robust.proofs.Names.{RecoverStage, cell_word, empty, locked, at_recover, recover_comes_to, by_test}
 use Rattle.laws_robust.proofs.Names.{went_on, State, Event, Asked, Finished, Robust, most_steps, promise, IsUnlocked}
 use Rattle.laws_robust.proofs.Names.{HeldThroughout, StillToFree, SetAct, Frees, Asks, Yes, set_acts, asked_in}
-use Rattle.laws_robust.proofs.Names.{filled_after, filled_of, set_acts_of, IsOneOf, as_it_is, BeginsNone}
+use Rattle.laws_robust.proofs.Names.{filled_of, set_acts_of, IsOneOf, as_it_is, BeginsNone}
 use Rattle.laws_robust.proofs.Names.{HeldSometime, Stands, Open, as_call, words_after, step_count, held_now}
 use Rattle.laws_robust.proofs.Names.{held_later, no_more, AllFollow, AreRight}
 use Rattle.steps.specs.declared.indices.enums.ReleaseState as states

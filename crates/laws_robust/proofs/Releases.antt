@@ -1,11 +1,11 @@
 -- The steps of a release.
 use Rattle.laws_robust.proofs.Names.{◌≡◌, ◌≢◌, ℕ, ◌+◌, ◌<◌, ◌≤◌, inl, inr, Bool, true, false, Option, Some, None}
-use Rattle.laws_robust.proofs.Names.{List, [], ◌∷◌, ◌++◌, set, refl, ap, subst, ◌∙◌, arith, sym, Ok, flat_map-append}
+use Rattle.laws_robust.proofs.Names.{List, [], ◌∷◌, ◌++◌, set, refl, ap, subst, arith, sym, Ok, flat_map-append}
 use Rattle.laws_robust.proofs.Names.{fold-append, Ask, After, Done, ReleaseMode, LockIfLastIndex, Default}
 use Rattle.laws_robust.proofs.Names.{ReleaseState, IndexIsNotOwnedByProvidedOwner, ReleaseStage, empty, locked}
 use Rattle.laws_robust.proofs.Names.{greatest, Released, went_on, State, NotOwned, Event, FreedOf, Locked, Finished}
-use Rattle.laws_robust.proofs.Names.{Robust, locked_after, is_locked, most_steps, release_answer, MayGiveBack}
-use Rattle.laws_robust.proofs.Names.{LivesToRelease, SetAct, Frees, Locks, set_act, set_acts, filled_of, holder_of}
+use Rattle.laws_robust.proofs.Names.{Robust, locked_after, is_locked, most_steps, release_answer}
+use Rattle.laws_robust.proofs.Names.{LivesToRelease, SetAct, Frees, Locks, set_acts, filled_of, holder_of}
 use Rattle.laws_robust.proofs.Names.{settled_of, is_dead, HasDone, as_it_is, SinceBegin, span_of, as_call}
 use Rattle.laws_robust.proofs.Names.{words_after, step_count}
 use Rattle.steps.specs.declared.indices.enums.ReleaseState as states

@@ -1,7 +1,7 @@
 -- What a call has done, once it does one thing more.
 use Rattle.std.proofs.Common.{arith}
-use Rattle.laws_robust.proofs.Names.{◌≡◌, ℕ, ◌<◌, ◌⊎◌, ⊎_elim, inl, inr, List, [], ◌∷◌, ◌++◌, refl, sym, ap, subst}
-use Rattle.laws_robust.proofs.Names.{◌∙◌, append_assoc, append-nil, AllByRecursion, flat_map-append, SetAct, Frees}
+use Rattle.laws_robust.proofs.Names.{◌≡◌, ℕ, ◌<◌, ◌⊎◌, inl, inr, List, [], ◌∷◌, ◌++◌, refl}
+use Rattle.laws_robust.proofs.Names.{append_assoc, append-nil, AllByRecursion, flat_map-append, SetAct, Frees}
 use Rattle.laws_robust.proofs.Names.{Asks, index_asked, asked_in, IsOneOf, IsLatest, SplitAt, Last, Earlier}
 use Rattle.laws_robust.proofs.Names.{split_last}
 

@@ -4,7 +4,7 @@ use Rattle.laws_robust.proofs.Names.{Option, Some, None, List, [], ◌∷◌, �
 use Rattle.laws_robust.proofs.Names.{◌∙◌, append-nil, arith, eq-eqb, ne_eqb, nat_tests, set-get_or, flat_map-append}
 use Rattle.laws_robust.proofs.Names.{fold-append, Ask, After, GoOn, Done, Answer, Event, Finished, Robust, Flight}
 use Rattle.laws_robust.proofs.Names.{RobustStart, RobustFlight, Over, Party, ask_of, most_steps, want, after}
-use Rattle.laws_robust.proofs.Names.{goes_back, promise, SetAct, set_act, set_acts, settled_after, wrote_in}
+use Rattle.laws_robust.proofs.Names.{goes_back, promise, SetAct, set_act, set_acts, settled_after}
 use Rattle.laws_robust.proofs.Names.{set_acts_of, HasDone, effects, Stands, Open, own_after, span_of, as_call}
 use Rattle.laws_robust.proofs.Names.{answer_in, one_if, old_of, words_after, change_of, step_count, number_of}
 use Rattle.laws_robust.proofs.Names.{party_after, ending_of, AreOwn, AllFollow, AreRight, span_of-own}

@@ -1,7 +1,7 @@
 -- A find that ends in another turn than a no has come to the indices of the whole set.
 use Rattle.laws_robust.proofs.Names.{◌≡◌, ◌≢◌, ℕ, ◌^◌, ◌-◌, ◌<◌, Bool, true, false, Option, Some, None, List, [], ◌∷◌}
 use Rattle.laws_robust.proofs.Names.{◌++◌, refl, sym, ap, subst, ◌∙◌, arith, append_cancel_left, AllByRecursion}
-use Rattle.laws_robust.proofs.Names.{After, GoOn, Done, FindStage, find_after, empty, went_on, Answer, Number, Event}
+use Rattle.laws_robust.proofs.Names.{After, GoOn, Done, FindStage, empty, went_on, Answer, Number, Event}
 use Rattle.laws_robust.proofs.Names.{Finished, Start, Robust, Flight, Registry, RobustStart, RobustFlight, Doing}
 use Rattle.laws_robust.proofs.Names.{Going, Over, Party, Turn, Begin, Next, Decide, Die, Coding, want_of, ask_of}
 use Rattle.laws_robust.proofs.Names.{is_question, beside_of, step_of, want, after, IsCount, IsFilledWith, FindsAll}

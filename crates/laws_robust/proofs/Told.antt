@@ -1,11 +1,11 @@
 -- What a decision comes to: a no ends a find at the index that it asked about, and a yes tells a recovery to free the index
 -- that it asked about. No other turn tells it.
 use Rattle.laws_robust.proofs.Names.{◌≡◌, ◌≢◌, ℕ, Bool, true, false, Option, Some, None, is_none, List, [], ◌∷◌, ◌++◌}
-use Rattle.laws_robust.proofs.Names.{refl, sym, ap, subst, ◌∙◌, arith, AllByRecursion, ReleaseMode, Count, Lock}
+use Rattle.laws_robust.proofs.Names.{refl, ap, ◌∙◌, arith, AllByRecursion, ReleaseMode, Count, Lock}
 use Rattle.laws_robust.proofs.Names.{Raise, RecoverStage, raise_want, count_want, lock_want, Answer, Event, Start}
 use Rattle.laws_robust.proofs.Names.{Robust, Flight, Registry, RobustStart, RobustFlight, Doing, Going, Over, Party}
-use Rattle.laws_robust.proofs.Names.{Idle, Undecided, Turn, Begin, Next, Decide, Die, Coding, want_of, ask_of}
-use Rattle.laws_robust.proofs.Names.{is_question, beside_of, step_of, want, after, owned_by, owned_of, IsIn}
+use Rattle.laws_robust.proofs.Names.{Turn, Next, Decide, Coding, want_of, ask_of}
+use Rattle.laws_robust.proofs.Names.{is_question, beside_of, step_of, want, after, owned_by, IsIn}
 use Rattle.laws_robust.proofs.Names.{IsStopped, FindsUpTo, ToldRight, TellsOnce, IsTold, YesTells, effects, party_of}
 use Rattle.laws_robust.proofs.Names.{doing_of, flight_of, refusal_of, is_due, call_refusal, answer_in, old_of}
 use Rattle.laws_robust.proofs.Names.{number_of, ask_of_doing, events_of_step, events_of_answer, events_of_next}
@@ -19,7 +19,6 @@ use Rattle.model.specs.declared.families.Flight as flights
 use Rattle.model.specs.declared.families.Registry as registries
 use Rattle.model.specs.declared.families.indices.robust.RobustStart as starts
 use Rattle.model.specs.declared.families.indices.robust.calls.RobustFlight as calls
-use Rattle.model.specs.Shape.{IsOpenFor}
 use Rattle.model.proofs.Frame as frame
 use Rattle.laws_robust.proofs.Invariant.{family}
 use Rattle.laws_robust.proofs.Knows.{Knows}

@@ -1,8 +1,8 @@
 -- No turn changes how many words a machine has, so one of the robust set has its counter and a cell an index.
 use Rattle.laws_robust.proofs.Names.{◌≡◌, ℕ, ◌+◌, Bool, Option, Some, None, List, length, refl, sym, subst, ◌∙◌}
-use Rattle.laws_robust.proofs.Names.{arith, length-set, length-replicate, empty, Ask, Start, Flight, Doing, Going}
-use Rattle.laws_robust.proofs.Names.{Over, Party, Turn, Begin, Next, Decide, Die, first_of, opening_words, party_of}
-use Rattle.laws_robust.proofs.Names.{old_of, words_after, number_of, ask_of_doing, after_begin, after_answer}
+use Rattle.laws_robust.proofs.Names.{arith, length-set, length-replicate, empty, Ask, Start, Flight, Doing}
+use Rattle.laws_robust.proofs.Names.{Party, Turn, first_of, opening_words}
+use Rattle.laws_robust.proofs.Names.{words_after, number_of, after_begin, after_answer}
 use Rattle.laws_robust.proofs.Names.{after_next, after_decision, world_after, World, Trace, opening}
 use Rattle.model.specs.declared.turn.Kind as kinds
 use Rattle.laws_robust.specs.Open.{IsReachedOpen}

@@ -1,8 +1,8 @@
 -- A call of the robust set puts no question again once it has an answer.
 use Rattle.std.proofs.Common.{arith}
-use Rattle.laws_turns.proofs.Names.{◌≡◌, ℕ, ◌+◌, ◌==◌, nat_lt, Bool, true, false, Option, Some, None, refl, sym, ap}
-use Rattle.laws_turns.proofs.Names.{subst, ◌∙◌, if◌then◌else◌, After, GoOn, Done, ReleaseMode, ReleaseState}
-use Rattle.laws_turns.proofs.Names.{raise_want, lock_want, went_on, acquire_asks, release_asks, count_want, Answer}
+use Rattle.laws_turns.proofs.Names.{◌≡◌, ℕ, ◌+◌, ◌==◌, nat_lt, Bool, true, false, Option, None, refl, sym}
+use Rattle.laws_turns.proofs.Names.{subst, if◌then◌else◌, After, GoOn, Done, ReleaseMode, ReleaseState}
+use Rattle.laws_turns.proofs.Names.{raise_want, lock_want, went_on, release_asks, Answer}
 use Rattle.laws_turns.proofs.Names.{Number, State, Start, Robust, Flight, RobustFlight, Party, Turn, Decide, Coding}
 use Rattle.laws_turns.proofs.Names.{goes_of, want_of, is_question, GoesOn, as_it_is, as_call, refusal_of, is_due}
 use Rattle.laws_turns.proofs.Names.{number_of, after_turn, IsReached, Trace, flight_in, turn_making, passes}

@@ -4,11 +4,11 @@ use Rattle.laws_turns.proofs.Names.{append_cancel_left, ap, ◌≡◌, ℕ, ◌+
 use Rattle.laws_turns.proofs.Names.{List, [], ◌∷◌, ◌++◌, refl, sym, subst, ◌∙◌, AllByRecursion, After, GoOn, Done}
 use Rattle.laws_turns.proofs.Names.{Ask, ReleaseMode, ReleaseState, Unlocked, AcquireStage, Lock, Raise, GiveBack}
 use Rattle.laws_turns.proofs.Names.{ReleaseStage, Running, empty, raise_after, Answer, Event, Asked, Start, Flight}
-use Rattle.laws_turns.proofs.Names.{Registry, RobustStart, RobustFlight, Doing, Going, Over, Party, Turn, Begin, Next}
-use Rattle.laws_turns.proofs.Names.{Decide, Die, Coding, step_of, beside_of, owned_of, acquire_effects}
-use Rattle.laws_turns.proofs.Names.{release_effects, recover_effects, granted, locked_by, party_of, doing_of}
-use Rattle.laws_turns.proofs.Names.{flight_of, Step, answer_in, old_of, number_of, ask_of_doing, doing_after}
-use Rattle.laws_turns.proofs.Names.{party_after, step_count, change_of, ending_of, events_of_step, events_of_answer}
+use Rattle.laws_turns.proofs.Names.{Registry, RobustStart, RobustFlight, Doing, Party, Turn, Begin, Next}
+use Rattle.laws_turns.proofs.Names.{Decide, Die, Coding, step_of, owned_of, acquire_effects}
+use Rattle.laws_turns.proofs.Names.{release_effects, recover_effects, granted, locked_by, party_of}
+use Rattle.laws_turns.proofs.Names.{flight_of, Step, old_of, number_of, ask_of_doing, doing_after}
+use Rattle.laws_turns.proofs.Names.{ending_of, events_of_step, events_of_answer}
 use Rattle.laws_turns.proofs.Names.{events_of_next, events_of_decision, after_answer, after_next, after_decision}
 use Rattle.laws_turns.proofs.Names.{events_of, world_after, after_turn, IsReached, World, Trace, flight_in}
 use Rattle.laws_turns.proofs.Names.{party_put_same, turn_making}

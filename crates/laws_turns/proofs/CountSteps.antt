@@ -1,11 +1,11 @@
 -- What a step of a call of a container leaves of the number of changes: it goes up by 1 as a call ends that has changed the
 -- container, and else it stays.
-use Rattle.laws_turns.proofs.Names.{◌≡◌, ◌≢◌, ℕ, ◌<◌, Option, Some, None, List, refl, sym, ap, arith, get_or, After}
-use Rattle.laws_turns.proofs.Names.{Ask, AddStage, LookStage, RemoveStage, ReplaceStage, ReleaseMode, ReleaseState}
-use Rattle.laws_turns.proofs.Names.{AcquireStage, Count, Lock, Raise, GiveBack, Release, ReleaseStage, change_word}
+use Rattle.laws_turns.proofs.Names.{◌≡◌, ◌≢◌, ℕ, ◌<◌, Option, Some, None, List, refl, ap, arith}
+use Rattle.laws_turns.proofs.Names.{Ask}
+use Rattle.laws_turns.proofs.Names.{AcquireStage, Count, Lock, Raise, GiveBack, ReleaseStage, change_word}
 use Rattle.laws_turns.proofs.Names.{acquire_asks, cell_word, empty, locked, one_more, raise_want, count_want}
 use Rattle.laws_turns.proofs.Names.{lock_want, release_asks, Answer, Finished, Container, ContainerStart}
-use Rattle.laws_turns.proofs.Names.{ContainerFlight, ask_of, SetAct, words_after, loads, exchanges, loads_same}
+use Rattle.laws_turns.proofs.Names.{ask_of, SetAct, words_after, loads, exchanges, loads_same}
 use Rattle.laws_turns.proofs.Names.{AcquireAt, change_at}
 use Rattle.std.proofs.Common.{get_or-set_other}
 use Rattle.steps.specs.Ask.{written}

@@ -1,14 +1,14 @@
 -- Each step of a call of a container, and the changes that it counts.
 use Rattle.laws_turns.proofs.Names.{◌≡◌, ◌≢◌, ℕ, ◌+◌, ◌==◌, nat_lt, if◌then◌else◌, Bool, true, false, Option, Some}
-use Rattle.laws_turns.proofs.Names.{List, refl, sym, ap, subst, ◌∙◌, arith, get_or, Ok, Err, After, GoOn, Done, Ask}
+use Rattle.laws_turns.proofs.Names.{List, refl, sym, ap, subst, ◌∙◌, arith, get_or, Ok, Err, After, GoOn, Done}
 use Rattle.laws_turns.proofs.Names.{AddStage, LookStage, RemoveStage, ReplaceStage, Replacement, ContainerState}
-use Rattle.laws_turns.proofs.Names.{ReleaseMode, LockIfLastIndex, Default, ReleaseState, AcquireStage, Count, Lock}
-use Rattle.laws_turns.proofs.Names.{Raise, GiveBack, Release, ReleaseStage, add_asks, Added, add_acquired}
-use Rattle.laws_turns.proofs.Names.{inner_acquire, find_asks, change_word, count_word, element_word, is_even}
+use Rattle.laws_turns.proofs.Names.{ReleaseMode, ReleaseState, Count, Lock}
+use Rattle.laws_turns.proofs.Names.{Raise, GiveBack, Release, add_asks, Added, add_acquired}
+use Rattle.laws_turns.proofs.Names.{find_asks, change_word, count_word, element_word, is_even}
 use Rattle.laws_turns.proofs.Names.{look_asks, recover_keeps, Removed, remove_asks, remove_released, inner_release}
-use Rattle.laws_turns.proofs.Names.{Replaced, replace_asks, Acquired, acquire_takes, cell_word, empty, locked}
-use Rattle.laws_turns.proofs.Names.{one_more, raise_want, raise_after, lock_want, lock_after, Released, release_takes}
-use Rattle.laws_turns.proofs.Names.{went_on, Answer, State, Container, ContainerStart, ContainerFlight, Coding}
+use Rattle.laws_turns.proofs.Names.{Replaced, replace_asks, Acquired, cell_word, empty, locked}
+use Rattle.laws_turns.proofs.Names.{one_more, raise_want, lock_want, Released, release_takes}
+use Rattle.laws_turns.proofs.Names.{went_on, State, Container, ContainerStart, ContainerFlight, Coding}
 use Rattle.laws_turns.proofs.Names.{ask_of, is_question, place_of, added, removed, replaced, Act, SetAct, as_it_is}
 use Rattle.laws_turns.proofs.Names.{kept_at, as_call, answer_in, words_after, exchanges, change_at, adds_one}
 use Rattle.laws_turns.proofs.Names.{stores_to, both_ways, raise_asks_none, lock_asks_none}

@@ -1,15 +1,15 @@
 -- The number of changes of a container counts the changes, in every reached machine.
 use Rattle.laws_turns.proofs.Names.{◌≡◌, ℕ, ◌+◌, ◌-◌, ◌^◌, ◌<◌, Bool, true, Option, Some, None, List, [], ◌∷◌, ◌++◌}
 use Rattle.laws_turns.proofs.Names.{fold, refl, sym, ap, subst, ◌∙◌, arith, AllByRecursion, fold-append, change_word}
-use Rattle.laws_turns.proofs.Names.{After, GoOn, Done, Ask, one_more, Answer, Event, Begun, Died, Finished, Start}
-use Rattle.laws_turns.proofs.Names.{Container, Flight, Registry, ContainerStart, ContainerFlight, Party, Turn, Begin}
-use Rattle.laws_turns.proofs.Names.{Next, Decide, Die, want_of, ask_of, is_question, beside_of, step_of, state_of}
+use Rattle.laws_turns.proofs.Names.{After, GoOn, Done, Ask, one_more, Answer, Event, Finished, Start}
+use Rattle.laws_turns.proofs.Names.{Container, Flight, Registry, ContainerStart, ContainerFlight, Party, Turn}
+use Rattle.laws_turns.proofs.Names.{Next, Decide, want_of, ask_of, is_question, beside_of, step_of, state_of}
 use Rattle.laws_turns.proofs.Names.{questions, party_of, IsParty, IsEffectOf, ask_in, ask_of_flight, refusal_of}
 use Rattle.laws_turns.proofs.Names.{is_due, answer_in, old_of, words_after, number_of, ending_of, events_of}
 use Rattle.laws_turns.proofs.Names.{events_of_answer, events_of_next, events_of_decision, events_of_step}
-use Rattle.laws_turns.proofs.Names.{ask_of_doing, step_in, world_after, after_turn, IsReached, Trace, capacity_error}
+use Rattle.laws_turns.proofs.Names.{ask_of_doing, step_in, after_turn, IsReached, Trace, capacity_error}
 use Rattle.laws_turns.proofs.Names.{flight_in, kept_by_runs, reached_more, turn_making, passes, may_next, may_decide}
-use Rattle.laws_turns.proofs.Names.{must_be_due, StandsThere, change_at, change_set, shown, container_keeps, adds_one}
+use Rattle.laws_turns.proofs.Names.{must_be_due, StandsThere, change_at, change_set, shown, adds_one}
 use Rattle.laws_turns.proofs.Names.{adds_to_change, all_effects, dying}
 use Rattle.model.specs.declared.families.Flight as flights
 use Rattle.model.specs.declared.families.Registry as registries
@@ -21,7 +21,7 @@ use Rattle.model.proofs.Frame as frame
 use Rattle.laws_robust.proofs.Opening.{admitted_is}
 use Rattle.laws_container.proofs.Invariant.{family}
 use Rattle.laws_container.proofs.Opening.{opens}
-use Rattle.laws_container.proofs.Sound.{kept_is, reached_sound, scene_of, inv_of, is_there}
+use Rattle.laws_container.proofs.Sound.{kept_is, reached_sound, inv_of, is_there}
 use Rattle.laws_container.proofs.Stages.{any_call}
 use Rattle.laws_turns.specs.Changes.{change_in, changes_of, CountsChanges}
 use Rattle.laws_turns.proofs.CountSteps.{ends_count}

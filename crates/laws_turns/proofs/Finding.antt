@@ -1,9 +1,9 @@
 -- A find of the robust set asks about an index just where its cell holds the owner.
-use Rattle.laws_turns.proofs.Names.{◌≡◌, ℕ, ◌+◌, ◌<◌, ◌==◌, nat_lt, Bool, true, false, Option, Some, None, List, refl}
+use Rattle.laws_turns.proofs.Names.{◌≡◌, ℕ, ◌+◌, ◌<◌, nat_lt, Bool, true, false, Option, Some, None, List, refl}
 use Rattle.laws_turns.proofs.Names.{sym, ap, subst, ◌∙◌, if◌then◌else◌, slice_index, arith, ne_eqb, After, GoOn, Done}
 use Rattle.laws_turns.proofs.Names.{Ask, cell_word, empty, one_more, went_on, Number, Start, Robust, Flight}
 use Rattle.laws_turns.proofs.Names.{RobustStart, RobustFlight, Party, Turn, Next, Coding, goes_of, want_of, ask_of}
-use Rattle.laws_turns.proofs.Names.{IsIn, asked_of, cell_of, SetAct, filled_of, set_acts_of, ask_of_flight, ask_in}
+use Rattle.laws_turns.proofs.Names.{IsIn, asked_of, cell_of, SetAct, filled_of, ask_of_flight, ask_in}
 use Rattle.laws_turns.proofs.Names.{GoesOn, as_it_is, as_call, refusal_of, old_of, after_turn, IsReached, Trace}
 use Rattle.laws_turns.proofs.Names.{flight_in, turn_making, StandsThere, cell, robust_keeps, find_at, FindAt}
 use Rattle.steps.specs.declared.indices.robust.find.Find as find_calls
@@ -15,7 +15,6 @@ use Rattle.model.specs.declared.families.indices.robust.RobustStart as starts
 use Rattle.model.specs.declared.families.indices.robust.calls.RobustFlight as calls
 use Rattle.model.specs.declared.turn.Kind as kinds
 use Rattle.model.specs.Families.Indices.Robust.Calls.{want, after}
-use Rattle.model.specs.Shape.{IsOpenFor}
 use Rattle.model.proofs.Frame as frame
 use Rattle.laws_robust.proofs.Invariant.{family}
 use Rattle.laws_robust.proofs.Sound.{kept_is, reached_sound}

@@ -2,9 +2,9 @@
 use Rattle.std.proofs.Common.{arith}
 use Rattle.laws_turns.proofs.Names.{◌≡◌, ◌≢◌, ℕ, ◌-◌, ◌^◌, ◌<◌, true, Option, Some, None, List, [], ◌∷◌, ◌++◌, refl}
 use Rattle.laws_turns.proofs.Names.{sym, ap, subst, ◌∙◌, append_assoc, append-nil, AllByRecursion, After, GoOn, Done}
-use Rattle.laws_turns.proofs.Names.{ReleaseMode, LockIfLastIndex, Default, ReleaseState, raise_want, lock_want}
-use Rattle.laws_turns.proofs.Names.{Running, went_on, acquire_after, borrowed_after, release_after, Answer, State}
-use Rattle.laws_turns.proofs.Names.{Number, Event, Finished, Start, Robust, Flight, RobustStart, RobustFlight, Party}
+use Rattle.laws_turns.proofs.Names.{ReleaseMode, ReleaseState, raise_want, lock_want}
+use Rattle.laws_turns.proofs.Names.{Running, went_on, Answer, State}
+use Rattle.laws_turns.proofs.Names.{Event, Finished, Start, Robust, Flight, RobustStart, RobustFlight, Party}
 use Rattle.laws_turns.proofs.Names.{ask_of, is_question, recover_effects, as_it_is, party_of, whose, as_call}
 use Rattle.laws_turns.proofs.Names.{answer_in, old_of, ending_of, IsReached, Trace, AreOwn, AreRight, Death}
 use Rattle.laws_turns.proofs.Names.{both_ways, Scene, Inv, Knows, raise_asks_none, lock_asks_none, IsHere, all, now}
@@ -13,11 +13,10 @@ use Rattle.steps.specs.declared.indices.robust.recover.Recover as recover_calls
 use Rattle.steps.specs.declared.indices.robust.recover.RecoverStage.{RecoverStage}
 use Rattle.steps.specs.declared.indices.robust.recover.RecoverStage as recovers
 use Rattle.steps.specs.Indices.Robust.Recover.{recover_asks, recover_takes}
-use Rattle.steps.specs.Indices.Robust.Find.{find_after}
 use Rattle.model.specs.declared.families.indices.robust.RobustStart as starts
 use Rattle.model.specs.declared.families.indices.robust.calls.RobustFlight as calls
 use Rattle.model.specs.declared.turn.Kind as kinds
-use Rattle.model.specs.Families.Indices.Robust.Calls.{want, after, acquire_answer, release_answer}
+use Rattle.model.specs.Families.Indices.Robust.Calls.{want, after}
 use Rattle.model.specs.Families.Indices.Robust.Steps.{effects}
 use Rattle.model.proofs.Frame as frame
 use Rattle.laws_robust.proofs.Invariant.{family}
@@ -26,7 +25,7 @@ use Rattle.laws_robust.proofs.Stages.{any_call}
 use Rattle.laws_robust.proofs.Standing.{recover_at, At, RecoverAt}
 use Rattle.laws_robust.proofs.Written.{effects_hold}
 use Rattle.laws_turns.specs.Recoveries.{LocksRight}
-use Rattle.laws_turns.proofs.LockKnows.{StageKnows, CallKnows, FlightKnows}
+use Rattle.laws_turns.proofs.LockKnows.{CallKnows, FlightKnows}
 use Rattle.laws_turns.proofs.LockSteps.{Tells, steps, decided}
 use Rattle.laws_turns.proofs.Standing.{left_by}
 

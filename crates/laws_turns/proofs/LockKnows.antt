@@ -1,7 +1,7 @@
 -- What a recovery of the robust set in mode LockIfLastIndex knows of the indices that it has freed, and that it knows this
 -- still after any turn of another party.
 use Rattle.std.proofs.Common.{arith}
-use Rattle.laws_turns.proofs.Names.{◌≡◌, ℕ, inl, Option, Some, List, ◌++◌, subst, ReleaseMode, Event, Flight}
+use Rattle.laws_turns.proofs.Names.{◌≡◌, ℕ, inl, Option, Some, List, ◌++◌, ReleaseMode, Event, Flight}
 use Rattle.laws_turns.proofs.Names.{RobustFlight, Frees, set_acts_of, IsOneOf, BeginsNone, LockSays, NoIndex}
 use Rattle.laws_turns.proofs.Names.{FilledBut, FoundFilled, filled_then, says_later}
 use Rattle.steps.specs.declared.indices.robust.recover.RecoverStage.{RecoverStage}

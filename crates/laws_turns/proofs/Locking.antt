@@ -4,14 +4,14 @@ use Rattle.std.proofs.Common.{arith}
 use Rattle.laws_turns.proofs.Names.{◌≡◌, ⊎_elim, ℕ, Bool, true, Option, Some, None, List, [], ◌∷◌, ◌++◌, refl, sym}
 use Rattle.laws_turns.proofs.Names.{ap, subst, ◌∙◌, cases_eq, ReleaseMode, Event, Begun, Died, Start, Robust, Flight}
 use Rattle.laws_turns.proofs.Names.{Registry, RobustStart, RobustFlight, Party, Turn, Begin, Next, Decide, Die}
-use Rattle.laws_turns.proofs.Names.{want_of, ask_of, is_question, goes_of, beside_of, step_of, Frees, set_acts_of}
+use Rattle.laws_turns.proofs.Names.{want_of, ask_of, is_question, goes_of, beside_of, step_of, set_acts_of}
 use Rattle.laws_turns.proofs.Names.{set_acts, wrote_in, BeginsNone, party_of, IsParty, Each, refusal_of, is_due}
-use Rattle.laws_turns.proofs.Names.{answer_in, old_of, number_of, events_of, events_of_answer, events_of_next}
+use Rattle.laws_turns.proofs.Names.{old_of, number_of, events_of, events_of_answer, events_of_next}
 use Rattle.laws_turns.proofs.Names.{events_of_decision, events_of_step, step_in, world_after, ask_of_doing}
 use Rattle.laws_turns.proofs.Names.{after_turn, IsReached, Trace, flight_in, others_begin_none, kept_by_runs}
 use Rattle.laws_turns.proofs.Names.{reached_more, turn_making, AreOwn, AreRight, Each-append, Each-nil, no_more}
 use Rattle.laws_turns.proofs.Names.{span_of-own, span_of-other, span_of-death, passes, may_next, may_decide}
-use Rattle.laws_turns.proofs.Names.{must_be_due, StandsThere, Death, robust_keeps, NoIndex, filled_none}
+use Rattle.laws_turns.proofs.Names.{must_be_due, StandsThere, Death, robust_keeps, filled_none}
 use Rattle.steps.specs.declared.indices.robust.recover.RecoverStage.{RecoverStage}
 use Rattle.steps.specs.declared.indices.robust.recover.RecoverStage as recovers
 use Rattle.model.specs.declared.families.Flight as flights
@@ -24,11 +24,10 @@ use Rattle.model.specs.Families.Indices.Robust.Steps.{effects}
 use Rattle.model.proofs.Frame as frame
 use Rattle.laws_robust.proofs.Invariant.{family}
 use Rattle.laws_robust.proofs.Sound.{kept_is, reached_sound, is_there}
-use Rattle.laws_robust.proofs.Stages.{any_call}
 use Rattle.laws_robust.proofs.Standing.{At, RecoverAt}
 use Rattle.laws_turns.specs.Recoveries.{LocksRight}
 use Rattle.laws_turns.proofs.LockKnows.{StageKnows, CallKnows, FlightKnows, flight_later}
-use Rattle.laws_turns.proofs.LockCalls.{Leaves, wrote_by, all_own, effects_own, step_leaves, decision_leaves}
+use Rattle.laws_turns.proofs.LockCalls.{Leaves, all_own, effects_own, step_leaves, decision_leaves}
 use Rattle.laws_turns.proofs.Others.{others_stay}
 use Rattle.laws_turns.proofs.Standing.{left_by, next_left, decision_left, under_way}
 

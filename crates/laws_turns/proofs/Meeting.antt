@@ -13,7 +13,7 @@ use Rattle.model.specs.declared.families.container.calls.LookOf as kinds_of
 use Rattle.model.specs.declared.turn.Kind as kinds
 use Rattle.model.specs.World.{opened}
 use Rattle.laws_turns.specs.Changes.{Seen, seen_after, seen_by, MeetsChanges}
-use Rattle.laws_turns.proofs.SeenKnows.{Within, IsToLoad, Grows, CallSees, FlightSees, seen_number, one_more, within_later, begun_grows, IsNoLook}
+use Rattle.laws_turns.proofs.SeenKnows.{Within, Grows, CallSees, FlightSees, seen_number, one_more, within_later, begun_grows, IsNoLook}
 use Rattle.laws_turns.proofs.SeenTurns.{Extra, s, now_kept, same_kept, other_known, known_by, after_it, next_kept, decision_kept}
 use Rattle.model.specs.Families.Container.Opening.{states_at_begin}
 

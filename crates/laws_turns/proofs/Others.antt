@@ -1,9 +1,9 @@
 -- The calls of the other parties stay where they stood.
 use Rattle.std.proofs.Common.{arith}
-use Rattle.laws_turns.proofs.Names.{◌≡◌, ◌≢◌, ℕ, Bool, Option, Some, None, refl, ap, Ask, Start, Flight, Doing, Going}
-use Rattle.laws_turns.proofs.Names.{Over, Party, Turn, Begin, Next, Decide, Die, first_of, party_of, doing_of}
-use Rattle.laws_turns.proofs.Names.{flight_of, party_at_begin, party_after, step_in, step_count, change_of, old_of}
-use Rattle.laws_turns.proofs.Names.{number_of, ask_of_doing, after_begin, after_answer, after_next, after_decision}
+use Rattle.laws_turns.proofs.Names.{◌≡◌, ◌≢◌, ℕ, Bool, Option, Some, None, refl, Ask, Start, Flight, Doing}
+use Rattle.laws_turns.proofs.Names.{Party, Turn, first_of}
+use Rattle.laws_turns.proofs.Names.{step_in}
+use Rattle.laws_turns.proofs.Names.{number_of, after_begin, after_answer, after_next, after_decision}
 use Rattle.laws_turns.proofs.Names.{world_after, World, flight_in, party_put_other}
 use Rattle.laws_turns.specs.Others.{OthersStay}
 

@@ -1,20 +1,19 @@
 -- The submission queue of a channel is as long as it was.
 use Rattle.std.proofs.Common.{arith}
-use Rattle.laws_turns.proofs.Names.{◌≡◌, ℕ, Bool, Option, Some, None, List, [], ◌∷◌, fold, refl, sym, ap, subst, ◌∙◌}
-use Rattle.laws_turns.proofs.Names.{Ask, Answer, Event, Published, Claimed, Freed, Start, Flight, Registry, Doing}
-use Rattle.laws_turns.proofs.Names.{Going, Over, Party, Turn, Begin, Next, Decide, Die, Coding, first_of, step_of}
-use Rattle.laws_turns.proofs.Names.{kept_after_begin, kept_after_death, beside_of, party_of, answer_in, old_of}
-use Rattle.laws_turns.proofs.Names.{number_of, ask_of_doing, after_begin, after_answer, after_next, after_decision}
+use Rattle.laws_turns.proofs.Names.{◌≡◌, ℕ, Bool, Option, Some, None, List, [], ◌∷◌, fold, refl, sym, subst, ◌∙◌}
+use Rattle.laws_turns.proofs.Names.{Ask, Answer, Event, Start, Flight, Registry, Doing}
+use Rattle.laws_turns.proofs.Names.{Party, Turn, Coding, first_of, step_of}
+use Rattle.laws_turns.proofs.Names.{kept_after_begin, kept_after_death}
+use Rattle.laws_turns.proofs.Names.{number_of, after_begin, after_answer, after_next, after_decision}
 use Rattle.laws_turns.proofs.Names.{world_after, after_turn, attempt, unless_refused, run, IsReached, refusal_of}
 use Rattle.laws_turns.proofs.Names.{World, Trace, kept_opened}
 use Rattle.model.specs.declared.event.Answer.TheVariants as answers
-use Rattle.model.specs.declared.event.Item.TheVariants.{Index}
 use Rattle.model.specs.declared.event.Start.TheVariants as starts
 use Rattle.model.specs.declared.families.Flight.TheVariants as flights
 use Rattle.model.specs.declared.families.Registry.TheVariants as registries
 use Rattle.model.specs.declared.families.loan.Book.{Book}
 use Rattle.model.specs.declared.families.loan.LoanStart.{LoanStart}
-use Rattle.model.specs.declared.families.loan.LoanStart.TheVariants.{Loan, Receive, Reclaim}
+use Rattle.model.specs.declared.families.loan.LoanStart.TheVariants.{Loan}
 use Rattle.model.specs.declared.turn.Kind as kinds
 use Rattle.model.specs.declared.turn.Refusal.{Refusal}
 use Rattle.model.specs.Families.Loan.Calls.{after}

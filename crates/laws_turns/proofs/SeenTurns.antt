@@ -2,7 +2,7 @@
 use Rattle.std.proofs.Common.{arith}
 use Rattle.laws_turns.proofs.Names.{◌≡◌, ◌≢◌, ⊎_elim, ℕ, ◌==◌, ◌&&◌, Bool, true, false, Option, Some, None, is_some}
 use Rattle.laws_turns.proofs.Names.{IfSome, List, [], ◌∷◌, ◌++◌, refl, sym, ap, subst, ◌∙◌, ne_eqb, eq-eqb, cases_eq}
-use Rattle.laws_turns.proofs.Names.{AllByRecursion, Look, ContainerState, look_asks, Answer, Event, Begun, Died}
+use Rattle.laws_turns.proofs.Names.{AllByRecursion, Look, ContainerState, Answer, Event, Begun, Died}
 use Rattle.laws_turns.proofs.Names.{Acted, Finished, is_look_of, Act, questions, SetAct, Start, Container, Flight}
 use Rattle.laws_turns.proofs.Names.{Registry, ContainerStart, ContainerFlight, LookOf, Party, Turn, Next, Decide}
 use Rattle.laws_turns.proofs.Names.{want_of, ask_of, is_question, goes_of, beside_of, step_of, look_shows, settled_if}

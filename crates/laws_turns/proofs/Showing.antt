@@ -1,6 +1,6 @@
 -- A state that follows its container is the map once it is brought up to date.
-use Rattle.laws_turns.proofs.Names.{◌≡◌, ⊎_elim, ℕ, ◌*◌, ◌≤◌, ◌==◌, Bool, true, false, Option, None, List, replicate}
-use Rattle.laws_turns.proofs.Names.{get_or, map, if◌then◌else◌, refl, sym, ap, ◌∙◌, arith, cases_lt, nat_tests}
+use Rattle.laws_turns.proofs.Names.{◌≡◌, ℕ, ◌*◌, ◌≤◌, ◌==◌, Bool, true, false, Option, None, List, replicate}
+use Rattle.laws_turns.proofs.Names.{get_or, map, if◌then◌else◌, refl, sym, ap, ◌∙◌, arith, nat_tests}
 use Rattle.laws_turns.proofs.Names.{ext_get_or, get_or-replicate, get_or_past, length-replicate, range_with_len}
 use Rattle.laws_turns.proofs.Names.{is_even, Contents, capacity, Snapshot, blank, value_then, updated}
 use Rattle.std.proofs.lemmas.List.FromFn.{get_or-map-range_with_len, length-map-range_with_len}

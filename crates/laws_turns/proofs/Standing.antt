@@ -1,6 +1,6 @@
 -- Where a party's call stands before a turn, and where it stands after it.
 use Rattle.std.proofs.Common.{arith}
-use Rattle.laws_turns.proofs.Names.{◌≡◌, ℕ, Bool, Option, Some, None, IfSome, refl, ap, subst, ◌∙◌, After, GoOn, Done}
+use Rattle.laws_turns.proofs.Names.{◌≡◌, ℕ, Bool, Option, Some, None, refl, ap, ◌∙◌, After, GoOn, Done}
 use Rattle.laws_turns.proofs.Names.{Answer, Flight, Doing, Going, Over, Party, Next, Decide, want_of, ask_of, goes_of}
 use Rattle.laws_turns.proofs.Names.{party_of, doing_of, flight_of, StandsAt, GoesOn, old_of, number_of, World, Trace}
 use Rattle.laws_turns.proofs.Names.{flight_in, StandsThere, stands_there}

@@ -1,7 +1,7 @@
 -- The counts of a machine fit their types.
-use Rattle.std.proofs.Common.{ℕ, ◌≤◌, ◌==◌, Bool, true, false, cond, Option, Some, None, List, get_or, arith}
+use Rattle.std.proofs.Common.{ℕ, ◌≤◌, Bool, true, false, cond, Option, Some, None, List, arith}
 use Rattle.steps.specs.declared.ask.Ask.{Ask}
-use Rattle.model.specs.Turns.{words_after, change_of, step_count, one_if}
+use Rattle.model.specs.Turns.{change_of, step_count, one_if}
 
 one_at_most : (b : Bool) → cond b 0 1 ≤ 1
 one_at_most true = omega arith

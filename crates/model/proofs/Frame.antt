@@ -418,10 +418,6 @@ module _ {T : Type 0} (F : Family T) where
         death = laws.death;
       }
 
-  -- laws without an end are laws of a machine with one
-  pub laws_within : LawsOn → Laws
-  laws_within laws = laws_with (λ t turn s few. tt) laws
-
   -- ---- progress
 
   -- what a family says of the counts of a call under way

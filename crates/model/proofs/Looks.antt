@@ -7,7 +7,6 @@ use Rattle.steps.specs.declared.ask.Op.TheVariants.{Exchange}
 use Rattle.steps.specs.declared.atomic.LoadStage.{LoadStage}
 use Rattle.steps.specs.declared.atomic.LoadStage as loading
 use Rattle.steps.specs.declared.queues.lengths.LenStage.{LenStage}
-use Rattle.steps.specs.declared.queues.lengths.LenStage.TheVariants.{LoadsWrite, LoadsRead, LoadsWriteAgain, LoadsReadAgain}
 use Rattle.steps.specs.Atomic.{load_asks}
 use Rattle.steps.specs.Queues.Lengths.{len_asks}
 use Rattle.model.specs.declared.families.Flight.{Flight}

@@ -1,6 +1,5 @@
 -- Each call keeps the guarantee of its kind: the table by cases, and every run by its bounds.
-use Rattle.std.proofs.Common.{◌≡◌, ℕ, ◌+◌, ◌-◌, ◌*◌, ◌≤◌, Option, Some, None, arith}
-use Rattle.steps.specs.declared.indices.enums.ReleaseMode.TheVariants.{LockIfLastIndex, Default}
+use Rattle.std.proofs.Common.{◌≡◌, ℕ, ◌+◌, ◌-◌, ◌*◌, ◌≤◌, Option, arith}
 use Rattle.model.specs.declared.event.Start.{Start}
 use Rattle.model.specs.declared.event.Start.TheVariants as starts
 use Rattle.model.specs.declared.families.atomic.AtomicStart.TheVariants as atomics
@@ -15,7 +14,7 @@ use Rattle.model.specs.declared.families.queues.QueueStart.{QueueStart}
 use Rattle.model.specs.declared.families.queues.QueueStart.TheVariants as queues
 use Rattle.model.specs.declared.party.Progress.{Progress}
 use Rattle.model.specs.declared.turn.Kind.{Kind}
-use Rattle.model.specs.declared.turn.Kind.TheVariants.{IndexQueue, Overflow, Queue, Atomic, Bits, Counts, Indices, Robust, Container, Loan}
+use Rattle.model.specs.declared.turn.Kind.TheVariants.{IndexQueue, Overflow, Queue, Atomic, Bits, Indices, Robust, Container, Loan}
 use Rattle.model.specs.Families.Atomic.Promises as value_promises
 use Rattle.model.specs.Families.Bits.Promises.{bits_promise, counts_promise}
 use Rattle.model.specs.Families.Container.Promises as container_promises
@@ -23,15 +22,15 @@ use Rattle.model.specs.Families.Loan.Promises as loan_promises
 use Rattle.model.specs.Families.Indices.Promises as index_promises
 use Rattle.model.specs.Families.Indices.Robust.Promises as robust_promises
 use Rattle.model.specs.Families.Queues.Promises as queue_promises
-use Rattle.model.specs.Progress.{Guarantee, WaitFree, ObstructionFree, IsGuaranteed, of_push, of_pop, in_queue}
+use Rattle.model.specs.Progress.{Guarantee, IsGuaranteed, of_push, of_pop, in_queue}
 use Rattle.model.specs.Progress.{in_value, in_bits, in_counts, in_indices, in_robust, in_container, in_loan}
 use Rattle.model.specs.Progress.{guarantee_of, IsWithin, LatestIsWithin, KeepsGuarantees}
 use Rattle.model.specs.Promise.{Promise}
 use Rattle.model.specs.Promises.{IsKept}
 use Rattle.model.specs.Promises.Bounds.{IsBounded, Progresses}
 use Rattle.model.specs.Promises.Families.{promise_of}
-use Rattle.model.specs.Reading.{Span, Never, Open, Ended, span_of}
-use Rattle.model.specs.World.{Trace, progress_in}
+use Rattle.model.specs.Reading.{Span}
+use Rattle.model.specs.World.{Trace}
 
 -- ---- the table
 
@@ -109,7 +108,18 @@ module _ {T : Type 0} where
 
 pub guaranteed : {T : Type 0} (kind : Kind) (capacity size : ℕ) (start : Start T)
     → IsGuaranteed (promise_of kind) capacity size start (guarantee_of kind capacity size start)
-guaranteed x0 x1 x2 x3 = grind (arith, queue_guaranteed, value_guaranteed, bits_guaranteed, counts_guaranteed, index_guaranteed, robust_guaranteed, container_guaranteed, loan_guaranteed)
+guaranteed x0 x1 x2 x3 =
+    grind (
+      arith,
+      queue_guaranteed,
+      value_guaranteed,
+      bits_guaranteed,
+      counts_guaranteed,
+      index_guaranteed,
+      robust_guaranteed,
+      container_guaranteed,
+      loan_guaranteed,
+    )
 
 module _ {T : Type 0} where
   -- ---- every run

@@ -4,22 +4,19 @@ use Rattle.std.proofs.Common.{◌≡◌, ℕ, Bool, Option, Some, None, List, []
 use Rattle.model.specs.declared.families.Flight.{Flight}
 use Rattle.model.specs.declared.event.Start.{Start}
 use Rattle.model.specs.declared.party.Doing.{Doing}
-use Rattle.model.specs.declared.party.Doing.TheVariants.{Going, Over}
 use Rattle.model.specs.declared.party.Party.{Party}
 use Rattle.model.specs.declared.turn.Kind.{Kind}
 use Rattle.model.specs.declared.turn.Refusal.{Refusal}
 use Rattle.model.specs.declared.turn.Turn.{Turn}
-use Rattle.model.specs.declared.turn.Turn.TheVariants.{Begin, Next, Decide, Die}
 use Rattle.std.proofs.lemmas.List.{take_more}
 use Rattle.steps.specs.declared.ask.Ask.{Ask}
 use Rattle.model.specs.Coding.{Coding, IsCoding}
 use Rattle.model.specs.Families.{first_of}
-use Rattle.model.specs.Parties.{party_of}
 use Rattle.model.specs.World.{World, Trace, opening, opened, loan_opening, capacity_error, queue_error, loan_error}
 use Rattle.model.specs.Refusals.{refusal_of, call_refusal}
 use Rattle.model.specs.Turns.{after_begin, after_answer, after_next, after_decision, world_after, after_turn}
 use Rattle.model.specs.Turns.{unless_refused, attempt, run, attempt_on, run_on, IsReachedOn, after_turns, AreAllowed}
-use Rattle.model.specs.Turns.{IsReached, ask_of_doing, old_of, number_of}
+use Rattle.model.specs.Turns.{IsReached, number_of}
 use Rattle.model.proofs.Openings.{opened_at_one, queue_admitted, loan_admitted}
 
 module _ {T : Type 0} where

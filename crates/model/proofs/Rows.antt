@@ -1,5 +1,5 @@
 -- What a turn that is not refused has passed.
-use Rattle.std.proofs.Common.{◌≡◌, ℕ, ◌^◌, ◌-◌, ◌<◌, Bool, true, false, cond, not, Option, Some, None, is_some, is_none, List, ◌∷◌, nat_le, refl, arith}
+use Rattle.std.proofs.Common.{◌≡◌, ℕ, ◌^◌, ◌-◌, ◌<◌, Bool, true, false, cond, not, Option, Some, None, is_some, is_none, List, ◌∷◌, refl, arith}
 use Rattle.std.proofs.lemmas.Bool.Decides.{nat_tests}
 use Rattle.model.specs.declared.families.Flight.{Flight}
 use Rattle.model.specs.declared.event.Start.{Start}
@@ -7,13 +7,13 @@ use Rattle.model.specs.declared.party.Party.{Party}
 use Rattle.model.specs.declared.turn.Turn.{Turn}
 use Rattle.model.specs.declared.turn.Turn.TheVariants.{Begin, Next, Decide, Die}
 use Rattle.model.specs.declared.turn.Refusal.{Refusal}
-use Rattle.model.specs.declared.turn.Refusal.TheVariants.{AtEnd, NoParty, Idle, Undecided, WrongCall, OwnerIsDead}
+use Rattle.model.specs.declared.turn.Refusal.TheVariants.{AtEnd}
 use Rattle.model.specs.Parties.{flight_of, doing_of}
 use Rattle.model.specs.World.{World, flight_in}
-use Rattle.model.specs.Families.{begin_of, first_of, going_rows, lacks_party, has_owners, is_dead}
+use Rattle.model.specs.Families.{begin_of, first_of, going_rows, has_owners, is_dead}
 use Rattle.model.specs.Turns.{turn_of}
 use Rattle.model.specs.Rows.{first_row}
-use Rattle.model.specs.Refusals.{refusal_of, call_refusal, call_rows, is_at_end, is_due}
+use Rattle.model.specs.Refusals.{refusal_of, call_refusal, is_at_end, is_due}
 
 -- a row that did not apply
 pub row_passed : (b : Bool) (r : Refusal) (rest : Option Refusal) → cond b (Some r) rest ≡ None → (b ≡ false) × (rest ≡ None)

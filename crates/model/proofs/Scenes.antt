@@ -1,7 +1,7 @@
 -- From a machine of any family between two turns to the step of one call that is under way: where the call stands there,
 -- and that its step may be looked at from the words, and what is kept beside them, that the family's state holds.
 use Rattle.std.proofs.Common.{arith}
-use Rattle.std.proofs.Common.{◌≡◌, ℕ, ◌+◌, ◌≤◌, Option, Some, List, ◌++◌, sym, ap, subst, ◌∙◌}
+use Rattle.std.proofs.Common.{◌≡◌, ℕ, ◌+◌, ◌≤◌, Option, Some, List, ◌++◌}
 use Rattle.steps.specs.declared.ask.Ask.{Ask}
 use Rattle.model.specs.declared.event.Start.{Start}
 use Rattle.model.specs.declared.families.Flight.{Flight}
@@ -18,7 +18,7 @@ use Rattle.model.specs.Reading.{Open, span_of}
 use Rattle.model.specs.Step.{Step}
 use Rattle.model.specs.Turns.{old_of, words_after, change_of, step_count, party_after, events_of_step}
 use Rattle.model.specs.World.{Trace}
-use Rattle.model.proofs.Frame.{Family, Sound, Comes, ComesByStep, Fits, under_way, knows_now}
+use Rattle.model.proofs.Frame.{Family, Sound, Comes, ComesByStep, under_way, knows_now}
 
 module _ {T : Type 0} where
   abbrev pub asked : Coding T → Flight T → Option Ask

@@ -1,7 +1,7 @@
 -- What a turn does, in its own words.
 use Rattle.std.proofs.Common.{◌≡◌, ◌≢◌, ℕ, ◌+◌, ◌-◌, ◌<◌, ◌≤◌, ◌==◌, ◌⊎◌, inl, inr, ⊎_elim, Bool, true, false, cond}
 use Rattle.std.proofs.Common.{Option, Some, None, is_some, is_none, IfSome, List, length, get_or, set, refl, sym, ap}
-use Rattle.std.proofs.Common.{subst, ◌∙◌, arith, get_or-set_same}
+use Rattle.std.proofs.Common.{◌∙◌, arith, get_or-set_same}
 use Rattle.std.proofs.lemmas.Bool.{cases_lt}
 use Rattle.std.proofs.lemmas.Bool.Decides.{nat_tests}
 use Rattle.std.proofs.lemmas.List.{set-get_or, set_past}
@@ -25,8 +25,8 @@ use Rattle.model.specs.Refusals.{call_refusal}
 use Rattle.model.specs.Small.{HasSmallCount, IsSmall}
 use Rattle.model.specs.Step.{Step}
 use Rattle.model.specs.Turns.{old_of, words_after, change_of, step_count, ask_of_doing, number_of, one_if, after_begin}
-use Rattle.model.specs.Turns.{party_at_begin, after_step, party_after, doing_after, step_in, after_answer, after_next}
-use Rattle.model.specs.Turns.{after_decision, after_death, world_after}
+use Rattle.model.specs.Turns.{after_step, party_after, doing_after, step_in, after_answer, after_next}
+use Rattle.model.specs.Turns.{after_decision, world_after}
 use Rattle.model.specs.World.{World, flight_in, progress_in}
 use Rattle.model.proofs.Parties.{party_put_same, party_put_other}
 use Rattle.model.proofs.Reached.{turn_making}

@@ -1,11 +1,11 @@
 -- What a driver knows between two steps of a call that runs alone.
-use Rattle.std.proofs.Common.{◌≡◌, ℕ, zero, suc, ◌+◌, ◌^◌, ◌-◌, ◌≤◌, List, sym, ap, subst, arith}
+use Rattle.std.proofs.Common.{◌≡◌, ℕ, ◌+◌, ◌^◌, ◌-◌, ◌≤◌, List, arith}
 use Rattle.steps.specs.declared.ask.Want.{Want}
 use Rattle.steps.specs.declared.ask.After.{After}
 use Rattle.steps.specs.declared.ask.After.TheVariants.{GoOn, Done}
 use Rattle.plain.specs.declared.drive.Stop.{Stop}
 use Rattle.plain.specs.declared.drive.Stop.TheVariants.{Asked, Ended}
-use Rattle.plain.specs.Alone.{answer_in, words_then, room_then, stepped, StopsFrom, StopsIn, CanStop, StopsAlike, EndsIn, CanEnd, EndsAlike}
+use Rattle.plain.specs.Alone.{answer_in, words_then, room_then, stepped, StopsIn, CanStop, StopsAlike, EndsIn, CanEnd, EndsAlike}
 
 module _ {C G M E : Type 0} (want_of : C → G → Want (Unit {0})) (after : C → G → ℕ → After C E)
     (kept : C → M → ℕ → M) (given : G) where

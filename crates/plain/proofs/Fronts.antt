@@ -9,8 +9,6 @@ use Rattle.steps.specs.declared.ask.Op.TheVariants.{Load, Store, Swap, Add, Sub,
 use Rattle.steps.specs.declared.ask.Want.{Want}
 use Rattle.steps.specs.declared.ask.Want as wants
 use Rattle.steps.specs.declared.ask.After.{After}
-use Rattle.steps.specs.declared.ask.After.TheVariants.{GoOn, Done}
-use Rattle.std.specs.Prelude.{bit_and, bit_or}
 use Rattle.plain.specs.Alone.{written_by, answer_in, words_then, stepped}
 use Rattle.plain.proofs.Walks.{WalksFrom, OnEnd, Walks, LowThen}
 

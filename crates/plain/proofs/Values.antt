@@ -1,11 +1,9 @@
 -- A store and a load of the single value that run alone.
-use Rattle.std.proofs.Common.{◌≡◌, ◌≢◌, ℕ, zero, suc, ◌+◌, ◌-◌, ◌*◌, ◌%◌, ◌^◌, ◌<◌, ◌≤◌, inl, Bool, true, false, not}
+use Rattle.std.proofs.Common.{◌≡◌, ◌≢◌, ℕ, zero, suc, ◌+◌, ◌-◌, ◌*◌, ◌^◌, ◌<◌, ◌≤◌, inl, Bool, true, false, not}
 use Rattle.std.proofs.Common.{◌==◌, nat_lt, List, length, refl, sym, ap, subst, ◌∙◌, arith, slice_index, slice_set}
 use Rattle.std.proofs.Common.{get_or-set_same, get_or-set_other, length-set, eq-eqb, ne_eqb, if◌then◌else◌}
 use Rattle.std.proofs.Math.Nat.{mul-le-mul_left}
 use Rattle.std.proofs.lemmas.Bool.Decides.{nat_tests}
-use mathlib.Core.Logic.{dite}
-use native.Mathlib.Decide.{ℕ_discrete}
 use Rattle.steps.specs.Ask.{written}
 use Rattle.steps.specs.Atomic.{before_version, cell_word, at_store, first_store, store_want, store_after, at_load, first_load, load_want, load_after, load_kept}
 use Rattle.steps.specs.Copied as copied

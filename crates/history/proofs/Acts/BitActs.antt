@@ -2,17 +2,16 @@
 use Rattle.history.proofs.Names.{◌≡◌, ◌≢◌, ⊎_elim, ℕ, zero, suc, ◌-◌, ◌^◌, ◌<◌, ◌≤◌, ◌==◌, ◌&&◌, true, false, cond}
 use Rattle.history.proofs.Names.{Some, None, List, [], ◌∷◌, ◌++◌, refl, sym, ap, subst, ◌∙◌, append_assoc, append-nil}
 use Rattle.history.proofs.Names.{arith, cases_eq, cases_lt, Answer, Truth, ResetNone, Reset, Event, Begun, Cleared}
-use Rattle.history.proofs.Names.{TakenOut, Acted, Finished, Start, Set, ResetNext, ResetAll, HasCleared}
-use Rattle.history.proofs.Names.{BitsAnswerRight, BitsWrote, MayClear, bits_promise, sets, clears, counts, standing}
-use Rattle.history.proofs.Names.{BeginsNone, HeldSometime, SinceBegin, Stands, StandsRight, Each, Span, Never, Open}
-use Rattle.history.proofs.Names.{Ended, span_of, sets_more}
+use Rattle.history.proofs.Names.{Finished, Start, Set, ResetNext, ResetAll, HasCleared}
+use Rattle.history.proofs.Names.{BitsAnswerRight, BitsWrote, bits_promise, sets, clears, counts, standing}
+use Rattle.history.proofs.Names.{BeginsNone, HeldSometime, SinceBegin, Stands, StandsRight, Each, Span, Open}
+use Rattle.history.proofs.Names.{span_of, sets_more}
 use Rattle.model.specs.declared.event.Answer.TheVariants.{Done}
 use Rattle.model.specs.declared.event.Event as event
-use Rattle.model.specs.declared.event.Event.TheVariants.{Counted}
 use Rattle.model.specs.declared.event.Start.TheVariants.{Bits}
 use Rattle.model.specs.declared.turn.Kind as kinds
 use Rattle.history.specs.Acts.{Way, MayAct, Acts, Found, Tells, Ends, number_after, left_by, ActsByPlace}
-use Rattle.history.proofs.Acts.BitWays.{only_clears, cleared_in, Numbers, numbers_more, Fit, clears_none, one_fits, at_place}
+use Rattle.history.proofs.Acts.BitWays.{only_clears, cleared_in, Numbers, numbers_more, Fit, one_fits, at_place}
 use Rattle.history.proofs.Acts.Filling.{Marked, nothing_marked, goes_on, Fact, Stays, Silent, finishes}
 use Rattle.history.proofs.Acts.Finds.{BitFinds}
 use Rattle.history.proofs.Acts.Marks.{same_number, is_number, both_true, number_in, way_in, number_more}
@@ -73,10 +72,6 @@ module _ {T : Type 0} (c : ℕ) (events : List (Event T)) (spans : Each (StandsR
     set_acts : (k : ℕ) (q : ℕ) (span : Span T) (w : Way') → Stands bits_promise c (event.TheVariants.Set q k) span
         → WayFits Fit k span w → Acts kinds.TheVariants.Bits k (number k) 1 w
     set_acts x0 x1 x2 x3 x4 x5 = grind arith
-
-    may_clear : (start : Start T) (k : ℕ) (wrote : List (Event T)) → MayClear k start wrote
-        → MayAct k start × (0 ≡ left_by kinds.TheVariants.Bits start (number k))
-    may_clear x0 x1 x2 x3 = grind arith
 
     clear_acts : (k : ℕ) (q : ℕ) (span : Span T) (w : Way') → Stands bits_promise c (Cleared q k) span
         → WayFits Fit k span w → Acts kinds.TheVariants.Bits k (number k) 0 w

@@ -1,7 +1,7 @@
 -- What stands at the places of a bit set, and where its calls stand, after the events of a history.
 use Rattle.history.proofs.Names.{◌≡◌, ◌≢◌, ℕ, ◌+◌, ◌≤◌, ◌==◌, Bool, true, false, cond, Option, Some, None, IfSome}
 use Rattle.history.proofs.Names.{List, [], ◌∷◌, ◌++◌, length, refl, sym, ap, subst, ◌∙◌, arith, Event, Begun, Cleared}
-use Rattle.history.proofs.Names.{TakenOut, Acted, Finished, Start, Set, ResetNext, ResetAll, MayClear, bits_promise}
+use Rattle.history.proofs.Names.{TakenOut, Finished, Start, Set, ResetNext, ResetAll, MayClear, bits_promise}
 use Rattle.history.proofs.Names.{sets, clears, Stands, StandsRight, whose, Span, Never, Open, Ended, own_after}
 use Rattle.history.proofs.Names.{span_after, sets_more, clears_more}
 use Rattle.model.specs.declared.event.Event as event
@@ -139,13 +139,6 @@ module _ {T : Type 0} where
       → (k ≡ b → n ≡ 0) → WayFits Fit b span way
       → WayFits Fit b (own_after span (event.TheVariants.Set q k)) (cond (k == b) (found_now n way) way)
   set_fits x0 x1 x2 x3 x4 x5 x6 x7 x8 = grind arith
-
-  -- a call that may clear the place has not yet
-  not_yet : (start : Start T) (k : ℕ) (wrote : List (Event T)) → MayClear k start wrote → clears k wrote ≡ 0
-  not_yet x0 x1 x2 x3 = grind arith
-
-  pub clears_none : (start : Start T) (k : ℕ) (wrote : List (Event T)) (d : Option ℕ) → MayClear k start wrote → Fit start k wrote d → d ≡ None
-  clears_none x0 x1 x2 x3 x4 x5 = grind arith
 
   fit_cleared : (start : Start T) (q k b : ℕ) (wrote : List (Event T)) → MayClear k start wrote → (k == b) ≡ true
       → Fit start b (wrote ++ Cleared q k ∷ []) (Some 1)

@@ -1,5 +1,5 @@
 -- The calls of a counting bit set act place by place.
-use Rattle.history.proofs.Names.{◌≡◌, ◌⊎◌, ⊎_elim, inl, inr, ℕ, zero, suc, ◌+◌, ◌-◌, ◌*◌, ◌^◌, ◌%◌, ◌<◌, ◌≤◌, ◌==◌}
+use Rattle.history.proofs.Names.{◌≡◌, ◌⊎◌, ⊎_elim, ℕ, zero, suc, ◌+◌, ◌-◌, ◌*◌, ◌^◌, ◌%◌, ◌<◌, ◌≤◌, ◌==◌}
 use Rattle.history.proofs.Names.{◌&&◌, Bool, true, false, cond, Option, Some, None, IfSome, List, [], ◌∷◌, ◌++◌, refl}
 use Rattle.history.proofs.Names.{sym, ap, subst, ◌∙◌, append_assoc, append-nil, arith, cases_eq, cases_lt, Answer}
 use Rattle.history.proofs.Names.{Number, Event, Begun, Cleared, TakenOut, Finished, Start, Set, ResetAll, HasTakenOn}

@@ -1,10 +1,10 @@
 -- A history with its silent acts, as it goes on by one event; before the end of a call they are put in where the call has
 -- acted silently.
 use Rattle.history.proofs.Names.{◌≡◌, ◌≢◌, ⊎_elim, ℕ, zero, suc, ◌<◌, ◌≤◌, ◌==◌, ◌&&◌, Bool, true, false, cond, Some}
-use Rattle.history.proofs.Names.{None, List, [], ◌∷◌, ◌++◌, refl, sym, ap, subst, ◌∙◌, arith, cases_eq, cases_lt}
+use Rattle.history.proofs.Names.{None, List, [], ◌∷◌, ◌++◌, refl, sym, ap, subst, ◌∙◌, arith, cases_eq}
 use Rattle.history.proofs.Names.{Answer, Event, Finished, Start, Kind, BeginsNone}
-use Rattle.history.specs.Acts.{Mark, Happens, Leaves, left_by, told, MayAct, Way, way_after, Ends, IsRightEvent}
-use Rattle.history.proofs.Acts.Marks.{same_number, other_number, is_number, both_true, number_at, way_at, number_in}
+use Rattle.history.specs.Acts.{Mark, Happens, Leaves, left_by, told, MayAct, Way, Ends, IsRightEvent}
+use Rattle.history.proofs.Acts.Marks.{same_number, is_number, both_true, number_at, way_at, number_in}
 use Rattle.history.proofs.Acts.Marks.{way_in, number_told, way_at_more, way_more, told_more, Cut, cut, Right}
 use Rattle.history.proofs.Acts.Marks.{right_more, put_else, way_else, put_here, way_here}
 

@@ -1,10 +1,10 @@
 -- What each act of a history found: a flag is set where it was clear and cleared where it stood, and what is taken out of a
 -- count is all of it.
-use Rattle.history.proofs.Names.{◌≡◌, ◌⊎◌, inl, inr, ⊎_elim, ℕ, ◌+◌, ◌*◌, ◌^◌, ◌<◌, ◌≤◌, ◌==◌, nat_lt, Bool, true}
+use Rattle.history.proofs.Names.{◌≡◌, ◌⊎◌, inl, inr, ⊎_elim, ℕ, ◌+◌, ◌*◌, ◌^◌, ◌<◌, ◌≤◌, ◌==◌, Bool, true}
 use Rattle.history.proofs.Names.{false, Option, Some, None, List, [], ◌∷◌, ◌++◌, get_or, refl, sym, ap, subst, ◌∙◌}
-use Rattle.history.proofs.Names.{append_assoc, append-nil, arith, nat_tests, stands, Answer, Event, Begun, Cleared}
+use Rattle.history.proofs.Names.{append_assoc, append-nil, arith, nat_tests, stands, Answer, Event, Cleared}
 use Rattle.history.proofs.Names.{TakenOut, Finished, Start, Flight, Registry, BitsStart, BitsFlight, Doing, Going}
-use Rattle.history.proofs.Names.{Over, Party, Turn, Begin, Next, Decide, Die, step_of, want_of, is_question, ask_of}
+use Rattle.history.proofs.Names.{Over, Party, Turn, Begin, Next, Decide, Die, step_of, want_of, ask_of}
 use Rattle.history.proofs.Names.{beside_of, sets, clears, counts, takes, party_of, Each, span_of, call_refusal}
 use Rattle.history.proofs.Names.{is_due, answer_in, one_if, old_of, ask_of_doing, number_of, step_in, events_of}
 use Rattle.history.proofs.Names.{events_of_answer, events_of_next, events_of_decision, ending_of, after_turn}
@@ -12,12 +12,9 @@ use Rattle.history.proofs.Names.{IsReachedOn, Trace, flight_in, is_true, turn_ma
 use Rattle.history.proofs.Names.{reached_on_opening, kept_by_runs_on, AreRight, Each-append, Each-nil, must_be_due}
 use Rattle.history.proofs.Names.{stands_there, wrote_in, sets_more, clears_more, bits_laws, bits_go_on, counts_laws}
 use Rattle.steps.specs.declared.bits.bit_set.SetStage.{SetStage}
-use Rattle.steps.specs.declared.bits.bit_set.SetStage as setting
 use Rattle.steps.specs.declared.bits.bit_set.ResetNextStage.{ResetNextStage}
-use Rattle.steps.specs.declared.bits.bit_set.ResetNextStage as resetting
 use Rattle.steps.specs.Bits.Places.{places_in}
 use Rattle.model.specs.declared.event.Event as events
-use Rattle.model.specs.declared.event.Event.TheVariants.{Counted}
 use Rattle.model.specs.declared.event.Start.TheVariants.{Bits}
 use Rattle.model.specs.declared.families.Flight as flights
 use Rattle.model.specs.declared.families.Registry as registries
@@ -247,10 +244,6 @@ module _ {T : Type 0} where
         → kept ≡ registries.TheVariants.Nothing → FlightAt (counting.CallAt c wrote) start flight → Hears flight old
         → AreRight CountFinds t.events (wrote_there t p old start flight kept ++ ending_of p start o)
     count_step x0 x1 x2 x3 x4 x5 x6 x7 x8 x9 x10 = grind (arith, ends_right, take_right)
-
-    never_due : (c : ℕ) (wrote : List (Event T)) (start : Start T) (flight : Flight T)
-        → FlightAt (counting.CallAt c wrote) start flight → is_question (want_of t.world.coding flight) ≡ false
-    never_due x0 x1 x2 x3 x4 = grind arith
 
     counts_go : (p old : ℕ) (x : Party T) → party_of p t.world.latest ≡ Some x → (doing : Doing T) → x.doing ≡ doing
         → ((flight : Flight T) (since : ℕ) → doing ≡ Going flight since → Hears flight old)

@@ -1,6 +1,6 @@
 -- The laws of a reached machine's history, and of one that a pass has seen.
 use Rattle.std.proofs.Common.{arith}
-use Rattle.history.proofs.Names.{◌≡◌, ℕ, List, refl, sym, subst, Event, Kind, Coding, IsReachedOn, Trace, bit_set}
+use Rattle.history.proofs.Names.{◌≡◌, ℕ, List, refl, Event, Kind, Coding, IsReachedOn, Trace, bit_set}
 use Rattle.history.proofs.Names.{bits_laws, bits_go_on, counting_set, counts_laws, counts_go_on}
 use Rattle.model.specs.declared.turn.Kind as kinds
 use Rattle.laws_bits.proofs.Laws.{sound_on}

@@ -1,9 +1,8 @@
 -- What is a law of every run is one of every machine, whose runs leave out the turns that it refuses.
 use Rattle.std.proofs.Common.{arith}
-use Rattle.history.proofs.Names.{◌≡◌, ℕ, None, subst, Kind, Turn, Coding, IsCoding, refusal_of, after_turn, IsReached}
+use Rattle.history.proofs.Names.{◌≡◌, ℕ, None, Kind, Turn, Coding, IsCoding, refusal_of, after_turn, IsReached}
 use Rattle.history.proofs.Names.{IsReachedOn, Trace, opened, capacity_error, turn_making, kept_by_runs}
-use Rattle.history.proofs.Names.{reached_on_more, reached_on_opening, passes}
-use Rattle.model.specs.declared.turn.Kind as kinds
+use Rattle.history.proofs.Names.{reached_on_more, passes}
 use Rattle.history.specs.Acts.{ActsByPlace, IsSet}
 use Rattle.history.proofs.Acts.Laws.{runs_act}
 

@@ -2,7 +2,7 @@
 use Rattle.history.proofs.Names.{◌≡◌, ℕ, ◌+◌, ◌<◌, ◌==◌, Bool, true, false, cond, Some, List, [], ◌∷◌, ◌++◌, length}
 use Rattle.history.proofs.Names.{map, refl, sym, ap, subst, ◌∙◌, append_assoc, arith, Contains, Answer, Event, Begun}
 use Rattle.history.proofs.Names.{Cleared, TakenOut, Finished, Start, Call, response_in, calls_from, calls_of}
-use Rattle.history.proofs.Names.{StandsBefore, Precedes, whose, is_party}
+use Rattle.history.proofs.Names.{Precedes}
 use Rattle.std.proofs.lemmas.List.{length-append}
 use Rattle.model.proofs.Linearizable.Acting.{call_at, response_at, responded, passed}
 use Rattle.model.proofs.Linearizable.Members.{here, there}

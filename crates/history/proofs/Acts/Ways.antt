@@ -1,8 +1,8 @@
 -- Where a party's call stands, from its span; and what is so of every beginning of a history.
 use Rattle.std.proofs.Common.{arith}
-use Rattle.history.proofs.Names.{◌≡◌, ℕ, ◌==◌, Bool, true, false, Option, Some, None, List, [], ◌∷◌, ◌++◌, refl, sym}
-use Rattle.history.proofs.Names.{ap, subst, ◌∙◌, append_assoc, append-nil, fold-append, Answer, Event, Begun}
-use Rattle.history.proofs.Names.{Finished, Start, BeginsNone, whose, is_party, Span, Never, Open, Ended, longer}
+use Rattle.history.proofs.Names.{◌≡◌, ℕ, Option, Some, None, List, [], ◌∷◌, ◌++◌, sym}
+use Rattle.history.proofs.Names.{subst, ◌∙◌, append_assoc, append-nil, fold-append, Answer, Event, Begun}
+use Rattle.history.proofs.Names.{Finished, Start, BeginsNone, Span, Never, Open, Ended, longer}
 use Rattle.history.proofs.Names.{own_after, span_after, span_of}
 use Rattle.model.specs.Reading.{ended}
 use Rattle.model.specs.Shape.{IsOpenFor, IsShut}
@@ -69,12 +69,6 @@ module _ {T : Type 0} where
     pub finished_fits : (p q b n : ℕ) (span : Span T) (way : Way T) (s : Start T) (a : Answer T)
         → WayFits b span way → WayFits b (span_after p span (Finished q s a)) (way_after p b n way (Finished q s a))
     finished_fits x0 x1 x2 x3 x4 x5 x6 x7 x8 = grind arith
-
-    -- an event that is no act leaves what fits
-    pub longer_fits : (b : ℕ) (span : Span T) (way : Way T) (e : Event T)
-        → ((start : Start T) (wrote : List (Event T)) (d : Option ℕ) → Fit start b wrote d → Fit start b (wrote ++ e ∷ []) d)
-        → WayFits b span way → WayFits b (longer span e) way
-    longer_fits x0 x1 x2 x3 x4 x5 = grind arith
 
     pub quiet_fits : (p b : ℕ) (span : Span T) (way : Way T) (e : Event T)
         → ((span : Span T) → own_after span e ≡ longer span e)

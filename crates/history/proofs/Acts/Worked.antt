@@ -1,7 +1,7 @@
 -- Marks at short histories that are refused, and the two schedules by which a reset of all places, and a reset of the next one
 -- that answers None, are not linearizable as whole calls.
 use Rattle.history.proofs.Names.{◌≡◌, ℕ, ◌+◌, ◌==◌, ◌||◌, Bool, true, false, not, None, List, [], ◌∷◌, map, refl}
-use Rattle.history.proofs.Names.{arith, Answer, Truth, Number, ResetNone, Reset, Event, Begun, Cleared, TakenOut}
+use Rattle.history.proofs.Names.{arith, Answer, Truth, Number, ResetNone, Reset, Event, Begun, Cleared}
 use Rattle.history.proofs.Names.{Finished, Start, Set, ResetNext, ResetAll, Kind, Turn, Begin, Next, one_word}
 use Rattle.history.proofs.Names.{standing, run, Trace}
 use Rattle.std.specs.Prelude.{take}
@@ -144,10 +144,12 @@ abbrev flag_set : Object ℕ (ℕ → Bool)
 flag_set = record { opening = λ b. false; after = after; answer = answer }
   where
     after : (ℕ → Bool) → Start ℕ → (ℕ → Bool)
-    after x0 x1 = grind (arith, false)
+    after flags (Bits (Set place)) = λ b. (b == place) || flags b
+    after flags start = λ b. false
 
     answer : (ℕ → Bool) → Start ℕ → Answer ℕ
-    answer x0 x1 = grind arith
+    answer flags (Bits (Set place)) = Truth (not (flags place))
+    answer flags start = Done
 
 abbrev entry : Start ℕ → Answer ℕ → Start ℕ × Answer ℕ
 entry start answer = (start, answer)

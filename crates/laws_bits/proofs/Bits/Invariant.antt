@@ -1,7 +1,7 @@
 -- What holds of a bit set's machine between any two turns beside what the frame says of every machine, and what a turn does
 -- to its words that keeps it.
 use Rattle.laws_bits.proofs.Names.{◌≡◌, ◌≢◌, ℕ, ◌+◌, ◌≤◌, List, ◌++◌, fold, length, get_or, refl, sym, ap, ◌∙◌}
-use Rattle.laws_bits.proofs.Names.{fold-append, SetStage, ResetNextStage, place_after, at_most, element_of, elements}
+use Rattle.laws_bits.proofs.Names.{fold-append, SetStage, ResetNextStage, place_after, at_most, elements}
 use Rattle.laws_bits.proofs.Names.{stands, Event, BitsFlight, ResetNext, BitsAnswerRight, CameTo, bits_promise, sets}
 use Rattle.laws_bits.proofs.Names.{clears, standing, position_after, position_of, BeginsNone, Each, one_if}
 use Rattle.laws_bits.proofs.Names.{held_later, since_more, AreRight, Each-append}

@@ -1,5 +1,5 @@
 -- The store of the next write position by a push of the overflowing queue.
-use Rattle.laws_queues.proofs.Names.{◌≡◌, ◌≢◌, ℕ, ◌+◌, ◌-◌, ◌^◌, ◌<◌, ◌≤◌, ◌==◌, Bool, true, false, Option, Some}
+use Rattle.laws_queues.proofs.Names.{◌≡◌, ℕ, ◌+◌, ◌-◌, ◌^◌, ◌<◌, ◌≤◌, ◌==◌, Bool, true, false, Option, Some}
 use Rattle.laws_queues.proofs.Names.{None, List, [], ◌∷◌, ◌++◌, length, map, refl, sym, ap, subst, ◌∙◌, length-append}
 use Rattle.laws_queues.proofs.Names.{nat_tests, map-append, Ask, Store, After, GoOn, Done, OneWord, distance}
 use Rattle.laws_queues.proofs.Names.{after_position, QueueFlight, Effect, Publishes, PublishesAndActs, Item, Index}

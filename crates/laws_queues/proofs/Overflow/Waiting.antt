@@ -1,5 +1,5 @@
 -- Which push waits for the read position to go on.
-use Rattle.laws_queues.proofs.Names.{◌≡◌, ℕ, ◌<◌, Option, Some, None, option_map, List, refl, ap, subst, OneWord}
+use Rattle.laws_queues.proofs.Names.{◌≡◌, ℕ, ◌<◌, Option, Some, None, option_map, List, OneWord}
 use Rattle.laws_queues.proofs.Names.{Running, Event, Going, Party, Flight, Roles, Coding, pending_at, pending}
 use Rattle.laws_queues.proofs.Names.{party_of, doing_of, flight_of, span_of}
 use Rattle.std.proofs.Common.{arith}

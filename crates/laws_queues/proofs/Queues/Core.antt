@@ -1,7 +1,7 @@
 -- The queue that the words hold, and what each operation on a word does to it. No event and no party is in it.
 -- V is the type of the values, size the number of their words, and words_of gives the words.
 use Rattle.laws_queues.proofs.Names.{◌≡◌, ◌≢◌, ℕ, zero, suc, ◌+◌, ◌*◌, ◌%◌, ◌<◌, ◌≤◌, ◌⊎◌, inl, inr, ⊎_elim}
-use Rattle.laws_queues.proofs.Names.{slice_get, Some, List, [], ◌∷◌, ◌++◌, length, get_or, set, take, refl, ap, subst}
+use Rattle.laws_queues.proofs.Names.{slice_get, Some, List, [], ◌∷◌, ◌++◌, length, get_or, set, take, refl, ap}
 use Rattle.laws_queues.proofs.Names.{◌∙◌, length-set, length-append, get_or-set_same, get_or-set_other, cases_lt}
 use Rattle.laws_queues.proofs.Names.{take-nil}
 use Rattle.std.proofs.Common.{arith}

@@ -1,7 +1,7 @@
 -- Runs in which no push finds the last position, and no store of the single value the last version.
-use Rattle.laws_queues.proofs.Names.{◌≡◌, ℕ, None, List, [], ◌∷◌, ◌++◌, get_or, refl, sym, ap, subst, ◌∙◌, Flight}
+use Rattle.laws_queues.proofs.Names.{◌≡◌, ℕ, None, List, [], ◌∷◌, ◌++◌, get_or, refl, Flight}
 use Rattle.laws_queues.proofs.Names.{QueueFlight, Coding, want_of, ask_of, want, old_of, run_on, attempt_on}
-use Rattle.laws_queues.proofs.Names.{unless_refused, after_turn, call_refusal, Kind, Turn, Trace, opening}
+use Rattle.laws_queues.proofs.Names.{after_turn, call_refusal, Kind, Turn, Trace, opening}
 use native.Mathlib.Omega.{arith}
 use Rattle.model.proofs.Reached.{turn_making}
 use Rattle.laws_queues.proofs.Queues.Runs.{AllMay}

@@ -1,7 +1,7 @@
 -- What holds of a queue's machine between any two turns beside what the frame says of every machine, and what a turn
 -- must show to keep it. An overflowing queue with a capacity is, as far as its words go, a queue with one cell more.
 use Rattle.laws_queues.proofs.Names.{◌≡◌, ◌≢◌, ℕ, ◌+◌, ◌^◌, ◌<◌, ◌≤◌, Some, None, List, [], ◌++◌, length, drop, map}
-use Rattle.laws_queues.proofs.Names.{fold, refl, sym, ap, subst, ◌∙◌, append_assoc, length-append, drop_at, Event}
+use Rattle.laws_queues.proofs.Names.{fold, sym, ap, subst, ◌∙◌, append_assoc, length-append, drop_at, Event}
 use Rattle.laws_queues.proofs.Names.{Item, Start, Flight, Registry, QueueStart, Roles, QueueFlight, Party, QueueKind}
 use Rattle.laws_queues.proofs.Names.{Kind, Coding, AnswersRight, TellsLength, list_of, cells_of, promise, publishes}
 use Rattle.laws_queues.proofs.Names.{hands_out, published, handed_out, waiting, producer_after, consumer_after}

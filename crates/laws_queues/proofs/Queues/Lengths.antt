@@ -1,6 +1,6 @@
 -- The steps of a call that tells how many values wait.
 use Rattle.laws_queues.proofs.Names.{◌≡◌, ◌≢◌, ℕ, ◌+◌, ◌*◌, ◌^◌, ◌<◌, ◌≤◌, ◌==◌, Bool, true, false, not, cond, Some}
-use Rattle.laws_queues.proofs.Names.{List, [], ◌∷◌, ◌++◌, fold, length, map, refl, sym, ap, ◌∙◌, nat_tests}
+use Rattle.laws_queues.proofs.Names.{List, [], ◌∷◌, ◌++◌, fold, length, map, refl, ap, ◌∙◌, nat_tests}
 use Rattle.laws_queues.proofs.Names.{length-map, After, GoOn, Done, Len, LenStage, went_on, number_waiting, first_len}
 use Rattle.laws_queues.proofs.Names.{LengthOf, QueueFlight, Length, Quiet, Item, QueueStart, Answer, Queues, Finished}
 use Rattle.laws_queues.proofs.Names.{QueueKind, Coding, ask_of, most_steps, want, after, goes_back, as_it_is}

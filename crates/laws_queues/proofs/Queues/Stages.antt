@@ -1,7 +1,7 @@
 -- What a step of a queue's call has to show.
 use Rattle.laws_queues.proofs.Names.{◌≡◌, ◌≢◌, ℕ, ◌+◌, ◌-◌, ◌*◌, ◌%◌, ◌^◌, ◌<◌, ◌≤◌, Bool, true, false, ◌||◌, ◌⊎◌}
-use Rattle.laws_queues.proofs.Names.{Option, Some, None, List, [], ◌∷◌, ◌++◌, fold, length, map, refl, sym, ap, subst}
-use Rattle.laws_queues.proofs.Names.{◌∙◌, append-nil, Ask, After, GoOn, Done, word_at, Answer, Event, Finished}
+use Rattle.laws_queues.proofs.Names.{Option, Some, None, List, [], ◌∷◌, ◌++◌, fold, length, map, refl}
+use Rattle.laws_queues.proofs.Names.{append-nil, Ask, After, GoOn, Done, word_at, Answer, Event, Finished}
 use Rattle.laws_queues.proofs.Names.{Queues, Flight, Registry, QueueStart, Roles, QueueFlight, Effect, Quiet, Over}
 use Rattle.laws_queues.proofs.Names.{Party, QueueKind, Coding, ask_of, most_steps, want, after, goes_back}
 use Rattle.laws_queues.proofs.Names.{TellsLength, cells_of, producer_after, consumer_after, GrantsRight, Wrote}

@@ -1,6 +1,6 @@
 -- The steps of a pop of a bounded queue.
 use Rattle.laws_queues.proofs.Names.{◌≡◌, ℕ, suc, ◌+◌, ◌*◌, ◌%◌, ◌^◌, ◌<◌, ◌≤◌, ◌==◌, nat_lt, Bool, true, false, ◌||◌}
-use Rattle.laws_queues.proofs.Names.{⊎_elim, Option, Some, List, [], ◌∷◌, ◌++◌, length, get_or, set, take, map, drop}
+use Rattle.laws_queues.proofs.Names.{Option, Some, List, [], ◌∷◌, ◌++◌, length, get_or, set, take, map, drop}
 use Rattle.laws_queues.proofs.Names.{slice_get, refl, sym, ap, subst, ◌∙◌, append-nil, length-set, nat_tests}
 use Rattle.laws_queues.proofs.Names.{nil_from_length, set-get_or, Ask, Load, Store, After, GoOn, Done, value_in}
 use Rattle.laws_queues.proofs.Names.{after_position, QueueFlight, RingCall, Effect, Quiet, Acts, Item, Pop, Answer}

@@ -5,7 +5,7 @@ use Rattle.laws_queues.proofs.Names.{subst, ◌∙◌, append-nil, nat_tests, ma
 use Rattle.laws_queues.proofs.Names.{GoOn, Done, distance, after_position, QueueFlight, RingCall, Effect, Quiet, Acts}
 use Rattle.laws_queues.proofs.Names.{Publishes, Item, QueueStart, Answer, Queues, Published, Acted, Coding, IsCoding}
 use Rattle.laws_queues.proofs.Names.{ask_of, write_word, appended, load_of_write, load_of_read, published, handed_out}
-use Rattle.laws_queues.proofs.Names.{Open, answer_in, old_of, words_after, change_of, step_count}
+use Rattle.laws_queues.proofs.Names.{Open, old_of, words_after, change_of, step_count}
 use Rattle.std.proofs.Common.{arith}
 use Rattle.steps.specs.declared.queues.ring.PushStage as pushes
 use Rattle.steps.specs.declared.queues.ring.PopStage as pops

@@ -1,6 +1,6 @@
 -- What the words of a cell are, by the history of a queue: those of the value that was published there, while nobody
 -- has taken it out.
-use Rattle.lock_free_queues.proofs.Names.{◌≡◌, ℕ, suc, ◌+◌, ◌-◌, ◌*◌, ◌%◌, ◌<◌, ◌≤◌, Option, Some, None, List, []}
+use Rattle.lock_free_queues.proofs.Names.{◌≡◌, ℕ, suc, ◌+◌, ◌-◌, ◌*◌, ◌%◌, ◌<◌, ◌≤◌, Option, Some, List, []}
 use Rattle.lock_free_queues.proofs.Names.{◌∷◌, ◌++◌, length, map, get_or, slice_get, slice_index, refl, sym, ap}
 use Rattle.lock_free_queues.proofs.Names.{subst, ◌∙◌, arith, slice_get-map, option_map, Item, QueueKind, IndexQueue}
 use Rattle.lock_free_queues.proofs.Names.{Overflow, Queue, Coding, cells_of, published, handed_out, Trace, family}

@@ -2,9 +2,9 @@
 use Rattle.std.proofs.Common.{arith}
 use Rattle.lock_free_queues.proofs.Names.{◌≡◌, ◌⊎◌, inl, inr, ℕ, Bool, true, false, Option, Some, None, IfSome}
 use Rattle.lock_free_queues.proofs.Names.{IfNone, List, [], length, sym, ap, subst, ◌∙◌, slice_index, ◌-◌, ◌^◌, ◌<◌}
-use Rattle.lock_free_queues.proofs.Names.{option_map, Ask, Producer, Answer, Truth, Event, Item, Start, Queues}
+use Rattle.lock_free_queues.proofs.Names.{option_map, Ask, Producer, Truth, Event, Item, Start, Queues}
 use Rattle.lock_free_queues.proofs.Names.{Flight, QueueKind, Pop, Coding, want_of, published, machine_kind, Ring}
-use Rattle.lock_free_queues.proofs.Names.{kind_of, View, Called, IsHistory, HasRole, Calling, Ends, Over, LeftOut}
+use Rattle.lock_free_queues.proofs.Names.{kind_of, View, IsHistory, HasRole, Calling, Ends, Over, LeftOut}
 use Rattle.lock_free_queues.proofs.Names.{called, queue_goes_on}
 use Rattle.steps.specs.Queues.Ring.{pop_answer}
 use Rattle.steps.specs.declared.ask.Want.TheVariants as wants

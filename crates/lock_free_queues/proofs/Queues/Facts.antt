@@ -2,7 +2,7 @@
 use Rattle.lock_free_queues.proofs.Names.{◌≡◌, ◌≤◌, inl, inr, ℕ, Bool, true, false, Some, None, List, [], ◌∷◌, ◌++◌}
 use Rattle.lock_free_queues.proofs.Names.{length, refl, sym, ap, subst, ◌∙◌, append_assoc, append-nil, arith, sum_by}
 use Rattle.lock_free_queues.proofs.Names.{◌<◌, flat_map-append, flat_map, Role, Producer, Consumer, ByHolder}
-use Rattle.lock_free_queues.proofs.Names.{ByHolderOf, HasRole, marks, acquire_start, release_start}
+use Rattle.lock_free_queues.proofs.Names.{ByHolderOf, HasRole, marks, release_start}
 use Rattle.lock_free_queues.proofs.Names.{history_by_holders, back_over_of, always_listed, IsListed, IsPlain}
 use Rattle.lock_free_queues.proofs.Names.{ArePlain, history_by_producers, over_listed, GrantsRight, Answer, Truth}
 use Rattle.lock_free_queues.proofs.Names.{Event, Begun, Published, HandedOut, Acted, Finished, Index, Start, Queues}

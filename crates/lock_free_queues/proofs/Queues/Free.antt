@@ -1,10 +1,10 @@
 -- A role that was given back as often as it was taken is free, and an overflowing queue whose producer's role is free
 -- has no more than its capacity.
-use Rattle.lock_free_queues.proofs.Names.{◌≡◌, ◌≤◌, ℕ, ◌+◌, true, Option, Some, None, List, [], ◌∷◌, ◌++◌, length}
+use Rattle.lock_free_queues.proofs.Names.{◌≡◌, ◌≤◌, ℕ, ◌+◌, Option, Some, None, List, [], ◌∷◌, ◌++◌, length}
 use Rattle.lock_free_queues.proofs.Names.{map, refl, sym, ap, subst, ◌∙◌, append_assoc, append-nil, sum_by, arith}
-use Rattle.lock_free_queues.proofs.Names.{length-map, fold-append, Role, Producer, Consumer, Truth, Event, Finished}
-use Rattle.lock_free_queues.proofs.Names.{Index, Queues, Overflow, AcquireProducer, ReleaseProducer, AcquireConsumer}
-use Rattle.lock_free_queues.proofs.Names.{ReleaseConsumer, Coding, producer_of, consumer_of, waiting, pending}
+use Rattle.lock_free_queues.proofs.Names.{length-map, fold-append, Role, Event}
+use Rattle.lock_free_queues.proofs.Names.{Index, Queues, Overflow}
+use Rattle.lock_free_queues.proofs.Names.{Coding, producer_of, waiting, pending}
 use Rattle.lock_free_queues.proofs.Names.{GrantsRight, Each, Trace, waiting_is, Hangs, IsRun, takes, gives}
 use Rattle.lock_free_queues.proofs.Names.{role_after, sum_first, sound_of, granted}
 use Rattle.model.specs.declared.turn.Kind.TheVariants as kinds

@@ -1,7 +1,7 @@
 -- What a party has made that pushes and pops one item again and again: its roles.
 use Rattle.lock_free_queues.proofs.Names.{◌≡◌, true, ℕ, zero, suc, List, ◌++◌, sum_by, refl, subst, append_assoc}
 use Rattle.lock_free_queues.proofs.Names.{arith, sum_by-append, Role, Producer, Consumer, Answer, Truth, PoppedNone}
-use Rattle.lock_free_queues.proofs.Names.{Event, Item, Index, Value, HasRole, takes, gives}
+use Rattle.lock_free_queues.proofs.Names.{Event, Item, HasRole, takes, gives}
 use Rattle.lock_free_queues.specs.Queues.Roles.{LacksRole}
 use Rattle.lock_free_queues.specs.Queues.Opened.{pushed_once, popped_once, given_roles, rounds, opened}
 

@@ -1,6 +1,6 @@
 -- The push and the pop of an index queue.
-use Rattle.lock_free_queues.proofs.Names.{◌≡◌, ℕ, Bool, true, false, Option, Some, None, List, refl, sym, ap, ◌∙◌}
-use Rattle.lock_free_queues.proofs.Names.{◌-◌, ◌^◌, arith, nat_tests, option_map, Ask, Load, OneWord, Item, Index}
+use Rattle.lock_free_queues.proofs.Names.{◌≡◌, ℕ, Bool, true, false, Option, Some, None, List, refl, ◌∙◌}
+use Rattle.lock_free_queues.proofs.Names.{◌-◌, ◌^◌, arith, nat_tests, option_map, Ask, OneWord, Item, Index}
 use Rattle.lock_free_queues.proofs.Names.{IsCoding, one_word, popped, push_skips, push_wrote, pop_wrote, pushes_index}
 use Rattle.lock_free_queues.proofs.Names.{pops_index}
 use Rattle.steps.specs.declared.ask.Want.TheVariants as wants

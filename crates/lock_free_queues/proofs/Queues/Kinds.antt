@@ -1,7 +1,7 @@
 -- The calls on roles and lengths, and what a look tells, of a queue of each kind.
 use Rattle.std.proofs.Common.{arith}
-use Rattle.lock_free_queues.proofs.Names.{◌≡◌, ℕ, ◌+◌, true, Option, None, length, replicate, After, Role, Producer}
-use Rattle.lock_free_queues.proofs.Names.{Consumer, len_want, len_after, Truth, PoppedNone, Index, Value, Start}
+use Rattle.lock_free_queues.proofs.Names.{◌≡◌, ℕ, ◌+◌, Option, None, length, After, Role, Producer}
+use Rattle.lock_free_queues.proofs.Names.{Consumer, len_want, len_after, Start}
 use Rattle.lock_free_queues.proofs.Names.{Flight, QueueKind, IndexQueue, Overflow, Queue, LengthOf, Coding, IsCoding}
 use Rattle.lock_free_queues.proofs.Names.{Trace, machine_kind, KeepsRule, View, IsMachine, IsRun, takes_role}
 use Rattle.lock_free_queues.proofs.Names.{gives_role, counts_waiting, Calling, At, Ends, WhenIdle, overflow_owes}

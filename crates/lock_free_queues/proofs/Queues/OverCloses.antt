@@ -1,7 +1,7 @@
 -- What the words that were read of an overflowing queue say of the list that is made of them: it begins later where one
 -- value more than the capacity stands there.
 use Rattle.lock_free_queues.proofs.Names.{◌≡◌, ℕ, ◌+◌, ◌-◌, ◌<◌, ◌≤◌, max, List, [], length, set, slice_index, refl}
-use Rattle.lock_free_queues.proofs.Names.{sym, ap, subst, ◌∙◌, length-set, append-nil, get_or-set_same}
+use Rattle.lock_free_queues.proofs.Names.{sym, ap, ◌∙◌, length-set, append-nil, get_or-set_same}
 use Rattle.lock_free_queues.proofs.Names.{get_or-set_other, sum_by, arith, list_in, Producer, Event, Index, Overflow}
 use Rattle.lock_free_queues.proofs.Names.{one_word, published, handed_out, waiting, IsAll, View, IsHistory, takes}
 use Rattle.lock_free_queues.proofs.Names.{gives}

@@ -2,10 +2,10 @@
 use Rattle.std.proofs.Common.{arith}
 use Rattle.lock_free_queues.proofs.Names.{◌≡◌, ◌⊎◌, inl, inr, ℕ, Bool, true, false, Option, Some, None, IfSome}
 use Rattle.lock_free_queues.proofs.Names.{IfNone, List, [], ◌∷◌, ◌++◌, refl, sym, ap, subst, ◌∙◌, append_assoc, ◌<◌}
-use Rattle.lock_free_queues.proofs.Names.{option_map, OneWord, PushEnd, Added, Own, Oldest, Producer, push_answer}
+use Rattle.lock_free_queues.proofs.Names.{option_map, OneWord, PushEnd, Producer, push_answer}
 use Rattle.lock_free_queues.proofs.Names.{PoppedNone, PoppedIndex, Event, Published, HandedOut, Acted, Finished, Item}
 use Rattle.lock_free_queues.proofs.Names.{Index, Queues, Overflow, PushIndex, Pop, Coding, popped, waiting, View}
-use Rattle.lock_free_queues.proofs.Names.{Called, IsHistory, over_push_wrote, pops_over, pop_wrote, HasRole, Ends}
+use Rattle.lock_free_queues.proofs.Names.{IsHistory, over_push_wrote, pops_over, pop_wrote, HasRole, Ends}
 use Rattle.lock_free_queues.proofs.Names.{Over, called, over_lists_kept}
 use Rattle.steps.specs.Queues.Overflow.{pop_answer}
 use Rattle.steps.specs.Queues.Ring as rings

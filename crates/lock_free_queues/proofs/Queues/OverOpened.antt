@@ -6,8 +6,8 @@ use Rattle.lock_free_queues.proofs.Names.{append_assoc, arith, cases_eq, nat_tes
 use Rattle.lock_free_queues.proofs.Names.{get_or_append_left, opening, written, Ask, GoOn, Load, Store, Exchange}
 use Rattle.lock_free_queues.proofs.Names.{Role, Producer, Consumer, after_position, distance, Event, Begun, Published}
 use Rattle.lock_free_queues.proofs.Names.{HandedOut, Acted, Finished, Item, Index, Start, Queues, Flight, Overflow}
-use Rattle.lock_free_queues.proofs.Names.{PushIndex, Pop, Coding, IsCoding, want_of, after_of, beside_of, effects_of}
-use Rattle.lock_free_queues.proofs.Names.{takes_effect, World, IsFreshCall, kept_is, View, IsMachine, call_in, owned}
+use Rattle.lock_free_queues.proofs.Names.{PushIndex, Pop, Coding, IsCoding, want_of, after_of, beside_of}
+use Rattle.lock_free_queues.proofs.Names.{World, IsFreshCall, kept_is, View, IsMachine, call_in, owned}
 use Rattle.lock_free_queues.proofs.Names.{pushes_over, pops_over, HasRole, same_seat, get_left, over_effects}
 use Rattle.lock_free_queues.proofs.Names.{overflow_owes, beside_waits, set_same, holds_it, role_starts, sound_of}
 use Rattle.steps.specs.declared.ask.After.TheVariants.{Done}

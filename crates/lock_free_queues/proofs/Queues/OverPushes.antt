@@ -1,6 +1,6 @@
 -- The push of an overflowing queue, which is a call of the history but where its own number comes back: that is a look.
 use Rattle.lock_free_queues.proofs.Names.{inl, ◌≡◌, ℕ, ◌+◌, ◌-◌, ◌^◌, ◌<◌, ◌==◌, Bool, true, false, cond, None, []}
-use Rattle.lock_free_queues.proofs.Names.{refl, sym, ap, subst, ◌∙◌, arith, nat_tests, Ask, After, GoOn, Load}
+use Rattle.lock_free_queues.proofs.Names.{refl, subst, ◌∙◌, arith, nat_tests, Ask, After, GoOn}
 use Rattle.lock_free_queues.proofs.Names.{OneWord, PushEnd, Added, Oldest, Producer, distance, push_want, push_takes}
 use Rattle.lock_free_queues.proofs.Names.{push_after, push_kept, Overflow, PushIndex, Coding, KeepsRule, View}
 use Rattle.lock_free_queues.proofs.Names.{IsMachine, over_push_skips, HasPushWord, pushes_over, HasRole, Calling, At}

@@ -3,7 +3,7 @@ use Rattle.lock_free_queues.proofs.Names.{◌≡◌, ℕ, ◌+◌, ◌*◌, ◌-
 use Rattle.lock_free_queues.proofs.Names.{Some, None, List, [], ◌∷◌, ◌++◌, length, replicate, refl, ap, arith}
 use Rattle.lock_free_queues.proofs.Names.{nat_tests, length-replicate, pop_asks, distance, GoOn, Role, Producer}
 use Rattle.lock_free_queues.proofs.Names.{Consumer, Truth, Event, Published, HandedOut, Acted, Finished, Item, Index}
-use Rattle.lock_free_queues.proofs.Names.{Value, Queues, Flight, Pop, QueueKind, IndexQueue, Overflow, Queue, Coding}
+use Rattle.lock_free_queues.proofs.Names.{Value, Queues, Flight, Pop, QueueKind, Coding}
 use Rattle.lock_free_queues.proofs.Names.{IsCoding, first_of, want_of, after_of, opening_of, fresh_cell, lacks_role}
 use Rattle.lock_free_queues.proofs.Names.{words_of_cell, capacity_error, machine_kind, IsFreshCall, Val, encoded}
 use Rattle.lock_free_queues.proofs.Names.{item, Ring, of_indices, of_values, kind_of, Room, words_in, with_word}

@@ -1,6 +1,6 @@
 -- Tests of numbers, as the calls of a queue make them.
-use Rattle.lock_free_queues.proofs.Names.{◌≡◌, ℕ, ◌+◌, ◌*◌, ◌-◌, ◌^◌, ◌<◌, ◌≤◌, ◌==◌, min, nat_lt, true, false, ap}
-use Rattle.lock_free_queues.proofs.Names.{◌∙◌, arith, nat_tests, distance}
+use Rattle.lock_free_queues.proofs.Names.{◌≡◌, ℕ, ◌+◌, ◌*◌, ◌-◌, ◌^◌, ◌<◌, ◌≤◌, ◌==◌, min, nat_lt, true, false}
+use Rattle.lock_free_queues.proofs.Names.{arith, nat_tests, distance}
 
 pub not_last : (n : ℕ) → n < 2 ^ 64 - 1 → (n == 2 ^ 64 - 1) ≡ false
 not_last n low = grind (arith, nat_tests)

@@ -1,8 +1,7 @@
 -- An add to a container that runs alone.
-use Rattle.std.proofs.Common.{◌≡◌, ℕ, zero, suc, ◌+◌, ◌-◌, ◌^◌, ◌<◌, ◌≤◌, ◌==◌, nat_lt, List, [], ◌∷◌, length, take}
-use Rattle.std.proofs.Common.{Some, None, Result, Ok, Err, ok_or, is_none, refl, sym, ap, subst, ◌∙◌, arith}
+use Rattle.std.proofs.Common.{◌≡◌, ℕ, zero, suc, ◌+◌, ◌-◌, ◌^◌, ◌<◌, ◌≤◌, nat_lt, List, [], ◌∷◌, length, take}
+use Rattle.std.proofs.Common.{Some, Result, Ok, Err, is_none, refl, sym, ap, subst, ◌∙◌, arith}
 use Rattle.std.proofs.Common.{slice_index, slice_set, eq-eqb, if◌then◌else◌}
-use Rattle.std.specs.List.{position_or_len}
 use Rattle.std.proofs.lemmas.Bool.Decides.{nat_tests}
 use Rattle.std.proofs.lemmas.List.{length-map}
 use Rattle.steps.specs.Picks.{by_test}
@@ -11,7 +10,7 @@ use Rattle.steps.specs.Indices.Robust.Parts.{empty, one_more}
 use Rattle.steps.specs.Indices.Robust.Acquire.{Acquired, first_acquire, acquire_takes, acquire_want, acquire_after}
 use Rattle.steps.specs.Container.Layout.{change_word, count_word, element_word, is_even}
 use Rattle.steps.specs.Container.Add.{Added, first_add, at_add, inner_acquire, add_want, add_acquired, add_after}
-use Rattle.steps.specs.Objects.Owners.{Owners, acquired, granted, after_acquire, is_locked, the_end}
+use Rattle.steps.specs.Objects.Owners.{Owners, acquired, granted, after_acquire}
 use Rattle.steps.specs.declared.ask.After.{After}
 use Rattle.steps.specs.declared.ask.After.TheVariants.{GoOn, Done}
 use Rattle.steps.specs.declared.indices.enums.UniqueIndexSetAcquireFailure.TheVariants as failures

@@ -1,16 +1,15 @@
 -- Each index that has an owner keeps a value.
-use Rattle.std.proofs.Common.{◌≡◌, ◌≢◌, ℕ, zero, suc, ◌<◌, ⊎_elim, true, false, ◌==◌, List, [], ◌∷◌, length, take}
-use Rattle.std.proofs.Common.{Option, Some, None, Result, Ok, Err, refl, sym, ap, subst, ◌∙◌, arith, slice_set}
+use Rattle.std.proofs.Common.{◌≡◌, ℕ, zero, suc, ◌<◌, false, List, [], ◌∷◌, length, take}
+use Rattle.std.proofs.Common.{Option, Some, None, Result, Ok, refl, sym, subst, ◌∙◌, arith, slice_set}
 use Rattle.std.proofs.Common.{get_or-set_same, get_or-set_other}
-use Rattle.std.specs.Prelude.{slice_index_or, replicate, ◌+◌, ◌&&◌, not}
+use Rattle.std.specs.Prelude.{slice_index_or, replicate, ◌+◌}
 use Rattle.std.proofs.lemmas.Bool.Decides.{eqb_tells}
 use Rattle.std.proofs.lemmas.List.FromFn.{length-map-range_with_len}
 use Rattle.steps.specs.Picks.{by_test}
 use Rattle.steps.specs.declared.container.handle.ContainerHandle.{ContainerHandle}
 use Rattle.steps.specs.declared.indices.enums.ReleaseMode.{ReleaseMode}
-use Rattle.steps.specs.declared.indices.enums.ReleaseMode.TheVariants.{LockIfLastIndex, Default}
 use Rattle.steps.specs.declared.indices.enums.UniqueIndexSetAcquireFailure.{UniqueIndexSetAcquireFailure}
-use Rattle.steps.specs.Objects.Owners.{Owners, acquired, without, raised, the_end, taken, given_back}
+use Rattle.steps.specs.Objects.Owners.{Owners, acquired, without, raised, taken, given_back}
 use Rattle.plain.specs.Alone.{BehavesAs}
 use Rattle.plain.specs.Contents.{Contents, opened, changed, names, put_at, after_add, after_remove, after_replace}
 use Rattle.plain.specs.Contents.{counted, value_at, contents_in, IsFilled, Represents, Holds}

@@ -23,7 +23,6 @@ use Rattle.steps.specs.declared.container.find.FindStage as finds
 use Rattle.plain.specs.declared.drive.Stop.{Stop}
 use Rattle.plain.specs.declared.drive.Stop.TheVariants.{Asked, Ended}
 use Rattle.plain.specs.Queues.{words_from}
-use Rattle.plain.specs.Robust.{owner_in, owners_in}
 use Rattle.plain.specs.Contents.{Contents, value_at, contents_in, Represents, Holds}
 use Rattle.plain.specs.Visited.{Stands}
 use Rattle.plain.proofs.Walks.{plus, Walks, Goes, longer}

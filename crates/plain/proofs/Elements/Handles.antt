@@ -1,6 +1,6 @@
 -- Whether a handle names a value.
-use Rattle.std.proofs.Common.{◌≡◌, ℕ, suc, ◌+◌, ◌<◌, ◌≤◌, ◌==◌, ◌&&◌, false, List, [], ◌∷◌, length, take, None, Some}
-use Rattle.std.proofs.Common.{sym, ap, ◌∙◌, arith, slice_index, eq-eqb, ne_eqb, refl}
+use Rattle.std.proofs.Common.{◌≡◌, ℕ, suc, ◌+◌, ◌<◌, ◌≤◌, ◌==◌, false, List, [], ◌∷◌, length, take, None}
+use Rattle.std.proofs.Common.{ap, arith, slice_index, eq-eqb, ne_eqb}
 use Rattle.std.proofs.lemmas.List.{get_or-map, get_or_past, length-map}
 use Rattle.steps.specs.Picks.{by_eq}
 use Rattle.steps.specs.Indices.Robust.Parts.{cell_word, empty}

@@ -1,14 +1,12 @@
 -- A container as it opens.
 use Rattle.std.proofs.Common.{◌≡◌, ℕ, zero, suc, ◌+◌, ◌-◌, ◌<◌, ◌≤◌, List, [], ◌∷◌, ◌++◌, length, take, map, replicate}
-use Rattle.std.proofs.Common.{None, Some, refl, ap, ◌∙◌, arith, slice_index, slice_set, length-set, take_all, Result}
-use Rattle.std.proofs.Common.{Ok, Err, is_ok, is_err, false, true≢false, if◌then◌else◌}
+use Rattle.std.proofs.Common.{refl, ap, ◌∙◌, arith, slice_index, slice_set, length-set, take_all, Result}
+use Rattle.std.proofs.Common.{is_ok, is_err, false, true≢false, if◌then◌else◌}
 use Rattle.std.specs.List.{range_with_len}
 use Rattle.std.proofs.lemmas.List.{length-replicate}
 use Rattle.steps.specs.Indices.Robust.Parts.{empty}
-use Rattle.steps.specs.Container.Layout.{change_word, count_word, element_word, is_even}
 use Rattle.steps.specs.Objects.Owners.{opened_at}
 use Rattle.plain.specs.Queues.{words_from}
-use Rattle.plain.specs.Robust.{owners_in}
 use Rattle.plain.specs.Contents.{opened, value_at, contents_in}
 use Rattle.plain.proofs.Robust.Looks.{opens}
 

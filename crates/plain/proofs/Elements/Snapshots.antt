@@ -1,18 +1,18 @@
 -- What a state shows after a look.
-use Rattle.std.proofs.Common.{◌≡◌, ◌≢◌, ⊎_elim, ℕ, zero, suc, ◌+◌, ◌<◌, ◌≤◌, Bool, true, false, not, ◌==◌, List, []}
+use Rattle.std.proofs.Common.{◌≡◌, ◌≢◌, ℕ, zero, suc, ◌+◌, ◌<◌, ◌≤◌, Bool, true, false, not, ◌==◌, List, []}
 use Rattle.std.proofs.Common.{◌∷◌, length, take, map, None, refl, sym, ap, subst, ◌∙◌, arith, slice_index}
 use Rattle.std.proofs.Common.{if◌then◌else◌, true≢false}
-use Rattle.std.specs.Prelude.{slice_index_or, replicate}
+use Rattle.std.specs.Prelude.{replicate}
 use Rattle.std.specs.List.{range_with_len}
 use Rattle.std.proofs.lemmas.Bool.Decides.{eqb_tells}
 use Rattle.std.proofs.lemmas.List.{ext_get_or, length-map, length-replicate}
 use Rattle.std.proofs.lemmas.List.FromFn.{get_or-map-range_with_len, length-map-range_with_len}
 use Rattle.steps.specs.Container.Layout.{count_word}
-use Rattle.steps.specs.Container.State.{Numbers, Showing, value_shown, numbers_over, seen_of, no_numbers, no_element, shows_nothing}
+use Rattle.steps.specs.Container.State.{Showing, value_shown, numbers_over, seen_of, no_numbers, shows_nothing}
 use Rattle.steps.specs.declared.container.state.Element.{Element}
 use Rattle.steps.specs.declared.container.state.ContainerState.{ContainerState}
 use Rattle.plain.specs.Contents as contents
-use Rattle.plain.specs.Contents.{Contents, value_at, values_in, counts_in, contents_in, Represents}
+use Rattle.plain.specs.Contents.{Contents, value_at, counts_in, contents_in, Represents}
 use Rattle.plain.specs.States.{blank, snapshot_of, IsStateOf, IsSettled, value_then, updated, Brought}
 use Rattle.plain.proofs.Elements.Adds.{owners_long}
 use Rattle.plain.proofs.Elements.Values.{front_fits}

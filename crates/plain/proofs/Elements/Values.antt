@@ -1,10 +1,9 @@
 -- The values in the words of a container.
-use Rattle.std.proofs.Common.{◌≡◌, ◌≢◌, ℕ, zero, suc, ◌+◌, ◌*◌, ◌%◌, ◌^◌, ◌<◌, ◌≤◌, ◌⊎◌, inl, inr, ⊎_elim, true, false}
+use Rattle.std.proofs.Common.{◌≡◌, ◌≢◌, ℕ, zero, suc, ◌+◌, ◌*◌, ◌%◌, ◌^◌, ◌<◌, ◌≤◌, ◌⊎◌, inl, inr, true, false}
 use Rattle.std.proofs.Common.{List, length, take, Option, Some, None, refl, sym, ap, subst, ◌∙◌, arith, slice_index}
 use Rattle.std.proofs.Common.{slice_set, get_or-set_same, get_or-set_other, get_or-take, length-set, length-take-le}
 use Rattle.std.proofs.Common.{eq-eqb, ne_eqb, if◌then◌else◌, true≢false}
 use Rattle.std.proofs.Math.Nat.{mul-le-mul_left}
-use Rattle.std.proofs.lemmas.Bool.{cases_lt}
 use Rattle.std.proofs.lemmas.List.{take-set-le}
 use Rattle.std.proofs.lemmas.List.FromFn.{get_or-map-range_with_len}
 use Rattle.steps.specs.Picks.{by_test}

@@ -1,7 +1,7 @@
 -- A push and a pop of the overflowing queue that run alone.
 use Rattle.std.proofs.Common.{◌≡◌, ◌≢◌, ℕ, suc, ◌+◌, ◌-◌, ◌*◌, ◌%◌, ◌^◌, ◌<◌, ◌≤◌, ⊎_elim, Bool, true, false, not}
 use Rattle.std.proofs.Common.{◌&&◌, ◌==◌, nat_lt, min, Option, Some, None, slice_get, List, [], ◌∷◌, ◌++◌, length}
-use Rattle.std.proofs.Common.{drop, refl, sym, ap, subst, ◌∙◌, arith, slice_index, slice_set, get_or-set_same}
+use Rattle.std.proofs.Common.{drop, sym, ap, subst, ◌∙◌, arith, slice_index, slice_set, get_or-set_same}
 use Rattle.std.proofs.Common.{get_or-set_other, length-set, eq-eqb, ne_eqb, if◌then◌else◌}
 use Rattle.std.proofs.lemmas.Bool.Decides.{nat_tests}
 use Rattle.std.proofs.lemmas.Bool.{cases_lt}
@@ -10,10 +10,9 @@ use mathlib.Core.Logic.{dite}
 use native.Mathlib.Decide.{ℕ_discrete}
 use Rattle.steps.specs.Picks.{by_eq}
 use Rattle.steps.specs.Queues.Ring.{distance, after_position}
-use Rattle.steps.specs.Queues.Overflow.{cell_word, first_push, at_push, push_want, push_after, push_kept, push_answer}
+use Rattle.steps.specs.Queues.Overflow.{cell_word, first_push, push_want, push_after, push_kept, push_answer}
 use Rattle.steps.specs.Queues.Overflow.{first_pop, pop_want, pop_after, pop_kept, pop_answer}
 use Rattle.steps.specs.declared.ask.After.{After}
-use Rattle.steps.specs.declared.ask.After.TheVariants.{GoOn}
 use Rattle.steps.specs.declared.copied.OneWord.{OneWord}
 use Rattle.steps.specs.declared.queues.overflow.Push.{Push}
 use Rattle.steps.specs.declared.queues.overflow.PushStage as pushes

@@ -13,7 +13,7 @@ use Rattle.steps.specs.declared.queues.ring.Push.{Push}
 use Rattle.steps.specs.declared.queues.ring.PushStage as pushes
 use Rattle.plain.specs.Alone.{EndsFrom, EndsIn, BehavesAs}
 use Rattle.steps.specs.Objects.Lists.{Bounded, takes_more, pushed}
-use Rattle.plain.specs.Queues.{words_from, value_at, values_from, list_in, Represents}
+use Rattle.plain.specs.Queues.{words_from, value_at, list_in, Represents}
 use mathlib.Core.Logic.{dite}
 use native.Mathlib.Decide.{ℕ_discrete}
 use Rattle.plain.proofs.Alone.{Runs}

@@ -1,8 +1,7 @@
 -- The looks at a set, each a load of its head.
-use Rattle.std.proofs.Common.{ℕ, ◌-◌, List, refl, arith, slice_index}
+use Rattle.std.proofs.Common.{ℕ, List, arith}
 use Rattle.steps.specs.Queues.Ring.{load}
-use Rattle.steps.specs.Indices.Head.{proposed, says_locked}
-use Rattle.steps.specs.Indices.Unique.{borrowed_after, borrowed_number, locked_after}
+use Rattle.steps.specs.Indices.Unique.{borrowed_after, locked_after}
 use Rattle.steps.specs.Objects.Stacks.{Stack, out}
 use Rattle.steps.specs.declared.indices.looks.BorrowedIndices.{BorrowedIndices}
 use Rattle.steps.specs.declared.indices.looks.IsLocked.{IsLocked}

@@ -5,7 +5,7 @@ use Rattle.std.proofs.Common.{get_or-set_same, get_or-set_other, length-set, tru
 use Rattle.std.specs.List.{IsDistinct, range_with_len}
 use Rattle.std.proofs.lemmas.Bool.Decides.{eqb_tells}
 use Rattle.std.proofs.lemmas.Bool.{cases_Bool}
-use Rattle.steps.specs.Indices.Head.{next_word, flag_word, has_flag, proposed, says_locked}
+use Rattle.steps.specs.Indices.Head.{next_word, flag_word, has_flag}
 use Rattle.steps.specs.Indices.Unique.{borrowed_number}
 use Rattle.steps.specs.Objects.Stacks.{opened}
 use Rattle.plain.specs.Unique.{chain, free_in, stack_in, claimed, Represents}

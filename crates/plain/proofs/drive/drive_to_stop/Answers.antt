@@ -1,7 +1,7 @@
 use Rattle.std.proofs.Common.{arith}
-use Rattle.std.proofs.Common.{◌∙◌, sym, subst, ℕ, ◌+◌, List}
+use Rattle.std.proofs.Common.{◌∙◌, sym, subst, ℕ, List}
 use Rattle.plain.specs.Alone.{StopsAlike}
-use Rattle.plain.proofs.Alone.{Going, begins, goes_on, stops}
+use Rattle.plain.proofs.Alone.{begins, goes_on, stops}
 use Rattle.plain.proofs.drive.drive_to_stop.Goals as goal
 
 pub loop-init : goal.loop-init

@@ -1,4 +1,3 @@
-use Rattle.std.proofs.Common.{arith}
 use Rattle.plain.proofs.Alone.{can_end, ends_so}
 use Rattle.plain.proofs.Robust.Releases.{give_at}
 use Rattle.plain.proofs.robust_unique_index_set.release.Goals as goal

@@ -1,5 +1,4 @@
 use Rattle.std.proofs.Common.{arith}
-use Rattle.std.proofs.Common.{sym}
 use Rattle.plain.proofs.Elements.Finding.{takes_at, found_at}
 use Rattle.plain.proofs.container.Container.find.Goals as goal
 use Rattle.plain.proofs.container.Container.find.Given as given

@@ -1,5 +1,4 @@
 use Rattle.std.proofs.Common.{arith}
-use Rattle.std.proofs.Common.{sym}
 use Rattle.plain.proofs.Elements.Recovering.{questions_at, recovered_at}
 use Rattle.plain.proofs.container.Container.recover.Goals as goal
 use Rattle.plain.proofs.container.Container.recover.Given as given
