@@ -1,5 +1,4 @@
 -- The calls on bit sets as calls of the model, and what follows from its laws.
-pub mod Emptying
 pub mod Cleared
 pub mod Setting
 pub mod Resetting

@@ -9,7 +9,10 @@ pub use Rattle.lock_free_queues.proofs.Queues.Wrote as QueueWrote
 pub use Rattle.threaded.proofs.Fractions
 pub use Rattle.threaded.proofs.Shares
 pub mod Sums
+mod Looks
+pub mod Ends
 pub mod Unique
 pub mod Loan
+pub mod Sets
 pub mod Bits
 pub mod Counts

@@ -2,5 +2,5 @@
 pub mod Callable
 pub mod Stages
 pub mod Told
-pub mod Calls
-pub mod Handles
+pub use Rattle.lock_free.specs.Sets.Calls
+pub use Rattle.lock_free.specs.Sets.Handles

@@ -1,8 +1,7 @@
 -- The words of the contracts of counting bit sets.
 pub mod Callable
 pub mod Stages
-pub mod Driven
 pub mod Told
 pub mod Sums
-pub mod Calls
-pub mod Handles
+pub use Rattle.lock_free.specs.Sets.Calls
+pub use Rattle.lock_free.specs.Sets.Handles

@@ -31,8 +31,10 @@ pub use Rattle.steps.specs.declared.bits.counting_bit_set.BitState
 pub use Rattle.steps.specs.declared.words.Words
 pub mod Value
 pub mod Queues
+pub mod Driven
 pub mod Unique
 pub mod UniqueIndexSet
+pub mod Sets
 pub mod Bits
 pub mod Counts
 pub mod Facts

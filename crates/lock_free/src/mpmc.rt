@@ -4,5 +4,6 @@ pub use lock_free_owners::mpmc::{container, robust_unique_index_set};
 
 pub mod bit_set;
 pub mod counting_bit_set;
+pub mod sets;
 pub mod unique_index_set;
 pub mod unique_index_set_enums;

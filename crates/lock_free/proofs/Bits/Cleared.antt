@@ -1,6 +1,6 @@
 -- Resetting all places: the closure is called with just those that the call clears.
-use Rattle.std.proofs.Common.{◌≡◌, inl, ⊎_elim, true≢false, ◌==◌, ℕ, zero, suc, ◌+◌, ◌<◌, ◌≤◌, Bool, true, false, cond}
-use Rattle.std.proofs.Common.{Some, None, List, [], ◌∷◌, ◌++◌, map, refl, sym, ap, subst, ◌∙◌, arith, append_assoc}
+use Rattle.std.proofs.Common.{◌≡◌, ⊎_elim, true≢false, ◌==◌, ℕ, zero, suc, ◌+◌, ◌<◌, ◌≤◌, Bool, true, false, cond}
+use Rattle.std.proofs.Common.{List, [], ◌∷◌, ◌++◌, map, refl, sym, ap, subst, ◌∙◌, arith, append_assoc}
 use Rattle.std.proofs.Common.{append-nil}
 use Rattle.std.proofs.lemmas.List.{map-append}
 use Rattle.std.specs.List.{FoldsTo, All, filter, range_with_len, count_by}
@@ -11,7 +11,7 @@ use Rattle.std.proofs.lemmas.List.Elements.{All-nil, All-cons, All-push, All-app
 use Rattle.std.proofs.lemmas.List.Quantifiers.{all_pairs_push}
 use Rattle.steps.specs.Bits.Places.{first_place, places_in}
 use Rattle.steps.specs.Bits.ResetAll.{all_bits, reset_all_after, reset_all_kept}
-use Rattle.steps.specs.Bits.Words.{element_of, elements, has_flag}
+use Rattle.steps.specs.Bits.Words.{element_of, has_flag}
 use Rattle.steps.proofs.Flags.Places.{place_named}
 use Rattle.steps.specs.declared.ask.After.{After}
 use Rattle.steps.specs.declared.ask.After.TheVariants.{GoOn, Done}
@@ -19,12 +19,9 @@ use Rattle.steps.specs.declared.bits.reset_all.ResetAll.{ResetAll as Emptying}
 use Rattle.steps.specs.declared.copied.OneWord.{OneWord}
 use Rattle.model.specs.declared.event.Answer.TheVariants as answers
 use Rattle.model.specs.declared.event.Event.{Event}
-use Rattle.model.specs.declared.event.Event.TheVariants.{Finished, Cleared}
-use Rattle.model.specs.declared.event.Start.TheVariants.{Bits}
-use Rattle.model.specs.declared.families.bits.BitsStart.TheVariants.{ResetAll}
+use Rattle.model.specs.declared.event.Event.TheVariants.{Finished}
 use Rattle.model.specs.declared.turn.Kind.TheVariants as kinds
 use Rattle.model.specs.Coding.{one_word}
-use Rattle.model.specs.Families.{opening_of, first_of}
 use Rattle.model.specs.Families.Bits.Promises.{IsBitSet, HasCleared}
 use Rattle.model.specs.Families.Bits.Steps.{clear_events}
 use Rattle.model.specs.Families.Bits.Reading.{is_clear_of, clears}
@@ -35,20 +32,16 @@ use Rattle.laws_bits.proofs.Bits.Justified.{bits_go_on}
 use Rattle.laws_bits.proofs.Bits.Lists.{Rise, places_rise, clears_named}
 use Rattle.laws_bits.proofs.Bits.Core.{clears_more}
 use Rattle.history.specs.declared.view.View.{View}
-use Rattle.history.specs.History.{Called}
 use Rattle.history.specs.Known.{events_by}
-use Rattle.history.specs.Stages.{At, Ends, opened}
-use Rattle.history.proofs.Drives.{called}
-use Rattle.history.proofs.Made.{MadeSoFar}
+use Rattle.history.specs.Stages.{At, opened}
 use Rattle.lock_free.specs.Bits.Callable.{Ascends, Visited, TakesPlaces}
-use Rattle.lock_free.specs.Counts.Driven.{IsIdle, HasDone}
-use Rattle.lock_free.specs.Counts.Stages.{flight_word, empties_none}
-use Rattle.lock_free.specs.Bits.Stages.{clearing, clears_all}
+use Rattle.lock_free.specs.Driven.{HasMade, HasDone, IsIdle}
+use Rattle.lock_free.specs.Sets.Kinds.{Flags}
+use Rattle.lock_free.specs.Sets.Stages.{empties}
 use Rattle.lock_free.specs.Bits.Told.{cleared_by, HasCleanedOut, MissedNoPlace}
-use Rattle.lock_free.proofs.Counts.Ends.{done, before_end, to_end}
-use Rattle.lock_free.proofs.Counts.Emptied.{emptying, Goes, Stepped, stepped, same_capacity_of, goes_on, ends_all}
-use Rattle.lock_free.proofs.Counts.Emptying.{goes_next}
-use Rattle.lock_free.proofs.Bits.Emptying.{clear_first}
+use Rattle.lock_free.proofs.Ends.{before_end, to_end}
+use Rattle.lock_free.proofs.Sets.Emptied.{emptying, Goes, Stepped, stepped, same_capacity, WroteSoFar, first_wrote, words_left, wrote_on, wrote_all}
+use Rattle.lock_free.proofs.Sets.Emptying.{goes_next}
 
 -- ---- the places of one word, one after another
 
@@ -147,7 +140,7 @@ clears_of_party b p [] = omega arith
 clears_of_party b p (e ∷ es) = clears_cons b e (events_by p es) es (is_party p (whose e)) (clears_of_party b p es)
 
 pub found_clear : (cap word : ℕ) (v w : View ℕ) (room : OneWord) → 1 ≤ word
-    → (s : Stepped kinds.Bits clear_events v w word room) → v.capacity ≡ cap → (place : ℕ) → element_of place ≡ word
+    → (s : Stepped Flags v w word room) → v.capacity ≡ cap → (place : ℕ) → element_of place ≡ word
     → cap ≤ place → has_flag room.0 place ≡ false
 found_clear cap word v w room low s size place here past = go (has_flag room.0 place) refl
   where
@@ -188,63 +181,42 @@ found_clear cap word v w room low s size place here past = go (has_flag room.0 p
 
 -- ---- the call and its closure
 
-pub first_word : (n : ℕ) (c : Emptying) (m : OneWord)
-    → first_of kinds.Bits n emptying ((opening_of kinds.Bits).kept n) ≡ Some (clearing {T = ℕ} c m) → c.word ≡ 1
-first_word n c m e = let same : clearing {T = ℕ} (record { word = 1; end = 1 + elements n }) (record { 0 = 0 }) ≡ clearing c m = cc in sym (ap flight_word same)
-
-pub has_word : (c : Emptying) (m : OneWord) → flight_word (clearing {T = ℕ} c m) ≡ c.word
-has_word c m = refl
-
-map_cleared : (p : ℕ) (bs : List ℕ) → map (cleared_by p) bs ≡ map (λ b. Cleared p b) bs
-map_cleared p bs = refl
-
 module _ {F : Type 0} (R : F → ℕ → F → Type 0) (cap : ℕ) (visit : F) where
   -- the call stands here, and the closure was called with what it has cleared
   pub record SoFar (base v : View ℕ) (c : Emptying) (m : OneWord) (f : F) : Type 0 where
-    pub at : At one_word kinds.Bits clears_all base v c m
-    pub size : base.capacity ≡ cap
-    pub end : c.end ≡ 1 + elements cap
-    pub low : 1 ≤ c.word
-    pub within : c.word < c.end
     pub places : List ℕ
+    pub call : WroteSoFar Flags cap (λ p. map (cleared_by p) places) base v c m
     pub ascend : Ascends cap places
     pub below : All (λ x. x < first_place c.word) places
     pub folds : FoldsTo R visit places f
-    pub made : MadeSoFar emptying base v (λ p. map (cleared_by p) places)
 
   pub first_so_far : (v : View ℕ) → IsIdle cap v → 0 < cap → SoFar v v (all_bits cap) fresh visit
   first_so_far v idle some =
       record {
-        at =
-            subst (λ n. At one_word kinds.Bits clears_all v v (all_bits n) fresh) idle.known
-            (clear_first v (record { known = refl; idle = idle.idle; alone = idle.alone; some = idle.some })
-            (subst (λ n. 0 < n) (sym idle.known) some));
-        size = idle.known;
-        end = refl;
-        low = omega arith;
-        within = omega arith;
         places = [];
+        call = first_wrote Flags cap v idle some;
         ascend = ((λ i j d lt within. absurd (omega arith)), All-nil (λ x. x < cap));
         below = All-nil (λ x. x < first_place 1);
         folds = refl;
-        made = inl (refl, λ p. refl);
       }
 
-  module _ (base v w : View ℕ) (c : Emptying) (m room : OneWord) (n : ℕ) (f : F) (idle : base.going ≡ None)
+  module _ (base v w : View ℕ) (c : Emptying) (m room : OneWord) (n : ℕ) (f : F)
       (h : SoFar base v c m f) (kept : room ≡ reset_all_kept m n) (a : After Emptying (Unit {0}))
       (goes_so : reset_all_after c n ≡ a)
-      (told : (b : View ℕ) → At one_word kinds.Bits clears_all b v c m
-      → Goes kinds.Bits clearing clear_events 1 (λ k. 1 + elements k) has_word first_word b a room w) where
-    its_step : Stepped kinds.Bits clear_events v w c.word room
-    its_step = stepped kinds.Bits clearing clear_events 1 (λ k. 1 + elements k) has_word first_word base v w c m room n h.at a goes_so told
+      (told : (b : View ℕ) → At one_word kinds.Bits (empties Flags) b v c m → Goes Flags b a room w) where
+    its_step : Stepped Flags v w c.word room
+    its_step = stepped Flags base v w c m room n h.call.at a goes_so told
+
+    low : 1 ≤ c.word
+    low = (words_left Flags cap (λ p. map (cleared_by p) h.places) base v c m h.call).1
 
     -- a flag that was found is of a place below the capacity
     place_within : (place : ℕ) → first_place c.word ≤ place → place < first_place c.word + 64 → has_flag room.0 place ≡ true → place < cap
     place_within place from to stood =
         ⊎_elim (λ l. l)
         (λ past. absurd
-        (true≢false (sym stood ∙ found_clear cap c.word v w room h.low its_step (same_capacity_of base v c m h.at ∙ h.size) place
-        (let low = h.low in let is : element_of place ≡ c.word = omega arith in is) past)))
+        (true≢false (sym stood ∙ found_clear cap c.word v w room low its_step (same_capacity Flags base v c m h.call.at ∙ h.call.size) place
+        (let above = low in let is : element_of place ≡ c.word = omega arith in is) past)))
         (cases_lt place cap)
 
     -- the closure may be called there
@@ -278,80 +250,55 @@ module _ {F : Type 0} (R : F → ℕ → F → Type 0) (cap : ℕ) (visit : F) w
 
       pub so_far_on : (next : Emptying) → a ≡ GoOn next → SoFar base w next room g
       so_far_on next is =
-          let e : reset_all_after c n ≡ GoOn next = goes_so ∙ is in
-          let moved = goes_next c n next e in
-          let word : next.word ≡ c.word + 1 = ap (λ (z : Emptying). z.word) moved.0 in
-          let end : next.end ≡ c.end = ap (λ (z : Emptying). z.end) moved.0 in
-          let on =
-          goes_on kinds.Bits clearing clear_events 1 (λ k. 1 + elements k) has_word first_word base v w c m room n
-          (λ p. map (cleared_by p) h.places) idle h.made h.at kept next e
-          (λ b at. subst (λ z. Goes kinds.Bits clearing clear_events 1 (λ k. 1 + elements k) has_word first_word b z room w) is (told b at))
-          in
+          let word : next.word ≡ c.word + 1 = ap (λ (z : Emptying). z.word) (goes_next c n next (goes_so ∙ is)).0 in
           record {
-            at = on.1;
-            size = h.size;
-            end = end ∙ h.end;
-            low = omega arith;
-            within = moved.1;
             places = all_places;
+            call =
+                subst (λ z. WroteSoFar Flags cap z base w next room) (λ i p. same_events p i)
+                (wrote_on Flags cap (λ p. map (cleared_by p) h.places) base v c m h.call w room n kept a goes_so told next is);
             ascend = up;
             below = (
-                let low = h.low in
+                let above = low in
                 let far : first_place c.word + 64 ≡ first_place next.word = omega arith in
                 All-append (λ x. x < first_place next.word) h.places (places_in c.word room.0)
                 (All-weaker (λ x. x < first_place c.word) (λ x. x < first_place next.word) (λ x l. omega arith) h.places h.below)
                 (kept_all (λ y. y < first_place next.word) (λ place. has_flag room.0 place) (first_place c.word) 64 (λ p from to t. omega arith)));
             folds = all_folds;
-            made = subst (λ z. MadeSoFar emptying base w z) (λ i p. same_events p i) on.0;
           }
 
       pub cleared_all : a ≡ Done tt → HasCleanedOut R cap visit base w × HasDone kinds.Bits base w
       cleared_all is =
-          let e : reset_all_after c n ≡ Done tt = goes_so ∙ is in
-          let all =
-          ends_all kinds.Bits clearing clear_events 1 (λ k. 1 + elements k) has_word first_word base v w c m room n
-          (λ p. map (cleared_by p) h.places) idle h.made h.at kept e
-          (λ b at. subst (λ z. Goes kinds.Bits clearing clear_events 1 (λ k. 1 + elements k) has_word first_word b z room w) is (told b at))
-          in
-          let ends = all.0 in (
+          let all = wrote_all Flags cap (λ p. map (cleared_by p) h.places) base v c m h.call w room n kept a goes_so told is in (
             record {
               places = all_places;
               ascend = up;
               last = g;
               visited = all_folds;
-              by = ends.party;
-              mine = ends.mine;
-              called =
-                  subst (λ es. Called ends.party emptying answers.Done es base w) (all.1 ∙ same_events ends.party)
-                  (called one_word kinds.Bits clears_all base w tt room idle ends);
+              made = subst (λ z. HasMade emptying answers.Done z base w) (λ i p. same_events p i) all.0;
             },
-            done kinds.Bits clears_all (λ o p h. h) base w tt room ends,
+            all.1,
           )
 
 -- nothing that stood was missed
-pub missed_none : {F : Type 0} (R : F → ℕ → F → Type 0) (cap : ℕ) (visit : F) (base w : View ℕ)
-    → base.capacity ≡ cap → HasDone kinds.Bits base w → HasCleanedOut R cap visit base w → MissedNoPlace cap w
-missed_none R cap visit base w size over out =
-    let p = out.by in
+pub missed_none : (cap : ℕ) (base w : View ℕ) (wrote : ℕ → List (Event ℕ)) → base.capacity ≡ cap → HasDone kinds.Bits base w
+    → HasMade emptying answers.Done wrote base w → MissedNoPlace cap w
+missed_none cap base w wrote size over made =
     let h = over.history in
-    let before = before_end out.called in
+    let before = before_end made.called in
+    let is = to_end made.called in
     let set : IsBitSet h.trace = bits_go_on h.trace h.run.of_kind h.run.reached in
-    let right : SinceBegin p (HasCleared h.trace.world.capacity) before =
-    set.answers before [] (Finished p (Bits ResetAll) answers.Done) (sym h.is ∙ to_end out.called) in
-    record { by = p; before = before; is = to_end out.called; cleared = subst (λ n. SinceBegin p (HasCleared n) before) (h.run.sized ∙ size) right }
+    let right : SinceBegin made.by (HasCleared h.trace.world.capacity) before =
+    set.answers before [] (Finished made.by emptying answers.Done) (sym h.is ∙ is) in
+    record { by = made.by; before = before; is = is; cleared = subst (λ n. SinceBegin made.by (HasCleared n) before) (h.run.sized ∙ size) right }
 
 -- where there is no place, nothing is cleared and the closure is not called
-pub cleared_none : {F : Type 0} (R : F → ℕ → F → Type 0) (visit : F) (base w : View ℕ) (m : OneWord)
-    → base.going ≡ None → Ends one_word kinds.Bits (empties_none clearing) base tt m w → HasCleanedOut R 0 visit base w
-cleared_none R visit base w m idle ends =
+pub cleared_none : {F : Type 0} (R : F → ℕ → F → Type 0) (visit : F) (base w : View ℕ)
+    → HasMade emptying answers.Done (λ by. []) base w → HasCleanedOut R 0 visit base w
+cleared_none R visit base w made =
     record {
       places = [];
       ascend = ((λ i j d lt within. absurd (omega arith)), All-nil (λ x. x < 0));
       last = visit;
       visited = refl;
-      by = ends.party;
-      mine = ends.mine;
-      called =
-          subst (λ es. Called ends.party emptying answers.Done es base w) ends.tells
-          (called one_word kinds.Bits (empties_none clearing) base w tt m idle ends);
+      made = made;
     }

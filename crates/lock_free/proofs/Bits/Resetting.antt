@@ -22,21 +22,20 @@ use Rattle.model.specs.declared.families.bits.BitsStart.TheVariants.{ResetNext}
 use Rattle.model.specs.declared.turn.Kind.TheVariants as kinds
 use Rattle.model.specs.Coding.{one_word}
 use Rattle.model.specs.Families.{after_of}
-use Rattle.model.specs.Families.Bits.Calls.{reset_answer}
 use Rattle.model.specs.Families.Bits.Promises.{IsBitSet}
 use Rattle.model.specs.Families.Bits.Reading.{standing}
 use Rattle.model.specs.Moments.{HeldSometime}
 use Rattle.laws_bits.proofs.Bits.Justified.{bits_go_on}
 use Rattle.threaded.specs.Driver.{answered, KeepsRule}
 use Rattle.history.specs.declared.view.View.{View}
-use Rattle.history.specs.History.{IsMachine, Called}
+use Rattle.history.specs.History.{IsMachine}
 use Rattle.history.specs.Stages.{At, Ends}
-use Rattle.history.proofs.Drives.{IsCallOf, goes, keeps_all, called}
+use Rattle.history.proofs.Drives.{IsCallOf, goes, keeps_all}
 use Rattle.history.proofs.Sets.{bits_starts, set_effects, bits_owe}
-use Rattle.lock_free.specs.Counts.Driven.{IsIdle}
+use Rattle.lock_free.specs.Driven.{IsIdle}
 use Rattle.lock_free.specs.Bits.Stages.{ResetStands, reset_so_far, reset_wrote, IsPlace, resets_next}
 use Rattle.lock_free.specs.Bits.Told.{HasReset, AllClearOnce}
-use Rattle.lock_free.proofs.Counts.Ends.{before_end, to_end}
+use Rattle.lock_free.proofs.Ends.{has_made, before_end, to_end}
 
 place_below : (cap start passed : ℕ) → start ≤ cap → passed < cap → place_after cap start passed < cap
 place_below cap start passed low few =
@@ -194,13 +193,7 @@ next_first v m idle =
 module _ (base w : View ℕ) (o : Option ℕ) (m : Unit {0}) (idle : base.going ≡ None) (ends : Ends one_word kinds.Bits resets_next base o m w) where
   pub cleared : HasReset o base w
   cleared =
-      record {
-        by = ends.party;
-        mine = ends.mine;
-        called =
-            subst (λ es. Called ends.party (Bits ResetNext) (reset_answer o) es base w) (ends.tells.1 idle)
-            (called one_word kinds.Bits resets_next base w o m idle ends);
-      }
+      has_made kinds.Bits resets_next base w o m ends idle (λ by. reset_wrote by o) (ends.tells.1 idle)
 
   pub place_in : IfSome o (λ place. place < base.capacity)
   place_in = go o ends.tells.0
@@ -211,12 +204,12 @@ module _ (base w : View ℕ) (o : Option ℕ) (m : Unit {0}) (idle : base.going 
 
   pub all_clear : o ≡ None → AllClearOnce base.capacity w
   all_clear none =
-      let p = ends.party in
       let h = ends.history in
-      let c : Called p (Bits ResetNext) ResetNone ends.wrote base w =
-      subst (λ z. Called p (Bits ResetNext) (reset_answer z) ends.wrote base w) none
-      (called one_word kinds.Bits resets_next base w o m idle ends) in
+      let made : HasReset None base w = subst (λ z. HasReset z base w) none cleared in
+      let p = made.by in
+      let before = before_end made.called in
+      let is = to_end made.called in
       let set : IsBitSet h.trace = bits_go_on h.trace h.run.of_kind h.run.reached in
-      let right : (b : ℕ) → b < h.trace.world.capacity → HeldSometime p (λ part. standing b part ≡ 0) (before_end c) =
-      set.answers (before_end c) [] (Finished p (Bits ResetNext) ResetNone) (sym h.is ∙ to_end c) in
-      record { by = p; before = before_end c; is = to_end c; clear = λ place below. right place (subst (λ n. place < n) (sym h.run.sized) below) }
+      let right : (b : ℕ) → b < h.trace.world.capacity → HeldSometime p (λ part. standing b part ≡ 0) before =
+      set.answers before [] (Finished p (Bits ResetNext) ResetNone) (sym h.is ∙ is) in
+      record { by = p; before = before; is = is; clear = λ place below. right place (subst (λ n. place < n) (sym h.run.sized) below) }

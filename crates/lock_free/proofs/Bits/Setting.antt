@@ -23,14 +23,14 @@ use Rattle.model.specs.Families.Bits.Promises.{IsBitSet}
 use Rattle.laws_bits.proofs.Bits.Justified.{bits_go_on}
 use Rattle.threaded.specs.Driver.{answered, KeepsRule}
 use Rattle.history.specs.declared.view.View.{View}
-use Rattle.history.specs.History.{IsMachine, Called}
+use Rattle.history.specs.History.{IsMachine}
 use Rattle.history.specs.Stages.{At, Ends}
-use Rattle.history.proofs.Drives.{IsCallOf, goes, keeps_all, called}
+use Rattle.history.proofs.Drives.{IsCallOf, goes, keeps_all}
 use Rattle.history.proofs.Sets.{bits_starts, set_effects, bits_owe}
-use Rattle.lock_free.specs.Counts.Driven.{IsIdle}
+use Rattle.lock_free.specs.Driven.{IsIdle}
 use Rattle.lock_free.specs.Bits.Stages.{set_wrote, sets_place}
 use Rattle.lock_free.specs.Bits.Told.{HasSet, StoodOnce}
-use Rattle.lock_free.proofs.Counts.Ends.{before_end, to_end}
+use Rattle.lock_free.proofs.Ends.{has_made, before_end, to_end}
 
 module _ (place : ℕ) where
   same_after : (c : Setting) (m : Unit {0}) (n : ℕ)
@@ -152,25 +152,14 @@ module _ (place : ℕ) where
   module _ (base w : View ℕ) (b : Bool) (m : Unit {0}) (idle : base.going ≡ None) (ends : Ends one_word kinds.Bits (sets_place place) base b m w) where
     pub added : HasSet place b base w
     added =
-        record {
-          by = ends.party;
-          mine = ends.mine;
-          called =
-              subst (λ es. Called ends.party (Bits (Set place)) (Truth b) es base w) ends.tells
-              (called one_word kinds.Bits (sets_place place) base w b m idle ends);
-        }
+        has_made kinds.Bits (sets_place place) base w b m ends idle (λ by. set_wrote by place b) ends.tells
 
     pub stood : b ≡ false → StoodOnce place w
     stood not =
-        let p = ends.party in
         let h = ends.history in
-        let c : Called p (Bits (Set place)) (Truth false) ends.wrote base w =
-        subst (λ z. Called p (Bits (Set place)) (Truth z) ends.wrote base w) not
-        (called one_word kinds.Bits (sets_place place) base w b m idle ends) in
+        let made : HasSet place false base w = subst (λ z. HasSet place z base w) not added in
+        let before = before_end made.called in
+        let is = to_end made.called in
         let set : IsBitSet h.trace = bits_go_on h.trace h.run.of_kind h.run.reached in
-        record {
-          by = p;
-          before = before_end c;
-          is = to_end c;
-          stood = set.answers (before_end c) [] (Finished p (Bits (Set place)) (Truth false)) (sym h.is ∙ to_end c);
-        }
+        let right = set.answers before [] (Finished made.by (Bits (Set place)) (Truth false)) (sym h.is ∙ is) in
+        record { by = made.by; before = before; is = is; stood = right }

@@ -1,5 +1,5 @@
 -- Counting a place: a call of the model in one step, and what it answers.
-use Rattle.std.proofs.Common.{◌≡◌, inl, ℕ, ◌+◌, ◌<◌, nat_le, false, None, List, [], ◌∷◌, ◌++◌, refl, sym, ap, subst, ◌∙◌, arith}
+use Rattle.std.proofs.Common.{◌≡◌, inl, ℕ, ◌+◌, ◌<◌, nat_le, false, None, List, [], ◌∷◌, ◌++◌, refl, sym, ap, ◌∙◌, arith}
 use Rattle.std.proofs.lemmas.Bool.Decides.{nat_tests}
 use Rattle.steps.specs.Bits.Counts.{set_want, set_after}
 use Rattle.steps.specs.declared.ask.Ask.{Ask}
@@ -17,14 +17,14 @@ use Rattle.model.specs.Families.Bits.Promises.{IsCountingOn, AnswersCountOn}
 use Rattle.laws_bits.proofs.Counts.Justified.{counts_go_on}
 use Rattle.threaded.specs.Driver.{answered, KeepsRule}
 use Rattle.history.specs.declared.view.View.{View}
-use Rattle.history.specs.History.{IsMachine, Called}
+use Rattle.history.specs.History.{IsMachine}
 use Rattle.history.specs.Stages.{At, Ends}
-use Rattle.history.proofs.Drives.{IsCallOf, keeps_all, called}
+use Rattle.history.proofs.Drives.{IsCallOf, keeps_all}
 use Rattle.history.proofs.Sets.{counts_starts, set_effects, counts_owe}
-use Rattle.lock_free.specs.Counts.Driven.{IsIdle}
+use Rattle.lock_free.specs.Driven.{IsIdle}
 use Rattle.lock_free.specs.Counts.Stages.{counts_place}
 use Rattle.lock_free.specs.Counts.Told.{HasCounted, AnswersCount}
-use Rattle.lock_free.proofs.Counts.Ends.{before_end, to_end}
+use Rattle.lock_free.proofs.Ends.{has_made, before_end, to_end}
 
 module _ (place : ℕ) where
   is_call : IsCallOf one_word set_effects (λ capacity. capacity) (λ c. set_want c place) (λ c n. set_after c n) (λ c m n. m) (counts_place {T = ℕ} place)
@@ -73,18 +73,11 @@ module _ (place : ℕ) where
       (ends : Ends one_word kinds.Counts (counts_place place) base number m w) where
     pub counted : HasCounted place number base w
     counted =
-        record {
-          by = ends.party;
-          mine = ends.mine;
-          called =
-              subst (λ es. Called ends.party (Bits (Set place)) (Number number) es base w) ends.tells
-              (called one_word kinds.Counts (counts_place place) base w number m idle ends);
-        }
+        has_made kinds.Counts (counts_place place) base w number m ends idle (λ by. Counted by place ∷ []) ends.tells
 
     pub answers : AnswersCount place number w
-    unfolding counted
     answers =
-        let p = ends.party in
+        let p = counted.by in
         let h = ends.history in
         let last : Event ℕ = Finished p (Bits (Set place)) (Number number) in
         let before : List (Event ℕ) = before_end counted.called in

@@ -56,11 +56,12 @@ module _ (old new : View ℕ) where
   pub take_adds : {F : Type 0} (step : F → BitState → F → Type 0) (capacity : ℕ) (visit : F) (h : HasTakenOut step capacity visit old new) (b : ℕ)
       → (counts b new.made ≡ counts b old.made) × (takes b new.made ≡ takes b old.made + taken_at b h.states)
   take_adds step capacity visit h b =
-      let wrote : List (Event ℕ) = map (taken_by h.by) h.states in
-      let c = sum_made (λ e. cond (is_count_of b e) 1 0) h.by (Bits ResetAll) Done wrote old new h.called in
-      let t = sum_made (take_of b) h.by (Bits ResetAll) Done wrote old new h.called in
-      let none = counts_of h.by b h.states in
-      let some = takes_of h.by b h.states in
+      let p = h.made.by in
+      let wrote : List (Event ℕ) = map (taken_by p) h.states in
+      let c = sum_made (λ e. cond (is_count_of b e) 1 0) p (Bits ResetAll) Done wrote old new h.made.called in
+      let t = sum_made (take_of b) p (Bits ResetAll) Done wrote old new h.made.called in
+      let none = counts_of p b h.states in
+      let some = takes_of p b h.states in
       (omega arith, omega arith)
 
   -- the count that the set answers is what was counted there and not taken out

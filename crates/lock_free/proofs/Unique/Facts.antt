@@ -27,18 +27,21 @@ use Rattle.model.specs.Promises.Spans.{Stands}
 use Rattle.laws_indices.proofs.Sound.{kept_on, reached_on_sound}
 use Rattle.model.specs.Families.Indices.Reading.{holder_of, locked_after, is_locked}
 use Rattle.model.specs.Reading.{whose, is_party, Span, Never, Open, Ended, span_of}
+use Rattle.threaded.specs.Shares.{IsAll}
 use Rattle.history.specs.declared.view.View.{View}
 use Rattle.history.specs.Held.{claims, frees, Holds}
 use Rattle.history.specs.History.{IsHistory, IsOfParties, Called, IsBeginning}
 use Rattle.history.specs.Indices.{claimed_by, takes_index, gives_index, given_by, gives_or_locks, counts_out, looks_locked}
 use Rattle.history.specs.Known.{events_by}
-use Rattle.history.specs.Stages.{Ends}
+use Rattle.history.specs.Stages.{Calling, Ends}
 use Rattle.history.specs.Views.{joined_view, Looks}
-use Rattle.history.proofs.Drives.{called}
 use Rattle.history.proofs.Held.{held_by, holds_once}
 use Rattle.history.proofs.Indices.{is_index_set}
 use Rattle.lock_free.specs.Unique.Held.{HoldsNothing, IsSound}
+use Rattle.lock_free.proofs.Ends.{has_made}
 use Rattle.lock_free.proofs.Unique.Machine.{holds_right, none_held, held_within}
+use Rattle.lock_free.specs.UniqueIndexSet.{SetId, set_of, view, history, GoesOn}
+use Rattle.lock_free.specs.declared.mpmc.unique_index_set.Pass.{Pass}
 use Rattle.lock_free.specs.Unique.Told.{HasTaken, HasGiven, HasGivenOrLocked, HasCounted, HasLooked, WasFree, Answered}
 
 -- an event of the party stands somewhere
@@ -184,19 +187,12 @@ never_locks index Locked done e = absurd (cc)
 module _ (base w : View ℕ) (m : Unit {0}) (idle : base.going ≡ None) where
   pub taken : (answer : Acquired) → Ends one_word kinds.Indices takes_index base answer m w → HasTaken answer base w
   taken answer ends =
-      record {
-        by = ends.party;
-        mine = ends.mine;
-        called =
-            subst (λ es. Called ends.party (Indices Acquire) (acquire_answer answer) es base w) ends.tells
-            (called one_word kinds.Indices takes_index base w answer m idle ends);
-      }
+      has_made kinds.Indices takes_index base w answer m ends idle (λ by. claimed_by by answer) ends.tells
 
   module _ (i : ℕ) (ends : Ends one_word kinds.Indices takes_index base (Ok i) m w) where
     pub free : WasFree i base w
-    unfolding taken
     free =
-        let p = ends.party in
+        let p = (taken (Ok i) ends).by in
         let c : Called p (Indices Acquire) (Index i) (Claimed p i ∷ []) base w = (taken (Ok i) ends).called in
         let part = find_own p c.during [] (Claimed p i) c.during_own in
         let xs : List (Event ℕ) = base.seen ++ c.others in
@@ -223,9 +219,8 @@ module _ (base w : View ℕ) (m : Unit {0}) (idle : base.going ≡ None) where
 
     -- the pass holds it then
     pub holds : IsSound base → Holds i w.made
-    unfolding taken
     holds was =
-        let p = ends.party in
+        let p = (taken (Ok i) ends).by in
         let c : Called p (Indices Acquire) (Index i) (Claimed p i ∷ []) base w = (taken (Ok i) ends).called in
         let more : List (Event ℕ) = Begun p (Indices Acquire) ∷ (Claimed p i ∷ Finished p (Indices Acquire) (Index i) ∷ []) in
         let it : (i == i) ≡ true = grind (arith, nat_tests) in
@@ -245,44 +240,20 @@ module _ (base w : View ℕ) (m : Unit {0}) (idle : base.going ≡ None) where
 
   pub given : (index : ℕ) (state : ReleaseState) → Ends one_word kinds.Indices (gives_index index) base state m w → HasGiven index state base w
   given index state ends =
-      record {
-        by = ends.party;
-        mine = ends.mine;
-        called =
-            subst (λ es. Called ends.party (Indices (Release index modes.Default)) (State state) es base w) (ends.tells idle)
-            (called one_word kinds.Indices (gives_index index) base w state m idle ends);
-      }
+      has_made kinds.Indices (gives_index index) base w state m ends idle (λ by. Freed by index ∷ []) (ends.tells idle)
 
   pub given_or_locked : (index : ℕ) (state : ReleaseState)
       → Ends one_word kinds.Indices (gives_or_locks index) base state m w → HasGivenOrLocked index state base w
   given_or_locked index state ends =
-      record {
-        by = ends.party;
-        mine = ends.mine;
-        called =
-            subst (λ es. Called ends.party (Indices (Release index modes.LockIfLastIndex)) (State state) es base w)
-            (ends.tells idle) (called one_word kinds.Indices (gives_or_locks index) base w state m idle ends);
-      }
+      has_made kinds.Indices (gives_or_locks index) base w state m ends idle (λ by. given_by by index state) (ends.tells idle)
 
   pub counted : (n : ℕ) → Ends one_word kinds.Indices counts_out base n m w → HasCounted n base w
   counted n ends =
-      record {
-        by = ends.party;
-        mine = ends.mine;
-        called =
-            subst (λ es. Called ends.party (Indices BorrowedIndices) (Number n) es base w) ends.tells
-            (called one_word kinds.Indices counts_out base w n m idle ends);
-      }
+      has_made kinds.Indices counts_out base w n m ends idle (λ by. []) ends.tells
 
   pub looked : (b : Bool) → Ends one_word kinds.Indices looks_locked base b m w → HasLooked b base w
   looked b ends =
-      record {
-        by = ends.party;
-        mine = ends.mine;
-        called =
-            subst (λ es. Called ends.party (Indices IsLocked) (Truth b) es base w) ends.tells
-            (called one_word kinds.Indices looks_locked base w b m idle ends);
-      }
+      has_made kinds.Indices looks_locked base w b m ends idle (λ by. []) ends.tells
 
   pub unlocked : (index : ℕ) (state : ReleaseState) → Ends one_word kinds.Indices (gives_index index) base state m w → state ≡ Unlocked
   unlocked index state ends =
@@ -317,3 +288,16 @@ apart v other w i looks mine theirs =
     let b : sum_by (frees i) w.made ≡ sum_by (frees i) v.made + sum_by (frees i) other.made =
     ap (sum_by (frees i)) looks.made ∙ sum_by-append (frees i) v.made other.made in
     absurd (omega arith)
+
+-- what a call leaves of a pass
+pub goes_on : {C M E : Type 0} {call : Calling ℕ C M E} {old new : Pass} {e : E} {m : M} → set_of new ≡ set_of old
+    → Ends one_word kinds.Indices call (view old) e m (view new) → GoesOn old new
+goes_on {old = old} {new = new} set ends =
+    record {
+      set = set;
+      share = ends.share;
+      sound = sound (view old).capacity (view new) ends.capacity ends.history ends.parties;
+      history =
+          subst (λ n. IsHistory one_word kinds.Indices n (history new)) (old.known ∙ sym (ap (λ (z : SetId). z.capacity) set)) ends.history;
+      all = λ whole. ends.all (subst IsAll ends.share whole);
+    }

@@ -1,23 +1,17 @@
 -- The calls on bit sets as calls of the model: where each stands, and what it has written there.
-use Rattle.std.specs.Prelude.{◌≡◌, ℕ, ◌+◌, ◌<◌, ◌≤◌, Bool, true, false, Option, Some, None, IfSome, List, [], ◌∷◌}
-use Rattle.steps.specs.Bits.Words.{elements}
+use Rattle.std.specs.Prelude.{◌≡◌, ℕ, ◌<◌, ◌≤◌, Bool, true, false, Option, Some, None, IfSome, List, [], ◌∷◌}
 use Rattle.steps.specs.declared.bits.bit_set.Set.{Set as Setting}
 use Rattle.steps.specs.declared.bits.bit_set.ResetNext.{ResetNext as Resetting}
 use Rattle.steps.specs.declared.bits.bit_set.ResetNextStage as resets
-use Rattle.steps.specs.declared.bits.reset_all.ResetAll.{ResetAll as Emptying}
-use Rattle.steps.specs.declared.copied.OneWord.{OneWord}
 use Rattle.model.specs.declared.event.Answer.TheVariants.{Truth}
 use Rattle.model.specs.declared.event.Event.{Event}
 use Rattle.model.specs.declared.event.Event as events
 use Rattle.model.specs.declared.event.Start.TheVariants.{Bits}
-use Rattle.model.specs.declared.families.Flight.{Flight}
 use Rattle.model.specs.declared.families.Flight as flights
 use Rattle.model.specs.declared.families.bits.BitsStart.TheVariants.{Set, ResetNext}
 use Rattle.model.specs.declared.families.bits.calls.BitsFlight as calls
 use Rattle.model.specs.Families.Bits.Calls.{reset_answer}
-use Rattle.model.specs.Families.Bits.Steps.{clear_events}
 use Rattle.history.specs.Stages.{Calling}
-use Rattle.lock_free.specs.Counts.Stages.{empties}
 
 -- the place that it comes to, or has come to, is below the capacity
 abbrev pub ResetStands : ℕ → resets.ResetNextStage → Type 0
@@ -84,13 +78,3 @@ module _ {T : Type 0} where
         wrote_all = λ capacity p from o m es.
             IsPlace capacity o × (from ≡ None → es ≡ reset_wrote p o);
       }
-
-  -- ---- emptying the words
-
-  abbrev pub clearing : Emptying → OneWord → Flight T
-  clearing c m =
-      flights.TheVariants.Bits
-      (calls.TheVariants.ResetAll (record { call = c; given = tt; room = m }))
-
-  abbrev pub clears_all : Calling T Emptying OneWord (Unit {0})
-  clears_all = empties clearing clear_events 1 (λ capacity. 1 + elements capacity)

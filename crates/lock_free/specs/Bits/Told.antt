@@ -1,5 +1,5 @@
 -- What the calls on bit sets add to the history, and what they answer.
-use Rattle.std.specs.Prelude.{◌≡◌, ℕ, ◌<◌, Bool, false, Option, Some, List, [], ◌∷◌, ◌++◌, map}
+use Rattle.std.specs.Prelude.{◌≡◌, ℕ, ◌<◌, Bool, false, Option, List, [], ◌∷◌, ◌++◌, map}
 use Rattle.std.specs.List.{FoldsTo}
 use Rattle.model.specs.declared.event.Answer.TheVariants.{Truth, ResetNone, Done}
 use Rattle.model.specs.declared.event.Event.{Event}
@@ -11,15 +11,14 @@ use Rattle.model.specs.Families.Bits.Promises.{HasCleared}
 use Rattle.model.specs.Families.Bits.Reading.{standing}
 use Rattle.model.specs.Moments.{HeldSometime, SinceBegin}
 use Rattle.history.specs.declared.view.View.{View}
-use Rattle.history.specs.History.{Called}
+use Rattle.lock_free.specs.Driven.{HasMade}
 use Rattle.lock_free.specs.Bits.Callable.{Ascends}
 use Rattle.lock_free.specs.Bits.Stages.{set_wrote, reset_wrote}
 
 -- the call set the place where it answered true, and nothing else
-pub record HasSet (place : ℕ) (answer : Bool) (old new : View ℕ) : Type 0 where
-  pub by : ℕ
-  pub mine : new.party ≡ Some by
-  pub called : Called by (Bits (Set place)) (Truth answer) (set_wrote by place answer) old new
+abbrev pub HasSet : ℕ → Bool → View ℕ → View ℕ → Type 0
+HasSet place answer =
+    HasMade (Bits (Set place)) (Truth answer) (λ by. set_wrote by place answer)
 
 -- the place stood at a moment of the call that ended last
 pub record StoodOnce (place : ℕ) (new : View ℕ) : Type 0 where
@@ -29,10 +28,8 @@ pub record StoodOnce (place : ℕ) (new : View ℕ) : Type 0 where
   pub stood : HeldSometime by (λ part. standing place part ≡ 1) before
 
 -- the call cleared the place that it answers, and nothing else
-pub record HasReset (answer : Option ℕ) (old new : View ℕ) : Type 0 where
-  pub by : ℕ
-  pub mine : new.party ≡ Some by
-  pub called : Called by (Bits ResetNext) (reset_answer answer) (reset_wrote by answer) old new
+abbrev pub HasReset : Option ℕ → View ℕ → View ℕ → Type 0
+HasReset answer = HasMade (Bits ResetNext) (reset_answer answer) (λ by. reset_wrote by answer)
 
 -- each place was clear at some moment of the call that ended last
 pub record AllClearOnce (capacity : ℕ) (new : View ℕ) : Type 0 where
@@ -52,9 +49,7 @@ pub record HasCleanedOut {F : Type 0} (step : F → ℕ → F → Type 0) (capac
   pub ascend : Ascends capacity places
   pub last : F
   pub visited : FoldsTo step visit places last
-  pub by : ℕ
-  pub mine : new.party ≡ Some by
-  pub called : Called by (Bits ResetAll) Done (map (cleared_by by) places) old new
+  pub made : HasMade (Bits ResetAll) Done (λ by. map (cleared_by by) places) old new
 
 -- each place that stood as the call began was cleared since, by it or by another
 pub record MissedNoPlace (capacity : ℕ) (new : View ℕ) : Type 0 where

@@ -1,5 +1,5 @@
 -- What the calls on counting bit sets add to the history, and what they answer.
-use Rattle.std.specs.Prelude.{◌≡◌, ℕ, ◌%◌, ◌^◌, Some, List, [], ◌∷◌, ◌++◌, map}
+use Rattle.std.specs.Prelude.{◌≡◌, ℕ, ◌%◌, ◌^◌, List, [], ◌∷◌, ◌++◌, map}
 use Rattle.std.specs.List.{FoldsTo}
 use Rattle.steps.specs.declared.bits.counting_bit_set.BitState.{BitState}
 use Rattle.model.specs.declared.event.Answer.TheVariants.{Number, Done}
@@ -11,14 +11,13 @@ use Rattle.model.specs.Families.Bits.Promises.{HasTakenOn}
 use Rattle.model.specs.Families.Bits.Reading.{count_at}
 use Rattle.model.specs.Moments.{SinceBegin}
 use Rattle.history.specs.declared.view.View.{View}
-use Rattle.history.specs.History.{Called}
+use Rattle.lock_free.specs.Driven.{HasMade}
 use Rattle.lock_free.specs.Counts.Callable.{CountsAscend}
 
 -- the call counted the place, and answered this number
-pub record HasCounted (place number : ℕ) (old new : View ℕ) : Type 0 where
-  pub by : ℕ
-  pub mine : new.party ≡ Some by
-  pub called : Called by (Bits (Set place)) (Number number) (Counted by place ∷ []) old new
+abbrev pub HasCounted : ℕ → ℕ → View ℕ → View ℕ → Type 0
+HasCounted place number =
+    HasMade (Bits (Set place)) (Number number) (λ by. Counted by place ∷ [])
 
 -- the number is the count just before that, less than 2^64
 pub record AnswersCount (place number : ℕ) (new : View ℕ) : Type 0 where
@@ -38,9 +37,7 @@ pub record HasTakenOut {F : Type 0} (step : F → BitState → F → Type 0) (ca
   pub ascend : CountsAscend capacity states
   pub last : F
   pub visited : FoldsTo step visit states last
-  pub by : ℕ
-  pub mine : new.party ≡ Some by
-  pub called : Called by (Bits ResetAll) Done (map (taken_by by) states) old new
+  pub made : HasMade (Bits ResetAll) Done (λ by. map (taken_by by) states) old new
 
 -- of each place that counted above 0 as the call began something was taken out since, by it or by
 -- another, unless it was counted 2^64 times in all

@@ -1,5 +1,5 @@
 -- What the calls on unique index sets add to the history, and what they answer.
-use Rattle.std.specs.Prelude.{◌≡◌, ℕ, ◌<◌, Bool, false, Some, None, Ok, Err, List, [], ◌∷◌, ◌++◌}
+use Rattle.std.specs.Prelude.{◌≡◌, ℕ, ◌<◌, Bool, false, None, Ok, Err, List, [], ◌∷◌, ◌++◌}
 use Rattle.steps.specs.Indices.Unique.{Acquired}
 use Rattle.steps.specs.declared.indices.enums.ReleaseMode.TheVariants as modes
 use Rattle.steps.specs.declared.indices.enums.ReleaseState.{ReleaseState}
@@ -16,37 +16,31 @@ use Rattle.model.specs.Families.Indices.Calls.{acquire_answer}
 use Rattle.model.specs.Families.Indices.Promises.{AnswersRight}
 use Rattle.model.specs.Families.Indices.Reading.{holder_of, is_locked}
 use Rattle.history.specs.declared.view.View.{View}
-use Rattle.history.specs.History.{Called, IsBeginning}
+use Rattle.history.specs.History.{IsBeginning}
 use Rattle.history.specs.Held.{Holds}
 use Rattle.history.specs.Indices.{claimed_by, given_by}
+use Rattle.lock_free.specs.Driven.{HasMade}
 use Rattle.lock_free.specs.Unique.Held.{HoldsNothing, HoldsAll}
-
--- one call of the history, by a party of the pass, which wrote this
-pub record HasMade (start : IndexStart) (answer : Answer ℕ) (wrote : ℕ → List (Event ℕ))
-    (old new : View ℕ) : Type 0 where
-  pub by : ℕ
-  pub mine : new.party ≡ Some by
-  pub called : Called by (Indices start) answer (wrote by) old new
 
 -- an acquire claims the index that it answers, if any
 abbrev pub HasTaken : Acquired → View ℕ → View ℕ → Type 0
-HasTaken answer = HasMade Acquire (acquire_answer answer) (λ by. claimed_by by answer)
+HasTaken answer = HasMade (Indices Acquire) (acquire_answer answer) (λ by. claimed_by by answer)
 
 -- a release frees it
 abbrev pub HasGiven : ℕ → ReleaseState → View ℕ → View ℕ → Type 0
 HasGiven index state =
-    HasMade (Release index modes.Default) (State state) (λ by. Freed by index ∷ [])
+    HasMade (Indices (Release index modes.Default)) (State state) (λ by. Freed by index ∷ [])
 
 -- and may lock the set, by its answer
 abbrev pub HasGivenOrLocked : ℕ → ReleaseState → View ℕ → View ℕ → Type 0
 HasGivenOrLocked index state =
-    HasMade (Release index modes.LockIfLastIndex) (State state) (λ by. given_by by index state)
+    HasMade (Indices (Release index modes.LockIfLastIndex)) (State state) (λ by. given_by by index state)
 
 abbrev pub HasCounted : ℕ → View ℕ → View ℕ → Type 0
-HasCounted number = HasMade BorrowedIndices (Number number) (λ by. [])
+HasCounted number = HasMade (Indices BorrowedIndices) (Number number) (λ by. [])
 
 abbrev pub HasLooked : Bool → View ℕ → View ℕ → Type 0
-HasLooked locked = HasMade IsLocked (Truth locked) (λ by. [])
+HasLooked locked = HasMade (Indices IsLocked) (Truth locked) (λ by. [])
 
 -- at its claim the index had no holder, and the set was not locked
 pub record WasFree (index : ℕ) (old new : View ℕ) : Type 0 where

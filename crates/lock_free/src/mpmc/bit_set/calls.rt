@@ -4,14 +4,16 @@ ghost use Rattle.steps.specs.Bits.Words.{elements, has_flag as flag_of};
 ghost use Rattle.model.specs.declared.turn.Kind.TheVariants as kinds;
 ghost use Rattle.threaded.specs.Seats.{seen, IsSame, IsAt};
 ghost use Rattle.history.specs.declared.view.View.{View as Views};
-ghost use Rattle.lock_free.specs.Counts.Driven.{IsIdle, HasDone};
-ghost use Rattle.lock_free.specs.Bits.Calls.{capacity_of, IsPassOf, view, GoesOn};
+ghost use Rattle.lock_free.specs.Driven.{IsIdle, HasDone};
+ghost use Rattle.lock_free.specs.Sets.Calls.{capacity_of, IsPassOf, view, GoesOn};
 ghost use Rattle.lock_free.specs.Bits.Callable.{TakesPlaces, Visited};
 ghost use Rattle.lock_free.specs.Bits.Told.{HasSet, StoodOnce, HasReset, AllClearOnce, HasCleanedOut, MissedNoPlace};
 
-use super::drives::{ClearsNone, ResetsBits, ResetsNext, Sets};
-use super::rule::BitsRule;
+use super::drives::{ResetsNext, Sets};
 use super::{BitSet, Pass};
+use crate::mpmc::sets::calls::empty_none;
+use crate::mpmc::sets::drives::Empties;
+use crate::mpmc::sets::rule::{Flags, SetRule};
 use history::view::View;
 use std::sync::Wait;
 use steps::ask::After;
@@ -58,7 +60,7 @@ fn visit_word<F: FnMut(usize)>(mut visit: F, found: u64, first: u64) -> F
 
 /// Resets all places, and calls the closure with each one that stood, after the step that reset it.
 fn clear_all<F: FnMut(usize)>(
-    seated: &mut Seated<View<u64>, u64, BitsRule>,
+    seated: &mut Seated<View<u64>, u32, SetRule<Flags>>,
     capacity: u32,
     mut visit: F,
 )
@@ -73,29 +75,13 @@ fn clear_all<F: FnMut(usize)>(
     let mut room = OneWord(0);
     let mut call = ResetAll::bits(capacity);
     loop {
-        let after = seated.step::<ResetAll, ResetsBits>(call, &(), &mut room);
+        let after = seated.step::<ResetAll, Empties<Flags>>(call, &(), &mut room);
         visit = visit_word(visit, room.0, (call.word as u64 - 1) * 64);
         match after {
             After::GoOn(next) => call = next,
             After::Done(()) => return,
         }
     }
-}
-
-/// The same of a set of no place: one look at a word, and the closure is not called.
-fn clear_none<F: FnMut(usize)>(
-    seated: &mut Seated<View<u64>, u64, BitsRule>,
-    capacity: u32,
-    visit: F,
-)
-    requires table { IsAt (λ (key : ℕ). 1 + elements key + 1) (λ (key : ℕ). key) (λ (v : Views ℕ). v.capacity) seated.old }
-    requires idle { IsIdle capacity (seen seated.old) }
-    requires places { capacity ≡ 0 }
-    ensures same { IsSame seated.old seated.new }
-    ensures done { HasDone kinds.Bits (seen seated.old) (seen seated.new) }
-    ensures cleared { HasCleanedOut (λ p x q. F.step p x tt q) capacity visit (seen seated.old) (seen seated.new) }
-{
-    let _ = seated.table.shared.load::<ClearsNone>(&mut seated.seat, 0);
 }
 
 impl BitSet {
@@ -159,7 +145,7 @@ impl BitSet {
     {
         let capacity = pass.capacity;
         if capacity == 0 {
-            clear_none(&mut pass.seated, capacity, visit);
+            empty_none(&mut pass.seated, capacity);
         } else {
             clear_all(&mut pass.seated, capacity, visit);
         }

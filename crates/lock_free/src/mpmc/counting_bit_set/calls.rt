@@ -1,19 +1,21 @@
 //! The calls on a counting bit set: the calls of `steps`, driven.
-ghost use Rattle.std.specs.Prelude.{◌≡◌, ◌+◌, ◌<◌, ℕ};
+ghost use Rattle.std.specs.Prelude.{◌≡◌, ◌+◌, ◌-◌, ◌^◌, ◌<◌, ℕ};
 ghost use Rattle.model.specs.declared.turn.Kind.TheVariants as kinds;
 ghost use Rattle.threaded.specs.Seats.{seen, IsSame, IsAt};
 ghost use Rattle.history.specs.declared.view.View.{View as Views};
-ghost use Rattle.lock_free.specs.Counts.Calls.{capacity_of, IsPassOf, view, GoesOn};
+ghost use Rattle.lock_free.specs.Sets.Calls.{capacity_of, IsPassOf, view, GoesOn};
 ghost use Rattle.lock_free.specs.Counts.Callable.{TakesCounts};
 ghost use Rattle.lock_free.specs.Counts.Told.{HasCounted, AnswersCount, HasTakenOut, MissedNoCount};
-ghost use Rattle.lock_free.specs.Counts.Driven.{IsIdle, HasDone};
+ghost use Rattle.lock_free.specs.Driven.{IsIdle, HasDone};
 
-use super::drives::{Counts, ResetsCounts, TakesNone};
-use super::rule::CountsRule;
+use super::drives::Raises;
 use super::{CountingBitSet, Pass};
+use crate::mpmc::sets::calls::empty_none;
+use crate::mpmc::sets::drives::Empties;
+use crate::mpmc::sets::rule::{Counts, SetRule};
 use history::view::View;
 use steps::ask::After;
-use steps::bits::counting_bit_set::{BitState, Set};
+use steps::bits::counting_bit_set::{BitState, MAX_COUNT, Set};
 use steps::bits::reset_all::ResetAll;
 use steps::copied::OneWord;
 use steps::routine::Routine;
@@ -37,7 +39,7 @@ fn call_where<F: FnMut(BitState)>(mut visit: F, place: u32, count: u64) -> F
 
 /// Takes all counts out, and calls the closure with each one above 0, after the step that took it out.
 fn take_all<F: FnMut(BitState)>(
-    seated: &mut Seated<View<u64>, u64, CountsRule>,
+    seated: &mut Seated<View<u64>, u32, SetRule<Counts>>,
     capacity: u32,
     mut visit: F,
 )
@@ -52,7 +54,7 @@ fn take_all<F: FnMut(BitState)>(
     let mut room = OneWord(0);
     let mut call = ResetAll::counts(capacity);
     loop {
-        let after = seated.step::<ResetAll, ResetsCounts>(call, &(), &mut room);
+        let after = seated.step::<ResetAll, Empties<Counts>>(call, &(), &mut room);
         visit = call_where(visit, call.word, room.0);
         match after {
             After::GoOn(next) => call = next,
@@ -61,23 +63,14 @@ fn take_all<F: FnMut(BitState)>(
     }
 }
 
-/// The same of a set of no place: one look at a word, and the closure is not called.
-fn take_none<F: FnMut(BitState)>(
-    seated: &mut Seated<View<u64>, u64, CountsRule>,
-    capacity: u32,
-    visit: F,
-)
-    requires table { IsAt (λ (key : ℕ). key + 1) (λ (key : ℕ). key) (λ (v : Views ℕ). v.capacity) seated.old }
-    requires idle { IsIdle capacity (seen seated.old) }
-    requires places { capacity ≡ 0 }
-    ensures same { IsSame seated.old seated.new }
-    ensures done { HasDone kinds.Counts (seen seated.old) (seen seated.new) }
-    ensures taken { HasTakenOut (λ p x q. F.step p x tt q) capacity visit (seen seated.old) (seen seated.new) }
-{
-    let _ = seated.table.shared.load::<TakesNone>(&mut seated.seat, 0);
-}
-
 impl CountingBitSet {
+    /// The greatest count: u64::MAX. After `max_count` of the Rust crate.
+    pub fn max_count() -> u64
+        ensures { result ≡ 2 ^ 64 - 1 }
+    {
+        MAX_COUNT
+    }
+
     /// Adds 1 to the count of the place `id`, which is below the capacity, and answers what it was just before: it wraps
     /// at 2^64. One step. After `set` of the Rust crate.
     pub fn set(&self, id: usize, pass: &mut Pass) -> u64
@@ -88,7 +81,7 @@ impl CountingBitSet {
         ensures answers { AnswersCount id result (view pass.new) }
     {
         let place = id as u64;
-        let old = pass.seated.drive::<Set, Counts>(Set, &place, &mut ());
+        let old = pass.seated.drive::<Set, Raises>(Set, &place, &mut ());
         Set::answer(old, &place, &())
     }
 
@@ -109,7 +102,7 @@ impl CountingBitSet {
     {
         let capacity = pass.capacity;
         if capacity == 0 {
-            take_none(&mut pass.seated, capacity, visit);
+            empty_none(&mut pass.seated, capacity);
         } else {
             take_all(&mut pass.seated, capacity, visit);
         }

@@ -1,15 +1,33 @@
-//! A counting bit set with a pass of it, whose calls ask for no proof.
-ghost use Rattle.lock_free.specs.Counts.Calls.{IsPassOf};
+//! The calls by a handle: those of its set.
+ghost use Rattle.std.specs.Prelude.{◌≡◌, ◌<◌};
+ghost use Rattle.lock_free.specs.Sets.Calls.{capacity_of, GoesOn};
+ghost use Rattle.lock_free.specs.Counts.Callable.{TakesCounts};
+ghost use Rattle.lock_free.specs.Counts.Told.{HasCounted, AnswersCount, HasTakenOut, MissedNoCount};
+ghost use Rattle.lock_free.specs.Sets.Handles.{set_in, pass_in, knows};
 
-use super::{CountingBitSet, Pass};
+use super::{BitState, Handle};
 
-mod calls;
+impl<'a> Handle<'a> {
+    /// As `CountingBitSet::set`.
+    pub fn set(&mut self, id: usize) -> u64
+        requires { id < capacity_of (set_in self.old) }
+        ensures set { set_in self.new ≡ set_in self.old }
+        ensures goes_on { GoesOn (pass_in self.old) (pass_in self.new) }
+        ensures counted { HasCounted id result (knows self.old) (knows self.new) }
+        ensures answers { AnswersCount id result (knows self.new) }
+    {
+        self.set.set(id, &mut self.pass)
+    }
 
-/// A set with a pass of it. Its calls are those of the set, and ask for nothing but a place below the capacity, which
-/// an `if` shows. Each thread has a handle of its own, by `split`. This project's own.
-#[derive(Drop)]
-pub struct Handle<'a> {
-    set: &'a CountingBitSet,
-    pass: Pass,
-    ghost of: { IsPassOf set.now pass },
+    /// As `CountingBitSet::reset_all`.
+    pub fn reset_all<F: FnMut(BitState)>(&mut self, visit: F)
+        requires { TakesCounts F.pre (λ p x q. F.step p x tt q) (capacity_of (set_in self.old)) visit }
+        ensures set { set_in self.new ≡ set_in self.old }
+        ensures goes_on { GoesOn (pass_in self.old) (pass_in self.new) }
+        ensures taken { HasTakenOut (λ p x q. F.step p x tt q) (capacity_of (set_in self.old)) visit
+            (knows self.old) (knows self.new) }
+        ensures stood { MissedNoCount (capacity_of (set_in self.old)) (knows self.new) }
+    {
+        self.set.reset_all(visit, &mut self.pass)
+    }
 }

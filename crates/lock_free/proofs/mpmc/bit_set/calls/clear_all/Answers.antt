@@ -1,22 +1,23 @@
 use Rattle.std.proofs.Common.{refl, sym, subst, ◌∙◌}
 use Rattle.model.specs.Families.Queues.Calls.{fresh}
 use Rattle.threaded.specs.Seats.{seen}
-use Rattle.lock_free.proofs.Bits.Emptying.{clear_keeps}
+use Rattle.lock_free.specs.Sets.Kinds.{Flags}
+use Rattle.lock_free.proofs.Sets.Emptying.{keeps}
 use Rattle.lock_free.proofs.Bits.Cleared.{SoFar, first_so_far, may_visit, so_far_on, cleared_all}
 use Rattle.lock_free.proofs.mpmc.bit_set.calls.clear_all.Goals as goal
 use Rattle.lock_free.proofs.mpmc.bit_set.calls.clear_all.Given as given
 
 pub step-after-requires-clause-rule : goal.step-after-requires-clause-rule
-step-after-requires-clause-rule g c = clear_keeps
+step-after-requires-clause-rule g c = keeps Flags
 
 pub step-after-requires-clause-at : goal.step-after-requires-clause-at
-step-after-requires-clause-at g c = (seen c.args.seated.now, c.loop-next.invariant.2.at)
+step-after-requires-clause-at g c = (seen c.args.seated.now, c.loop-next.invariant.2.call.at)
 
 pub visit_word-visit-requires-clause-visits : goal.visit_word-visit-requires-clause-visits
 visit_word-visit-requires-clause-visits g c n now few stood visited =
     may_visit (λ p x q. given.F-step g p x tt q) c.args.capacity c.args.visit (seen c.args.seated.now)
     (seen c.loop-next.seated) (seen c.step-after.new.self) c.loop-next.call c.loop-next.room c.step-after.new.room
-    c.step-after.ensures.taken.0 c.loop-next.visit c.requires.idle.idle c.loop-next.invariant.2
+    c.step-after.ensures.taken.0 c.loop-next.visit c.loop-next.invariant.2
     c.step-after.ensures.taken.2 c.step-after.result (sym c.step-after.ensures.taken.1)
     c.step-after.ensures.told c.requires.visits n now few stood visited
 
@@ -40,7 +41,7 @@ loop-next-preserved g c = (
   c.step-after.ensures.capacity ∙ c.loop-next.invariant.1,
   so_far_on (λ p x q. given.F-step g p x tt q) c.args.capacity c.args.visit (seen c.args.seated.now)
       (seen c.loop-next.seated) (seen c.step-after.new.self) c.loop-next.call c.loop-next.room c.step-after.new.room
-      c.step-after.ensures.taken.0 c.loop-next.visit c.requires.idle.idle c.loop-next.invariant.2
+      c.step-after.ensures.taken.0 c.loop-next.visit c.loop-next.invariant.2
       c.step-after.ensures.taken.2 c.step-after.result (sym c.step-after.ensures.taken.1) c.step-after.ensures.told
       c.visit_word-visit.result c.visit_word-visit.ensures c.in-GoOn.next c.in-GoOn.is,
 )
@@ -49,7 +50,7 @@ pub returns-in-Done-clause-done : goal.returns-in-Done-clause-done
 returns-in-Done-clause-done g c =
     (cleared_all (λ p x q. given.F-step g p x tt q) c.args.capacity c.args.visit (seen c.args.seated.now)
     (seen c.loop-next.seated) (seen c.step-after.new.self) c.loop-next.call c.loop-next.room c.step-after.new.room
-    c.step-after.ensures.taken.0 c.loop-next.visit c.requires.idle.idle c.loop-next.invariant.2
+    c.step-after.ensures.taken.0 c.loop-next.visit c.loop-next.invariant.2
     c.step-after.ensures.taken.2 c.step-after.result (sym c.step-after.ensures.taken.1) c.step-after.ensures.told
     c.visit_word-visit.result c.visit_word-visit.ensures c.in-Done.is).1
 
@@ -57,6 +58,6 @@ pub returns-in-Done-clause-cleared : goal.returns-in-Done-clause-cleared
 returns-in-Done-clause-cleared g c =
     (cleared_all (λ p x q. given.F-step g p x tt q) c.args.capacity c.args.visit (seen c.args.seated.now)
     (seen c.loop-next.seated) (seen c.step-after.new.self) c.loop-next.call c.loop-next.room c.step-after.new.room
-    c.step-after.ensures.taken.0 c.loop-next.visit c.requires.idle.idle c.loop-next.invariant.2
+    c.step-after.ensures.taken.0 c.loop-next.visit c.loop-next.invariant.2
     c.step-after.ensures.taken.2 c.step-after.result (sym c.step-after.ensures.taken.1) c.step-after.ensures.told
     c.visit_word-visit.result c.visit_word-visit.ensures c.in-Done.is).0

@@ -1,15 +1,13 @@
-use Rattle.std.proofs.Common.{◌≡◌, ◌<◌, ℕ, [], ◌++◌, rules, sym, ap, subst, ◌∙◌, arith}
+use Rattle.std.proofs.Common.{◌≡◌, ◌<◌, ℕ, ◌++◌, rules, sym, ap, subst, ◌∙◌, arith}
 use Rattle.atomic_table.specs.Seated.{TableId}
-use Rattle.atomic_table.specs.Table.{Me, Allows}
 use Rattle.model.specs.Coding.{one_word}
 use Rattle.model.specs.declared.turn.Kind.TheVariants as kinds
 use Rattle.history.specs.declared.view.View.{View}
-use Rattle.history.specs.History.{IsMachine}
 use Rattle.history.specs.Views.{joined_view, Looks}
 use Rattle.threaded.proofs.Shares.{positive}
 use Rattle.history.proofs.Passes.{joins}
-use Rattle.history.proofs.PassLooks.{looks}
 use Rattle.lock_free.specs.Unique.Held.{IsDone}
+use Rattle.lock_free.proofs.Looks.{look_owed}
 use Rattle.lock_free.proofs.Unique.Facts.{apart, sound}
 use Rattle.lock_free.proofs.Unique.Whole.{joined_done}
 use Rattle.lock_free.proofs.mpmc.unique_index_set.Pass.join.Goals as goal
@@ -26,31 +24,22 @@ join_seat-requires c =
           c.args.other.seated.seat.me.0 mine.some.0 c.args.other.some.0 c.args.other.idle mine.alone c.args.other.alone,
     )
 
--- what a look owes, where the seat knows this
-abbrev Owed : ℕ → ℕ → ℕ → ℕ → Me (Unit {0}) (View ℕ) → Type 0
-Owed key slots id word me =
-    Allows (IsMachine one_word kinds.Indices key) slots id me word (λ n. n)
-    (λ found new. Looks one_word kinds.Indices me.0.capacity me.0 new.0 × (new.1 ≡ []))
-
 pub load-requires : goal.load-requires
 load-requires c =
     let mine = c.args.self.now in
-    let w = joined_view mine.seated.seat.me.0 c.args.other.seated.seat.me.0 in
-    let slots = c.deref-2.result.now.shared.table_id.slots in
-    let id = c.join_seat.new.seat.id in
-    let at : c.join_seat.new.seat.table_id ≡ c.deref-2.result.now.shared.table_id = search rules in
-    let size : w.capacity ≡ c.deref-2.result.now.shared.key = search rules in
-    let me : c.join_seat.new.seat.me ≡ (w, []) = search rules in
-    let owed : Owed w.capacity slots id 0 (w, []) =
-    looks one_word kinds.Indices w.capacity slots id 0 w
-    (let more = positive mine.seated.seat.me.0.share.part c.args.other.seated.seat.me.0.share.parts mine.some.0 c.args.other.some.1 in
-    omega arith) in (
+    let v = mine.seated.seat.me.0 in
+    let w = c.args.other.seated.seat.me.0 in
+    let table = c.deref-2.result.now.shared in
+    let at : c.join_seat.new.seat.table_id ≡ table.table_id = search rules in
+    let size : v.capacity ≡ table.key = search rules in
+    let some = positive v.share.part w.share.parts mine.some.0 c.args.other.some.1 in (
       at,
       (let wide = mine.sized in
           let old : c.join_seat.new.seat.table_id ≡ mine.seated.seat.table_id = search rules in
           let same = ap (λ (t : TableId). t.words) (sym at ∙ old) in
           omega arith),
-      subst (λ (m : Me (Unit {0}) (View ℕ)). Owed c.deref-2.result.now.shared.key slots id 0 m) (sym me) (subst (λ k. Owed k slots id 0 (w, [])) size owed),
+      look_owed kinds.Indices table.table_id.slots c.join_seat.new.seat.id 0 table.key (joined_view v w)
+          c.join_seat.new.seat.me (search rules) size mine.idle (omega arith),
     )
 
 pub invariant_of-self-clause-sound : goal.invariant_of-self-clause-sound

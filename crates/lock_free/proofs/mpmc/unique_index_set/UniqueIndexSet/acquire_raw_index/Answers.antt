@@ -3,12 +3,11 @@ use Rattle.steps.specs.Indices.Unique.{first_acquire}
 use Rattle.model.specs.Coding.{one_word}
 use Rattle.model.specs.declared.turn.Kind.TheVariants as kinds
 use Rattle.threaded.specs.Seats.{seen}
-use Rattle.history.specs.History.{IsHistory}
 use Rattle.history.specs.Stages.{At}
 use Rattle.history.specs.Indices.{takes_index}
 use Rattle.history.proofs.IndexCalls.{acquire_keeps, acquire_first}
 use Rattle.lock_free.specs.UniqueIndexSet.{SetId}
-use Rattle.lock_free.proofs.Unique.Facts.{taken, sound}
+use Rattle.lock_free.proofs.Unique.Facts.{taken, sound, goes_on}
 use Rattle.lock_free.proofs.Unique.Whole.{taken_done, acquired_if, refused_if, within_if}
 use Rattle.lock_free.proofs.mpmc.unique_index_set.UniqueIndexSet.acquire_raw_index.Goals as goal
 
@@ -30,16 +29,7 @@ invariant_of-pass-clause-sound g c =
     c.drive_on.ensures.end.history c.drive_on.ensures.end.parties
 
 pub returns-clause-goes_on : goal.returns-clause-goes_on
-returns-clause-goes_on g c =
-    record {
-      set = search rules;
-      share = search rules;
-      history = subst (λ n. IsHistory one_word kinds.Indices n (seen c.drive_on.new.self).seen) c.args.pass.now.known c.drive_on.ensures.end.history;
-      sound =
-          sound (seen c.args.pass.now.seated).capacity (seen c.drive_on.new.self) c.drive_on.ensures.end.capacity
-          c.drive_on.ensures.end.history c.drive_on.ensures.end.parties;
-      all = search rules;
-    }
+returns-clause-goes_on g c = goes_on (search rules) c.drive_on.ensures.end
 
 pub returns-clause-within : goal.returns-clause-within
 returns-clause-within g c =

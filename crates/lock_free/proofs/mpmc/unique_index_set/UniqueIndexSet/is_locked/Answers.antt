@@ -1,10 +1,8 @@
-use Rattle.std.proofs.Common.{rules, subst}
+use Rattle.std.proofs.Common.{rules}
 use Rattle.model.specs.Coding.{one_word}
-use Rattle.model.specs.declared.turn.Kind.TheVariants as kinds
 use Rattle.threaded.specs.Seats.{seen}
-use Rattle.history.specs.History.{IsHistory}
 use Rattle.history.proofs.IndexCalls.{look_keeps, look_first}
-use Rattle.lock_free.proofs.Unique.Facts.{looked, sound, looked_answered}
+use Rattle.lock_free.proofs.Unique.Facts.{looked, sound, looked_answered, goes_on}
 use Rattle.lock_free.proofs.Unique.Whole.{looked_done, looked_nothing, looked_unlocked}
 use Rattle.lock_free.proofs.mpmc.unique_index_set.UniqueIndexSet.is_locked.Goals as goal
 
@@ -23,16 +21,7 @@ invariant_of-pass-clause-sound c =
     c.drive.ensures.end.history c.drive.ensures.end.parties
 
 pub returns-clause-goes_on : goal.returns-clause-goes_on
-returns-clause-goes_on c =
-    record {
-      set = search rules;
-      share = search rules;
-      history = subst (λ n. IsHistory one_word kinds.Indices n (seen c.drive.new.self).seen) c.args.pass.now.known c.drive.ensures.end.history;
-      sound =
-          sound (seen c.args.pass.now.seated).capacity (seen c.drive.new.self) c.drive.ensures.end.capacity
-          c.drive.ensures.end.history c.drive.ensures.end.parties;
-      all = search rules;
-    }
+returns-clause-goes_on c = goes_on (search rules) c.drive.ensures.end
 
 pub returns-clause-looked : goal.returns-clause-looked
 returns-clause-looked c = looked (seen c.args.pass.now.seated) (seen c.drive.new.self) tt c.args.pass.now.idle c.drive.result c.drive.ensures.end

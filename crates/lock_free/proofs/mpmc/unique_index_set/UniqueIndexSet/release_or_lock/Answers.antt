@@ -3,12 +3,11 @@ use Rattle.steps.specs.Indices.Unique.{first_release}
 use Rattle.model.specs.Coding.{one_word}
 use Rattle.model.specs.declared.turn.Kind.TheVariants as kinds
 use Rattle.threaded.specs.Seats.{seen}
-use Rattle.history.specs.History.{IsHistory}
 use Rattle.history.specs.Stages.{At}
 use Rattle.history.specs.Indices.{gives_or_locks}
 use Rattle.history.proofs.IndexCalls.{lock_keeps, lock_first}
 use Rattle.lock_free.specs.UniqueIndexSet.{SetId}
-use Rattle.lock_free.proofs.Unique.Facts.{given_or_locked, sound, locked_answered}
+use Rattle.lock_free.proofs.Unique.Facts.{given_or_locked, sound, locked_answered, goes_on}
 use Rattle.lock_free.proofs.Unique.Whole.{locked_done, locked_nothing, locked_whole}
 use Rattle.lock_free.proofs.mpmc.unique_index_set.UniqueIndexSet.release_or_lock.Goals as goal
 
@@ -31,16 +30,7 @@ invariant_of-pass-clause-sound g c =
     c.drive_on.ensures.end.history c.drive_on.ensures.end.parties
 
 pub returns-clause-goes_on : goal.returns-clause-goes_on
-returns-clause-goes_on g c =
-    record {
-      set = search rules;
-      share = search rules;
-      history = subst (λ n. IsHistory one_word kinds.Indices n (seen c.drive_on.new.self).seen) c.args.pass.now.known c.drive_on.ensures.end.history;
-      sound =
-          sound (seen c.args.pass.now.seated).capacity (seen c.drive_on.new.self) c.drive_on.ensures.end.capacity
-          c.drive_on.ensures.end.history c.drive_on.ensures.end.parties;
-      all = search rules;
-    }
+returns-clause-goes_on g c = goes_on (search rules) c.drive_on.ensures.end
 
 pub returns-clause-given : goal.returns-clause-given
 returns-clause-given g c =

@@ -3,12 +3,11 @@ use Rattle.steps.specs.Indices.Unique.{first_release}
 use Rattle.model.specs.Coding.{one_word}
 use Rattle.model.specs.declared.turn.Kind.TheVariants as kinds
 use Rattle.threaded.specs.Seats.{seen}
-use Rattle.history.specs.History.{IsHistory}
 use Rattle.history.specs.Stages.{At}
 use Rattle.history.specs.Indices.{gives_index}
 use Rattle.history.proofs.IndexCalls.{release_keeps, release_first}
 use Rattle.lock_free.specs.UniqueIndexSet.{SetId}
-use Rattle.lock_free.proofs.Unique.Facts.{given, sound, unlocked}
+use Rattle.lock_free.proofs.Unique.Facts.{given, sound, unlocked, goes_on}
 use Rattle.lock_free.proofs.Unique.Whole.{given_done}
 use Rattle.lock_free.proofs.mpmc.unique_index_set.UniqueIndexSet.release_raw_index.Goals as goal
 
@@ -31,16 +30,7 @@ invariant_of-pass-clause-sound c =
     c.drive.ensures.end.history c.drive.ensures.end.parties
 
 pub returns-clause-goes_on : goal.returns-clause-goes_on
-returns-clause-goes_on c =
-    record {
-      set = search rules;
-      share = search rules;
-      history = subst (λ n. IsHistory one_word kinds.Indices n (seen c.drive.new.self).seen) c.args.pass.now.known c.drive.ensures.end.history;
-      sound =
-          sound (seen c.args.pass.now.seated).capacity (seen c.drive.new.self) c.drive.ensures.end.capacity
-          c.drive.ensures.end.history c.drive.ensures.end.parties;
-      all = search rules;
-    }
+returns-clause-goes_on c = goes_on (search rules) c.drive.ensures.end
 
 pub returns-clause-given : goal.returns-clause-given
 returns-clause-given c = given (seen c.args.pass.now.seated) (seen c.drive.new.self) tt c.args.pass.now.idle c.args.index c.drive.result c.drive.ensures.end

@@ -1,0 +1,53 @@
+-- What is known of a whole call on a set, whichever it is.
+use Rattle.std.proofs.Common.{◌≡◌, ℕ, Option, Some, None, IfSome, List, [], ◌∷◌, ◌++◌, sym, ap, subst, ◌∙◌, append_assoc}
+use Rattle.model.specs.declared.event.Answer.{Answer}
+use Rattle.model.specs.declared.event.Event.{Event}
+use Rattle.model.specs.declared.event.Event.TheVariants.{Begun, Finished}
+use Rattle.model.specs.declared.event.Start.{Start}
+use Rattle.model.specs.declared.turn.Kind.{Kind}
+use Rattle.model.specs.Coding.{one_word}
+use Rattle.history.specs.declared.view.View.{View}
+use Rattle.history.specs.History.{Called}
+use Rattle.history.specs.Stages.{Calling, Ends}
+use Rattle.history.proofs.Drives.{called}
+use Rattle.lock_free.specs.Driven.{HasDone, HasMade}
+
+module _ {C M E : Type 0} (kind : Kind) (call : Calling ℕ C M E)
+    (own : (o : Option ℕ) (p : ℕ) → call.by o p → IfSome o (λ q. q ≡ p)) (base w : View ℕ) (e : E) (m : M)
+    (ends : Ends one_word kind call base e m w) where
+  pub done : HasDone kind base w
+  done =
+      record {
+        capacity = ends.capacity;
+        share = ends.share;
+        party = go base.party (own base.party ends.party ends.same);
+        idle = ends.idle;
+        alone = ends.alone;
+        history = ends.history;
+        all = ends.all;
+      }
+    where
+      go : (o : Option ℕ) → IfSome o (λ p. p ≡ ends.party) → IfSome o (λ p. w.party ≡ Some p)
+      go None h = tt
+      go (Some p) h = ends.mine ∙ ap Some (sym h)
+
+module _ {C M E : Type 0} (kind : Kind) (call : Calling ℕ C M E) (base w : View ℕ) (e : E) (m : M) (ends : Ends one_word kind call base e m w)
+    (idle : base.going ≡ None) (wrote : ℕ → List (Event ℕ)) where
+  pub has_made : ends.wrote ≡ wrote ends.party → HasMade call.start (call.answer e m) wrote base w
+  has_made tells =
+      record {
+        by = ends.party;
+        mine = ends.mine;
+        called =
+            subst (λ es. Called ends.party call.start (call.answer e m) es base w) tells (called one_word kind call base w e m idle ends);
+      }
+
+-- all that was seen before the end of the call
+abbrev pub before_end : {p : ℕ} {start : Start ℕ} {answer : Answer ℕ} {wrote : List (Event ℕ)} {old new : View ℕ}
+    → Called p start answer wrote old new → List (Event ℕ)
+before_end {p} {start} {answer} {wrote} {old} {new} c = (old.seen ++ c.others) ++ Begun p start ∷ c.during
+
+pub to_end : {p : ℕ} {start : Start ℕ} {answer : Answer ℕ} {wrote : List (Event ℕ)} {old new : View ℕ}
+    (c : Called p start answer wrote old new)
+    → new.seen ≡ before_end c ++ Finished p start answer ∷ []
+to_end {p} {start} {answer} {wrote} {old} {new} c = c.is ∙ sym (append_assoc (old.seen ++ c.others) (Begun p start ∷ c.during) (Finished p start answer ∷ []))

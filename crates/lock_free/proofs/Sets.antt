@@ -1,0 +1,4 @@
+-- The call that empties a set, of flags or of counts, and what is known of a whole call on either.
+pub mod Opens
+pub mod Emptying
+pub mod Emptied

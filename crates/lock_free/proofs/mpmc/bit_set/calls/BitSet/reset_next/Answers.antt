@@ -1,0 +1,30 @@
+use Rattle.std.proofs.Common.{refl, sym, subst, ap, ◌∙◌}
+use Rattle.steps.specs.Bits.BitSet.{first_reset}
+use Rattle.model.specs.Coding.{one_word}
+use Rattle.model.specs.declared.turn.Kind.TheVariants as kinds
+use Rattle.threaded.specs.Seats.{seen}
+use Rattle.history.specs.Stages.{At}
+use Rattle.lock_free.specs.Bits.Stages.{resets_next}
+use Rattle.lock_free.specs.Sets.Calls.{SetId}
+use Rattle.lock_free.specs.Bits.Told.{AllClearOnce}
+use Rattle.lock_free.proofs.Bits.Resetting.{next_keeps, next_first, all_clear}
+use Rattle.lock_free.proofs.mpmc.bit_set.calls.BitSet.reset_next.Goals as goal
+
+pub drive_on-end-requires-clause-rule : goal.drive_on-end-requires-clause-rule
+drive_on-end-requires-clause-rule g c = next_keeps
+
+pub drive_on-end-requires-clause-at : goal.drive_on-end-requires-clause-at
+drive_on-end-requires-clause-at g c =
+    let mine = c.args.pass.now in
+    let v = seen mine.seated in
+    subst (λ call. At one_word kinds.Bits resets_next v v call _) (ap first_reset mine.known ∙ sym c.new-call.ensures)
+    (next_first v _ (record { known = refl; idle = mine.idle; alone = mine.alone; some = mine.some.0 }))
+
+pub returns-in-None-clause-clear : goal.returns-in-None-clause-clear
+returns-in-None-clause-clear g c none =
+    let mine = c.args.pass.now in
+    let base = seen mine.seated in
+    let w = seen c.drive_on-end.new.self in
+    subst (λ n. AllClearOnce n w) (mine.known ∙ ap (λ (z : SetId). z.capacity) c.requires)
+    (all_clear base w c.drive_on-end.result c.drive_on-end.new.room mine.idle c.drive_on-end.ensures.end
+    (sym c.answer.ensures ∙ c.in-None.is))

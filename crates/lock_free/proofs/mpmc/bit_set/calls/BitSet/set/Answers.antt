@@ -1,0 +1,45 @@
+use Rattle.std.proofs.Common.{rules, ◌<◌, refl, sym, ap, subst, ◌∙◌}
+use Rattle.model.specs.Coding.{one_word}
+use Rattle.model.specs.declared.turn.Kind.TheVariants as kinds
+use Rattle.threaded.specs.Seats.{seen}
+use Rattle.history.specs.History.{IsHistory}
+use Rattle.history.specs.Stages.{At}
+use Rattle.lock_free.specs.Bits.Stages.{sets_place}
+use Rattle.lock_free.specs.Sets.Calls.{SetId}
+use Rattle.lock_free.specs.Bits.Told.{HasSet}
+use Rattle.lock_free.proofs.Bits.Setting.{set_keeps, set_first, added, stood}
+use Rattle.lock_free.proofs.mpmc.bit_set.calls.BitSet.set.Goals as goal
+
+pub drive_on-end-requires-clause-rule : goal.drive_on-end-requires-clause-rule
+drive_on-end-requires-clause-rule g c = set_keeps c.args.id
+
+pub drive_on-end-requires-clause-at : goal.drive_on-end-requires-clause-at
+drive_on-end-requires-clause-at g c =
+    let mine = c.args.pass.now in
+    let v = seen mine.seated in
+    subst (λ call. At one_word kinds.Bits (sets_place c.args.id) v v call _) (sym c.new.ensures)
+    (set_first c.args.id v _ (record { known = refl; idle = mine.idle; alone = mine.alone; some = mine.some.0 })
+    (subst (λ n. c.args.id < n) (sym (mine.known ∙ ap (λ (z : SetId). z.capacity) c.requires.pass)) c.requires.place))
+
+pub returns-clause-goes_on : goal.returns-clause-goes_on
+returns-clause-goes_on g c =
+    record {
+      set = search rules;
+      share = search rules;
+      party = search rules;
+      history = subst (λ n. IsHistory one_word kinds.Bits n (seen c.drive_on-end.new.self).seen) c.args.pass.now.known c.drive_on-end.ensures.end.history;
+      all = search rules;
+    }
+
+pub returns-clause-added : goal.returns-clause-added
+returns-clause-added g c =
+    let base = seen c.args.pass.now.seated in
+    let w = seen c.drive_on-end.new.self in
+    subst (λ b. HasSet c.args.id b base w) (sym c.answer.ensures)
+    (added c.args.id base w c.drive_on-end.result c.drive_on-end.new.room c.args.pass.now.idle c.drive_on-end.ensures.end)
+
+pub returns-clause-stood : goal.returns-clause-stood
+returns-clause-stood g c not =
+    let base = seen c.args.pass.now.seated in
+    let w = seen c.drive_on-end.new.self in
+    stood c.args.id base w c.drive_on-end.result c.drive_on-end.new.room c.args.pass.now.idle c.drive_on-end.ensures.end (sym c.answer.ensures ∙ not)

@@ -1,0 +1,43 @@
+use Rattle.std.proofs.Common.{rules, ◌<◌, refl, sym, ap, subst, ◌∙◌}
+use Rattle.model.specs.Coding.{one_word}
+use Rattle.model.specs.declared.turn.Kind.TheVariants as kinds
+use Rattle.threaded.specs.Seats.{seen}
+use Rattle.history.specs.History.{IsHistory}
+use Rattle.lock_free.specs.Sets.Calls.{SetId}
+use Rattle.lock_free.specs.Counts.Told.{HasCounted, AnswersCount}
+use Rattle.lock_free.proofs.Counts.Counting.{count_keeps, count_first, counted, answers}
+use Rattle.lock_free.proofs.mpmc.counting_bit_set.calls.CountingBitSet.set.Goals as goal
+
+pub drive-old-requires-clause-rule : goal.drive-old-requires-clause-rule
+drive-old-requires-clause-rule c = count_keeps c.args.id
+
+pub drive-old-requires-clause-at : goal.drive-old-requires-clause-at
+drive-old-requires-clause-at c =
+    let mine = c.args.pass.now in
+    count_first c.args.id (seen mine.seated) _ _
+    (record { known = refl; idle = mine.idle; alone = mine.alone; some = mine.some.0 })
+    (subst (λ n. c.args.id < n) (sym (mine.known ∙ ap (λ (z : SetId). z.capacity) c.requires.pass)) c.requires.place)
+
+pub returns-clause-goes_on : goal.returns-clause-goes_on
+returns-clause-goes_on c =
+    record {
+      set = search rules;
+      share = search rules;
+      party = search rules;
+      history = subst (λ n. IsHistory one_word kinds.Counts n (seen c.drive-old.new.self).seen) c.args.pass.now.known c.drive-old.ensures.end.history;
+      all = search rules;
+    }
+
+pub returns-clause-counted : goal.returns-clause-counted
+returns-clause-counted c =
+    let base = seen c.args.pass.now.seated in
+    let w = seen c.drive-old.new.self in
+    subst (λ n. HasCounted c.args.id n base w) (sym c.answer.ensures)
+    (counted c.args.id base w c.drive-old.result c.drive-old.new.room c.args.pass.now.idle c.drive-old.ensures.end)
+
+pub returns-clause-answers : goal.returns-clause-answers
+returns-clause-answers c =
+    let base = seen c.args.pass.now.seated in
+    let w = seen c.drive-old.new.self in
+    subst (λ n. AnswersCount c.args.id n w) (sym c.answer.ensures)
+    (answers c.args.id base w c.drive-old.result c.drive-old.new.room c.args.pass.now.idle c.drive-old.ensures.end)

@@ -1,0 +1,47 @@
+use Rattle.std.proofs.Common.{◌≡◌, ◌<◌, ℕ, [], rules, refl, sym, subst, ◌∙◌, arith}
+use Rattle.atomic_table.specs.Table.{Me, Allows}
+use Rattle.atomic_table.specs.Seated.{TableId}
+use Rattle.model.specs.Coding.{one_word}
+use Rattle.threaded.specs.Seats.{seen}
+use Rattle.history.specs.declared.view.View.{View}
+use Rattle.history.specs.History.{IsMachine}
+use Rattle.history.specs.Stages.{Ends}
+use Rattle.lock_free.specs.Sets.Kinds.{SetKind, machine_of}
+use Rattle.lock_free.specs.Sets.Stages.{empties_none}
+use Rattle.lock_free.proofs.Ends.{done, has_made}
+use Rattle.lock_free.proofs.Sets.Emptying.{none_at}
+use Rattle.lock_free.proofs.mpmc.sets.calls.empty_none.Goals as goal
+
+-- what one look owes, where the seat knows this
+abbrev Owed : SetKind → ℕ → ℕ → ℕ → Me (Unit {0}) (View ℕ) → Type 0
+Owed kind key slots id me =
+    Allows (IsMachine one_word (machine_of kind) key) slots id me 0 (λ n. n)
+    (λ found new. Ends one_word (machine_of kind) (empties_none kind) me.0 tt (record { 0 = 0 }) new.0 × (new.1 ≡ []))
+
+pub load-requires : goal.load-requires
+load-requires g c =
+    let kind = g.E.Kind.KIND in
+    let t = c.args.seated.now in
+    let v = seen t in
+    let table = c.deref.result.now.shared in
+    let size : v.capacity ≡ table.key = search rules in
+    let me : t.seat.me ≡ (v, []) = λ i. (v, t.bare i) in
+    let owed : Owed kind v.capacity table.table_id.slots t.seat.id (v, []) =
+    none_at kind v (record { known = refl; idle = c.requires.idle.idle; alone = c.requires.idle.alone; some = c.requires.idle.some })
+    (c.requires.idle.known ∙ c.requires.places) table.table_id.slots t.seat.id 0 in (
+      search rules,
+      (let wide = c.requires.table.0 in let at : t.seat.table_id ≡ table.table_id = search rules in subst (λ (z : TableId). 0 < z.words) at (omega arith)),
+      subst (λ (m : Me (Unit {0}) (View ℕ)). Owed kind table.key table.table_id.slots t.seat.id m) (sym me)
+          (subst (λ k. Owed kind k table.table_id.slots t.seat.id (v, [])) size owed),
+    )
+
+pub returns-clause-done : goal.returns-clause-done
+returns-clause-done g c =
+    done (machine_of g.E.Kind.KIND) (empties_none g.E.Kind.KIND) (λ o p h. h) (seen c.args.seated.now) c.load.new.seat.me.0 tt
+    (record { 0 = 0 }) c.load.ensures.2.0
+
+pub returns-clause-called : goal.returns-clause-called
+returns-clause-called g c =
+    let ends = c.load.ensures.2.0 in
+    has_made (machine_of g.E.Kind.KIND) (empties_none g.E.Kind.KIND) (seen c.args.seated.now) c.load.new.seat.me.0 tt
+    (record { 0 = 0 }) ends c.requires.idle.idle (λ by. []) ends.tells

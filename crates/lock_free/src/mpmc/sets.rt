@@ -1,0 +1,55 @@
+//! What bit sets and counting bit sets have in common: what threads share, what each of them holds, and the calls but
+//! those on places. Both are this with a kind E; the modules `bit_set` and `counting_bit_set` have names of their own for it.
+ghost use Rattle.std.specs.Prelude.{◌≡◌, ◌<◌, ◌+◌, [], None};
+ghost use Rattle.std.specs.Arc.{arc_value};
+ghost use Rattle.lock_free.specs.Sets.Kinds.{words_of};
+
+use self::rule::{Kind, SetRule};
+use atomic_table::{Table, TableRule};
+use history::view::View;
+use std::alloc::Global;
+use std::marker::PhantomData;
+use std::sync::Arc;
+use threaded::driver::seated::Seated;
+
+pub(crate) mod calls;
+pub(crate) mod drives;
+mod fixed;
+mod handles;
+mod make;
+mod passes;
+pub mod rule;
+
+pub use handles::Handle;
+
+/// A set of places, which threads share by reference.
+#[derive(Drop)]
+pub struct Set<E: Kind> {
+    table: Arc<Table<(), View<u64>, u32, SetRule<E>, Global>, Global>,
+    capacity: u32,
+}
+
+/// The same for CAPACITY places. It is used as the set that it has.
+#[derive(Drop)]
+pub struct FixedSize<E: Kind, const CAPACITY: usize> {
+    set: Set<E>,
+    ghost sized: { set.capacity ≡ CAPACITY },
+}
+
+/// What a caller makes each call on a set with: it says which set it is for, how much of the set's history it has seen,
+/// and what of it is its own doing. Each call is made with a pass of its set, which is the caller's concern. This
+/// project's own. (Its values and its rule are parameters: only so can its size be told by the kind.)
+#[derive(Drop)]
+pub struct Held<E: Kind, T, Q: TableRule<(), View<T>, u32>> {
+    pub of: PhantomData<E>,
+    pub(crate) seated: Seated<View<T>, u32, Q>,
+    pub(crate) capacity: u32,
+    ghost sized: { seated.seat.table_id.words ≡ words_of E.KIND capacity + 1 },
+    ghost keyed: { (arc_value seated.table).shared.key ≡ capacity },
+    ghost known: { seated.seat.me.0.capacity ≡ capacity },
+    ghost idle: { seated.seat.me.0.going ≡ None },
+    ghost alone: { seated.seat.me.0.other ≡ [] },
+    ghost some: { (0 < seated.seat.me.0.share.part) × (0 < seated.seat.me.0.share.parts) },
+}
+
+pub type Pass<E> = Held<E, u64, SetRule<E>>;

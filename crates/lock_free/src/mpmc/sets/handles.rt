@@ -1,0 +1,16 @@
+//! A set with a pass of it, whose calls ask for no proof.
+ghost use Rattle.lock_free.specs.Sets.Calls.{IsPassOf};
+
+use super::rule::Kind;
+use super::{Pass, Set};
+
+mod calls;
+
+/// A set with a pass of it. Its calls are those of the set, and ask for nothing but a place below the capacity, which
+/// an `if` shows. Each thread has a handle of its own, by `split`. This project's own.
+#[derive(Drop)]
+pub struct Handle<'a, E: Kind> {
+    pub(crate) set: &'a Set<E>,
+    pub(crate) pass: Pass<E>,
+    ghost of: { IsPassOf set.now pass },
+}

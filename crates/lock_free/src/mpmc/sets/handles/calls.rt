@@ -1,0 +1,50 @@
+//! The calls by a handle: those of its set.
+ghost use Rattle.std.specs.Prelude.{◌≡◌, IfSome, IfNone};
+ghost use Rattle.lock_free.specs.Sets.Calls.{capacity_of, IsPassOf};
+ghost use Rattle.history.specs.Passes.{HasSplit};
+ghost use Rattle.lock_free.specs.Sets.Handles.{set_in, pass_in, knows};
+
+use super::Handle;
+use crate::mpmc::sets::rule::Kind;
+use crate::mpmc::sets::{Pass, Set};
+
+impl<E: Kind> Set<E> {
+    /// A handle: this set with a pass of it. No atomic step. This project's own.
+    pub fn handle(&self, pass: Pass<E>) -> Handle<'_, E>
+        requires { IsPassOf self.now pass }
+        ensures set { set_in result ≡ self.now }
+        ensures pass { pass_in result ≡ pass }
+    {
+        Handle { set: self, pass }
+    }
+}
+
+impl<'a, E: Kind> Handle<'a, E> {
+    /// The pass. No atomic step.
+    pub fn into_pass(self) -> Pass<E>
+        ensures { result ≡ pass_in self.entry }
+    {
+        self.pass
+    }
+
+    /// A further handle of the set, with a pass that has seen the same and made nothing, as by `Pass::split`.
+    pub fn split(&mut self) -> Option<Handle<'a, E>>
+        ensures set { set_in self.new ≡ set_in self.old }
+        ensures new { IfSome result (λ h. set_in h ≡ set_in self.old) }
+        ensures cut { IfSome result (λ h. HasSplit (knows self.old) (knows self.new) (knows h)) }
+        ensures none { IfNone result (knows self.new ≡ knows self.old) }
+    {
+        let pass = self.pass.split()?;
+        Some(Handle {
+            set: self.set,
+            pass,
+        })
+    }
+
+    /// As `capacity` of its set.
+    pub fn capacity(&self) -> usize
+        ensures { result ≡ capacity_of (set_in self.now) }
+    {
+        self.set.capacity()
+    }
+}

@@ -1,0 +1,55 @@
+//! How passes are made of one another.
+ghost use Rattle.std.specs.Prelude.{◌≡◌, IfSome, IfNone};
+ghost use Rattle.history.specs.Passes.{HasSplit, HasJoined};
+ghost use Rattle.lock_free.specs.Sets.Calls.{set_of, view, HasHistory, MissesNothing};
+
+use super::drives::Look;
+use super::rule::{Kind, SetRule};
+use super::{Held, Pass};
+use history::plays::{Both, Cut};
+use std::marker::PhantomData;
+use std::sync::Arc;
+use threaded::driver::seated::Seated;
+
+impl<E: Kind> Held<E, u64, SetRule<E>> {
+    /// A new pass of the same set, which has seen the same and made nothing. None, and nothing changes, where no further
+    /// pass can be counted (no clause says when). This project's own.
+    pub fn split(&mut self) -> Option<Pass<E>>
+        ensures set { set_of self.new ≡ set_of self.old }
+        ensures new { IfSome result (λ p. set_of p ≡ set_of self.old) }
+        ensures cut { IfSome result (λ p. HasSplit (view self.old) (view self.new) (view p)) }
+        ensures none { IfNone result (view self.new ≡ view self.old) }
+    {
+        let seated = &mut self.seated;
+        let Ok(table) = Arc::try_clone(&seated.table) else {
+            return None;
+        };
+        let seat = seated.table.shared.split_seat::<Cut>(&mut seated.seat);
+        Some(Held {
+            of: PhantomData,
+            seated: Seated { seat, table },
+            capacity: self.capacity,
+        })
+    }
+
+    /// Takes in the other pass of the set, and sees a history that goes on from both. With the whole share one of the two
+    /// had seen all of it, and each event in it was made by one of them. This project's own.
+    pub fn join(&mut self, other: Pass<E>)
+        requires { set_of other ≡ set_of self.old }
+        ensures set { set_of self.new ≡ set_of self.old }
+        ensures joined { HasJoined (view self.old) (view other) (view self.new) }
+        ensures history { HasHistory self.new }
+        ensures all { MissesNothing self.new }
+    {
+        let Held { seated: other, .. } = other;
+        let Seated { seat, .. } = other;
+        let capacity = self.capacity;
+        let seated = &mut self.seated;
+        seated
+            .table
+            .shared
+            .join_seat::<Both>(&mut seated.seat, seat);
+        let last = E::words(capacity);
+        let _ = seated.table.shared.load::<Look<E>>(&mut seated.seat, last);
+    }
+}
