@@ -23,14 +23,14 @@ pub record SetState (T : Type 0) : Type 0 where
 -- what is said of one of the two kinds
 pub record SetKind (T : Type 0) : Type 1 where
   pub kind : Kind
-  pub own : is_loan kind ≡ false  -- it is made with one number
+  pub own : is_loan kind ≡ false  -- it is no loan channel
   pub promise : Promise T
   pub Holds : ℕ → List ℕ → List (Event T) → ℕ → Type 0  -- what is so of the words and of the events, at this capacity and after so many turns
   -- what a turn conserves from there, after so many changes, that comes to these words with these events and to so many
   -- changes
   pub Conserves : ℕ → List ℕ → List (Event T) → ℕ → ℕ → List ℕ → List (Event T) → ℕ → Type 0
   pub wrote : ℕ → BitsFlight → Span T → List (Event T)  -- what a party's call under way has written, where this is its span
-  pub number : BitsFlight → ℕ → ℕ  -- how many steps it has taken at most, having conserves back so often
+  pub number : BitsFlight → ℕ → ℕ  -- how many steps it has taken at most, having turned back so often
   pub At : ℕ → List (Event T) → BitsStart → BitsFlight → Type 0  -- where it stands, having written this
   pub Knows : ℕ → List (Event T) → List ℕ → ℕ → ℕ → ℕ → BitsFlight → Type 0  -- what it knows of the events and of the counts
 

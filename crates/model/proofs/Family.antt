@@ -38,10 +38,10 @@ pub record Scene (T State : Type 0) : Type 0 where
   pub events : List (Event T)
   pub turns : ℕ
 
--- what a family says of itself, where values are written so and the capacity is this
+-- what a family says of itself, for each coding and each capacity
 pub record Outline (T : Type 0) : Type 1 where
   pub kind : Kind
-  pub alone : is_loan kind ≡ false  -- it is made with one number
+  pub alone : is_loan kind ≡ false  -- it is no loan channel, which alone is made with two numbers
   pub promise : Promise T
   pub State : Type 0
   pub words : State → List ℕ  -- the words that hold it
@@ -51,8 +51,8 @@ pub record Outline (T : Type 0) : Type 1 where
   pub number : Coding T → ℕ → Flight T → ℕ → ℕ  -- how many steps it has taken at most, having turned back so often
   pub At : Coding T → ℕ → State → ℕ → Start T → Flight T → Type 0  -- where it stands
   pub Knows : Coding T → ℕ → State → ℕ → List (Event T) → ℕ → ℕ → ℕ → Flight T → Type 0  -- what it knows of the events and of the counts
-  -- what a turn of the scene's party conserves that comes to this state, from this call under way to the party so, with
-  -- these events and so many changes
+  -- what a turn of the scene's party conserves that makes the state this, where its call under way was this one, if any,
+  -- leaves the party so and writes these events; words have then changed so often
   pub Conserves : Scene T State → State → Option (Flight T) → Party T → List (Event T) → ℕ → Type 0
 
 module _ {T : Type 0} (K : Outline T) where

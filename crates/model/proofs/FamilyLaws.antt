@@ -71,7 +71,7 @@ module _ {T : Type 0} (K : Outline T) where
   pub only_effects : (t : Trace T) (p : ℕ) (step : Step (Flight T) (Registry T) T) → AllByRecursion (IsEffectOf (Next p)) step.wrote → Writes t p step
   only_effects t p step all = record { effects = step.wrote; acts = []; is = sym (append-nil step.wrote); are_effects = all; are_acts = tt; right = tt }
 
-  -- of the machine at the opening
+  -- what a family owes of its machine at the opening
   pub record Opens (code : Coding T) (c : ℕ) : Type 0 where
     pub state : K.State
     pub kept : (opening_of K.kind).kept c ≡ K.kept state
@@ -90,6 +90,7 @@ module _ {T : Type 0} (K : Outline T) where
         inv = record { spans = Each-nil _; calls = λ p. refl; knows = λ p. tt };
       }
 
+  -- what it owes at this coding and this capacity
   pub record Owed (code : Coding T) (c : ℕ) (May : Trace T → Turn T → Type 0) : Type 1 where
     pub promise : promise_of {T = T} K.kind ≡ K.promise
     pub holds : (scene : Scene T K.State) (s' : K.State) (was : Option (Flight T)) (y : Party T) (es : List (Event T)) (changes' : ℕ)
@@ -113,6 +114,7 @@ module _ {T : Type 0} (K : Outline T) where
     pub writes : (t : Trace T) (s : Sound (family K code c) t) (p : ℕ) (x : Party T) (since : ℕ) → t.world.turns < 2 ^ 64 - 2
         → (start : Start T) (flight : Flight T) → StandsThere (family K code c) t s p x since start flight
         → Writes t p (step_from t p t.world.coding (K.words s.state) (K.kept s.state) start flight)
+    -- how a call goes on depends on no word, and on nothing that stands beside it
     pub told : (s : K.State) (p : ℕ) (start : Start T) (flight : Flight T) → K.At code c s p start flight
         → (words : List ℕ) (beside : Option (ℕ × ℕ)) (answer : ℕ)
         → (step_of code words beside p start flight answer (K.kept s)).after ≡ goes_of code p flight answer (K.kept s)

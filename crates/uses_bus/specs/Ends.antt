@@ -111,7 +111,7 @@ receives_queue s = consumer_queue s.inlet.receives
 abbrev pub returns_queue : Subscriber → QueueId
 returns_queue s = producer_queue s.inlet.returns
 
--- nothing waited, as ever in a queue that has no room, or what came is no slot
+-- nothing waited; or the queue has no room at all, and nothing is written; or what came is no slot
 abbrev pub ReceivedNone : Subscriber → Subscriber → Type 0
 ReceivedNone old new =
     FoundNone (receives_view old) (receives_view new)

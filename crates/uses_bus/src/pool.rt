@@ -185,7 +185,8 @@ impl<'a> Pool<'a> {
         }
     }
 
-    /// How many slots are out: at least those that somebody holds, and just those where nobody else has a share of the set.
+    /// How many slots are out: at least those that somebody holds, at most all, and just those where nobody else has a share of
+    /// the set.
     pub fn borrowed(&mut self) -> usize
         ensures table { table_of self.new ≡ table_of self.old }
         ensures least { held_number (table_of self.old) ≤ result }

@@ -199,8 +199,8 @@ impl<'a> Publisher<'a> {
         self.pool.is_free()
     }
 
-    /// How many slots are not free: at least those that somebody holds, and just those where nobody else has a share of the
-    /// pool.
+    /// How many slots are not free: at least those that somebody holds, at most all, and just those where nobody else has a
+    /// share of the pool.
     pub fn borrowed(&mut self) -> usize
         ensures table { table_of self.new ≡ table_of self.old }
         ensures least { held_number (table_of self.old) ≤ result }

@@ -113,7 +113,7 @@ pub struct Subscriber<'a> {
 impl<'a> Subscriber<'a> {
     ghost use Rattle.uses_bus.specs.Ends.{received, receives_view, returns_view, slots_at, words_at, ReceivedNone, TookNoneBack};
 
-    /// The oldest record that waits. None where none does.
+    /// The oldest record that waits. None where none does, or where what came is no slot, and is gone.
     pub fn receive(&mut self, rt: &impl Wait) -> Option<Sample>
         ensures within { IfSome result (λ s. received s < slots_at self.old) }
         ensures oldest { IfSome result
@@ -139,7 +139,8 @@ impl<'a> Subscriber<'a> {
         self.records.read(sample.slot, at)
     }
 
-    /// Gives a record back: true, since there is room for each slot.
+    /// Gives a record back: true, since there is room for each slot (by no clause); false only where the queue is full, or at
+    /// its last position.
     pub fn give_back(&mut self, sample: Sample) -> bool
         ensures given { IsTrue result
             → HasPublished (Index (received sample)) (returns_view self.old) (returns_view self.new) }

@@ -18,7 +18,7 @@ abbrev pub first_word : SetKind → ℕ
 first_word Flags = 1
 first_word Counts = 0
 
--- how many words it has, without the one more by which passes are split
+-- how many words it has, without the one more that a pass can be split at where these are none
 abbrev pub words_of : SetKind → ℕ → ℕ
 words_of Flags capacity = 1 + elements capacity
 words_of Counts capacity = capacity

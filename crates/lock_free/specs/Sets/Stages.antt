@@ -74,7 +74,7 @@ module _ {T : Type 0} where
             → es ≡ emptied kind p (word_of (first_word kind) from) m.0;
       }
 
-  -- where there is no word, it is done at once
+  -- where there is no word to empty, it is done at once
   abbrev pub empties_none : SetKind → Calling T Emptying OneWord (Unit {0})
   empties_none kind =
       record {

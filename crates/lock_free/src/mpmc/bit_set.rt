@@ -14,8 +14,11 @@ pub type BitSet = sets::Set<Flags>;
 /// `FixedSizeBitSet` of the Rust crate.
 pub type FixedSizeBitSet<const CAPACITY: usize> = sets::FixedSize<Flags, CAPACITY>;
 
-/// What a caller makes each call on a bit set with.
+/// What a caller makes each call on a bit set with: it says which set it is for, how much of the set's history it has
+/// seen, and what of it is its own doing. Each call is made with a pass of its set, which is the caller's concern. This
+/// project's own.
 pub type Pass = sets::Pass<Flags>;
 
-/// A bit set with a pass of it, whose calls ask for no proof.
+/// A bit set with a pass of it, whose calls ask for no proof. Each thread has one of its own, by `split`. This project's
+/// own.
 pub type Handle<'a> = sets::Handle<'a, Flags>;

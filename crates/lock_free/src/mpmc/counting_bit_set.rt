@@ -14,8 +14,11 @@ pub type CountingBitSet = sets::Set<Counts>;
 /// `FixedSizeCountingBitSet` of the Rust crate.
 pub type FixedSizeCountingBitSet<const CAPACITY: usize> = sets::FixedSize<Counts, CAPACITY>;
 
-/// What a caller makes each call on a counting bit set with.
+/// What a caller makes each call on a counting bit set with: it says which set it is for, how much of the set's history
+/// it has seen, and what of it is its own doing. Each call is made with a pass of its set, which is the caller's concern.
+/// This project's own.
 pub type Pass = sets::Pass<Counts>;
 
-/// A counting bit set with a pass of it, whose calls ask for no proof.
+/// A counting bit set with a pass of it, whose calls ask for no proof. Each thread has one of its own, by `split`. This
+/// project's own.
 pub type Handle<'a> = sets::Handle<'a, Counts>;

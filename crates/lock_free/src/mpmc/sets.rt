@@ -1,5 +1,5 @@
-//! What bit sets and counting bit sets have in common: what threads share, what each of them holds, and the calls but
-//! those on places. Both are this with a kind E; the modules `bit_set` and `counting_bit_set` have names of their own for it.
+//! What bit sets and counting bit sets have in common: what threads share, what each of them holds, how both are made.
+//! Both are this with a kind E; the modules `bit_set` and `counting_bit_set` have names for it, and the calls on places.
 ghost use Rattle.std.specs.Prelude.{◌≡◌, ◌<◌, ◌+◌, [], None};
 ghost use Rattle.std.specs.Arc.{arc_value};
 ghost use Rattle.lock_free.specs.Sets.Kinds.{words_of};
@@ -38,7 +38,7 @@ pub struct FixedSize<E: Kind, const CAPACITY: usize> {
 
 /// What a caller makes each call on a set with: it says which set it is for, how much of the set's history it has seen,
 /// and what of it is its own doing. Each call is made with a pass of its set, which is the caller's concern. This
-/// project's own. (Its values and its rule are parameters: only so can its size be told by the kind.)
+/// project's own. (T and Q are parameters, though only u64 and `SetRule<E>` are used: else `sized` could not name the kind.)
 #[derive(Drop)]
 pub struct Held<E: Kind, T, Q: TableRule<(), View<T>, u32>> {
     pub of: PhantomData<E>,

@@ -1,4 +1,4 @@
-//! Emptying a set of no place, which needs no word of its own.
+//! Emptying a set of no place, which has no word to empty.
 ghost use Rattle.std.specs.Prelude.{◌≡◌, ◌+◌, ℕ, []};
 ghost use Rattle.model.specs.declared.event.Answer.TheVariants.{Done};
 ghost use Rattle.model.specs.declared.event.Start.TheVariants.{Bits};

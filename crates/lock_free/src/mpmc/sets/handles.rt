@@ -7,7 +7,7 @@ use super::{Pass, Set};
 mod calls;
 
 /// A set with a pass of it. Its calls are those of the set, and ask for nothing but a place below the capacity, which
-/// an `if` shows. Each thread has a handle of its own, by `split`. This project's own.
+/// an `if` shows, and a closure that may be called with each place. Each thread has a handle of its own, by `split`. This project's own.
 #[derive(Drop)]
 pub struct Handle<'a, E: Kind> {
     pub(crate) set: &'a Set<E>,

@@ -77,7 +77,7 @@ impl<E: Kind> Set<E> {
 }
 
 impl<E: Kind, const CAPACITY: usize> FixedSize<E, CAPACITY> {
-    /// A set of CAPACITY places and its first pass, as of one with a capacity that is given.
+    /// A set of CAPACITY places, all clear or with the count 0, and its first pass, as by `new` of the set.
     ///
     /// Refused are, in this order, a CAPACITY above 2^32 - 1 (`ProvidedCapacityGreaterThanMaxCapacity`) and memory
     /// (`NoMemory`). After `FixedSizeBitSet::new` and `FixedSizeCountingBitSet::new` of the Rust crate.

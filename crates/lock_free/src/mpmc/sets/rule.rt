@@ -1,5 +1,5 @@
-//! The rule of a set's table: it is a machine of its kind. The words are those of `steps::bits`, and one word more, since
-//! a pass is split at a word.
+//! The rule of a set's table: it is a machine of its kind. The words are those of `steps::bits`, and one more, since a pass
+//! is split at a word, and counts of no place have none.
 ghost use Rattle.std.specs.Prelude.{◌≡◌, ◌+◌, ◌≤◌};
 ghost use Rattle.lock_free.specs.Sets.Kinds as kinds;
 ghost use Rattle.lock_free.specs.Sets.Kinds.{SetKind, words_of};
@@ -10,7 +10,7 @@ use std::marker::PhantomData;
 use steps::bits::flags::{FIRST_ELEMENT, elements};
 use threaded::driver::rule::Rule;
 
-/// Which set of the model it is, as a type.
+/// Which of the two sets it is, as a type.
 pub trait Kind {
     ghost KIND: { SetKind };
 
