@@ -13,7 +13,7 @@ use Rattle.model.specs.declared.families.Registry as registries
 use Rattle.model.specs.declared.turn.Kind as kinds
 use Rattle.model.specs.Families.Bits.Steps.{effects_of}
 use Rattle.model.proofs.Frame as frame
-use Rattle.laws_bits.proofs.Family.{SetKind, FlightAt, family}
+use Rattle.laws_bits.proofs.Family.{SetOutline, FlightAt, family}
 use Rattle.laws_bits.proofs.Laws.{SetLaws, sound_on}
 use Rattle.laws_bits.proofs.Laws as sets
 use Rattle.history.specs.History.{IsRun, IsMachine, IsReachedAs, call_in, IsLate}
@@ -42,7 +42,7 @@ module _ {T : Type 0} where
   effects_own p [] h = tt
   effects_own p (e ∷ es) h = (effect_own p e h.0, effects_own p es h.1)
 
-module _ {T : Type 0} (K : SetKind T) (laws : (code : Coding T) (c : ℕ) → SetLaws K code c) (code : Coding T) (capacity words : ℕ)
+module _ {T : Type 0} (K : SetOutline T) (laws : (code : Coding T) (c : ℕ) → SetLaws K code c) (code : Coding T) (capacity words : ℕ)
     (sized : (c : ℕ) (ws : List ℕ) (es : List (Event T)) (turns : ℕ) → c ≡ capacity → K.Holds c ws es turns → length ws ≡ words)
     (on : (t : Trace T) → IsReachedAs K.kind t → IsReachedOn t) where
   abbrev IsSet : Trace T → Type 0

@@ -21,14 +21,14 @@ pub record SetState (T : Type 0) : Type 0 where
   pub events : List (Event T)
 
 -- what is said of one of the two kinds
-pub record SetKind (T : Type 0) : Type 1 where
+pub record SetOutline (T : Type 0) : Type 1 where
   pub kind : Kind
-  pub own : is_loan kind ≡ false  -- it is no loan channel
+  pub no_loan : is_loan kind ≡ false  -- it is no loan channel
   pub promise : Promise T
   pub Holds : ℕ → List ℕ → List (Event T) → ℕ → Type 0  -- what is so of the words and of the events, at this capacity and after so many turns
-  -- what a turn conserves from there, after so many changes, that comes to these words with these events and to so many
+  -- what a turn preserves from there, after so many changes, that comes to these words with these events and to so many
   -- changes
-  pub Conserves : ℕ → List ℕ → List (Event T) → ℕ → ℕ → List ℕ → List (Event T) → ℕ → Type 0
+  pub Preserves : ℕ → List ℕ → List (Event T) → ℕ → ℕ → List ℕ → List (Event T) → ℕ → Type 0
   pub wrote : ℕ → BitsFlight → Span T → List (Event T)  -- what a party's call under way has written, where this is its span
   pub number : BitsFlight → ℕ → ℕ  -- how many steps it has taken at most, having turned back so often
   pub At : ℕ → List (Event T) → BitsStart → BitsFlight → Type 0  -- where it stands, having written this
@@ -49,7 +49,7 @@ module _ {T : Type 0} where
   KnowsFlight knows (flights.TheVariants.Bits flight) = knows flight
   KnowsFlight knows flight = ⊥
 
-  module _ (K : SetKind T) where
+  module _ (K : SetOutline T) where
     abbrev pub wrote_by : ℕ → Flight T → Span T → List (Event T)
     wrote_by p (flights.TheVariants.Bits flight) span = K.wrote p flight span
     wrote_by p flight span = []
@@ -58,7 +58,7 @@ module _ {T : Type 0} where
     outline =
         record {
           kind = K.kind;
-          alone = K.own;
+          no_loan = K.no_loan;
           promise = K.promise;
           State = SetState T;
           words = λ s. s.words;
@@ -68,8 +68,8 @@ module _ {T : Type 0} where
           number = λ code c. number_by K.number;
           At = λ code c s p start flight. FlightAt (K.At c (wrote_in (span_of p s.events))) start flight;
           Knows = λ code c s p events since changes backs flight. KnowsFlight (K.Knows p events s.words since changes backs) flight;
-          Conserves = λ scene s' was y es changes'.
-              K.Conserves scene.capacity scene.state.words scene.events scene.turns scene.changes s'.words es changes'
+          Preserves = λ scene s' was y es changes'.
+              K.Preserves scene.capacity scene.state.words scene.events scene.turns scene.changes s'.words es changes'
               × (s'.events ≡ scene.events ++ es);
         }
 
@@ -84,7 +84,7 @@ module _ {T : Type 0} where
 
       -- that leaves these words, where the party's span was this
       pub record Shows (words : List ℕ) (from : Span T) (y : Party T) (es : List (Event T)) (changes' : ℕ) : Type 0 where
-        pub conserves : K.Conserves c s.words events turns changes words es changes'
+        pub preserves : K.Preserves c s.words events turns changes words es changes'
         pub own : AreOwn p es
         pub stands : AllFollow (Stands K.promise c) from es
         pub here : frame.Fits (family code c) (then_state words es) p (Some y) (fold own_after from es)

@@ -21,7 +21,7 @@ use Rattle.model.proofs.FamilyLaws.{Owed, OwesAll}
 use Rattle.model.proofs.Frame.{Sound}
 use Rattle.model.proofs.Rows.{row_passed}
 use Rattle.model.proofs.Scenes.{StandsThere, step_from}
-use Rattle.laws_bits.proofs.Family.{SetState, SetKind, FlightAt, KnowsFlight, number_by, wrote_by, outline, family, StepOf}
+use Rattle.laws_bits.proofs.Family.{SetState, SetOutline, FlightAt, KnowsFlight, number_by, wrote_by, outline, family, StepOf}
 use Rattle.laws_bits.proofs.Spans.{wrote_in}
 
 -- the name is one of a bit set's calls
@@ -29,7 +29,7 @@ abbrev pub IsOwn : {T : Type 0} → Start T → Type 0
 IsOwn (Bits start) = Unit {0}
 IsOwn start = ⊥
 
-module _ {T : Type 0} (K : SetKind T) where
+module _ {T : Type 0} (K : SetOutline T) where
   -- where a call begins, after these events
   pub record IsFirst (c p : ℕ) (events : List (Event T)) (words : List ℕ) (changes : ℕ) (start : BitsStart) (flight : BitsFlight) : Type 0 where
     pub at : K.At c [] start flight
@@ -46,18 +46,18 @@ module _ {T : Type 0} (K : SetKind T) where
     pub keeps_promise : (t : Trace T) → t.world.capacity ≡ c → t.world.turns ≤ 2 ^ 64 - 2 → K.Holds c t.world.words t.events t.world.turns → K.promise.holds t
     -- of a turn
     pub holds : (words : List ℕ) (events : List (Event T)) (turns changes : ℕ) (words' : List ℕ) (es : List (Event T)) (changes' : ℕ)
-        → K.Conserves c words events turns changes words' es changes' → K.Holds c words events turns
+        → K.Preserves c words events turns changes words' es changes' → K.Holds c words events turns
         → K.Holds c words' (events ++ es) (turns + 1)
     pub still : (q : ℕ) (words : List ℕ) (events : List (Event T)) (turns changes : ℕ) (words' : List ℕ)
         (es : List (Event T)) (changes' : ℕ)
-        → K.Conserves c words events turns changes words' es changes' → BeginsNone q es
+        → K.Preserves c words events turns changes words' es changes' → BeginsNone q es
         → (since backs : ℕ) (flight : BitsFlight)
         → K.Knows q events words since changes backs flight → K.Knows q (events ++ es) words' since changes' backs flight
     -- of a call that begins
     pub begins_own : (kept : Registry T) (start : Start T) (flight : Flight T) → first_of K.kind c start kept ≡ Some flight → IsOwn start
     pub begins : (p : ℕ) (start : BitsStart) (words : List ℕ) (events : List (Event T)) (turns changes : ℕ)
         → K.Holds c words events turns
-        → K.Conserves c words events turns changes words (Begun p (Bits start) ∷ []) changes
+        → K.Preserves c words events turns changes words (Begun p (Bits start) ∷ []) changes
     pub first : (p : ℕ) (events : List (Event T)) (words : List ℕ) (changes : ℕ) (start : BitsStart) (flight : BitsFlight)
         → first K.kind c start ≡ Some flight → is_past c start ≡ false → IsFirst c p events words changes start flight
     -- of a call under way
@@ -90,11 +90,11 @@ module _ {T : Type 0} (K : SetKind T) where
     paid p events words since changes backs flight h = absurd h
 
     still : (q : ℕ) (words : List ℕ) (events : List (Event T)) (turns changes : ℕ) (words' : List ℕ) (es : List (Event T)) (changes' : ℕ)
-        → K.Conserves c words events turns changes words' es changes' → BeginsNone q es → (since backs : ℕ) (flight : Flight T)
+        → K.Preserves c words events turns changes words' es changes' → BeginsNone q es → (since backs : ℕ) (flight : Flight T)
         → KnowsFlight (K.Knows q events words since changes backs) flight → KnowsFlight (K.Knows q (events ++ es) words' since changes' backs) flight
-    still q words events turns changes words' es changes' conserves none since backs (flights.TheVariants.Bits flight) h =
-        L.still q words events turns changes words' es changes' conserves none since backs flight h
-    still q words events turns changes words' es changes' conserves none since backs flight h = absurd h
+    still q words events turns changes words' es changes' preserves none since backs (flights.TheVariants.Bits flight) h =
+        L.still q words events turns changes words' es changes' preserves none since backs flight h
+    still q words events turns changes words' es changes' preserves none since backs flight h = absurd h
 
     module _ (t : Trace T) (s : Sound (family K code c) t) (p : ℕ) where
       step_shows : (x : Party T) (since : ℕ) (start : Start T) (flight : Flight T) → StandsThere (family K code c) t s p x since start flight
@@ -106,7 +106,7 @@ module _ {T : Type 0} (K : SetKind T) where
             state = record { words = _; events = _ };
             kept = refl;
             words = refl;
-            shows = record { conserves = (shows.conserves, refl); own = shows.own; stands = shows.stands; here = shows.here; knows = shows.knows };
+            shows = record { preserves = (shows.preserves, refl); own = shows.own; stands = shows.stands; here = shows.here; knows = shows.knows };
           }
       step_shows x since start flight here = absurd here.at
 
@@ -129,7 +129,7 @@ module _ {T : Type 0} (K : SetKind T) where
             state = record { words = s.state.words; events = t.events ++ begun };
             kept = refl;
             words = refl;
-            conserves = (L.begins p start s.state.words t.events t.world.turns t.world.changes s.holds.0, refl);
+            preserves = (L.begins p start s.state.words t.events t.world.turns t.world.changes s.holds.0, refl);
             at = subst (λ span. K.At c (wrote_in span) start mine.0) (sym span) is.at;
             wrote = ap (λ span. K.wrote p mine.0 span) span ∙ is.wrote;
             knows = is.knows;
@@ -168,23 +168,23 @@ module _ {T : Type 0} (K : SetKind T) where
         let L = laws_of code c in
         record {
           promise = L.promise;
-          holds = λ scene s' was y es changes' under conserves h. (
-            (laws_of scene.coding scene.capacity).holds scene.state.words scene.events scene.turns scene.changes s'.words es changes' conserves.0 h.0,
-            conserves.1,
+          holds_on = λ scene s' was y es changes' under preserves h. (
+            (laws_of scene.coding scene.capacity).holds scene.state.words scene.events scene.turns scene.changes s'.words es changes' preserves.0 h.0,
+            preserves.1,
           );
-          stays = λ scene s' was y es changes' conserves h own q ne start flight at. stays scene s' es conserves.1 h.1 own q ne start flight at;
-          knows = λ scene s' was y es changes' conserves own q ne since backs flight h.
+          stays = λ scene s' was y es changes' preserves h own q ne start flight at. stays scene s' es preserves.1 h.1 own q ne start flight at;
+          knows = λ scene s' was y es changes' preserves own q ne since backs flight h.
               still scene.coding scene.capacity (laws_of scene.coding scene.capacity) q scene.state.words
               scene.events scene.turns scene.changes s'.words es changes'
-              conserves.0 (others_begin_none q scene.party es ne own) since backs flight h;
+              preserves.0 (others_begin_none q scene.party es ne own) since backs flight h;
           begin = λ t s p start flight may e rows. begin_shows code c L t s p start flight e rows;
           step = λ t s p x since may found start flight here. step_shows code c L t s p x since start flight here;
-          asks = λ s p start flight at. asks code c L _ start flight at;
-          without = λ s. refl;
+          no_question = λ s p start flight at. asks code c L _ start flight at;
+          no_owners = λ s. refl;
           bounds = record { most = λ s p backs start flight at. most code c L _ backs start flight at; paid = λ s p events. paid code c L p events s.words };
           promised = λ t s few. L.keeps_promise t s.capacity few (subst (λ ws. K.Holds c ws t.events t.world.turns) (sym s.fit.1) s.holds.0);
           writes = λ t s p x since small start flight here. writes code c L t p s.state.words _ start flight here.at;
-          told = λ s p. told code c L _ p;
+          goes = λ s p. told code c L _ p;
           tells = L.tells;
         }
 

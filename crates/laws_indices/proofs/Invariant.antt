@@ -106,8 +106,8 @@ module _ {T : Type 0} where
   set_then scene words holders =
       record { words = words; holders = holders; seats = seats_with scene.state.seats scene.party }
 
-  -- what a turn conserves, where the set becomes this, and the party's call under way was this one, if any
-  pub record Conserves (scene : Scene T IndexSet) (s' : IndexSet) (was : Option (Flight T)) (y : Party T) (es : List (Event T)) (changes' : ℕ) : Type 0 where
+  -- what a turn preserves, where the set becomes this, and the party's call under way was this one, if any
+  pub record Preserves (scene : Scene T IndexSet) (s' : IndexSet) (was : Option (Flight T)) (y : Party T) (es : List (Event T)) (changes' : ℕ) : Type 0 where
     pub seats : s'.seats ≡ seats_with scene.state.seats scene.party
     pub right : AreRight (HoldsRight scene.capacity) scene.events es
     pub answers : AreRight (AnswersFew scene.capacity) scene.events es
@@ -132,7 +132,7 @@ module _ {T : Type 0} where
   outline =
       record {
         kind = kinds.TheVariants.Indices;
-        alone = refl;
+        no_loan = refl;
         promise = promise;
         State = IndexSet;
         words = λ s. s.words;
@@ -142,14 +142,14 @@ module _ {T : Type 0} where
         number = λ code c. number c;
         At = λ code c s p start flight. FlightAt c s.holders p start flight;
         Knows = λ code c s p events since changes backs flight. Knowing c s.words since changes backs flight;
-        Conserves = λ scene s' was y es changes'. Conserves scene s' was y es changes';
+        Preserves = λ scene s' was y es changes'. Preserves scene s' was y es changes';
       }
 
   abbrev pub family : Coding T → ℕ → Family T
   family = families.family outline
 
   module _ (scene : Scene T IndexSet) (s' : IndexSet) (was : Option (Flight T)) (y : Party T) (es : List (Event T)) (changes' : ℕ)
-      (is : flight_of (doing_of (party_of scene.party scene.latest)) ≡ was) (s : Conserves scene s' was y es changes')
+      (is : flight_of (doing_of (party_of scene.party scene.latest)) ≡ was) (s : Preserves scene s' was y es changes')
       (h : Holds scene.capacity scene.state scene.latest scene.events) where
     open scene use {capacity as c, state as set, party as p, latest as latest, events as events}
 

@@ -78,17 +78,17 @@ module _ {T : Type 0} where
   owed code c =
       record {
         promise = refl;
-        holds = λ scene s' was y es changes' under conserves h. holds_more scene s' was y es changes' under conserves h;
-        stays = λ scene s' was y es changes' conserves h own q ne start flight at. let keeps = conserves.keeps q ne in grind arith;
-        knows = λ scene s' was y es changes' conserves own q ne since backs flight h. let seen = conserves.seen in grind arith;
+        holds_on = λ scene s' was y es changes' under preserves h. holds_more scene s' was y es changes' under preserves h;
+        stays = λ scene s' was y es changes' preserves h own q ne start flight at. let keeps = preserves.keeps q ne in grind arith;
+        knows = λ scene s' was y es changes' preserves own q ne since backs flight h. let seen = preserves.seen in grind arith;
         begin = λ t s p start flight may e rows. begin_shows code c t s p start flight e rows;
         step = λ t s p x since may found. step_shows code c t s p x since found;
-        asks = λ s p start flight at. grind arith;
-        without = λ s. refl;
+        no_question = λ s p start flight at. grind arith;
+        no_owners = λ s. refl;
         bounds = grind arith;
         promised = λ t s few. set_kept code c t s;
         writes = λ t s p x since small start flight here. writes c t p s.state.words s.state.holders start flight here.at;
-        told = λ s p start flight at words beside answer. grind arith;
+        goes = λ s p start flight at words beside answer. grind arith;
         tells = λ old turn new. tt;
       }
 

@@ -219,7 +219,7 @@ module _ {T : Type 0} (scene : Scene T IndexSet) where
         → Leaves holders (Finished p (Indices start) answer ∷ []) start flight ask back (Done answer)
     ends start flight answer ask back good told done right lock straight steps paid =
         record {
-          conserves =
+          preserves =
               record {
                 seats = refl;
                 right = (tt, tt);
@@ -255,7 +255,7 @@ module _ {T : Type 0} (scene : Scene T IndexSet) where
         let less = held_below_set holders c index None below long in
         let mine : one_held (holder holders index) ≡ 1 = ap one_held holds in
         record {
-          conserves =
+          preserves =
               record {
                 seats = refl;
                 right = (inv.holds.holders index ∙ holds, tt);
@@ -291,7 +291,7 @@ module _ {T : Type 0} (scene : Scene T IndexSet) where
         let more = held_below_set holders c index (Some p) below long in
         let free : one_held (holder holders index) ≡ 0 = ap one_held none in
         record {
-          conserves =
+          preserves =
               record {
                 seats = refl;
                 right = ((below, inv.holds.holders index ∙ none, inv.holds.lock ∙ open_says (head_of words) unlocked), (tt, tt));
@@ -325,7 +325,7 @@ module _ {T : Type 0} (scene : Scene T IndexSet) where
         (Release index LockIfLastIndex) flight ask false (Done (State states.TheVariants.Locked))
     locks_set index flight ask none unlocked good zero one wrote shut steps paid =
         record {
-          conserves =
+          preserves =
               record {
                 seats = refl;
                 right = ((λ i. inv.holds.holders i ∙ none i, inv.holds.lock ∙ open_says (head_of words) unlocked), (tt, tt));

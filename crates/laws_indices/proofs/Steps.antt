@@ -95,7 +95,7 @@ module _ {T : Type 0} (code : Coding T) (c : ℕ) (t : Trace T) (s : frame.Sound
         state = set_then (scene_of outline code c t s p 0 0 t.world.changes) s.state.words s.state.holders;
         kept = grind arith;
         words = refl;
-        conserves = let good = s.holds.good in grind arith;
+        preserves = let good = s.holds.good in grind arith;
         at = grind arith;
         wrote = grind arith;
         knows = grind arith;

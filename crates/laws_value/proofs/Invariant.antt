@@ -67,8 +67,8 @@ module _ {T : Type 0} where
   Knowing k since changes backs (flights.TheVariants.Atomic flight) = KnowsFlight k since changes backs flight
   Knowing k since changes backs flight = ⊥
 
-  -- what a turn conserves, where the value and the holder become these
-  pub record Conserves (scene : Scene T Value) (s' : Value) (es : List (Event T)) (changes' : ℕ) : Type 0 where
+  -- what a turn preserves, where the value and the holder become these
+  pub record Preserves (scene : Scene T Value) (s' : Value) (es : List (Event T)) (changes' : ℕ) : Type 0 where
     pub right : AreRight (AnswersRight scene.coding) scene.events es
     pub grants : AreRight GrantsRight scene.events es
     pub good : Good scene.coding.size s'.core
@@ -86,7 +86,7 @@ module _ {T : Type 0} where
   outline =
       record {
         kind = kinds.TheVariants.Atomic;
-        alone = refl;
+        no_loan = refl;
         promise = promise;
         State = Value;
         words = λ s. layout s.holder s.core;
@@ -96,7 +96,7 @@ module _ {T : Type 0} where
         number = λ code c. number code.size;
         At = λ code c s p start flight. FlightAt code s.holder s.core p start flight;
         Knows = λ code c s p events since changes backs flight. Knowing s.core since changes backs flight;
-        Conserves = λ scene s' was y es changes'. Conserves scene s' es changes';
+        Preserves = λ scene s' was y es changes'. Preserves scene s' es changes';
       }
 
   abbrev pub family : Coding T → ℕ → Family T
@@ -104,9 +104,9 @@ module _ {T : Type 0} where
 
   -- what a turn shows, where the value and the holder become these and the party's span was this
   abbrev pub Shows : Scene T Value → Value → Span T → Party T → List (Event T) → ℕ → Type 0
-  Shows scene s' from y es changes' = families.Shows outline scene (Conserves scene s' es changes') s' from y es changes'
+  Shows scene s' from y es changes' = families.Shows outline scene (Preserves scene s' es changes') s' from y es changes'
 
-  pub holds_more : (scene : Scene T Value) (s' : Value) (es : List (Event T)) (changes' : ℕ) → Conserves scene s' es changes'
+  pub holds_more : (scene : Scene T Value) (s' : Value) (es : List (Event T)) (changes' : ℕ) → Preserves scene s' es changes'
       → Holds scene.coding scene.state.holder scene.state.core scene.events scene.turns
       → Holds scene.coding s'.holder s'.core (scene.events ++ es) (scene.turns + 1)
   holds_more scene s' es changes' s h =

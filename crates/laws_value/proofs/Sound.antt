@@ -125,7 +125,7 @@ module _ {T : Type 0} (code : Coding T) (c : ℕ) (t : Trace T) (s : frame.Sound
         right = step_right t (Next p) p refl s.state.holder s.state.core code start flight old here.at asks handed
             (subst (λ (y : Coding T). AreRight (AnswersRight y) t.events
             (told_after p start (after y flight (old_of words (ask_of (want y flight))))))
-            (sym s.coding) moves.2.conserves.right);
+            (sym s.coding) moves.2.preserves.right);
       }
   writes p x since small start flight here = absurd here.at
 
@@ -163,17 +163,17 @@ module _ {T : Type 0} where
   owed code c =
       record {
         promise = refl;
-        holds = λ scene s' was y es changes' under conserves h. holds_more scene s' es changes' conserves h;
-        stays = λ scene s' was y es changes' conserves h own q ne start flight at. let others = conserves.others q ne in grind arith;
-        knows = λ scene s' was y es changes' conserves own q ne since backs flight h. let up = conserves.up in grind arith;
+        holds_on = λ scene s' was y es changes' under preserves h. holds_more scene s' es changes' preserves h;
+        stays = λ scene s' was y es changes' preserves h own q ne start flight at. let others = preserves.others q ne in grind arith;
+        knows = λ scene s' was y es changes' preserves own q ne since backs flight h. let up = preserves.up in grind arith;
         begin = λ t s p start flight may e rows. begin_shows code c t s p start flight e rows;
         step = λ t s p x since fresh found. step_shows code c t s p x since fresh;
-        asks = λ s p start flight at. grind arith;
-        without = λ s. refl;
+        no_question = λ s p start flight at. grind arith;
+        no_owners = λ s. refl;
         bounds = grind arith;
         promised = λ t s few. value_kept code c t s s.coding;
         writes = writes code c;
-        told = λ s p start flight at words beside answer. grind arith;
+        goes = λ s p start flight at words beside answer. grind arith;
         tells = λ old turn new. tt;
       }
 

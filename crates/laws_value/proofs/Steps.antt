@@ -93,7 +93,7 @@ module _ {T : Type 0} (code : Coding T) (c : ℕ) (t : Trace T) (s : frame.Sound
         state = s.state;
         kept = grind arith;
         words = refl;
-        conserves = grind arith;
+        preserves = grind arith;
         at = grind arith;
         wrote = refl;
         knows = grind arith;

@@ -118,7 +118,7 @@ module _ {T : Type 0} (scene : Scene T Value) (inv : Inv outline scene) (value :
         k',
         ap (λ n. n ∷ free ho ∷ k.cells) next,
         record {
-          conserves =
+          preserves =
               record {
                 right = (tt, (tt, tt));
                 grants = (tt, (tt, tt));

@@ -17,7 +17,7 @@ ghost use Rattle.model.specs.Progress.{KeepsGuarantees};
 ghost use Rattle.threaded.specs.Shares.{IsAll};
 ghost use Rattle.history.specs.declared.view.View.{View};
 ghost use Rattle.history.specs.History.{IsBeginning, IsHistory};
-ghost use Rattle.lock_free_queues.specs.Queues.Bounded.{IsBounded, machine_of};
+ghost use Rattle.lock_free_queues.specs.Queues.Bounded.{IsBounded, machine_kind};
 ghost use Rattle.history.specs.Passes.{Goes, MissesNothing};
 ghost use Rattle.lock_free_queues.specs.Queues.Overflowing.{HasOverflowed};
 ghost use Rattle.lock_free_queues.specs.Queues.Positions.{IsPublished, IsTaken, IsSound, IsOverSound};
@@ -27,7 +27,7 @@ ghost use Rattle.lock_free_queues.specs.Queues.Told.{HasPushed, HasPublished, Wa
 /// A history of a queue is linearizable as its list: the calls of all passes, pushes and pops. The lemma is
 /// `linearizable` of `proofs/Queues/Promised.antt`.
 pub fn histories_are_linearizable<T>()
-    ensures { (code : Coding T) (kind : QueueKind) (capacity : ℕ) (v : View T) → IsHistory code (machine_of kind) capacity v.seen
+    ensures { (code : Coding T) (kind : QueueKind) (capacity : ℕ) (v : View T) → IsHistory code (machine_kind kind) capacity v.seen
         → IsLinearizable (as_list kind capacity) v.seen }
 {}
 
@@ -36,7 +36,7 @@ pub fn histories_are_linearizable<T>()
 /// call; roles are granted to one at a time, who alone publishes, or takes out. The lemma is `sound` there.
 pub fn histories_are_sound<T>()
     ensures { (code : Coding T) (kind : QueueKind) (capacity : ℕ) (v : View T) → IsBounded kind
-        → IsHistory code (machine_of kind) capacity v.seen → IsSound capacity v.seen }
+        → IsHistory code (machine_kind kind) capacity v.seen → IsSound capacity v.seen }
 {}
 
 /// The same of an overflowing queue, of which at most one more than the capacity waits, while a push is under way: each
@@ -50,7 +50,7 @@ pub fn overflowing_histories_are_sound<T>()
 /// and a look at the last position one step and none. The lemma is `guarantees` there.
 pub fn calls_keep_guarantees<T>()
     ensures { (code : Coding T) (kind : QueueKind) (capacity : ℕ) (v : View T)
-        → (h : IsHistory code (machine_of kind) capacity v.seen) → KeepsGuarantees h.trace }
+        → (h : IsHistory code (machine_kind kind) capacity v.seen) → KeepsGuarantees h.trace }
 {}
 
 /// No position is published twice, or taken twice. The lemmas are `published_once` and `taken_once` of
@@ -63,7 +63,7 @@ pub fn positions_are_once<T>()
 /// Equal positions have equal values. The lemma is `agree` of `proofs/Queues/Promised.antt`.
 pub fn values_agree<T>()
     ensures { (code : Coding T) (kind : QueueKind) (capacity p q i : ℕ) (x y : Item T) (v : View T)
-        → IsHistory code (machine_of kind) capacity v.seen → IsPublished p i x v.seen → IsTaken q i y v.seen → x ≡ y }
+        → IsHistory code (machine_kind kind) capacity v.seen → IsPublished p i x v.seen → IsTaken q i y v.seen → x ≡ y }
 {}
 
 /// What was published or taken stays so. The lemmas are `still_published` and `still_taken` of
@@ -101,7 +101,7 @@ pub fn overflowing_takes_in_order<T>()
 pub fn refusals_are_right<T>()
     ensures empty { (old new : View T) → WasEmpty old new → (q j : ℕ) (y : Item T) → IsPublished q j y old.seen → j < length (handed_out old.seen) }
     ensures full { (code : Coding T) (kind : QueueKind) (capacity : ℕ) (item : Item T) (old new : View T) → IsBounded kind
-        → IsHistory code (machine_of kind) capacity new.seen → WasFull capacity item old new
+        → IsHistory code (machine_kind kind) capacity new.seen → WasFull capacity item old new
         → (q j : ℕ) (y : Item T) → IsTaken q j y old.seen → j + capacity < length (published old.seen) }
 {}
 
@@ -110,7 +110,7 @@ pub fn refusals_are_right<T>()
 /// anything.
 pub fn emptied_is_all<T>()
     ensures { (code : Coding T) (kind : QueueKind) (capacity : ℕ) (old new : View T) → IsAll old.share → MissesNothing old
-        → Goes code (machine_of kind) capacity old new
+        → Goes code (machine_kind kind) capacity old new
         → HasPopped None old new → (published new.seen ≡ published old.seen) × (handed_out new.seen ≡ published new.seen) }
 {}
 

@@ -1,4 +1,4 @@
--- A family as its own crate says it: what its machine holds between two turns, and what a turn conserves. From that, what
+-- A family as its own crate says it: what its machine holds between two turns, and what a turn preserves. From that, what
 -- each turn of its machine has to show.
 use Rattle.std.proofs.Common.{◌≡◌, ℕ, ◌+◌, false, Option, Some, None, List, [], ◌∷◌, ◌++◌, fold}
 use Rattle.steps.specs.declared.ask.Ask.{Ask}
@@ -41,7 +41,7 @@ pub record Scene (T State : Type 0) : Type 0 where
 -- what a family says of itself, for each coding and each capacity
 pub record Outline (T : Type 0) : Type 1 where
   pub kind : Kind
-  pub alone : is_loan kind ≡ false  -- it is no loan channel, which alone is made with two numbers
+  pub no_loan : is_loan kind ≡ false  -- it is no loan channel, which alone is made with two numbers
   pub promise : Promise T
   pub State : Type 0
   pub words : State → List ℕ  -- the words that hold it
@@ -51,9 +51,9 @@ pub record Outline (T : Type 0) : Type 1 where
   pub number : Coding T → ℕ → Flight T → ℕ → ℕ  -- how many steps it has taken at most, having turned back so often
   pub At : Coding T → ℕ → State → ℕ → Start T → Flight T → Type 0  -- where it stands
   pub Knows : Coding T → ℕ → State → ℕ → List (Event T) → ℕ → ℕ → ℕ → Flight T → Type 0  -- what it knows of the events and of the counts
-  -- what a turn of the scene's party conserves that makes the state this, where its call under way was this one, if any,
+  -- what a turn of the scene's party preserves that makes the state this, where its call under way was this one, if any,
   -- leaves the party so and writes these events; words have then changed so often
-  pub Conserves : Scene T State → State → Option (Flight T) → Party T → List (Event T) → ℕ → Type 0
+  pub Preserves : Scene T State → State → Option (Flight T) → Party T → List (Event T) → ℕ → Type 0
 
 module _ {T : Type 0} (K : Outline T) where
   abbrev pub family : Coding T → ℕ → Family T
@@ -80,16 +80,16 @@ module _ {T : Type 0} (K : Outline T) where
       pub holds : K.Holds scene.coding scene.capacity scene.state scene.latest scene.events scene.turns
       pub frame : frame.Inv F scene.state scene.latest scene.events scene.changes
 
-    -- what a turn shows that conserves this, where the state becomes this and the party's span was this
-    pub record Shows (Conserved : Type 0) (s' : K.State) (from : Span T) (y : Party T) (es : List (Event T)) (changes' : ℕ) : Type 0 where
-      pub conserves : Conserved
+    -- what a turn shows that preserves this, where the state becomes this and the party's span was this
+    pub record Shows (Preserved : Type 0) (s' : K.State) (from : Span T) (y : Party T) (es : List (Event T)) (changes' : ℕ) : Type 0 where
+      pub preserves : Preserved
       pub own : AreOwn scene.party es
       pub stands : AllFollow (Stands K.promise scene.capacity) from es
       pub here : frame.Fits F s' scene.party (Some y) (fold own_after from es)
       pub knows : frame.KnowsDoing F s' scene.party (scene.events ++ es) changes' y.backs y.doing
 
     abbrev pub ShowsFrom : Option (Flight T) → K.State → Span T → Party T → List (Event T) → ℕ → Type 0
-    ShowsFrom was s' from y es changes' = Shows (K.Conserves scene s' was y es changes') s' from y es changes'
+    ShowsFrom was s' from y es changes' = Shows (K.Preserves scene s' was y es changes') s' from y es changes'
 
     -- ---- a step
 
@@ -130,7 +130,7 @@ module _ {T : Type 0} (K : Outline T) where
       pub state : K.State
       pub kept : kept_after_begin scene.coding scene.capacity start scene.party (K.kept scene.state) ≡ K.kept state
       pub words : K.words scene.state ≡ K.words state
-      pub conserves : K.Conserves scene state None (party_at_begin start flight scene.changes) (Begun scene.party start ∷ []) scene.changes
+      pub preserves : K.Preserves scene state None (party_at_begin start flight scene.changes) (Begun scene.party start ∷ []) scene.changes
       pub at : K.At scene.coding scene.capacity state scene.party start flight
       pub wrote : K.written state scene.party flight ≡ []
       pub knows : K.Knows scene.coding scene.capacity state scene.party (scene.events ++ Begun scene.party start ∷ []) scene.changes scene.changes 0 flight

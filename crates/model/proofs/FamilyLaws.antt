@@ -36,25 +36,25 @@ use Rattle.model.proofs.Small.{reached_small}
 module _ {T : Type 0} (K : Outline T) where
   -- ---- what a family owes, where such turns may be taken
 
-  -- of a turn of the scene's party that conserves what it has to
+  -- of a turn of the scene's party that preserves what it has to
   module _ (scene : Scene T K.State) (s' : K.State) (was : Option (Flight T)) (y : Party T) (es : List (Event T)) (changes' : ℕ) where
     abbrev Holding : Type 0
     Holding =
-        flight_of (doing_of (party_of scene.party scene.latest)) ≡ was → K.Conserves scene s' was y es changes'
+        flight_of (doing_of (party_of scene.party scene.latest)) ≡ was → K.Preserves scene s' was y es changes'
         → K.Holds scene.coding scene.capacity scene.state scene.latest scene.events scene.turns
         → K.Holds scene.coding scene.capacity s' (put scene.party y scene.latest) (scene.events ++ es) (scene.turns + 1)
 
     -- the call of another party stays where it is, and knows what it knew
     abbrev Staying : Type 0
     Staying =
-        K.Conserves scene s' was y es changes' → K.Holds scene.coding scene.capacity scene.state scene.latest scene.events scene.turns
+        K.Preserves scene s' was y es changes' → K.Holds scene.coding scene.capacity scene.state scene.latest scene.events scene.turns
         → AreOwn scene.party es → (q : ℕ) → q ≢ scene.party → (start : Start T) (flight : Flight T)
         → K.At scene.coding scene.capacity scene.state q start flight
         → K.At scene.coding scene.capacity s' q start flight × (K.written s' q flight ≡ K.written scene.state q flight)
 
     abbrev Knowing : Type 0
     Knowing =
-        K.Conserves scene s' was y es changes' → AreOwn scene.party es → (q : ℕ) → q ≢ scene.party → (since backs : ℕ) (flight : Flight T)
+        K.Preserves scene s' was y es changes' → AreOwn scene.party es → (q : ℕ) → q ≢ scene.party → (since backs : ℕ) (flight : Flight T)
         → K.Knows scene.coding scene.capacity scene.state q scene.events since scene.changes backs flight
         → K.Knows scene.coding scene.capacity s' q (scene.events ++ es) since changes' backs flight
 
@@ -93,7 +93,7 @@ module _ {T : Type 0} (K : Outline T) where
   -- what it owes at this coding and this capacity
   pub record Owed (code : Coding T) (c : ℕ) (May : Trace T → Turn T → Type 0) : Type 1 where
     pub promise : promise_of {T = T} K.kind ≡ K.promise
-    pub holds : (scene : Scene T K.State) (s' : K.State) (was : Option (Flight T)) (y : Party T) (es : List (Event T)) (changes' : ℕ)
+    pub holds_on : (scene : Scene T K.State) (s' : K.State) (was : Option (Flight T)) (y : Party T) (es : List (Event T)) (changes' : ℕ)
         → Holding scene s' was y es changes'
     pub stays : (scene : Scene T K.State) (s' : K.State) (was : Option (Flight T)) (y : Party T) (es : List (Event T)) (changes' : ℕ)
         → Staying scene s' was y es changes'
@@ -106,8 +106,8 @@ module _ {T : Type 0} (K : Outline T) where
     pub step : (t : Trace T) (s : Sound (family K code c) t) (p : ℕ) (x : Party T) (since : ℕ) → May t (Next p) → party_of p t.world.latest ≡ Some x
         → (start : Start T) (flight : Flight T) → StandsThere (family K code c) t s p x since start flight
         → StepOf K (scene_of K code c t s p x.steps x.backs since) start flight
-    pub asks : (s : K.State) (p : ℕ) (start : Start T) (flight : Flight T) → K.At code c s p start flight → is_question (want_of code flight) ≡ false
-    pub without : (s : K.State) → has_owners (K.kept s) ≡ false
+    pub no_question : (s : K.State) (p : ℕ) (start : Start T) (flight : Flight T) → K.At code c s p start flight → is_question (want_of code flight) ≡ false
+    pub no_owners : (s : K.State) → has_owners (K.kept s) ≡ false
     -- of what is promised
     pub bounds : frame.Bounds (family K code c)
     pub promised : (t : Trace T) → Sound (family K code c) t → t.world.turns ≤ 2 ^ 64 - 2 → K.promise.holds t
@@ -115,7 +115,7 @@ module _ {T : Type 0} (K : Outline T) where
         → (start : Start T) (flight : Flight T) → StandsThere (family K code c) t s p x since start flight
         → Writes t p (step_from t p t.world.coding (K.words s.state) (K.kept s.state) start flight)
     -- how a call goes on depends on no word, and on nothing that stands beside it
-    pub told : (s : K.State) (p : ℕ) (start : Start T) (flight : Flight T) → K.At code c s p start flight
+    pub goes : (s : K.State) (p : ℕ) (start : Start T) (flight : Flight T) → K.At code c s p start flight
         → (words : List ℕ) (beside : Option (ℕ × ℕ)) (answer : ℕ)
         → (step_of code words beside p start flight answer (K.kept s)).after ≡ goes_of code p flight answer (K.kept s)
     pub tells : (old : Trace T) (turn : Turn T) (new : Trace T) → K.promise.tells old turn new
@@ -129,7 +129,7 @@ module _ {T : Type 0} (K : Outline T) where
           → party_of p t.world.latest ≡ Some x → x.doing ≡ Going flight since
           → is_question (want_of t.world.coding flight) ≡ true → A
       asks_nothing x flight since found doing asks =
-          let none = L.asks s.state p x.start flight (stands_there F t s p x since flight found doing).at in
+          let none = L.no_question s.state p x.start flight (stands_there F t s p x since flight found doing).at in
           let same : is_question (want_of code flight) ≡ true = subst (λ (z : Coding T). is_question (want_of z flight) ≡ true) s.coding asks in
           absurd (cc)
 
@@ -143,7 +143,7 @@ module _ {T : Type 0} (K : Outline T) where
           record {
             state = s';
             fit = (refl, refl);
-            holds = L.holds scene s' was y es changes' under shows.conserves s.holds;
+            holds = L.holds_on scene s' was y es changes' under shows.preserves s.holds;
             owes =
                 frame.owes F s.state s' from p y t.world.latest t.events es t.world.changes changes' is s.inv
                 (record {
@@ -151,8 +151,8 @@ module _ {T : Type 0} (K : Outline T) where
                   stands = shows.stands;
                   here = shows.here;
                   knows = shows.knows;
-                  others = λ q ne. L.stays scene s' was y es changes' shows.conserves s.holds shows.own q ne;
-                  others_know = λ q ne. L.knows scene s' was y es changes' shows.conserves shows.own q ne;
+                  others = λ q ne. L.stays scene s' was y es changes' shows.preserves s.holds shows.own q ne;
+                  others_know = λ q ne. L.knows scene s' was y es changes' shows.preserves shows.own q ne;
                 });
           }
 
@@ -185,7 +185,7 @@ module _ {T : Type 0} (K : Outline T) where
           shown 0 0 t.world.changes is.state None (span_of p t.events) (party_at_begin start flight t.world.changes) (Begun p start ∷ []) t.world.changes
           may.free refl
           (record {
-            conserves = is.conserves;
+            preserves = is.preserves;
             own = (refl, tt);
             stands = (frame.shut F s.state p (party_of p t.world.latest) (span_of p t.events) may.free (s.inv.calls p), tt);
             here = record { span = ap (λ es. Open start es) (sym is.wrote); steps = omega arith; at = is.at };
@@ -200,7 +200,7 @@ module _ {T : Type 0} (K : Outline T) where
           step = λ t p x flight since s may passed found doing. step_comes t s p x flight since may found doing;
           decision = λ t p x flight since said s may passed found doing asks. asks_nothing t s p x flight since found doing asks;
           begin = λ t p start flight s may begins e. begin_comes t s p start flight begins e;
-          death = frame.no_death F (λ kept words state fit. rw fit.0 (L.without state));
+          death = frame.no_death F (λ kept words state fit. rw fit.0 (L.no_owners state));
         }
 
     in_order : (t : Trace T) (p : ℕ) (start : Start T) (step : Step (Flight T) (Registry T) T) → Writes t p step
@@ -226,7 +226,7 @@ module _ {T : Type 0} (K : Outline T) where
           decision = λ t p x flight since said s small found doing asks. asks_nothing t s p x flight since found doing asks;
           after = λ t p x flight since answer s found doing.
               rw (s.coding, s.fit.0)
-              (L.told s.state p x.start flight (stands_there F t s p x since flight found doing).at t.world.words
+              (L.goes s.state p x.start flight (stands_there F t s p x since flight found doing).at t.world.words
               (beside_of t.world.words (K.kept s.state) t.world.latest p) answer);
           tells = λ t turn e s. L.tells t turn (after_turn t turn);
         }
@@ -273,7 +273,7 @@ module _ {T : Type 0} (K : Outline T) where
         let F = family K t.world.coding t.world.capacity in
         frame.reached_sound F
         (frame.laws_with F (λ u turn s small. all.few t.world.coding t.world.capacity u turn s small) (laws_there t is r.coded r.admitted)) t
-        (ap is_loan is ∙ K.alone) (opening_there t is r.coded r.admitted) r
+        (ap is_loan is ∙ K.no_loan) (opening_there t is r.coded r.admitted) r
 
     pub keeps : Keeps T K.kind
     keeps =

@@ -167,7 +167,7 @@ module _ {T : Type 0} (code : Coding T) (c : ℕ) (s : SetState T) (events : Lis
         (changes + change_of s.words swaps))
         (sym (append-nil fx))
         (record {
-          conserves = record {
+          preserves = record {
             sized = length-set s.words word 0;
             moved =
                 λ b. subst (λ es. sets b es + one_if (stands s.words b) ≡ clears b es + one_if (stands then b))
@@ -191,7 +191,7 @@ module _ {T : Type 0} (code : Coding T) (c : ℕ) (s : SetState T) (events : Lis
     swaps_last : word < length s.words → word + 1 ≡ end → Does swaps done fx
     swaps_last near at =
         record {
-          conserves = record {
+          preserves = record {
             sized = length-set s.words word 0;
             moved = moved near finish (λ b. refl) (λ b. refl);
             within = λ b past. (let more = sets_more b fx finish in let none = sets_none T p b places in omega arith);
@@ -219,7 +219,7 @@ module _ {T : Type 0} (code : Coding T) (c : ℕ) (s : SetState T) (events : Lis
     asks_nothing : word ≡ end → Does None done []
     asks_nothing at =
         record {
-          conserves =
+          preserves =
               no_change code c s events turns p changes since steps backs None finish (λ b. refl) (λ b. refl)
               (λ b. refl) refl (all_behind events word (omega arith) cleared, tt);
           own = (refl, tt);

@@ -11,7 +11,7 @@ use Rattle.model.specs.declared.families.bits.calls.BitsFlight.TheVariants.{Set,
 use Rattle.model.specs.declared.turn.Kind as kinds
 use Rattle.laws_bits.proofs.Bits.Core.{ClearedBelow, cleared_still, sets_more, clears_more}
 use Rattle.laws_bits.proofs.Bits.Knows.{CallAt, KnowsCall, KnowsSet, KnowsNext, Paid, Passed, Began, call_wrote, number_of}
-use Rattle.laws_bits.proofs.Family.{SetKind}
+use Rattle.laws_bits.proofs.Family.{SetOutline}
 
 -- ---- what the machine holds
 
@@ -35,10 +35,10 @@ module _ {T : Type 0} where
     pub position : get_or words 0 0 ≡ position_of events
     pub answers : Each (BitsAnswerRight c) events
 
-  -- ---- what a turn conserves
+  -- ---- what a turn preserves
 
   -- the words of a turn beside the bits of which its events tell
-  pub record Conserves (c : ℕ) (words : List ℕ) (events : List (Event T)) (changes : ℕ) (words' : List ℕ) (es : List (Event T)) (changes' : ℕ) : Type 0 where
+  pub record Preserves (c : ℕ) (words : List ℕ) (events : List (Event T)) (changes : ℕ) (words' : List ℕ) (es : List (Event T)) (changes' : ℕ) : Type 0 where
     pub sized : length words' ≡ length words
     pub moved : (b : ℕ) → sets b es + one_if (stands words b) ≡ clears b es + one_if (stands words' b)
     pub within : (b : ℕ) → c ≤ b → sets b es ≡ 0
@@ -47,13 +47,13 @@ module _ {T : Type 0} where
     pub right : AreRight (BitsAnswerRight c) events es
 
   -- so does a turn after which the same bits stand, and whose events tell of none
-  pub rest_conserves : (c : ℕ) (words : List ℕ) (events : List (Event T)) (changes : ℕ) (words' : List ℕ)
+  pub rest_preserves : (c : ℕ) (words : List ℕ) (events : List (Event T)) (changes : ℕ) (words' : List ℕ)
       (es : List (Event T)) (changes' : ℕ)
       → length words' ≡ length words → ((b : ℕ) → stands words' b ≡ stands words b) → ((b : ℕ) → sets b es ≡ 0)
       → ((b : ℕ) → clears b es ≡ 0)
       → get_or words' 0 0 ≡ fold position_after (get_or words 0 0) es → Pays words words' changes changes'
-      → AreRight (BitsAnswerRight c) events es → Conserves c words events changes words' es changes'
-  rest_conserves c words events changes words' es changes' sized same no_sets no_clears position pays right =
+      → AreRight (BitsAnswerRight c) events es → Preserves c words events changes words' es changes'
+  rest_preserves c words events changes words' es changes' sized same no_sets no_clears position pays right =
       record {
         sized = sized;
         moved = λ b. rw (no_sets b, no_clears b, same b) refl;
@@ -65,14 +65,14 @@ module _ {T : Type 0} where
 
   -- ---- the kind of the bit sets
 
-  abbrev pub bit_set : SetKind T
+  abbrev pub bit_set : SetOutline T
   bit_set =
       record {
         kind = kinds.TheVariants.Bits;
-        own = refl;
+        no_loan = refl;
         promise = bits_promise;
         Holds = λ c words events turns. Holds c words events;
-        Conserves = λ c words events turns changes words' es changes'. Conserves c words events changes words' es changes';
+        Preserves = λ c words events turns changes words' es changes'. Preserves c words events changes words' es changes';
         wrote = call_wrote;
         number = number_of;
         At = CallAt;
@@ -80,21 +80,21 @@ module _ {T : Type 0} where
       }
 
   module _ (c : ℕ) (words : List ℕ) (events : List (Event T)) (changes : ℕ) (words' : List ℕ) (es : List (Event T))
-      (changes' : ℕ) (conserves : Conserves c words events changes words' es changes') where
+      (changes' : ℕ) (preserves : Preserves c words events changes words' es changes') where
     pub holds_more : Holds c words events → Holds c words' (events ++ es)
     holds_more h =
         record {
-          sized = conserves.sized ∙ h.sized;
+          sized = preserves.sized ∙ h.sized;
           conserved = conserved;
-          within = λ b past. (let a = h.within b past in let e = conserves.within b past in let m = sets_more b events es in omega arith);
-          position = conserves.position ∙ (ap (λ n. fold position_after n es) h.position ∙ sym (fold-append position_after 0 events es));
-          answers = Each-append (BitsAnswerRight c) events es h.answers conserves.right;
+          within = λ b past. (let a = h.within b past in let e = preserves.within b past in let m = sets_more b events es in omega arith);
+          position = preserves.position ∙ (ap (λ n. fold position_after n es) h.position ∙ sym (fold-append position_after 0 events es));
+          answers = Each-append (BitsAnswerRight c) events es h.answers preserves.right;
         }
       where
         conserved : (b : ℕ) → sets b (events ++ es) ≡ clears b (events ++ es) + one_if (stands words' b)
         conserved b =
             let was = h.conserved b in
-            let moved = conserves.moved b in
+            let moved = preserves.moved b in
             let s = sets_more b events es in
             let c = clears_more b events es in
             omega arith

@@ -41,7 +41,7 @@ module _ {T : Type 0} where
         tells = λ old turn new. tt;
         keeps_promise = λ t same small. bits_kept c t same;
         holds = λ words events turns. holds_more c words events;
-        still = λ q words events turns changes words' es changes' conserves none. call_still words words' changes changes' conserves.pays q events es none;
+        still = λ q words events turns changes words' es changes' preserves none. call_still words words' changes changes' preserves.pays q events es none;
         begins_own = begins_own c;
         begins = λ p start words events turns changes h. begins_none c p start words events changes;
         first = first_is c;

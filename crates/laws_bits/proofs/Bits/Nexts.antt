@@ -192,7 +192,7 @@ module _ {T : Type 0} (code : Coding T) (c : ℕ) (s : SetState T) (events : Lis
         → Does [] (Some (exchanging found)) false (GoOn (next_at c (resetting.TheVariants.StoresPosition place))) (Cleared p place ∷ [])
     clears_it found was t paid few =
         record {
-          conserves = record {
+          preserves = record {
             sized = as_long s.words (Some (exchanging found));
             moved = λ b. moved b (place == b) refl;
             within = λ b past. refl;

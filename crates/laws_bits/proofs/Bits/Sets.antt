@@ -72,7 +72,7 @@ module _ {T : Type 0} (code : Coding T) (c : ℕ) (s : SetState T) (events : Lis
       → Does (Some (exchanging found)) false (Done (answers.TheVariants.Truth true)) (told.TheVariants.Set p bit ∷ [])
   sets_it found was t paid few =
       record {
-        conserves = record {
+        preserves = record {
           sized = as_long s.words (Some (exchanging found));
           moved = λ b. moved b (bit == b) refl;
           within = λ b past. (let t : (bit == b) ≡ false = grind (arith, nat_tests) in rw t refl);

@@ -8,7 +8,7 @@ use Rattle.model.specs.declared.families.bits.BitsStart as starts
 use Rattle.model.specs.declared.families.bits.calls.BitsFlight as calls
 use Rattle.model.specs.declared.turn.Kind as kinds
 use Rattle.laws_bits.proofs.Bits.Alls.{reset_all_step}
-use Rattle.laws_bits.proofs.Bits.Invariant.{Holds, Conserves, bit_set}
+use Rattle.laws_bits.proofs.Bits.Invariant.{Holds, Preserves, bit_set}
 use Rattle.laws_bits.proofs.Bits.Knows.{CallAt, KnowsSet, KnowsNext, next_number, set_at, next_at}
 use Rattle.laws_bits.proofs.Bits.Nexts.{next_step}
 use Rattle.laws_bits.proofs.Bits.Sets.{set_step}
@@ -78,5 +78,5 @@ module _ {T : Type 0} where
 
   -- to begin changes no bit
   pub begins_none : (c p : ℕ) (start : BitsStart) (words : List ℕ) (events : List (Event T)) (changes : ℕ)
-      → Conserves c words events changes words (Begun p (Bits start) ∷ []) changes
+      → Preserves c words events changes words (Begun p (Bits start) ∷ []) changes
   begins_none x0 x1 x2 x3 x4 x5 = grind arith

@@ -6,7 +6,7 @@ use Rattle.laws_bits.proofs.Names.{after, goes_back, BitsAnswerRight, BitsWrote,
 use Rattle.laws_bits.proofs.Names.{effects_of, Open, span_of, one_if, old_of, words_after, change_of, step_count}
 use Rattle.laws_bits.proofs.Names.{AreRight}
 use Rattle.std.proofs.Common.{arith}
-use Rattle.laws_bits.proofs.Bits.Invariant.{Pays, Conserves, rest_conserves, bit_set}
+use Rattle.laws_bits.proofs.Bits.Invariant.{Pays, Preserves, rest_preserves, bit_set}
 use Rattle.laws_bits.proofs.Bits.Knows.{CallAt, KnowsCall, call_wrote, number_of}
 use Rattle.laws_bits.proofs.Family.{SetState, StepShows, ShowsStep}
 use Rattle.laws_bits.proofs.Spans.{wrote_in}
@@ -41,9 +41,9 @@ module _ {T : Type 0} (code : Coding T) (c : ℕ) (s : SetState T) (events : Lis
 
   pub no_change : (ask : Option Ask) (es : List (Event T)) → SameBits ask → ((b : ℕ) → sets b es ≡ 0)
       → ((b : ℕ) → clears b es ≡ 0) → Stands ask es → AreRight (BitsAnswerRight c) events es
-      → Conserves c s.words events changes (words_after s.words ask) es (changes + change_of s.words ask)
+      → Preserves c s.words events changes (words_after s.words ask) es (changes + change_of s.words ask)
   no_change ask es same no_sets no_clears position right =
-      rest_conserves c s.words events changes (words_after s.words ask) es (changes + change_of s.words ask)
+      rest_preserves c s.words events changes (words_after s.words ask) es (changes + change_of s.words ask)
       (as_long s.words ask) same no_sets no_clears position (pays_by s.words ask changes) right
 
   -- a call that has written nothing goes on, and no bit changes
@@ -55,7 +55,7 @@ module _ {T : Type 0} (code : Coding T) (c : ℕ) (s : SetState T) (events : Lis
       → Does [] start ask back (GoOn flight) []
   goes_on start ask back flight same position few none at knows =
       record {
-        conserves = no_change ask [] same (λ b. refl) (λ b. refl) position tt;
+        preserves = no_change ask [] same (λ b. refl) (λ b. refl) position tt;
         own = tt;
         stands = tt;
         here = record { span = ap (λ es. Open (Bits start) es) none; steps = few; at = at };
@@ -71,7 +71,7 @@ module _ {T : Type 0} (code : Coding T) (c : ℕ) (s : SetState T) (events : Lis
       → Does wrote start ask back (Done answer) []
   ends wrote start ask back answer same position right says few paid =
       record {
-        conserves = no_change ask (Finished p (Bits start) answer ∷ []) same (λ b. refl) (λ b. refl) position (right, tt);
+        preserves = no_change ask (Finished p (Bits start) answer ∷ []) same (λ b. refl) (λ b. refl) position (right, tt);
         own = (refl, tt);
         stands = ((refl, says), tt);
         here = record { answer = answer; wrote = wrote; span = refl; steps = few };

@@ -7,7 +7,7 @@ use Rattle.std.proofs.Common.{arith}
 use Rattle.model.specs.declared.families.bits.BitsStart.TheVariants.{Set, ResetAll}
 use Rattle.model.specs.declared.turn.Kind as kinds
 use Rattle.laws_bits.proofs.Counts.Core.{TakenBelow, taken_still, counts_more, takes_more}
-use Rattle.laws_bits.proofs.Family.{SetKind}
+use Rattle.laws_bits.proofs.Family.{SetOutline}
 use Rattle.laws_bits.proofs.Spans.{wrote_in}
 
 abbrev pub number_of : BitsFlight → ℕ
@@ -44,10 +44,10 @@ module _ {T : Type 0} where
       (backs ≡ 0) × SinceBegin p (TakenBelow run.call.word) events
   KnowsCall p events backs flight = ⊥
 
-  -- ---- what a turn conserves
+  -- ---- what a turn preserves
 
   -- the counts after a turn beside those of which its events tell
-  pub record Conserves (c : ℕ) (words : List ℕ) (events : List (Event T)) (turns : ℕ) (words' : List ℕ) (es : List (Event T)) : Type 0 where
+  pub record Preserves (c : ℕ) (words : List ℕ) (events : List (Event T)) (turns : ℕ) (words' : List ℕ) (es : List (Event T)) : Type 0 where
     pub sized : length words' ≡ length words
     pub moved : (b : ℕ) → (wraps : ℕ) × (counts b es + get_or words b 0 ≡ takes b es + get_or words' b 0 + 2 ^ 64 * wraps)
     pub within : (b : ℕ) → c ≤ b → counts b es ≡ 0
@@ -56,10 +56,10 @@ module _ {T : Type 0} where
     pub right : AreRight (CountsAnswerOn c) events es
 
   -- so does a turn that leaves the counts, and whose events tell of none
-  pub rest_conserves : (c : ℕ) (words : List ℕ) (events : List (Event T)) (turns : ℕ) (es : List (Event T))
+  pub rest_preserves : (c : ℕ) (words : List ℕ) (events : List (Event T)) (turns : ℕ) (es : List (Event T))
       → Holds c words events turns → ((b : ℕ) → counts b es ≡ 0) → ((b : ℕ) → takes b es ≡ 0)
-      → AreRight (CountsAnswerOn c) events es → Conserves c words events turns words es
-  rest_conserves c words events turns es h no_counts no_takes right =
+      → AreRight (CountsAnswerOn c) events es → Preserves c words events turns words es
+  rest_preserves c words events turns es h no_counts no_takes right =
       record {
         sized = refl;
         moved = λ b. (0, rw (no_counts b, no_takes b) (omega arith));
@@ -71,14 +71,14 @@ module _ {T : Type 0} where
 
   -- ---- the kind of the counting bit sets
 
-  abbrev pub counting_set : SetKind T
+  abbrev pub counting_set : SetOutline T
   counting_set =
       record {
         kind = kinds.TheVariants.Counts;
-        own = refl;
+        no_loan = refl;
         promise = counts_promise;
         Holds = Holds;
-        Conserves = λ c words events turns changes words' es changes'. Conserves c words events turns words' es;
+        Preserves = λ c words events turns changes words' es changes'. Preserves c words events turns words' es;
         wrote = call_wrote;
         number = λ flight backs. number_of flight;
         At = CallAt;
@@ -86,25 +86,25 @@ module _ {T : Type 0} where
       }
 
   module _ (c : ℕ) (words : List ℕ) (events : List (Event T)) (turns : ℕ) (words' : List ℕ) (es : List (Event T))
-      (conserves : Conserves c words events turns words' es) where
+      (preserves : Preserves c words events turns words' es) where
     pub holds_more : Holds c words events turns → Holds c words' (events ++ es) (turns + 1)
     holds_more h =
         record {
-          sized = conserves.sized ∙ h.sized;
+          sized = preserves.sized ∙ h.sized;
           conserved = conserved;
-          within = λ b past. (let a = h.within b past in let e = conserves.within b past in counts_more b events es ∙ omega arith);
-          low = conserves.low;
-          few = λ b. (let a = h.few b in let e = conserves.few b in let c = counts_more b events es in omega arith);
-          answers = Each-append (CountsAnswerOn c) events es h.answers conserves.right;
+          within = λ b past. (let a = h.within b past in let e = preserves.within b past in counts_more b events es ∙ omega arith);
+          low = preserves.low;
+          few = λ b. (let a = h.few b in let e = preserves.few b in let c = counts_more b events es in omega arith);
+          answers = Each-append (CountsAnswerOn c) events es h.answers preserves.right;
         }
       where
         conserved : (b : ℕ) → (wraps : ℕ) × (counts b (events ++ es) ≡ takes b (events ++ es) + get_or words' b 0 + 2 ^ 64 * wraps)
         conserved b =
             let before = (h.conserved b).1 in
-            let moved = (conserves.moved b).1 in
+            let moved = (preserves.moved b).1 in
             let c = counts_more b events es in
             let t = takes_more b events es in
-            ((h.conserved b).0 + (conserves.moved b).0, omega arith)
+            ((h.conserved b).0 + (preserves.moved b).0, omega arith)
 
   -- a turn of another party leaves what a call knows
   pub call_still : (p : ℕ) (events es : List (Event T)) (none : BeginsNone p es) (backs : ℕ) (flight : BitsFlight)

@@ -22,7 +22,7 @@ module _ {T : Type 0} where
         tells = λ old turn new. tt;
         keeps_promise = counts_kept c;
         holds = λ words events turns changes words' es changes'. holds_more c words events turns words' es;
-        still = λ q words events turns changes words' es changes' conserves none since. call_still q events es none;
+        still = λ q words events turns changes words' es changes' preserves none since. call_still q events es none;
         begins_own = begins_own c;
         begins = λ p start words events turns changes. begins_none c p start words events turns;
         first = first_is c;

@@ -146,7 +146,7 @@ module _ {T : Type 0} (code : Coding T) (c : ℕ) (s : SetState T) (events : Lis
           (changes + change_of ws swaps))
           (sym (append-nil fx))
           (record {
-            conserves = record {
+            preserves = record {
               sized = length-set ws word 0;
               moved = λ b. moved b (counts b fx) (takes b fx) (out.counts b) (out.takes b);
               within = λ b past. out.counts b;
@@ -172,7 +172,7 @@ module _ {T : Type 0} (code : Coding T) (c : ℕ) (s : SetState T) (events : Lis
       ends_with_none last none =
           let out = takes_nothing none in
           record {
-            conserves = record {
+            preserves = record {
               sized = length-set ws word 0;
               moved = λ b. moved b 0 0 refl (out.takes b);
               within = λ b past. refl;

@@ -5,7 +5,7 @@ use Rattle.laws_bits.proofs.Names.{Coding, first_of, is_question, first, want, c
 use Rattle.std.proofs.Common.{arith}
 use Rattle.model.specs.declared.families.bits.BitsStart.TheVariants.{Set, ResetAll}
 use Rattle.model.specs.declared.turn.Kind as kinds
-use Rattle.laws_bits.proofs.Counts.Invariant.{Holds, CallAt, Conserves, counting_set}
+use Rattle.laws_bits.proofs.Counts.Invariant.{Holds, CallAt, Preserves, counting_set}
 use Rattle.laws_bits.proofs.Counts.Resets.{reset_step}
 use Rattle.laws_bits.proofs.Counts.Steps.{set_shows}
 use Rattle.laws_bits.proofs.Family.{SetState, ShowsStep, StepOf}
@@ -65,5 +65,5 @@ module _ {T : Type 0} where
 
   -- to begin changes no count
   pub begins_none : (c p : ℕ) (start : BitsStart) (words : List ℕ) (events : List (Event T)) (turns : ℕ)
-      → Holds c words events turns → Conserves c words events turns words (Begun p (Bits start) ∷ [])
+      → Holds c words events turns → Preserves c words events turns words (Begun p (Bits start) ∷ [])
   begins_none x0 x1 x2 x3 x4 x5 x6 = grind arith

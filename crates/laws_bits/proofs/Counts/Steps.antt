@@ -25,7 +25,7 @@ module _ {T : Type 0} (code : Coding T) (c : ℕ) (s : SetState T) (events : Lis
         let sized = holds.sized in
         let within : place < length ws = omega arith in
         record {
-          conserves = record {
+          preserves = record {
             sized = length-set ws place ((get_or ws place 0 + 1) % 2 ^ 64);
             moved = moved within;
             within = past;

@@ -21,7 +21,7 @@ use Rattle.history.specs.Stages.{At, Ends, Since}
 use Rattle.history.proofs.Drives.{called, at_itself}
 use Rattle.history.proofs.Made.{MadeSoFar, made_with, made_more, same_between}
 use Rattle.lock_free.specs.Driven.{HasMade, HasDone, IsIdle}
-use Rattle.lock_free.specs.Sets.Kinds.{SetKind, Flags, Counts, machine_of, first_word, words_of}
+use Rattle.lock_free.specs.Sets.Kinds.{SetKind, Flags, Counts, machine_kind, first_word, words_of}
 use Rattle.lock_free.specs.Sets.Stages.{all_words, flight_word, word_of, flight_at, emptied, empties}
 use Rattle.lock_free.proofs.Ends.{done, has_made}
 use Rattle.lock_free.proofs.Sets.Emptying.{goes_next, ends_last, begins, first_at}
@@ -38,7 +38,7 @@ word_at_first Flags n = refl
 word_at_first Counts n = refl
 
 begins_at : (kind : SetKind) (n : ℕ) (c : Emptying) (m : OneWord)
-    → first_of (machine_of kind) n emptying ((opening_of (machine_of kind)).kept n) ≡ Some (flight_at kind c m) → c.word ≡ first_word kind
+    → first_of (machine_kind kind) n emptying ((opening_of (machine_kind kind)).kept n) ≡ Some (flight_at kind c m) → c.word ≡ first_word kind
 begins_at kind n c m e =
     let both : Some (flight_at {T = ℕ} kind (all_words kind n) fresh) ≡ Some (flight_at kind c m) = sym (begins kind n) ∙ e in
     let same : flight_at {T = ℕ} kind (all_words kind n) fresh ≡ flight_at kind c m = cc in
@@ -46,7 +46,7 @@ begins_at kind n c m e =
 
 -- the call stands here, and has written this
 pub record WroteSoFar (kind : SetKind) (cap : ℕ) (wrote : ℕ → List (Event ℕ)) (base v : View ℕ) (c : Emptying) (m : OneWord) : Type 0 where
-  pub at : At one_word (machine_of kind) (empties kind) base v c m
+  pub at : At one_word (machine_kind kind) (empties kind) base v c m
   pub size : base.capacity ≡ cap
   pub idle : base.going ≡ None
   pub made : MadeSoFar emptying base v wrote
@@ -58,14 +58,14 @@ pub record Stepped (kind : SetKind) (v w : View ℕ) (word : ℕ) (room : OneWor
   pub last : List (Event ℕ)
   pub since : Since party emptying es last v w
   pub is : es ≡ emptied kind party word room.0
-  pub history : IsHistory one_word (machine_of kind) v.capacity w.seen
+  pub history : IsHistory one_word (machine_kind kind) v.capacity w.seen
 
 module _ (kind : SetKind) where
   abbrev pub AtWord : View ℕ → View ℕ → Emptying → OneWord → Type 0
-  AtWord = At one_word (machine_of kind) (empties kind)
+  AtWord = At one_word (machine_kind kind) (empties kind)
 
   abbrev pub EndsAll : View ℕ → Unit {0} → OneWord → View ℕ → Type 0
-  EndsAll = Ends one_word (machine_of kind) (empties kind)
+  EndsAll = Ends one_word (machine_kind kind) (empties kind)
 
   abbrev pub Goes : View ℕ → After Emptying (Unit {0}) → OneWord → View ℕ → Type 0
   Goes base a m w = Next (λ (z : View ℕ). z.capacity) AtWord EndsAll base a m w
@@ -73,7 +73,7 @@ module _ (kind : SetKind) where
   -- where it stands is its word
   pub itself : (base v : View ℕ) (c : Emptying) (m : OneWord) → AtWord base v c m → AtWord v v c m
   itself base v c m at =
-      at_itself one_word (machine_of kind) (empties kind) base v c m (λ p. refl)
+      at_itself one_word (machine_kind kind) (empties kind) base v c m (λ p. refl)
       (λ n p. let here = has_word kind c m in (omega arith, λ e. refl, λ e. absurd (omega arith))) at
 
   pub word_now : (base v : View ℕ) (c : Emptying) (m : OneWord) → base.going ≡ v.going → AtWord base v c m → word_of (first_word kind) v.going ≡ c.word
@@ -131,7 +131,7 @@ module _ (kind : SetKind) where
         let one : w.made ≡ base.made ++ Begun here.party emptying ∷ ((f here.party ++ more here.party) ++ Finished here.party emptying answers.Done ∷ []) =
         made_with emptying base v w f more (Finished here.party emptying answers.Done ∷ []) here.wrote here.party idle so_far here.same here.since is
         in
-        let mine_all = called one_word (machine_of kind) (empties kind) base w tt room idle all in
+        let mine_all = called one_word (machine_kind kind) (empties kind) base w tt room idle all in
         let two : w.made ≡ base.made ++ Begun all.party emptying ∷ ((f all.party ++ more all.party) ++ Finished all.party emptying answers.Done ∷ []) =
         subst (λ p. w.made ≡ base.made ++ Begun p emptying ∷ ((f p ++ more p) ++ Finished p emptying answers.Done ∷ [])) same one
         in (
@@ -211,11 +211,11 @@ module _ (kind : SetKind) where
           record { at = on.1; size = h.size; idle = h.idle; made = on.0 }
 
       pub wrote_all : a ≡ Done tt
-          → HasMade emptying answers.Done (λ p. wrote p ++ emptied kind p c.word room.0) base w × HasDone (machine_of kind) base w
+          → HasMade emptying answers.Done (λ p. wrote p ++ emptied kind p c.word room.0) base w × HasDone (machine_kind kind) base w
       wrote_all is =
           let all =
           ends_all base v w c m room n wrote h.idle h.made h.at kept (goes_so ∙ is)
           (λ b at. subst (λ z. Goes b z room w) is (told b at)) in (
-            has_made (machine_of kind) (empties kind) base w tt room all.0 h.idle (λ p. wrote p ++ emptied kind p c.word room.0) all.1,
-            done (machine_of kind) (empties kind) (λ o p h. h) base w tt room all.0,
+            has_made (machine_kind kind) (empties kind) base w tt room all.0 h.idle (λ p. wrote p ++ emptied kind p c.word room.0) all.1,
+            done (machine_kind kind) (empties kind) (λ o p h. h) base w tt room all.0,
           )

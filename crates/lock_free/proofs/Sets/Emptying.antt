@@ -34,7 +34,7 @@ use Rattle.history.proofs.Drives.{NeverPushes, IsCallOf, goes, keeps_all, at_onc
 use Rattle.history.proofs.Sets.{bits_starts, counts_starts, set_effects, bits_owe, counts_owe}
 use Rattle.history.proofs.Turns.{KindLaws}
 use Rattle.lock_free.specs.Driven.{IsIdle}
-use Rattle.lock_free.specs.Sets.Kinds.{SetKind, Flags, Counts, machine_of, first_word, words_of}
+use Rattle.lock_free.specs.Sets.Kinds.{SetKind, Flags, Counts, machine_kind, first_word, words_of}
 use Rattle.lock_free.specs.Sets.Stages.{all_words, word_of, flight_at, emptied, empties, empties_none}
 
 -- ---- how it goes on
@@ -86,7 +86,7 @@ hears_word c m a n e = go (nat_lt c.word c.end) refl
 
 -- ---- it is a call of the model, of either kind
 
-owes : (kind : SetKind) (capacity : ℕ) → KindLaws one_word (machine_of kind) capacity (words_of kind capacity) set_effects
+owes : (kind : SetKind) (capacity : ℕ) → KindLaws one_word (machine_kind kind) capacity (words_of kind capacity) set_effects
 owes Flags = bits_owe one_word
 owes Counts = counts_owe one_word
 
@@ -153,23 +153,23 @@ module _ (kind : SetKind) where
       all_of p c m n from here es none =
           ap (λ zs. zs ++ set_effects p (flight_at kind c m) n) none ∙ (same_effects kind p c m n ∙ ap (λ z. emptied kind p z n) here)
 
-  pub keeps : KeepsRule (λ (z : View ℕ). z.capacity) (At one_word (machine_of kind) (empties kind))
-      (Ends one_word (machine_of kind) (empties kind)) (λ key. words_of kind key + 1) (λ key. key)
-      (λ key. IsMachine one_word (machine_of kind) key) reset_all_want reset_all_after (λ c m n. reset_all_kept m n)
+  pub keeps : KeepsRule (λ (z : View ℕ). z.capacity) (At one_word (machine_kind kind) (empties kind))
+      (Ends one_word (machine_kind kind) (empties kind)) (λ key. words_of kind key + 1) (λ key. key)
+      (λ key. IsMachine one_word (machine_kind kind) key) reset_all_want reset_all_after (λ c m n. reset_all_kept m n)
   keeps =
-      keeps_all one_word (machine_of kind) set_effects (words_of kind) (owes kind) reset_all_want reset_all_after
+      keeps_all one_word (machine_kind kind) set_effects (words_of kind) (owes kind) reset_all_want reset_all_after
       (λ c m n. reset_all_kept m n) (empties kind) is_call (λ c n. refl)
 
 -- ---- its begin
 
 -- the model begins it so
 pub begins : (kind : SetKind) (n : ℕ)
-    → first_of (machine_of kind) n (Bits ResetAll) ((opening_of (machine_of kind)).kept n) ≡ Some (flight_at {T = ℕ} kind (all_words kind n) fresh)
+    → first_of (machine_kind kind) n (Bits ResetAll) ((opening_of (machine_kind kind)).kept n) ≡ Some (flight_at {T = ℕ} kind (all_words kind n) fresh)
 begins Flags n = refl
 begins Counts n = refl
 
 may : (kind : SetKind) (n p : ℕ)
-    → first_row (begin_rows {T = ℕ} (machine_of kind) n ((opening_of (machine_of kind)).kept n) p (Bits ResetAll)) ≡ None
+    → first_row (begin_rows {T = ℕ} (machine_kind kind) n ((opening_of (machine_kind kind)).kept n) p (Bits ResetAll)) ≡ None
 may Flags n p = refl
 may Counts n p = refl
 
@@ -185,17 +185,17 @@ wrote_first Counts n p = (omega arith, λ e. refl, λ e. absurd (omega arith))
 -- it may begin at any time, as the party that the pass was last
 starts : (kind : SetKind) (call : Calling ℕ Emptying OneWord (Unit {0})) (v : View ℕ) (c : Emptying) (m : OneWord)
     → ((o : Option ℕ) (p : ℕ) → IfSome o (λ q. q ≡ p) → call.by o p)
-    → first_of (machine_of kind) v.capacity call.start ((opening_of (machine_of kind)).kept v.capacity) ≡ Some (call.flight c m)
-    → ((p : ℕ) → first_row (begin_rows (machine_of kind) v.capacity ((opening_of (machine_of kind)).kept v.capacity) p call.start) ≡ None)
-    → (t : Trace ℕ) (owner : ℕ → ℕ) (j : ℕ) → IsRun one_word (machine_of kind) v.capacity t → owner j ≡ j
+    → first_of (machine_kind kind) v.capacity call.start ((opening_of (machine_kind kind)).kept v.capacity) ≡ Some (call.flight c m)
+    → ((p : ℕ) → first_row (begin_rows (machine_kind kind) v.capacity ((opening_of (machine_kind kind)).kept v.capacity) p call.start) ≡ None)
+    → (t : Trace ℕ) (owner : ℕ → ℕ) (j : ℕ) → IsRun one_word (machine_kind kind) v.capacity t → owner j ≡ j
     → IfSome v.party (λ p. owner p ≡ j)
     → ((f : Event ℕ → ℕ) → sum_by f v.made ≡ sum_by (owned owner j f) t.events)
-    → Starts one_word (machine_of kind) call v c m t owner j
+    → Starts one_word (machine_kind kind) call v c m t owner j
 starts Flags = bits_starts one_word
 starts Counts = counts_starts one_word
 
 module _ (kind : SetKind) (v : View ℕ) (idle : IsIdle v.capacity v) where
-  pub first_at : 0 < v.capacity → At one_word (machine_of kind) (empties kind) v v (all_words kind v.capacity) fresh
+  pub first_at : 0 < v.capacity → At one_word (machine_kind kind) (empties kind) v v (all_words kind v.capacity) fresh
   first_at some =
       inl (record {
         is = refl;
@@ -210,7 +210,7 @@ module _ (kind : SetKind) (v : View ℕ) (idle : IsIdle v.capacity v) where
 
   -- ---- a set of no place
 
-  none_first : IsFirst one_word (machine_of kind) (empties_none kind) v v (all_words kind v.capacity) fresh
+  none_first : IsFirst one_word (machine_kind kind) (empties_none kind) v v (all_words kind v.capacity) fresh
   none_first =
       record {
         is = refl;
@@ -223,10 +223,10 @@ module _ (kind : SetKind) (v : View ℕ) (idle : IsIdle v.capacity v) where
         wrote = λ p. refl;
       }
 
-  pub none_at : v.capacity ≡ 0 → (slots id word : ℕ) → Allows (IsMachine one_word (machine_of kind) v.capacity) slots id (v, []) word (λ n. n)
-      (λ found me. Ends one_word (machine_of kind) (empties_none kind) v tt (record { 0 = 0 }) me.0 × (me.1 ≡ []))
+  pub none_at : v.capacity ≡ 0 → (slots id word : ℕ) → Allows (IsMachine one_word (machine_kind kind) v.capacity) slots id (v, []) word (λ n. n)
+      (λ found me. Ends one_word (machine_kind kind) (empties_none kind) v tt (record { 0 = 0 }) me.0 × (me.1 ≡ []))
   none_at none slots id word =
-      at_once one_word (machine_of kind) set_effects (words_of kind) (owes kind) (empties_none kind) v
+      at_once one_word (machine_kind kind) set_effects (words_of kind) (owes kind) (empties_none kind) v
       (all_words kind v.capacity) fresh fresh tt v.capacity slots id word refl none_first
       (asks_none kind) (never kind (all_words kind v.capacity) fresh 0) (ends_so kind) (writes_none kind) (λ p wrote h. h)
     where

@@ -5,9 +5,9 @@ use Rattle.model.specs.Coding.{one_word}
 use Rattle.history.specs.History.{IsMachine}
 use Rattle.history.specs.Views.{first_view}
 use Rattle.history.proofs.Sets.{bits_open, counts_open}
-use Rattle.lock_free.specs.Sets.Kinds.{SetKind, Flags, Counts, machine_of, words_of}
+use Rattle.lock_free.specs.Sets.Kinds.{SetKind, Flags, Counts, machine_kind, words_of}
 
 pub opens : (kind : SetKind) (capacity : ℕ) → capacity < 2 ^ 32 → (words : List ℕ) → words ≡ replicate (words_of kind capacity + 1) 0
-    → IsMachine one_word (machine_of kind) capacity (opening words [] (first_view capacity))
+    → IsMachine one_word (machine_kind kind) capacity (opening words [] (first_view capacity))
 opens Flags = bits_open
 opens Counts = counts_open

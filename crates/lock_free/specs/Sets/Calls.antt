@@ -8,7 +8,7 @@ pub use Rattle.threaded.specs.Sets.{SetId}
 use Rattle.history.specs.declared.view.View.{View}
 use Rattle.history.specs.History.{IsHistory}
 use Rattle.history.specs.Passes as passes
-use Rattle.lock_free.specs.Sets.Kinds.{machine_of}
+use Rattle.lock_free.specs.Sets.Kinds.{machine_kind}
 use Rattle.lock_free.specs.declared.mpmc.sets.rule.Kind.{Ghosts}
 use Rattle.lock_free.specs.declared.mpmc.sets.rule.SetRule.{SetRule}
 use Rattle.lock_free.specs.declared.mpmc.sets.Set.{Set}
@@ -57,7 +57,7 @@ module _ {E : Type 0} {kind : Ghosts E} where
 
   -- it has seen a history of its set
   abbrev pub HasHistory : Held E ℕ (SetRule E) kind → Type 0
-  HasHistory p = IsHistory one_word (machine_of kind.KIND) (set_of p).capacity (history p)
+  HasHistory p = IsHistory one_word (machine_kind kind.KIND) (set_of p).capacity (history p)
 
   -- it is the same party, where it was one
   abbrev pub IsSameParty : Held E ℕ (SetRule E) kind → Held E ℕ (SetRule E) kind → Type 0

@@ -9,9 +9,9 @@ pub data SetKind : Type 0 where
   Counts : SetKind
 
 -- the machine that has such a set
-abbrev pub machine_of : SetKind → Kind
-machine_of Flags = kinds.Bits
-machine_of Counts = kinds.Counts
+abbrev pub machine_kind : SetKind → Kind
+machine_kind Flags = kinds.Bits
+machine_kind Counts = kinds.Counts
 
 -- the word of the first places
 abbrev pub first_word : SetKind → ℕ

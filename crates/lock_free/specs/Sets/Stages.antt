@@ -22,14 +22,14 @@ all_words Flags capacity = all_bits capacity
 all_words Counts capacity = all_counts capacity
 
 -- the word to which the call had come
-abbrev pub bits_word : BitsFlight → ℕ
-bits_word (calls.TheVariants.ResetAll run) = run.call.word
-bits_word (calls.TheVariants.TakeAll run) = run.call.word
-bits_word flight = 0
+abbrev pub set_word : BitsFlight → ℕ
+set_word (calls.TheVariants.ResetAll run) = run.call.word
+set_word (calls.TheVariants.TakeAll run) = run.call.word
+set_word flight = 0
 
 module _ {T : Type 0} where
   abbrev pub flight_word : Flight T → ℕ
-  flight_word (flights.TheVariants.Bits flight) = bits_word flight
+  flight_word (flights.TheVariants.Bits flight) = set_word flight
   flight_word flight = 0
 
   abbrev pub word_of : ℕ → Option (Start T × Flight T) → ℕ

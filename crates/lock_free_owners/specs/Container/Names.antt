@@ -85,8 +85,8 @@ module _ {T : Type 0} {words : Ghosts T} where
 
   -- the state is the one that the pass has: as it was left by the latest look that the pass made of the state that it had
   -- got last
-  abbrev pub IsLatest : Pass T words → ContainerState T → Type 0
-  IsLatest p state =
+  abbrev pub IsLatestState : Pass T words → ContainerState T → Type 0
+  IsLatestState p state =
       (by : ℕ) × ((view p).party ≡ Some by) × ((view p).state ≡ Some (unnumbered state))
 
   -- it has seen a history of its container

@@ -2,7 +2,7 @@
 use Rattle.lock_free_queues.proofs.Names.{◌≡◌, ℕ, ◌*◌, ◌^◌, ◌<◌, min, List, [], ◌∷◌, ◌++◌, replicate, sym, ap, ◌∙◌}
 use Rattle.lock_free_queues.proofs.Names.{arith, opening, QueueKind, IndexQueue, Overflow, Queue, one_word}
 use Rattle.lock_free_queues.proofs.Names.{of_indices, of_values, IsMachine}
-use Rattle.lock_free_queues.specs.Queues.Bounded.{machine_of}
+use Rattle.lock_free_queues.specs.Queues.Bounded.{machine_kind}
 use Rattle.lock_free_queues.specs.Queues.Kinds.{words_in_cells, opened_by}
 use Rattle.lock_free_queues.specs.Queues.Opened.{position_at}
 use Rattle.lock_free_queues.proofs.Queues.Filled.{filled, zeros_stay}
@@ -19,7 +19,7 @@ module _ (capacity : ℕ) (small : capacity < 2 ^ 32) (position : ℕ) (fits : p
   zeros words same = same ∙ ap words_with (sym (zeros_stay capacity (1 * min position capacity)))
 
   opens : (kd : QueueKind) (words : List ℕ) → words ≡ words_with (replicate (words_in_cells 1 kd capacity) 0)
-      → IsMachine one_word (machine_of kd) capacity (opening words [] (opened_by one_word kd capacity position))
+      → IsMachine one_word (machine_kind kd) capacity (opening words [] (opened_by one_word kd capacity position))
   opens IndexQueue words same = queue_opens one_word is_coding of_indices 0 capacity small position fits words (zeros words same)
   opens Overflow words same = over_opens one_word is_coding capacity small position fits words same
   opens Queue words same =
@@ -28,5 +28,5 @@ module _ (capacity : ℕ) (small : capacity < 2 ^ 32) (position : ℕ) (fits : p
 
   pub numbers_open : (kd : QueueKind) (cells start : ℕ) (words : List ℕ) → words_in_cells 1 kd capacity ≡ cells
       → start ≡ position_at capacity position → words ≡ start ∷ start ∷ 1 ∷ 1 ∷ (replicate cells 0 ++ 0 ∷ [])
-      → IsMachine one_word (machine_of kd) capacity (opening words [] (opened_by one_word kd capacity position))
+      → IsMachine one_word (machine_kind kd) capacity (opening words [] (opened_by one_word kd capacity position))
   numbers_open x0 x1 x2 x3 x4 x5 x6 = grind (arith, opens)

@@ -2,7 +2,7 @@
 use Rattle.std.proofs.Common.{arith}
 use Rattle.lock_free_queues.proofs.Names.{◌≡◌, ℕ, ◌+◌, ◌<◌, ◌≤◌, List, [], ◌∷◌, length, refl, sym, ap, subst}
 use Rattle.lock_free_queues.proofs.Names.{append-nil, PoppedNone, Event, HandedOut, Acted, Item, Queues, QueueKind}
-use Rattle.lock_free_queues.proofs.Names.{Pop, Coding, published, handed_out, hands_out, machine_kind, of_indices}
+use Rattle.lock_free_queues.proofs.Names.{Pop, Coding, published, handed_out, hands_out, of_indices}
 use Rattle.lock_free_queues.proofs.Names.{of_values, View, IsHistory, history_by_over_holders, over_lists_kept}
 use Rattle.lock_free_queues.proofs.Names.{over_listed}
 use Rattle.model.specs.declared.families.queues.QueueKind as queues
@@ -13,7 +13,7 @@ use Rattle.model.proofs.Linearizable.Kinds.{run_linearizable}
 use Rattle.model.proofs.Progress.{keeps_guarantees}
 use Rattle.laws_queues.proofs.Queues.Kept.{kept_on}
 use Rattle.history.proofs.Reached.{queue_run}
-use Rattle.lock_free_queues.specs.Queues.Bounded.{IsBounded, machine_of}
+use Rattle.lock_free_queues.specs.Queues.Bounded.{IsBounded, machine_kind}
 use Rattle.lock_free_queues.specs.Queues.Positions.{IsPublished, IsTaken, IsSound, IsOverSound}
 use Rattle.lock_free_queues.specs.Queues.Told.{HasPublished, HasTakenOut, HasTakenFirst, WasEmpty, FoundNone, WasFull}
 use Rattle.lock_free_queues.proofs.Queues.Positions.{values_agree, sound_history, published_at, taken_at, none_later, found_later, full_below, hits_grow}
@@ -21,7 +21,7 @@ use Rattle.lock_free_queues.proofs.Queues.Facts.{answers_right, tells_lengths, g
 
 module _ {T : Type 0} (code : Coding T) where
   abbrev IsSeen : QueueKind → ℕ → List (Event T) → Type 0
-  IsSeen kind capacity events = IsHistory code (machine_of kind) capacity events
+  IsSeen kind capacity events = IsHistory code (machine_kind kind) capacity events
 
   linearized : (kind : QueueKind) (capacity : ℕ) (events : List (Event T))
       → (h : IsHistory code (machine_kind kind) capacity events) → IsLinearized (machine_kind kind) h.trace

@@ -2,11 +2,11 @@
 use Rattle.model.specs.declared.families.queues.QueueKind.{QueueKind}
 use Rattle.model.specs.declared.families.queues.QueueKind as queues
 use Rattle.model.specs.declared.turn.Kind.{Kind}
-use Rattle.laws_queues.proofs.Queues.Invariant.{machine_kind}
+use Rattle.laws_queues.proofs.Queues.Invariant as laws
 
 -- the machine that has such a queue
-abbrev pub machine_of : QueueKind → Kind
-machine_of kind = machine_kind kind
+abbrev pub machine_kind : QueueKind → Kind
+machine_kind kind = laws.machine_kind kind
 
 -- a push to a full one is refused: those of indices and of values
 abbrev pub IsBounded : QueueKind → Type 0

@@ -7,7 +7,7 @@ use Rattle.model.specs.declared.families.queues.QueueKind.{QueueKind}
 use Rattle.model.specs.Coding.{Coding, coding_of}
 use Rattle.history.specs.declared.view.View.{View}
 use Rattle.history.specs.History.{IsHistory}
-use Rattle.lock_free_queues.specs.Queues.Bounded.{machine_of}
+use Rattle.lock_free_queues.specs.Queues.Bounded.{machine_kind}
 pub use Rattle.history.specs.Passes.{Goes, MissesNothing}
 use Rattle.lock_free_queues.specs.declared.spsc.ring.rule.Kind as kinds
 use Rattle.lock_free_queues.specs.declared.spsc.ring.rule.RingRule.{RingRule}
@@ -26,11 +26,11 @@ pub record QueueId : Type 0 where
 module _ {T : Type 0} where
   -- it has seen a history of a queue of this kind and capacity
   abbrev pub HasHistory : Coding T → QueueKind → ℕ → View T → Type 0
-  HasHistory code kind capacity v = IsHistory code (machine_of kind) capacity v.seen
+  HasHistory code kind capacity v = IsHistory code (machine_kind kind) capacity v.seen
 
   -- what each call leaves
   abbrev pub GoesOn : Coding T → QueueKind → ℕ → View T → View T → Type 0
-  GoesOn code kind capacity old new = Goes code (machine_of kind) capacity old new
+  GoesOn code kind capacity old new = Goes code (machine_kind kind) capacity old new
 
 module _ {E T : Type 0} where
   abbrev pub queue_id : Ring E T → QueueId

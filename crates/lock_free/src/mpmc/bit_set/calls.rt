@@ -9,7 +9,7 @@ ghost use Rattle.lock_free.specs.Sets.Calls.{capacity_of, IsPassOf, view, GoesOn
 ghost use Rattle.lock_free.specs.Bits.Callable.{TakesPlaces, Visited};
 ghost use Rattle.lock_free.specs.Bits.Told.{HasSet, StoodOnce, HasReset, AllClearOnce, HasCleanedOut, MissedNoPlace};
 
-use super::drives::{ResetsNext, Sets};
+use super::drives::{ResetsNext, SetsPlace};
 use super::{BitSet, Pass};
 use crate::mpmc::sets::calls::empty_none;
 use crate::mpmc::sets::drives::Empties;
@@ -98,7 +98,7 @@ impl BitSet {
         let place = id as u64;
         let end = pass
             .seated
-            .drive_on::<Set, Sets>(rt, Set::new(), &place, &mut ());
+            .drive_on::<Set, SetsPlace>(rt, Set::new(), &place, &mut ());
         Set::answer(end, &place, &())
     }
 

@@ -7,9 +7,9 @@ use steps::bits::bit_set::{ResetNext, ResetNextStage, Set};
 use threaded::driver::rule::Drives;
 
 /// Setting a place.
-pub struct Sets;
+pub struct SetsPlace;
 
-impl Drives<View<u64>, Set> for Sets {
+impl Drives<View<u64>, Set> for SetsPlace {
     ghost use Rattle.history.specs.Stages.{At, Ends};
     ghost use Rattle.lock_free.specs.Bits.Stages.{sets_place};
 

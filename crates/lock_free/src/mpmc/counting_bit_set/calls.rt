@@ -8,7 +8,7 @@ ghost use Rattle.lock_free.specs.Counts.Callable.{TakesCounts};
 ghost use Rattle.lock_free.specs.Counts.Told.{HasCounted, AnswersCount, HasTakenOut, MissedNoCount};
 ghost use Rattle.lock_free.specs.Driven.{IsIdle, HasDone};
 
-use super::drives::Raises;
+use super::drives::CountsPlace;
 use super::{CountingBitSet, Pass};
 use crate::mpmc::sets::calls::empty_none;
 use crate::mpmc::sets::drives::Empties;
@@ -81,7 +81,7 @@ impl CountingBitSet {
         ensures answers { AnswersCount id result (view pass.new) }
     {
         let place = id as u64;
-        let old = pass.seated.drive::<Set, Raises>(Set, &place, &mut ());
+        let old = pass.seated.drive::<Set, CountsPlace>(Set, &place, &mut ());
         Set::answer(old, &place, &())
     }
 

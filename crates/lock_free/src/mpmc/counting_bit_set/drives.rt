@@ -7,9 +7,9 @@ use steps::bits::counting_bit_set;
 use threaded::driver::rule::Drives;
 
 /// Counting a place.
-pub struct Raises;
+pub struct CountsPlace;
 
-impl Drives<View<u64>, counting_bit_set::Set> for Raises {
+impl Drives<View<u64>, counting_bit_set::Set> for CountsPlace {
     ghost use Rattle.history.specs.Stages.{At, Ends};
     ghost use Rattle.lock_free.specs.Counts.Stages.{counts_place};
 

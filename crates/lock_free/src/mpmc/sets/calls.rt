@@ -6,7 +6,7 @@ ghost use Rattle.model.specs.declared.families.bits.BitsStart.TheVariants.{Reset
 ghost use Rattle.threaded.specs.Seats.{seen, IsSame, IsAt};
 ghost use Rattle.history.specs.declared.view.View.{View as Views};
 ghost use Rattle.lock_free.specs.Driven.{HasMade, HasDone, IsIdle};
-ghost use Rattle.lock_free.specs.Sets.Kinds.{machine_of, words_of};
+ghost use Rattle.lock_free.specs.Sets.Kinds.{machine_kind, words_of};
 
 use super::drives::EmptiesNone;
 use super::rule::{Kind, SetRule};
@@ -19,7 +19,7 @@ pub(crate) fn empty_none<E: Kind>(seated: &mut Seated<View<u64>, u32, SetRule<E>
     requires idle { IsIdle capacity (seen seated.old) }
     requires places { capacity ≡ 0 }
     ensures same { IsSame seated.old seated.new }
-    ensures done { HasDone (machine_of E.KIND) (seen seated.old) (seen seated.new) }
+    ensures done { HasDone (machine_kind E.KIND) (seen seated.old) (seen seated.new) }
     ensures called { HasMade (Bits ResetAll) Done (λ by. []) (seen seated.old) (seen seated.new) }
 {
     let _ = seated

@@ -1,7 +1,7 @@
 //! What the calls that both sets have say of the views at their steps. These types are for the proofs alone.
 ghost use Rattle.std.specs.Prelude.{◌≡◌, []};
 ghost use Rattle.model.specs.Coding.{one_word};
-ghost use Rattle.lock_free.specs.Sets.Kinds.{machine_of};
+ghost use Rattle.lock_free.specs.Sets.Kinds.{machine_kind};
 
 use super::rule::Kind;
 use atomic_table::Play;
@@ -19,9 +19,9 @@ impl<E: Kind> Drives<View<u64>, ResetAll> for Empties<E> {
     ghost use Rattle.history.specs.Stages.{At, Ends};
     ghost use Rattle.lock_free.specs.Sets.Stages.{empties};
 
-    ghost at = { λ given. At one_word (machine_of E.KIND) (empties E.KIND) };
+    ghost at = { λ given. At one_word (machine_kind E.KIND) (empties E.KIND) };
 
-    ghost ends = { λ given. Ends one_word (machine_of E.KIND) (empties E.KIND) };
+    ghost ends = { λ given. Ends one_word (machine_kind E.KIND) (empties E.KIND) };
 }
 
 /// Emptying a set of no place: one look at a word.
@@ -34,7 +34,7 @@ impl<E: Kind> Play<(), View<u64>> for EmptiesNone<E> {
     ghost use Rattle.lock_free.specs.Sets.Stages.{empties_none};
 
     ghost then = { λ step old found new.
-        Ends one_word (machine_of E.KIND) (empties_none E.KIND) old.0 tt (record { 0 = 0 }) new.0
+        Ends one_word (machine_kind E.KIND) (empties_none E.KIND) old.0 tt (record { 0 = 0 }) new.0
         × (new.1 ≡ []) };
 }
 
@@ -47,5 +47,5 @@ impl<E: Kind> Play<(), View<u64>> for Look<E> {
     ghost use Rattle.history.specs.Views.{Looks};
 
     ghost then = { λ step old found new.
-        Looks one_word (machine_of E.KIND) old.0.capacity old.0 new.0 × (new.1 ≡ []) };
+        Looks one_word (machine_kind E.KIND) old.0.capacity old.0 new.0 × (new.1 ≡ []) };
 }

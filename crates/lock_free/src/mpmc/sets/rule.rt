@@ -51,9 +51,9 @@ impl<E: Kind> TableRule<(), View<u64>, u32> for SetRule<E> {
     ghost use Rattle.model.specs.Coding.{one_word};
     ghost use Rattle.history.specs.History.{IsMachine};
     ghost use Rattle.history.specs.Views.{first_view};
-    ghost use Rattle.lock_free.specs.Sets.Kinds.{machine_of};
+    ghost use Rattle.lock_free.specs.Sets.Kinds.{machine_kind};
 
-    ghost holds = { λ capacity. IsMachine one_word (machine_of E.KIND) capacity };
+    ghost holds = { λ capacity. IsMachine one_word (machine_kind E.KIND) capacity };
 
     ghost first = { first_view };
 }

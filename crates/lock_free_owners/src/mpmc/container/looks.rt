@@ -9,7 +9,7 @@ ghost use Rattle.history.specs.ContainerLooks.{ShowsCopied};
 ghost use Rattle.lock_free_owners.specs.Container.LookTurns.{IsOnHistory, LookAt, LookOver};
 ghost use Rattle.lock_free_owners.specs.Container.Turns.{IsBoard};
 ghost use Rattle.lock_free_owners.specs.Container.Told.{HasGotState, HasUpdatedState};
-ghost use Rattle.lock_free_owners.specs.Container.Names.{view, code_of, container_of, IsPassOf, IsStateOf, IsLeft, IsLatest, GoesOn};
+ghost use Rattle.lock_free_owners.specs.Container.Names.{view, code_of, container_of, IsPassOf, IsStateOf, IsLeft, IsLatestState, GoesOn};
 
 use super::drives::{Beginning, Looks, LooksOn};
 use super::rule::Seat;
@@ -76,7 +76,7 @@ impl<T: Words> Container<T> {
         ensures container { container_of pass.new ≡ container_of pass.old }
         ensures goes_on { IfOk result (λ s. GoesOn pass.old pass.new) }
         ensures got { IfOk result (λ s. HasGotState (code_of pass.old) s (view pass.old) (view pass.new)) }
-        ensures latest { IfOk result (IsLatest pass.new) }
+        ensures latest { IfOk result (IsLatestState pass.new) }
         ensures shows { IfOk result (λ s. ShowsCopied s.shown (view pass.new)) }
         ensures refused { IfErr result (λ e. view pass.new ≡ view pass.old) }
         ensures state { IfOk result (IsStateOf self.now) }
@@ -114,12 +114,12 @@ impl<T: Words> Container<T> {
         requires pass { IsPassOf self.now pass.old }
         requires state { IsStateOf self.now state.old }
         ensures container { container_of pass.new ≡ container_of pass.old }
-        ensures goes_on { IsLatest pass.old state.old → GoesOn pass.old pass.new }
-        ensures updated { IsLatest pass.old state.old
+        ensures goes_on { IsLatestState pass.old state.old → GoesOn pass.old pass.new }
+        ensures updated { IsLatestState pass.old state.old
             → HasUpdatedState (code_of pass.old) result (view pass.old) (view pass.new) }
-        ensures latest { IsLatest pass.old state.old → IsLatest pass.new state.new }
-        ensures shows { IsLatest pass.old state.old → ShowsCopied state.new.shown (view pass.new) }
-        ensures beside { (IsLatest pass.old state.old → ⊥) → view pass.new ≡ view pass.old }
+        ensures latest { IsLatestState pass.old state.old → IsLatestState pass.new state.new }
+        ensures shows { IsLatestState pass.old state.old → ShowsCopied state.new.shown (view pass.new) }
+        ensures beside { (IsLatestState pass.old state.old → ⊥) → view pass.new ≡ view pass.old }
         ensures state { IsStateOf self.now state.new }
         ensures left { IsFalse result → IsLeft state.old state.new }
     {

@@ -6,7 +6,7 @@ ghost use Rattle.steps.specs.declared.queues.roles.Role.TheVariants as roles;
 ghost use Rattle.model.specs.declared.families.queues.calls.LengthOf.{LengthOf};
 ghost use Rattle.model.specs.declared.families.queues.calls.LengthOf.TheVariants as measures;
 ghost use Rattle.history.specs.Roles.{role_word};
-ghost use Rattle.lock_free_queues.specs.Queues.Bounded.{machine_of};
+ghost use Rattle.lock_free_queues.specs.Queues.Bounded.{machine_kind};
 
 use super::rule::Kind;
 use atomic_table::Play;
@@ -65,9 +65,9 @@ impl<E: Kind, R: Side, T: Words> Drives<View<T>, AcquireRole> for Takes<E, R> {
     ghost use Rattle.history.specs.Stages.{At, Ends};
     ghost use Rattle.history.specs.Queues.{takes_role};
 
-    ghost at = { λ given. At (coding_of T.WORDS T.words_of T.value_of) (machine_of E.KIND) (takes_role R.ROLE) };
+    ghost at = { λ given. At (coding_of T.WORDS T.words_of T.value_of) (machine_kind E.KIND) (takes_role R.ROLE) };
 
-    ghost ends = { λ given. Ends (coding_of T.WORDS T.words_of T.value_of) (machine_of E.KIND) (takes_role R.ROLE) };
+    ghost ends = { λ given. Ends (coding_of T.WORDS T.words_of T.value_of) (machine_kind E.KIND) (takes_role R.ROLE) };
 }
 
 /// Giving a role back.
@@ -79,9 +79,9 @@ impl<E: Kind, R: Side, T: Words> Drives<View<T>, ReleaseRole> for Leaves<E, R> {
     ghost use Rattle.history.specs.Stages.{At, Ends};
     ghost use Rattle.history.specs.Queues.{gives_role};
 
-    ghost at = { λ given. At (coding_of T.WORDS T.words_of T.value_of) (machine_of E.KIND) (gives_role R.ROLE) };
+    ghost at = { λ given. At (coding_of T.WORDS T.words_of T.value_of) (machine_kind E.KIND) (gives_role R.ROLE) };
 
-    ghost ends = { λ given. Ends (coding_of T.WORDS T.words_of T.value_of) (machine_of E.KIND) (gives_role R.ROLE) };
+    ghost ends = { λ given. Ends (coding_of T.WORDS T.words_of T.value_of) (machine_kind E.KIND) (gives_role R.ROLE) };
 }
 
 /// What is asked of how many values wait, as a type.
@@ -119,10 +119,10 @@ impl<E: Kind, W: Measure, T: Words> Drives<View<T>, Len> for Measures<E, W> {
     ghost use Rattle.history.specs.Stages.{At, Ends};
     ghost use Rattle.history.specs.Queues.{counts_waiting};
 
-    ghost at = { λ given base. At (coding_of T.WORDS T.words_of T.value_of) (machine_of E.KIND)
+    ghost at = { λ given base. At (coding_of T.WORDS T.words_of T.value_of) (machine_kind E.KIND)
         (counts_waiting W.WHICH base.capacity) base };
 
-    ghost ends = { λ given base. Ends (coding_of T.WORDS T.words_of T.value_of) (machine_of E.KIND)
+    ghost ends = { λ given base. Ends (coding_of T.WORDS T.words_of T.value_of) (machine_kind E.KIND)
         (counts_waiting W.WHICH base.capacity) base };
 }
 
@@ -135,6 +135,6 @@ impl<E: Kind, T: Words> Play<(), View<T>> for Look<E> {
     ghost use Rattle.history.specs.Views.{LooksAt};
 
     ghost then = { λ step old found new.
-        LooksAt (coding_of T.WORDS T.words_of T.value_of) (machine_of E.KIND) old.0.capacity step.word old.0 found new.0
+        LooksAt (coding_of T.WORDS T.words_of T.value_of) (machine_kind E.KIND) old.0.capacity step.word old.0 found new.0
         × (new.1 ≡ []) };
 }

@@ -6,7 +6,7 @@ ghost use Rattle.steps.specs.declared.enums.UniqueIndexCreationError.TheVariants
 ghost use Rattle.model.specs.Coding.{coding_of, one_word};
 ghost use Rattle.history.specs.History.{IsMachine};
 ghost use Rattle.history.specs.Views.{first_view};
-ghost use Rattle.lock_free_queues.specs.Queues.Bounded.{machine_of};
+ghost use Rattle.lock_free_queues.specs.Queues.Bounded.{machine_kind};
 ghost use Rattle.lock_free_queues.specs.Queues.Kinds.{words_in_cells, opened_by};
 ghost use Rattle.lock_free_queues.specs.Queues.Rings.{capacity_of, IsPassOf, view};
 
@@ -30,7 +30,7 @@ impl<E: Kind, T: Words> Ring<E, T> {
         position: u64,
     ) -> Result<(Ring<E, T>, Pass<E, T>), AllocError>
         requires long { length words.items ≡ 4 + words_in_cells T.WORDS E.KIND capacity + 1 }
-        requires opens { IsMachine (coding_of T.WORDS T.words_of T.value_of) (machine_of E.KIND) capacity
+        requires opens { IsMachine (coding_of T.WORDS T.words_of T.value_of) (machine_kind E.KIND) capacity
             (opening words.items [] (opened_by (coding_of T.WORDS T.words_of T.value_of) E.KIND capacity position)) }
         ensures pass { IfOk result (λ r. IsPassOf r.0 r.1
             × (view r.1 ≡ opened_by (coding_of T.WORDS T.words_of T.value_of) E.KIND capacity position)) }

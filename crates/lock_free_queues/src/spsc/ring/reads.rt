@@ -2,7 +2,7 @@
 ghost use Rattle.std.specs.Prelude.{◌≡◌, ◌+◌, ◌<◌, ◌^◌, IfOk, IfErr};
 ghost use Rattle.steps.specs.declared.enums.UniqueIndexCreationError.TheVariants.{NoMemory};
 ghost use Rattle.model.specs.Coding.{coding_of};
-ghost use Rattle.lock_free_queues.specs.Queues.Bounded.{machine_of};
+ghost use Rattle.lock_free_queues.specs.Queues.Bounded.{machine_kind};
 ghost use Rattle.lock_free_queues.specs.Queues.Kinds.{words_in_cells};
 ghost use Rattle.lock_free_queues.specs.Queues.Rings.{capacity_of, token_queue, token_view, view, IsPassOf};
 ghost use Rattle.lock_free_queues.specs.Queues.Reads.{WasRead, HasRead, LastWords};
@@ -22,9 +22,9 @@ impl<E: Kind, T: Words> Held<E, T, RingRule<E, T>> {
         ensures queue { token_queue self.new ≡ token_queue self.old }
         ensures fits { result < 2 ^ 64 }
         ensures read { HasRead (token_view self.old) (token_view self.new) }
-        ensures found { WasRead (coding_of T.WORDS T.words_of T.value_of) (machine_of E.KIND) (token_queue self.old).capacity
+        ensures found { WasRead (coding_of T.WORDS T.words_of T.value_of) (machine_kind E.KIND) (token_queue self.old).capacity
             (token_view self.old) (token_view self.new) word result }
-        ensures last { WasRead (coding_of T.WORDS T.words_of T.value_of) (machine_of E.KIND) (token_queue self.old).capacity
+        ensures last { WasRead (coding_of T.WORDS T.words_of T.value_of) (machine_kind E.KIND) (token_queue self.old).capacity
             (token_view self.new) (token_view self.new) word result }
     {
         let seated = &mut self.seated;
@@ -36,7 +36,7 @@ impl<E: Kind, T: Words> Held<E, T, RingRule<E, T>> {
     /// was taken.
     pub fn last_words(&mut self, alloc: Global, count: usize) -> Result<Vec<u64>, AllocError>
         requires { count ≡ 4 + words_in_cells T.WORDS E.KIND (token_queue self.old).capacity }
-        ensures { IfOk result (λ words. LastWords (coding_of T.WORDS T.words_of T.value_of) (machine_of E.KIND)
+        ensures { IfOk result (λ words. LastWords (coding_of T.WORDS T.words_of T.value_of) (machine_kind E.KIND)
             (words_in_cells T.WORDS E.KIND (token_queue self.old).capacity) (token_queue self.old).capacity
             (token_view self.old) words.items) }
     {
@@ -67,7 +67,7 @@ impl<E: Kind, T: Words> Ring<E, T> {
     ) -> Result<Vec<u64>, UniqueIndexCreationError>
         requires pass { IsPassOf self.now pass }
         requires count { count ≡ 4 + words_in_cells T.WORDS E.KIND (capacity_of self.now) }
-        ensures words { IfOk result (λ words. LastWords (coding_of T.WORDS T.words_of T.value_of) (machine_of E.KIND)
+        ensures words { IfOk result (λ words. LastWords (coding_of T.WORDS T.words_of T.value_of) (machine_kind E.KIND)
             (words_in_cells T.WORDS E.KIND (capacity_of self.now)) (capacity_of self.now) (view pass) words.items) }
         ensures refused { IfErr result (λ e. e ≡ NoMemory) }
     {

@@ -51,10 +51,10 @@ pub struct RingRule<E, T> {
 
 impl<E: Kind, T: Words> TableRule<(), View<T>, Origin> for RingRule<E, T> {
     ghost use Rattle.history.specs.History.{IsMachine};
-    ghost use Rattle.lock_free_queues.specs.Queues.Bounded.{machine_of};
+    ghost use Rattle.lock_free_queues.specs.Queues.Bounded.{machine_kind};
     ghost use Rattle.lock_free_queues.specs.Queues.Kinds.{opened_by};
 
-    ghost holds = { λ key. IsMachine (coding_of T.WORDS T.words_of T.value_of) (machine_of E.KIND) key.capacity };
+    ghost holds = { λ key. IsMachine (coding_of T.WORDS T.words_of T.value_of) (machine_kind E.KIND) key.capacity };
 
     ghost first = { λ key. opened_by (coding_of T.WORDS T.words_of T.value_of) E.KIND key.capacity key.position };
 }

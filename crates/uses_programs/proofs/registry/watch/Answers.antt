@@ -1,5 +1,5 @@
 use Rattle.std.proofs.Common.{rules, ◌≡◌, ◌∙◌, Ok, IfOk, subst}
-use Rattle.lock_free.specs.Container.Names.{view, container_of, IsLatest, IsStateOf}
+use Rattle.lock_free.specs.Container.Names.{view, container_of, IsLatestState, IsStateOf}
 use Rattle.lock_free.specs.HistoryLooks.{ShowsCopied}
 use Rattle.uses_programs.proofs.registry.watch.Goals as goal
 
@@ -9,7 +9,7 @@ loop-init g c =
     let kept : container_of c.in_ok-pass.pass ≡ container_of c.args.pass = search rules in (
       c.get_state.ensures.container ∙ kept,
       subst (λ r. IfOk r (IsStateOf c.args.registry.now)) got c.get_state.ensures.state,
-      subst (λ r. IfOk r (IsLatest c.get_state.new.pass)) got c.get_state.ensures.latest,
+      subst (λ r. IfOk r (IsLatestState c.get_state.new.pass)) got c.get_state.ensures.latest,
       subst (λ r. IfOk r (λ s. ShowsCopied s.shown (view c.get_state.new.pass))) got c.get_state.ensures.shows,
     )
 

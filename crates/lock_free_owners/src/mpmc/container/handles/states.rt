@@ -1,7 +1,7 @@
 //! The calls by a handle on states.
 ghost use Rattle.std.specs.Prelude.{◌≡◌, ◌↔◌, IsTrue, IsFalse, IfOk, IfErr};
 ghost use Rattle.history.specs.ContainerLooks.{ShowsCopied};
-ghost use Rattle.lock_free_owners.specs.Container.Names.{code_of, IsStateOf, IsLeft, IsLatest, GoesOn};
+ghost use Rattle.lock_free_owners.specs.Container.Names.{code_of, IsStateOf, IsLeft, IsLatestState, GoesOn};
 ghost use Rattle.lock_free_owners.specs.Container.Told.{HasGotState, HasUpdatedState};
 ghost use Rattle.lock_free_owners.specs.Container.Handles.{container_in, pass_in, knows};
 
@@ -16,7 +16,7 @@ impl<'a, T: Words> Handle<'a, T> {
         ensures container { container_in self.new ≡ container_in self.old }
         ensures goes_on { IfOk result (λ s. GoesOn (pass_in self.old) (pass_in self.new)) }
         ensures got { IfOk result (λ s. HasGotState (code_of (pass_in self.old)) s (knows self.old) (knows self.new)) }
-        ensures latest { IfOk result (IsLatest (pass_in self.new)) }
+        ensures latest { IfOk result (IsLatestState (pass_in self.new)) }
         ensures shows { IfOk result (λ s. ShowsCopied s.shown (knows self.new)) }
         ensures refused { IfErr result (λ e. knows self.new ≡ knows self.old) }
         ensures state { IfOk result (IsStateOf (container_in self.old)) }
@@ -28,12 +28,12 @@ impl<'a, T: Words> Handle<'a, T> {
     pub fn update_state(&mut self, rt: &impl Wait, state: &mut ContainerState<T>) -> bool
         requires { IsStateOf (container_in self.old) state.old }
         ensures container { container_in self.new ≡ container_in self.old }
-        ensures goes_on { IsLatest (pass_in self.old) state.old → GoesOn (pass_in self.old) (pass_in self.new) }
-        ensures updated { IsLatest (pass_in self.old) state.old
+        ensures goes_on { IsLatestState (pass_in self.old) state.old → GoesOn (pass_in self.old) (pass_in self.new) }
+        ensures updated { IsLatestState (pass_in self.old) state.old
             → HasUpdatedState (code_of (pass_in self.old)) result (knows self.old) (knows self.new) }
-        ensures latest { IsLatest (pass_in self.old) state.old → IsLatest (pass_in self.new) state.new }
-        ensures shows { IsLatest (pass_in self.old) state.old → ShowsCopied state.new.shown (knows self.new) }
-        ensures beside { (IsLatest (pass_in self.old) state.old → ⊥) → knows self.new ≡ knows self.old }
+        ensures latest { IsLatestState (pass_in self.old) state.old → IsLatestState (pass_in self.new) state.new }
+        ensures shows { IsLatestState (pass_in self.old) state.old → ShowsCopied state.new.shown (knows self.new) }
+        ensures beside { (IsLatestState (pass_in self.old) state.old → ⊥) → knows self.new ≡ knows self.old }
         ensures state { IsStateOf (container_in self.old) state.new }
         ensures left { IsFalse result → IsLeft state.old state.new }
     {

@@ -6,7 +6,7 @@ use Rattle.threaded.specs.Seats.{seen}
 use Rattle.history.specs.declared.view.View.{View}
 use Rattle.history.specs.History.{IsMachine}
 use Rattle.history.specs.Stages.{Ends}
-use Rattle.lock_free.specs.Sets.Kinds.{SetKind, machine_of}
+use Rattle.lock_free.specs.Sets.Kinds.{SetKind, machine_kind}
 use Rattle.lock_free.specs.Sets.Stages.{empties_none}
 use Rattle.lock_free.proofs.Ends.{done, has_made}
 use Rattle.lock_free.proofs.Sets.Emptying.{none_at}
@@ -15,8 +15,8 @@ use Rattle.lock_free.proofs.mpmc.sets.calls.empty_none.Goals as goal
 -- what one look owes, where the seat knows this
 abbrev Owed : SetKind → ℕ → ℕ → ℕ → Me (Unit {0}) (View ℕ) → Type 0
 Owed kind key slots id me =
-    Allows (IsMachine one_word (machine_of kind) key) slots id me 0 (λ n. n)
-    (λ found new. Ends one_word (machine_of kind) (empties_none kind) me.0 tt (record { 0 = 0 }) new.0 × (new.1 ≡ []))
+    Allows (IsMachine one_word (machine_kind kind) key) slots id me 0 (λ n. n)
+    (λ found new. Ends one_word (machine_kind kind) (empties_none kind) me.0 tt (record { 0 = 0 }) new.0 × (new.1 ≡ []))
 
 pub load-requires : goal.load-requires
 load-requires g c =
@@ -37,11 +37,11 @@ load-requires g c =
 
 pub returns-clause-done : goal.returns-clause-done
 returns-clause-done g c =
-    done (machine_of g.E.Kind.KIND) (empties_none g.E.Kind.KIND) (λ o p h. h) (seen c.args.seated.now) c.load.new.seat.me.0 tt
+    done (machine_kind g.E.Kind.KIND) (empties_none g.E.Kind.KIND) (λ o p h. h) (seen c.args.seated.now) c.load.new.seat.me.0 tt
     (record { 0 = 0 }) c.load.ensures.2.0
 
 pub returns-clause-called : goal.returns-clause-called
 returns-clause-called g c =
     let ends = c.load.ensures.2.0 in
-    has_made (machine_of g.E.Kind.KIND) (empties_none g.E.Kind.KIND) (seen c.args.seated.now) c.load.new.seat.me.0 tt
+    has_made (machine_kind g.E.Kind.KIND) (empties_none g.E.Kind.KIND) (seen c.args.seated.now) c.load.new.seat.me.0 tt
     (record { 0 = 0 }) ends c.requires.idle.idle (λ by. []) ends.tells

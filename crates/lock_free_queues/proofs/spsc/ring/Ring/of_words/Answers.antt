@@ -1,6 +1,6 @@
 use Rattle.lock_free_queues.proofs.Names.{rules, ◌≡◌, [], sym, subst, opening, Coding, coding_of, Producer, Consumer}
 use Rattle.lock_free_queues.proofs.Names.{IsMachine}
-use Rattle.lock_free_queues.specs.Queues.Bounded.{machine_of}
+use Rattle.lock_free_queues.specs.Queues.Bounded.{machine_kind}
 use Rattle.lock_free_queues.specs.Queues.Kinds.{opened_by}
 use Rattle.lock_free_queues.specs.Queues.Roles.{LacksRole}
 use Rattle.lock_free_queues.proofs.Queues.Kinds.{opens_bare}
@@ -10,7 +10,7 @@ pub of_words-requires : goal.of_words-requires
 of_words-requires g c =
     let code : Coding g.row.T.Denot = coding_of g.T.Words.WORDS g.T.Words.words_of g.T.Words.value_of in
     let kind = g.E.Kind.KIND in
-    subst (λ ws. IsMachine code (machine_of kind) c.args.capacity (opening ws [] (opened_by code kind c.args.capacity c.args.position)))
+    subst (λ ws. IsMachine code (machine_kind kind) c.args.capacity (opening ws [] (opened_by code kind c.args.capacity c.args.position)))
     (sym c.as_slice.ensures.value) c.requires.opens
 
 pub invariant_of-result : goal.invariant_of-result

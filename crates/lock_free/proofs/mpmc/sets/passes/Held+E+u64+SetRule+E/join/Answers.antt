@@ -4,7 +4,7 @@ use Rattle.model.specs.Coding.{one_word}
 use Rattle.threaded.proofs.Shares.{positive}
 use Rattle.history.specs.Views.{joined_view}
 use Rattle.history.proofs.Passes.{joins}
-use Rattle.lock_free.specs.Sets.Kinds.{machine_of}
+use Rattle.lock_free.specs.Sets.Kinds.{machine_kind}
 use Rattle.lock_free.proofs.Looks.{look_owed}
 use Rattle.lock_free.proofs.mpmc.sets.passes.Held+E+u64+SetRule+E.join.Goals as goal
 
@@ -16,7 +16,7 @@ join_seat-requires g c =
       search rules,
       search rules,
       subst (λ (t : TableId). 0 < t.words) at (let size = mine.sized in omega arith),
-      joins one_word (machine_of g.E.Kind.KIND) _ mine.seated.seat.id c.args.other.seated.seat.id mine.seated.seat.me.0
+      joins one_word (machine_kind g.E.Kind.KIND) _ mine.seated.seat.id c.args.other.seated.seat.id mine.seated.seat.me.0
           c.args.other.seated.seat.me.0 mine.some.0 c.args.other.some.0 c.args.other.idle mine.alone c.args.other.alone,
     )
 
@@ -35,6 +35,6 @@ load-requires g c =
           let old : c.join_seat.new.seat.table_id ≡ mine.seated.seat.table_id = search rules in
           let same = ap (λ (t : TableId). t.words) (sym at ∙ old) in
           omega arith),
-      look_owed (machine_of g.E.Kind.KIND) table.table_id.slots c.join_seat.new.seat.id c.words-last.result table.key
+      look_owed (machine_kind g.E.Kind.KIND) table.table_id.slots c.join_seat.new.seat.id c.words-last.result table.key
           (joined_view v w) c.join_seat.new.seat.me (search rules) size mine.idle (omega arith),
     )

@@ -2,7 +2,7 @@ use Rattle.std.proofs.Common.{◌≡◌, ◌<◌, rules, subst, arith}
 use Rattle.atomic_table.specs.Seated.{TableId}
 use Rattle.model.specs.Coding.{one_word}
 use Rattle.history.proofs.Passes.{splits}
-use Rattle.lock_free.specs.Sets.Kinds.{machine_of}
+use Rattle.lock_free.specs.Sets.Kinds.{machine_kind}
 use Rattle.lock_free.proofs.mpmc.sets.passes.Held+E+u64+SetRule+E.split.Goals as goal
 
 pub split_seat-seat-requires : goal.split_seat-seat-requires
@@ -11,5 +11,5 @@ split_seat-seat-requires g c =
     let at : mine.seated.seat.table_id ≡ c.deref.result.now.shared.table_id = search rules in (
       at,
       subst (λ (t : TableId). 0 < t.words) at (let size = mine.sized in omega arith),
-      splits one_word (machine_of g.E.Kind.KIND) _ mine.seated.seat.id mine.seated.seat.me.0,
+      splits one_word (machine_kind g.E.Kind.KIND) _ mine.seated.seat.id mine.seated.seat.me.0,
     )

@@ -1,6 +1,6 @@
 use Rattle.lock_free_queues.proofs.Names.{sym, subst, ◌∙◌, Coding, IsCoding, coding_of, takes_role, At}
 use Rattle.lock_free_queues.proofs.Names.{acquire_first_on}
-use Rattle.lock_free_queues.specs.Queues.Bounded.{machine_of}
+use Rattle.lock_free_queues.specs.Queues.Bounded.{machine_kind}
 use Rattle.lock_free_queues.proofs.Queues.Kinds.{acquires_keep}
 use Rattle.lock_free_queues.specs.Queues.Rings.{token_view}
 use Rattle.lock_free_queues.proofs.Queues.Facts.{acquired}
@@ -19,7 +19,7 @@ drive-requires-clause-at g c =
     let mine = c.args.self.now in
     let v = token_view mine in
     let code : Coding g.row.T.Denot = coding_of g.T.Words.WORDS g.T.Words.words_of g.T.Words.value_of in
-    subst (λ n. At code (machine_of g.E.Kind.KIND) (takes_role g.R.Side.ROLE) v v (record { word = n }) tt)
+    subst (λ n. At code (machine_kind g.E.Kind.KIND) (takes_role g.R.Side.ROLE) v v (record { word = n }) tt)
     (sym (c.WORD.ensures ∙ g.R.Side.there))
     (acquire_first_on code g.E.Kind.KIND v tt mine.idle mine.alone mine.some.0 g.R.Side.ROLE)
 

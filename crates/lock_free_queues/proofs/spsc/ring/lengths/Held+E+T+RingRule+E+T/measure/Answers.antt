@@ -1,6 +1,6 @@
 use Rattle.lock_free_queues.proofs.Names.{◌≤◌, refl, sym, ap, subst, ◌∙◌, first_len, Coding, IsCoding, coding_of}
 use Rattle.lock_free_queues.proofs.Names.{length_answer, At, counts_waiting, len_first_on}
-use Rattle.lock_free_queues.specs.Queues.Bounded.{machine_of}
+use Rattle.lock_free_queues.specs.Queues.Bounded.{machine_kind}
 use Rattle.lock_free_queues.proofs.Queues.Kinds.{lengths_keep}
 use Rattle.lock_free_queues.specs.Queues.Rings.{token_view}
 use Rattle.lock_free_queues.specs.Queues.Kinds.{most_waiting}
@@ -22,7 +22,7 @@ drive_on-requires-clause-at g c =
     let met = g.met.T.Words in
     let code : Coding g.row.T.Denot = coding_of g.T.Words.WORDS g.T.Words.words_of g.T.Words.value_of in
     let law : IsCoding code = record { some = met.some; few = met.few; sized = met.sized; given_back = met.given_back } in
-    subst (λ call. At code (machine_of g.E.Kind.KIND) (counts_waiting g.W.Measure.WHICH v.capacity) v v call tt)
+    subst (λ call. At code (machine_kind g.E.Kind.KIND) (counts_waiting g.W.Measure.WHICH v.capacity) v v call tt)
     (ap first_len mine.known ∙ sym c.new-call.ensures)
     (len_first_on code g.E.Kind.KIND v tt mine.idle mine.alone mine.some.0 g.W.Measure.WHICH v.capacity refl)
 

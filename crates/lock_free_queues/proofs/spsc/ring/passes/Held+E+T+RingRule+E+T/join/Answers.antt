@@ -1,6 +1,6 @@
 use Rattle.lock_free_queues.proofs.Names.{◌≡◌, ◌<◌, rules, sym, subst, ◌∙◌, arith, TableId, coding_of, joined_view}
 use Rattle.lock_free_queues.proofs.Names.{joins}
-use Rattle.lock_free_queues.specs.Queues.Bounded.{machine_of}
+use Rattle.lock_free_queues.specs.Queues.Bounded.{machine_kind}
 use Rattle.threaded.proofs.Shares.{positive}
 use Rattle.lock_free_queues.proofs.Queues.Reads.{owed}
 use Rattle.lock_free_queues.proofs.spsc.ring.passes.Held+E+T+RingRule+E+T.join.Goals as goal
@@ -13,7 +13,7 @@ join_seat-requires g c =
       search rules,
       search rules,
       subst (λ (t : TableId). 0 < t.words) at (let size = mine.sized in omega arith),
-      joins (coding_of g.T.Words.WORDS g.T.Words.words_of g.T.Words.value_of) (machine_of g.E.Kind.KIND) _
+      joins (coding_of g.T.Words.WORDS g.T.Words.words_of g.T.Words.value_of) (machine_kind g.E.Kind.KIND) _
           mine.seated.seat.id c.args.other.seated.seat.id mine.seated.seat.me.0 c.args.other.seated.seat.me.0
           mine.some.0 c.args.other.some.0 c.args.other.idle mine.alone c.args.other.alone,
     )

@@ -1,5 +1,5 @@
 use Rattle.lock_free_queues.proofs.Names.{rules, ◌≡◌, ◌<◌, subst, arith, TableId, coding_of, LooksAt}
-use Rattle.lock_free_queues.specs.Queues.Bounded.{machine_of}
+use Rattle.lock_free_queues.specs.Queues.Bounded.{machine_kind}
 use Rattle.lock_free_queues.proofs.Queues.Reads.{owed, has_looked}
 use Rattle.lock_free_queues.proofs.spsc.ring.passes.Held+E+T+RingRule+E+T.look.Goals as goal
 
@@ -20,8 +20,8 @@ load-requires g c =
 pub returns-clause-looked : goal.returns-clause-looked
 returns-clause-looked g c =
     let mine = c.args.self.now in
-    let l : LooksAt (coding_of g.T.Words.WORDS g.T.Words.words_of g.T.Words.value_of) (machine_of g.E.Kind.KIND)
+    let l : LooksAt (coding_of g.T.Words.WORDS g.T.Words.words_of g.T.Words.value_of) (machine_kind g.E.Kind.KIND)
     mine.seated.seat.me.0.capacity 0 mine.seated.seat.me.0 c.load.result c.load.new.seat.me.0 =
     search rules in
-    has_looked (coding_of g.T.Words.WORDS g.T.Words.words_of g.T.Words.value_of) (machine_of g.E.Kind.KIND)
+    has_looked (coding_of g.T.Words.WORDS g.T.Words.words_of g.T.Words.value_of) (machine_kind g.E.Kind.KIND)
     mine.seated.seat.me.0 c.load.new.seat.me.0 mine.alone l.looks

@@ -1,5 +1,5 @@
 use Rattle.lock_free_queues.proofs.Names.{◌≡◌, ◌<◌, rules, subst, arith, TableId, coding_of, splits}
-use Rattle.lock_free_queues.specs.Queues.Bounded.{machine_of}
+use Rattle.lock_free_queues.specs.Queues.Bounded.{machine_kind}
 use Rattle.lock_free_queues.proofs.spsc.ring.passes.Held+E+T+RingRule+E+T.split.Goals as goal
 
 pub split_seat-seat-requires : goal.split_seat-seat-requires
@@ -8,5 +8,5 @@ split_seat-seat-requires g c =
     let at : mine.seated.seat.table_id ≡ c.deref.result.now.shared.table_id = search rules in (
       at,
       subst (λ (t : TableId). 0 < t.words) at (let size = mine.sized in omega arith),
-      splits (coding_of g.T.Words.WORDS g.T.Words.words_of g.T.Words.value_of) (machine_of g.E.Kind.KIND) _ mine.seated.seat.id mine.seated.seat.me.0,
+      splits (coding_of g.T.Words.WORDS g.T.Words.words_of g.T.Words.value_of) (machine_kind g.E.Kind.KIND) _ mine.seated.seat.id mine.seated.seat.me.0,
     )

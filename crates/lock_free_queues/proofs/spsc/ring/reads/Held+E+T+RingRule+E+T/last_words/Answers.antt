@@ -1,6 +1,6 @@
 use Rattle.lock_free_queues.proofs.Names.{rules, ◌≡◌, ◌<◌, ◌+◌, length, sym, ap, subst, ◌∙◌, set, arith, Coding}
 use Rattle.lock_free_queues.proofs.Names.{coding_of}
-use Rattle.lock_free_queues.specs.Queues.Bounded.{machine_of}
+use Rattle.lock_free_queues.specs.Queues.Bounded.{machine_kind}
 use Rattle.lock_free_queues.specs.Queues.Calls.{QueueId}
 use Rattle.lock_free_queues.specs.Queues.Rings.{token_view}
 use Rattle.lock_free_queues.specs.Queues.Kinds.{words_in_cells}
@@ -27,17 +27,17 @@ loop-at-preserved g c =
     let at = c.loop-at.at in
     let same : c.loop-at.self.capacity ≡ mine.capacity = ap (λ (q : QueueId). q.capacity) inv.0 in
     let r = c.read-word.ensures.read in
-    let here : WasRead code (machine_of g.E.Kind.KIND) mine.capacity w x at c.read-word.result =
-    subst (λ n. WasRead code (machine_of g.E.Kind.KIND) n w x at c.read-word.result) same c.read-word.ensures.found in
+    let here : WasRead code (machine_kind g.E.Kind.KIND) mine.capacity w x at c.read-word.result =
+    subst (λ n. WasRead code (machine_kind g.E.Kind.KIND) n w x at c.read-word.result) same c.read-word.ensures.found in
     let long : length c.loop-at.words.items ≡ at = sym (sym inv.4 ∙ c.loop-at.words.ok.0) in
     let cells =
-    one_cell_more code (machine_of g.E.Kind.KIND) mine.capacity v x c.loop-at.words.items at c.read-word.result long
-    (cells_until code (machine_of g.E.Kind.KIND) mine.capacity v w x c.loop-at.words.items inv.3 r)
-    (read_since code (machine_of g.E.Kind.KIND) mine.capacity at c.read-word.result v w x inv.1 here) in (
+    one_cell_more code (machine_kind g.E.Kind.KIND) mine.capacity v x c.loop-at.words.items at c.read-word.result long
+    (cells_until code (machine_kind g.E.Kind.KIND) mine.capacity v w x c.loop-at.words.items inv.3 r)
+    (read_since code (machine_kind g.E.Kind.KIND) mine.capacity at c.read-word.result v w x inv.1 here) in (
       c.read-word.ensures.queue ∙ inv.0,
       then_read v w x inv.1 r,
-      read_until code (machine_of g.E.Kind.KIND) mine.capacity 0 c.read-write.result v w x inv.2 r,
-      subst (CellsRead code (machine_of g.E.Kind.KIND) mine.capacity v x) (sym c.push_reserved-in-loop-at.ensures.items) cells,
+      read_until code (machine_kind g.E.Kind.KIND) mine.capacity 0 c.read-write.result v w x inv.2 r,
+      subst (CellsRead code (machine_kind g.E.Kind.KIND) mine.capacity v x) (sym c.push_reserved-in-loop-at.ensures.items) cells,
       search rules,
       (let low = inv.5 in omega arith),
       search rules,
@@ -61,9 +61,9 @@ returns g c =
     let counted : c.loop-at.at ≡ length words = sym inv.4 ∙ c.loop-at.words.ok.0 in
     let cells = words_in_cells g.T.Words.WORDS g.E.Kind.KIND mine.capacity in
     let long : length words ≡ 4 + cells = omega arith in
-    subst (λ n. LastWords code (machine_of g.E.Kind.KIND) cells mine.capacity v (set (set words 0 n) 1 c.read-read.result)) (sym c.max.ensures)
-    (last_words code (machine_of g.E.Kind.KIND) mine.capacity v x cells words c.read-write.result c.read-read.result
+    subst (λ n. LastWords code (machine_kind g.E.Kind.KIND) cells mine.capacity v (set (set words 0 n) 1 c.read-read.result)) (sym c.max.ensures)
+    (last_words code (machine_kind g.E.Kind.KIND) mine.capacity v x cells words c.read-write.result c.read-read.result
     mine.small (then_read v w x inv.1 r) long c.read-write.ensures.fits c.read-read.ensures.fits
-    (read_until code (machine_of g.E.Kind.KIND) mine.capacity 0 c.read-write.result v w x inv.2 r)
-    (cells_until code (machine_of g.E.Kind.KIND) mine.capacity v w x words inv.3 r)
-    (subst (λ n. WasRead code (machine_of g.E.Kind.KIND) n x x 1 c.read-read.result) same c.read-read.ensures.last))
+    (read_until code (machine_kind g.E.Kind.KIND) mine.capacity 0 c.read-write.result v w x inv.2 r)
+    (cells_until code (machine_kind g.E.Kind.KIND) mine.capacity v w x words inv.3 r)
+    (subst (λ n. WasRead code (machine_kind g.E.Kind.KIND) n x x 1 c.read-read.result) same c.read-read.ensures.last))
