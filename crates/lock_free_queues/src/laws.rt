@@ -22,7 +22,9 @@ ghost use Rattle.history.specs.Passes.{Goes, MissesNothing};
 ghost use Rattle.lock_free_queues.specs.Queues.Overflowing.{HasOverflowed};
 ghost use Rattle.lock_free_queues.specs.Queues.Positions.{IsPublished, IsTaken, IsSound, IsOverSound};
 ghost use Rattle.lock_free_queues.specs.Queues.Sums.{puts, gets, HasDone};
-ghost use Rattle.lock_free_queues.specs.Queues.Told.{HasPushed, HasPublished, WasAtEnd, WasFull, HasPopped, HasTakenOut, HasTakenFirst, WasEmpty, FoundNone, HasMeasured, HasAcquired, HasReleased};
+ghost use Rattle.lock_free_queues.specs.Queues.Told.{HasPushed, HasPublished, WasAtEnd, WasFull, HasPopped};
+ghost use Rattle.lock_free_queues.specs.Queues.Told.{HasTakenOut, HasTakenFirst, WasEmpty, FoundNone, HasMeasured};
+ghost use Rattle.lock_free_queues.specs.Queues.Told.{HasAcquired, HasReleased};
 
 /// A history of a queue is linearizable as its list: the calls of all passes, pushes and pops. The lemma is
 /// `linearizable` of `proofs/Queues/Promised.antt`.

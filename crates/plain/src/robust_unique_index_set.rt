@@ -2,7 +2,8 @@
 ghost use Rattle.std.specs.Prelude.{◌≡◌, ◌<◌, ◌^◌, ◌-◌, ◌⊎◌, IsTrue, IsFalse, None, Some, IfOk, IfErr, OnOk};
 ghost use Rattle.steps.specs.Enums.{capacity_refusal};
 ghost use Rattle.steps.specs.declared.enums.UniqueIndexCreationError.TheVariants.{NoMemory};
-ghost use Rattle.steps.specs.Objects.Owners.{Owners, opened_at, capacity, is_locked, state_of, raised, indices_of, to_recover, borrowed, acquired, after_acquire, released, after_release};
+ghost use Rattle.steps.specs.Objects.Owners.{Owners, opened_at, capacity, is_locked, state_of, raised, indices_of};
+ghost use Rattle.steps.specs.Objects.Owners.{to_recover, borrowed, acquired, after_acquire, released, after_release};
 ghost use Rattle.plain.specs.Alone.{BehavesAs};
 ghost use Rattle.plain.specs.Callable.{TakesIndices, HasFound, TakesQuestions, TakesFreed, HasRecovered};
 ghost use Rattle.plain.specs.Robust.{owners_in, Represents};

@@ -2,7 +2,8 @@
 ghost use Rattle.std.specs.Prelude.{◌≡◌, ◌+◌, ◌≤◌, ◌++◌, length, decimal};
 ghost use Rattle.texts.specs.Text.{words_left};
 ghost use Rattle.texts.specs.Grammar.{Gives};
-ghost use Rattle.texts.specs.Container.{kind_of, add, remove, replace, find, recover, look_call, any_container_call, container_call, placed_text, call_text, add_failure_text, remove_error_text};
+ghost use Rattle.texts.specs.Container.{kind_of, add, remove, replace, find, recover, look_call, any_container_call};
+ghost use Rattle.texts.specs.Container.{container_call, placed_text, call_text, add_failure_text, remove_error_text};
 
 use crate::error::Cause;
 use crate::grammar::{number_at, owner_at};

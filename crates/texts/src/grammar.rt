@@ -1,7 +1,8 @@
 //! What a line says, read word by word.
 ghost use Rattle.std.specs.Prelude.{◌≡◌, ◌≤◌, ◌-◌, ◌==◌, IfOk};
 ghost use Rattle.texts.specs.Text.{words_left, words};
-ghost use Rattle.texts.specs.Grammar.{Gives, next_word, ended, number_at, owner_at, kind_of, queue_at, setup_of, begin_of, count_of, next_of, decision_of, turn_of, death_of, command_of};
+ghost use Rattle.texts.specs.Grammar.{Gives, next_word, ended, number_at, owner_at, kind_of, queue_at, setup_of};
+ghost use Rattle.texts.specs.Grammar.{begin_of, count_of, next_of, decision_of, turn_of, death_of, command_of};
 
 use crate::error::Cause;
 use crate::families;

@@ -2,7 +2,8 @@
 ghost use Rattle.std.specs.Prelude.{◌≡◌, ◌+◌, ◌≤◌, ◌++◌, length, decimal};
 ghost use Rattle.texts.specs.Text.{words_left};
 ghost use Rattle.texts.specs.Grammar.{Gives};
-ghost use Rattle.texts.specs.Queues.{kind_of, role_call, length_call, push_index, push_value, push_call, item_call, any_call, queue_call, index_queue_call, value_queue_call, call_text, item_text};
+ghost use Rattle.texts.specs.Queues.{kind_of, role_call, length_call, push_index, push_value, push_call, item_call};
+ghost use Rattle.texts.specs.Queues.{any_call, queue_call, index_queue_call, value_queue_call, call_text, item_text};
 
 use crate::error::Cause;
 use crate::grammar::number_at;

@@ -1,7 +1,8 @@
 //! The families of calls. Each has a room of its own, and here one line where a machine passes on to it.
 ghost use Rattle.std.specs.Prelude.{◌≡◌, ◌+◌, ◌≤◌, ◌++◌, ◌⊎◌, true, false, None, Some, OnOk, IfOk, IfErr, vec_len, vec_capacity};
 ghost use Rattle.steps.specs.Ask.{CameTo};
-ghost use Rattle.model.specs.Families.{opening_of, first_of, begin_rows, want_of, is_question, most_of, beside_of, step_of, going_rows, lacks_party, death_rows, kept_after_death, kept_after_begin};
+ghost use Rattle.model.specs.Families.{opening_of, first_of, begin_rows, want_of, is_question, most_of, beside_of};
+ghost use Rattle.model.specs.Families.{step_of, going_rows, lacks_party, death_rows, kept_after_death, kept_after_begin};
 ghost use Rattle.model.specs.Rows.{first_row};
 ghost use Rattle.model.specs.declared.turn.Refusal.TheVariants.{NoMemory};
 

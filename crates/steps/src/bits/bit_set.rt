@@ -1,6 +1,8 @@
 //! The calls of the bit set that change one place.
 ghost use Rattle.std.specs.Prelude.{◌≡◌};
-ghost use Rattle.steps.specs.Bits.BitSet.{first_set, set_want, set_after, set_tests, set_turns_back, first_reset, place_after, reset_want, reset_after, reset_comes_to, reset_tests, reset_turns_back};
+ghost use Rattle.steps.specs.Bits.BitSet.{first_set, set_want, set_after, set_tests, set_turns_back, first_reset};
+ghost use Rattle.steps.specs.Bits.BitSet.{place_after, reset_want, reset_after, reset_comes_to, reset_tests};
+ghost use Rattle.steps.specs.Bits.BitSet.{reset_turns_back};
 
 use super::flags::{RESET_POSITION, element_of, has_flag, with_flag, without_flag};
 use crate::ask::{After, Ask, Op, Want};

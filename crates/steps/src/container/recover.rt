@@ -1,7 +1,8 @@
 //! The call that frees the indices of an owner that has died.
 ghost use Rattle.std.specs.Prelude.{◌≡◌};
 ghost use Rattle.steps.specs.Copied.{value_in};
-ghost use Rattle.steps.specs.Container.Recover.{goes_to, first_recover, recover_comes_to, recover_sees, recover_raises, recover_want, recover_after, recover_kept, recover_goes_back};
+ghost use Rattle.steps.specs.Container.Recover.{goes_to, first_recover, recover_comes_to, recover_sees, recover_raises};
+ghost use Rattle.steps.specs.Container.Recover.{recover_want, recover_after, recover_kept, recover_goes_back};
 
 use crate::ask::{After, Ask, Op, Question, Want};
 use crate::container::layout::{change_word, count_word, element_word};

@@ -1,7 +1,9 @@
 //! What a caller knows of a container: the values that stood in it when the caller looked.
 ghost use Rattle.std.specs.Prelude.{◌≡◌, ◌↔◌, IfOk, IsTrue, slice_index_or, option_copied};
 ghost use Rattle.steps.specs.Copied.{value_in};
-ghost use Rattle.steps.specs.Container.State.{Numbers, Showing, no_numbers, shows_nothing, shown_at, shown_number, with_change, with_count, with_word, with_value, numbers_over, seen_of, shown_from, at_value, HasShown};
+ghost use Rattle.steps.specs.Container.State.{Numbers, Showing, no_numbers, shows_nothing, shown_at, shown_number};
+ghost use Rattle.steps.specs.Container.State.{with_change, with_count, with_word, with_value, numbers_over, seen_of};
+ghost use Rattle.steps.specs.Container.State.{shown_from, at_value, HasShown};
 
 use crate::container::enums::ContainerStateError;
 use crate::copied::{Buffer, Copied, Room};

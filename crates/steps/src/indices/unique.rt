@@ -5,7 +5,10 @@
 //! each index (word i of them opens as i + 1), and then the claim flags, 64 to a word: the flag of index i is bit
 //! i mod 64 of word i / 64. The list of next indices only proposes: who sets the flag of an index has it.
 ghost use Rattle.std.specs.Prelude.{◌≡◌, Bool, true, false};
-ghost use Rattle.steps.specs.Indices.Unique.{first_acquire, head_taken, acquire_sees, first_claim, scanned_next, acquire_want, acquire_after, acquire_goes_back, head_released, state_after, locks, first_release, release_want, release_after, release_goes_back};
+ghost use Rattle.steps.specs.Indices.Unique.{first_acquire, head_taken, acquire_sees, first_claim, scanned_next};
+ghost use Rattle.steps.specs.Indices.Unique.{acquire_want, acquire_after, acquire_goes_back, head_released};
+ghost use Rattle.steps.specs.Indices.Unique.{state_after, locks, first_release, release_want, release_after};
+ghost use Rattle.steps.specs.Indices.Unique.{release_goes_back};
 
 use crate::ask::{After, Ask, Op, Want};
 use crate::indices::enums::{ReleaseState, UniqueIndexSetAcquireFailure};

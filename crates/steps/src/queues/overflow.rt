@@ -4,7 +4,8 @@
 //! p mod (capacity + 1), so a push writes its value before it takes the oldest one out. A queue of capacity 0 has one
 //! cell and never asks for it.
 ghost use Rattle.std.specs.Prelude.{◌≡◌};
-ghost use Rattle.steps.specs.Queues.Overflow.{cell_word, first_push, push_want, push_after, push_kept, push_answer, first_pop, pop_want, pop_after, pop_kept, pop_answer, goes_back};
+ghost use Rattle.steps.specs.Queues.Overflow.{cell_word, first_push, push_want, push_after, push_kept, push_answer};
+ghost use Rattle.steps.specs.Queues.Overflow.{first_pop, pop_want, pop_after, pop_kept, pop_answer, goes_back};
 
 use crate::ask::{After, Ask, Op, Want};
 use crate::copied::OneWord;

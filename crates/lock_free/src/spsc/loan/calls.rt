@@ -12,7 +12,9 @@ ghost use Rattle.lock_free_queues.specs.Queues.Overflowing.{HasOverflowed, TookN
 ghost use Rattle.lock_free_queues.specs.Queues.Told.{HasPublished, HasPopped, HasTakenOut, HasTakenFirst, WasEmpty};
 ghost use Rattle.lock_free.specs.declared.spsc.loan.places.Place.TheVariants.{Free, Loaned, Sent};
 ghost use Rattle.lock_free.specs.Loan.Places.{is_out, is_sent, place_at, returned, reclaimed, IsBookOf};
-ghost use Rattle.lock_free.specs.Loan.Sender.{places_of, pass_view, share_of, submission_view, completion_view, submission_of, completion_of, KeepsQueues, set_of_sender, IsSame, IsSenderOf, IsLoaned};
+ghost use Rattle.lock_free.specs.Loan.Sender.{places_of, pass_view, share_of, submission_view, completion_view};
+ghost use Rattle.lock_free.specs.Loan.Sender.{submission_of, completion_of, KeepsQueues, set_of_sender, IsSame};
+ghost use Rattle.lock_free.specs.Loan.Sender.{IsSenderOf, IsLoaned};
 
 use super::places::Place;
 use super::{LoanError, LoanSender};

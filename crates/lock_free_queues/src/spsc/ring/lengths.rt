@@ -7,7 +7,9 @@ ghost use Rattle.model.specs.Coding.{coding_of};
 ghost use Rattle.model.specs.Families.Queues.Calls.{length_answer};
 ghost use Rattle.lock_free_queues.specs.Queues.Kinds.{most_waiting};
 ghost use Rattle.lock_free_queues.specs.Queues.Roles.{Moved};
-ghost use Rattle.lock_free_queues.specs.Queues.Rings.{capacity_of, token_queue, token_view, queue_of, view, producer_queue, producer_view, consumer_queue, consumer_view, IsPassOf, GoesOn, IsSameQueue};
+ghost use Rattle.lock_free_queues.specs.Queues.Rings.{capacity_of, token_queue, token_view, queue_of, view};
+ghost use Rattle.lock_free_queues.specs.Queues.Rings.{producer_queue, producer_view, consumer_queue, consumer_view};
+ghost use Rattle.lock_free_queues.specs.Queues.Rings.{IsPassOf, GoesOn, IsSameQueue};
 ghost use Rattle.lock_free_queues.specs.Queues.Told.{HasMeasured};
 
 use super::drives::{Emptiness, Fullness, Length, Measure, Measures};

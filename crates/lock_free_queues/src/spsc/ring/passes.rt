@@ -1,7 +1,9 @@
 //! How passes are made of one another.
 ghost use Rattle.std.specs.Prelude.{◌≡◌, IfSome, IfNone};
 ghost use Rattle.model.specs.Coding.{coding_of};
-ghost use Rattle.lock_free_queues.specs.Queues.Rings.{token_queue, token_view, queue_of, view, producer_queue, producer_view, consumer_queue, consumer_view, HasHistory, MissesNothing, GoesOn, IsSameQueue};
+ghost use Rattle.lock_free_queues.specs.Queues.Rings.{token_queue, token_view, queue_of, view, producer_queue};
+ghost use Rattle.lock_free_queues.specs.Queues.Rings.{producer_view, consumer_queue, consumer_view, HasHistory};
+ghost use Rattle.lock_free_queues.specs.Queues.Rings.{MissesNothing, GoesOn, IsSameQueue};
 ghost use Rattle.lock_free_queues.specs.Queues.Told.{HasSplit, HasJoined, HasLooked};
 
 use super::drives::Look;

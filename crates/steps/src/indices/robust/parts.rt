@@ -1,6 +1,8 @@
 //! The words of a robust set of indices, and the parts that its calls are made of: raise, count and lock.
 ghost use Rattle.std.specs.Prelude.{◌≡◌};
-ghost use Rattle.steps.specs.Indices.Robust.Parts.{cell_word, raise_want, raise_sees, raise_after, raise_goes_back, count_want, count_comes_to, count_after, count_goes_back, first_lock, lock_want, lock_after, lock_goes_back};
+ghost use Rattle.steps.specs.Indices.Robust.Parts.{cell_word, raise_want, raise_sees, raise_after, raise_goes_back};
+ghost use Rattle.steps.specs.Indices.Robust.Parts.{count_want, count_comes_to, count_after, count_goes_back};
+ghost use Rattle.steps.specs.Indices.Robust.Parts.{first_lock, lock_want, lock_after, lock_goes_back};
 
 use crate::ask::{After, Ask, Op, Want};
 use crate::indices::enums::ReleaseState;

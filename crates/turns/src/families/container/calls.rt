@@ -1,7 +1,10 @@
 //! The calls of the container under way: what each wants, and how it goes on.
 ghost use Rattle.std.specs.Prelude.{◌≡◌, IfOk};
 ghost use Rattle.steps.specs.Ask.{CameTo};
-ghost use Rattle.model.specs.Families.Container.Calls.{place_of, add_of, remove_of, replace_of, find_of, recover_of, look_of, count_of, locked_of, added, removed, replaced, counted, looked, want, after, goes_back, look_flight, look_after, look_writes, states_after};
+ghost use Rattle.model.specs.Families.Container.Calls.{place_of, add_of, remove_of, replace_of, find_of, recover_of};
+ghost use Rattle.model.specs.Families.Container.Calls.{look_of, count_of, locked_of, added, removed, replaced, counted};
+ghost use Rattle.model.specs.Families.Container.Calls.{looked, want, after, goes_back, look_flight, look_after};
+ghost use Rattle.model.specs.Families.Container.Calls.{look_writes, states_after};
 ghost use Rattle.model.specs.Families.Container.States.{state_of};
 
 use model::coding::Coded;

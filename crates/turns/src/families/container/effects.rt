@@ -3,7 +3,9 @@ ghost use Rattle.std.specs.Prelude.{◌≡◌, ◌+◌, ◌≤◌, ◌++◌, vec
 ghost use Rattle.steps.specs.Ask.{CameTo};
 ghost use Rattle.model.specs.Families.Container.Calls.{after, goes_back, states_after};
 ghost use Rattle.model.specs.Families.Container.States.{state_of};
-ghost use Rattle.model.specs.Families.Container.Steps.{placed, hidden, copied, shown, checked, add_effects, remove_effects, replace_effects, find_effects, recover_effects, look_effects, copy_in, effects, question_of, questions};
+ghost use Rattle.model.specs.Families.Container.Steps.{placed, hidden, copied, shown, checked, add_effects};
+ghost use Rattle.model.specs.Families.Container.Steps.{remove_effects, replace_effects, find_effects, recover_effects};
+ghost use Rattle.model.specs.Families.Container.Steps.{look_effects, copy_in, effects, question_of, questions};
 
 use super::calls::{feed, goes_back};
 use crate::families::indices::robust::effects::{acquire_effect, freed, locked_by, release_effect};

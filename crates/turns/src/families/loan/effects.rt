@@ -1,7 +1,10 @@
 //! What a step of a call of a loan channel writes down, and what is kept then.
 ghost use Rattle.std.specs.Prelude.{◌≡◌, ◌+◌, ◌≤◌, ◌++◌, fold, vec_len, vec_capacity, option_copied};
 ghost use Rattle.steps.specs.Ask.{CameTo};
-ghost use Rattle.model.specs.Families.Loan.Steps.{sent_at, given_back_at, pending, beside, push_effect, release_effect, send_effect, receive_effect, take_back_effect, give_back_effect, drains_effect, empties_effect, reclaim_effect, effect_of, claimed, room_made, effects_of, book_after, ended_book, step};
+ghost use Rattle.model.specs.Families.Loan.Steps.{sent_at, given_back_at, pending, beside, push_effect, release_effect};
+ghost use Rattle.model.specs.Families.Loan.Steps.{send_effect, receive_effect, take_back_effect, give_back_effect};
+ghost use Rattle.model.specs.Families.Loan.Steps.{drains_effect, empties_effect, reclaim_effect, effect_of, claimed};
+ghost use Rattle.model.specs.Families.Loan.Steps.{room_made, effects_of, book_after, ended_book, step};
 
 use super::calls::{feed, goes_back};
 use crate::party::flight_of;

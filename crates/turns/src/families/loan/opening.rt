@@ -2,7 +2,9 @@
 ghost use Rattle.std.specs.Prelude.{◌≡◌, ◌+◌, ◌^◌, ◌≤◌, ◌∷◌, ◌++◌, false, None, Some, is_none, OnOk, IfOk, IfErr, vec_len};
 ghost use Rattle.model.specs.Families.Indices.Robust.Dead.{has_died};
 ghost use Rattle.model.specs.Families.Loan.Calls.{party_of, book_rows};
-ghost use Rattle.model.specs.Families.Loan.Opening.{queue_words, opening_words, opening_kept, is_loan, is_not_sender, is_not_receiver, lacks_role, asks_for, is_past, lacks_index, reclaims_early, call_rows, call_in, taken_from};
+ghost use Rattle.model.specs.Families.Loan.Opening.{queue_words, opening_words, opening_kept, is_loan, is_not_sender};
+ghost use Rattle.model.specs.Families.Loan.Opening.{is_not_receiver, lacks_role, asks_for, is_past, lacks_index};
+ghost use Rattle.model.specs.Families.Loan.Opening.{reclaims_early, call_rows, call_in, taken_from};
 ghost use Rattle.model.specs.Rows.{first_row};
 ghost use Rattle.model.specs.declared.turn.Refusal.TheVariants.{WrongCall};
 

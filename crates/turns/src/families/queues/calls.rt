@@ -1,7 +1,9 @@
 //! The calls of the queues under way: what each wants, and how it goes on.
 ghost use Rattle.std.specs.Prelude.{◌≡◌, IfOk};
 ghost use Rattle.steps.specs.Ask.{CameTo};
-ghost use Rattle.model.specs.Families.Queues.Calls.{acquire_of, release_of, push_index_of, push_value_of, pop_of, length_of, first, want, after, goes_back, popped, popped_value, length_answer};
+ghost use Rattle.model.specs.Families.Queues.Calls.{acquire_of, release_of, push_index_of, push_value_of, pop_of};
+ghost use Rattle.model.specs.Families.Queues.Calls.{length_of, first, want, after, goes_back, popped, popped_value};
+ghost use Rattle.model.specs.Families.Queues.Calls.{length_answer};
 
 use model::coding::Coded;
 use model::event::Answer;

@@ -1,7 +1,9 @@
 //! What a step of a call writes down.
 ghost use Rattle.std.specs.Prelude.{◌≡◌, ◌+◌, ◌≤◌, ◌<◌, ◌++◌, vec_len, vec_capacity, option_copied};
 ghost use Rattle.steps.specs.Ask.{CameTo};
-ghost use Rattle.model.specs.Families.Queues.Steps.{pending_at, pending, beside, push_effect, pop_effect, overflow_push_effect, overflow_pop_effect, effect_of, acts_if_done, effects_of, roles_after, step};
+ghost use Rattle.model.specs.Families.Queues.Steps.{pending_at, pending, beside, push_effect, pop_effect};
+ghost use Rattle.model.specs.Families.Queues.Steps.{overflow_push_effect, overflow_pop_effect, effect_of, acts_if_done};
+ghost use Rattle.model.specs.Families.Queues.Steps.{effects_of, roles_after, step};
 
 use super::calls::{feed, goes_back};
 use super::opening::holds;

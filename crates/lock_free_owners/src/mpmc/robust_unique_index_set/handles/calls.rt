@@ -6,7 +6,8 @@ ghost use Rattle.model.specs.declared.families.indices.robust.RobustStart.TheVar
 ghost use Rattle.model.specs.Families.Indices.Reading.{is_locked};
 ghost use Rattle.model.specs.Families.Indices.Robust.Calls.{release_answer};
 ghost use Rattle.history.specs.Passes.{HasSplit};
-ghost use Rattle.lock_free_owners.specs.Robust.Told.{HasTaken, HasGiven, HasCounted, HasLooked, WasFilled, WasGranted, WasFreed, WasRefused, Answered, HasReleased, FoundLock};
+ghost use Rattle.lock_free_owners.specs.Robust.Told.{HasTaken, HasGiven, HasCounted, HasLooked, WasFilled, WasGranted};
+ghost use Rattle.lock_free_owners.specs.Robust.Told.{WasFreed, WasRefused, Answered, HasReleased, FoundLock};
 ghost use Rattle.lock_free_owners.specs.RobustUniqueIndexSet.{capacity_of, IsPassOf, GoesOn, history};
 ghost use Rattle.lock_free_owners.specs.Robust.Handles.{set_in, pass_in, knows};
 

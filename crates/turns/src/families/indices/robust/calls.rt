@@ -1,7 +1,9 @@
 //! The calls of the robust index set under way: what each wants, and how it goes on.
 ghost use Rattle.std.specs.Prelude.{◌≡◌};
 ghost use Rattle.steps.specs.Ask.{CameTo};
-ghost use Rattle.model.specs.Families.Indices.Robust.Calls.{acquire_answer, release_answer, acquire_of, release_of, find_of, recover_of, borrowed_of, locked_of, want, after, goes_back};
+ghost use Rattle.model.specs.Families.Indices.Robust.Calls.{acquire_answer, release_answer, acquire_of, release_of};
+ghost use Rattle.model.specs.Families.Indices.Robust.Calls.{find_of, recover_of, borrowed_of, locked_of, want, after};
+ghost use Rattle.model.specs.Families.Indices.Robust.Calls.{goes_back};
 
 use model::event::Answer;
 use model::families::indices::robust::calls::RobustFlight;
