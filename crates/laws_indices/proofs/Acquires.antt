@@ -2,32 +2,23 @@
 use Rattle.std.proofs.Common.{◌≡◌, ◌≢◌, ℕ, ◌+◌, ◌*◌, ◌<◌, ◌≤◌, ◌==◌, ⊎_elim, inl, nat_lt, Bool, true, false}
 use Rattle.std.proofs.Common.{bit_or, Option, Some, List, get_or, set, refl, sym, ap, subst, ◌∙◌, arith}
 use Rattle.std.specs.Prelude.{max, Ok, Err}
-use Rattle.std.proofs.lemmas.Bool.Decides.{nat_tests}
-use Rattle.std.proofs.lemmas.List.{set-get_or}
-use Rattle.steps.specs.declared.ask.Ask.{Ask}
+use Rattle.laws_indices.proofs.Names.{nat_tests, set-get_or, Ask, After, GoOn, Done, AcquireStage, next_word, flag_word}
+use Rattle.laws_indices.proofs.Names.{flag, has_flag, proposed, borrowed, locked, says_locked, Index, NoIndex, Finished}
+use Rattle.laws_indices.proofs.Names.{Indices, words_after, Scene, Inv}
 use Rattle.steps.specs.declared.ask.Op.TheVariants.{Load, Or, Exchange}
-use Rattle.steps.specs.declared.ask.After.{After}
-use Rattle.steps.specs.declared.ask.After.TheVariants.{GoOn, Done}
 use Rattle.steps.specs.declared.indices.enums.UniqueIndexSetAcquireFailure.{UniqueIndexSetAcquireFailure}
 use Rattle.steps.specs.declared.indices.enums.UniqueIndexSetAcquireFailure as failures
 use Rattle.steps.specs.declared.indices.unique.Acquire as calls
-use Rattle.steps.specs.declared.indices.unique.AcquireStage.{AcquireStage}
 use Rattle.steps.specs.declared.indices.unique.AcquireStage as acquires
-use Rattle.steps.specs.Indices.Head.{next_word, flag_word, flag, has_flag, proposed, borrowed, locked, says_locked}
 use Rattle.steps.specs.Indices.Unique.{Acquired, at_acquire, acquire_sees, head_taken, first_claim}
 use Rattle.steps.specs.Picks.{by_test, by_eq}
 use Rattle.steps.specs.Routine.{went_on}
 use Rattle.model.specs.Step.{as_call}
-use Rattle.model.specs.declared.event.Answer.TheVariants.{Index, NoIndex}
-use Rattle.model.specs.declared.event.Event.TheVariants.{Finished}
-use Rattle.model.specs.declared.event.Start.TheVariants.{Indices}
 use Rattle.model.specs.declared.families.indices.IndexStart.TheVariants.{Acquire}
 use Rattle.model.specs.declared.families.indices.calls.IndexFlight.TheVariants as flights
 use Rattle.model.specs.Families.Indices.Calls.{acquire_answer, after, goes_back}
 use Rattle.model.specs.Families.Indices.Reading.{is_locked, tally_of, in_use}
 use Rattle.model.specs.Families.Queues.Calls.{as_it_is}
-use Rattle.model.specs.Turns.{words_after}
-use Rattle.model.proofs.Family.{Scene, Inv}
 use Rattle.laws_indices.proofs.Core.{head_of, counted_in, is_claimed, head_stays, Good}
 use Rattle.laws_indices.proofs.Invariant.{IndexSet, AnswersFew, outline}
 use Rattle.laws_indices.proofs.Knows.{acquire_at, acquire_number, acquire_counts, AcquireAt, AcquireKnows, IsOpen, IsPaid, PaidUnless, AllClaimed}

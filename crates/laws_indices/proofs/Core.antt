@@ -3,8 +3,7 @@
 use Rattle.std.proofs.Common.{◌≡◌, ◌≢◌, ℕ, ◌+◌, ◌-◌, ◌/◌, ◌^◌, ◌<◌, ◌≤◌, ⊎_elim, Bool, true, false, bit_and, bit_or}
 use Rattle.std.proofs.Common.{Option, Some, None, is_some, List, length, get_or, set, sym, ap, ◌∙◌, arith}
 use Rattle.std.proofs.Common.{get_or-set_same, get_or-set_other}
-use Rattle.std.proofs.lemmas.Bool.{cases_eq}
-use Rattle.steps.specs.Indices.Head.{flag_word, flag, has_flag, borrowed, locked}
+use Rattle.laws_indices.proofs.Names.{cases_eq, flag_word, flag, has_flag, borrowed, locked}
 use Rattle.steps.proofs.Flags.Words.{with_stands, with_leaves, without_clear, without_leaves}
 use Rattle.laws_indices.proofs.Count.{Tally}
 use Rattle.laws_indices.proofs.Sums.{sum_below, sum_moved}

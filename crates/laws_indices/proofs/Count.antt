@@ -1,7 +1,7 @@
 -- The number in the head of a unique index set, beside what it counts: the indices that are held, and the calls that take
 -- one or give one back. No event and no party is in it.
 use Rattle.std.proofs.Common.{◌≡◌, ◌≢◌, ℕ, ◌+◌, ◌-◌, ◌%◌, ◌^◌, ◌<◌, ◌≤◌, ◌⊎◌, ⊎_elim, arith}
-use Rattle.steps.specs.Indices.Head.{borrowed, locked}
+use Rattle.laws_indices.proofs.Names.{borrowed, locked}
 use Rattle.steps.specs.Indices.Unique.{head_taken, head_given_back, head_locked}
 
 -- ---- the heads that calls write

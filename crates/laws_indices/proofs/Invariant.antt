@@ -2,30 +2,21 @@
 -- what a turn must show to keep it.
 use Rattle.std.proofs.Common.{◌≡◌, ◌≢◌, ℕ, ◌+◌, ◌<◌, ◌≤◌, ⊎_elim, if◌then◌else◌, false, nat_lt, Option, Some}
 use Rattle.std.proofs.Common.{None, List, [], ◌++◌, fold, refl, sym, ap, subst, ◌∙◌, arith}
-use Rattle.std.proofs.lemmas.Bool.{cases_eq}
-use Rattle.std.proofs.lemmas.List.Sums.{fold-append}
-use Rattle.steps.specs.Indices.Head.{says_locked}
+use Rattle.laws_indices.proofs.Names.{cases_eq, fold-append, says_locked, NoIndex, Event, Finished, Start, Flight}
+use Rattle.laws_indices.proofs.Names.{Registry, IndexFlight, Party, Coding, CountsRight, GoesStraight, party_of, put}
+use Rattle.laws_indices.proofs.Names.{doing_of, flight_of, Scene}
 use Rattle.steps.specs.declared.indices.enums.UniqueIndexSetAcquireFailure.TheVariants.{OutOfIndices}
-use Rattle.model.specs.declared.event.Answer.TheVariants.{NoIndex, Number}
-use Rattle.model.specs.declared.event.Event.{Event}
-use Rattle.model.specs.declared.event.Event.TheVariants.{Finished}
-use Rattle.model.specs.declared.event.Start.{Start}
+use Rattle.model.specs.declared.event.Answer.TheVariants.{Number}
 use Rattle.model.specs.declared.event.Start as any_starts
-use Rattle.model.specs.declared.families.Flight.{Flight}
 use Rattle.model.specs.declared.families.Flight as flights
-use Rattle.model.specs.declared.families.Registry.{Registry}
 use Rattle.model.specs.declared.families.Registry as registries
 use Rattle.model.specs.declared.families.indices.IndexStart.TheVariants.{Acquire, BorrowedIndices}
-use Rattle.model.specs.declared.families.indices.calls.IndexFlight.{IndexFlight}
-use Rattle.model.specs.declared.party.Party.{Party}
 use Rattle.model.specs.declared.turn.Kind as kinds
-use Rattle.model.specs.Coding.{Coding}
-use Rattle.model.specs.Families.Indices.Promises.{HoldsRight, CountsRight, AnswersRight, GoesStraight, promise}
+use Rattle.model.specs.Families.Indices.Promises.{HoldsRight, AnswersRight, promise}
 use Rattle.model.specs.Families.Indices.Reading.{holder_after, holder_of, locked_after, is_locked, Tally, tally_after, tally_of, in_use}
-use Rattle.model.specs.Parties.{party_of, put, doing_of, flight_of}
 use Rattle.model.specs.Reading.{Each}
 use Rattle.model.proofs.Family as families
-use Rattle.model.proofs.Family.{Scene, Outline}
+use Rattle.model.proofs.Family.{Outline}
 use Rattle.model.proofs.Frame.{Family}
 use Rattle.model.proofs.Parties.{party_put_same, party_put_other}
 use Rattle.model.proofs.Readings.{AreRight, Each-append}

@@ -1,17 +1,11 @@
 -- What a call of the unique index set knows where it stands: of the words and of who holds what, and of the counts.
 use Rattle.std.proofs.Common.{◌≡◌, ◌≢◌, ℕ, ◌+◌, ◌*◌, ◌<◌, ◌≤◌, ◌⊎◌, true, Option, Some, List, [], ◌∷◌, arith}
 use Rattle.std.specs.Prelude.{max}
-use Rattle.steps.specs.declared.indices.enums.ReleaseMode.TheVariants.{LockIfLastIndex, Default}
-use Rattle.steps.specs.declared.indices.unique.AcquireStage.{AcquireStage}
+use Rattle.laws_indices.proofs.Names.{LockIfLastIndex, Default, AcquireStage, ReleaseStage, borrowed, locked, Event}
+use Rattle.laws_indices.proofs.Names.{Freed, IndexStart, IndexFlight}
 use Rattle.steps.specs.declared.indices.unique.AcquireStage as acquires
-use Rattle.steps.specs.declared.indices.unique.ReleaseStage.{ReleaseStage}
 use Rattle.steps.specs.declared.indices.unique.ReleaseStage as releases
-use Rattle.steps.specs.Indices.Head.{borrowed, locked}
-use Rattle.model.specs.declared.event.Event.{Event}
-use Rattle.model.specs.declared.event.Event.TheVariants.{Freed}
-use Rattle.model.specs.declared.families.indices.IndexStart.{IndexStart}
 use Rattle.model.specs.declared.families.indices.IndexStart as starts
-use Rattle.model.specs.declared.families.indices.calls.IndexFlight.{IndexFlight}
 use Rattle.model.specs.declared.families.indices.calls.IndexFlight.TheVariants.{Acquire, ReleaseDefault, ReleaseLock, BorrowedIndices, IsLocked}
 use Rattle.laws_indices.proofs.Core.{head_of, holder, is_claimed}
 

@@ -1,3 +1,4 @@
+mod Names
 pub mod Acquires
 pub mod Core
 pub mod Count

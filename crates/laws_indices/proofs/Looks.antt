@@ -1,18 +1,12 @@
 -- The steps of the calls that look at the head: how many indices are borrowed, and whether the set is locked.
 use Rattle.std.proofs.Common.{◌≡◌, ◌≢◌, ℕ, ◌+◌, ◌≤◌, true, false, Option, Some, List, refl, sym, ◌∙◌, arith}
-use Rattle.std.proofs.lemmas.Bool.Decides.{nat_tests}
-use Rattle.std.proofs.lemmas.List.{set-get_or}
-use Rattle.steps.specs.declared.ask.Ask.{Ask}
+use Rattle.laws_indices.proofs.Names.{nat_tests, set-get_or, Ask, borrowed, locked, says_locked, IndexFlight}
+use Rattle.laws_indices.proofs.Names.{CountsRight, words_after, Scene, Inv}
 use Rattle.steps.specs.declared.ask.Op.TheVariants.{Load}
-use Rattle.steps.specs.Indices.Head.{borrowed, locked, says_locked}
 use Rattle.steps.specs.Indices.Unique.{borrowed_number}
 use Rattle.model.specs.declared.families.indices.IndexStart as starts
-use Rattle.model.specs.declared.families.indices.calls.IndexFlight.{IndexFlight}
 use Rattle.model.specs.declared.families.indices.calls.IndexFlight.TheVariants.{BorrowedIndices, IsLocked}
-use Rattle.model.specs.Families.Indices.Promises.{CountsRight}
 use Rattle.model.specs.Families.Indices.Reading.{is_locked, Tally, tally_of, in_use}
-use Rattle.model.specs.Turns.{words_after}
-use Rattle.model.proofs.Family.{Scene, Inv}
 use Rattle.laws_indices.proofs.Core.{head_of, Good}
 use Rattle.laws_indices.proofs.Invariant.{IndexSet, outline}
 use Rattle.laws_indices.proofs.Moves.{counts_right}

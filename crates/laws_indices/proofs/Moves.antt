@@ -2,9 +2,8 @@
 use Rattle.std.proofs.Common.{◌≡◌, ◌≢◌, ℕ, ◌+◌, ◌-◌, ◌%◌, ◌^◌, ◌<◌, ◌≤◌, ⊎_elim, true, false, bit_and, bit_or, Option}
 use Rattle.std.proofs.Common.{Some, None, is_some, List, length, get_or, set, sym, ap, subst, ◌∙◌, arith, length-set}
 use Rattle.std.proofs.Common.{get_or-set_same, get_or-set_other}
-use Rattle.std.proofs.lemmas.Bool.{cases_eq, cases_lt}
+use Rattle.laws_indices.proofs.Names.{cases_eq, cases_lt, flag_word, flag, borrowed, locked}
 use Rattle.std.proofs.lemmas.List.{get_or_past}
-use Rattle.steps.specs.Indices.Head.{flag_word, flag, borrowed, locked}
 use Rattle.steps.specs.Indices.Unique.{head_taken, head_given_back, head_locked}
 use Rattle.laws_indices.proofs.Core.{head_of, counted_in, holder, one_held, held_below, held_below_set, none_if_zero}
 use Rattle.laws_indices.proofs.Core.{one_if_some, none_if_not, flag_within, is_claimed, claims_stay, claim_sets}

@@ -4,7 +4,7 @@ use Rattle.std.proofs.Common.{replicate, get_or, refl, ap, ◌∙◌, arith, len
 use Rattle.std.proofs.lemmas.List.{length-replicate}
 use Rattle.std.proofs.lemmas.List.FromFn.{length-range_with_len}
 use Rattle.std.specs.List.{range_with_len}
-use Rattle.steps.specs.Indices.Head.{flag_word, has_flag, locked}
+use Rattle.laws_indices.proofs.Names.{flag_word, has_flag, locked}
 use Rattle.steps.proofs.Flags.Words.{none_stands}
 use Rattle.model.specs.declared.turn.Kind as kinds
 use Rattle.model.specs.Families.Indices.Opening.{opening_words, flag_words}

@@ -1,27 +1,16 @@
 -- The steps of a release, in both modes.
 use Rattle.std.proofs.Common.{◌≡◌, ◌≢◌, ℕ, ◌+◌, ◌-◌, ◌*◌, ◌%◌, ◌^◌, ◌<◌, ◌≤◌, ◌==◌, inl, Bool, true, false}
 use Rattle.std.proofs.Common.{Option, Some, None, List, set, refl, sym, ap, subst, ◌∙◌, arith, get_or-set_same}
-use Rattle.std.proofs.lemmas.Bool.Decides.{nat_tests}
-use Rattle.std.proofs.lemmas.List.{set-get_or}
-use Rattle.steps.specs.declared.ask.Ask.{Ask}
+use Rattle.laws_indices.proofs.Names.{nat_tests, set-get_or, Ask, After, GoOn, Done, LockIfLastIndex, Default}
+use Rattle.laws_indices.proofs.Names.{ReleaseStage, next_word, flag_word, flag, proposed, borrowed, locked, says_locked}
+use Rattle.laws_indices.proofs.Names.{Answer, State, IndexStart, IndexFlight, words_after, Scene, Inv}
 use Rattle.steps.specs.declared.ask.Op.TheVariants.{Load, Store, Sub, And, Exchange}
-use Rattle.steps.specs.declared.ask.After.{After}
-use Rattle.steps.specs.declared.ask.After.TheVariants.{GoOn, Done}
-use Rattle.steps.specs.declared.indices.enums.ReleaseMode.TheVariants.{LockIfLastIndex, Default}
 use Rattle.steps.specs.declared.indices.enums.ReleaseState.TheVariants.{Locked, Unlocked}
-use Rattle.steps.specs.declared.indices.unique.ReleaseStage.{ReleaseStage}
 use Rattle.steps.specs.declared.indices.unique.ReleaseStage as releases
-use Rattle.steps.specs.Indices.Head.{next_word, flag_word, flag, proposed, borrowed, locked, says_locked}
 use Rattle.steps.specs.Indices.Unique.{head_given_back, head_locked, head_released}
-use Rattle.model.specs.declared.event.Answer.{Answer}
-use Rattle.model.specs.declared.event.Answer.TheVariants.{State}
-use Rattle.model.specs.declared.families.indices.IndexStart.{IndexStart}
 use Rattle.model.specs.declared.families.indices.IndexStart.TheVariants.{Release}
-use Rattle.model.specs.declared.families.indices.calls.IndexFlight.{IndexFlight}
 use Rattle.model.specs.Families.Indices.Calls.{after, goes_back}
 use Rattle.model.specs.Families.Indices.Reading.{Tally}
-use Rattle.model.specs.Turns.{words_after}
-use Rattle.model.proofs.Family.{Scene, Inv}
 use Rattle.laws_indices.proofs.Core.{head_of, counted_in, holder, head_stays, Good}
 use Rattle.laws_indices.proofs.Count.{given_number, locked_number, less_number}
 use Rattle.laws_indices.proofs.Invariant.{IndexSet, outline}

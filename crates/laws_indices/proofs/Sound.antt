@@ -2,25 +2,18 @@
 -- set, then the end. No call of the set acts.
 use Rattle.std.proofs.Common.{◌≡◌, ℕ, ◌<◌, ◌≤◌, Option, None, List, replicate, refl, sym, arith}
 use Rattle.std.specs.List.{AllByRecursion}
-use Rattle.steps.specs.Indices.Head.{locked}
-use Rattle.model.specs.declared.event.Answer.{Answer}
-use Rattle.model.specs.declared.event.Start.{Start}
-use Rattle.model.specs.declared.event.Start.TheVariants.{Indices}
-use Rattle.model.specs.declared.families.Flight.{Flight}
+use Rattle.laws_indices.proofs.Names.{locked, Answer, Start, Indices, Flight, Registry, Coding, Trace}
 use Rattle.model.specs.declared.families.Flight as flights
-use Rattle.model.specs.declared.families.Registry.{Registry}
 use Rattle.model.specs.declared.families.Registry as registries
 use Rattle.model.specs.declared.turn.Kind as kinds
 use Rattle.model.specs.declared.turn.Turn.{Turn}
 use Rattle.model.specs.declared.turn.Turn.TheVariants.{Next}
-use Rattle.model.specs.Coding.{Coding}
 use Rattle.model.specs.Families.Indices.Opening.{opening_words}
 use Rattle.model.specs.Families.Indices.Promises.{IsIndexSet}
 use Rattle.model.specs.Families.Indices.Steps.{effects}
 use Rattle.model.specs.Promises.{IsKept}
 use Rattle.model.specs.Promises.Turns.{IsEffectOf}
 use Rattle.model.specs.Turns.{IsReachedOn}
-use Rattle.model.specs.World.{Trace}
 use Rattle.model.proofs.FamilyLaws as laws
 use Rattle.model.proofs.FamilyLaws.{Opens, Owed, OwesAll}
 use Rattle.model.proofs.Frame as frame

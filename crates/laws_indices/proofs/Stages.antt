@@ -3,42 +3,27 @@
 use Rattle.std.proofs.Common.{◌≡◌, ◌≢◌, ℕ, ◌+◌, ◌-◌, ◌<◌, ◌≤◌, ◌==◌, ⊎_elim, inl, inr, if◌then◌else◌, Bool, true}
 use Rattle.std.proofs.Common.{false, Option, Some, None, List, [], ◌∷◌, ◌++◌, length, get_or, set, fold, refl, sym, ap}
 use Rattle.std.proofs.Common.{◌∙◌, arith, eq-eqb, ne_eqb, get_or-set_same, get_or-set_other}
-use Rattle.std.proofs.lemmas.Bool.{cases_eq}
-use Rattle.std.proofs.lemmas.Bool.Decides.{nat_tests}
-use Rattle.std.proofs.lemmas.List.Sums.{fold-append}
+use Rattle.laws_indices.proofs.Names.{cases_eq, nat_tests, fold-append, Ask, After, GoOn, Done, LockIfLastIndex}
+use Rattle.laws_indices.proofs.Names.{says_locked, borrowed, locked, Answer, Index, State, Event, Freed, Finished}
+use Rattle.laws_indices.proofs.Names.{Indices, Flight, IndexStart, IndexFlight, Party, GoesStraight, party_of, doing_of}
+use Rattle.laws_indices.proofs.Names.{flight_of, words_after, Scene, Inv}
 use Rattle.steps.specs.Ask.{written}
-use Rattle.steps.specs.declared.ask.Ask.{Ask}
-use Rattle.steps.specs.declared.ask.After.{After}
-use Rattle.steps.specs.declared.ask.After.TheVariants.{GoOn, Done}
 use Rattle.steps.specs.declared.indices.enums.ReleaseMode.{ReleaseMode}
-use Rattle.steps.specs.declared.indices.enums.ReleaseMode.TheVariants.{LockIfLastIndex}
 use Rattle.steps.specs.declared.indices.enums.ReleaseState as states
-use Rattle.steps.specs.Indices.Head.{says_locked, borrowed, locked}
-use Rattle.model.specs.declared.event.Answer.{Answer}
-use Rattle.model.specs.declared.event.Answer.TheVariants.{Index, State}
-use Rattle.model.specs.declared.event.Event.{Event}
-use Rattle.model.specs.declared.event.Event.TheVariants.{Claimed, Freed, Locked, Finished}
-use Rattle.model.specs.declared.event.Start.TheVariants.{Indices}
-use Rattle.model.specs.declared.families.Flight.{Flight}
+use Rattle.model.specs.declared.event.Event.TheVariants.{Claimed, Locked}
 use Rattle.model.specs.declared.families.Flight as flights
 use Rattle.model.specs.declared.families.Registry as registries
-use Rattle.model.specs.declared.families.indices.IndexStart.{IndexStart}
 use Rattle.model.specs.declared.families.indices.IndexStart.TheVariants.{Acquire, Release}
-use Rattle.model.specs.declared.families.indices.calls.IndexFlight.{IndexFlight}
-use Rattle.model.specs.declared.party.Party.{Party}
 use Rattle.model.specs.Families.{ask_of}
 use Rattle.model.specs.Families.Indices.Bounds.{most_steps}
 use Rattle.model.specs.Families.Indices.Calls.{want, after, goes_back}
-use Rattle.model.specs.Families.Indices.Promises.{GoesStraight}
 use Rattle.model.specs.Families.Indices.Reading.{Tally, tally_after, locked_after}
 use Rattle.model.specs.Families.Indices.Spans.{set_acts, done_by}
 use Rattle.model.specs.Families.Indices.Steps.{frees, effects, holders_after}
-use Rattle.model.specs.Parties.{party_of, doing_of, flight_of}
 use Rattle.model.specs.Reading.{Open}
 use Rattle.model.specs.Step.{as_call, answer_in}
-use Rattle.model.specs.Turns.{one_if, old_of, words_after, change_of, step_count, ending_of}
+use Rattle.model.specs.Turns.{one_if, old_of, change_of, step_count, ending_of}
 use Rattle.model.proofs.Family as families
-use Rattle.model.proofs.Family.{Scene, Inv}
 use Rattle.model.proofs.Turns.{kept_words}
 use Rattle.laws_indices.proofs.Core.{head_of, counted_in, holder, one_held, held_below_set, Good}
 use Rattle.laws_indices.proofs.Invariant.{IndexSet, AnswersFew, outline, set_then, of_any, all_counted, all_taking, all_giving}

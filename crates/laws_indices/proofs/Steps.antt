@@ -1,27 +1,16 @@
 -- What each step of a call of the set shows, and each begin of one.
 use Rattle.std.proofs.Common.{◌≡◌, ℕ, ◌≤◌, Option, Some, None, List, refl, sym, subst, arith}
-use Rattle.steps.specs.declared.indices.enums.ReleaseMode.TheVariants.{LockIfLastIndex, Default}
-use Rattle.steps.specs.declared.indices.unique.AcquireStage.{AcquireStage}
-use Rattle.steps.specs.declared.indices.unique.ReleaseStage.{ReleaseStage}
-use Rattle.model.specs.declared.event.Start.{Start}
-use Rattle.model.specs.declared.event.Start.TheVariants.{Indices}
-use Rattle.model.specs.declared.families.Flight.{Flight}
+use Rattle.laws_indices.proofs.Names.{LockIfLastIndex, Default, AcquireStage, ReleaseStage, Start, Indices, Flight}
+use Rattle.laws_indices.proofs.Names.{Registry, IndexStart, IndexFlight, Party, Coding, party_of, Trace, Scene, Inv}
 use Rattle.model.specs.declared.families.Flight as flights
-use Rattle.model.specs.declared.families.Registry.{Registry}
 use Rattle.model.specs.declared.families.Registry as registries
-use Rattle.model.specs.declared.families.indices.IndexStart.{IndexStart}
 use Rattle.model.specs.declared.families.indices.IndexStart as starts
-use Rattle.model.specs.declared.families.indices.calls.IndexFlight.{IndexFlight}
 use Rattle.model.specs.declared.families.indices.calls.IndexFlight as calls
-use Rattle.model.specs.declared.party.Party.{Party}
 use Rattle.model.specs.declared.turn.Kind as kinds
-use Rattle.model.specs.Coding.{Coding}
 use Rattle.model.specs.Families.{begin_of, first_of}
-use Rattle.model.specs.Parties.{party_of}
 use Rattle.model.specs.Rows.{first_row}
-use Rattle.model.specs.World.{Trace}
 use Rattle.model.proofs.Family as families
-use Rattle.model.proofs.Family.{Scene, Inv, scene_of, inv_of}
+use Rattle.model.proofs.Family.{scene_of, inv_of}
 use Rattle.model.proofs.Frame as frame
 use Rattle.model.proofs.Scenes.{StandsThere}
 use Rattle.laws_indices.proofs.Acquires.{acquire_step}

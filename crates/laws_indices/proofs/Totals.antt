@@ -1,8 +1,6 @@
 -- What the calls under way count for, party by party: in the head, as acquires, and as releases that have freed.
 use Rattle.std.proofs.Common.{◌≡◌, ◌≢◌, ℕ, ◌+◌, ◌<◌, ◌≤◌, Option, Some, None, List, ap, arith}
-use Rattle.model.specs.declared.families.Flight.{Flight}
-use Rattle.model.specs.declared.party.Party.{Party}
-use Rattle.model.specs.Parties.{party_of, put, doing_of, flight_of}
+use Rattle.laws_indices.proofs.Names.{Flight, Party, party_of, put, doing_of, flight_of}
 use Rattle.model.proofs.Parties.{party_put_same, party_put_other}
 use Rattle.laws_indices.proofs.Sums.{sum_below, sum_moved, sum_longer}
 

@@ -4,18 +4,12 @@ use Rattle.std.proofs.Common.{◌≡◌, ◌≢◌, ℕ, ◌+◌, ◌^◌, ◌<�
 use Rattle.std.proofs.Common.{length-append, arith, refl, sym, ap, subst, ◌∙◌}
 use Rattle.std.proofs.lemmas.List.Concat.{flat_map-append}
 use Rattle.std.proofs.lemmas.List.Sums.{fold-append}
-use Rattle.model.specs.declared.event.Event.{Event}
-use Rattle.model.specs.declared.event.Start.{Start}
+use Rattle.laws_value.proofs.Names.{Event, Start, Flight, Registry, AtomicStart, AtomicFlight, Party, Coding, IsCoding}
+use Rattle.laws_value.proofs.Names.{Scene}
 use Rattle.model.specs.declared.event.Start as any_starts
-use Rattle.model.specs.declared.families.Flight.{Flight}
 use Rattle.model.specs.declared.families.Flight as flights
-use Rattle.model.specs.declared.families.Registry.{Registry}
 use Rattle.model.specs.declared.families.Registry as registries
-use Rattle.model.specs.declared.families.atomic.AtomicStart.{AtomicStart}
-use Rattle.model.specs.declared.families.atomic.calls.AtomicFlight.{AtomicFlight}
-use Rattle.model.specs.declared.party.Party.{Party}
 use Rattle.model.specs.declared.turn.Kind as kinds
-use Rattle.model.specs.Coding.{Coding, IsCoding}
 use Rattle.model.specs.Families.Atomic.Objects.{value_after}
 use Rattle.model.specs.Families.Atomic.Promises.{value_of_zeros, value_in, AnswersRight, promise}
 use Rattle.model.specs.Families.Atomic.Reading.{holder_after, holder_of}
@@ -23,7 +17,7 @@ use Rattle.model.specs.Families.Atomic.Roles.{GrantsRight}
 use Rattle.model.specs.Objects.{IsLegal, standing, answers_from}
 use Rattle.model.specs.Reading.{Each, acts, moments, Span}
 use Rattle.model.proofs.Family as families
-use Rattle.model.proofs.Family.{Scene, Outline}
+use Rattle.model.proofs.Family.{Outline}
 use Rattle.model.proofs.Frame.{Family}
 use Rattle.model.proofs.Readings.{AreRight, Each-append}
 use Rattle.model.proofs.Replays.{calls_of, answers_of, standing_more, legal_more}

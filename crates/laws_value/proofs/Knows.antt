@@ -1,16 +1,11 @@
 -- What a call of the single value knows where it stands: of the words, and of the counts.
 use Rattle.std.proofs.Common.{◌≡◌, ℕ, ◌+◌, ◌-◌, ◌*◌, ◌^◌, ◌<◌, ◌≤◌, Option, Some, List, length, get_or, arith}
-use Rattle.steps.specs.declared.atomic.StoreStage.{StoreStage}
+use Rattle.laws_value.proofs.Names.{StoreStage, LoadStage, cell_word, before_version, AtomicStart, AtomicFlight, Coding}
 use Rattle.steps.specs.declared.atomic.StoreStage as storing
-use Rattle.steps.specs.declared.atomic.LoadStage.{LoadStage}
 use Rattle.steps.specs.declared.atomic.LoadStage as loading
 use Rattle.steps.specs.declared.copied.Buffer as buffers
-use Rattle.steps.specs.Atomic.{cell_word, before_version}
-use Rattle.model.specs.declared.families.atomic.AtomicStart.{AtomicStart}
 use Rattle.model.specs.declared.families.atomic.AtomicStart as starts
-use Rattle.model.specs.declared.families.atomic.calls.AtomicFlight.{AtomicFlight}
 use Rattle.model.specs.declared.families.atomic.calls.AtomicFlight.TheVariants.{Acquire, Release, Store, Load}
-use Rattle.model.specs.Coding.{Coding}
 use Rattle.laws_value.proofs.Core.{Core, GoesUp, IsFilled}
 
 -- ---- the calls by their stages

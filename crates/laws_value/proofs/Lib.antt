@@ -1,3 +1,4 @@
+mod Names
 pub mod Core
 pub mod Invariant
 pub mod Knows

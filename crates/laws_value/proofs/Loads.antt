@@ -1,26 +1,15 @@
 -- The steps of a load.
 use Rattle.std.proofs.Common.{◌≡◌, ℕ, ◌+◌, ◌*◌, ◌^◌, ◌<◌, ◌≤◌, ◌==◌, nat_lt, Bool, true, false, Option}
 use Rattle.std.proofs.Common.{Some, length, get_or, take, refl, sym, subst, ◌∙◌, arith, length-set}
-use Rattle.std.proofs.lemmas.Bool.Decides.{nat_tests}
+use Rattle.laws_value.proofs.Names.{nat_tests, Ask, After, GoOn, Done, LoadStage, cell_word, before_version, word_at}
+use Rattle.laws_value.proofs.Names.{Answer, AtomicFlight, IsCoding, after, goes_back, change_of, Scene, Inv}
 use Rattle.std.proofs.lemmas.List.{set-get_or}
-use Rattle.steps.specs.declared.ask.Ask.{Ask}
 use Rattle.steps.specs.declared.ask.Op.TheVariants.{Load, Exchange}
-use Rattle.steps.specs.declared.ask.After.{After}
-use Rattle.steps.specs.declared.ask.After.TheVariants.{GoOn, Done}
-use Rattle.steps.specs.declared.atomic.LoadStage.{LoadStage}
 use Rattle.steps.specs.declared.atomic.LoadStage as loading
 use Rattle.steps.specs.declared.copied.Buffer as buffers
-use Rattle.steps.specs.Atomic.{cell_word, before_version}
-use Rattle.steps.specs.Queues.Ring.{word_at}
-use Rattle.model.specs.declared.event.Answer.{Answer}
 use Rattle.model.specs.declared.event.Answer as answers
 use Rattle.model.specs.declared.families.atomic.AtomicStart as starts
-use Rattle.model.specs.declared.families.atomic.calls.AtomicFlight.{AtomicFlight}
-use Rattle.model.specs.Coding.{IsCoding}
-use Rattle.model.specs.Families.Atomic.Calls.{after, goes_back}
 use Rattle.model.specs.Families.Queues.Calls.{kept_at, read_in}
-use Rattle.model.specs.Turns.{change_of}
-use Rattle.model.proofs.Family.{Scene, Inv}
 use Rattle.laws_queues.proofs.Queues.Core.{one_more}
 use Rattle.laws_value.proofs.Core.{Core, Good, layout, same_words}
 use Rattle.laws_value.proofs.Invariant.{Value, outline}

@@ -5,31 +5,18 @@ use Rattle.std.proofs.Common.{arith, suc, ◌%◌, ◌≤◌, drop, take, List, 
 use Rattle.std.proofs.lemmas.List.{length-replicate, get_or-drop, length-drop}
 use Rattle.std.proofs.Math.Nat.{mul-le-mul_left}
 use Rattle.std.specs.List.{AllByRecursion}
-use Rattle.steps.specs.Atomic.{cell_word}
-use Rattle.steps.specs.declared.ask.Ask.{Ask}
-use Rattle.model.specs.declared.families.Registry.{Registry}
+use Rattle.laws_value.proofs.Names.{cell_word, Ask, Registry, Next, Answer, Event, Start, Atomic, Flight, AtomicStart}
+use Rattle.laws_value.proofs.Names.{AtomicFlight, Party, Coding, IsCoding, old_of, ask_of, want, after, scene_of}
+use Rattle.laws_value.proofs.Names.{inv_of}
 use Rattle.model.specs.declared.families.Registry as registries
 use Rattle.model.specs.declared.turn.Kind as kinds
 use Rattle.model.specs.declared.turn.Turn.{Turn}
-use Rattle.model.specs.declared.turn.Turn.TheVariants.{Next}
-use Rattle.model.specs.declared.event.Answer.{Answer}
-use Rattle.model.specs.declared.event.Event.{Event}
-use Rattle.model.specs.declared.event.Start.{Start}
-use Rattle.model.specs.declared.event.Start.TheVariants.{Atomic}
-use Rattle.model.specs.declared.families.Flight.{Flight}
 use Rattle.model.specs.declared.families.Flight as flights
-use Rattle.model.specs.declared.families.atomic.AtomicStart.{AtomicStart}
-use Rattle.model.specs.declared.families.atomic.calls.AtomicFlight.{AtomicFlight}
-use Rattle.model.specs.declared.party.Party.{Party}
-use Rattle.model.specs.Coding.{Coding, IsCoding}
 use Rattle.model.specs.Promises.{IsKeptBy, IsKept}
 use Rattle.model.specs.Promises.Families.{promise_of}
-use Rattle.model.specs.Turns.{old_of}
 use Rattle.model.specs.World.{Trace, opening}
 use Rattle.model.specs.Families.Atomic.Promises.{cell_in, IsValue, AnswersRight, promise}
 use Rattle.model.specs.Families.Atomic.Roles.{KeepsHolder}
-use Rattle.model.specs.Families.{ask_of}
-use Rattle.model.specs.Families.Atomic.Calls.{want, after}
 use Rattle.model.specs.Families.Atomic.Steps.{acted}
 use Rattle.model.specs.Promises.Turns.{ask_in, IsParty, IsAct, ActsRight}
 use Rattle.model.specs.Step.{answer_in}
@@ -38,7 +25,6 @@ use Rattle.model.proofs.FamilyLaws.{Opens, Owed, OwesAll}
 use Rattle.model.proofs.Frame as frame
 use Rattle.model.proofs.Orders.{Keeps}
 use Rattle.model.proofs.Readings.{Each-nil, AreRight}
-use Rattle.model.proofs.Family.{scene_of, inv_of}
 use Rattle.model.proofs.Scenes.{StandsThere, step_from}
 use Rattle.laws_queues.proofs.Queues.Runs.{run_sound}
 use Rattle.laws_queues.proofs.Queues.Sound.{IsFreshTurn, IsFreshRun}

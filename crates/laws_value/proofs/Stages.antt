@@ -1,30 +1,19 @@
 -- What a step of a call of the single value has to show.
 use Rattle.std.proofs.Common.{◌≡◌, ◌≢◌, ℕ, ◌+◌, ◌≤◌, Bool, false, Option, List, [], ◌∷◌, ◌++◌, fold, arith}
-use Rattle.steps.specs.declared.ask.Ask.{Ask}
-use Rattle.steps.specs.declared.ask.After.{After}
-use Rattle.steps.specs.declared.ask.After.TheVariants.{GoOn, Done}
-use Rattle.model.specs.declared.event.Answer.{Answer}
-use Rattle.model.specs.declared.event.Event.{Event}
+use Rattle.laws_value.proofs.Names.{Ask, After, GoOn, Done, Answer, Event, Atomic, Flight, AtomicStart, AtomicFlight}
+use Rattle.laws_value.proofs.Names.{Party, ask_of, want, after, goes_back, old_of, change_of, Scene, Inv}
 use Rattle.model.specs.declared.event.Event.TheVariants.{Finished}
-use Rattle.model.specs.declared.event.Start.TheVariants.{Atomic}
-use Rattle.model.specs.declared.families.Flight.{Flight}
 use Rattle.model.specs.declared.families.Flight as flights
 use Rattle.model.specs.declared.families.Registry as registries
-use Rattle.model.specs.declared.families.atomic.AtomicStart.{AtomicStart}
-use Rattle.model.specs.declared.families.atomic.calls.AtomicFlight.{AtomicFlight}
-use Rattle.model.specs.declared.party.Party.{Party}
-use Rattle.model.specs.Families.{ask_of}
 use Rattle.model.specs.Families.Atomic.Bounds.{most_steps}
-use Rattle.model.specs.Families.Atomic.Calls.{want, after, goes_back}
 use Rattle.model.specs.Families.Atomic.Reading.{holder_after}
 use Rattle.model.specs.Families.Atomic.Roles.{GrantsRight}
 use Rattle.model.specs.Families.Atomic.Spans.{moments_of}
 use Rattle.model.specs.Families.Atomic.Steps.{acted, producer_after}
 use Rattle.model.specs.Reading.{Open}
 use Rattle.model.specs.Step.{as_call, answer_in}
-use Rattle.model.specs.Turns.{one_if, old_of, words_after, change_of, step_count, ending_of}
+use Rattle.model.specs.Turns.{one_if, words_after, step_count, ending_of}
 use Rattle.model.proofs.Family as families
-use Rattle.model.proofs.Family.{Scene, Inv}
 use Rattle.laws_value.proofs.Core.{Core, Good, layout}
 use Rattle.laws_value.proofs.Invariant.{Value, Shows, outline, family}
 use Rattle.laws_value.proofs.Knows.{At, KnowsFlight}

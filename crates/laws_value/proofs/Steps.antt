@@ -1,27 +1,17 @@
 -- What each step of a call of the value shows, and each begin of one.
 use Rattle.std.proofs.Common.{◌≡◌, ℕ, ◌+◌, ◌-◌, ◌^◌, ◌<◌, ◌≤◌, Some, None, List}
 use Rattle.std.proofs.Common.{get_or, length, refl, sym, ap, subst, ◌∙◌, arith}
-use Rattle.model.specs.declared.event.Start.{Start}
-use Rattle.model.specs.declared.event.Start.TheVariants.{Atomic}
-use Rattle.model.specs.declared.families.Flight.{Flight}
+use Rattle.laws_value.proofs.Names.{Start, Atomic, Flight, Registry, AtomicStart, AtomicFlight, Party, Next, Coding}
+use Rattle.laws_value.proofs.Names.{ask_of, want, old_of, Scene, Inv, scene_of, inv_of}
 use Rattle.model.specs.declared.families.Flight as flights
-use Rattle.model.specs.declared.families.Registry.{Registry}
 use Rattle.model.specs.declared.families.Registry as registries
-use Rattle.model.specs.declared.families.atomic.AtomicStart.{AtomicStart}
 use Rattle.model.specs.declared.families.atomic.AtomicStart.TheVariants.{AcquireProducer, ReleaseProducer, Store, Load}
-use Rattle.model.specs.declared.families.atomic.calls.AtomicFlight.{AtomicFlight}
 use Rattle.model.specs.declared.families.atomic.calls.AtomicFlight as calls
-use Rattle.model.specs.declared.party.Party.{Party}
 use Rattle.model.specs.declared.turn.Kind as kinds
-use Rattle.model.specs.declared.turn.Turn.TheVariants.{Next}
-use Rattle.model.specs.Coding.{Coding}
-use Rattle.model.specs.Families.{begin_of, first_of, ask_of}
-use Rattle.model.specs.Families.Atomic.Calls.{want}
+use Rattle.model.specs.Families.{begin_of, first_of}
 use Rattle.model.specs.Rows.{first_row}
-use Rattle.model.specs.Turns.{old_of}
 use Rattle.model.specs.World.{Trace}
 use Rattle.model.proofs.Family as families
-use Rattle.model.proofs.Family.{Scene, Inv, scene_of, inv_of}
 use Rattle.model.proofs.Frame as frame
 use Rattle.model.proofs.Scenes.{StandsThere}
 use Rattle.laws_queues.proofs.Queues.Knows.{IsFreshCall}

@@ -1,25 +1,13 @@
 -- The steps of a store.
 use Rattle.std.proofs.Common.{◌≡◌, ℕ, ◌+◌, ◌-◌, ◌*◌, ◌%◌, ◌^◌, ◌<◌, ◌≤◌, ◌==◌, nat_lt, Bool, true, false, Option, Some}
 use Rattle.std.proofs.Common.{[], ◌∷◌, get_or, refl, sym, ap, subst, arith}
-use Rattle.std.proofs.lemmas.Bool.Decides.{nat_tests}
-use Rattle.steps.specs.declared.ask.Ask.{Ask}
+use Rattle.laws_value.proofs.Names.{nat_tests, Ask, After, GoOn, StoreStage, cell_word, word_at, Answer, Atomic}
+use Rattle.laws_value.proofs.Names.{AtomicFlight, IsCoding, after, change_of, Scene, Inv}
 use Rattle.steps.specs.declared.ask.Op.TheVariants.{Store, Add}
-use Rattle.steps.specs.declared.ask.After.{After}
-use Rattle.steps.specs.declared.ask.After.TheVariants.{GoOn}
-use Rattle.steps.specs.declared.atomic.StoreStage.{StoreStage}
 use Rattle.steps.specs.declared.atomic.StoreStage as storing
-use Rattle.steps.specs.Atomic.{cell_word}
-use Rattle.steps.specs.Queues.Ring.{word_at}
-use Rattle.model.specs.declared.event.Answer.{Answer}
 use Rattle.model.specs.declared.event.Answer as answers
 use Rattle.model.specs.declared.event.Event.TheVariants.{Acted}
-use Rattle.model.specs.declared.event.Start.TheVariants.{Atomic}
 use Rattle.model.specs.declared.families.atomic.AtomicStart as starts
-use Rattle.model.specs.declared.families.atomic.calls.AtomicFlight.{AtomicFlight}
-use Rattle.model.specs.Coding.{IsCoding}
-use Rattle.model.specs.Families.Atomic.Calls.{after}
-use Rattle.model.specs.Turns.{change_of}
-use Rattle.model.proofs.Family.{Scene, Inv}
 use Rattle.laws_queues.proofs.Queues.Keeping.{clash}
 use Rattle.laws_queues.proofs.Queues.Knows.{IsFreshStore}
 use Rattle.laws_value.proofs.Core as core

@@ -1,15 +1,7 @@
 -- What is known of a whole call on a set, whichever it is.
-use Rattle.std.proofs.Common.{◌≡◌, ℕ, Option, Some, None, IfSome, List, [], ◌∷◌, ◌++◌, sym, ap, subst, ◌∙◌, append_assoc}
-use Rattle.model.specs.declared.event.Answer.{Answer}
-use Rattle.model.specs.declared.event.Event.{Event}
-use Rattle.model.specs.declared.event.Event.TheVariants.{Begun, Finished}
-use Rattle.model.specs.declared.event.Start.{Start}
-use Rattle.model.specs.declared.turn.Kind.{Kind}
-use Rattle.model.specs.Coding.{one_word}
-use Rattle.history.specs.declared.view.View.{View}
-use Rattle.history.specs.History.{Called}
-use Rattle.history.specs.Stages.{Calling, Ends}
-use Rattle.history.proofs.Drives.{called}
+use Rattle.lock_free.proofs.Names.{◌≡◌, ℕ, Option, Some, None, IfSome, List, [], ◌∷◌, ◌++◌, sym, ap, subst, ◌∙◌}
+use Rattle.lock_free.proofs.Names.{append_assoc, Answer, Event, Begun, Finished, Start, Kind, one_word, View, Called}
+use Rattle.lock_free.proofs.Names.{Calling, Ends, called}
 use Rattle.lock_free.specs.Driven.{HasDone, HasMade}
 
 module _ {C M E : Type 0} (kind : Kind) (call : Calling ℕ C M E)

@@ -8,6 +8,7 @@ pub use Rattle.lock_free_queues.proofs.Queues.Whole as QueueWhole
 pub use Rattle.lock_free_queues.proofs.Queues.Wrote as QueueWrote
 pub use Rattle.threaded.proofs.Fractions
 pub use Rattle.threaded.proofs.Shares
+mod Names
 pub mod Sums
 mod Looks
 pub mod Ends

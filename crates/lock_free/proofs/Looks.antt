@@ -1,14 +1,9 @@
 -- What a look at the whole history owes.
-use Rattle.std.proofs.Common.{◌≡◌, ◌<◌, ℕ, Option, None, [], sym, subst}
-use Rattle.atomic_table.specs.Table.{Me, Allows}
-use Rattle.model.specs.declared.event.Start.{Start}
+use Rattle.lock_free.proofs.Names.{◌≡◌, ◌<◌, ℕ, Option, None, [], sym, subst, Me, Allows, Start, Kind, one_word, View}
+use Rattle.lock_free.proofs.Names.{IsMachine, Looks}
 use Rattle.model.specs.declared.families.Flight.{Flight}
-use Rattle.model.specs.declared.turn.Kind.{Kind}
 use Rattle.model.specs.declared.turn.Kind.TheVariants as kinds
-use Rattle.model.specs.Coding.{one_word}
-use Rattle.history.specs.declared.view.View.{View}
-use Rattle.history.specs.History.{IsMachine}
-use Rattle.history.specs.Views.{Looks, WhenIdle}
+use Rattle.history.specs.Views.{WhenIdle}
 use Rattle.history.proofs.PassLooks.{looks}
 
 told_idle : (kind : Kind) (o : Option (Start ℕ × Flight ℕ)) (Told : Type 0) → o ≡ None → WhenIdle kind o Told → Told

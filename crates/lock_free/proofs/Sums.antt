@@ -1,16 +1,9 @@
 -- For clients of the sets: how a call changes the sums over what its pass made, and where its begin stands.
-use Rattle.std.proofs.Common.{◌≡◌, ℕ, ◌+◌, ◌≤◌, Bool, true, false, cond, List, [], ◌∷◌, ◌++◌, refl, sym, ap, subst, ◌∙◌, append_assoc, arith}
+use Rattle.lock_free.proofs.Names.{◌≡◌, ℕ, ◌+◌, ◌≤◌, Bool, true, false, cond, List, [], ◌∷◌, ◌++◌, refl, sym, ap, subst}
+use Rattle.lock_free.proofs.Names.{◌∙◌, append_assoc, arith, sum_by-append, sum_by-cons, sum_by_push, Answer, Event}
+use Rattle.lock_free.proofs.Names.{Begun, Finished, Start, BeginsNone, events_by, View, Called, IsBeginning}
 use Rattle.std.specs.List.{sum_by}
-use Rattle.std.proofs.lemmas.List.Sums.{sum_by-append, sum_by-cons, sum_by_push}
-use Rattle.model.specs.declared.event.Answer.{Answer}
-use Rattle.model.specs.declared.event.Event.{Event}
-use Rattle.model.specs.declared.event.Event.TheVariants.{Begun, Finished}
-use Rattle.model.specs.declared.event.Start.{Start}
-use Rattle.model.specs.Moments.{BeginsNone}
 use Rattle.model.specs.Reading.{whose, is_party}
-use Rattle.history.specs.Known.{events_by}
-use Rattle.history.specs.declared.view.View.{View}
-use Rattle.history.specs.History.{Called, IsBeginning}
 
 -- what a call adds: its begin, what it wrote, its end
 pub sum_made : (f : Event ℕ → ℕ) (p : ℕ) (start : Start ℕ) (answer : Answer ℕ) (wrote : List (Event ℕ)) (old new : View ℕ) → Called p start answer wrote old new

@@ -2,9 +2,11 @@
 use Rattle.std.proofs.Common.{◌≡◌, inl, inr, ℕ, ◌+◌, ◌-◌, ◌^◌, ◌<◌, ◌==◌, Bool, true, false, Some, None, List, [], ◌∷◌}
 use Rattle.std.proofs.Common.{◌++◌, length, replicate, slice_index, sum_by, refl, sym, ap, subst, ◌∙◌, append_assoc}
 use Rattle.std.proofs.Common.{append-nil, length-append, arith}
-use Rattle.std.proofs.lemmas.Bool.Decides.{nat_tests}
-use Rattle.std.proofs.lemmas.List.Concat.{flat_map-append}
-use Rattle.std.proofs.lemmas.List.Sums.{fold-append, sum_by-append}
+use Rattle.lock_free_value.proofs.Names.{nat_tests, flat_map-append, sum_by-append, Truth, Loaded, Done, Event, Begun}
+use Rattle.lock_free_value.proofs.Names.{Acted, Finished, Atomic, Coding, GrantsRight, stores, stored, IsAll, View}
+use Rattle.lock_free_value.proofs.Names.{IsHistory, IsBeginning, Looks, HasProducer, takes_producer, gives_producer}
+use Rattle.lock_free_value.proofs.Names.{stores_value, last_or, IsLast}
+use Rattle.std.proofs.lemmas.List.Sums.{fold-append}
 use Rattle.std.specs.List.{flat_map}
 use Rattle.steps.specs.declared.ask.Ask.{Ask}
 use Rattle.steps.specs.declared.ask.Op.TheVariants.{Load as Loads}
@@ -12,27 +14,16 @@ use Rattle.steps.specs.declared.ask.Want.TheVariants as wants
 use Rattle.steps.specs.declared.atomic.StoreStage as stages
 use Rattle.steps.specs.Atomic.{store_asks}
 use Rattle.model.specs.declared.event.Answer.{Answer}
-use Rattle.model.specs.declared.event.Answer.TheVariants.{Truth, Loaded, Done}
-use Rattle.model.specs.declared.event.Event.{Event}
-use Rattle.model.specs.declared.event.Event.TheVariants.{Begun, Acted, Finished}
 use Rattle.model.specs.declared.event.Start.{Start}
-use Rattle.model.specs.declared.event.Start.TheVariants.{Atomic}
 use Rattle.model.specs.declared.families.atomic.AtomicStart.TheVariants.{AcquireProducer, ReleaseProducer, Store, Load}
 use Rattle.model.specs.declared.turn.Kind.TheVariants as kinds
-use Rattle.model.specs.Coding.{Coding}
 use Rattle.model.specs.Families.Atomic.Reading.{holder_after, holder_of}
-use Rattle.model.specs.Families.Atomic.Roles.{GrantsRight}
 use Rattle.model.specs.Reading.{Each, whose, is_party}
-use Rattle.laws_value.specs.Stored.{stores, stored}
-use Rattle.threaded.specs.Shares.{IsAll}
-use Rattle.history.specs.declared.view.View.{View}
-use Rattle.history.specs.History.{IsHistory, Called, IsBeginning}
+use Rattle.history.specs.History.{Called}
 use Rattle.history.specs.Known.{events_by}
 use Rattle.history.specs.Stages.{Calling, opened, Ends, Over}
-use Rattle.history.specs.Views.{Looks}
-use Rattle.history.specs.Value.{ByProducer, HasProducer, takes_producer, gives_producer, acquires_producer}
-use Rattle.history.specs.Value.{releases_producer, store_skips, stores_value, value_of_room, loads_value, last_or}
-use Rattle.history.specs.Value.{IsLast}
+use Rattle.history.specs.Value.{ByProducer, acquires_producer}
+use Rattle.history.specs.Value.{releases_producer, store_skips, value_of_room, loads_value}
 use Rattle.history.proofs.Drives.{called}
 use Rattle.history.proofs.Known.{by_more}
 use Rattle.history.proofs.ValueHolders.{history_by_producers, back_over, forth_over, ArePlain}

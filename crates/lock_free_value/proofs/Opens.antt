@@ -1,18 +1,11 @@
 -- The words with which a value's table opens, as they are filled in.
 use Rattle.std.proofs.Common.{◌≡◌, ℕ, zero, suc, ◌+◌, ◌*◌, ◌<◌, nat_lt, if◌then◌else◌, Bool, true, false, List, []}
 use Rattle.std.proofs.Common.{◌∷◌, ◌++◌, length, get_or, replicate, set, refl, sym, ap, ◌∙◌, length-append, arith}
-use Rattle.std.proofs.lemmas.Bool.Decides.{nat_tests}
+use Rattle.lock_free_value.proofs.Names.{nat_tests, flat_map-append, sum_by-append, Done, Event, Begun, Finished}
+use Rattle.lock_free_value.proofs.Names.{Atomic, Coding, IsCoding, stores, stored, takes_producer, gives_producer}
+use Rattle.lock_free_value.proofs.Names.{HasProducer}
 use Rattle.std.proofs.lemmas.List.{length-replicate, replicate_more}
-use Rattle.std.proofs.lemmas.List.Concat.{flat_map-append}
-use Rattle.std.proofs.lemmas.List.Sums.{sum_by-append}
-use Rattle.model.specs.declared.event.Answer.TheVariants.{Done}
-use Rattle.model.specs.declared.event.Event.{Event}
-use Rattle.model.specs.declared.event.Event.TheVariants.{Begun, Finished}
-use Rattle.model.specs.declared.event.Start.TheVariants.{Atomic}
 use Rattle.model.specs.declared.families.atomic.AtomicStart.TheVariants.{ReleaseProducer}
-use Rattle.model.specs.Coding.{Coding, IsCoding}
-use Rattle.laws_value.specs.Stored.{stores, stored}
-use Rattle.history.specs.Value.{takes_producer, gives_producer, HasProducer}
 use Rattle.lock_free_value.specs.Roles.{LacksProducer}
 use Rattle.laws_value.proofs.Core.{set_at, zeros as zero_there}
 use Rattle.history.specs.ValueOpened.{first_stores, stored_once, stored_times, opened_view, opened_cells}

@@ -1,23 +1,13 @@
 -- The laws of versions.
 use Rattle.std.proofs.Common.{◌≡◌, ℕ, ◌+◌, ◌<◌, ◌≤◌, List, [], ◌∷◌, ◌++◌, length, replicate, true, refl, sym, ap}
 use Rattle.std.proofs.Common.{subst, ◌∙◌, append-nil, append_assoc, length-append, sum_by, arith}
-use Rattle.std.proofs.lemmas.List.Concat.{flat_map-append}
-use Rattle.std.proofs.lemmas.List.Sums.{sum_by-append}
-use Rattle.model.specs.declared.event.Answer.TheVariants.{Truth, Loaded}
-use Rattle.model.specs.declared.event.Event.{Event}
-use Rattle.model.specs.declared.event.Event.TheVariants.{Acted}
-use Rattle.model.specs.declared.event.Start.TheVariants.{Atomic}
+use Rattle.lock_free_value.proofs.Names.{flat_map-append, sum_by-append, Truth, Loaded, Event, Acted, Atomic, Coding}
+use Rattle.lock_free_value.proofs.Names.{GrantsRight, stores, stored, View, IsBeginning, IsHistory, last_or, IsLast}
+use Rattle.lock_free_value.proofs.Names.{IsAll}
 use Rattle.model.specs.declared.families.atomic.AtomicStart.TheVariants.{Store, Load}
 use Rattle.model.specs.declared.turn.Kind.TheVariants as kinds
-use Rattle.model.specs.Coding.{Coding}
-use Rattle.model.specs.Families.Atomic.Roles.{GrantsRight}
 use Rattle.model.specs.Reading.{Each}
-use Rattle.laws_value.specs.Stored.{stores, stored}
-use Rattle.history.specs.declared.view.View.{View}
-use Rattle.history.specs.History.{IsBeginning, IsHistory}
-use Rattle.history.specs.Value.{last_or, IsLast}
 use Rattle.history.proofs.Known.{sum_first}
-use Rattle.threaded.specs.Shares.{IsAll}
 use Rattle.lock_free_value.specs.Calls.{MissesNothing}
 use Rattle.history.proofs.ValueHolders.{history_by_producers}
 use Rattle.history.proofs.ValueLaws.{answers_right, load_tells}

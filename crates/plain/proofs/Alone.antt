@@ -1,8 +1,6 @@
 -- What a driver knows between two steps of a call that runs alone.
 use Rattle.std.proofs.Common.{◌≡◌, ℕ, ◌+◌, ◌^◌, ◌-◌, ◌≤◌, List, arith}
-use Rattle.steps.specs.declared.ask.Want.{Want}
-use Rattle.steps.specs.declared.ask.After.{After}
-use Rattle.steps.specs.declared.ask.After.TheVariants.{GoOn, Done}
+use Rattle.plain.proofs.Names.{Want, After, GoOn, Done}
 use Rattle.plain.specs.declared.drive.Stop.{Stop}
 use Rattle.plain.specs.declared.drive.Stop.TheVariants.{Asked, Ended}
 use Rattle.plain.specs.Alone.{answer_in, words_then, room_then, stepped, StopsIn, CanStop, StopsAlike, EndsIn, CanEnd, EndsAlike}

@@ -3,12 +3,10 @@ use Rattle.std.proofs.Common.{◌≡◌, ℕ, zero, suc, ◌<◌, ◌≤◌, Lis
 use Rattle.std.proofs.Common.{slice_index, slice_set, get_or-set_other, get_or-take, length-set, ◌==◌}
 use Rattle.std.specs.Prelude.{if◌then◌else◌}
 use Rattle.steps.specs.Ask.{written}
-use Rattle.steps.specs.Picks.{by_test}
+use Rattle.plain.proofs.Names.{by_test, Want, After}
 use Rattle.steps.specs.declared.ask.Op.{Op}
 use Rattle.steps.specs.declared.ask.Op.TheVariants.{Load, Store, Swap, Add, Sub, And, Or, Exchange}
-use Rattle.steps.specs.declared.ask.Want.{Want}
 use Rattle.steps.specs.declared.ask.Want as wants
-use Rattle.steps.specs.declared.ask.After.{After}
 use Rattle.plain.specs.Alone.{written_by, answer_in, words_then, stepped}
 use Rattle.plain.proofs.Walks.{WalksFrom, OnEnd, Walks, LowThen}
 

@@ -1,10 +1,8 @@
 -- A call with a room runs alone: both together are walked as one call.
 use Rattle.std.proofs.Common.{arith}
 use Rattle.std.proofs.Common.{ℕ, zero, suc, ◌^◌, ◌-◌, ◌≤◌, List, refl}
-use Rattle.steps.specs.declared.ask.Want.{Want}
+use Rattle.plain.proofs.Names.{Want, After, GoOn, Done}
 use Rattle.steps.specs.declared.ask.Want as wants
-use Rattle.steps.specs.declared.ask.After.{After}
-use Rattle.steps.specs.declared.ask.After.TheVariants.{GoOn, Done}
 use Rattle.plain.specs.declared.drive.Stop.{Stop}
 use Rattle.plain.specs.declared.drive.Stop.TheVariants.{Asked, Ended}
 use Rattle.plain.specs.Alone.{answer_in, words_then, room_then, stepped, StopsFrom, StopsIn}

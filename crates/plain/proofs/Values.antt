@@ -2,15 +2,11 @@
 use Rattle.std.proofs.Common.{◌≡◌, ◌≢◌, ℕ, zero, suc, ◌+◌, ◌-◌, ◌*◌, ◌^◌, ◌<◌, ◌≤◌, inl, Bool, true, false, not}
 use Rattle.std.proofs.Common.{◌==◌, nat_lt, List, length, refl, sym, ap, subst, ◌∙◌, arith, slice_index, slice_set}
 use Rattle.std.proofs.Common.{get_or-set_same, get_or-set_other, length-set, eq-eqb, ne_eqb, if◌then◌else◌}
-use Rattle.std.proofs.Math.Nat.{mul-le-mul_left}
-use Rattle.std.proofs.lemmas.Bool.Decides.{nat_tests}
+use Rattle.plain.proofs.Names.{mul-le-mul_left, nat_tests, by_test, by_eq, word_at, After}
 use Rattle.steps.specs.Ask.{written}
 use Rattle.steps.specs.Atomic.{before_version, cell_word, at_store, first_store, store_want, store_after, at_load, first_load, load_want, load_after, load_kept}
 use Rattle.steps.specs.Copied as copied
-use Rattle.steps.specs.Picks.{by_test, by_eq}
-use Rattle.steps.specs.Queues.Ring.{word_at}
 use Rattle.steps.specs.Objects.Values.{Versioned, has_version, stored}
-use Rattle.steps.specs.declared.ask.After.{After}
 use Rattle.steps.specs.declared.ask.Op.TheVariants.{Add}
 use Rattle.steps.specs.declared.atomic.Store.{Store}
 use Rattle.steps.specs.declared.atomic.StoreStage as stores
@@ -45,11 +41,7 @@ module _ {V : Type 0} (words_of : V → List ℕ) (value_of : List ℕ → V) (s
   goes_in : (cell n at : ℕ) → at + suc n ≡ size → (ws : List ℕ)
       → Ends (suc (suc n)) true (counted (words.stored ws cell (words_of value) at (suc n)))
       (at_store first_store (stores.TheVariants.StoresCell cell at)) ws
-  goes_in cell zero at end ws =
-      by_test (λ a. From 1 true (counted (words.stored ws cell (words_of value) at 1)) a (slice_set ws (word_at cell at) (slice_index (words_of value) at)))
-      (nat_lt (at + 1) size) _ _
-      (λ t. let more : at + 1 < size = grind (arith, nat_tests) in absurd (omega arith))
-      (λ t. (refl, refl, refl))
+  goes_in cell zero at end ws = grind (arith, by_test, slice_set, word_at, slice_index, nat_lt, nat_tests)
   goes_in cell (suc n) at end ws =
       let next = slice_set ws (word_at cell at) (slice_index (words_of value) at) in
       by_test (λ a. From (suc (suc n)) true (counted (words.stored ws cell (words_of value) at (suc (suc n)))) a next)
@@ -169,15 +161,7 @@ module _ {V R : Type 0} (value_of : List ℕ → V) (size : ℕ) (some : 1 ≤ s
   reads : (cell n at : ℕ) → at + suc n ≡ size → (room : R)
       → LoadEnds (suc (suc n)) (read_in with_word room ws cell at (suc n)) checked
       (at_load first_load (loads.TheVariants.LoadsCell version cell at)) room
-  reads cell zero at end room =
-      let here = read_in with_word room ws cell at 1 in
-      let written : (if version == version then checked else ws) ≡ checked =
-      ap (λ b. if b then checked else ws) (eq-eqb version version refl) in
-      by_test (λ a. LoadFrom 1 here checked a here ws)
-      (nat_lt (at + 1) size) _ _
-      (λ t. let more : at + 1 < size = grind (arith, nat_tests) in absurd (omega arith))
-      (λ t. by_eq (λ a. LoadFrom 0 here checked a here (if version == version then checked else ws)) version version _ _
-      (λ _. (refl, refl, sym written)) (λ ne. absurd (ne refl)))
+  reads cell zero at end room = grind (arith, read_in, eq-eqb, by_test, nat_lt, nat_tests, by_eq)
   reads cell (suc n) at end room =
       let next = with_word room at (slice_index ws (word_at cell at)) in
       by_test (λ a. LoadFrom (suc (suc n)) (read_in with_word room ws cell at (suc (suc n))) checked a next ws)

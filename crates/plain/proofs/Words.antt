@@ -3,9 +3,8 @@ use Rattle.std.proofs.Common.{◌≡◌, ℕ, zero, suc, ◌+◌, ◌^◌, ◌<�
 use Rattle.std.proofs.Common.{refl, sym, ap, subst, ◌∙◌, arith, slice_index, slice_set, get_or-set_same}
 use Rattle.std.proofs.Common.{get_or-set_other, length-set, take}
 use Rattle.std.specs.Prelude.{replicate, nat_lt, if◌then◌else◌, false}
-use Rattle.std.proofs.lemmas.Bool.Decides.{nat_tests}
+use Rattle.plain.proofs.Names.{nat_tests, word_at}
 use Rattle.steps.specs.Copied.{value_in}
-use Rattle.steps.specs.Queues.Ring.{word_at}
 use Rattle.plain.specs.Queues.{words_from}
 
 pub words_same : (ws vs : List ℕ) (at n : ℕ)

@@ -1,7 +1,6 @@
 -- The shares of a pass that was split make the whole again, once what they became is joined.
 use Rattle.std.proofs.Common.{◌≡◌, refl, sym, ap, subst, ◌∙◌}
-use Rattle.lock_free.specs.Share.{Share}
-use Rattle.lock_free.specs.Shares.{all_shares, half_of, both_of, IsAll}
+use Rattle.uses_programs.proofs.Names.{Share, all_shares, half_of, both_of, IsAll}
 
 -- split once
 pub both_halves : (first left right joined : Share) → first ≡ all_shares → left ≡ half_of first → right ≡ half_of first

@@ -1,12 +1,13 @@
 -- Where all that was made is known, and no lease has ended, no index was leased twice.
 use Rattle.std.proofs.Common.{◌≡◌, ◌≢◌, ⊎_elim, ℕ, ◌+◌, ◌≤◌, ◌==◌, true, false, Option, Some, None, Ok, List, [], ◌∷◌}
 use Rattle.std.proofs.Common.{◌++◌, fold, refl, sym, ap, subst, ◌∙◌, append_assoc, arith, sum_by}
-use Rattle.std.specs.List.{All, AllPairs}
+use Rattle.uses_programs.proofs.Names.{All, All-nil, sum_by-append, Event, View}
+use Rattle.std.specs.List.{AllPairs}
 use Rattle.std.proofs.lemmas.Bool.{cases_eq}
 use Rattle.std.proofs.lemmas.Bool.Decides.{nat_tests}
-use Rattle.std.proofs.lemmas.List.Elements.{All-nil, All-cons}
+use Rattle.std.proofs.lemmas.List.Elements.{All-cons}
 use Rattle.std.proofs.lemmas.List.Kept.{AllPairs-cons}
-use Rattle.std.proofs.lemmas.List.Sums.{fold-append, sum_by-append, sum_by-cons}
+use Rattle.std.proofs.lemmas.List.Sums.{fold-append, sum_by-cons}
 use Rattle.model.specs.declared.event.Answer.TheVariants.{Index}
 use Rattle.model.specs.declared.event.Start.TheVariants.{Robust, Container}
 use Rattle.model.specs.declared.families.container.ContainerStart.TheVariants as containers
@@ -15,9 +16,7 @@ use Rattle.model.specs.Families.Indices.Robust.Promises.{FreesRight, IsWellForme
 use Rattle.model.specs.Families.Indices.Robust.Reading.{holder_after, holder_of}
 use Rattle.model.specs.Reading.{Each}
 use Rattle.laws_robust.specs.Gone.{Word, gone_after, is_gone, ActsForRight, IsHonest}
-use Rattle.lock_free.specs.Event.{Event}
 use Rattle.lock_free.specs.Event.TheVariants.{Begun, Filled, Granted, FreedOf, Told, Died, Finished}
-use Rattle.lock_free.specs.HistoryView.View.{View}
 use Rattle.lock_free.specs.Robust.Told.{HasTaken, IsSound}
 use Rattle.lock_free.specs.Unique.Held.{one_if, times}
 use Rattle.lock_free.proofs.Sums.{sum_made}

@@ -2,13 +2,10 @@
 use Rattle.std.proofs.Common.{◌≡◌, ℕ, List, [], ◌∷◌, ◌++◌, drop, map, sym, refl, ap, ◌∙◌}
 use Rattle.std.specs.Prelude.{Some, None, slice_get}
 use Rattle.steps.specs.Objects.Lists.{Bounded, front, popped}
-use Rattle.lock_free.specs.HistoryView.View.{View}
+use Rattle.uses_programs.proofs.Names.{View, Closes, Item, first_view}
 use Rattle.lock_free.specs.Queues.Calls.{HasHistory, MissesNothing}
-use Rattle.lock_free.specs.Queues.Closes.{Closes}
-use Rattle.lock_free.specs.Queues.Item.{Item}
 use Rattle.lock_free.specs.Queues.Item.TheVariants.{Index}
 use Rattle.lock_free.specs.Queues.Told.{HasSplit, HasJoined}
-use Rattle.lock_free.specs.Queues.Views.{first_view}
 use Rattle.uses_programs.specs.Rows.{HasSent, HasReceived}
 use Rattle.uses_programs.proofs.Rows.{item, whole, all_published, all_handed_out}
 

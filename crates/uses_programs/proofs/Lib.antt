@@ -1,3 +1,4 @@
+mod Names
 mod Halves
 mod Leased
 pub mod Left

@@ -2,25 +2,14 @@
 use Rattle.std.proofs.Common.{◌≡◌, ◌≢◌, inl, inr, ℕ, suc, ◌+◌, ◌-◌, ◌^◌, ◌<◌, ◌≤◌, Bool, true, false, true≢false}
 use Rattle.std.proofs.Common.{if◌then◌else◌, List, [], ◌∷◌, ◌++◌, length, map, sym, refl, ap, subst, ◌∙◌, arith}
 use Rattle.std.proofs.Common.{length-append, sum_by}
-use mathlib.Core.List.{map-append}
-use Rattle.std.proofs.lemmas.List.Sums.{sum_by-append}
-use Rattle.lock_free.specs.Event.{Event}
+use Rattle.uses_programs.proofs.Names.{map-append, sum_by-append, Event, events_by, View, IsBeginning, Share, half_of}
+use Rattle.uses_programs.proofs.Names.{both_of, IsAll, all_shares, Item, Role, Queues, puts, gets, first_view}
 use Rattle.lock_free.specs.Event.TheVariants.{HandedOut, Acted}
-use Rattle.lock_free.specs.HistoryKnown.{events_by}
-use Rattle.lock_free.specs.HistoryView.View.{View}
-use Rattle.lock_free.specs.History.{IsBeginning}
-use Rattle.lock_free.specs.Share.{Share}
-use Rattle.lock_free.specs.Shares.{half_of, both_of, IsAll, all_shares}
-use Rattle.lock_free.specs.Queues.Item.{Item}
 use Rattle.lock_free.specs.Queues.Item.TheVariants.{Index}
 use Rattle.lock_free.specs.Queues.Overflowing.{GoesOn, MissesNothing}
 use Rattle.lock_free.specs.Queues.QueueStart.TheVariants.{Pop}
 use Rattle.lock_free.specs.Queues.Reading.{publishes, published, handed_out}
-use Rattle.lock_free.specs.Queues.Role.{Role}
-use Rattle.lock_free.specs.Queues.Start.TheVariants.{Queues}
-use Rattle.lock_free.specs.Queues.Sums.{puts, gets}
 use Rattle.lock_free.specs.Queues.Told.{HasAcquired, HasSplit, HasJoined}
-use Rattle.lock_free.specs.Queues.Views.{first_view}
 use Rattle.lock_free.proofs.QueueSums.{done_acquired, whole_counted}
 use Rattle.uses_programs.specs.Overflow.{Merges, StandIn, by_pop, by_push, taken, HasPushedAll, HasPushedUpTo, HasTaken}
 use Rattle.uses_programs.specs.Overflow.{HasDrained}

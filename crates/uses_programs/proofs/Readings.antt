@@ -1,18 +1,11 @@
 -- Values that were stored and seen, and what is known of them once the passes are joined.
 use Rattle.std.proofs.Common.{◌≡◌, ℕ, suc, true, ◌+◌, ◌<◌, ◌≤◌, List, [], ◌∷◌, ◌++◌, length, get_or, take, sym, refl}
 use Rattle.std.proofs.Common.{ap, subst, ◌∙◌, arith, append-nil, append_assoc, length-append, sum_by}
-use Rattle.std.specs.List.{All, Contains}
-use Rattle.std.proofs.lemmas.List.{take_more, take_all, get_or_append_left, get_or_push}
-use Rattle.std.proofs.lemmas.List.Concat.{flat_map-append}
-use Rattle.std.proofs.lemmas.List.Elements.{All-push}
-use Rattle.std.proofs.lemmas.List.Sums.{sum_by-append}
-use Rattle.lock_free.specs.Event.{Event}
-use Rattle.lock_free.specs.HistoryView.View.{View}
-use Rattle.lock_free.specs.History.{IsBeginning}
-use Rattle.lock_free.specs.Share.{Share}
-use Rattle.lock_free.specs.Shares.{half_of, both_of, IsAll, all_shares}
+use Rattle.uses_programs.proofs.Names.{All, take_more, flat_map-append, All-push, sum_by-append, Event, View}
+use Rattle.uses_programs.proofs.Names.{IsBeginning, Share, half_of, both_of, IsAll, all_shares, opened_view}
+use Rattle.std.specs.List.{Contains}
+use Rattle.std.proofs.lemmas.List.{take_all, get_or_append_left, get_or_push}
 use Rattle.lock_free.specs.Value.Calls.{GoesOn, MissesNothing}
-use Rattle.lock_free.specs.Value.Opened.{opened_view}
 use Rattle.lock_free.specs.Value.Reading.{IsLast}
 use Rattle.lock_free.specs.Value.Stored.{stores, stored}
 use Rattle.lock_free.specs.Value.Told.{HasAcquired, HasReleased, HasStored, HasLoaded, HasSplit, HasJoined}

@@ -1,16 +1,11 @@
 -- What each call adds to the lists of bells, and what that comes to once all passes are joined.
 use Rattle.std.proofs.Common.{◌≡◌, ◌==◌, ℕ, ◌+◌, ◌<◌, ◌≤◌, Bool, true, false, cond, Some, None, List, [], ◌∷◌, ◌++◌}
 use Rattle.std.proofs.Common.{length, get_or, take, refl, sym, ap, subst, ◌∙◌, arith}
-use Rattle.std.specs.List.{All, sum_by}
-use Rattle.std.proofs.lemmas.List.{take_more}
-use Rattle.std.proofs.lemmas.List.Sums.{sum_by_push, sum_by-append}
-use Rattle.std.proofs.lemmas.List.Elements.{All-push, All-weaker}
-use Rattle.lock_free.specs.Event.{Event}
-use Rattle.lock_free.specs.HistoryView.View.{View}
-use Rattle.lock_free.specs.History.{IsBeginning}
-use Rattle.lock_free.specs.Share.{Share}
-use Rattle.lock_free.specs.Shares.{all_shares, half_of, both_of, IsAll}
-use Rattle.lock_free.specs.Sums.{is_set_of, is_clear_of, sets, clears}
+use Rattle.uses_programs.proofs.Names.{All, take_more, sum_by_push, sum_by-append, All-push, Event, View, IsBeginning}
+use Rattle.uses_programs.proofs.Names.{Share, all_shares, half_of, both_of, IsAll, sets}
+use Rattle.std.specs.List.{sum_by}
+use Rattle.std.proofs.lemmas.List.Elements.{All-weaker}
+use Rattle.lock_free.specs.Sums.{is_set_of, is_clear_of, clears}
 use Rattle.lock_free.specs.Bits.Told.{HasSet, StoodOnce, HasReset}
 use Rattle.lock_free.proofs.Sums.{sum_grows, seen_begins}
 use Rattle.lock_free.proofs.Bits.Sums.{set_adds, set_adds_none, was_set, reset_adds, reset_adds_none}

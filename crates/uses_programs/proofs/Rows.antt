@@ -2,30 +2,19 @@
 use Rattle.std.proofs.Common.{◌≡◌, ◌≢◌, ◌⊎◌, inl, inr, ℕ, suc, ◌+◌, ◌<◌, ◌≤◌, Bool, true, false, true≢false, List, []}
 use Rattle.std.proofs.Common.{◌∷◌, ◌++◌, length, map, get_or, take, sym, refl, ap, subst, ◌∙◌, arith, append-nil}
 use Rattle.std.proofs.Common.{append_assoc, length-append, sum_by}
-use mathlib.Core.List.{map-append}
+use Rattle.uses_programs.proofs.Names.{map-append, option_map, take_more, flat_map-append, sum_by-append, one_word}
+use Rattle.uses_programs.proofs.Names.{Event, View, IsBeginning, Share, half_of, both_of, IsAll, all_shares, Item, Role}
+use Rattle.uses_programs.proofs.Names.{puts, gets, HasDone, HasPublished, HasPopped, first_view}
 use Rattle.std.specs.Prelude.{Some, None, Option, Result, Ok, Err, IfOk, IfSome, IfNone, MatchResult, is_ok, is_some, not}
-use Rattle.std.specs.Option.{option_map}
 use Rattle.std.specs.List.{flat_map}
-use Rattle.std.proofs.lemmas.List.{take_more, take_all}
-use Rattle.std.proofs.lemmas.List.Concat.{flat_map-append}
-use Rattle.std.proofs.lemmas.List.Sums.{sum_by-append}
-use Rattle.lock_free.specs.Coding.{one_word}
-use Rattle.lock_free.specs.Event.{Event}
-use Rattle.lock_free.specs.HistoryView.View.{View}
-use Rattle.lock_free.specs.History.{IsBeginning}
-use Rattle.lock_free.specs.Share.{Share}
-use Rattle.lock_free.specs.Shares.{half_of, both_of, IsAll, all_shares}
+use Rattle.std.proofs.lemmas.List.{take_all}
 use Rattle.lock_free.specs.Queues.Calls.{GoesOn, HasHistory, MissesNothing}
-use Rattle.lock_free.specs.Queues.Item.{Item}
 use Rattle.lock_free.specs.Queues.Item.TheVariants.{Index}
 use Rattle.lock_free.specs.Queues.Positions.{IsSound}
 use Rattle.lock_free.specs.Queues.QueueKind as kinds
 use Rattle.lock_free.specs.Queues.Reading.{publishes, hands_out, published, handed_out, waiting}
-use Rattle.lock_free.specs.Queues.Role.{Role}
-use Rattle.lock_free.specs.Queues.Sums.{puts, gets, HasDone}
-use Rattle.lock_free.specs.Queues.Told.{HasPushed, HasPublished, WasAtEnd, WasFull, HasPopped, HasTakenOut, WasEmpty}
+use Rattle.lock_free.specs.Queues.Told.{HasPushed, WasAtEnd, WasFull, HasTakenOut, WasEmpty}
 use Rattle.lock_free.specs.Queues.Told.{HasAcquired, HasReleased, HasSplit, HasJoined}
-use Rattle.lock_free.specs.Queues.Views.{first_view}
 use Rattle.lock_free.proofs.QueuePromises.{sound}
 use Rattle.lock_free.proofs.QueueSums.{done_pushed, done_refused, done_popped, done_none, done_acquired, done_released, done_then, whole_counted}
 use Rattle.lock_free.proofs.QueueWhole.{all_taken, nothing_more}

@@ -2,28 +2,18 @@
 use Rattle.std.proofs.Common.{◌≡◌, ◌≢◌, ◌⊎◌, inl, inr, ℕ, ◌+◌, ◌-◌, ◌^◌, ◌<◌, ◌≤◌, Bool, true, false, true≢false}
 use Rattle.std.proofs.Common.{if◌then◌else◌, List, [], ◌∷◌, ◌++◌, length, map, get_or, take, sym, refl, ap, subst, ◌∙◌}
 use Rattle.std.proofs.Common.{arith, append-nil, append_assoc, length-append, sum_by}
-use mathlib.Core.List.{map-append}
+use Rattle.uses_programs.proofs.Names.{map-append, take_more, sum_by-append, one_word, Event, events_by, View}
+use Rattle.uses_programs.proofs.Names.{IsBeginning, IsAll, Item, Role, Queues, puts, HasDone, HasPublished, HasPopped}
 use Rattle.std.specs.Prelude.{Some, None, Option}
-use Rattle.std.proofs.lemmas.List.{take_more, take_all}
-use Rattle.std.proofs.lemmas.List.Sums.{sum_by-append}
-use Rattle.lock_free.specs.Coding.{one_word}
-use Rattle.lock_free.specs.Event.{Event}
+use Rattle.std.proofs.lemmas.List.{take_all}
 use Rattle.lock_free.specs.Event.TheVariants.{Published, HandedOut, Acted, Finished}
-use Rattle.lock_free.specs.HistoryKnown.{events_by}
-use Rattle.lock_free.specs.HistoryView.View.{View}
-use Rattle.lock_free.specs.History.{IsBeginning}
-use Rattle.lock_free.specs.Shares.{IsAll}
 use Rattle.lock_free.specs.Queues.Answer.TheVariants.{PoppedIndex}
-use Rattle.lock_free.specs.Queues.Item.{Item}
 use Rattle.lock_free.specs.Queues.Item.TheVariants.{Index}
 use Rattle.lock_free.specs.Queues.Overflowing.{GoesOn, HasOverflowed, TookNone}
 use Rattle.lock_free.specs.Queues.QueueKind as kinds
 use Rattle.lock_free.specs.Queues.QueueStart.TheVariants.{PushIndex, Pop}
 use Rattle.lock_free.specs.Queues.Reading.{publishes, published}
-use Rattle.lock_free.specs.Queues.Role.{Role}
-use Rattle.lock_free.specs.Queues.Start.TheVariants.{Queues}
-use Rattle.lock_free.specs.Queues.Sums.{puts, HasDone}
-use Rattle.lock_free.specs.Queues.Told.{HasPublished, HasPopped, HasAcquired, HasReleased}
+use Rattle.lock_free.specs.Queues.Told.{HasAcquired, HasReleased}
 use Rattle.lock_free.proofs.HistoryKnown.{by_more}
 use Rattle.lock_free.proofs.QueueWrote.{find_own, first_wrote}
 use Rattle.lock_free.proofs.QueueSums.{done_added, done_replaced, done_popped, done_none, done_acquired, done_released}

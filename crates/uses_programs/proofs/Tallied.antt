@@ -2,13 +2,9 @@
 use Rattle.std.proofs.Common.{◌≡◌, ◌==◌, ℕ, ◌+◌, ◌-◌, ◌%◌, ◌^◌, ◌<◌, ◌≤◌, cond, List, [], ◌∷◌, ◌++◌, length, get_or}
 use Rattle.std.proofs.Common.{take, refl, sym, ap, subst, ◌∙◌, arith, mod-eq_of_lt, ⊎_elim, zero, suc, length-append}
 use Rattle.std.proofs.lemmas.Bool.{cases_lt}
-use Rattle.std.proofs.lemmas.List.{take_more}
-use Rattle.std.proofs.lemmas.List.Sums.{sum_by_push, sum_by-append, count_by-le-length}
-use Rattle.lock_free.specs.Event.{Event}
-use Rattle.lock_free.specs.HistoryView.View.{View}
-use Rattle.lock_free.specs.Share.{Share}
-use Rattle.lock_free.specs.Shares.{all_shares, half_of, both_of, IsAll}
-use Rattle.lock_free.specs.Sums.{is_count_of, take_of, counts, takes}
+use Rattle.uses_programs.proofs.Names.{take_more, sum_by_push, sum_by-append, Event, View, Share, all_shares, half_of}
+use Rattle.uses_programs.proofs.Names.{both_of, IsAll, is_count_of, take_of, counts, takes}
+use Rattle.std.proofs.lemmas.List.Sums.{count_by-le-length}
 use Rattle.lock_free.specs.Counts.Told.{HasCounted}
 use Rattle.lock_free.proofs.Counts.Sums.{count_adds}
 use Rattle.uses_programs.specs.Tallies.{times, CountsThese, BothCount}

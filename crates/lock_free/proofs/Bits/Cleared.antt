@@ -1,39 +1,25 @@
 -- Resetting all places: the closure is called with just those that the call clears.
-use Rattle.std.proofs.Common.{◌≡◌, ⊎_elim, true≢false, ◌==◌, ℕ, zero, suc, ◌+◌, ◌<◌, ◌≤◌, Bool, true, false, cond}
-use Rattle.std.proofs.Common.{List, [], ◌∷◌, ◌++◌, map, refl, sym, ap, subst, ◌∙◌, arith, append_assoc}
-use Rattle.std.proofs.Common.{append-nil}
-use Rattle.std.proofs.lemmas.List.{map-append}
-use Rattle.std.specs.List.{FoldsTo, All, filter, range_with_len, count_by}
-use Rattle.std.proofs.lemmas.Bool.{cases_lt}
-use Rattle.std.proofs.lemmas.List.Sums.{sum_by-cons}
-use Rattle.std.proofs.lemmas.Fn.{FoldsTo-push}
-use Rattle.std.proofs.lemmas.List.Elements.{All-nil, All-cons, All-push, All-append, All-weaker, All-head, All-tail, filter-append}
-use Rattle.std.proofs.lemmas.List.Quantifiers.{all_pairs_push}
+use Rattle.lock_free.proofs.Names.{◌≡◌, ⊎_elim, true≢false, ◌==◌, ℕ, zero, suc, ◌+◌, ◌<◌, ◌≤◌, Bool, true, false, cond}
+use Rattle.lock_free.proofs.Names.{List, [], ◌∷◌, ◌++◌, map, refl, sym, ap, subst, ◌∙◌, arith, append_assoc, append-nil}
+use Rattle.lock_free.proofs.Names.{map-append, FoldsTo, All, range_with_len, cases_lt, sum_by-cons, FoldsTo-push}
+use Rattle.lock_free.proofs.Names.{All-nil, All-cons, All-push, All-weaker, all_pairs_push, element_of, has_flag, After}
+use Rattle.lock_free.proofs.Names.{Emptying, OneWord, Event, Finished, one_word, IsBitSet, fresh, SinceBegin}
+use Rattle.lock_free.proofs.Names.{bits_go_on, View, events_by, At}
+use Rattle.std.specs.List.{filter, count_by}
+use Rattle.std.proofs.lemmas.List.Elements.{All-append, All-head, All-tail, filter-append}
 use Rattle.steps.specs.Bits.Places.{first_place, places_in}
 use Rattle.steps.specs.Bits.ResetAll.{all_bits, reset_all_after, reset_all_kept}
-use Rattle.steps.specs.Bits.Words.{element_of, has_flag}
 use Rattle.steps.proofs.Flags.Places.{place_named}
-use Rattle.steps.specs.declared.ask.After.{After}
 use Rattle.steps.specs.declared.ask.After.TheVariants.{GoOn, Done}
-use Rattle.steps.specs.declared.bits.reset_all.ResetAll.{ResetAll as Emptying}
-use Rattle.steps.specs.declared.copied.OneWord.{OneWord}
 use Rattle.model.specs.declared.event.Answer.TheVariants as answers
-use Rattle.model.specs.declared.event.Event.{Event}
-use Rattle.model.specs.declared.event.Event.TheVariants.{Finished}
 use Rattle.model.specs.declared.turn.Kind.TheVariants as kinds
-use Rattle.model.specs.Coding.{one_word}
-use Rattle.model.specs.Families.Bits.Promises.{IsBitSet, HasCleared}
+use Rattle.model.specs.Families.Bits.Promises.{HasCleared}
 use Rattle.model.specs.Families.Bits.Steps.{clear_events}
 use Rattle.model.specs.Families.Bits.Reading.{is_clear_of, clears}
 use Rattle.model.specs.Reading.{whose, is_party}
-use Rattle.model.specs.Families.Queues.Calls.{fresh}
-use Rattle.model.specs.Moments.{SinceBegin}
-use Rattle.laws_bits.proofs.Bits.Justified.{bits_go_on}
 use Rattle.laws_bits.proofs.Bits.Lists.{Rise, places_rise, clears_named}
 use Rattle.laws_bits.proofs.Bits.Core.{clears_more}
-use Rattle.history.specs.declared.view.View.{View}
-use Rattle.history.specs.Known.{events_by}
-use Rattle.history.specs.Stages.{At, opened}
+use Rattle.history.specs.Stages.{opened}
 use Rattle.lock_free.specs.Bits.Callable.{Ascends, Visited, TakesPlaces}
 use Rattle.lock_free.specs.Driven.{HasMade, HasDone, IsIdle}
 use Rattle.lock_free.specs.Sets.Kinds.{Flags}

@@ -1,36 +1,21 @@
 -- Resetting the next place: a call of the model, and what it answers.
-use Rattle.std.proofs.Common.{◌≡◌, inl, ℕ, ◌+◌, ◌-◌, ◌<◌, ◌≤◌, ◌==◌, nat_lt, Bool, true, false, Option, Some, None}
-use Rattle.std.proofs.Common.{IfSome, List, [], ◌++◌, refl, sym, ap, subst, ◌∙◌, arith}
-use Rattle.std.proofs.lemmas.Bool.Decides.{nat_tests}
-use Rattle.steps.specs.Picks.{by_test}
+use Rattle.lock_free.proofs.Names.{◌≡◌, inl, ℕ, ◌+◌, ◌-◌, ◌<◌, ◌≤◌, ◌==◌, nat_lt, Bool, true, false, Option, Some, None}
+use Rattle.lock_free.proofs.Names.{IfSome, List, [], ◌++◌, refl, sym, ap, subst, ◌∙◌, arith, nat_tests, by_test}
+use Rattle.lock_free.proofs.Names.{element_of, elements, has_flag, Ask, After, ResetNone, Event, Finished, Bits}
+use Rattle.lock_free.proofs.Names.{ResetNext, one_word, after_of, IsBitSet, bits_go_on, answered, KeepsRule, View}
+use Rattle.lock_free.proofs.Names.{IsMachine, At, Ends, IsCallOf, goes, keeps_all}
 use Rattle.steps.specs.Queues.Ring.{after_position}
 use Rattle.steps.specs.Bits.BitSet.{first_reset, place_after, at_most, reset_asks, reset_want, reset_comes_to, reset_tests, reset_takes, reset_after}
-use Rattle.steps.specs.Bits.Words.{element_of, elements, has_flag, without_flag}
-use Rattle.steps.specs.declared.ask.Ask.{Ask}
+use Rattle.steps.specs.Bits.Words.{without_flag}
 use Rattle.steps.specs.declared.ask.Op.TheVariants.{Load, Store, Exchange}
-use Rattle.steps.specs.declared.ask.After.{After}
 use Rattle.steps.specs.declared.ask.After.TheVariants.{GoOn, Done}
 use Rattle.steps.specs.declared.ask.Want.TheVariants as wants
 use Rattle.steps.specs.declared.bits.bit_set.ResetNext.{ResetNext as Resetting}
 use Rattle.steps.specs.declared.bits.bit_set.ResetNextStage.{ResetNextStage}
 use Rattle.steps.specs.declared.bits.bit_set.ResetNextStage as resets
-use Rattle.model.specs.declared.event.Answer.TheVariants.{ResetNone}
-use Rattle.model.specs.declared.event.Event.{Event}
-use Rattle.model.specs.declared.event.Event.TheVariants.{Finished}
-use Rattle.model.specs.declared.event.Start.TheVariants.{Bits}
-use Rattle.model.specs.declared.families.bits.BitsStart.TheVariants.{ResetNext}
 use Rattle.model.specs.declared.turn.Kind.TheVariants as kinds
-use Rattle.model.specs.Coding.{one_word}
-use Rattle.model.specs.Families.{after_of}
-use Rattle.model.specs.Families.Bits.Promises.{IsBitSet}
 use Rattle.model.specs.Families.Bits.Reading.{standing}
 use Rattle.model.specs.Moments.{HeldSometime}
-use Rattle.laws_bits.proofs.Bits.Justified.{bits_go_on}
-use Rattle.threaded.specs.Driver.{answered, KeepsRule}
-use Rattle.history.specs.declared.view.View.{View}
-use Rattle.history.specs.History.{IsMachine}
-use Rattle.history.specs.Stages.{At, Ends}
-use Rattle.history.proofs.Drives.{IsCallOf, goes, keeps_all}
 use Rattle.history.proofs.Sets.{bits_starts, set_effects, bits_owe}
 use Rattle.lock_free.specs.Driven.{IsIdle}
 use Rattle.lock_free.specs.Bits.Stages.{ResetStands, reset_so_far, reset_wrote, IsPlace, resets_next}

@@ -1,31 +1,17 @@
 -- Setting a place: a call of the model, and what it answers.
-use Rattle.std.proofs.Common.{◌≡◌, inl, ℕ, ◌+◌, ◌<◌, ◌==◌, nat_le, Bool, true, false, None, List, [], ◌++◌, refl, sym, ap, subst, ◌∙◌, arith}
-use Rattle.std.proofs.lemmas.Bool.Decides.{nat_tests}
+use Rattle.lock_free.proofs.Names.{◌≡◌, inl, ℕ, ◌+◌, ◌<◌, ◌==◌, nat_le, Bool, true, false, None, List, [], ◌++◌, refl}
+use Rattle.lock_free.proofs.Names.{sym, ap, subst, ◌∙◌, arith, nat_tests, element_of, elements, has_flag, Ask, After}
+use Rattle.lock_free.proofs.Names.{Truth, Event, Finished, Bits, Set, one_word, after_of, IsBitSet, bits_go_on}
+use Rattle.lock_free.proofs.Names.{answered, KeepsRule, View, IsMachine, At, Ends, IsCallOf, goes, keeps_all}
 use Rattle.steps.specs.Bits.BitSet.{first_set, set_want, set_tests, set_after}
-use Rattle.steps.specs.Bits.Words.{element_of, elements, has_flag, with_flag}
-use Rattle.steps.specs.declared.ask.Ask.{Ask}
+use Rattle.steps.specs.Bits.Words.{with_flag}
 use Rattle.steps.specs.declared.ask.Op.TheVariants.{Load, Exchange}
-use Rattle.steps.specs.declared.ask.After.{After}
 use Rattle.steps.specs.declared.ask.After.TheVariants.{GoOn, Done}
 use Rattle.steps.specs.declared.ask.Want.TheVariants as wants
 use Rattle.steps.specs.declared.bits.bit_set.Set.{Set as Setting}
 use Rattle.steps.specs.declared.bits.bit_set.SetStage.{SetStage}
 use Rattle.steps.specs.declared.bits.bit_set.SetStage as sets
-use Rattle.model.specs.declared.event.Answer.TheVariants.{Truth}
-use Rattle.model.specs.declared.event.Event.{Event}
-use Rattle.model.specs.declared.event.Event.TheVariants.{Finished}
-use Rattle.model.specs.declared.event.Start.TheVariants.{Bits}
-use Rattle.model.specs.declared.families.bits.BitsStart.TheVariants.{Set}
 use Rattle.model.specs.declared.turn.Kind.TheVariants as kinds
-use Rattle.model.specs.Coding.{one_word}
-use Rattle.model.specs.Families.{after_of}
-use Rattle.model.specs.Families.Bits.Promises.{IsBitSet}
-use Rattle.laws_bits.proofs.Bits.Justified.{bits_go_on}
-use Rattle.threaded.specs.Driver.{answered, KeepsRule}
-use Rattle.history.specs.declared.view.View.{View}
-use Rattle.history.specs.History.{IsMachine}
-use Rattle.history.specs.Stages.{At, Ends}
-use Rattle.history.proofs.Drives.{IsCallOf, goes, keeps_all}
 use Rattle.history.proofs.Sets.{bits_starts, set_effects, bits_owe}
 use Rattle.lock_free.specs.Driven.{IsIdle}
 use Rattle.lock_free.specs.Bits.Stages.{set_wrote, sets_place}

@@ -1,27 +1,16 @@
 -- For clients: what each call on a bit set adds to what its pass made, place by place, and that nothing stands where a
 -- pass with the whole share found none to reset.
-use Rattle.std.proofs.Common.{◌≡◌, ◌==◌, ℕ, ◌+◌, ◌<◌, ◌≤◌, Bool, true, false, cond, Some, None, List, [], ◌∷◌, ◌++◌}
-use Rattle.std.proofs.Common.{refl, sym, ap, subst, ◌∙◌, append_assoc, arith, ⊎_elim}
-use Rattle.std.proofs.lemmas.Bool.{cases_lt}
-use Rattle.std.proofs.lemmas.Bool.Decides.{nat_tests}
+use Rattle.lock_free.proofs.Names.{◌≡◌, ◌==◌, ℕ, ◌+◌, ◌<◌, ◌≤◌, Bool, true, false, cond, Some, None, List, [], ◌∷◌}
+use Rattle.lock_free.proofs.Names.{◌++◌, refl, sym, ap, subst, ◌∙◌, append_assoc, arith, ⊎_elim, cases_lt, nat_tests}
+use Rattle.lock_free.proofs.Names.{Truth, ResetNone, Event, Begun, Finished, Cleared, Bits, Set, ResetNext, one_word}
+use Rattle.lock_free.proofs.Names.{IsBitSet, BeginsNone, bits_go_on, View, IsHistory}
 use Rattle.std.specs.List.{sum_by}
-use Rattle.model.specs.declared.event.Answer.TheVariants.{Truth, ResetNone}
-use Rattle.model.specs.declared.event.Event.{Event}
-use Rattle.model.specs.declared.event.Event.TheVariants.{Begun, Finished, Cleared}
 use Rattle.model.specs.declared.event.Event as events
-use Rattle.model.specs.declared.event.Start.TheVariants.{Bits}
-use Rattle.model.specs.declared.families.bits.BitsStart.TheVariants.{Set, ResetNext}
 use Rattle.model.specs.declared.turn.Kind.TheVariants as kinds
-use Rattle.model.specs.Coding.{one_word}
 use Rattle.model.specs.Families.Bits.Calls.{reset_answer}
-use Rattle.model.specs.Families.Bits.Promises.{IsBitSet}
 use Rattle.model.specs.Families.Bits.Reading.{is_set_of, is_clear_of, sets, clears}
-use Rattle.model.specs.Moments.{BeginsNone}
 use Rattle.model.proofs.Moments.{begins_none_more}
 use Rattle.laws_bits.proofs.Bits.Core.{sets_more, clears_more}
-use Rattle.laws_bits.proofs.Bits.Justified.{bits_go_on}
-use Rattle.history.specs.declared.view.View.{View}
-use Rattle.history.specs.History.{IsHistory}
 use Rattle.lock_free.specs.Bits.Told.{HasSet, StoodOnce, HasReset, AllClearOnce}
 use Rattle.lock_free.proofs.Sums.{sum_made, sum_seen, same_last, reaches}
 

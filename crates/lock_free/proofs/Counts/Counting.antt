@@ -1,25 +1,14 @@
 -- Counting a place: a call of the model in one step, and what it answers.
-use Rattle.std.proofs.Common.{◌≡◌, inl, ℕ, ◌+◌, ◌<◌, nat_le, false, None, List, [], ◌∷◌, ◌++◌, refl, sym, ap, ◌∙◌, arith}
-use Rattle.std.proofs.lemmas.Bool.Decides.{nat_tests}
+use Rattle.lock_free.proofs.Names.{◌≡◌, inl, ℕ, ◌+◌, ◌<◌, nat_le, false, None, List, [], ◌∷◌, ◌++◌, refl, sym, ap, ◌∙◌}
+use Rattle.lock_free.proofs.Names.{arith, nat_tests, Ask, Number, Event, Finished, Bits, Set, one_word, IsCountingOn}
+use Rattle.lock_free.proofs.Names.{counts_go_on, answered, KeepsRule, View, IsMachine, At, Ends, IsCallOf, keeps_all}
 use Rattle.steps.specs.Bits.Counts.{set_want, set_after}
-use Rattle.steps.specs.declared.ask.Ask.{Ask}
 use Rattle.steps.specs.declared.ask.Op.TheVariants.{Add}
 use Rattle.steps.specs.declared.ask.Want.TheVariants as wants
 use Rattle.steps.specs.declared.bits.counting_bit_set.Set as counting
-use Rattle.model.specs.declared.event.Answer.TheVariants.{Number}
-use Rattle.model.specs.declared.event.Event.{Event}
-use Rattle.model.specs.declared.event.Event.TheVariants.{Counted, Finished}
-use Rattle.model.specs.declared.event.Start.TheVariants.{Bits}
-use Rattle.model.specs.declared.families.bits.BitsStart.TheVariants.{Set}
+use Rattle.model.specs.declared.event.Event.TheVariants.{Counted}
 use Rattle.model.specs.declared.turn.Kind.TheVariants as kinds
-use Rattle.model.specs.Coding.{one_word}
-use Rattle.model.specs.Families.Bits.Promises.{IsCountingOn, AnswersCountOn}
-use Rattle.laws_bits.proofs.Counts.Justified.{counts_go_on}
-use Rattle.threaded.specs.Driver.{answered, KeepsRule}
-use Rattle.history.specs.declared.view.View.{View}
-use Rattle.history.specs.History.{IsMachine}
-use Rattle.history.specs.Stages.{At, Ends}
-use Rattle.history.proofs.Drives.{IsCallOf, keeps_all}
+use Rattle.model.specs.Families.Bits.Promises.{AnswersCountOn}
 use Rattle.history.proofs.Sets.{counts_starts, set_effects, counts_owe}
 use Rattle.lock_free.specs.Driven.{IsIdle}
 use Rattle.lock_free.specs.Counts.Stages.{counts_place}

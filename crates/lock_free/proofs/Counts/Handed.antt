@@ -1,11 +1,7 @@
 -- What a closure was called with so far, while a set is emptied, and that it is what the call wrote.
-use Rattle.std.proofs.Common.{◌≡◌, ◌==◌, false, ℕ, zero, suc, ◌+◌, ◌<◌, List, [], ◌∷◌, ◌++◌, sym, refl, subst, arith, map, append-nil}
-use Rattle.std.specs.List.{All, FoldsTo}
-use Rattle.std.proofs.lemmas.Bool.Decides.{nat_tests}
-use Rattle.std.proofs.lemmas.Fn.{FoldsTo-push}
-use Rattle.std.proofs.lemmas.List.Elements.{All-nil, All-push, All-weaker}
-use Rattle.std.proofs.lemmas.List.Quantifiers.{all_pairs_push}
-use Rattle.steps.specs.declared.bits.counting_bit_set.BitState.{BitState}
+use Rattle.lock_free.proofs.Names.{◌≡◌, ◌==◌, false, ℕ, zero, suc, ◌+◌, ◌<◌, List, [], ◌∷◌, ◌++◌, sym, refl, subst}
+use Rattle.lock_free.proofs.Names.{arith, map, append-nil, All, FoldsTo, nat_tests, FoldsTo-push, All-nil, All-push}
+use Rattle.lock_free.proofs.Names.{All-weaker, all_pairs_push, BitState}
 use Rattle.model.specs.Families.Bits.Steps.{take_events}
 use Rattle.lock_free.specs.Counts.Told.{taken_by}
 use Rattle.lock_free.specs.Counts.Callable.{CountsAscend, TakesCounts}

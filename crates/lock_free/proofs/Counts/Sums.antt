@@ -1,22 +1,14 @@
 -- For clients: what each call on a counting bit set adds to what its pass made, place by place, and what a set answers
 -- where all that was seen is what its pass made.
-use Rattle.std.proofs.Common.{◌≡◌, ◌==◌, ℕ, ◌+◌, ◌-◌, ◌%◌, ◌^◌, ◌≤◌, true, cond, List, [], ◌∷◌, ◌++◌, map, refl, sym, ap, ◌∙◌, arith}
+use Rattle.lock_free.proofs.Names.{◌≡◌, ◌==◌, ℕ, ◌+◌, ◌-◌, ◌^◌, ◌≤◌, true, cond, List, [], ◌∷◌, ◌++◌, map, refl, sym}
+use Rattle.lock_free.proofs.Names.{ap, ◌∙◌, arith, nat_tests, sum_by-cons, sum_by_push, BitState, Number, Event}
+use Rattle.lock_free.proofs.Names.{Finished, Bits, Set, ResetAll, one_word, IsCountingOn, counts_go_on, View, IsHistory}
+use Rattle.std.proofs.Common.{◌%◌}
 use Rattle.std.specs.List.{sum_by}
-use Rattle.std.proofs.lemmas.Bool.Decides.{nat_tests}
-use Rattle.std.proofs.lemmas.List.Sums.{sum_by-cons, sum_by_push}
-use Rattle.steps.specs.declared.bits.counting_bit_set.BitState.{BitState}
-use Rattle.model.specs.declared.event.Answer.TheVariants.{Number, Done}
-use Rattle.model.specs.declared.event.Event.{Event}
-use Rattle.model.specs.declared.event.Event.TheVariants.{Counted, Finished}
-use Rattle.model.specs.declared.event.Start.TheVariants.{Bits}
-use Rattle.model.specs.declared.families.bits.BitsStart.TheVariants.{Set, ResetAll}
+use Rattle.model.specs.declared.event.Answer.TheVariants.{Done}
+use Rattle.model.specs.declared.event.Event.TheVariants.{Counted}
 use Rattle.model.specs.declared.turn.Kind.TheVariants as kinds
-use Rattle.model.specs.Coding.{one_word}
-use Rattle.model.specs.Families.Bits.Promises.{IsCountingOn}
 use Rattle.model.specs.Families.Bits.Reading.{is_count_of, take_of, counts, takes}
-use Rattle.laws_bits.proofs.Counts.Justified.{counts_go_on}
-use Rattle.history.specs.declared.view.View.{View}
-use Rattle.history.specs.History.{IsHistory}
 use Rattle.lock_free.specs.Counts.Told.{HasCounted, AnswersCount, HasTakenOut, taken_by}
 use Rattle.lock_free.specs.Counts.Sums.{taken_at}
 use Rattle.lock_free.proofs.Sums.{sum_made}

@@ -1,25 +1,13 @@
 -- Taking all counts out: the closure is called with just what the call takes.
-use Rattle.std.proofs.Common.{◌≡◌, ℕ, List, ◌+◌, ◌<◌, [], ◌++◌, map, refl, sym, ap, subst, ◌∙◌, arith}
-use Rattle.std.proofs.lemmas.List.{map-append}
-use Rattle.std.proofs.lemmas.List.Elements.{All-nil}
+use Rattle.lock_free.proofs.Names.{◌≡◌, ℕ, List, ◌+◌, ◌<◌, [], ◌++◌, map, refl, sym, ap, subst, ◌∙◌, arith, map-append}
+use Rattle.lock_free.proofs.Names.{All-nil, After, BitState, Emptying, OneWord, Event, Finished, one_word, IsCountingOn}
+use Rattle.lock_free.proofs.Names.{fresh, SinceBegin, counts_go_on, View, At}
 use Rattle.steps.specs.Bits.ResetAll.{all_counts, reset_all_after, reset_all_kept}
-use Rattle.steps.specs.declared.ask.After.{After}
 use Rattle.steps.specs.declared.ask.After.TheVariants.{GoOn, Done}
-use Rattle.steps.specs.declared.bits.counting_bit_set.BitState.{BitState}
-use Rattle.steps.specs.declared.bits.reset_all.ResetAll.{ResetAll as Emptying}
-use Rattle.steps.specs.declared.copied.OneWord.{OneWord}
 use Rattle.model.specs.declared.event.Answer.TheVariants as answers
-use Rattle.model.specs.declared.event.Event.{Event}
-use Rattle.model.specs.declared.event.Event.TheVariants.{Finished}
 use Rattle.model.specs.declared.turn.Kind.TheVariants as kinds
-use Rattle.model.specs.Coding.{one_word}
-use Rattle.model.specs.Families.Bits.Promises.{IsCountingOn, HasTakenOn}
+use Rattle.model.specs.Families.Bits.Promises.{HasTakenOn}
 use Rattle.model.specs.Families.Bits.Steps.{take_events}
-use Rattle.model.specs.Families.Queues.Calls.{fresh}
-use Rattle.model.specs.Moments.{SinceBegin}
-use Rattle.laws_bits.proofs.Counts.Justified.{counts_go_on}
-use Rattle.history.specs.declared.view.View.{View}
-use Rattle.history.specs.Stages.{At}
 use Rattle.lock_free.specs.Driven.{HasMade, HasDone, IsIdle}
 use Rattle.lock_free.specs.Sets.Kinds.{Counts}
 use Rattle.lock_free.specs.Sets.Stages.{empties}

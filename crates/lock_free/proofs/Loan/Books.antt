@@ -1,15 +1,12 @@
 -- A sender's book stays right.
-use Rattle.std.proofs.Common.{◌≡◌, ◌≢◌, ℕ, zero, suc, ◌+◌, ◌<◌, ◌==◌, Bool, true, false, true≢false, if◌then◌else◌}
-use Rattle.std.proofs.Common.{List, [], ◌∷◌, ◌++◌, length, set, map, take, drop, replicate, count_by, sum_by, add-one}
-use Rattle.std.proofs.Common.{get_or-set_same, get_or-set_other, length-set, subst, sym, refl, ap, ◌∙◌, ⊎_elim, arith}
+use Rattle.lock_free.proofs.Names.{◌≡◌, ◌≢◌, ℕ, zero, suc, ◌+◌, ◌<◌, ◌==◌, Bool, true, false, true≢false, if◌then◌else◌}
+use Rattle.lock_free.proofs.Names.{List, [], ◌∷◌, ◌++◌, length, map, take, subst, sym, refl, ap, ◌∙◌, ⊎_elim, arith}
+use Rattle.lock_free.proofs.Names.{nat_tests, ReleaseState, UniqueIndexSetAcquireFailure, View, claims, frees, Holds}
+use Rattle.std.proofs.Common.{set, drop, replicate, count_by, sum_by, add-one}
+use Rattle.std.proofs.Common.{get_or-set_same, get_or-set_other, length-set}
 use Rattle.std.proofs.lemmas.List.{length-replicate}
 use Rattle.std.proofs.lemmas.List.Sums.{count_by_more_yes, count_by_more_no}
 use Rattle.std.proofs.lemmas.Bool.{cases_eq}
-use Rattle.std.proofs.lemmas.Bool.Decides.{nat_tests}
-use Rattle.steps.specs.declared.indices.enums.ReleaseState.{ReleaseState}
-use Rattle.steps.specs.declared.indices.enums.UniqueIndexSetAcquireFailure.{UniqueIndexSetAcquireFailure}
-use Rattle.history.specs.declared.view.View.{View}
-use Rattle.history.specs.Held.{claims, frees, Holds}
 use Rattle.lock_free.specs.Unique.Held.{one_if, HoldsNothing}
 use Rattle.lock_free.specs.Unique.Told.{HasAcquired, WasRefused, HasGiven}
 use Rattle.lock_free.proofs.Unique.Holding.{taken_moves, refused_moves, given_moves}

@@ -1,24 +1,14 @@
 -- What one step of the call that empties a set adds to what it has made, for either kind.
-use Rattle.std.proofs.Common.{◌≡◌, inl, inr, ℕ, ◌+◌, ◌<◌, ◌≤◌, Some, None, List, [], ◌∷◌, ◌++◌, refl, sym, ap, subst, ◌∙◌, arith}
+use Rattle.lock_free.proofs.Names.{◌≡◌, inl, ℕ, ◌+◌, ◌<◌, ◌≤◌, Some, None, List, [], ◌∷◌, ◌++◌, refl, sym, ap, subst}
+use Rattle.lock_free.proofs.Names.{◌∙◌, arith, After, Emptying, OneWord, Event, Begun, Finished, Start, Bits, ResetAll}
+use Rattle.lock_free.proofs.Names.{one_word, opening_of, first_of, fresh, View, IsHistory, At, Ends, called}
+use Rattle.std.proofs.Common.{inr}
 use Rattle.steps.specs.Bits.ResetAll.{reset_all_after, reset_all_kept}
-use Rattle.steps.specs.declared.ask.After.{After}
 use Rattle.steps.specs.declared.ask.After.TheVariants.{GoOn, Done}
-use Rattle.steps.specs.declared.bits.reset_all.ResetAll.{ResetAll as Emptying}
-use Rattle.steps.specs.declared.copied.OneWord.{OneWord}
 use Rattle.model.specs.declared.event.Answer.TheVariants as answers
-use Rattle.model.specs.declared.event.Event.{Event}
-use Rattle.model.specs.declared.event.Event.TheVariants.{Begun, Finished}
-use Rattle.model.specs.declared.event.Start.{Start}
-use Rattle.model.specs.declared.event.Start.TheVariants.{Bits}
-use Rattle.model.specs.declared.families.bits.BitsStart.TheVariants.{ResetAll}
-use Rattle.model.specs.Coding.{one_word}
-use Rattle.model.specs.Families.{opening_of, first_of}
-use Rattle.model.specs.Families.Queues.Calls.{fresh}
 use Rattle.threaded.specs.Driver.{Next}
-use Rattle.history.specs.declared.view.View.{View}
-use Rattle.history.specs.History.{IsHistory}
-use Rattle.history.specs.Stages.{At, Ends, Since}
-use Rattle.history.proofs.Drives.{called, at_itself}
+use Rattle.history.specs.Stages.{Since}
+use Rattle.history.proofs.Drives.{at_itself}
 use Rattle.history.proofs.Made.{MadeSoFar, made_with, made_more, same_between}
 use Rattle.lock_free.specs.Driven.{HasMade, HasDone, IsIdle}
 use Rattle.lock_free.specs.Sets.Kinds.{SetKind, Flags, Counts, machine_kind, first_word, words_of}

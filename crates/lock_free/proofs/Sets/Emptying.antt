@@ -1,36 +1,22 @@
 -- The call that empties a set: a call of the model, a word at each step.
-use Rattle.std.proofs.Common.{◌≡◌, inl, ℕ, ◌+◌, ◌<◌, ◌≤◌, nat_lt, Bool, true, false, true≢false, Option, Some, None, IfSome}
-use Rattle.std.proofs.Common.{List, [], ◌++◌, map, refl, sym, ap, subst, ◌∙◌, arith}
+use Rattle.lock_free.proofs.Names.{◌≡◌, inl, ℕ, ◌+◌, ◌<◌, ◌≤◌, nat_lt, Bool, true, false, true≢false, Option, Some}
+use Rattle.lock_free.proofs.Names.{None, IfSome, List, [], ◌++◌, map, refl, sym, ap, subst, ◌∙◌, arith, nat_tests}
+use Rattle.lock_free.proofs.Names.{by_test, elements, Ask, After, Emptying, OneWord, Event, Cleared, Bits, ResetAll}
+use Rattle.lock_free.proofs.Names.{one_word, Trace, after_of, opening_of, first_of, fresh, Allows, answered, KeepsRule}
+use Rattle.lock_free.proofs.Names.{View, IsMachine, Calling, At, Ends, IsCallOf, goes, keeps_all}
 use Rattle.std.specs.List.{sum_by}
-use Rattle.std.proofs.lemmas.Bool.Decides.{nat_tests}
-use Rattle.steps.specs.Picks.{by_test}
 use Rattle.steps.specs.Bits.ResetAll.{reset_all_want, reset_all_after, reset_all_kept}
-use Rattle.steps.specs.Bits.Words.{elements}
-use Rattle.steps.specs.declared.ask.Ask.{Ask}
 use Rattle.steps.specs.declared.ask.Op.TheVariants.{Swap}
-use Rattle.steps.specs.declared.ask.After.{After}
 use Rattle.steps.specs.declared.ask.After.TheVariants.{GoOn, Done}
 use Rattle.steps.specs.declared.ask.Want.{Want}
 use Rattle.steps.specs.declared.ask.Want.TheVariants as wants
-use Rattle.steps.specs.declared.bits.reset_all.ResetAll.{ResetAll as Emptying}
-use Rattle.steps.specs.declared.copied.OneWord.{OneWord}
-use Rattle.model.specs.declared.event.Event.{Event}
-use Rattle.model.specs.declared.event.Event.TheVariants.{Cleared}
-use Rattle.model.specs.declared.event.Start.TheVariants.{Bits}
-use Rattle.model.specs.declared.families.bits.BitsStart.TheVariants.{ResetAll}
-use Rattle.model.specs.Coding.{one_word}
 use Rattle.model.specs.Rows.{first_row}
-use Rattle.model.specs.World.{Trace}
-use Rattle.model.specs.Families.{want_of, after_of, opening_of, first_of, begin_rows}
-use Rattle.model.specs.Families.Queues.Calls.{fresh}
+use Rattle.model.specs.Families.{want_of, begin_rows}
 use Rattle.laws_bits.proofs.Bits.Lists.{no_places}
-use Rattle.atomic_table.specs.Table.{Allows}
-use Rattle.threaded.specs.Driver.{answered, KeepsRule}
-use Rattle.history.specs.declared.view.View.{View}
-use Rattle.history.specs.History.{IsMachine, IsRun}
+use Rattle.history.specs.History.{IsRun}
 use Rattle.history.specs.Known.{owned}
-use Rattle.history.specs.Stages.{Calling, Starts, IsFirst, At, Ends}
-use Rattle.history.proofs.Drives.{NeverPushes, IsCallOf, goes, keeps_all, at_once}
+use Rattle.history.specs.Stages.{Starts, IsFirst}
+use Rattle.history.proofs.Drives.{NeverPushes, at_once}
 use Rattle.history.proofs.Sets.{bits_starts, counts_starts, set_effects, bits_owe, counts_owe}
 use Rattle.history.proofs.Turns.{KindLaws}
 use Rattle.lock_free.specs.Driven.{IsIdle}

@@ -1,9 +1,6 @@
 -- How the table of a set opens.
-use Rattle.std.proofs.Common.{◌≡◌, ℕ, ◌+◌, ◌<◌, ◌^◌, List, [], replicate}
-use Rattle.atomic_table.specs.Table.{opening}
-use Rattle.model.specs.Coding.{one_word}
-use Rattle.history.specs.History.{IsMachine}
-use Rattle.history.specs.Views.{first_view}
+use Rattle.lock_free.proofs.Names.{◌≡◌, ℕ, ◌+◌, ◌<◌, ◌^◌, List, [], opening, one_word, IsMachine, first_view}
+use Rattle.std.proofs.Common.{replicate}
 use Rattle.history.proofs.Sets.{bits_open, counts_open}
 use Rattle.lock_free.specs.Sets.Kinds.{SetKind, Flags, Counts, machine_kind, words_of}
 

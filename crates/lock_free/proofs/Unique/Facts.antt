@@ -1,23 +1,18 @@
 -- What is known of whole calls on a set.
-use Rattle.std.proofs.Common.{◌≡◌, ⊎_elim, ℕ, ◌+◌, ◌<◌, ◌≤◌, ◌==◌, Bool, true, false, true≢false, Some, None, Ok, fold}
-use Rattle.std.proofs.Common.{List, [], ◌∷◌, ◌++◌, refl, sym, ap, subst, ◌∙◌, append_assoc, arith, sum_by}
-use Rattle.std.proofs.lemmas.Bool.{cases_lt}
-use Rattle.std.proofs.lemmas.Bool.Decides.{nat_tests}
-use Rattle.std.proofs.lemmas.List.Sums.{fold-append, sum_by-append}
-use Rattle.steps.specs.Indices.Unique.{Acquired}
+use Rattle.lock_free.proofs.Names.{◌≡◌, ⊎_elim, ℕ, ◌+◌, ◌<◌, ◌≤◌, ◌==◌, Bool, true, false, true≢false, Some, None, Ok}
+use Rattle.lock_free.proofs.Names.{fold, List, [], ◌∷◌, ◌++◌, refl, sym, ap, subst, ◌∙◌, append_assoc, arith, cases_lt}
+use Rattle.lock_free.proofs.Names.{nat_tests, fold-append, sum_by-append, Acquired, ReleaseState, Locked, Unlocked}
+use Rattle.lock_free.proofs.Names.{Answer, Index, NoIndex, State, Number, Truth, Event, Begun, Claimed, Freed, Finished}
+use Rattle.lock_free.proofs.Names.{Indices, one_word, IsAll, View, claims, frees, Holds, IsHistory, IsOfParties, Called}
+use Rattle.lock_free.proofs.Names.{IsBeginning, takes_index, gives_index, given_by, gives_or_locks, counts_out}
+use Rattle.lock_free.proofs.Names.{looks_locked, events_by, Calling, Ends, joined_view, Looks, held_by, holds_once}
+use Rattle.std.proofs.Common.{sum_by}
 use Rattle.steps.specs.declared.indices.enums.ReleaseMode.TheVariants as modes
-use Rattle.steps.specs.declared.indices.enums.ReleaseState.{ReleaseState}
-use Rattle.steps.specs.declared.indices.enums.ReleaseState.TheVariants.{Locked, Unlocked}
 use Rattle.steps.specs.declared.indices.enums.UniqueIndexSetAcquireFailure.TheVariants.{OutOfIndices}
-use Rattle.model.specs.declared.event.Answer.{Answer}
-use Rattle.model.specs.declared.event.Answer.TheVariants.{Index, NoIndex, State, Number, Truth}
-use Rattle.model.specs.declared.event.Event.{Event}
-use Rattle.model.specs.declared.event.Event.TheVariants.{Begun, Claimed, Freed, Locked as Shut, Finished}
-use Rattle.model.specs.declared.event.Start.TheVariants.{Indices}
+use Rattle.model.specs.declared.event.Event.TheVariants.{Locked as Shut}
 use Rattle.model.specs.declared.families.indices.IndexStart.{IndexStart}
 use Rattle.model.specs.declared.families.indices.IndexStart.TheVariants.{Acquire, Release, BorrowedIndices, IsLocked}
 use Rattle.model.specs.declared.turn.Kind.TheVariants as kinds
-use Rattle.model.specs.Coding.{one_word}
 use Rattle.model.specs.Families.Indices.Calls.{acquire_answer}
 use Rattle.model.specs.Families.Indices.Promises.{AnswersRight, promise}
 use Rattle.model.specs.Families.Indices.Spans.{SetActs, set_acts, done_by}
@@ -27,15 +22,7 @@ use Rattle.model.specs.Promises.Spans.{Stands}
 use Rattle.laws_indices.proofs.Sound.{kept_on, reached_on_sound}
 use Rattle.model.specs.Families.Indices.Reading.{holder_of, locked_after, is_locked}
 use Rattle.model.specs.Reading.{whose, is_party, Span, Never, Open, Ended, span_of}
-use Rattle.threaded.specs.Shares.{IsAll}
-use Rattle.history.specs.declared.view.View.{View}
-use Rattle.history.specs.Held.{claims, frees, Holds}
-use Rattle.history.specs.History.{IsHistory, IsOfParties, Called, IsBeginning}
-use Rattle.history.specs.Indices.{claimed_by, takes_index, gives_index, given_by, gives_or_locks, counts_out, looks_locked}
-use Rattle.history.specs.Known.{events_by}
-use Rattle.history.specs.Stages.{Calling, Ends}
-use Rattle.history.specs.Views.{joined_view, Looks}
-use Rattle.history.proofs.Held.{held_by, holds_once}
+use Rattle.history.specs.Indices.{claimed_by}
 use Rattle.history.proofs.Indices.{is_index_set}
 use Rattle.lock_free.specs.Unique.Held.{HoldsNothing, IsSound}
 use Rattle.lock_free.proofs.Ends.{has_made}

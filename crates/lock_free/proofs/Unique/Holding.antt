@@ -1,25 +1,15 @@
 -- How the calls on a unique index set change what a pass holds.
-use Rattle.std.proofs.Common.{◌≡◌, ◌≢◌, ⊎_elim, ℕ, ◌+◌, ◌≤◌, ◌==◌, Bool, true, false, Ok, Err, List, [], ◌∷◌, ◌++◌, refl, subst, arith, sum_by}
-use Rattle.std.specs.List.{All, AllPairs}
-use Rattle.std.proofs.lemmas.Bool.{cases_lt}
-use Rattle.std.proofs.lemmas.Bool.Decides.{nat_tests}
-use Rattle.std.proofs.lemmas.List.Elements.{All-nil, All-cons}
+use Rattle.lock_free.proofs.Names.{◌≡◌, ◌≢◌, ⊎_elim, ℕ, ◌+◌, ◌≤◌, ◌==◌, Bool, true, false, Ok, Err, List, [], ◌∷◌, ◌++◌}
+use Rattle.lock_free.proofs.Names.{refl, subst, arith, All, cases_lt, nat_tests, All-nil, All-cons, sum_by-append}
+use Rattle.lock_free.proofs.Names.{ReleaseState, Locked, Unlocked, UniqueIndexSetAcquireFailure, Index, NoIndex, State}
+use Rattle.lock_free.proofs.Names.{Number, Truth, Event, Claimed, Freed, Indices, View, claims, frees, Holds, given_by}
+use Rattle.lock_free.proofs.Names.{IsBeginning}
+use Rattle.std.proofs.Common.{sum_by}
+use Rattle.std.specs.List.{AllPairs}
 use Rattle.std.proofs.lemmas.List.Kept.{AllPairs-cons}
-use Rattle.std.proofs.lemmas.List.Sums.{sum_by-append}
 use Rattle.steps.specs.declared.indices.enums.ReleaseMode.TheVariants as modes
-use Rattle.steps.specs.declared.indices.enums.ReleaseState.{ReleaseState}
-use Rattle.steps.specs.declared.indices.enums.ReleaseState.TheVariants.{Locked, Unlocked}
-use Rattle.steps.specs.declared.indices.enums.UniqueIndexSetAcquireFailure.{UniqueIndexSetAcquireFailure}
-use Rattle.model.specs.declared.event.Answer.TheVariants.{Index, NoIndex, State, Number, Truth}
-use Rattle.model.specs.declared.event.Event.{Event}
-use Rattle.model.specs.declared.event.Event.TheVariants.{Claimed, Freed}
-use Rattle.model.specs.declared.event.Start.TheVariants.{Indices}
 use Rattle.model.specs.declared.families.indices.IndexStart.TheVariants.{Acquire, Release, BorrowedIndices, IsLocked}
-use Rattle.history.specs.declared.view.View.{View}
-use Rattle.history.specs.Held.{claims, frees, Holds}
-use Rattle.history.specs.Indices.{given_by}
 use Rattle.model.specs.Families.Indices.Reading.{is_locked}
-use Rattle.history.specs.History.{IsBeginning}
 use Rattle.lock_free.specs.Unique.Held.{one_if, times, HeldBy, HoldsNothing, IsSound}
 use Rattle.lock_free.proofs.Unique.Facts.{lock_stays, not_locked}
 use Rattle.lock_free.specs.Unique.Told.{HasTaken, HasGiven, HasGivenOrLocked, HasCounted, HasLooked, WasFree, Answered}

@@ -1,26 +1,22 @@
 -- What is known of a set's history by its machine: once it is locked nobody holds an index; and where each call that was
 -- begun has ended and a pass made all of it, what is in use is what that pass holds.
-use Rattle.std.proofs.Common.{◌≡◌, ◌≢◌, ⊎_elim, ℕ, zero, suc, ◌+◌, ◌<◌, ◌≤◌, ◌==◌, Bool, true, false, Option, Some}
-use Rattle.std.proofs.Common.{None, List, [], ◌∷◌, ◌++◌, length, fold, sum_by, refl, sym, ap, subst, ◌∙◌, append_assoc}
-use Rattle.std.proofs.Common.{append-nil, arith, if◌then◌else◌}
-use Rattle.std.proofs.lemmas.Bool.{cases_lt}
-use Rattle.std.proofs.lemmas.Bool.Decides.{nat_tests}
+use Rattle.lock_free.proofs.Names.{◌≡◌, ◌≢◌, ⊎_elim, ℕ, zero, suc, ◌+◌, ◌<◌, ◌≤◌, ◌==◌, Bool, true, false, Option, Some}
+use Rattle.lock_free.proofs.Names.{None, List, [], ◌∷◌, ◌++◌, length, fold, refl, sym, ap, subst, ◌∙◌, append_assoc}
+use Rattle.lock_free.proofs.Names.{append-nil, arith, if◌then◌else◌, cases_lt, nat_tests, fold-append, sum_by-cons}
+use Rattle.lock_free.proofs.Names.{Event, Begun, Claimed, Freed, Finished, one_word, Trace, claims, frees, View}
+use Rattle.lock_free.proofs.Names.{IsHistory, IsOfParties, held_by, holds_once}
+use Rattle.std.proofs.Common.{sum_by}
 use Rattle.std.proofs.lemmas.List.{get_or_past}
-use Rattle.std.proofs.lemmas.List.Sums.{fold-append, sum_by-cons}
 use Rattle.steps.specs.Indices.Head.{locked, says_locked}
-use Rattle.model.specs.declared.event.Event.{Event}
-use Rattle.model.specs.declared.event.Event.TheVariants.{Begun, Claimed, Freed, Finished}
 use Rattle.model.specs.declared.families.Flight.{Flight}
 use Rattle.model.specs.declared.party.Doing.{Doing}
 use Rattle.model.specs.declared.party.Doing.TheVariants.{Going, Over}
 use Rattle.model.specs.declared.party.Party.{Party}
 use Rattle.model.specs.declared.turn.Kind.TheVariants as kinds
-use Rattle.model.specs.Coding.{one_word}
 use Rattle.model.specs.Families.Indices.Promises.{HoldsRight, promise}
 use Rattle.model.specs.Families.Indices.Reading.{holder_after, holder_of, is_locked, Tally, tally_of}
 use Rattle.model.specs.Parties.{party_of, doing_of, flight_of}
 use Rattle.model.specs.Promises.Spans.{Stands, StandsRight}
-use Rattle.model.specs.World.{Trace}
 use Rattle.model.specs.Reading.{Each, whose, is_party, Span, Never, Open, Ended, longer, own_after, span_after, span_of}
 use Rattle.model.proofs.Frame as frame
 use Rattle.laws_indices.proofs.Core.{head_of, counted_in, holder, one_held, held_below, none_if_zero}
@@ -31,10 +27,6 @@ use Rattle.laws_indices.proofs.Sound.{reached_on_sound}
 use Rattle.laws_indices.proofs.Stages.{same_tally}
 use Rattle.laws_indices.proofs.Sums.{sum_below, sum_moved, sum_same, sum_one, sum_none}
 use Rattle.laws_indices.proofs.Totals.{weight_of, weight_at, total}
-use Rattle.history.specs.Held.{claims, frees}
-use Rattle.history.specs.declared.view.View.{View}
-use Rattle.history.specs.History.{IsHistory, IsOfParties}
-use Rattle.history.proofs.Held.{held_by, holds_once}
 use Rattle.lock_free.specs.Unique.Held.{one_if, times, HeldBy, begins, ends, IsDone}
 
 -- ---- sums beside what a fold makes of the events

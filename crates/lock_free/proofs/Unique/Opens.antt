@@ -1,12 +1,8 @@
 -- How a set's table opens.
-use Rattle.std.proofs.Common.{◌≡◌, ℕ, ◌-◌, ◌^◌, ◌<◌, nat_lt, false, List, [], ◌∷◌, ◌++◌, refl, arith}
-use Rattle.std.proofs.lemmas.Bool.Decides.{nat_tests}
-use Rattle.atomic_table.specs.Table.{opening}
+use Rattle.lock_free.proofs.Names.{◌≡◌, ℕ, ◌-◌, ◌^◌, ◌<◌, nat_lt, false, List, [], ◌∷◌, ◌++◌, refl, arith, nat_tests}
+use Rattle.lock_free.proofs.Names.{opening, one_word, IsMachine, first_view}
 use Rattle.model.specs.declared.turn.Kind.TheVariants as kinds
-use Rattle.model.specs.Coding.{one_word}
 use Rattle.model.specs.Families.Indices.Opening.{opening_words}
-use Rattle.history.specs.History.{IsMachine}
-use Rattle.history.specs.Views.{first_view}
 use Rattle.history.proofs.Passes.{opens}
 
 module _ (capacity : ℕ) (some : 0 < capacity) (small : capacity < 2 ^ 24 - 1) where

@@ -1,29 +1,17 @@
 -- What the answers of calls say of what passes hold: of any pass, and of one that has the whole share.
-use Rattle.std.proofs.Common.{◌≡◌, ℕ, ◌<◌, ◌≤◌, Bool, true, false, None, Ok, Err, IfOk, IfErr, List, [], ◌∷◌, ◌++◌}
-use Rattle.std.proofs.Common.{length, refl, sym, ap, subst, ◌∙◌, arith, sum_by}
-use Rattle.std.proofs.lemmas.List.Sums.{fold-append, sum_by-append}
-use Rattle.steps.specs.Indices.Unique.{Acquired}
+use Rattle.lock_free.proofs.Names.{◌≡◌, ℕ, ◌<◌, ◌≤◌, Bool, true, false, None, Ok, Err, List, [], ◌∷◌, ◌++◌, length}
+use Rattle.lock_free.proofs.Names.{refl, sym, ap, subst, ◌∙◌, arith, fold-append, sum_by-append, Acquired, ReleaseState}
+use Rattle.lock_free.proofs.Names.{Locked, Unlocked, UniqueIndexSetAcquireFailure, Answer, NoIndex, State, Number}
+use Rattle.lock_free.proofs.Names.{Truth, Event, Finished, Start, Indices, one_word, IsAll, View, Called, IsBeginning}
+use Rattle.lock_free.proofs.Names.{takes_index, gives_or_locks, counts_out, looks_locked, Ends}
+use Rattle.std.proofs.Common.{IfOk, IfErr}
+use Rattle.std.proofs.Common.{sum_by}
 use Rattle.steps.specs.declared.indices.enums.ReleaseMode.TheVariants as modes
-use Rattle.steps.specs.declared.indices.enums.ReleaseState.{ReleaseState}
-use Rattle.steps.specs.declared.indices.enums.ReleaseState.TheVariants.{Locked, Unlocked}
-use Rattle.steps.specs.declared.indices.enums.UniqueIndexSetAcquireFailure.{UniqueIndexSetAcquireFailure}
 use Rattle.steps.specs.declared.indices.enums.UniqueIndexSetAcquireFailure.TheVariants.{OutOfIndices, IsLocked as WasLocked}
-use Rattle.model.specs.declared.event.Answer.{Answer}
-use Rattle.model.specs.declared.event.Answer.TheVariants.{NoIndex, State, Number, Truth}
-use Rattle.model.specs.declared.event.Event.{Event}
-use Rattle.model.specs.declared.event.Event.TheVariants.{Finished}
-use Rattle.model.specs.declared.event.Start.{Start}
-use Rattle.model.specs.declared.event.Start.TheVariants.{Indices}
 use Rattle.model.specs.declared.families.indices.IndexStart.{IndexStart}
 use Rattle.model.specs.declared.families.indices.IndexStart.TheVariants.{Acquire, Release, BorrowedIndices, IsLocked}
 use Rattle.model.specs.declared.turn.Kind.TheVariants as kinds
-use Rattle.model.specs.Coding.{one_word}
 use Rattle.model.specs.Families.Indices.Reading.{is_locked, locked_after, Tally, tally_after, tally_of}
-use Rattle.threaded.specs.Shares.{IsAll}
-use Rattle.history.specs.declared.view.View.{View}
-use Rattle.history.specs.History.{Called, IsBeginning}
-use Rattle.history.specs.Indices.{takes_index, gives_or_locks, counts_out, looks_locked}
-use Rattle.history.specs.Stages.{Ends}
 use Rattle.lock_free.specs.Unique.Held.{HeldBy, HoldsNothing, HoldsAll, HoldsSome, IsSound, begins, ends as finishes, IsDone}
 use Rattle.lock_free.specs.Unique.Told.{HasTaken, HasGiven, HasGivenOrLocked, HasCounted, HasLooked, Answered, HasAcquired, WasRefused}
 use Rattle.lock_free.proofs.Sums.{sum_made}

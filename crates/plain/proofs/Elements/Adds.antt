@@ -2,20 +2,14 @@
 use Rattle.std.proofs.Common.{◌≡◌, ℕ, zero, suc, ◌+◌, ◌-◌, ◌^◌, ◌<◌, ◌≤◌, nat_lt, List, [], ◌∷◌, length, take}
 use Rattle.std.proofs.Common.{Some, Result, Ok, Err, is_none, refl, sym, ap, subst, ◌∙◌, arith}
 use Rattle.std.proofs.Common.{slice_index, slice_set, eq-eqb, if◌then◌else◌}
-use Rattle.std.proofs.lemmas.Bool.Decides.{nat_tests}
-use Rattle.std.proofs.lemmas.List.{length-map}
-use Rattle.steps.specs.Picks.{by_test}
-use Rattle.steps.specs.Queues.Ring.{word_at}
+use Rattle.plain.proofs.Names.{nat_tests, length-map, by_test, word_at, change_word, count_word, element_word, is_even}
+use Rattle.plain.proofs.Names.{After, GoOn, Done, ContainerHandle}
 use Rattle.steps.specs.Indices.Robust.Parts.{empty, one_more}
 use Rattle.steps.specs.Indices.Robust.Acquire.{Acquired, first_acquire, acquire_takes, acquire_want, acquire_after}
-use Rattle.steps.specs.Container.Layout.{change_word, count_word, element_word, is_even}
 use Rattle.steps.specs.Container.Add.{Added, first_add, at_add, inner_acquire, add_want, add_acquired, add_after}
 use Rattle.steps.specs.Objects.Owners.{Owners, acquired, granted, after_acquire}
-use Rattle.steps.specs.declared.ask.After.{After}
-use Rattle.steps.specs.declared.ask.After.TheVariants.{GoOn, Done}
 use Rattle.steps.specs.declared.indices.enums.UniqueIndexSetAcquireFailure.TheVariants as failures
 use Rattle.steps.specs.declared.container.enums.ContainerAddFailure.{ContainerAddFailure}
-use Rattle.steps.specs.declared.container.handle.ContainerHandle.{ContainerHandle}
 use Rattle.steps.specs.declared.container.add.Add.{Add}
 use Rattle.steps.specs.declared.container.add.AddStage as adds
 use Rattle.steps.specs.declared.container.add.Owned.{Owned}

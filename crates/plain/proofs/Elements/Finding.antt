@@ -1,18 +1,12 @@
 -- A find in a container with its closure, from one question to the next.
 use Rattle.std.proofs.Common.{◌≡◌, ℕ, suc, ◌+◌, ◌-◌, ◌^◌, ◌<◌, ◌≤◌, inl, inr, true, nat_lt, if◌then◌else◌, List, []}
 use Rattle.std.proofs.Common.{◌∷◌, ◌++◌, length, refl, sym, ap, subst, ◌∙◌, arith, slice_set}
-use Rattle.std.specs.List.{FoldsTo}
-use Rattle.std.proofs.lemmas.List.{append_assoc, append-nil, length-append, length-drop}
-use Rattle.std.proofs.lemmas.Bool.Decides.{nat_tests}
+use Rattle.plain.proofs.Names.{FoldsTo, append_assoc, append-nil, length-append, length-drop, nat_tests, Want, After}
+use Rattle.plain.proofs.Names.{GoOn, Done, Question, ContainerHandle}
 use Rattle.steps.specs.Copied.{value_in}
 use Rattle.steps.specs.Container.Find.{first_find, find_comes_to, find_want, find_after, find_kept}
 use Rattle.steps.specs.Objects.Owners.{indices_of}
-use Rattle.steps.specs.declared.ask.Want.{Want}
-use Rattle.steps.specs.declared.ask.After.{After}
-use Rattle.steps.specs.declared.ask.After.TheVariants.{GoOn, Done}
-use Rattle.steps.specs.declared.ask.Question.{Question}
 use Rattle.steps.specs.declared.container.find.Find.{Find}
-use Rattle.steps.specs.declared.container.handle.ContainerHandle.{ContainerHandle}
 use Rattle.steps.specs.declared.enums.CallbackProgression.{CallbackProgression}
 use Rattle.steps.specs.declared.enums.CallbackProgression.TheVariants.{Continue, Stop}
 use Rattle.plain.specs.declared.drive.Stop as stops
@@ -97,8 +91,7 @@ module _ {V R F : Type 0} (value_of : List ℕ → V) (words_in : R → List ℕ
               omega arith)
               t;
         }
-    goes_on rest before left room now (Done n) done short joined calls number low t =
-        found_all before now n (ap (λ l. before ++ l) (sym t.0) ∙ joined) calls (t.1 ∙ sym number)
+    goes_on rest before left room now (Done n) done short joined calls number low t = grind (arith, found_all)
 
     pub begins : (room : R) → size ≤ length (words_in room) → Finding ready 0 (first_find capacity) room f
     begins room long =

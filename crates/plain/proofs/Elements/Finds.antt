@@ -3,20 +3,12 @@ use Rattle.std.proofs.Common.{◌≡◌, ℕ, zero, suc, ◌+◌, ◌-◌, ◌^�
 use Rattle.std.proofs.Common.{length, drop, take, Some, None, refl, sym, ap, subst, ◌∙◌, arith, slice_index, slice_set}
 use Rattle.std.proofs.Common.{length-set, eq-eqb, get_or-take, if◌then◌else◌}
 use Rattle.std.specs.Prelude.{slice_index_or}
-use Rattle.std.proofs.lemmas.Bool.{cases_Bool}
-use Rattle.std.proofs.lemmas.Bool.Decides.{nat_tests}
-use Rattle.std.proofs.lemmas.List.{set-get_or, get_or-map}
+use Rattle.plain.proofs.Names.{cases_Bool, nat_tests, set-get_or, get_or-map, by_test, by_eq, word_at, count_word}
+use Rattle.plain.proofs.Names.{element_word, is_even, Want, After, GoOn, Question}
 use Rattle.std.proofs.lemmas.List.FromFn.{get_or-map-range_with_len}
-use Rattle.steps.specs.Picks.{by_test, by_eq}
 use Rattle.steps.specs.Copied.{value_in}
-use Rattle.steps.specs.Queues.Ring.{word_at}
 use Rattle.steps.specs.Indices.Robust.Parts.{cell_word, empty, one_more}
-use Rattle.steps.specs.Container.Layout.{count_word, element_word, is_even}
 use Rattle.steps.specs.Container.Find.{at_find, first_find, find_comes_to, find_want, find_after, find_kept}
-use Rattle.steps.specs.declared.ask.Want.{Want}
-use Rattle.steps.specs.declared.ask.After.{After}
-use Rattle.steps.specs.declared.ask.After.TheVariants.{GoOn}
-use Rattle.steps.specs.declared.ask.Question.{Question}
 use Rattle.steps.specs.declared.ask.Question as questions
 use Rattle.steps.specs.declared.container.find.Find.{Find}
 use Rattle.steps.specs.declared.container.find.FindStage as finds

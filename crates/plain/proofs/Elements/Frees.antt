@@ -2,13 +2,9 @@
 use Rattle.std.proofs.Common.{◌≡◌, ◌≢◌, ℕ, zero, suc, ◌+◌, ◌^◌, ◌<◌, ◌≤◌, false, List, [], ◌∷◌, length, take, None}
 use Rattle.std.proofs.Common.{refl, sym, ap, subst, ◌∙◌, arith, slice_index, slice_set, length-set, get_or-set_same}
 use Rattle.std.proofs.Common.{get_or-set_other, get_or-take, if◌then◌else◌}
-use Rattle.std.proofs.lemmas.List.{take-set-le}
+use Rattle.plain.proofs.Names.{take-set-le, change_word, count_word, is_even, ReleaseMode, ReleaseState, Unlocked}
 use Rattle.steps.specs.Indices.Robust.Parts.{cell_word, empty, locked, one_more, raise_want, raise_after, lock_want, lock_after, first_lock}
-use Rattle.steps.specs.Container.Layout.{change_word, count_word, is_even}
 use Rattle.steps.specs.Objects.Owners.{Owners, next_generation, given_back}
-use Rattle.steps.specs.declared.indices.enums.ReleaseMode.{ReleaseMode}
-use Rattle.steps.specs.declared.indices.enums.ReleaseState.{ReleaseState}
-use Rattle.steps.specs.declared.indices.enums.ReleaseState.TheVariants.{Unlocked}
 use Rattle.steps.specs.declared.indices.robust.parts.Raise as raises
 use Rattle.plain.specs.Robust as robust
 use Rattle.plain.specs.Robust.{owners_in}

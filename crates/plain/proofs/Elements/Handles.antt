@@ -1,8 +1,7 @@
 -- Whether a handle names a value.
 use Rattle.std.proofs.Common.{◌≡◌, ℕ, suc, ◌+◌, ◌<◌, ◌≤◌, ◌==◌, false, List, [], ◌∷◌, length, take, None}
 use Rattle.std.proofs.Common.{ap, arith, slice_index, eq-eqb, ne_eqb}
-use Rattle.std.proofs.lemmas.List.{get_or-map, get_or_past, length-map}
-use Rattle.steps.specs.Picks.{by_eq}
+use Rattle.plain.proofs.Names.{get_or-map, get_or_past, length-map, by_eq}
 use Rattle.steps.specs.Indices.Robust.Parts.{cell_word, empty}
 use Rattle.steps.specs.Objects.Owners.{has, owns}
 use Rattle.plain.specs.Robust.{owner_in, owners_in, Represents}
@@ -19,10 +18,7 @@ has_word x0 x1 x2 x3 x4 x5 x6 = grind (arith, suc, length, owns, get_or-map, own
 pub has_past : (capacity : ℕ) (words : List ℕ) → Represents capacity words → (index owner : ℕ) → capacity ≤ index
     → has (owners_in words) index owner ≡ false
 has_past capacity [] fits index owner far = let e : 0 ≡ 1 + capacity = fits.long in absurd (omega arith)
-has_past capacity (g ∷ cells) fits index owner far =
-    let e : suc (length cells) ≡ 1 + capacity = fits.long in
-    let l = length-map cells owner_in in
-    ap (λ o. owns o owner) (get_or_past _ index None (omega arith))
+has_past capacity (g ∷ cells) fits index owner far = grind (arith, suc, length, length-map, owner_in, owns, get_or_past)
 
 -- a handle of this container
 pub names_own : {V : Type 0} (capacity size container : ℕ) (value_of : List ℕ → V) (words : List ℕ) (index owner : ℕ)

@@ -1,9 +1,8 @@
 -- The looks at a container that run alone, and a container as it opens.
 use Rattle.std.proofs.Common.{◌≡◌, ℕ, suc, ◌+◌, ◌^◌, ◌≤◌, Bool, List, [], ◌∷◌, length, take, refl, sym, ap, subst, ◌∙◌, arith}
-use Rattle.steps.specs.Queues.Ring.{load}
+use Rattle.plain.proofs.Names.{load, After}
 use Rattle.steps.specs.Indices.Robust.Parts.{count_after}
 use Rattle.steps.specs.Indices.Robust.Looks.{first_borrowed, borrowed_want, borrowed_counted, borrowed_after, locked_after}
-use Rattle.steps.specs.declared.ask.After.{After}
 use Rattle.steps.specs.declared.indices.robust.parts.Count as counts
 use Rattle.steps.specs.declared.indices.robust.parts.Counted as ends
 use Rattle.steps.specs.declared.indices.robust.looks.BorrowedIndices.{BorrowedIndices}

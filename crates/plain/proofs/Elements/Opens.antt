@@ -2,8 +2,7 @@
 use Rattle.std.proofs.Common.{◌≡◌, ℕ, zero, suc, ◌+◌, ◌-◌, ◌<◌, ◌≤◌, List, [], ◌∷◌, ◌++◌, length, take, map, replicate}
 use Rattle.std.proofs.Common.{refl, ap, ◌∙◌, arith, slice_index, slice_set, length-set, take_all, Result}
 use Rattle.std.proofs.Common.{is_ok, is_err, false, true≢false, if◌then◌else◌}
-use Rattle.std.specs.List.{range_with_len}
-use Rattle.std.proofs.lemmas.List.{length-replicate}
+use Rattle.plain.proofs.Names.{range_with_len, length-replicate}
 use Rattle.steps.specs.Indices.Robust.Parts.{empty}
 use Rattle.steps.specs.Objects.Owners.{opened_at}
 use Rattle.plain.specs.Queues.{words_from}

@@ -3,23 +3,15 @@ use Rattle.std.proofs.Common.{◌≡◌, ◌≢◌, ℕ, suc, ◌+◌, ◌-◌, 
 use Rattle.std.proofs.Common.{if◌then◌else◌, List, [], ◌∷◌, ◌++◌, length, filter, None, refl, sym, ap, subst, ◌∙◌}
 use Rattle.std.proofs.Common.{arith, slice_index, slice_set, length-set, get_or-set_other, eq-eqb}
 use Rattle.std.specs.Prelude.{slice_index_or}
-use Rattle.std.specs.List.{FoldsTo}
-use Rattle.std.proofs.lemmas.List.{append_assoc, append-nil, length-drop, drop-set-lt}
-use Rattle.std.proofs.lemmas.List.Sums.{fold-append}
+use Rattle.plain.proofs.Names.{FoldsTo, append_assoc, append-nil, length-drop, drop-set-lt, fold-append, count_word}
+use Rattle.plain.proofs.Names.{Want, After, GoOn, Done, Question, ReleaseMode, ReleaseState}
 use Rattle.steps.specs.Copied.{value_in}
 use Rattle.steps.specs.Indices.Robust.Parts.{empty, locked}
-use Rattle.steps.specs.Container.Layout.{count_word}
 use Rattle.steps.specs.Container.Recover.{first_recover, recover_want, recover_after, recover_kept}
 use Rattle.steps.specs.Objects.Owners.{Owners, Owned, taken, state_of, given_back}
-use Rattle.steps.specs.declared.ask.Want.{Want}
-use Rattle.steps.specs.declared.ask.After.{After}
-use Rattle.steps.specs.declared.ask.After.TheVariants.{GoOn, Done}
-use Rattle.steps.specs.declared.ask.Question.{Question}
 use Rattle.steps.specs.declared.container.recover.Recover.{Recover}
 use Rattle.steps.specs.declared.container.recover.RecoverStage as recovers
 use Rattle.steps.specs.declared.container.recover.DeadOwner.{DeadOwner}
-use Rattle.steps.specs.declared.indices.enums.ReleaseMode.{ReleaseMode}
-use Rattle.steps.specs.declared.indices.enums.ReleaseState.{ReleaseState}
 use Rattle.plain.specs.declared.drive.Stop as stops
 use Rattle.plain.specs.Alone.{CanStop, StopsAlike}
 use Rattle.plain.specs.Callable.{Asked, questions, agreed, asks, TakesQuestions}

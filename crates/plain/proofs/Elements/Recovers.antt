@@ -2,28 +2,18 @@
 use Rattle.std.proofs.Common.{◌≡◌, ◌≢◌, ℕ, zero, suc, ◌+◌, ◌-◌, ◌^◌, ◌<◌, ◌≤◌, ⊎_elim, true, false, cond, ◌==◌, nat_lt}
 use Rattle.std.proofs.Common.{List, [], ◌∷◌, length, drop, filter, map, take, Some, refl, sym, ap, subst, ◌∙◌, arith}
 use Rattle.std.proofs.Common.{slice_index, slice_set, eq-eqb, ne_eqb, get_or-set_other, if◌then◌else◌}
-use Rattle.std.proofs.lemmas.Bool.Decides.{nat_tests, eqb_tells}
-use Rattle.std.proofs.lemmas.List.{set-get_or, drop-set-lt}
-use Rattle.steps.specs.Picks.{by_test, by_eq}
+use Rattle.plain.proofs.Names.{nat_tests, eqb_tells, set-get_or, drop-set-lt, by_test, by_eq, word_at, count_word}
+use Rattle.plain.proofs.Names.{element_word, is_even, Want, After, Done, Question, ReleaseMode, LockIfLastIndex}
+use Rattle.plain.proofs.Names.{Default, ReleaseState, Locked, Unlocked}
 use Rattle.steps.specs.Copied.{value_in}
-use Rattle.steps.specs.Queues.Ring.{word_at}
 use Rattle.steps.specs.Indices.Robust.Parts.{cell_word, empty, locked, one_more, raise_want, raise_after, lock_want, lock_after, first_lock}
-use Rattle.steps.specs.Container.Layout.{count_word, element_word, is_even}
 use Rattle.steps.specs.Container.Recover.{first_recover, goes_to, recover_comes_to, recover_raises, recover_raised}
 use Rattle.steps.specs.Container.Recover.{recover_locked, recover_sees, recover_want, recover_after, recover_kept}
 use Rattle.steps.specs.Objects.Owners.{Owned, taken, taken_from, state_of, next_generation}
-use Rattle.steps.specs.declared.ask.Want.{Want}
-use Rattle.steps.specs.declared.ask.After.{After}
-use Rattle.steps.specs.declared.ask.After.TheVariants.{Done}
-use Rattle.steps.specs.declared.ask.Question.{Question}
 use Rattle.steps.specs.declared.ask.Question as questions
 use Rattle.steps.specs.declared.container.recover.Recover.{Recover}
 use Rattle.steps.specs.declared.container.recover.RecoverStage as recovers
 use Rattle.steps.specs.declared.container.recover.DeadOwner.{DeadOwner}
-use Rattle.steps.specs.declared.indices.enums.ReleaseMode.{ReleaseMode}
-use Rattle.steps.specs.declared.indices.enums.ReleaseMode.TheVariants.{LockIfLastIndex, Default}
-use Rattle.steps.specs.declared.indices.enums.ReleaseState.{ReleaseState}
-use Rattle.steps.specs.declared.indices.enums.ReleaseState.TheVariants.{Locked, Unlocked}
 use Rattle.steps.specs.declared.indices.robust.parts.Raise as raises
 use Rattle.plain.specs.declared.drive.Stop.{Stop}
 use Rattle.plain.specs.declared.drive.Stop.TheVariants.{Asked, Ended}

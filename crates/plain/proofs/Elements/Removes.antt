@@ -1,23 +1,14 @@
 -- A remove from a container that runs alone.
 use Rattle.std.proofs.Common.{◌≡◌, ℕ, suc, ◌+◌, ◌<◌, ◌≤◌, ⊎_elim, true, false, nat_lt, List, take, None, Result, Ok}
 use Rattle.std.proofs.Common.{Err, refl, sym, ap, subst, ◌∙◌, arith, slice_index, eq-eqb, if◌then◌else◌}
-use Rattle.std.proofs.lemmas.Bool.{cases_Bool}
-use Rattle.std.proofs.lemmas.Bool.Decides.{nat_tests}
-use Rattle.steps.specs.Picks.{by_test}
+use Rattle.plain.proofs.Names.{cases_Bool, nat_tests, by_test, count_word, After, Done, ReleaseMode, ReleaseState}
+use Rattle.plain.proofs.Names.{Unlocked, GiveBack, ContainerHandle}
 use Rattle.steps.specs.Indices.Robust.Parts.{empty, one_more}
 use Rattle.steps.specs.Indices.Robust.Release.{Released, first_release, release_takes, release_want, release_after}
-use Rattle.steps.specs.Container.Layout.{count_word}
 use Rattle.steps.specs.Container.Remove.{Removed, first_remove, inner_release, remove_want, remove_released, remove_after}
 use Rattle.steps.specs.Objects.Owners.{has, given_back, release_state, released, after_release}
-use Rattle.steps.specs.declared.ask.After.{After}
-use Rattle.steps.specs.declared.ask.After.TheVariants.{Done}
-use Rattle.steps.specs.declared.indices.enums.ReleaseMode.{ReleaseMode}
-use Rattle.steps.specs.declared.indices.enums.ReleaseState.{ReleaseState}
-use Rattle.steps.specs.declared.indices.enums.ReleaseState.TheVariants.{Unlocked}
 use Rattle.steps.specs.declared.indices.enums.RobustUniqueIndexSetReleaseError.TheVariants.{IndexIsNotOwnedByProvidedOwner}
-use Rattle.steps.specs.declared.indices.robust.release.GiveBack.{GiveBack}
 use Rattle.steps.specs.declared.container.enums.ContainerRemoveError.TheVariants.{ContainerHandleNotOwnedByContainer}
-use Rattle.steps.specs.declared.container.handle.ContainerHandle.{ContainerHandle}
 use Rattle.steps.specs.declared.container.remove.Remove.{Remove}
 use Rattle.steps.specs.declared.container.remove.RemoveStage as removes
 use Rattle.plain.specs.Alone.{BehavesAs}

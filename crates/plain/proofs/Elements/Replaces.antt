@@ -2,16 +2,11 @@
 use Rattle.std.proofs.Common.{◌≡◌, ℕ, zero, suc, ◌+◌, ◌-◌, ◌^◌, ◌<◌, ◌≤◌, true, false, nat_lt, List, length, take}
 use Rattle.std.proofs.Common.{Some, Ok, Err, refl, sym, ap, subst, ◌∙◌, arith, slice_index, slice_set, get_or-take}
 use Rattle.std.proofs.Common.{eq-eqb, ne_eqb, if◌then◌else◌}
-use Rattle.std.proofs.lemmas.Bool.Decides.{nat_tests}
-use Rattle.steps.specs.Picks.{by_test, by_eq}
-use Rattle.steps.specs.Queues.Ring.{word_at}
+use Rattle.plain.proofs.Names.{nat_tests, by_test, by_eq, word_at, change_word, count_word, element_word, is_even}
+use Rattle.plain.proofs.Names.{After, GoOn, ContainerHandle}
 use Rattle.steps.specs.Indices.Robust.Parts.{cell_word, empty, one_more}
-use Rattle.steps.specs.Container.Layout.{change_word, count_word, element_word, is_even}
 use Rattle.steps.specs.Container.Replace.{Replaced, first_replace, replace_want, replace_after}
-use Rattle.steps.specs.declared.ask.After.{After}
-use Rattle.steps.specs.declared.ask.After.TheVariants.{GoOn}
 use Rattle.steps.specs.declared.container.enums.ContainerRemoveError.TheVariants.{ContainerHandleNotOwnedByContainer}
-use Rattle.steps.specs.declared.container.handle.ContainerHandle.{ContainerHandle}
 use Rattle.steps.specs.declared.container.replace.Replace.{Replace}
 use Rattle.steps.specs.declared.container.replace.ReplaceStage as replaces
 use Rattle.steps.specs.declared.container.replace.Replacement.{Replacement}

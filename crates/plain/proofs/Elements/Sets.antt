@@ -1,17 +1,13 @@
 -- The calls of the robust set over the first words of a container.
 use Rattle.std.proofs.Common.{◌≡◌, ℕ, suc, ◌+◌, ◌^◌, ◌<◌, ◌≤◌, List, [], ◌∷◌, length, arith}
 use Rattle.std.proofs.Common.{length-set, slice_set}
-use Rattle.std.proofs.lemmas.Bool.Decides.{nat_tests}
-use Rattle.steps.specs.Picks.{by_test, by_eq}
+use Rattle.plain.proofs.Names.{nat_tests, by_test, by_eq, After, ReleaseMode, ReleaseState, GiveBack}
 use Rattle.steps.specs.Indices.Robust.Parts.{empty, locked, greatest, one_more, raise_want, count_want}
 use Rattle.steps.specs.Indices.Robust.Parts.{count_after, count_comes_to, lock_want, lock_after, lock_counted}
 use Rattle.steps.specs.Indices.Robust.Acquire.{Acquired, first_acquire, acquire_asks, acquire_tries}
 use Rattle.steps.specs.Indices.Robust.Acquire.{acquire_sees, acquire_raised, acquire_takes, acquire_want, acquire_after}
 use Rattle.steps.specs.Indices.Robust.Release.{Released, first_release, release_asks, release_raised, release_locked}
 use Rattle.steps.specs.Indices.Robust.Release.{release_takes, release_want, release_after}
-use Rattle.steps.specs.declared.ask.After.{After}
-use Rattle.steps.specs.declared.indices.enums.ReleaseMode.{ReleaseMode}
-use Rattle.steps.specs.declared.indices.enums.ReleaseState.{ReleaseState}
 use Rattle.steps.specs.declared.indices.robust.parts.Raise as raises
 use Rattle.steps.specs.declared.indices.robust.parts.Count as counts
 use Rattle.steps.specs.declared.indices.robust.parts.Counted as ends
@@ -19,7 +15,6 @@ use Rattle.steps.specs.declared.indices.robust.parts.Lock as locks
 use Rattle.steps.specs.declared.indices.robust.acquire.Acquire.{Acquire}
 use Rattle.steps.specs.declared.indices.robust.acquire.AcquireStage as acquires
 use Rattle.steps.specs.declared.indices.robust.release.Release.{Release}
-use Rattle.steps.specs.declared.indices.robust.release.GiveBack.{GiveBack}
 use Rattle.steps.specs.declared.indices.robust.release.ReleaseStage as releases
 use Rattle.steps.specs.Objects.Owners.{acquired, after_acquire, released, after_release}
 use Rattle.plain.specs.Alone.{BehavesAs}

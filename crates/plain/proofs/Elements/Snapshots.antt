@@ -3,11 +3,9 @@ use Rattle.std.proofs.Common.{◌≡◌, ◌≢◌, ℕ, zero, suc, ◌+◌, ◌
 use Rattle.std.proofs.Common.{◌∷◌, length, take, map, None, refl, sym, ap, subst, ◌∙◌, arith, slice_index}
 use Rattle.std.proofs.Common.{if◌then◌else◌, true≢false}
 use Rattle.std.specs.Prelude.{replicate}
-use Rattle.std.specs.List.{range_with_len}
-use Rattle.std.proofs.lemmas.Bool.Decides.{eqb_tells}
-use Rattle.std.proofs.lemmas.List.{ext_get_or, length-map, length-replicate}
+use Rattle.plain.proofs.Names.{range_with_len, eqb_tells, length-map, length-replicate, count_word}
+use Rattle.std.proofs.lemmas.List.{ext_get_or}
 use Rattle.std.proofs.lemmas.List.FromFn.{get_or-map-range_with_len, length-map-range_with_len}
-use Rattle.steps.specs.Container.Layout.{count_word}
 use Rattle.steps.specs.Container.State.{Showing, value_shown, numbers_over, seen_of, no_numbers, shows_nothing}
 use Rattle.steps.specs.declared.container.state.Element.{Element}
 use Rattle.steps.specs.declared.container.state.ContainerState.{ContainerState}

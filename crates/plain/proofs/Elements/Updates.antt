@@ -3,17 +3,11 @@ use Rattle.std.proofs.Common.{◌≡◌, ◌≢◌, ℕ, zero, suc, ◌+◌, ◌
 use Rattle.std.proofs.Common.{nat_lt, List, [], ◌∷◌, length, map, Option, Some, None, refl, sym, ap, subst, ◌∙◌, arith}
 use Rattle.std.proofs.Common.{slice_index, slice_set, length-set, eq-eqb, ne_eqb, if◌then◌else◌}
 use Rattle.std.specs.Prelude.{slice_get, slice_index_or}
-use Rattle.std.proofs.lemmas.Bool.Decides.{nat_tests, eqb_tells}
-use Rattle.std.proofs.lemmas.List.{set-get_or}
-use Rattle.steps.specs.Picks.{by_test, by_eq}
-use Rattle.steps.specs.Queues.Ring.{word_at}
-use Rattle.steps.specs.Container.Layout.{change_word, count_word, element_word, is_even}
+use Rattle.plain.proofs.Names.{nat_tests, eqb_tells, set-get_or, by_test, by_eq, word_at, change_word, count_word}
+use Rattle.plain.proofs.Names.{element_word, is_even, Want, After, Done}
 use Rattle.steps.specs.Container.State.{Numbers, Showing, value_shown, counted, with_change, with_count, with_word, with_value}
 use Rattle.steps.specs.Container.Look.{first_look, at_look, look_comes_to, look_finds, look_want, look_after, look_kept}
-use Rattle.steps.specs.declared.ask.Want.{Want}
 use Rattle.steps.specs.Copied.{value_in}
-use Rattle.steps.specs.declared.ask.After.{After}
-use Rattle.steps.specs.declared.ask.After.TheVariants.{Done}
 use Rattle.steps.specs.declared.container.look.Look.{Look}
 use Rattle.steps.specs.declared.container.look.LookStage as looks
 use Rattle.steps.specs.declared.container.state.Element.{Element}

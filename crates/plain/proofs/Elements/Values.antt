@@ -3,13 +3,10 @@ use Rattle.std.proofs.Common.{◌≡◌, ◌≢◌, ℕ, zero, suc, ◌+◌, ◌
 use Rattle.std.proofs.Common.{List, length, take, Option, Some, None, refl, sym, ap, subst, ◌∙◌, arith, slice_index}
 use Rattle.std.proofs.Common.{slice_set, get_or-set_same, get_or-set_other, get_or-take, length-set, length-take-le}
 use Rattle.std.proofs.Common.{eq-eqb, ne_eqb, if◌then◌else◌, true≢false}
-use Rattle.std.proofs.Math.Nat.{mul-le-mul_left}
-use Rattle.std.proofs.lemmas.List.{take-set-le}
+use Rattle.plain.proofs.Names.{mul-le-mul_left, take-set-le, by_test, change_word, count_word, element_word, is_even}
+use Rattle.plain.proofs.Names.{word_at}
 use Rattle.std.proofs.lemmas.List.FromFn.{get_or-map-range_with_len}
-use Rattle.steps.specs.Picks.{by_test}
 use Rattle.steps.specs.Indices.Robust.Parts.{one_more}
-use Rattle.steps.specs.Container.Layout.{change_word, count_word, element_word, is_even}
-use Rattle.steps.specs.Queues.Ring.{word_at}
 use Rattle.plain.specs.Queues.{words_from}
 use Rattle.plain.specs.Robust as robust
 use Rattle.plain.specs.Robust.{owners_in}

@@ -1,7 +1,7 @@
 -- The values that stand in the cells of a queue.
 use Rattle.std.proofs.Common.{◌≡◌, ◌≢◌, ℕ, zero, suc, ◌+◌, ◌*◌, ◌%◌, ◌<◌, ◌≤◌, ◌⊎◌, inl, inr, ⊎_elim, List, [], ◌∷◌, ◌++◌, length, refl, ap, subst, arith}
-use Rattle.std.proofs.Math.Nat.{mul-le-mul_left, mod-add-div}
-use Rattle.std.proofs.lemmas.Bool.{cases_lt}
+use Rattle.plain.proofs.Names.{mul-le-mul_left, cases_lt}
+use Rattle.std.proofs.Math.Nat.{mod-add-div}
 use Rattle.plain.specs.Queues.{value_at, values_from}
 
 -- two numbers less than n apart, with one remainder, are one number

@@ -1,9 +1,7 @@
 -- The number of values, counted alone.
 use Rattle.std.proofs.Common.{◌≡◌, ℕ, ◌+◌, ◌-◌, ◌≤◌, ◌<◌, ◌^◌, List, length, refl, sym, subst, arith, slice_index}
-use Rattle.steps.specs.Picks.{by_eq}
-use Rattle.steps.specs.Queues.Ring.{distance}
+use Rattle.plain.proofs.Names.{by_eq, distance, After}
 use Rattle.steps.specs.Queues.Lengths.{number_waiting, first_len, len_want, len_after}
-use Rattle.steps.specs.declared.ask.After.{After}
 use Rattle.steps.specs.declared.queues.lengths.Len.{Len}
 use Rattle.plain.specs.Alone.{EndsFrom}
 use Rattle.plain.specs.Queues.{list_in, Represents}

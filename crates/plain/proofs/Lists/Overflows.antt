@@ -3,16 +3,10 @@ use Rattle.std.proofs.Common.{◌≡◌, ◌≢◌, ℕ, suc, ◌+◌, ◌-◌, 
 use Rattle.std.proofs.Common.{◌&&◌, ◌==◌, nat_lt, min, Option, Some, None, slice_get, List, [], ◌∷◌, ◌++◌, length}
 use Rattle.std.proofs.Common.{drop, sym, ap, subst, ◌∙◌, arith, slice_index, slice_set, get_or-set_same}
 use Rattle.std.proofs.Common.{get_or-set_other, length-set, eq-eqb, ne_eqb, if◌then◌else◌}
-use Rattle.std.proofs.lemmas.Bool.Decides.{nat_tests}
-use Rattle.std.proofs.lemmas.Bool.{cases_lt}
-use Rattle.std.proofs.lemmas.List.{length-append}
-use mathlib.Core.Logic.{dite}
-use native.Mathlib.Decide.{ℕ_discrete}
-use Rattle.steps.specs.Picks.{by_eq}
-use Rattle.steps.specs.Queues.Ring.{distance, after_position}
+use Rattle.plain.proofs.Names.{nat_tests, cases_lt, length-append, dite, ℕ_discrete, by_eq, distance, after_position}
+use Rattle.plain.proofs.Names.{After}
 use Rattle.steps.specs.Queues.Overflow.{cell_word, first_push, push_want, push_after, push_kept, push_answer}
 use Rattle.steps.specs.Queues.Overflow.{first_pop, pop_want, pop_after, pop_kept, pop_answer}
-use Rattle.steps.specs.declared.ask.After.{After}
 use Rattle.steps.specs.declared.copied.OneWord.{OneWord}
 use Rattle.steps.specs.declared.queues.overflow.Push.{Push}
 use Rattle.steps.specs.declared.queues.overflow.PushStage as pushes

@@ -3,14 +3,10 @@ use Rattle.std.proofs.Common.{◌≡◌, ◌≢◌, ℕ, zero, suc, ◌+◌, ◌
 use Rattle.std.proofs.Common.{false, nat_lt, min, List, [], length, drop, refl, ap}
 use Rattle.std.proofs.Common.{arith, slice_index, slice_set, get_or-set_same, get_or-set_other, length-set}
 use Rattle.std.proofs.Common.{ne_eqb, if◌then◌else◌}
-use Rattle.std.proofs.Math.Nat.{mul-le-mul_right}
-use Rattle.std.proofs.lemmas.Bool.Decides.{nat_tests}
-use mathlib.Core.Logic.{dite}
-use native.Mathlib.Decide.{ℕ_discrete}
+use Rattle.plain.proofs.Names.{mul-le-mul_right, nat_tests, dite, ℕ_discrete, by_test, by_either, after_position}
+use Rattle.plain.proofs.Names.{word_at, After}
 use Rattle.steps.specs.Copied.{value_in}
-use Rattle.steps.specs.Picks.{by_test, by_either}
-use Rattle.steps.specs.Queues.Ring.{cell_word, after_position, word_at, at_pop, first_pop, pop_want, pop_after, pop_kept, pop_answer}
-use Rattle.steps.specs.declared.ask.After.{After}
+use Rattle.steps.specs.Queues.Ring.{cell_word, at_pop, first_pop, pop_want, pop_after, pop_kept, pop_answer}
 use Rattle.steps.specs.declared.queues.ring.Pop.{Pop}
 use Rattle.steps.specs.declared.queues.ring.PopStage as pops
 use Rattle.plain.specs.Alone.{EndsFrom, EndsIn, BehavesAs}
@@ -36,12 +32,7 @@ module _ {V R : Type 0} (value_of : List ℕ → V) (size : ℕ) (some : 1 ≤ s
   loads : (p cell n at : ℕ) → at + suc n ≡ size → (room : R) (words : List ℕ)
       → Ends (suc (suc n)) true (read_in with_word room words cell at (suc n)) (slice_set words 1 (after_position p))
       (at_pop (first_pop capacity) (pops.TheVariants.LoadsCell p cell at)) room words
-  loads p cell zero at end room words =
-      by_test (λ a. From 1 true (read_in with_word room words cell at 1) (slice_set words 1 (after_position p)) a
-      (with_word room at (slice_index words (word_at cell at))) words)
-      (nat_lt (at + 1) size) _ _
-      (λ t. let more : at + 1 < size = grind (arith, nat_tests) in absurd (omega arith))
-      (λ t. (refl, refl, refl))
+  loads p cell zero at end room words = grind (arith, by_test, read_in, slice_set, after_position, slice_index, word_at, nat_lt, nat_tests)
   loads p cell (suc n) at end room words =
       let next = with_word room at (slice_index words (word_at cell at)) in
       by_test (λ a. From (suc (suc n)) true (read_in with_word room words cell at (suc (suc n))) (slice_set words 1 (after_position p)) a next words)

@@ -3,19 +3,14 @@ use Rattle.std.proofs.Common.{◌≡◌, ◌≢◌, ℕ, zero, suc, ◌+◌, ◌
 use Rattle.std.proofs.Common.{true, false, not, ◌&&◌, ◌==◌, nat_lt, List, [], ◌∷◌, ◌++◌, length, refl, sym, ap, subst}
 use Rattle.std.proofs.Common.{◌∙◌, arith, slice_index, slice_set, get_or-set_same, get_or-set_other, length-set}
 use Rattle.std.proofs.Common.{eq-eqb, ne_eqb, if◌then◌else◌, true≢false}
-use Rattle.std.proofs.Math.Nat.{mul-le-mul_right}
-use Rattle.std.proofs.lemmas.Bool.Decides.{nat_tests}
-use Rattle.std.proofs.lemmas.Bool.{cases_lt}
-use Rattle.steps.specs.Picks.{by_test, by_eq, by_either}
-use Rattle.steps.specs.Queues.Ring.{cell_word, distance, after_position, word_at, at_push, first_push, push_want, push_after}
-use Rattle.steps.specs.declared.ask.After.{After}
+use Rattle.plain.proofs.Names.{mul-le-mul_right, nat_tests, cases_lt, by_test, by_eq, by_either, distance}
+use Rattle.plain.proofs.Names.{after_position, word_at, After, dite, ℕ_discrete}
+use Rattle.steps.specs.Queues.Ring.{cell_word, at_push, first_push, push_want, push_after}
 use Rattle.steps.specs.declared.queues.ring.Push.{Push}
 use Rattle.steps.specs.declared.queues.ring.PushStage as pushes
 use Rattle.plain.specs.Alone.{EndsFrom, EndsIn, BehavesAs}
 use Rattle.steps.specs.Objects.Lists.{Bounded, takes_more, pushed}
 use Rattle.plain.specs.Queues.{words_from, value_at, list_in, Represents}
-use mathlib.Core.Logic.{dite}
-use native.Mathlib.Decide.{ℕ_discrete}
 use Rattle.plain.proofs.Alone.{Runs}
 use Rattle.plain.proofs.Words.{words_same, words_all, stored, stored_length, stored_other, stored_words}
 use Rattle.plain.proofs.Lists.Cells.{cell_within, cells_apart, values_same, values_length, values_more}
@@ -49,12 +44,7 @@ module _ {V : Type 0} (words_of : V → List ℕ) (value_of : List ℕ → V) (s
       → Ends (suc (suc n)) true
       (slice_set (stored words cell (words_of value) at (suc n)) 0 (after_position p))
       (at_push (first_push capacity) (pushes.TheVariants.StoresCell p cell at)) words
-  stores p cell zero at end words =
-      by_test (λ a. From 1 true (slice_set (stored words cell (words_of value) at 1) 0 (after_position p)) a
-      (slice_set words (word_at cell at) (slice_index (words_of value) at)))
-      (nat_lt (at + 1) size) _ _
-      (λ t. let more : at + 1 < size = grind (arith, nat_tests) in absurd (omega arith))
-      (λ t. (refl, refl, refl))
+  stores p cell zero at end words = grind (arith, by_test, slice_set, stored, after_position, word_at, slice_index, nat_lt, nat_tests)
   stores p cell (suc n) at end words =
       let next = slice_set words (word_at cell at) (slice_index (words_of value) at) in
       by_test (λ a. From (suc (suc n)) true (slice_set (stored words cell (words_of value) at (suc (suc n))) 0 (after_position p)) a next)

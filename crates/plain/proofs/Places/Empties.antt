@@ -2,15 +2,11 @@
 use Rattle.std.proofs.Common.{◌≡◌, ◌≢◌, ℕ, zero, suc, ◌+◌, ◌/◌, ◌%◌, ◌<◌, ◌≤◌, Bool, true, false, List}
 use Rattle.std.proofs.Common.{[], ◌∷◌, length, drop, replicate, refl, sym, ap, subst, ◌∙◌, arith, slice_index}
 use Rattle.std.proofs.Common.{slice_set, get_or-set_same, get_or-set_other, length-set, if◌then◌else◌}
-use Rattle.std.specs.List.{FoldsTo, range_with_len}
+use Rattle.plain.proofs.Names.{FoldsTo, range_with_len, dite, ℕ_discrete, eqb_tells, standing_from, standing, ResetAll}
 use Rattle.std.specs.Prelude.{map, slice_index_or}
-use mathlib.Core.Logic.{dite}
-use native.Mathlib.Decide.{ℕ_discrete}
-use Rattle.std.proofs.lemmas.Bool.Decides.{eqb_tells}
 use Rattle.steps.specs.Bits.Words.{element_of, elements, has_flag, stands}
 use Rattle.steps.specs.Bits.ResetAll.{all_bits}
-use Rattle.steps.specs.Objects.Places.{standing_from, standing, emptied, unset}
-use Rattle.steps.specs.declared.bits.reset_all.ResetAll.{ResetAll}
+use Rattle.steps.specs.Objects.Places.{emptied, unset}
 use Rattle.steps.proofs.Flags.Words.{none_stands}
 use Rattle.plain.specs.Bits.{flags_in, places_in, Represents}
 use Rattle.plain.specs.Visits.{Takes, WasCalled}

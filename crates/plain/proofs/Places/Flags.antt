@@ -2,9 +2,7 @@
 use Rattle.std.proofs.Common.{◌≡◌, ◌≢◌, ℕ, zero, suc, ◌+◌, ◌<◌, ◌≤◌, Bool, false, List, ◌∷◌, length}
 use Rattle.std.proofs.Common.{refl, ap, ◌∙◌, arith, slice_index, slice_set, get_or-set_same, get_or-set_other}
 use Rattle.std.specs.Prelude.{map, slice_index_or}
-use Rattle.std.specs.List.{range_with_len}
-use Rattle.std.proofs.lemmas.Bool.Decides.{eqb_tells}
-use Rattle.std.proofs.lemmas.List.{get_or_past}
+use Rattle.plain.proofs.Names.{range_with_len, eqb_tells, get_or_past}
 use Rattle.std.proofs.lemmas.List.FromFn.{get_or-map-range_with_len, length-map-range_with_len}
 use Rattle.steps.specs.Bits.Words.{element_of, bit_of, has_flag, stands}
 use Rattle.plain.specs.Bits.{flags_in}

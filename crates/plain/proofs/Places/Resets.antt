@@ -4,18 +4,14 @@ use Rattle.std.proofs.Common.{Some, None, slice_get, List, [], ◌∷◌, length
 use Rattle.std.proofs.Common.{slice_index, slice_set, get_or-set_same, get_or-set_other, length-set, eq-eqb, ◌==◌}
 use Rattle.std.proofs.Common.{nat_lt, if◌then◌else◌, true≢false}
 use Rattle.std.specs.Prelude.{slice_index_or}
-use Rattle.std.proofs.lemmas.Bool.{cases_Bool, cases_lt}
-use Rattle.std.proofs.lemmas.Bool.Decides.{nat_tests}
+use Rattle.plain.proofs.Names.{cases_Bool, cases_lt, nat_tests, after_position, standing_from, by_test, by_eq, After}
+use Rattle.plain.proofs.Names.{without_clear, without_leaves}
 use Rattle.std.proofs.lemmas.List.{get_or-drop}
 use Rattle.steps.specs.Bits.Words.{element_of, has_flag, without_flag, stands}
 use Rattle.steps.specs.Bits.BitSet.{first_reset, at_reset, place_after, at_most, reset_want, reset_after}
-use Rattle.steps.specs.Queues.Ring.{after_position}
-use Rattle.steps.specs.Objects.Places.{standing_from, or_else, next_place, without, after_next}
-use Rattle.steps.specs.Picks.{by_test, by_eq}
-use Rattle.steps.specs.declared.ask.After.{After}
+use Rattle.steps.specs.Objects.Places.{or_else, next_place, without, after_next}
 use Rattle.steps.specs.declared.bits.bit_set.ResetNext.{ResetNext}
 use Rattle.steps.specs.declared.bits.bit_set.ResetNextStage as resets
-use Rattle.steps.proofs.Flags.Words.{without_clear, without_leaves}
 use Rattle.plain.specs.Alone.{EndsFrom, EndsIn, BehavesAs}
 use Rattle.plain.specs.Bits.{flags_in, places_in, Represents}
 use Rattle.plain.proofs.Alone.{Runs}
@@ -27,9 +23,7 @@ first_standing : (place n : ℕ) (flags : List Bool)
     → ((i : ℕ) → i < n → slice_index_or flags i false ≡ false) → slice_index_or flags n false ≡ true
     → slice_get (standing_from place flags) 0 ≡ Some (place + n)
 first_standing place n [] clear is = absurd (true≢false (sym is))
-first_standing place zero (flag ∷ flags) clear is =
-    ap (λ b. slice_get (if b then place ∷ standing_from (place + 1) flags else standing_from (place + 1) flags) 0) is
-    ∙ ap Some (omega arith)
+first_standing place zero (flag ∷ flags) clear is = grind (arith, slice_get, standing_from)
 first_standing place (suc n) (flag ∷ flags) clear is =
     ap (λ b. slice_get (if b then place ∷ standing_from (place + 1) flags else standing_from (place + 1) flags) 0) (clear 0 (omega arith))
     ∙ (first_standing (place + 1) n flags (λ i low. clear (suc i) (omega arith)) is ∙ ap Some (omega arith))
@@ -238,10 +232,7 @@ module _ (capacity : ℕ) (words : List ℕ) (fits : Represents capacity words) 
       }
 
   scan : (n k : ℕ) → k + suc n ≡ capacity → Clear k → Comes (suc (suc (suc n))) k
-  scan zero k is clear =
-      ⊎_elim (λ there. finds k (omega arith) clear there 3 (omega arith))
-      (λ not_there. comes_round k (omega arith) clear not_there)
-      (cases_Bool (stands words (at k)))
+  scan zero k is clear = grind (arith, finds, comes_round, cases_Bool, stands)
   scan (suc n) k is clear =
       ⊎_elim (λ there. finds k (omega arith) clear there (suc (suc (suc (suc n)))) (omega arith))
       (λ not_there. comes_on (suc (suc (suc n))) k (omega arith) not_there

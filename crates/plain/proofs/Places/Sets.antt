@@ -2,14 +2,11 @@
 use Rattle.std.proofs.Common.{◌≡◌, ℕ, ◌<◌, ◌≤◌, ⊎_elim, Bool, true, false, not, List, length, refl, sym, ap, subst}
 use Rattle.std.proofs.Common.{◌∙◌, arith, slice_index, slice_set, get_or-set_other, length-set, eq-eqb, ◌==◌}
 use Rattle.std.proofs.Common.{if◌then◌else◌, true≢false}
-use Rattle.std.proofs.lemmas.Bool.{cases_Bool}
+use Rattle.plain.proofs.Names.{cases_Bool, Places, by_test, by_eq, After, with_stands, with_leaves}
 use Rattle.steps.specs.Bits.Words.{element_of, has_flag, with_flag, stands}
 use Rattle.steps.specs.Bits.BitSet.{first_set, set_want, set_after}
-use Rattle.steps.specs.Objects.Places.{Places, has, with_place}
-use Rattle.steps.specs.Picks.{by_test, by_eq}
-use Rattle.steps.specs.declared.ask.After.{After}
+use Rattle.steps.specs.Objects.Places.{has, with_place}
 use Rattle.steps.specs.declared.bits.bit_set.Set.{Set}
-use Rattle.steps.proofs.Flags.Words.{with_stands, with_leaves}
 use Rattle.plain.specs.Alone.{EndsFrom, BehavesAs}
 use Rattle.plain.specs.Bits.{flags_in, places_in, Represents}
 use Rattle.plain.proofs.Alone.{Runs}

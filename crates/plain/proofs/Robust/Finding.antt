@@ -1,20 +1,15 @@
 -- A find with its closure, from one question to the next.
 use Rattle.std.proofs.Common.{◌≡◌, ℕ, suc, ◌+◌, ◌-◌, ◌^◌, ◌<◌, ◌≤◌, inl, inr, true, nat_lt, if◌then◌else◌, List, []}
 use Rattle.std.proofs.Common.{◌∷◌, ◌++◌, length, refl, sym, ap, subst, ◌∙◌, arith}
-use Rattle.std.specs.List.{FoldsTo}
-use Rattle.std.proofs.lemmas.List.{append_assoc, append-nil, length-append, length-drop}
-use Rattle.std.proofs.lemmas.Bool.Decides.{nat_tests}
+use Rattle.plain.proofs.Names.{FoldsTo, append_assoc, append-nil, length-append, length-drop, nat_tests, After, GoOn}
+use Rattle.plain.proofs.Names.{Done, Question, Want}
 use Rattle.steps.specs.Indices.Robust.Parts.{empty}
 use Rattle.steps.specs.Indices.Robust.Find.{first_find, find_comes_to, find_want, find_after}
-use Rattle.steps.specs.declared.ask.After.{After}
-use Rattle.steps.specs.declared.ask.After.TheVariants.{GoOn, Done}
-use Rattle.steps.specs.declared.ask.Question.{Question}
 use Rattle.steps.specs.declared.enums.CallbackProgression.{CallbackProgression}
 use Rattle.steps.specs.declared.enums.CallbackProgression.TheVariants.{Continue, Stop}
 use Rattle.steps.specs.declared.indices.robust.find.Find.{Find}
 use Rattle.steps.specs.Objects.Owners.{indices_of}
 use Rattle.plain.specs.declared.drive.Stop as stops
-use Rattle.steps.specs.declared.ask.Want.{Want}
 use Rattle.plain.specs.Alone.{CanStop, StopsAlike}
 use Rattle.plain.specs.Callable.{TakesIndices, HasFound, index_in, as_answer}
 use Rattle.plain.specs.Robust.{owners_in, Represents}
@@ -72,8 +67,7 @@ module _ {F : Type 0} (step : F → ℕ → CallbackProgression → F → Type 0
             halts (λ c (given : ℕ). find_want c) find_after owner (suc (length rest))
             (StopsAt capacity owner g cells long few lives done left) d (g ∷ cells) (omega arith) t;
       }
-  goes_on rest before left now (Done n) done short joined calls number low t =
-      found_all before now n (ap (λ l. before ++ l) (sym t.0) ∙ joined) calls (t.1 ∙ sym number)
+  goes_on rest before left now (Done n) done short joined calls number low t = grind (arith, found_all)
 
   pub begins : 1 ≤ capacity → Finding 0 (first_find capacity) f
   begins some =
@@ -119,20 +113,7 @@ module _ {F : Type 0} (step : F → ℕ → CallbackProgression → F → Type 0
           (length-append so_far.before (at.index ∷ []) ∙ ap (λ n. n + 1) so_far.number)
           (omega arith)
           (finds_on capacity owner g cells long few lives at.rest (at.index + 1) (done + 1) (mine owner (at.index + 1) at.rest) at.rest_is (omega arith) refl))
-      onward Stop next t =
-          subst (λ c. Onward (done + 1) (find_after c owner 0) next) (sym at.stands)
-          (record {
-            before = so_far.before;
-            now = now;
-            calls = so_far.calls;
-            ended = inr (
-              at.index,
-              mine owner (at.index + 1) at.rest,
-              ap (λ l. so_far.before ++ l) (sym at.left_is) ∙ so_far.joined,
-              subst (λ i. step now i Stop next) index_is t,
-              ap (λ n. n + 1) (sym so_far.number),
-            );
-          })
+      onward Stop next t = grind (arith, find_after, mine, index_is)
 
 -- ---- the same over any words
 

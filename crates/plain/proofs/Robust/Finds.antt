@@ -1,11 +1,9 @@
 -- A find that runs alone, from one question to the next.
 use Rattle.std.proofs.Common.{◌≡◌, ◌≢◌, ℕ, suc, ◌+◌, ◌^◌, ◌<◌, ◌≤◌, ⊎_elim, true, false, cond, ◌==◌, nat_lt, List, []}
 use Rattle.std.proofs.Common.{◌∷◌, length, drop, map, filter, refl, sym, ap, ◌∙◌, arith, slice_index, eq-eqb, ne_eqb}
-use Rattle.std.proofs.lemmas.Bool.Decides.{nat_tests, eqb_tells}
-use Rattle.steps.specs.Picks.{by_test, by_eq}
+use Rattle.plain.proofs.Names.{nat_tests, eqb_tells, by_test, by_eq, Question}
 use Rattle.steps.specs.Indices.Robust.Parts.{cell_word, empty, one_more}
 use Rattle.steps.specs.Indices.Robust.Find.{at_find, first_find, find_comes_to, find_want, find_after}
-use Rattle.steps.specs.declared.ask.Question.{Question}
 use Rattle.steps.specs.declared.ask.Question as questions
 use Rattle.steps.specs.declared.indices.robust.find.Find.{Find}
 use Rattle.steps.specs.declared.indices.robust.find.FindStage as finds
@@ -59,11 +57,7 @@ module _ (capacity owner g : ℕ) (cells : List ℕ) (long : length cells ≡ ca
   pub finds_on : (rest : List ℕ) (index count : ℕ) (left : List ℕ) → drop index cells ≡ rest → count ≤ index → left ≡ mine owner index rest
       → Goes (λ c. find_want c) (λ c old. find_after c owner old) (suc (length rest)) (StopsAt count left)
       (find_comes_to (first_find capacity) index count) (g ∷ cells)
-  finds_on [] index count left is low all =
-      let far = past cells index is in
-      by_test (λ a. Goes (λ c. find_want c) (λ c old. find_after c owner old) 1 (StopsAt count left) a (g ∷ cells)) (nat_lt index capacity) _ _
-      (λ t. let near : index < capacity = grind (arith, nat_tests) in absurd (omega arith))
-      (λ _. (all, refl, refl))
+  finds_on [] index count left is low all = grind (arith, past, by_test, find_want, find_after, nat_lt, nat_tests)
   finds_on (c ∷ rest) index count left is low all =
       let at = here cells index c rest is in
       let near = at.near in

@@ -1,7 +1,7 @@
 -- The looks at a robust set that run alone.
 use Rattle.std.proofs.Common.{◌≡◌, ℕ, zero, suc, ◌+◌, ◌^◌, ◌<◌, ◌≤◌, Bool, List, [], ◌∷◌, length, map, replicate}
 use Rattle.std.proofs.Common.{slice_set, None, refl, sym, ap, subst, arith, eq-eqb, ne_eqb, if◌then◌else◌}
-use Rattle.steps.specs.Queues.Ring.{load}
+use Rattle.plain.proofs.Names.{load}
 use Rattle.steps.specs.Indices.Robust.Parts.{empty, locked, count_want, count_after}
 use Rattle.steps.specs.Indices.Robust.Looks.{first_borrowed, borrowed_want, borrowed_after, borrowed_counted, locked_after}
 use Rattle.steps.specs.declared.indices.robust.parts.Count as counts

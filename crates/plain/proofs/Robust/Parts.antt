@@ -2,16 +2,12 @@
 use Rattle.std.proofs.Common.{◌≡◌, ◌≢◌, ℕ, suc, ◌+◌, ◌^◌, ◌<◌, ◌≤◌, ⊎_elim, false, not, ◌==◌, ◌&&◌, nat_lt, List}
 use Rattle.std.proofs.Common.{[], ◌∷◌, length, drop, map, refl, sym, ap, subst, ◌∙◌, arith, Some, None, slice_index}
 use Rattle.std.proofs.Common.{slice_set, eq-eqb, ne_eqb, if◌then◌else◌}
-use Rattle.std.proofs.lemmas.Bool.Decides.{nat_tests}
-use Rattle.std.proofs.lemmas.Bool.{cases_lt}
-use Rattle.std.proofs.lemmas.List.{drop_more, length-drop}
-use Rattle.steps.specs.Picks.{by_test, by_eq}
+use Rattle.plain.proofs.Names.{nat_tests, cases_lt, length-drop, by_test, by_eq, GoOn, Done, ReleaseState, Locked}
+use Rattle.plain.proofs.Names.{Unlocked}
+use Rattle.std.proofs.lemmas.List.{drop_more}
 use Rattle.steps.specs.Indices.Robust.Parts.{cell_word, empty, locked, greatest, one_more, raise_want, raise_after}
 use Rattle.steps.specs.Indices.Robust.Parts.{count_want, count_after, count_comes_to, lock_want}
 use Rattle.steps.specs.Indices.Robust.Parts.{lock_after, lock_counted, first_lock}
-use Rattle.steps.specs.declared.ask.After.TheVariants.{GoOn, Done}
-use Rattle.steps.specs.declared.indices.enums.ReleaseState.{ReleaseState}
-use Rattle.steps.specs.declared.indices.enums.ReleaseState.TheVariants.{Locked, Unlocked}
 use Rattle.steps.specs.declared.indices.robust.parts.Raise as raises
 use Rattle.steps.specs.declared.indices.robust.parts.Count as counts
 use Rattle.steps.specs.declared.indices.robust.parts.Counted as ends

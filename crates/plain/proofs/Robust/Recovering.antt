@@ -3,23 +3,14 @@ use Rattle.std.proofs.Common.{◌≡◌, ◌≢◌, ℕ, zero, suc, ◌+◌, ◌
 use Rattle.std.proofs.Common.{◌&&◌, nat_lt, if◌then◌else◌, List, [], ◌∷◌, ◌++◌, length, drop, map, filter, Option}
 use Rattle.std.proofs.Common.{Some, None, refl, sym, ap, subst, ◌∙◌, arith, slice_set, length-set, eq-eqb, ne_eqb}
 use Rattle.std.proofs.Common.{IsTrue, IsFalse}
-use Rattle.std.specs.List.{FoldsTo}
-use Rattle.std.proofs.lemmas.List.{drop-set-lt, map-append, append_assoc, append-nil, length-append, length-map, length-drop}
-use Rattle.std.proofs.lemmas.List.Sums.{fold-append}
+use Rattle.plain.proofs.Names.{FoldsTo, drop-set-lt, append_assoc, append-nil, length-append, length-map, length-drop}
+use Rattle.plain.proofs.Names.{fold-append, eqb_tells, by_test, by_eq, After, GoOn, Done, Question, Want, ReleaseMode}
+use Rattle.plain.proofs.Names.{LockIfLastIndex, Default, ReleaseState, Locked, Unlocked}
+use Rattle.std.proofs.lemmas.List.{map-append}
 use Rattle.std.proofs.lemmas.List.Elements.{filter-append}
-use Rattle.std.proofs.lemmas.Bool.Decides.{eqb_tells}
-use Rattle.steps.specs.Picks.{by_test, by_eq}
 use Rattle.steps.specs.Indices.Robust.Parts.{empty, locked, greatest}
 use Rattle.steps.specs.Indices.Robust.Recover.{at_recover, first_recover, recover_want, recover_after}
-use Rattle.steps.specs.declared.ask.After.{After}
-use Rattle.steps.specs.declared.ask.After.TheVariants.{GoOn, Done}
-use Rattle.steps.specs.declared.ask.Question.{Question}
 use Rattle.steps.specs.declared.ask.Question as questions
-use Rattle.steps.specs.declared.ask.Want.{Want}
-use Rattle.steps.specs.declared.indices.enums.ReleaseMode.{ReleaseMode}
-use Rattle.steps.specs.declared.indices.enums.ReleaseMode.TheVariants.{LockIfLastIndex, Default}
-use Rattle.steps.specs.declared.indices.enums.ReleaseState.{ReleaseState}
-use Rattle.steps.specs.declared.indices.enums.ReleaseState.TheVariants.{Locked, Unlocked}
 use Rattle.steps.specs.declared.indices.robust.recover.Recover.{Recover}
 use Rattle.steps.specs.declared.indices.robust.recover.RecoverStage as recovers
 use Rattle.steps.specs.Objects.Owners.{Owners, Owned, taken_from, taken, next_generation, state_of, given_back, to_recover, recovered}
@@ -60,9 +51,7 @@ taken_less x0 x1 x2 x3 = grind (arith, taken_base, length, taken_from, suc)
 
 -- the taken ones from a place on are among all
 taken_within : (n i k : ℕ) (cells : List ℕ) → length (taken_from i (map owner_in (drop n cells))) ≤ length (taken_from k (map owner_in cells))
-taken_within zero i k cells =
-    let h = taken_base i k (map owner_in cells) in
-    let z : length (taken_from i (map owner_in cells)) ≤ length (taken_from k (map owner_in cells)) = omega arith in z
+taken_within zero i k cells = grind (arith, taken_base, map, owner_in, length, taken_from)
 taken_within (suc n) i k [] = (let z : 0 ≤ 0 = omega arith in z)
 taken_within (suc n) i k (c ∷ cells) =
     let h = taken_within n i 0 cells in

@@ -2,18 +2,11 @@
 use Rattle.std.proofs.Common.{◌≡◌, ◌≢◌, ℕ, suc, ◌+◌, ◌^◌, ◌<◌, ◌≤◌, nat_lt, List, [], ◌∷◌, length, drop, map}
 use Rattle.std.proofs.Common.{refl, sym, ap, ◌∙◌, arith, slice_index, slice_set, length-set, eq-eqb}
 use Rattle.std.proofs.Common.{if◌then◌else◌}
-use Rattle.std.proofs.lemmas.Bool.Decides.{nat_tests}
-use Rattle.std.proofs.lemmas.List.{drop-set-lt}
-use Rattle.steps.specs.Picks.{by_test, by_eq}
+use Rattle.plain.proofs.Names.{nat_tests, drop-set-lt, by_test, by_eq, Question, Want, After, ReleaseMode}
+use Rattle.plain.proofs.Names.{LockIfLastIndex, Default, ReleaseState}
 use Rattle.steps.specs.Indices.Robust.Parts.{cell_word, empty, locked, raise_want, raise_after, lock_want, lock_after, first_lock}
 use Rattle.steps.specs.Indices.Robust.Recover.{at_recover, first_recover, recover_comes_to, recover_raised, recover_locked, recover_want, recover_after}
-use Rattle.steps.specs.declared.ask.Question.{Question}
 use Rattle.steps.specs.declared.ask.Question as questions
-use Rattle.steps.specs.declared.ask.Want.{Want}
-use Rattle.steps.specs.declared.ask.After.{After}
-use Rattle.steps.specs.declared.indices.enums.ReleaseMode.{ReleaseMode}
-use Rattle.steps.specs.declared.indices.enums.ReleaseMode.TheVariants.{LockIfLastIndex, Default}
-use Rattle.steps.specs.declared.indices.enums.ReleaseState.{ReleaseState}
 use Rattle.steps.specs.declared.indices.robust.parts.Raise as raises
 use Rattle.steps.specs.declared.indices.robust.recover.Recover.{Recover}
 use Rattle.steps.specs.declared.indices.robust.recover.RecoverStage as recovers
@@ -55,11 +48,7 @@ module _ (capacity : ℕ) (mode : ReleaseMode) where
   pub recovers_on : (g : ℕ) (cells : List ℕ) → length cells ≡ capacity → (rest : List ℕ) (index : ℕ) (left : List Owned)
       → drop index cells ≡ rest → left ≡ taken_from index (map owner_in rest)
       → Goes want after (suc (suc (length rest))) (StopsAt capacity g cells left) (recover_comes_to first index) (g ∷ cells)
-  recovers_on g cells long [] index left is all =
-      let far = past cells index is in
-      by_test (λ stage. Walks want after 2 (StopsAt capacity g cells left) (at_recover first stage) (g ∷ cells)) (nat_lt index capacity) _ _
-      (λ t. let near : index < capacity = grind (arith, nat_tests) in absurd (omega arith))
-      (λ _. (all, refl, refl))
+  recovers_on g cells long [] index left is all = grind (arith, past, by_test, at_recover, nat_lt, nat_tests)
   recovers_on g cells long (c ∷ rest) index left is all =
       let at = here cells index c rest is in
       let near = at.near in

@@ -2,18 +2,12 @@
 use Rattle.std.proofs.Common.{◌≡◌, ℕ, suc, ◌+◌, ◌^◌, ◌<◌, ◌≤◌, Bool, true, false, ◌==◌, List, [], ◌∷◌}
 use Rattle.std.proofs.Common.{length, map, Option, Ok, Err, refl, sym, ap, subst, ◌∙◌, arith, slice_index}
 use Rattle.std.proofs.Common.{slice_set, length-set, eq-eqb, ne_eqb, if◌then◌else◌}
-use Rattle.std.proofs.lemmas.List.{map-set, get_or-map}
-use Rattle.steps.specs.Picks.{by_eq}
+use Rattle.plain.proofs.Names.{map-set, get_or-map, by_eq, After, GoOn, ReleaseMode, LockIfLastIndex, Default, GiveBack}
 use Rattle.steps.specs.Indices.Robust.Parts.{cell_word, empty, locked, greatest, raise_want, raise_after, lock_want, lock_after, first_lock}
 use Rattle.steps.specs.Indices.Robust.Release.{Released, first_release, at_release, release_raised, release_locked, release_want, release_after}
-use Rattle.steps.specs.declared.ask.After.{After}
-use Rattle.steps.specs.declared.ask.After.TheVariants.{GoOn}
-use Rattle.steps.specs.declared.indices.enums.ReleaseMode.{ReleaseMode}
-use Rattle.steps.specs.declared.indices.enums.ReleaseMode.TheVariants.{LockIfLastIndex, Default}
 use Rattle.steps.specs.declared.indices.enums.RobustUniqueIndexSetReleaseError.TheVariants.{IndexIsNotOwnedByProvidedOwner}
 use Rattle.steps.specs.declared.indices.robust.parts.Raise as raises
 use Rattle.steps.specs.declared.indices.robust.release.Release.{Release}
-use Rattle.steps.specs.declared.indices.robust.release.GiveBack.{GiveBack}
 use Rattle.steps.specs.declared.indices.robust.release.ReleaseStage as releases
 use Rattle.plain.specs.Alone.{BehavesAs}
 use Rattle.steps.specs.Objects.Owners.{Owners, next_generation, has, owns, without, given_back, release_state, released, after_release}

@@ -3,13 +3,9 @@ use Rattle.std.proofs.Common.{◌≡◌, ◌≢◌, ℕ, suc, ◌+◌, ◌-◌, 
 use Rattle.std.proofs.Common.{ne_eqb, if◌then◌else◌, List, [], ◌∷◌, length, drop, sym, ap, subst, ◌∙◌}
 use Rattle.std.proofs.Common.{arith, slice_index, slice_set, get_or-set_same, get_or-set_other, length-set, true≢false}
 use Rattle.std.specs.Prelude.{bit_or, Ok, Err}
-use Rattle.std.specs.List.{IsDistinct}
-use Rattle.std.proofs.lemmas.Bool.Decides.{nat_tests, eqb_tells}
-use Rattle.std.proofs.lemmas.Bool.{cases_Bool}
-use Rattle.steps.specs.Picks.{by_test, by_eq}
+use Rattle.plain.proofs.Names.{IsDistinct, nat_tests, eqb_tells, cases_Bool, by_test, by_eq, After}
 use Rattle.steps.specs.Indices.Head.{next_word, flag_word, flag, proposed, borrowed, locked, says_locked}
 use Rattle.steps.specs.Indices.Unique.{Acquired, first_acquire, head_taken, acquire_want, acquire_after, borrowed_number}
-use Rattle.steps.specs.declared.ask.After.{After}
 use Rattle.steps.specs.declared.indices.enums.UniqueIndexSetAcquireFailure.TheVariants as failures
 use Rattle.steps.specs.declared.indices.unique.Acquire.{Acquire}
 use Rattle.plain.specs.Alone.{EndsFrom, EndsIn, BehavesAs}

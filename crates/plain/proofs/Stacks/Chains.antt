@@ -3,10 +3,9 @@ use Rattle.std.proofs.Common.{◌≡◌, ◌≢◌, ℕ, zero, suc, ◌-◌, ◌
 use Rattle.std.proofs.Common.{eq-eqb, ne_eqb, List, [], ◌∷◌, length, refl, ap, ◌∙◌, arith, slice_index, slice_set}
 use Rattle.std.proofs.Common.{get_or-set_same, get_or-set_other, true≢false}
 use Rattle.std.specs.Prelude.{bit_or, bit_and}
-use Rattle.std.specs.List.{list_any, IsDistinct, AllByRecursion}
-use Rattle.std.proofs.lemmas.Bool.Decides.{eqb_tells}
+use Rattle.plain.proofs.Names.{IsDistinct, eqb_tells, with_stands, with_leaves, without_clear, without_leaves}
+use Rattle.std.specs.List.{list_any, AllByRecursion}
 use Rattle.steps.specs.Indices.Head.{next_word, flag_word, flag, has_flag}
-use Rattle.steps.proofs.Flags.Words.{with_stands, with_leaves, without_clear, without_leaves}
 use Rattle.plain.specs.Unique.{chain, claimed}
 
 abbrev pub is_in : ℕ → List ℕ → Bool

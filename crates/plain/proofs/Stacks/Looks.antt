@@ -1,6 +1,6 @@
 -- The looks at a set, each a load of its head.
 use Rattle.std.proofs.Common.{ℕ, List, arith}
-use Rattle.steps.specs.Queues.Ring.{load}
+use Rattle.plain.proofs.Names.{load}
 use Rattle.steps.specs.Indices.Unique.{borrowed_after, locked_after}
 use Rattle.steps.specs.Objects.Stacks.{Stack, out}
 use Rattle.steps.specs.declared.indices.looks.BorrowedIndices.{BorrowedIndices}

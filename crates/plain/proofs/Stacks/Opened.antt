@@ -2,9 +2,7 @@
 use Rattle.std.proofs.Common.{◌≡◌, ◌≢◌, ℕ, zero, suc, ◌+◌, ◌-◌, ◌%◌, ◌/◌, ◌^◌, ◌<◌, ◌≤◌, ⊎_elim, true, false, not, eqb}
 use Rattle.std.proofs.Common.{List, ◌∷◌, length, refl, sym, ap, subst, ◌∙◌, arith, slice_index, slice_set}
 use Rattle.std.proofs.Common.{get_or-set_same, get_or-set_other, length-set, true≢false}
-use Rattle.std.specs.List.{IsDistinct, range_with_len}
-use Rattle.std.proofs.lemmas.Bool.Decides.{eqb_tells}
-use Rattle.std.proofs.lemmas.Bool.{cases_Bool}
+use Rattle.plain.proofs.Names.{IsDistinct, range_with_len, eqb_tells, cases_Bool}
 use Rattle.steps.specs.Indices.Head.{next_word, flag_word, has_flag}
 use Rattle.steps.specs.Indices.Unique.{borrowed_number}
 use Rattle.steps.specs.Objects.Stacks.{opened}

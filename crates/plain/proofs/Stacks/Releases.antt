@@ -3,16 +3,11 @@ use Rattle.std.proofs.Common.{◌≡◌, ◌≢◌, ℕ, suc, ◌+◌, ◌-◌, 
 use Rattle.std.proofs.Common.{◌==◌, eqb, eq-eqb, ne_eqb, if◌then◌else◌, List, ◌∷◌, length, refl, sym, ap, subst, ◌∙◌}
 use Rattle.std.proofs.Common.{arith, slice_index, slice_set, get_or-set_same, get_or-set_other, length-set, true≢false}
 use Rattle.std.specs.Prelude.{bit_and}
-use Rattle.std.proofs.lemmas.Bool.Decides.{nat_tests, eqb_tells}
-use Rattle.std.proofs.lemmas.Bool.{cases_Bool}
+use Rattle.plain.proofs.Names.{nat_tests, eqb_tells, cases_Bool, by_eq, After, ReleaseState, Locked, Unlocked}
 use Rattle.std.proofs.lemmas.Map.Steps.{length-le_from_distinct_below}
-use Rattle.steps.specs.Picks.{by_eq}
 use Rattle.steps.specs.Indices.Head.{next_word, flag_word, flag, proposed, borrowed, locked, says_locked}
 use Rattle.steps.specs.Indices.Unique.{first_release, head_given_back, head_locked, head_released}
 use Rattle.steps.specs.Indices.Unique.{state_after, release_want, release_after, borrowed_number}
-use Rattle.steps.specs.declared.ask.After.{After}
-use Rattle.steps.specs.declared.indices.enums.ReleaseState.{ReleaseState}
-use Rattle.steps.specs.declared.indices.enums.ReleaseState.TheVariants.{Locked, Unlocked}
 use Rattle.steps.specs.declared.indices.unique.Release.{Release}
 use Rattle.steps.specs.declared.indices.unique.ReleaseStage as releases
 use Rattle.plain.specs.Alone.{EndsFrom, EndsIn, BehavesAs}

@@ -1,5 +1,5 @@
 use Rattle.std.proofs.Common.{refl, set, arith, ◌∙◌}
-use Rattle.steps.specs.declared.copied.Buffer.{Buffer}
+use Rattle.plain.proofs.Names.{Buffer}
 use Rattle.plain.proofs.Alone.{can_end, ends_so}
 use Rattle.plain.proofs.Values.{load_runs}
 use Rattle.plain.proofs.value.load.Goals as goal

@@ -1,6 +1,5 @@
 use Rattle.std.proofs.Common.{refl, sym, ap, subst, ◌≡◌, ◌∙◌, [], ◌∷◌, ◌++◌, arith}
-use Rattle.std.proofs.lemmas.Grind.{common_steps}
-use Rattle.lock_free.specs.Shares.{IsAll}
+use Rattle.uses_programs.proofs.Names.{common_steps, IsAll}
 use Rattle.lock_free.specs.Bits.Calls.{SetId, set_of, view, share, made}
 use Rattle.lock_free.specs.Bits.Told.{AllClearOnce}
 use Rattle.lock_free.proofs.Bits.Sums.{none_left}

@@ -1,5 +1,5 @@
 use Rattle.std.proofs.Common.{refl, sym, subst, ◌≡◌, ◌∙◌, [], ◌∷◌, ◌++◌, arith}
-use Rattle.std.proofs.lemmas.Grind.{common_steps}
+use Rattle.uses_programs.proofs.Names.{common_steps}
 use Rattle.lock_free.specs.Bits.Calls.{view, made}
 use Rattle.uses_programs.specs.Bells.{HearsMore}
 use Rattle.uses_programs.proofs.Rings.{none_heard, hears, hears_none}

@@ -1,8 +1,6 @@
 use Rattle.std.proofs.Common.{rules, ◌≡◌, ◌<◌, [], ◌∷◌, ◌++◌, length, slice_index_or, refl, sym, subst, ◌∙◌, ◌≤◌, arith, take_all}
-use Rattle.std.proofs.lemmas.Grind.{common_steps}
-use Rattle.std.proofs.lemmas.List.Elements.{All-nil}
+use Rattle.uses_programs.proofs.Names.{common_steps, All-nil, sets}
 use Rattle.lock_free.specs.Bits.Calls.{view, history, made}
-use Rattle.lock_free.specs.Sums.{sets}
 use Rattle.uses_programs.specs.Bells.{WereSet, HasRung}
 use Rattle.uses_programs.proofs.Rings.{rings, rings_again, none_rung, rang_on}
 use Rattle.uses_programs.proofs.bells.ring.Goals as goal

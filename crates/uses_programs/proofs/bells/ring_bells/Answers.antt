@@ -1,6 +1,5 @@
 use Rattle.std.proofs.Common.{rules, ◌≡◌, [], sym, ap, subst, ◌∙◌}
-use Rattle.lock_free.specs.Share.{Share}
-use Rattle.lock_free.specs.Shares.{all_shares, half_of, both_of, IsAll}
+use Rattle.uses_programs.proofs.Names.{Share, all_shares, half_of, both_of, IsAll}
 use Rattle.lock_free.specs.Bits.Calls.{history, made, share}
 use Rattle.uses_programs.specs.Bells.{WereSet, BothRung, HearsMore}
 use Rattle.uses_programs.proofs.Rings.{split_twice, all_heard, none_lost, rang_still}

@@ -1,13 +1,10 @@
 use Rattle.std.proofs.Common.{refl, rules, arith, ◌≡◌, ap, ◌∙◌, [], ◌∷◌, Some, subst}
-use Rattle.std.proofs.lemmas.Grind.{common_steps}
-use Rattle.std.specs.Option.{option_map}
+use Rattle.uses_programs.proofs.Names.{common_steps, option_map, Closes, HasPopped, first_view}
 use Rattle.steps.specs.Objects.Lists.{front}
 use Rattle.lock_free.specs.Queues.Calls.{view, producer_view, consumer_view}
-use Rattle.lock_free.specs.Queues.Closes.{Closes}
 use Rattle.lock_free.specs.Queues.Item.TheVariants.{Index}
 use Rattle.lock_free.specs.Queues.Role.TheVariants as roles
-use Rattle.lock_free.specs.Queues.Told.{HasSplit, HasPopped}
-use Rattle.lock_free.specs.Queues.Views.{first_view}
+use Rattle.lock_free.specs.Queues.Told.{HasSplit}
 use Rattle.uses_programs.specs.Rows.{HasSent, HasReceived}
 use Rattle.uses_programs.proofs.Left.{left}
 use Rattle.uses_programs.proofs.Rows.{said_of_ok, said_of_some, sent_none, sent_more, sent_all, received_none, gets_one, received_all}

@@ -1,6 +1,5 @@
 use Rattle.std.proofs.Common.{rules, ◌≡◌, ◌<◌, Ok, [], ◌∷◌, ◌++◌, refl, sym, subst, ◌∙◌}
-use Rattle.std.specs.List.{All}
-use Rattle.std.proofs.lemmas.List.Elements.{All-nil, All-push}
+use Rattle.uses_programs.proofs.Names.{All, All-nil, All-push}
 use Rattle.lock_free.specs.RobustUniqueIndexSet.{view, made, capacity_of}
 use Rattle.lock_free.specs.Robust.Told.{HasTaken}
 use Rattle.uses_programs.specs.Leases.{HasLeased}

@@ -1,5 +1,5 @@
 use Rattle.std.proofs.Common.{◌≡◌, ◌<◌}
-use Rattle.std.specs.List.{All}
+use Rattle.uses_programs.proofs.Names.{All}
 use Rattle.lock_free.specs.RobustUniqueIndexSet.{capacity_of, made, share, set_of}
 use Rattle.uses_programs.specs.Leases.{HasLeased}
 use Rattle.uses_programs.proofs.leases.lease.Given as goal

@@ -1,5 +1,5 @@
 use Rattle.std.proofs.Common.{rules, ◌≡◌, ◌++◌, sym, subst}
-use Rattle.lock_free.specs.Shares.{all_shares, half_of, IsAll}
+use Rattle.uses_programs.proofs.Names.{all_shares, half_of, IsAll}
 use Rattle.lock_free.specs.RobustUniqueIndexSet.{history, made, share, set_of}
 use Rattle.uses_programs.specs.Leases.{HasLeased}
 use Rattle.uses_programs.proofs.Halves.{both_halves}

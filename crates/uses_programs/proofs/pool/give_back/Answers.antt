@@ -1,7 +1,7 @@
 use Rattle.std.proofs.Common.{◌≡◌, ℕ, ◌+◌, ◌<◌, List, ◌∷◌, length, drop, get_or, refl, subst, ◌∙◌, add-one, drop-cons, arith}
 use Rattle.std.proofs.lemmas.List.{drop_all}
 use Rattle.lock_free.specs.UniqueIndexSet.{view, made}
-use Rattle.lock_free.specs.Unique.Held.{HeldBy}
+use Rattle.uses_programs.proofs.Names.{HeldBy}
 use Rattle.lock_free.proofs.Unique.Holding.{held_first, held_given}
 use Rattle.uses_programs.proofs.pool.give_back.Goals as goal
 

@@ -1,6 +1,7 @@
 use Rattle.std.proofs.Common.{◌≡◌, length, drop}
 use Rattle.lock_free.specs.UniqueIndexSet.{view, made, share, set_of}
-use Rattle.lock_free.specs.Unique.Held.{HeldBy, IsSound}
+use Rattle.uses_programs.proofs.Names.{HeldBy}
+use Rattle.lock_free.specs.Unique.Held.{IsSound}
 use Rattle.uses_programs.proofs.pool.give_back.Given as goal
 
 abbrev pub invariant-loop-at : goal.invariant-loop-at

@@ -1,8 +1,6 @@
 use Rattle.std.proofs.Common.{rules, ◌≡◌, ◌++◌, [], refl, sym, ap, subst, ◌∙◌}
-use Rattle.lock_free.specs.Share.{Share}
-use Rattle.lock_free.specs.Shares.{all_shares, half_of, both_of, IsAll}
+use Rattle.uses_programs.proofs.Names.{Share, all_shares, half_of, both_of, IsAll, HeldBy}
 use Rattle.lock_free.specs.UniqueIndexSet.{view, made, share}
-use Rattle.lock_free.specs.Unique.Held.{HeldBy}
 use Rattle.lock_free.proofs.Unique.Holding.{held_joined, held_apart, held_still, counted_moves}
 use Rattle.uses_programs.proofs.pool.hold_buffers.Goals as goal
 

@@ -1,6 +1,6 @@
 use Rattle.std.proofs.Common.{refl, sym, subst}
 use Rattle.lock_free.specs.UniqueIndexSet.{made}
-use Rattle.lock_free.specs.Unique.Held.{HeldBy}
+use Rattle.uses_programs.proofs.Names.{HeldBy}
 use Rattle.uses_programs.proofs.pool.take.Goals as goal
 
 pub loop-init : goal.loop-init

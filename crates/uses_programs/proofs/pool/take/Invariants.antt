@@ -1,6 +1,6 @@
 use Rattle.std.proofs.Common.{◌≡◌}
 use Rattle.lock_free.specs.UniqueIndexSet.{made, share, set_of}
-use Rattle.lock_free.specs.Unique.Held.{HeldBy}
+use Rattle.uses_programs.proofs.Names.{HeldBy}
 use Rattle.uses_programs.proofs.pool.take.Given as goal
 
 abbrev pub invariant-loop : goal.invariant-loop

@@ -1,6 +1,6 @@
 use Rattle.std.proofs.Common.{rules, ◌≡◌, ◌∙◌, Ok, IfOk, subst}
 use Rattle.lock_free.specs.Container.Names.{view, container_of, IsLatestState, IsStateOf}
-use Rattle.lock_free.specs.HistoryLooks.{ShowsCopied}
+use Rattle.uses_programs.proofs.Names.{ShowsCopied}
 use Rattle.uses_programs.proofs.registry.watch.Goals as goal
 
 pub loop-init : goal.loop-init

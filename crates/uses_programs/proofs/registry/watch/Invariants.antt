@@ -1,6 +1,6 @@
 use Rattle.std.proofs.Common.{◌≡◌}
 use Rattle.lock_free.specs.Container.Names.{view, container_of, IsLatestState, IsStateOf}
-use Rattle.lock_free.specs.HistoryLooks.{ShowsCopied}
+use Rattle.uses_programs.proofs.Names.{ShowsCopied}
 use Rattle.uses_programs.proofs.registry.watch.Given as goal
 
 abbrev pub invariant-loop : goal.invariant-loop

@@ -1,11 +1,8 @@
 use Rattle.std.proofs.Common.{rules, arith, ap, subst, sym, ◌≡◌, [], ◌∷◌, ◌++◌, length, length-append, Ok, Some, None}
-use Rattle.std.proofs.lemmas.Grind.{common_steps}
-use Rattle.std.proofs.lemmas.Result.{IfOk-at_ok}
-use Rattle.std.specs.Option.{option_map}
+use Rattle.uses_programs.proofs.Names.{common_steps, IfOk-at_ok, option_map, HasPopped}
 use Rattle.lock_free.specs.Queues.Calls.{view, consumer_view}
 use Rattle.lock_free.specs.Queues.Item.TheVariants.{Index}
 use Rattle.lock_free.specs.Queues.Role.TheVariants as roles
-use Rattle.lock_free.specs.Queues.Told.{HasPopped}
 use Rattle.uses_programs.specs.Rows.{HasReceived}
 use Rattle.uses_programs.proofs.Rows.{received_none, gets_one, gets_none, received_all}
 use Rattle.uses_programs.proofs.relay.receive.Goals as goal

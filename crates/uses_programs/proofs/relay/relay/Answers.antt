@@ -1,9 +1,8 @@
 use Rattle.std.proofs.Common.{refl, rules, arith, ap, subst, true, ◌≡◌, ◌≤◌, ◌+◌, ◌∙◌, length, take}
-use Rattle.std.proofs.lemmas.Grind.{common_steps}
+use Rattle.uses_programs.proofs.Names.{common_steps, first_view}
 use Rattle.lock_free.specs.Queues.Calls.{view, queue_of}
 use Rattle.lock_free.specs.Queues.Role.TheVariants as roles
 use Rattle.lock_free.specs.Queues.Told.{HasSplit}
-use Rattle.lock_free.specs.Queues.Views.{first_view}
 use Rattle.uses_programs.specs.Rows.{HasSent, HasReceived}
 use Rattle.uses_programs.proofs.Rows.{said_of_ok, came, few_left, came_where_none, came_where_some}
 use Rattle.uses_programs.proofs.relay.relay.Goals as goal

@@ -1,6 +1,5 @@
 use Rattle.std.proofs.Common.{rules, arith, refl, ◌≡◌, Ok}
-use Rattle.std.proofs.lemmas.Grind.{common_steps}
-use Rattle.std.proofs.lemmas.Result.{IfOk-at_ok}
+use Rattle.uses_programs.proofs.Names.{common_steps, IfOk-at_ok}
 use Rattle.lock_free.specs.Queues.Calls.{view, producer_view}
 use Rattle.lock_free.specs.Queues.Role.TheVariants as roles
 use Rattle.uses_programs.proofs.Rows.{sent_none, sends, sends_none, sent_all}

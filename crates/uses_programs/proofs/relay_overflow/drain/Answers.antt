@@ -1,9 +1,7 @@
 use Rattle.std.proofs.Common.{rules, arith, ap, subst, sym, ◌≡◌, ◌<◌, ◌∙◌, [], ◌∷◌, ◌++◌, append_assoc, append-nil, refl, Some, None}
-use Rattle.std.proofs.lemmas.Grind.{common_steps}
-use Rattle.std.specs.Option.{option_map}
+use Rattle.uses_programs.proofs.Names.{common_steps, option_map, HasPopped}
 use Rattle.lock_free.specs.Queues.Item.TheVariants.{Index}
 use Rattle.lock_free.specs.Queues.Overflowing.{consumer_view, consumer_queue, QueueId}
-use Rattle.lock_free.specs.Queues.Told.{HasPopped}
 use Rattle.uses_programs.proofs.TakenOut.{takes_here, takes_one, drained}
 use Rattle.uses_programs.proofs.relay_overflow.drain.Goals as goal
 

@@ -1,6 +1,5 @@
 use Rattle.std.proofs.Common.{rules, arith, ◌≡◌, ◌<◌, ◌-◌, ◌^◌, ◌∙◌, ap, subst, sym, length}
-use Rattle.std.proofs.lemmas.Grind.{common_steps}
-use Rattle.lock_free.specs.Queues.Views.{first_view}
+use Rattle.uses_programs.proofs.Names.{common_steps, first_view}
 use Rattle.lock_free.specs.Queues.Overflowing.{view, queue_of, consumer_view, consumer_queue}
 use Rattle.lock_free.specs.Queues.Role.TheVariants as roles
 use Rattle.lock_free.specs.Queues.Told.{HasSplit}

@@ -1,11 +1,8 @@
 use Rattle.std.proofs.Common.{rules, arith, ap, subst, sym, ◌≡◌, ◌<◌, [], ◌∷◌, ◌++◌, Ok, Some, None}
-use Rattle.std.proofs.lemmas.Grind.{common_steps}
-use Rattle.std.proofs.lemmas.Result.{IfOk-at_ok}
-use Rattle.std.specs.Option.{option_map}
+use Rattle.uses_programs.proofs.Names.{common_steps, IfOk-at_ok, option_map, HasPopped}
 use Rattle.lock_free.specs.Queues.Item.TheVariants.{Index}
 use Rattle.lock_free.specs.Queues.Overflowing.{view, consumer_view, consumer_queue, QueueId}
 use Rattle.lock_free.specs.Queues.Role.TheVariants as roles
-use Rattle.lock_free.specs.Queues.Told.{HasPopped}
 use Rattle.uses_programs.specs.Overflow.{HasTaken}
 use Rattle.uses_programs.proofs.TakenOut.{takes_none, takes_one, takes_nothing, takes_all}
 use Rattle.uses_programs.proofs.relay_overflow.pop_some.Goals as goal

@@ -1,6 +1,5 @@
 use Rattle.std.proofs.Common.{rules, arith, subst, sym, refl, ap, ◌≡◌, ◌+◌, ◌<◌, ◌∙◌, [], ◌∷◌, ◌++◌, take, Ok, Some, None}
-use Rattle.std.proofs.lemmas.Grind.{common_steps}
-use Rattle.std.proofs.lemmas.Result.{IfOk-at_ok}
+use Rattle.uses_programs.proofs.Names.{common_steps, IfOk-at_ok}
 use Rattle.lock_free.specs.Queues.Overflowing.{view, producer_view, producer_queue, QueueId}
 use Rattle.lock_free.specs.Queues.Role.TheVariants as roles
 use Rattle.uses_programs.specs.Overflow.{HasPushedUpTo}

@@ -1,5 +1,5 @@
 use Rattle.std.proofs.Common.{rules, arith, ◌≡◌, [], ◌∷◌, ◌++◌, sym, subst}
-use Rattle.std.proofs.lemmas.Grind.{common_steps}
+use Rattle.uses_programs.proofs.Names.{common_steps}
 use Rattle.lock_free.specs.Value.Calls.{view}
 use Rattle.uses_programs.specs.Readings.{HasRead}
 use Rattle.uses_programs.proofs.Readings.{read_more}

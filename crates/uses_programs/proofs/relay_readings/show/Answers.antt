@@ -1,7 +1,6 @@
 use Rattle.std.proofs.Common.{rules, arith, ◌≡◌}
-use Rattle.std.proofs.lemmas.Grind.{common_steps}
+use Rattle.uses_programs.proofs.Names.{common_steps, opened_view}
 use Rattle.lock_free.specs.Value.Calls.{view}
-use Rattle.lock_free.specs.Value.Opened.{opened_view}
 use Rattle.lock_free.specs.Value.Told.{HasSplit}
 use Rattle.uses_programs.specs.Readings.{HasWritten, HasRead}
 use Rattle.uses_programs.proofs.Readings.{all_seen, last_is}

@@ -1,6 +1,5 @@
 use Rattle.std.proofs.Common.{rules, arith, refl, ◌≡◌, Ok}
-use Rattle.std.proofs.lemmas.Grind.{common_steps}
-use Rattle.std.proofs.lemmas.Result.{IfOk-at_ok}
+use Rattle.uses_programs.proofs.Names.{common_steps, IfOk-at_ok}
 use Rattle.lock_free.specs.Value.Calls.{view, producer_view}
 use Rattle.uses_programs.proofs.Readings.{written_none, writes, written_all}
 use Rattle.uses_programs.proofs.relay_readings.write.Goals as goal

@@ -1,8 +1,6 @@
 use Rattle.std.proofs.Common.{rules, ◌≡◌, ℕ, ◌+◌, ◌-◌, ◌%◌, ◌^◌, ◌<◌, ◌≤◌, cond, [], length, sym, ap, subst, ◌∙◌, arith}
-use Rattle.lock_free.specs.Share.{Share}
-use Rattle.lock_free.specs.Shares.{all_shares, half_of, both_of, IsAll}
+use Rattle.uses_programs.proofs.Names.{Share, all_shares, half_of, both_of, IsAll, is_count_of, take_of, counts, takes}
 use Rattle.lock_free.specs.Counts.Calls.{history, made, share}
-use Rattle.lock_free.specs.Sums.{is_count_of, take_of, counts, takes}
 use Rattle.lock_free.proofs.Counts.Sums.{takes_within}
 use Rattle.uses_programs.specs.Tallies.{times, CountsNone, BothCount}
 use Rattle.uses_programs.proofs.Tallied.{split_twice, adds_up, fewer}

@@ -1,9 +1,7 @@
 use Rattle.std.proofs.Common.{rules, ◌≡◌, ◌==◌, ℕ, ◌+◌, ◌-◌, ◌%◌, ◌^◌, ◌≤◌, ◌<◌, false, cond, [], ◌∷◌, ◌++◌, refl, sym, ap, subst, ◌∙◌, arith}
 use Rattle.std.proofs.lemmas.Bool.Decides.{nat_tests}
-use Rattle.std.proofs.lemmas.Grind.{common_steps}
-use Rattle.lock_free.specs.Shares.{IsAll}
+use Rattle.uses_programs.proofs.Names.{common_steps, IsAll, counts, takes}
 use Rattle.lock_free.specs.Counts.Calls.{view, made}
-use Rattle.lock_free.specs.Sums.{counts, takes}
 use Rattle.lock_free.proofs.Counts.Sums.{count_adds, answers_count}
 use Rattle.uses_programs.proofs.Tallied.{read_on, push_length}
 use Rattle.uses_programs.proofs.tallies.read_counts.Goals as goal

@@ -1,6 +1,6 @@
 use Rattle.std.proofs.Common.{◌≡◌, ℕ, ◌<◌, ◌≤◌, ◌-◌, ◌%◌, ◌^◌, length, slice_index}
 use Rattle.lock_free.specs.Counts.Calls.{set_of, capacity_of, share, made}
-use Rattle.lock_free.specs.Sums.{counts, takes}
+use Rattle.uses_programs.proofs.Names.{counts, takes}
 use Rattle.uses_programs.proofs.tallies.read_counts.Given as goal
 
 abbrev pub invariant-loop-bell : goal.invariant-loop-bell

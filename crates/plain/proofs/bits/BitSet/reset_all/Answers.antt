@@ -1,5 +1,5 @@
 use Rattle.std.proofs.Common.{subst, sym}
-use Rattle.steps.specs.Objects.Places.{Places, standing}
+use Rattle.plain.proofs.Names.{Places, standing}
 use Rattle.plain.specs.Visits.{Takes, WasCalled}
 use Rattle.plain.proofs.bits.BitSet.reset_all.Given as given
 use Rattle.plain.proofs.bits.BitSet.reset_all.Goals as goal

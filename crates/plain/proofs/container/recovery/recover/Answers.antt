@@ -1,6 +1,6 @@
 use Rattle.std.specs.Prelude.{slice_set}
 use Rattle.std.proofs.Common.{refl, sym, ◌∙◌, arith}
-use Rattle.steps.specs.declared.copied.Buffer.{Buffer}
+use Rattle.plain.proofs.Names.{Buffer}
 use Rattle.plain.proofs.Elements.Recovering.{starts, can_go, ended_so, may_so, further_so}
 use Rattle.plain.proofs.container.recovery.recover.Goals as goal
 use Rattle.plain.proofs.container.recovery.recover.Given as given

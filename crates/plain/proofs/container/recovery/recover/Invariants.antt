@@ -1,6 +1,6 @@
 use Rattle.std.specs.Prelude.{slice_set}
 use Rattle.std.proofs.Common.{refl}
-use Rattle.steps.specs.declared.copied.Buffer.{Buffer}
+use Rattle.plain.proofs.Names.{Buffer}
 use Rattle.plain.proofs.Elements.Recovering.{Searching}
 use Rattle.plain.proofs.container.recovery.recover.Given as goal
 

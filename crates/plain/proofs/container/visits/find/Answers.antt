@@ -1,6 +1,6 @@
 use Rattle.std.specs.Prelude.{slice_set}
 use Rattle.std.proofs.Common.{refl, sym, ◌∙◌, arith}
-use Rattle.steps.specs.declared.copied.Buffer.{Buffer}
+use Rattle.plain.proofs.Names.{Buffer}
 use Rattle.plain.proofs.Elements.Finding.{starts, can_go, ended_so, index_small, may_so, further_so}
 use Rattle.plain.proofs.container.visits.find.Goals as goal
 use Rattle.plain.proofs.container.visits.find.Given as given

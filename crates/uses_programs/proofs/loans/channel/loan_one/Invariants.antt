@@ -1,5 +1,5 @@
 use Rattle.std.proofs.Common.{◌≡◌}
-use Rattle.lock_free.specs.Loan.Sender.{set_of_sender}
+use Rattle.uses_programs.proofs.Names.{set_of_sender}
 use Rattle.uses_programs.proofs.loans.channel.loan_one.Given as goal
 
 abbrev pub invariant-loop : goal.invariant-loop

@@ -1,5 +1,5 @@
 use Rattle.std.proofs.Common.{◌≤◌, length}
-use Rattle.std.specs.List.{All}
+use Rattle.uses_programs.proofs.Names.{All}
 use Rattle.uses_programs.specs.Records.{IsWritten}
 use Rattle.uses_programs.proofs.loans.channel.receive_records.Given as goal
 

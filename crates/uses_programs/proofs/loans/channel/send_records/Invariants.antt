@@ -1,6 +1,6 @@
 use Rattle.std.proofs.Common.{◌≡◌}
 use Rattle.lock_free.specs.UniqueIndexSet.{set_of}
-use Rattle.lock_free.specs.Loan.Sender.{set_of_sender}
+use Rattle.uses_programs.proofs.Names.{set_of_sender}
 use Rattle.uses_programs.proofs.loans.channel.send_records.Given as goal
 
 abbrev pub invariant-loop-number : goal.invariant-loop-number

@@ -1,6 +1,4 @@
-use Rattle.std.proofs.Common.{refl, sym, subst, ◌∙◌}
-use Rattle.model.specs.Families.Queues.Calls.{fresh}
-use Rattle.threaded.specs.Seats.{seen}
+use Rattle.lock_free.proofs.Names.{refl, sym, subst, ◌∙◌, fresh, seen}
 use Rattle.lock_free.specs.Sets.Kinds.{Flags}
 use Rattle.lock_free.proofs.Sets.Emptying.{keeps}
 use Rattle.lock_free.proofs.Bits.Cleared.{SoFar, first_so_far, may_visit, so_far_on, cleared_all}

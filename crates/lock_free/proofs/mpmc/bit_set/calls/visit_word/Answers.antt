@@ -1,5 +1,5 @@
-use Rattle.std.proofs.Common.{◌≡◌, ◌≢◌, ◌+◌, ◌-◌, rules, sym, ap, subst, ◌∙◌, arith}
-use Rattle.steps.specs.Bits.Words.{has_flag, bit_of}
+use Rattle.lock_free.proofs.Names.{◌≡◌, ◌≢◌, ◌+◌, ◌-◌, rules, sym, ap, subst, ◌∙◌, arith, has_flag}
+use Rattle.steps.specs.Bits.Words.{bit_of}
 use Rattle.steps.proofs.Flags.Words.{none_stands}
 use Rattle.lock_free.specs.Bits.Callable.{Visited}
 use Rattle.lock_free.proofs.Bits.Cleared.{visited_more, visited_rest}

@@ -1,5 +1,4 @@
-use Rattle.std.proofs.Common.{◌≡◌, ℕ, ◌+◌, ◌<◌, ◌≤◌}
-use Rattle.steps.specs.Bits.Words.{has_flag}
+use Rattle.lock_free.proofs.Names.{◌≡◌, ℕ, ◌+◌, ◌<◌, ◌≤◌, has_flag}
 use Rattle.lock_free.specs.Bits.Callable.{Visited}
 use Rattle.lock_free.proofs.mpmc.bit_set.calls.visit_word.Given as goal
 

@@ -1,6 +1,4 @@
-use Rattle.std.proofs.Common.{refl, sym, subst, ◌∙◌}
-use Rattle.model.specs.Families.Queues.Calls.{fresh}
-use Rattle.threaded.specs.Seats.{seen}
+use Rattle.lock_free.proofs.Names.{refl, sym, subst, ◌∙◌, fresh, seen}
 use Rattle.lock_free.specs.Sets.Kinds.{Counts}
 use Rattle.lock_free.proofs.Sets.Emptying.{keeps}
 use Rattle.lock_free.proofs.Counts.Taken.{SoFar, first_so_far, within, so_far_on, taken_all}

@@ -1,5 +1,5 @@
-use Rattle.std.proofs.Common.{◌≡◌, ◌-◌}
-use Rattle.threaded.specs.Seats.{seen, IsSame}
+use Rattle.lock_free.proofs.Names.{◌≡◌, ◌-◌, seen}
+use Rattle.threaded.specs.Seats.{IsSame}
 use Rattle.lock_free.proofs.Counts.Taken.{SoFar}
 use Rattle.lock_free.proofs.mpmc.counting_bit_set.calls.take_all.Given as goal
 

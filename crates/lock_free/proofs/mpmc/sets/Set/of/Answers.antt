@@ -1,4 +1,4 @@
-use Rattle.std.proofs.Common.{rules, arith}
+use Rattle.lock_free.proofs.Names.{rules, arith}
 use Rattle.lock_free.proofs.Sets.Opens.{opens}
 use Rattle.lock_free.proofs.mpmc.sets.Set.of.Goals as goal
 

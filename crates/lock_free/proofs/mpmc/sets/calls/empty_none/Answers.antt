@@ -1,11 +1,5 @@
-use Rattle.std.proofs.Common.{◌≡◌, ◌<◌, ℕ, [], rules, refl, sym, subst, ◌∙◌, arith}
-use Rattle.atomic_table.specs.Table.{Me, Allows}
-use Rattle.atomic_table.specs.Seated.{TableId}
-use Rattle.model.specs.Coding.{one_word}
-use Rattle.threaded.specs.Seats.{seen}
-use Rattle.history.specs.declared.view.View.{View}
-use Rattle.history.specs.History.{IsMachine}
-use Rattle.history.specs.Stages.{Ends}
+use Rattle.lock_free.proofs.Names.{◌≡◌, ◌<◌, ℕ, [], rules, refl, sym, subst, ◌∙◌, arith, Me, Allows, TableId, one_word}
+use Rattle.lock_free.proofs.Names.{seen, View, IsMachine, Ends}
 use Rattle.lock_free.specs.Sets.Kinds.{SetKind, machine_kind}
 use Rattle.lock_free.specs.Sets.Stages.{empties_none}
 use Rattle.lock_free.proofs.Ends.{done, has_made}

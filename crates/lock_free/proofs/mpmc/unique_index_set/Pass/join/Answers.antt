@@ -1,11 +1,7 @@
-use Rattle.std.proofs.Common.{◌≡◌, ◌<◌, ℕ, ◌++◌, rules, sym, ap, subst, ◌∙◌, arith}
-use Rattle.atomic_table.specs.Seated.{TableId}
-use Rattle.model.specs.Coding.{one_word}
+use Rattle.lock_free.proofs.Names.{◌≡◌, ◌<◌, ℕ, ◌++◌, rules, sym, ap, subst, ◌∙◌, arith, TableId, one_word, View}
+use Rattle.lock_free.proofs.Names.{joined_view, Looks, joins}
 use Rattle.model.specs.declared.turn.Kind.TheVariants as kinds
-use Rattle.history.specs.declared.view.View.{View}
-use Rattle.history.specs.Views.{joined_view, Looks}
 use Rattle.threaded.proofs.Shares.{positive}
-use Rattle.history.proofs.Passes.{joins}
 use Rattle.lock_free.specs.Unique.Held.{IsDone}
 use Rattle.lock_free.proofs.Looks.{look_owed}
 use Rattle.lock_free.proofs.Unique.Facts.{apart, sound}

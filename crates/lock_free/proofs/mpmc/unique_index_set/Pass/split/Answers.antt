@@ -1,10 +1,6 @@
-use Rattle.std.proofs.Common.{◌≡◌, ◌<◌, ℕ, rules, refl, sym, subst, arith}
-use Rattle.atomic_table.specs.Seated.{TableId}
-use Rattle.model.specs.Coding.{one_word}
+use Rattle.lock_free.proofs.Names.{◌≡◌, ◌<◌, ℕ, rules, refl, sym, subst, arith, TableId, one_word, View, splits}
 use Rattle.model.specs.declared.turn.Kind.TheVariants as kinds
-use Rattle.history.specs.declared.view.View.{View}
 use Rattle.history.specs.Views.{left_view}
-use Rattle.history.proofs.Passes.{splits}
 use Rattle.lock_free.specs.Unique.Held.{IsSound, IsDone}
 use Rattle.lock_free.proofs.Unique.Facts.{sound_same}
 use Rattle.lock_free.proofs.mpmc.unique_index_set.Pass.split.Goals as goal

@@ -1,4 +1,4 @@
-use Rattle.std.proofs.Common.{sym, subst}
+use Rattle.lock_free.proofs.Names.{sym, subst}
 use Rattle.lock_free.specs.Unique.Held.{HoldsNothing, HoldsSome}
 use Rattle.lock_free.specs.UniqueIndexSet.{made, view}
 use Rattle.lock_free.proofs.mpmc.unique_index_set.UniqueIndex.give_back_or_lock.Goals as goal

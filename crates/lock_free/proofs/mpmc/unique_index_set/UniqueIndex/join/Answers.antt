@@ -1,5 +1,4 @@
-use Rattle.std.proofs.Common.{ap, subst, sym, ◌∙◌}
-use Rattle.history.specs.Held.{Holds}
+use Rattle.lock_free.proofs.Names.{ap, subst, sym, ◌∙◌, Holds}
 use Rattle.lock_free.specs.UniqueIndexSet.{SetId}
 use Rattle.lock_free.proofs.Unique.Holding.{holds_joined}
 use Rattle.lock_free.proofs.mpmc.unique_index_set.UniqueIndex.join.Goals as goal

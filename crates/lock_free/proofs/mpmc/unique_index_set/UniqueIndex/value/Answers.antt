@@ -1,4 +1,4 @@
-use Rattle.std.proofs.Common.{◌<◌, subst}
+use Rattle.lock_free.proofs.Names.{◌<◌, subst}
 use Rattle.lock_free.proofs.mpmc.unique_index_set.UniqueIndex.value.Goals as goal
 
 pub returns-clause-below : goal.returns-clause-below

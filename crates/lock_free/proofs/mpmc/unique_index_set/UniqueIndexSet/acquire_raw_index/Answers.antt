@@ -1,10 +1,6 @@
-use Rattle.std.proofs.Common.{rules, ◌<◌, sym, ap, subst, ◌∙◌}
+use Rattle.lock_free.proofs.Names.{rules, ◌<◌, sym, ap, subst, ◌∙◌, one_word, seen, At, takes_index}
 use Rattle.steps.specs.Indices.Unique.{first_acquire}
-use Rattle.model.specs.Coding.{one_word}
 use Rattle.model.specs.declared.turn.Kind.TheVariants as kinds
-use Rattle.threaded.specs.Seats.{seen}
-use Rattle.history.specs.Stages.{At}
-use Rattle.history.specs.Indices.{takes_index}
 use Rattle.history.proofs.IndexCalls.{acquire_keeps, acquire_first}
 use Rattle.lock_free.specs.UniqueIndexSet.{SetId}
 use Rattle.lock_free.proofs.Unique.Facts.{taken, sound, goes_on}

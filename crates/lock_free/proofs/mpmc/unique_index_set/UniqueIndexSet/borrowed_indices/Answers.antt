@@ -1,6 +1,4 @@
-use Rattle.std.proofs.Common.{rules, ◌≤◌, ap, subst, ◌∙◌}
-use Rattle.model.specs.Coding.{one_word}
-use Rattle.threaded.specs.Seats.{seen}
+use Rattle.lock_free.proofs.Names.{rules, ◌≤◌, ap, subst, ◌∙◌, one_word, seen}
 use Rattle.history.proofs.IndexCalls.{count_keeps, count_first}
 use Rattle.lock_free.specs.UniqueIndexSet.{SetId}
 use Rattle.lock_free.proofs.Unique.Facts.{counted, sound, counted_answered, counted_most, goes_on}

@@ -1,6 +1,4 @@
-use Rattle.std.proofs.Common.{rules}
-use Rattle.model.specs.Coding.{one_word}
-use Rattle.threaded.specs.Seats.{seen}
+use Rattle.lock_free.proofs.Names.{rules, one_word, seen}
 use Rattle.history.proofs.IndexCalls.{look_keeps, look_first}
 use Rattle.lock_free.proofs.Unique.Facts.{looked, sound, looked_answered, goes_on}
 use Rattle.lock_free.proofs.Unique.Whole.{looked_done, looked_nothing, looked_unlocked}

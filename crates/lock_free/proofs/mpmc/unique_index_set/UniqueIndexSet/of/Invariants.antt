@@ -1,5 +1,4 @@
-use Rattle.std.proofs.Common.{◌≡◌, ◌∷◌, ◌+◌, ◌≤◌}
-use Rattle.std.specs.List.{range_with_len}
+use Rattle.lock_free.proofs.Names.{◌≡◌, ◌∷◌, ◌+◌, ◌≤◌, range_with_len}
 use Rattle.std.specs.Prelude.{vec_len, vec_capacity}
 use Rattle.lock_free.proofs.mpmc.unique_index_set.UniqueIndexSet.of.Given as goal
 

@@ -1,10 +1,5 @@
-use Rattle.std.proofs.Common.{rules, sym, ap, subst, ◌∙◌}
-use Rattle.steps.specs.Indices.Unique.{first_release}
-use Rattle.model.specs.Coding.{one_word}
+use Rattle.lock_free.proofs.Names.{rules, sym, ap, subst, ◌∙◌, first_release, one_word, seen, At, gives_index}
 use Rattle.model.specs.declared.turn.Kind.TheVariants as kinds
-use Rattle.threaded.specs.Seats.{seen}
-use Rattle.history.specs.Stages.{At}
-use Rattle.history.specs.Indices.{gives_index}
 use Rattle.history.proofs.IndexCalls.{release_keeps, release_first}
 use Rattle.lock_free.specs.UniqueIndexSet.{SetId}
 use Rattle.lock_free.proofs.Unique.Facts.{given, sound, unlocked, goes_on}

@@ -1,4 +1,4 @@
-use Rattle.std.proofs.Common.{ap, sym, ◌∙◌}
+use Rattle.lock_free.proofs.Names.{ap, sym, ◌∙◌}
 use Rattle.lock_free.specs.UniqueIndexSet.{SetId}
 use Rattle.lock_free.specs.Loan.Places.{is_out}
 use Rattle.lock_free.proofs.Loan.Books.{out_held, is_freed}

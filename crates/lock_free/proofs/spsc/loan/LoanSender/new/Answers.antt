@@ -1,4 +1,5 @@
-use Rattle.std.proofs.Common.{◌≡◌, replicate, rules, subst, sym, ◌∙◌}
+use Rattle.lock_free.proofs.Names.{◌≡◌, rules, subst, sym, ◌∙◌}
+use Rattle.std.proofs.Common.{replicate}
 use Rattle.lock_free.specs.UniqueIndexSet.{view}
 use Rattle.lock_free.specs.declared.spsc.loan.places.Place.TheVariants.{Free}
 use Rattle.lock_free.specs.Loan.Places.{IsBookOf}

@@ -1,4 +1,4 @@
-use Rattle.std.proofs.Common.{rules, arith, ap, sym, ◌∙◌, ◌<◌, ◌≡◌, true, false, length}
+use Rattle.lock_free.proofs.Names.{rules, arith, ap, sym, ◌∙◌, ◌<◌, ◌≡◌, true, false, length}
 use Rattle.lock_free.specs.Loan.Places.{is_sent, place_at}
 use Rattle.lock_free.specs.Loan.Sender.{places_of}
 use Rattle.lock_free.proofs.Loan.Books.{sent_step, other_step}

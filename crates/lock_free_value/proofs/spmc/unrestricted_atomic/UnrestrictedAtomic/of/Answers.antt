@@ -1,7 +1,5 @@
 use Rattle.std.proofs.Common.{rules, ◌≡◌, ◌<◌, ◌+◌, ◌*◌, length, replicate, slice_set, refl, sym, ap, subst, ◌∙◌, arith}
-use Rattle.model.specs.Coding.{Coding, IsCoding, coding_of}
-use Rattle.laws_value.specs.Stored.{stored}
-use Rattle.history.specs.declared.view.View.{View}
+use Rattle.lock_free_value.proofs.Names.{Coding, IsCoding, coding_of, stored, View}
 use Rattle.history.specs.ValueOpened.{first_stores, opened_view}
 use Rattle.history.proofs.ValueOpened.{value_opens}
 use Rattle.lock_free_value.specs.Roles.{LacksProducer}

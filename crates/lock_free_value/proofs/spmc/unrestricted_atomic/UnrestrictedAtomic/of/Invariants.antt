@@ -1,5 +1,5 @@
 use Rattle.std.proofs.Common.{◌≡◌, ◌+◌}
-use Rattle.model.specs.Coding.{coding_of}
+use Rattle.lock_free_value.proofs.Names.{coding_of}
 use Rattle.lock_free_value.proofs.Opens.{filling}
 use Rattle.lock_free_value.proofs.spmc.unrestricted_atomic.UnrestrictedAtomic.of.Given as goal
 

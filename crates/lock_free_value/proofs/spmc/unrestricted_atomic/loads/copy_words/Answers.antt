@@ -1,9 +1,7 @@
 use Rattle.std.proofs.Common.{◌∙◌, subst}
-use Rattle.steps.specs.Atomic.{at_load, first_load}
-use Rattle.steps.specs.declared.ask.After.{After}
+use Rattle.lock_free_value.proofs.Names.{at_load, first_load, After, Coding, coding_of}
 use Rattle.steps.specs.declared.atomic.Load.{Load}
 use Rattle.steps.specs.declared.atomic.LoadStage.{LoadStage}
-use Rattle.model.specs.Coding.{Coding, coding_of}
 use Rattle.threaded.specs.Seats.{seen}
 use Rattle.lock_free_value.specs.Loads.{LoadAt, LoadNext}
 use Rattle.lock_free_value.proofs.spmc.unrestricted_atomic.loads.copy_words.Goals as goal

@@ -1,8 +1,6 @@
 use Rattle.std.proofs.Common.{◌-◌}
-use Rattle.steps.specs.Atomic.{at_load, first_load}
+use Rattle.lock_free_value.proofs.Names.{at_load, first_load, coding_of, View}
 use Rattle.steps.specs.declared.atomic.LoadStage.TheVariants as stages
-use Rattle.model.specs.Coding.{coding_of}
-use Rattle.history.specs.declared.view.View.{View}
 use Rattle.threaded.specs.Seats.{seen, IsSame}
 use Rattle.lock_free_value.specs.Loads.{IsBoard, LoadAt}
 use Rattle.lock_free_value.proofs.spmc.unrestricted_atomic.loads.copy_words.Given as goal

@@ -1,7 +1,6 @@
 use Rattle.std.proofs.Common.{◌∙◌, subst}
-use Rattle.steps.specs.declared.ask.After.{After}
+use Rattle.lock_free_value.proofs.Names.{After, Coding, coding_of}
 use Rattle.steps.specs.declared.atomic.Load.{Load}
-use Rattle.model.specs.Coding.{Coding, coding_of}
 use Rattle.threaded.specs.Seats.{seen}
 use Rattle.lock_free_value.specs.Loads.{LoadNext}
 use Rattle.lock_free_value.proofs.spmc.unrestricted_atomic.loads.load_all.Goals as goal

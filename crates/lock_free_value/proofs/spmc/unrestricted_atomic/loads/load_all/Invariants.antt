@@ -1,4 +1,4 @@
-use Rattle.model.specs.Coding.{coding_of}
+use Rattle.lock_free_value.proofs.Names.{coding_of}
 use Rattle.threaded.specs.Seats.{seen, IsSame}
 use Rattle.lock_free_value.specs.Loads.{IsBoard, LoadAt}
 use Rattle.lock_free_value.proofs.spmc.unrestricted_atomic.loads.load_all.Given as goal

@@ -1,4 +1,4 @@
-use Rattle.model.specs.Coding.{Coding, IsCoding, coding_of}
+use Rattle.lock_free_value.proofs.Names.{Coding, IsCoding, coding_of}
 use Rattle.history.proofs.ValueCalls.{load_keeps_rule}
 use Rattle.lock_free_value.proofs.spmc.unrestricted_atomic.loads.step_load.Goals as goal
 

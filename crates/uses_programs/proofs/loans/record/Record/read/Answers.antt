@@ -1,5 +1,5 @@
 use Rattle.std.proofs.Common.{arith, add-one, replicate, slice_index_or, ℕ, List, ◌≡◌, ◌+◌, ◌*◌, ◌<◌, ◌≤◌, ap, sym, ◌∙◌}
-use Rattle.std.proofs.lemmas.Grind.{common_steps}
+use Rattle.uses_programs.proofs.Names.{common_steps}
 use Rattle.std.proofs.Math.Nat.{suc-mul}
 use Rattle.std.proofs.lemmas.List.{get_or-replicate}
 use Rattle.uses_programs.proofs.loans.record.Record.read.Goals as goal

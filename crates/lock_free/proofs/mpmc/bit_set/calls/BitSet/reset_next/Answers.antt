@@ -1,9 +1,6 @@
-use Rattle.std.proofs.Common.{refl, sym, subst, ap, ◌∙◌}
+use Rattle.lock_free.proofs.Names.{refl, sym, subst, ap, ◌∙◌, one_word, seen, At}
 use Rattle.steps.specs.Bits.BitSet.{first_reset}
-use Rattle.model.specs.Coding.{one_word}
 use Rattle.model.specs.declared.turn.Kind.TheVariants as kinds
-use Rattle.threaded.specs.Seats.{seen}
-use Rattle.history.specs.Stages.{At}
 use Rattle.lock_free.specs.Bits.Stages.{resets_next}
 use Rattle.lock_free.specs.Sets.Calls.{SetId}
 use Rattle.lock_free.specs.Bits.Told.{AllClearOnce}

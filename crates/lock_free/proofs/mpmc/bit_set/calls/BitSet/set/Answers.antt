@@ -1,9 +1,5 @@
-use Rattle.std.proofs.Common.{rules, ◌<◌, refl, sym, ap, subst, ◌∙◌}
-use Rattle.model.specs.Coding.{one_word}
+use Rattle.lock_free.proofs.Names.{rules, ◌<◌, refl, sym, ap, subst, ◌∙◌, one_word, seen, IsHistory, At}
 use Rattle.model.specs.declared.turn.Kind.TheVariants as kinds
-use Rattle.threaded.specs.Seats.{seen}
-use Rattle.history.specs.History.{IsHistory}
-use Rattle.history.specs.Stages.{At}
 use Rattle.lock_free.specs.Bits.Stages.{sets_place}
 use Rattle.lock_free.specs.Sets.Calls.{SetId}
 use Rattle.lock_free.specs.Bits.Told.{HasSet}

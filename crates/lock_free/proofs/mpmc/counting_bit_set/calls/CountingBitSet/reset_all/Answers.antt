@@ -1,5 +1,4 @@
-use Rattle.std.proofs.Common.{rules, [], sym, ap, subst}
-use Rattle.threaded.specs.Seats.{seen}
+use Rattle.lock_free.proofs.Names.{rules, [], sym, ap, subst, seen}
 use Rattle.lock_free.specs.Sets.Calls.{SetId}
 use Rattle.lock_free.specs.Counts.Told.{HasTakenOut, MissedNoCount}
 use Rattle.lock_free.proofs.Counts.Handed.{takes_counts_at}

@@ -1,8 +1,5 @@
-use Rattle.std.proofs.Common.{rules, ◌<◌, refl, sym, ap, subst, ◌∙◌}
-use Rattle.model.specs.Coding.{one_word}
+use Rattle.lock_free.proofs.Names.{rules, ◌<◌, refl, sym, ap, subst, ◌∙◌, one_word, seen, IsHistory}
 use Rattle.model.specs.declared.turn.Kind.TheVariants as kinds
-use Rattle.threaded.specs.Seats.{seen}
-use Rattle.history.specs.History.{IsHistory}
 use Rattle.lock_free.specs.Sets.Calls.{SetId}
 use Rattle.lock_free.specs.Counts.Told.{HasCounted, AnswersCount}
 use Rattle.lock_free.proofs.Counts.Counting.{count_keeps, count_first, counted, answers}

@@ -1,9 +1,5 @@
-use Rattle.std.proofs.Common.{◌≡◌, ◌<◌, rules, sym, ap, subst, ◌∙◌, arith}
-use Rattle.atomic_table.specs.Seated.{TableId}
-use Rattle.model.specs.Coding.{one_word}
+use Rattle.lock_free.proofs.Names.{◌≡◌, ◌<◌, rules, sym, ap, subst, ◌∙◌, arith, TableId, one_word, joined_view, joins}
 use Rattle.threaded.proofs.Shares.{positive}
-use Rattle.history.specs.Views.{joined_view}
-use Rattle.history.proofs.Passes.{joins}
 use Rattle.lock_free.specs.Sets.Kinds.{machine_kind}
 use Rattle.lock_free.proofs.Looks.{look_owed}
 use Rattle.lock_free.proofs.mpmc.sets.passes.Held+E+u64+SetRule+E.join.Goals as goal

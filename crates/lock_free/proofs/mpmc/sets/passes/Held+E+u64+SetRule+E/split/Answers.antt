@@ -1,7 +1,4 @@
-use Rattle.std.proofs.Common.{◌≡◌, ◌<◌, rules, subst, arith}
-use Rattle.atomic_table.specs.Seated.{TableId}
-use Rattle.model.specs.Coding.{one_word}
-use Rattle.history.proofs.Passes.{splits}
+use Rattle.lock_free.proofs.Names.{◌≡◌, ◌<◌, rules, subst, arith, TableId, one_word, splits}
 use Rattle.lock_free.specs.Sets.Kinds.{machine_kind}
 use Rattle.lock_free.proofs.mpmc.sets.passes.Held+E+u64+SetRule+E.split.Goals as goal
 

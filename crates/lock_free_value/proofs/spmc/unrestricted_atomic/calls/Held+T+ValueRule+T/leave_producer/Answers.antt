@@ -1,4 +1,4 @@
-use Rattle.model.specs.Coding.{coding_of}
+use Rattle.lock_free_value.proofs.Names.{coding_of}
 use Rattle.lock_free_value.specs.Calls.{seen}
 use Rattle.history.proofs.ValueCalls.{release_keeps, release_first}
 use Rattle.lock_free_value.proofs.Facts.{released}

@@ -1,8 +1,7 @@
 use Rattle.std.proofs.Common.{rules, sym, ◌∙◌, subst}
 use Rattle.model.specs.declared.turn.Kind.TheVariants as kinds
-use Rattle.model.specs.Coding.{Coding, IsCoding, coding_of}
+use Rattle.lock_free_value.proofs.Names.{Coding, IsCoding, coding_of, stores_value}
 use Rattle.history.specs.Stages.{At}
-use Rattle.history.specs.Value.{stores_value}
 use Rattle.history.proofs.ValueCalls.{store_keeps, store_first}
 use Rattle.lock_free_value.specs.Calls.{seen}
 use Rattle.lock_free_value.proofs.Facts.{leaves, stored_if, at_end_if}

@@ -1,4 +1,4 @@
-use Rattle.model.specs.Coding.{coding_of}
+use Rattle.lock_free_value.proofs.Names.{coding_of}
 use Rattle.lock_free_value.specs.Calls.{seen}
 use Rattle.history.proofs.ValueCalls.{acquire_keeps, acquire_first}
 use Rattle.lock_free_value.proofs.spmc.unrestricted_atomic.calls.Held+T+ValueRule+T.take_producer.Goals as goal

@@ -1,5 +1,5 @@
 use Rattle.std.proofs.Common.{ap, sym, subst, ◌∙◌}
-use Rattle.model.specs.Coding.{Coding, IsCoding, coding_of}
+use Rattle.lock_free_value.proofs.Names.{Coding, IsCoding, coding_of}
 use Rattle.history.specs.Rooms.{room_of}
 use Rattle.history.proofs.Rooms.{room_fresh}
 use Rattle.history.proofs.ValueCalls.{load_first}

@@ -1,12 +1,6 @@
 use Rattle.std.proofs.Common.{rules, ◌≡◌, ◌<◌, ℕ, [], sym, subst, arith}
-use Rattle.atomic_table.specs.Seated.{TableId}
-use Rattle.atomic_table.specs.Table.{Me, Allows}
+use Rattle.lock_free_value.proofs.Names.{TableId, Me, Allows, Coding, coding_of, View, IsMachine, Looks, looks}
 use Rattle.model.specs.declared.turn.Kind.TheVariants as kinds
-use Rattle.model.specs.Coding.{Coding, coding_of}
-use Rattle.history.specs.declared.view.View.{View}
-use Rattle.history.specs.History.{IsMachine}
-use Rattle.history.specs.Views.{Looks}
-use Rattle.history.proofs.PassLooks.{looks}
 use Rattle.lock_free_value.proofs.spmc.unrestricted_atomic.passes.Held+T+ValueRule+T.look.Goals as goal
 
 -- what a look owes, where the seat knows this

@@ -1,7 +1,6 @@
 use Rattle.std.proofs.Common.{◌≡◌, ◌<◌, rules, subst, arith}
-use Rattle.atomic_table.specs.Seated.{TableId}
+use Rattle.lock_free_value.proofs.Names.{TableId, coding_of}
 use Rattle.model.specs.declared.turn.Kind.TheVariants as kinds
-use Rattle.model.specs.Coding.{coding_of}
 use Rattle.history.proofs.Passes.{splits}
 use Rattle.lock_free_value.proofs.spmc.unrestricted_atomic.passes.Held+T+ValueRule+T.split.Goals as goal
 
