@@ -1,7 +1,6 @@
 -- What a turn that is taken has passed, on a machine whose owners die or in an open run.
 use Rattle.laws_container.proofs.Names.{◌≡◌, true, None, arith, Turn, Next, Decide, is_due, call_refusal, World}
 use Rattle.laws_container.proofs.Names.{flight_in, must_be_due, open_refusal}
-use Rattle.model.proofs.Frame as frame
 
 module _ {T : Type 0} where
   abbrev pub IsAllowed : World T → Turn T → Type 0

@@ -1,5 +1,5 @@
 -- A call that was alone, by the events: it was so a turn ago, and no other party has a call under way.
-use Rattle.laws_container.proofs.Names.{◌≡◌, ◌≢◌, ℕ, if◌then◌else◌, true, false, Option, Some, List, [], ◌∷◌}
+use Rattle.laws_container.proofs.Names.{◌≡◌, ◌≢◌, ℕ, true, false, Option, Some, List, [], ◌∷◌}
 use Rattle.laws_container.proofs.Names.{◌++◌, fold, refl, sym, ap, subst, ◌∙◌, append_assoc, arith, eq-eqb, ne_eqb}
 use Rattle.laws_container.proofs.Names.{nat_tests, append_cancel_left, fold-append, AllByRecursion, Event, Begun}
 use Rattle.laws_container.proofs.Names.{IsOwnOrDeath, WasAlone, BeginsNone, Span, Never, whose, is_party}

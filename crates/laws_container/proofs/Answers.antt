@@ -4,7 +4,6 @@ use Rattle.laws_container.proofs.Names.{inl, inr, ℕ, List, ReleaseMode}
 use Rattle.laws_container.proofs.Names.{Event, AsksRight}
 use Rattle.laws_container.proofs.Names.{FreedRight, RecoversRight, AnswersRight, FilledSinceEach, Each, Span}
 use Rattle.laws_container.proofs.Names.{GoneBy, Death, IsHonestBy, honest_less}
-use Rattle.steps.specs.declared.container.enums.ContainerAddFailure.TheVariants as failures
 use Rattle.laws_container.specs.Gone.{AsksBy, FreedBy, RecoversBy, FilledSinceEachBy, AnswersBy}
 
 module _ {T : Type 0} where

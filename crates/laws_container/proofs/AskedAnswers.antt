@@ -10,7 +10,6 @@ use Rattle.laws_container.proofs.Names.{acts_of, state_of, effects, questions, I
 use Rattle.laws_container.proofs.Names.{number_of, ending_of, events_of, after_turn, Trace, both_ways}
 use Rattle.laws_container.proofs.Names.{raise_asks_none, lock_asks_none}
 use Rattle.steps.specs.declared.container.find.FindStage as finds
-use Rattle.steps.specs.declared.container.recover.RecoverStage as recovers
 use Rattle.steps.specs.declared.copied.Buffer as buffers
 use Rattle.model.specs.declared.families.Flight as flights
 use Rattle.model.specs.declared.families.container.ContainerStart as starts

@@ -6,7 +6,6 @@ use Rattle.laws_container.proofs.Names.{acts_of, state_of, effects, questions, s
 use Rattle.laws_container.proofs.Names.{events_of, after_turn, Trace, no_more}
 use Rattle.steps.specs.declared.copied.Buffer as buffers
 use Rattle.model.specs.declared.families.container.ContainerStart.TheVariants as starts
-use Rattle.model.specs.declared.families.container.calls.ContainerFlight.TheVariants.{Find}
 use Rattle.model.proofs.Frame as frame
 use Rattle.laws_container.proofs.AskedTurn.{GoesOn, IsCalm, IsGoing, any_turn}
 use Rattle.laws_container.proofs.Invariant.{family_by}

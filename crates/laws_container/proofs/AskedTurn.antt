@@ -1,7 +1,7 @@
 -- A turn in which a call of the container goes on: what it writes, and what its party asks about then. Another party asks about
 -- what it did, and so does each party after a begin or a death.
 use Rattle.std.proofs.Common.{arith}
-use Rattle.laws_container.proofs.Names.{◌≡◌, ◌≢◌, ℕ, ◌+◌, ◌⊎◌, ⊎_elim, inl, inr, Bool, true, false, Option, Some}
+use Rattle.laws_container.proofs.Names.{◌≡◌, ◌≢◌, ℕ, ◌⊎◌, ⊎_elim, inl, inr, Bool, true, false, Option, Some}
 use Rattle.laws_container.proofs.Names.{None, is_none, List, [], ◌∷◌, ◌++◌, refl, sym, ap, subst, ◌∙◌, AllByRecursion}
 use Rattle.laws_container.proofs.Names.{cases_eq, After, Answer, Event, Begun, Died, Finished, Start, Container}
 use Rattle.laws_container.proofs.Names.{Flight, Registry, ContainerStart, ContainerFlight, Doing, Going, Over, Party}

@@ -4,12 +4,9 @@ use Rattle.laws_container.proofs.Names.{LookStage, RecoverStage, RemoveStage, Re
 use Rattle.laws_container.proofs.Names.{LockIfLastIndex, Lock, Start, Container, Flight}
 use Rattle.laws_container.proofs.Names.{ContainerStart, ContainerFlight, Coding, most_steps}
 use Rattle.laws_container.proofs.Names.{place_of, most, Act, SetAct, times_below, lock_number, LockAt}
-use Rattle.steps.specs.declared.container.find.FindStage as finds
 use Rattle.steps.specs.declared.container.look.LookStage as looks
 use Rattle.model.specs.declared.families.Flight as flights
 use Rattle.model.specs.declared.families.container.ContainerStart as starts
-use Rattle.model.specs.declared.families.container.calls.ContainerFlight.TheVariants.{Remove}
-use Rattle.model.specs.declared.families.container.calls.ContainerFlight.TheVariants.{Recover}
 use Rattle.model.proofs.Frame as frame
 use Rattle.laws_robust.proofs.Kept.{count_most, lock_most}
 use Rattle.laws_container.proofs.Invariant.{ContainerNow, family}

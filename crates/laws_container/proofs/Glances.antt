@@ -1,6 +1,6 @@
 -- What a look makes of its party's state at an index, and what is so of the state then: it keeps the number that it finds, and a
 -- value once its copy is whole. Here the machine stands still.
-use Rattle.laws_container.proofs.Names.{◌≡◌, ◌≢◌, ◌⊎◌, ⊎_elim, inl, inr, ℕ, zero, suc, ◌+◌, ◌<◌, ◌≤◌, if◌then◌else◌}
+use Rattle.laws_container.proofs.Names.{◌≡◌, ◌≢◌, ◌⊎◌, ⊎_elim, inl, inr, ℕ, zero, suc, ◌+◌, ◌<◌, ◌≤◌}
 use Rattle.laws_container.proofs.Names.{true, false, Option, Some, None, List, [], ◌∷◌, length, get_or, set}
 use Rattle.laws_container.proofs.Names.{slice_get, slice_index_or, refl, sym, ap, subst, ◌∙◌, arith, get_or-set_same}
 use Rattle.laws_container.proofs.Names.{get_or-set_other, cases_eq, cases_lt, length-set, slice_get-get_or}

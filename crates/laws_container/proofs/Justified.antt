@@ -8,7 +8,6 @@ use Rattle.laws_container.proofs.Names.{promise_of, IsParty, WritesInOrder, refu
 use Rattle.laws_container.proofs.Names.{step_in, events_of_step, ending_of, after_turn, Trace, passes, Orders, Keeps}
 use Rattle.laws_container.proofs.Names.{ends_end, turn_is, stands_there}
 use Rattle.model.specs.declared.families.Flight as flights
-use Rattle.model.specs.declared.families.Registry as registries
 use Rattle.model.specs.declared.turn.Kind as kinds
 use Rattle.model.proofs.Frame as frame
 use Rattle.laws_container.proofs.Allowed.{allowed_by}

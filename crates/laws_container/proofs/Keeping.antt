@@ -14,7 +14,6 @@ use Rattle.steps.specs.declared.container.find.FindStage as finds
 use Rattle.steps.specs.declared.container.remove.RemoveStage as removes
 use Rattle.steps.specs.declared.container.replace.ReplaceStage as replaces
 use Rattle.steps.specs.declared.copied.Buffer as buffers
-use Rattle.steps.specs.declared.indices.enums.ReleaseState as states
 use Rattle.steps.specs.declared.indices.robust.release.ReleaseStage as releases
 use Rattle.laws_robust.proofs.Knows as set
 use Rattle.laws_container.proofs.HiddenKnows.{no_index}

@@ -5,8 +5,6 @@ use Rattle.laws_container.proofs.Names.{append-nil, arith, ReleaseMode, LockIfLa
 use Rattle.laws_container.proofs.Names.{UnlockedAtLast, is_locked, IsFilled, FilledSinceFreed, Frees}
 use Rattle.laws_container.proofs.Names.{set_acts_of, IsOneOf, BeginsNone, HeldSometime, held_later, held_so, no_more}
 use Rattle.laws_container.proofs.Names.{LockSays}
-use Rattle.steps.specs.declared.indices.robust.parts.Count as counts
-use Rattle.steps.specs.declared.indices.robust.parts.Lock as locks
 use Rattle.laws_container.specs.Gone.{FilledSinceEachBy}
 
 abbrev pub NoIndex : ℕ → Type 0

@@ -16,7 +16,6 @@ use Rattle.steps.specs.declared.container.look.Look.{Look}
 use Rattle.steps.specs.declared.container.look.LookStage as stages
 use Rattle.model.specs.declared.families.Flight as flights
 use Rattle.model.specs.declared.families.Registry as registries
-use Rattle.model.specs.declared.families.container.calls.ContainerFlight as calls
 use Rattle.model.specs.declared.families.loan.LoanStart.{LoanStart}
 use Rattle.model.proofs.Frame as frame
 use Rattle.laws_container.proofs.Invariant.{family_by}

@@ -7,7 +7,6 @@ use Rattle.laws_container.proofs.Names.{after, BeganUnlocked, VisitsRight, Visit
 use Rattle.laws_container.proofs.Names.{questions, party_of, IsEffectOf, old_of, number_of, ask_of_doing}
 use Rattle.laws_container.proofs.Names.{events_of_step, events_of_answer, events_of_next, events_of_decision}
 use Rattle.laws_container.proofs.Names.{events_of, ending_of, after_turn, Trace, StandsThere}
-use Rattle.model.specs.declared.families.Flight as flights
 use Rattle.model.proofs.Frame as frame
 use Rattle.laws_container.proofs.Invariant.{family_by}
 use Rattle.laws_container.proofs.Sound.{MayGoOn, Shown as AllShown, kept_now, IsThere, is_there}

@@ -12,7 +12,6 @@ use Rattle.laws_container.proofs.Names.{flight_of, span_of, IsShut, answer_in, o
 use Rattle.laws_container.proofs.Names.{through_less, through_now, through_so, since_less}
 use Rattle.steps.specs.declared.ask.After.TheVariants.{Done}
 use Rattle.steps.specs.declared.container.look.Look.{Look}
-use Rattle.model.specs.declared.families.container.calls.LookOf as kinds
 use Rattle.laws_container.proofs.Alone.{alone_less, others_shut}
 use Rattle.laws_container.proofs.Announced.{announced_through}
 use Rattle.laws_container.proofs.Invariant.{Scene, Inv, before, after, wrote_of}

@@ -1,8 +1,8 @@
 -- How a recovery of a container ends: the second look at the counter, and the count of the change.
 use Rattle.laws_container.proofs.Names.{◌≡◌, ◌≢◌, ⊎_elim, ℕ, ◌+◌, ◌*◌, ◌<◌, ◌≤◌, ◌==◌, if◌then◌else◌, Bool, false}
 use Rattle.laws_container.proofs.Names.{true, Option, Some, None, List, [], ◌∷◌, refl, sym, subst, append-nil, arith}
-use Rattle.laws_container.proofs.Names.{cases_lt, nat_tests, Ask, RecoverStage, ReleaseMode, ReleaseState, Lock}
-use Rattle.laws_container.proofs.Names.{Raise, change_word, recover_ends, empty, locked, greatest, Finished}
+use Rattle.laws_container.proofs.Names.{cases_lt, nat_tests, Ask, RecoverStage, ReleaseMode, ReleaseState}
+use Rattle.laws_container.proofs.Names.{change_word, recover_ends, empty, locked, greatest, Finished}
 use Rattle.laws_container.proofs.Names.{Container, UnlockedAtLast, is_locked, IsUnlocked, StillToFree, filled_of}
 use Rattle.laws_container.proofs.Names.{set_acts_of, words_after, held_now, is_gone, counter_of, some_none, is_shut}
 use Rattle.laws_container.proofs.Names.{unlocked, quiet_end, IsWorn, worn_on, none_beyond, through_now, loads_same}

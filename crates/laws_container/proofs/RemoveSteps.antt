@@ -1,7 +1,7 @@
 -- A remove loads the number that it hides; and any step of one.
 use Rattle.laws_container.proofs.Names.{◌≡◌, inl, ℕ, ◌+◌, ◌<◌, ◌≤◌, false, Option, Some, None, List, [], ◌∷◌, refl}
 use Rattle.laws_container.proofs.Names.{sym, ap, subst, arith, Ask, ContainerHandleNotOwnedByContainer, RemoveStage}
-use Rattle.laws_container.proofs.Names.{ReleaseMode, ReleaseStage, count_word, empty, Finished, Container}
+use Rattle.laws_container.proofs.Names.{ReleaseMode, count_word, empty, Finished, Container}
 use Rattle.laws_container.proofs.Names.{ContainerStart, ContainerFlight, place_of, words_after, loads_same}
 use Rattle.laws_container.proofs.Names.{release_at}
 use Rattle.steps.specs.declared.ask.After.TheVariants.{Done}

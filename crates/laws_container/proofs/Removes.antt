@@ -9,7 +9,7 @@ use Rattle.laws_container.proofs.Names.{at_remove, remove_released, cell_word, e
 use Rattle.laws_container.proofs.Names.{Answer, Event, FreedOf, Locked, Finished, Container, ContainerStart}
 use Rattle.laws_container.proofs.Names.{ContainerFlight, Party, place_of, removed, promise, Act, contents_after}
 use Rattle.laws_container.proofs.Names.{HasDone, locked_after, is_locked, LivesToRelease}
-use Rattle.laws_container.proofs.Names.{SetAct, Frees, Locks, set_acts, filled_of, holder_of, settled_of, IsOneOf}
+use Rattle.laws_container.proofs.Names.{SetAct, Frees, Locks, filled_of, holder_of, settled_of, IsOneOf}
 use Rattle.laws_container.proofs.Names.{as_it_is, SinceBegin, put, Stands, Open, span_of, as_call, words_after}
 use Rattle.laws_container.proofs.Names.{step_count, held_now, AllFollow, no_more, GoneBy, Word, is_gone}
 use Rattle.laws_container.proofs.Names.{GivesBackRight, IsHonest, IsCalm, lives_freed, counter_of, was_one}

@@ -17,7 +17,6 @@ use Rattle.model.specs.declared.families.Registry as registries
 use Rattle.model.specs.declared.families.container.ContainerStart as starts
 use Rattle.model.specs.declared.turn.Kind as kinds
 use Rattle.model.specs.Families as families
-use Rattle.model.specs.Families.Container.Calls as rows
 use Rattle.model.proofs.Frame as frame
 use Rattle.laws_robust.proofs.Invariant as set
 use Rattle.laws_container.proofs.Invariant.{ContainerNow, Scene, Represents, Inv, Elements, Does, Shows, Knowing}

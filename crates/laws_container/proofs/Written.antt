@@ -3,7 +3,6 @@ use Rattle.laws_container.proofs.Names.{ℕ, if◌then◌else◌, Bool, true, fa
 use Rattle.laws_container.proofs.Names.{AllByRecursion, DeadOwner, RecoverStage, ContainerState, Event}
 use Rattle.laws_container.proofs.Names.{ContainerFlight, Turn, Coding, effects, question_of, questions, IsParty}
 use Rattle.laws_container.proofs.Names.{IsEffectOf}
-use Rattle.steps.specs.declared.container.recover.RecoverStage as recovers
 use Rattle.model.specs.declared.families.container.calls.ContainerFlight.TheVariants.{Recover}
 
 module _ {T : Type 0} (turn : Turn T) (p : ℕ) (mine : IsParty turn p) where

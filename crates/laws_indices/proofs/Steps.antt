@@ -1,7 +1,7 @@
 -- What each step of a call of the set shows, and each begin of one.
 use Rattle.std.proofs.Common.{◌≡◌, ℕ, ◌≤◌, Option, Some, None, List, refl, sym, subst, arith}
 use Rattle.laws_indices.proofs.Names.{LockIfLastIndex, Default, AcquireStage, ReleaseStage, Start, Indices, Flight}
-use Rattle.laws_indices.proofs.Names.{Registry, IndexStart, IndexFlight, Party, Coding, party_of, Trace, Scene, Inv}
+use Rattle.laws_indices.proofs.Names.{IndexStart, IndexFlight, Party, Coding, party_of, Trace, Scene, Inv}
 use Rattle.model.specs.declared.families.Flight as flights
 use Rattle.model.specs.declared.families.Registry as registries
 use Rattle.model.specs.declared.families.indices.IndexStart as starts

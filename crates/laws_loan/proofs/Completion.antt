@@ -6,7 +6,6 @@ use Rattle.laws_loan.proofs.Names.{Holds, filled, taken, fills, one_filled, fron
 use Rattle.std.proofs.Common.{arith}
 use Rattle.steps.specs.declared.queues.ring.PushStage as pushes
 use Rattle.steps.specs.Queues.Ring.{cell_word, push_takes, word_at}
-use Rattle.laws_queues.proofs.Queues.Core as core
 use Rattle.laws_queues.proofs.Queues.Core.{Good, published, publishes, takes}
 use Rattle.laws_loan.proofs.Channel.{no_roles}
 

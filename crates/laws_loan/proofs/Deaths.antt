@@ -6,8 +6,6 @@ use Rattle.laws_loan.proofs.Names.{Coding, kept_after_death, has_died, dead_with
 use Rattle.laws_loan.proofs.Names.{AnswersRight, spot_of, receiver_after, receiver_of, died_after, has_died_by}
 use Rattle.laws_loan.proofs.Names.{reclaims_after, Trace, Each-append, span_of-death, MayDie}
 use Rattle.std.proofs.Common.{arith}
-use Rattle.model.specs.declared.event.Start.TheVariants as starts
-use Rattle.model.specs.declared.families.Flight as flights
 use Rattle.model.proofs.Dead.{died_now, died_before}
 use Rattle.model.proofs.Frame as frame
 use Rattle.laws_loan.proofs.Channel.{Channel, Represents, Holds}

@@ -11,7 +11,6 @@ use Rattle.std.proofs.Common.{arith}
 use Rattle.steps.specs.declared.queues.ring.PopStage.{PopStage}
 use Rattle.model.specs.declared.event.Start.TheVariants as starts
 use Rattle.model.proofs.Frame as frame
-use Rattle.laws_indices.proofs.Core as indices
 use Rattle.laws_queues.proofs.Queues.Core.{Good}
 use Rattle.laws_loan.proofs.Channel.{Channel, Holds, words_in}
 use Rattle.laws_loan.proofs.Invariant.{sends_at, counted_for, reclaims_in, Carries, HoldsNow, family}

@@ -7,9 +7,7 @@ use Rattle.laws_loan.proofs.Names.{Party, Coding, gives_back, takes_back, read_i
 use Rattle.laws_loan.proofs.Names.{beside, room_made, hands_out, doing_of, flight_of, Span, Open}
 use Rattle.laws_loan.proofs.Names.{own_after, span_of, AreOwn}
 use Rattle.std.proofs.Common.{flat_map, arith}
-use Rattle.model.specs.declared.event.Start.TheVariants as starts
 use Rattle.model.specs.declared.families.Flight as flights
-use Rattle.model.specs.declared.families.loan.LoanStart.TheVariants as calls
 use Rattle.model.specs.Families.Loan.Reading.{frees}
 use Rattle.model.specs.Families.Queues.Reading.{publishes}
 use Rattle.model.specs.Parties.{party_of}

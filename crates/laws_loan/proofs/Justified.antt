@@ -1,7 +1,7 @@
 -- What is proved of every run of a loan channel: its turns write down in order, act where the promise says, and go on by the table.
 use Rattle.laws_loan.proofs.Names.{◌≡◌, ◌≢◌, ℕ, ◌-◌, ◌^◌, ◌<◌, Option, Some, List, ◌++◌, refl, sym, ap, subst, After}
 use Rattle.laws_loan.proofs.Names.{OneWord, SendStage, Answer, Event, Start, Flight, Registry}
-use Rattle.laws_loan.proofs.Names.{LoanStart, LoanFlight, Send, Receive, Going}
+use Rattle.laws_loan.proofs.Names.{LoanStart, LoanFlight, Receive, Going}
 use Rattle.laws_loan.proofs.Names.{Party, Next, Coding, ask_of, beside_of, step_of, goes_of, want, after, promise}
 use Rattle.laws_loan.proofs.Names.{effect_of, IsTurnBy, IsKeptBy, ask_in, answer_in, old_of, ending_of, after_turn}
 use Rattle.laws_loan.proofs.Names.{Trace, StandsThere, stands_there, InOrder, in_order_from}
@@ -12,7 +12,6 @@ use Rattle.model.specs.declared.event.Start as starts
 use Rattle.model.specs.declared.families.Flight as flights
 use Rattle.model.specs.declared.families.Registry as registries
 use Rattle.model.specs.declared.families.loan.LoanStart.TheVariants as calls
-use Rattle.model.specs.declared.families.loan.calls.LoanFlight.TheVariants.{Loan}
 use Rattle.model.specs.declared.turn.Kind as kinds
 use Rattle.model.specs.Parties.{party_of}
 use Rattle.model.specs.Promises.Families.{promise_of}

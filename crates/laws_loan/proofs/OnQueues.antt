@@ -6,7 +6,6 @@ use Rattle.laws_loan.proofs.Names.{Passing, spot_of, receiver_of, given_back, ta
 use Rattle.laws_loan.proofs.Names.{words_of_index, handed_out, put, doing_of, flight_of, span_of, party_put_same}
 use Rattle.laws_loan.proofs.Names.{AreRight, Core}
 use Rattle.model.specs.Families.Queues.Reading.{published}
-use Rattle.laws_indices.proofs.Core as indices
 use Rattle.laws_queues.proofs.Queues.Core.{Good}
 use Rattle.laws_loan.proofs.Channel.{Channel, Holds}
 use Rattle.laws_loan.proofs.Invariant.{Hangs, sends_at, counted_for, hung, reclaims_in, Carries, HoldsNow}

@@ -9,7 +9,6 @@ use Rattle.steps.specs.declared.ask.After.TheVariants.{Done}
 use Rattle.steps.specs.declared.queues.overflow.PopStage as pops
 use Rattle.steps.specs.Queues.Overflow.{pop_asks}
 use Rattle.model.specs.declared.event.Start.TheVariants as starts
-use Rattle.model.specs.declared.families.Flight as flights
 use Rattle.model.specs.declared.families.loan.LoanStart.TheVariants as calls
 use Rattle.model.specs.Parties.{party_of}
 use Rattle.model.proofs.Frame as frame
@@ -18,7 +17,6 @@ use Rattle.laws_loan.proofs.Channel.{Channel, Holds, no_roles, words_in}
 use Rattle.laws_loan.proofs.Hanging.{made, reclaims_made, carries_made, past_none, hung_span}
 use Rattle.laws_loan.proofs.HungSends.{Takes, taken_out, taken_then, sender_fits, none_reclaims}
 use Rattle.laws_loan.proofs.Invariant.{Hangs, sends_at, counted_for, hung, reclaims_in, Carries, HoldsNow, family}
-use Rattle.laws_loan.proofs.Knows.{At}
 use Rattle.laws_loan.proofs.Lists.{first_there}
 use Rattle.laws_loan.proofs.Parts.{submission_long, submission_words, submission_change}
 use Rattle.laws_loan.proofs.Placed.{Placed}

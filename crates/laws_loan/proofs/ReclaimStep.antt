@@ -2,7 +2,7 @@
 use Rattle.laws_loan.proofs.Names.{◌≡◌, ◌≢◌, ℕ, ◌+◌, ◌*◌, ◌-◌, ◌%◌, ◌^◌, ◌<◌, ◌≤◌, false, Option, Some, None, List}
 use Rattle.laws_loan.proofs.Names.{[], ⊎_elim, refl, sym, ap, subst, ◌∙◌, AllByRecursion, cases_lt, Ask, After, GoOn}
 use Rattle.laws_loan.proofs.Names.{ReleaseState, DefaultMode, Release, ReleaseStage, Place, ReclaimStage, Releases}
-use Rattle.laws_loan.proofs.Names.{Drains, Empties, back_asks, back_takes, place_at, next_sent, reclaim_releases}
+use Rattle.laws_loan.proofs.Names.{back_asks, back_takes, place_at, next_sent, reclaim_releases}
 use Rattle.laws_loan.proofs.Names.{reclaim_comes_to, reclaim_released, Answer, Number, Event, LoanFlight, Reclaim}
 use Rattle.laws_loan.proofs.Names.{Party, Coding, ask_of, freed, ended_book, Open, span_of, as_call, answer_in}
 use Rattle.laws_loan.proofs.Names.{old_of, words_after, Trace, release_counts, release_number}

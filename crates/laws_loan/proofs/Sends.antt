@@ -24,7 +24,6 @@ use Rattle.laws_loan.proofs.Invariant.{Hangs, sends_at, counted_for, hung, Carri
 use Rattle.laws_loan.proofs.Knows.{Passes, PushAt, push_wrote, wrote_in, At}
 use Rattle.laws_loan.proofs.OnQueues.{OnQueues, queues_show, silent_tells}
 use Rattle.laws_loan.proofs.Parts.{submission_old, submission_words, submission_change}
-use Rattle.laws_loan.proofs.Placed.{Placed}
 use Rattle.laws_loan.proofs.Sender.{party_then, StepBy}
 use Rattle.laws_loan.proofs.Submission as submission
 use Rattle.laws_loan.proofs.Theirs.{stays_beside}

@@ -5,7 +5,6 @@ use Rattle.laws_loan.proofs.Names.{KnowsOverflowPop, GoesUp, KnowsPush}
 use native.Mathlib.Omega.{arith}
 use Rattle.steps.specs.declared.queues.overflow.PopStage.{PopStage}
 use Rattle.steps.specs.declared.queues.ring.PushStage.{PushStage}
-use Rattle.model.specs.declared.families.loan.LoanStart.TheVariants as calls
 use Rattle.laws_loan.proofs.Channel.{Channel}
 use Rattle.laws_loan.proofs.Knows.{Passes, At, FlightKnows}
 

@@ -4,11 +4,7 @@ use Rattle.laws_robust.proofs.Names.{◌∙◌, arith, ReleaseMode, LockIfLastIn
 use Rattle.laws_robust.proofs.Names.{Count, Lock, RecoverStage, ReleaseStage, RobustStart, RobustFlight}
 use Rattle.laws_robust.proofs.Names.{Coding, most_steps, KeepsDead, IsRobustSet, promise, SetAct, party_of, IsKeptBy}
 use Rattle.laws_robust.proofs.Names.{IsKept, promise_of, span_of, IsReached, Trace, progress_in}
-use Rattle.steps.specs.declared.indices.robust.find.FindStage as finds
-use Rattle.steps.specs.declared.indices.robust.parts.Lock as locks
 use Rattle.model.specs.declared.families.indices.robust.RobustStart as starts
-use Rattle.model.specs.declared.families.indices.robust.calls.RobustFlight.TheVariants.{Release}
-use Rattle.model.specs.declared.families.indices.robust.calls.RobustFlight.TheVariants.{Recover}
 use Rattle.model.specs.declared.turn.Kind as kinds
 use Rattle.model.specs.Promises.Bounds.{Progresses}
 use Rattle.model.proofs.Frame as frame

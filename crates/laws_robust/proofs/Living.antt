@@ -1,13 +1,12 @@
 -- No owner dies in an open run, so none of its calls is refused for a dead owner.
 use Rattle.std.proofs.Common.{arith}
 use Rattle.laws_robust.proofs.Names.{◌≡◌, ℕ, false, Some, None, List, refl, ◌∙◌, AllByRecursion, Event}
-use Rattle.laws_robust.proofs.Names.{Start, Robust, Flight, Registry, RobustFlight, Coding, beside_of, step_of}
+use Rattle.laws_robust.proofs.Names.{Start, Flight, Registry, RobustFlight, Coding, beside_of, step_of}
 use Rattle.laws_robust.proofs.Names.{going_rows, after, has_died, acts_for_dead, frees_living, effects, first_row}
 use Rattle.laws_robust.proofs.Names.{events_of_step, Trace, stands_there}
 use Rattle.model.specs.declared.families.Flight as flights
 use Rattle.model.specs.declared.families.Registry as registries
 use Rattle.model.specs.declared.families.indices.robust.calls.RobustFlight.TheVariants.{Recover}
-use Rattle.model.specs.Families.Indices.Robust.Dead as rows
 use Rattle.model.proofs.Frame as frame
 use Rattle.laws_robust.specs.Gone.{Word}
 use Rattle.laws_robust.proofs.Alive.{Leaves, AllLive, StepsLeave, end_leaves}

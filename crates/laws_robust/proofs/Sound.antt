@@ -11,9 +11,6 @@ use Rattle.laws_robust.proofs.Names.{party_of, Open, span_of, first_row, Step, o
 use Rattle.laws_robust.proofs.Names.{number_of, party_at_begin, party_after, events_of_step, IsReached, Trace}
 use Rattle.laws_robust.proofs.Names.{opening, capacity_error, Each-nil, Each-append, span_of-own, span_of-death}
 use Rattle.laws_robust.proofs.Names.{MayBegin, MayDie, asked, StandsThere, stands_there, ComesFrom, comes_from}
-use Rattle.steps.specs.declared.indices.robust.find.FindStage as finds
-use Rattle.steps.specs.declared.indices.robust.parts.Lock as locks
-use Rattle.steps.specs.declared.indices.robust.parts.Raise as raises
 use Rattle.steps.specs.declared.indices.robust.recover.RecoverStage as recovers
 use Rattle.model.specs.declared.families.Flight as flights
 use Rattle.model.specs.declared.families.Registry as registries

@@ -11,7 +11,6 @@ use Rattle.laws_robust.proofs.Names.{events_of_step, events_of_answer, events_of
 use Rattle.laws_robust.proofs.Names.{ask_of_doing, ending_of, after_turn, World, Trace, flight_in, passes}
 use Rattle.laws_robust.proofs.Names.{must_be_due, StandsThere, stands_there}
 use Rattle.steps.specs.declared.indices.robust.find.Find as find_calls
-use Rattle.steps.specs.declared.indices.robust.find.FindStage as finds
 use Rattle.model.specs.declared.families.Flight as flights
 use Rattle.model.specs.declared.families.Registry as registries
 use Rattle.model.specs.declared.families.indices.robust.RobustStart as starts

@@ -12,13 +12,9 @@ use Rattle.laws_robust.proofs.Names.{number_of, ask_of_doing, events_of_step, ev
 use Rattle.laws_robust.proofs.Names.{events_of_decision, events_of, ending_of, after_turn, Trace, flight_in}
 use Rattle.laws_robust.proofs.Names.{row_passed, passes, StandsThere, stands_there}
 use Rattle.steps.specs.declared.ask.Want.{Want}
-use Rattle.steps.specs.declared.indices.robust.parts.Lock as locks
-use Rattle.steps.specs.declared.indices.robust.parts.Raise as raises
-use Rattle.steps.specs.declared.indices.robust.recover.RecoverStage as recovers
 use Rattle.model.specs.declared.families.Flight as flights
 use Rattle.model.specs.declared.families.Registry as registries
 use Rattle.model.specs.declared.families.indices.robust.RobustStart as starts
-use Rattle.model.specs.declared.families.indices.robust.calls.RobustFlight as calls
 use Rattle.model.proofs.Frame as frame
 use Rattle.laws_robust.proofs.Invariant.{family}
 use Rattle.laws_robust.proofs.Knows.{Knows}

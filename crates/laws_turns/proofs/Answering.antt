@@ -3,7 +3,7 @@ use Rattle.std.proofs.Common.{arith}
 use Rattle.laws_turns.proofs.Names.{◌≡◌, ℕ, ◌+◌, ◌==◌, nat_lt, Bool, true, false, Option, None, refl, sym}
 use Rattle.laws_turns.proofs.Names.{subst, if◌then◌else◌, After, GoOn, Done, ReleaseMode, ReleaseState}
 use Rattle.laws_turns.proofs.Names.{raise_want, lock_want, went_on, release_asks, Answer}
-use Rattle.laws_turns.proofs.Names.{Number, State, Start, Robust, Flight, RobustFlight, Party, Turn, Decide, Coding}
+use Rattle.laws_turns.proofs.Names.{Number, State, Start, Flight, RobustFlight, Party, Turn, Decide, Coding}
 use Rattle.laws_turns.proofs.Names.{goes_of, want_of, is_question, GoesOn, as_it_is, as_call, refusal_of, is_due}
 use Rattle.laws_turns.proofs.Names.{number_of, after_turn, IsReached, Trace, flight_in, turn_making, passes}
 use Rattle.laws_turns.proofs.Names.{must_be_due, StandsThere, both_ways, robust_keeps, raise_asks_none}
@@ -12,7 +12,6 @@ use Rattle.steps.specs.declared.indices.robust.find.FindStage.{FindStage}
 use Rattle.steps.specs.declared.indices.robust.find.FindStage as finds
 use Rattle.steps.specs.declared.indices.robust.recover.RecoverStage.{RecoverStage}
 use Rattle.steps.specs.declared.indices.robust.recover.RecoverStage as recovers
-use Rattle.model.specs.declared.families.Flight as flights
 use Rattle.model.specs.declared.families.indices.robust.calls.RobustFlight as calls
 use Rattle.model.specs.declared.turn.Kind as kinds
 use Rattle.model.specs.Families.Indices.Robust.Calls.{want, after}

@@ -1,6 +1,6 @@
 -- What a recovery writes that it asks, it asks.
 use Rattle.std.proofs.Common.{arith}
-use Rattle.laws_turns.proofs.Names.{append_cancel_left, ap, ◌≡◌, ℕ, ◌+◌, ◌==◌, Bool, true, false, Option, Some, None}
+use Rattle.laws_turns.proofs.Names.{append_cancel_left, ap, ◌≡◌, ℕ, ◌==◌, Bool, true, false, Option, Some, None}
 use Rattle.laws_turns.proofs.Names.{List, [], ◌∷◌, ◌++◌, refl, sym, subst, ◌∙◌, AllByRecursion, After, GoOn, Done}
 use Rattle.laws_turns.proofs.Names.{Ask, ReleaseMode, ReleaseState, Unlocked, AcquireStage, Lock, Raise, GiveBack}
 use Rattle.laws_turns.proofs.Names.{ReleaseStage, Running, empty, raise_after, Answer, Event, Asked, Start, Flight}
@@ -18,7 +18,6 @@ use Rattle.steps.specs.declared.indices.robust.parts.Lock.TheVariants as locks
 use Rattle.steps.specs.declared.indices.robust.recover.Recover.{Recover}
 use Rattle.steps.specs.declared.indices.robust.recover.RecoverStage.{RecoverStage}
 use Rattle.steps.specs.declared.indices.robust.recover.RecoverStage.TheVariants as recovers
-use Rattle.steps.specs.declared.indices.robust.release.ReleaseStage.TheVariants as releases
 use Rattle.model.specs.declared.event.Start.TheVariants as starts
 use Rattle.model.specs.declared.families.Flight.TheVariants as flights
 use Rattle.model.specs.declared.families.Registry.TheVariants as registries

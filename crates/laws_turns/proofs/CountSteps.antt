@@ -9,9 +9,6 @@ use Rattle.laws_turns.proofs.Names.{ask_of, SetAct, words_after, loads, exchange
 use Rattle.laws_turns.proofs.Names.{AcquireAt, change_at}
 use Rattle.std.proofs.Common.{get_or-set_other}
 use Rattle.steps.specs.Ask.{written}
-use Rattle.steps.specs.declared.container.find.FindStage.{FindStage}
-use Rattle.steps.specs.declared.container.recover.RecoverStage.{RecoverStage}
-use Rattle.steps.specs.declared.indices.robust.acquire.Acquire.{Acquire}
 use Rattle.steps.specs.declared.indices.robust.acquire.AcquireStage as acquires
 use Rattle.steps.specs.declared.indices.robust.parts.Count as counts
 use Rattle.steps.specs.declared.indices.robust.parts.Lock as locks

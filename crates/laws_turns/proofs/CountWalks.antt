@@ -2,13 +2,13 @@
 use Rattle.laws_turns.proofs.Names.{◌≡◌, ◌≢◌, ℕ, ◌+◌, ◌==◌, nat_lt, if◌then◌else◌, Bool, true, false, Option, Some}
 use Rattle.laws_turns.proofs.Names.{List, refl, sym, ap, subst, ◌∙◌, arith, get_or, Ok, Err, After, GoOn, Done}
 use Rattle.laws_turns.proofs.Names.{AddStage, LookStage, RemoveStage, ReplaceStage, Replacement, ContainerState}
-use Rattle.laws_turns.proofs.Names.{ReleaseMode, ReleaseState, Count, Lock}
+use Rattle.laws_turns.proofs.Names.{ReleaseMode, ReleaseState, Lock}
 use Rattle.laws_turns.proofs.Names.{Raise, GiveBack, Release, add_asks, Added, add_acquired}
 use Rattle.laws_turns.proofs.Names.{find_asks, change_word, count_word, element_word, is_even}
 use Rattle.laws_turns.proofs.Names.{look_asks, recover_keeps, Removed, remove_asks, remove_released, inner_release}
 use Rattle.laws_turns.proofs.Names.{Replaced, replace_asks, Acquired, cell_word, empty, locked}
 use Rattle.laws_turns.proofs.Names.{one_more, raise_want, lock_want, Released, release_takes}
-use Rattle.laws_turns.proofs.Names.{went_on, State, Container, ContainerStart, ContainerFlight, Coding}
+use Rattle.laws_turns.proofs.Names.{went_on, State, ContainerStart, ContainerFlight, Coding}
 use Rattle.laws_turns.proofs.Names.{ask_of, is_question, place_of, added, removed, replaced, Act, SetAct, as_it_is}
 use Rattle.laws_turns.proofs.Names.{kept_at, as_call, answer_in, words_after, exchanges, change_at, adds_one}
 use Rattle.laws_turns.proofs.Names.{stores_to, both_ways, raise_asks_none, lock_asks_none}
@@ -16,8 +16,6 @@ use Rattle.steps.specs.declared.container.add.Add as add_calls
 use Rattle.steps.specs.declared.container.add.AddStage as adds
 use Rattle.steps.specs.declared.container.add.Owned.{Owned}
 use Rattle.steps.specs.declared.container.find.FindStage.{FindStage}
-use Rattle.steps.specs.declared.container.find.FindStage as finds
-use Rattle.steps.specs.declared.container.look.LookStage as looks
 use Rattle.steps.specs.declared.container.recover.DeadOwner.{DeadOwner}
 use Rattle.steps.specs.declared.container.recover.Recover as recover_calls
 use Rattle.steps.specs.declared.container.recover.RecoverStage.{RecoverStage}
@@ -28,7 +26,6 @@ use Rattle.steps.specs.declared.container.remove.RemoveStage as removes
 use Rattle.steps.specs.declared.container.replace.Replace as replace_calls
 use Rattle.steps.specs.declared.container.replace.ReplaceStage as replaces
 use Rattle.steps.specs.declared.copied.Buffer as buffers
-use Rattle.steps.specs.declared.indices.enums.ReleaseState as states
 use Rattle.steps.specs.declared.indices.robust.acquire.Acquire.{Acquire}
 use Rattle.steps.specs.Container.Recover.{recover_asks, recover_takes, recover_comes_to, recover_raised}
 use Rattle.steps.specs.Container.Recover.{recover_locked}

@@ -10,7 +10,6 @@ use Rattle.steps.specs.declared.indices.robust.find.Find as find_calls
 use Rattle.steps.specs.declared.indices.robust.find.FindStage.{FindStage}
 use Rattle.steps.specs.declared.indices.robust.find.FindStage as finds
 use Rattle.steps.specs.Indices.Robust.Find.{at_find, find_comes_to}
-use Rattle.model.specs.declared.families.Flight as flights
 use Rattle.model.specs.declared.families.indices.robust.RobustStart as starts
 use Rattle.model.specs.declared.families.indices.robust.calls.RobustFlight as calls
 use Rattle.model.specs.declared.turn.Kind as kinds

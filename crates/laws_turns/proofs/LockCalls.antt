@@ -8,7 +8,6 @@ use Rattle.laws_turns.proofs.Names.{Event, Finished, Start, Robust, Flight, Robu
 use Rattle.laws_turns.proofs.Names.{ask_of, is_question, recover_effects, as_it_is, party_of, whose, as_call}
 use Rattle.laws_turns.proofs.Names.{answer_in, old_of, ending_of, IsReached, Trace, AreOwn, AreRight, Death}
 use Rattle.laws_turns.proofs.Names.{both_ways, Scene, Inv, Knows, raise_asks_none, lock_asks_none, IsHere, all, now}
-use Rattle.steps.specs.declared.indices.enums.ReleaseState as states
 use Rattle.steps.specs.declared.indices.robust.recover.Recover as recover_calls
 use Rattle.steps.specs.declared.indices.robust.recover.RecoverStage.{RecoverStage}
 use Rattle.steps.specs.declared.indices.robust.recover.RecoverStage as recovers

@@ -13,11 +13,8 @@ use Rattle.laws_turns.proofs.Names.{reached_more, turn_making, AreOwn, AreRight,
 use Rattle.laws_turns.proofs.Names.{span_of-own, span_of-other, span_of-death, passes, may_next, may_decide}
 use Rattle.laws_turns.proofs.Names.{must_be_due, StandsThere, Death, robust_keeps, filled_none}
 use Rattle.steps.specs.declared.indices.robust.recover.RecoverStage.{RecoverStage}
-use Rattle.steps.specs.declared.indices.robust.recover.RecoverStage as recovers
 use Rattle.model.specs.declared.families.Flight as flights
 use Rattle.model.specs.declared.families.Registry as registries
-use Rattle.model.specs.declared.families.indices.robust.RobustStart as starts
-use Rattle.model.specs.declared.families.indices.robust.calls.RobustFlight as calls
 use Rattle.model.specs.declared.turn.Kind as kinds
 use Rattle.model.specs.Families.Indices.Robust.Calls.{want, after}
 use Rattle.model.specs.Families.Indices.Robust.Steps.{effects}

@@ -2,14 +2,12 @@
 use Rattle.laws_turns.proofs.Names.{◌≡◌, ◌≢◌, ℕ, ◌==◌, false, Option, Some, None, is_some, is_none, List, [], ◌∷◌}
 use Rattle.laws_turns.proofs.Names.{◌++◌, if◌then◌else◌, refl, sym, ap, subst, ◌∙◌, arith, ne_eqb, eq-eqb}
 use Rattle.laws_turns.proofs.Names.{ContainerState, Begun, Died, is_look_of, Start, Container, Flight, ContainerStart}
-use Rattle.laws_turns.proofs.Names.{LookOf, Turn, Begin, Next, Decide, Die, first_of, kept_after_begin, first}
+use Rattle.laws_turns.proofs.Names.{Turn, Begin, Next, Decide, Die, first_of, kept_after_begin, first}
 use Rattle.laws_turns.proofs.Names.{state_in, state_of, with_state, fresh, Each, refusal_of, after_begin, world_after}
 use Rattle.laws_turns.proofs.Names.{after_turn, IsReached, Trace, flight_in, found_put_same, kept_by_runs}
 use Rattle.laws_turns.proofs.Names.{reached_more, turn_making, Each-nil, passes, may_begin, container_keeps, IsOwn}
 use Rattle.laws_turns.proofs.Names.{begins_own, Coding}
-use Rattle.model.specs.declared.families.Flight as flights
 use Rattle.model.specs.declared.families.container.ContainerStart as starts
-use Rattle.model.specs.declared.families.container.calls.LookOf as kinds_of
 use Rattle.model.specs.declared.turn.Kind as kinds
 use Rattle.model.specs.World.{opened}
 use Rattle.laws_turns.specs.Changes.{Seen, seen_after, seen_by, MeetsChanges}

@@ -7,13 +7,9 @@ use Rattle.laws_turns.proofs.Names.{kept_after_begin, kept_after_death}
 use Rattle.laws_turns.proofs.Names.{number_of, after_begin, after_answer, after_next, after_decision}
 use Rattle.laws_turns.proofs.Names.{world_after, after_turn, attempt, unless_refused, run, IsReached, refusal_of}
 use Rattle.laws_turns.proofs.Names.{World, Trace, kept_opened}
-use Rattle.model.specs.declared.event.Answer.TheVariants as answers
-use Rattle.model.specs.declared.event.Start.TheVariants as starts
-use Rattle.model.specs.declared.families.Flight.TheVariants as flights
 use Rattle.model.specs.declared.families.Registry.TheVariants as registries
 use Rattle.model.specs.declared.families.loan.Book.{Book}
 use Rattle.model.specs.declared.families.loan.LoanStart.{LoanStart}
-use Rattle.model.specs.declared.families.loan.LoanStart.TheVariants.{Loan}
 use Rattle.model.specs.declared.turn.Kind as kinds
 use Rattle.model.specs.declared.turn.Refusal.{Refusal}
 use Rattle.model.specs.Families.Loan.Calls.{after}

@@ -2,23 +2,16 @@
 use Rattle.std.proofs.Common.{arith}
 use Rattle.laws_turns.proofs.Names.{◌≡◌, ℕ, false, Option, Some, None, is_some, refl, ap, subst, ◌∙◌, AddStage}
 use Rattle.laws_turns.proofs.Names.{LookStage, RemoveStage, ReplaceStage, Replacement, GiveBack, add_asks, look_asks}
-use Rattle.laws_turns.proofs.Names.{remove_asks, replace_asks, find_asks, Start, Container, Flight, ContainerFlight}
+use Rattle.laws_turns.proofs.Names.{remove_asks, replace_asks, find_asks, Start, Flight, ContainerFlight}
 use Rattle.laws_turns.proofs.Names.{Party, Coding, is_question, Turn, turn_making, reached_more, shown}
 use Rattle.laws_turns.proofs.Names.{container_keeps, refusal_of, is_due, after_turn, IsReached, Trace, flight_in}
 use Rattle.laws_turns.proofs.Names.{StandsThere, raise_asks_none, count_asks_none, lock_asks_none, acquire_asks_none}
 use Rattle.laws_turns.proofs.Names.{release_asks_none}
-use Rattle.steps.specs.declared.container.add.AddStage as adds
 use Rattle.steps.specs.declared.container.add.Owned.{Owned}
-use Rattle.steps.specs.declared.container.look.LookStage as looks
-use Rattle.steps.specs.declared.container.remove.RemoveStage as removes
-use Rattle.steps.specs.declared.container.replace.ReplaceStage as replaces
 use Rattle.steps.specs.declared.container.find.FindStage.{FindStage}
-use Rattle.steps.specs.declared.container.find.FindStage as finds
 use Rattle.steps.specs.declared.container.recover.RecoverStage.{RecoverStage}
-use Rattle.steps.specs.declared.container.recover.RecoverStage as recovers
 use Rattle.steps.specs.Container.Recover.{recover_asks}
 use Rattle.model.specs.declared.families.Flight as flights
-use Rattle.model.specs.declared.families.container.calls.ContainerFlight as calls
 use Rattle.model.specs.declared.turn.Kind as kinds
 use Rattle.model.specs.Families.Container.Calls.{want}
 use Rattle.model.specs.Families.Container.Questions.{question_in, find_question, recover_question}

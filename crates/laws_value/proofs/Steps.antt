@@ -1,7 +1,7 @@
 -- What each step of a call of the value shows, and each begin of one.
 use Rattle.std.proofs.Common.{◌≡◌, ℕ, ◌+◌, ◌-◌, ◌^◌, ◌<◌, ◌≤◌, Some, None, List}
 use Rattle.std.proofs.Common.{get_or, length, refl, sym, ap, subst, ◌∙◌, arith}
-use Rattle.laws_value.proofs.Names.{Start, Atomic, Flight, Registry, AtomicStart, AtomicFlight, Party, Next, Coding}
+use Rattle.laws_value.proofs.Names.{Start, Atomic, Flight, AtomicStart, AtomicFlight, Party, Next, Coding}
 use Rattle.laws_value.proofs.Names.{ask_of, want, old_of, Scene, Inv, scene_of, inv_of}
 use Rattle.model.specs.declared.families.Flight as flights
 use Rattle.model.specs.declared.families.Registry as registries

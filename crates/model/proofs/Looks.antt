@@ -5,14 +5,10 @@ use Rattle.std.proofs.lemmas.Bool.Decides.{nat_tests}
 use Rattle.std.proofs.lemmas.List.{set-get_or}
 use Rattle.steps.specs.declared.ask.Op.TheVariants.{Exchange}
 use Rattle.steps.specs.declared.atomic.LoadStage.{LoadStage}
-use Rattle.steps.specs.declared.atomic.LoadStage as loading
 use Rattle.steps.specs.declared.queues.lengths.LenStage.{LenStage}
 use Rattle.steps.specs.Atomic.{load_asks}
 use Rattle.steps.specs.Queues.Lengths.{len_asks}
 use Rattle.model.specs.declared.families.Flight.{Flight}
-use Rattle.model.specs.declared.families.Flight as flights
-use Rattle.model.specs.declared.families.atomic.calls.AtomicFlight as atomics
-use Rattle.model.specs.declared.families.queues.calls.QueueFlight as queues
 use Rattle.model.specs.Coding.{Coding}
 use Rattle.model.specs.Families.{ask_of}
 use Rattle.model.specs.Progress.{Looks, ChangesNothing}

@@ -1,8 +1,7 @@
 -- The words of a set that is emptied, one word after another.
 use Rattle.std.proofs.Common.{◌≡◌, ◌≢◌, ℕ, zero, suc, ◌+◌, ◌<◌, ◌≤◌, ⊎_elim, List, [], ◌∷◌, length, drop}
 use Rattle.std.proofs.Common.{replicate, refl, sym, ap, subst, ◌∙◌, arith, slice_index, slice_set, eq-eqb, ne_eqb}
-use Rattle.std.proofs.Common.{if◌then◌else◌}
-use Rattle.plain.proofs.Names.{FoldsTo, cases_lt, nat_tests, Want, GoOn, ResetAll}
+use Rattle.plain.proofs.Names.{FoldsTo, cases_lt, nat_tests, GoOn, ResetAll}
 use Rattle.steps.specs.Bits.ResetAll.{reset_all_want, reset_all_after, reset_all_kept}
 use Rattle.steps.specs.Objects.Counts.{states_from, states, uncounted}
 use Rattle.steps.specs.declared.ask.Op.TheVariants.{Swap}

@@ -1,7 +1,6 @@
 -- A call that keeps to the first words of a list: it runs alike where further words stand behind them.
 use Rattle.std.proofs.Common.{◌≡◌, ℕ, zero, suc, ◌<◌, ◌≤◌, List, [], ◌∷◌, length, take, refl, ap, subst, ◌∙◌, arith}
 use Rattle.std.proofs.Common.{slice_index, slice_set, get_or-set_other, get_or-take, length-set, ◌==◌}
-use Rattle.std.specs.Prelude.{if◌then◌else◌}
 use Rattle.steps.specs.Ask.{written}
 use Rattle.plain.proofs.Names.{by_test, Want, After}
 use Rattle.steps.specs.declared.ask.Op.{Op}

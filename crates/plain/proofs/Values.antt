@@ -1,6 +1,6 @@
 -- A store and a load of the single value that run alone.
 use Rattle.std.proofs.Common.{◌≡◌, ◌≢◌, ℕ, zero, suc, ◌+◌, ◌-◌, ◌*◌, ◌^◌, ◌<◌, ◌≤◌, inl, Bool, true, false, not}
-use Rattle.std.proofs.Common.{◌==◌, nat_lt, List, length, refl, sym, ap, subst, ◌∙◌, arith, slice_index, slice_set}
+use Rattle.std.proofs.Common.{◌==◌, nat_lt, List, length, sym, ap, subst, ◌∙◌, arith, slice_index, slice_set}
 use Rattle.std.proofs.Common.{get_or-set_same, get_or-set_other, length-set, eq-eqb, ne_eqb, if◌then◌else◌}
 use Rattle.plain.proofs.Names.{mul-le-mul_left, nat_tests, by_test, by_eq, word_at, After}
 use Rattle.steps.specs.Ask.{written}

@@ -1,7 +1,6 @@
 -- What holds where a call that runs alone stops, part by part.
 use Rattle.std.proofs.Common.{◌≡◌, ℕ, zero, suc, ◌+◌, ◌^◌, ◌-◌, ◌≤◌, List, refl, sym, subst, arith}
 use Rattle.plain.proofs.Names.{Want, After, GoOn, Done}
-use Rattle.steps.specs.declared.ask.Want as wants
 use Rattle.plain.specs.declared.drive.Stop.{Stop}
 use Rattle.plain.specs.declared.drive.Stop.TheVariants.{Asked, Ended}
 use Rattle.plain.specs.Alone.{answer_in, words_then, room_then, goes, stepped, StopsFrom, StopsIn}

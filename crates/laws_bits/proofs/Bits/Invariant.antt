@@ -6,7 +6,6 @@ use Rattle.laws_bits.proofs.Names.{stands, Event, BitsFlight, ResetNext, BitsAns
 use Rattle.laws_bits.proofs.Names.{clears, standing, position_after, position_of, BeginsNone, Each, one_if}
 use Rattle.laws_bits.proofs.Names.{held_later, since_more, AreRight, Each-append}
 use Rattle.std.proofs.Common.{arith}
-use Rattle.steps.specs.declared.bits.bit_set.ResetNextStage as resetting
 use Rattle.model.specs.declared.families.bits.calls.BitsFlight.TheVariants.{Set, ResetAll}
 use Rattle.model.specs.declared.turn.Kind as kinds
 use Rattle.laws_bits.proofs.Bits.Core.{ClearedBelow, cleared_still, sets_more, clears_more}

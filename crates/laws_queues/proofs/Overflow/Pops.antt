@@ -4,7 +4,7 @@ use Rattle.laws_queues.proofs.Names.{Option, Some, None, [], ◌∷◌, length, 
 use Rattle.laws_queues.proofs.Names.{◌∙◌, append-nil, cases_lt, nat_tests, nil_from_length, set-get_or, take-nil, Ask}
 use Rattle.laws_queues.proofs.Names.{Load, Exchange, After, GoOn, Done, OneWord, after_position, QueueFlight, Effect}
 use Rattle.laws_queues.proofs.Names.{Quiet, Acts, Item, Index, Pop, Answer, PoppedNone, PoppedIndex, Queues, Acted}
-use Rattle.laws_queues.proofs.Names.{Flight, Party, Coding, read_word, after, goes_back, pending_at, pending, beside}
+use Rattle.laws_queues.proofs.Names.{Party, Coding, read_word, after, goes_back, pending_at, pending, beside}
 use Rattle.laws_queues.proofs.Names.{takes_effect, effect_of, party_of, doing_of, flight_of, Open, span_of}
 use Rattle.laws_queues.proofs.Names.{words_after, step_count, load_of_write, load_of_read}
 use Rattle.std.proofs.Common.{arith}

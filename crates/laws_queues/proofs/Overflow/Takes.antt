@@ -4,7 +4,7 @@ use Rattle.laws_queues.proofs.Names.{Option, Some, None, List, [], ◌∷◌, �
 use Rattle.laws_queues.proofs.Names.{sym, ap, subst, ◌∙◌, append-nil, append_assoc, cases_eq, nat_tests, Ask}
 use Rattle.laws_queues.proofs.Names.{Exchange, After, Done, OneWord, after_position, QueueFlight, Effect, MakesRoom}
 use Rattle.laws_queues.proofs.Names.{Item, Index, PushIndex, Pop, Answer, PoppedNone, PoppedIndex, Event, Queues}
-use Rattle.laws_queues.proofs.Names.{Published, HandedOut, Acted, Finished, Start, Flight, Party, Coding}
+use Rattle.laws_queues.proofs.Names.{Published, HandedOut, Acted, Finished, Start, Party, Coding}
 use Rattle.laws_queues.proofs.Names.{answer_of_item, read_word, after, words_of_index, cut_off, promise, pending_at}
 use Rattle.laws_queues.proofs.Names.{pending, beside, takes_effect, party_of, put, doing_of, flight_of, Stands, Open}
 use Rattle.laws_queues.proofs.Names.{Ended, own_after, span_of, words_after, change_of, span_of-own, span_of-other}

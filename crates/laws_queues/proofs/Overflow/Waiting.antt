@@ -1,6 +1,6 @@
 -- Which push waits for the read position to go on.
 use Rattle.laws_queues.proofs.Names.{◌≡◌, ℕ, ◌<◌, Option, Some, None, option_map, List, OneWord}
-use Rattle.laws_queues.proofs.Names.{Running, Event, Going, Party, Flight, Roles, Coding, pending_at, pending}
+use Rattle.laws_queues.proofs.Names.{Running, Event, Going, Party, Roles, Coding, pending_at, pending}
 use Rattle.laws_queues.proofs.Names.{party_of, doing_of, flight_of, span_of}
 use Rattle.std.proofs.Common.{arith}
 use Rattle.steps.specs.declared.queues.overflow.Push as overflow_push

@@ -1,5 +1,5 @@
 -- What the first stage of a queue's call knows; it has written nothing.
-use Rattle.laws_queues.proofs.Names.{◌≡◌, ℕ, false, Some, None, List, [], Event, Flight, QueueStart, Roles}
+use Rattle.laws_queues.proofs.Names.{◌≡◌, ℕ, false, Some, None, List, [], Event, QueueStart, Roles}
 use Rattle.laws_queues.proofs.Names.{QueueFlight, QueueKind, Coding, IsCoding, first, lacks_role, pending_at}
 use Rattle.std.proofs.Common.{arith}
 use Rattle.model.specs.declared.families.Flight as flights

@@ -11,7 +11,6 @@ use Rattle.std.proofs.Common.{arith}
 use Rattle.steps.specs.declared.queues.lengths.LenStage as lens
 use Rattle.model.specs.declared.families.queues.calls.LengthOf as measures
 use Rattle.model.specs.declared.families.queues.QueueStart as starts
-use Rattle.model.specs.declared.event.Answer as answers
 use Rattle.laws_queues.proofs.Queues.Invariant.{Scene, Inv}
 use Rattle.laws_queues.proofs.Queues.Core.{Core, Good}
 use Rattle.laws_queues.proofs.Queues.Knows.{layout, len_at, Hangs, Waited, KnowsLen, len_number, At}

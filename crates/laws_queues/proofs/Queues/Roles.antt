@@ -1,6 +1,6 @@
 -- What the steps of the calls on roles show. A role's word is 1 while the role is free.
 use Rattle.laws_queues.proofs.Names.{◌≡◌, ℕ, ◌^◌, ◌<◌, ◌≤◌, true, false, Option, Some, None, option_map, refl, ap}
-use Rattle.laws_queues.proofs.Names.{subst, sym, ◌∙◌, Ask, Store, Exchange, Answer, AcquireProducer, ReleaseProducer}
+use Rattle.laws_queues.proofs.Names.{subst, sym, ◌∙◌, Ask, Store, Exchange, AcquireProducer, ReleaseProducer}
 use Rattle.laws_queues.proofs.Names.{AcquireConsumer, ReleaseConsumer, QueueKind, Coding, acquire_of, release_of}
 use Rattle.laws_queues.proofs.Names.{producer_word, consumer_word, pending}
 use Rattle.std.proofs.Common.{arith}

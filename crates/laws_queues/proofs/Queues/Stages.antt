@@ -2,7 +2,7 @@
 use Rattle.laws_queues.proofs.Names.{◌≡◌, ◌≢◌, ℕ, ◌+◌, ◌-◌, ◌*◌, ◌%◌, ◌^◌, ◌<◌, ◌≤◌, Bool, true, false, ◌||◌, ◌⊎◌}
 use Rattle.laws_queues.proofs.Names.{Option, Some, None, List, [], ◌∷◌, ◌++◌, fold, length, map, refl}
 use Rattle.laws_queues.proofs.Names.{append-nil, Ask, After, GoOn, Done, word_at, Answer, Event, Finished}
-use Rattle.laws_queues.proofs.Names.{Queues, Flight, Registry, QueueStart, Roles, QueueFlight, Effect, Quiet, Over}
+use Rattle.laws_queues.proofs.Names.{Queues, Flight, QueueStart, Roles, QueueFlight, Effect, Quiet, Over}
 use Rattle.laws_queues.proofs.Names.{Party, QueueKind, Coding, ask_of, most_steps, want, after, goes_back}
 use Rattle.laws_queues.proofs.Names.{TellsLength, cells_of, producer_after, consumer_after, GrantsRight, Wrote}
 use Rattle.laws_queues.proofs.Names.{pending_at, pending, beside, effect_of, effects_of, roles_after, party_of, put}

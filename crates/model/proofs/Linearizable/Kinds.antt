@@ -6,7 +6,6 @@ use Rattle.model.specs.declared.event.Event.{Event}
 use Rattle.model.specs.declared.event.Item.{Item}
 use Rattle.model.specs.declared.event.Start.{Start}
 use Rattle.model.specs.declared.event.Start.TheVariants as starts
-use Rattle.model.specs.declared.families.atomic.AtomicStart.TheVariants as atomics
 use Rattle.model.specs.declared.families.queues.QueueKind.{QueueKind}
 use Rattle.model.specs.declared.families.queues.QueueKind as queue_kinds
 use Rattle.model.specs.declared.families.queues.QueueStart.TheVariants as queues

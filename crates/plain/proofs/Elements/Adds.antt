@@ -8,7 +8,6 @@ use Rattle.steps.specs.Indices.Robust.Parts.{empty, one_more}
 use Rattle.steps.specs.Indices.Robust.Acquire.{Acquired, first_acquire, acquire_takes, acquire_want, acquire_after}
 use Rattle.steps.specs.Container.Add.{Added, first_add, at_add, inner_acquire, add_want, add_acquired, add_after}
 use Rattle.steps.specs.Objects.Owners.{Owners, acquired, granted, after_acquire}
-use Rattle.steps.specs.declared.indices.enums.UniqueIndexSetAcquireFailure.TheVariants as failures
 use Rattle.steps.specs.declared.container.enums.ContainerAddFailure.{ContainerAddFailure}
 use Rattle.steps.specs.declared.container.add.Add.{Add}
 use Rattle.steps.specs.declared.container.add.AddStage as adds

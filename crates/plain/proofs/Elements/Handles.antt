@@ -1,6 +1,6 @@
 -- Whether a handle names a value.
-use Rattle.std.proofs.Common.{◌≡◌, ℕ, suc, ◌+◌, ◌<◌, ◌≤◌, ◌==◌, false, List, [], ◌∷◌, length, take, None}
-use Rattle.std.proofs.Common.{ap, arith, slice_index, eq-eqb, ne_eqb}
+use Rattle.std.proofs.Common.{◌≡◌, ℕ, suc, ◌+◌, ◌<◌, ◌≤◌, ◌==◌, false, List, [], ◌∷◌, length, take}
+use Rattle.std.proofs.Common.{arith, slice_index, eq-eqb, ne_eqb}
 use Rattle.plain.proofs.Names.{get_or-map, get_or_past, length-map, by_eq}
 use Rattle.steps.specs.Indices.Robust.Parts.{cell_word, empty}
 use Rattle.steps.specs.Objects.Owners.{has, owns}

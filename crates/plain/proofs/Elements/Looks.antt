@@ -8,7 +8,6 @@ use Rattle.steps.specs.declared.indices.robust.parts.Counted as ends
 use Rattle.steps.specs.declared.indices.robust.looks.BorrowedIndices.{BorrowedIndices}
 use Rattle.steps.specs.declared.indices.robust.looks.IsLocked.{IsLocked}
 use Rattle.steps.specs.Objects.Owners.{borrowed, raised}
-use Rattle.steps.specs.Objects.Owners as owners
 use Rattle.plain.specs.Alone.{BehavesAs}
 use Rattle.plain.specs.Robust as robust
 use Rattle.plain.specs.Robust.{owners_in}

@@ -3,7 +3,7 @@ use Rattle.std.proofs.Common.{◌≡◌, ◌≢◌, ℕ, zero, suc, ◌+◌, ◌
 use Rattle.std.proofs.Common.{List, [], ◌∷◌, length, drop, filter, map, take, Some, refl, sym, ap, subst, ◌∙◌, arith}
 use Rattle.std.proofs.Common.{slice_index, slice_set, eq-eqb, ne_eqb, get_or-set_other, if◌then◌else◌}
 use Rattle.plain.proofs.Names.{nat_tests, eqb_tells, set-get_or, drop-set-lt, by_test, by_eq, word_at, count_word}
-use Rattle.plain.proofs.Names.{element_word, is_even, Want, After, Done, Question, ReleaseMode, LockIfLastIndex}
+use Rattle.plain.proofs.Names.{element_word, is_even, Want, After, Done, ReleaseMode, LockIfLastIndex}
 use Rattle.plain.proofs.Names.{Default, ReleaseState, Locked, Unlocked}
 use Rattle.steps.specs.Copied.{value_in}
 use Rattle.steps.specs.Indices.Robust.Parts.{cell_word, empty, locked, one_more, raise_want, raise_after, lock_want, lock_after, first_lock}

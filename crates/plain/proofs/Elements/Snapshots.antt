@@ -1,5 +1,5 @@
 -- What a state shows after a look.
-use Rattle.std.proofs.Common.{◌≡◌, ◌≢◌, ℕ, zero, suc, ◌+◌, ◌<◌, ◌≤◌, Bool, true, false, not, ◌==◌, List, []}
+use Rattle.std.proofs.Common.{◌≡◌, ℕ, zero, suc, ◌+◌, ◌<◌, ◌≤◌, Bool, true, false, not, ◌==◌, List, []}
 use Rattle.std.proofs.Common.{◌∷◌, length, take, map, None, refl, sym, ap, subst, ◌∙◌, arith, slice_index}
 use Rattle.std.proofs.Common.{if◌then◌else◌, true≢false}
 use Rattle.std.specs.Prelude.{replicate}

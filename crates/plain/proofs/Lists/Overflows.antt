@@ -9,11 +9,9 @@ use Rattle.steps.specs.Queues.Overflow.{cell_word, first_push, push_want, push_a
 use Rattle.steps.specs.Queues.Overflow.{first_pop, pop_want, pop_after, pop_kept, pop_answer}
 use Rattle.steps.specs.declared.copied.OneWord.{OneWord}
 use Rattle.steps.specs.declared.queues.overflow.Push.{Push}
-use Rattle.steps.specs.declared.queues.overflow.PushStage as pushes
 use Rattle.steps.specs.declared.queues.overflow.PushEnd.{PushEnd}
 use Rattle.steps.specs.declared.queues.overflow.PushEnd.TheVariants.{Added, Own, Oldest}
 use Rattle.steps.specs.declared.queues.overflow.Pop.{Pop}
-use Rattle.steps.specs.declared.queues.overflow.PopStage as pops
 use Rattle.steps.specs.Objects.Lists.{Bounded, front, popped, takes_in, handed_back, pushed_over}
 use Rattle.plain.specs.Alone.{EndsFrom, EndsIn, BehavesAs}
 use Rattle.plain.specs.Queues.{value_at}

@@ -1,6 +1,6 @@
 -- A pop that runs alone.
 use Rattle.std.proofs.Common.{◌≡◌, ◌≢◌, ℕ, zero, suc, ◌+◌, ◌-◌, ◌*◌, ◌%◌, ◌^◌, ◌<◌, ◌≤◌, ◌⊎◌, inr, Bool, true}
-use Rattle.std.proofs.Common.{false, nat_lt, min, List, [], length, drop, refl, ap}
+use Rattle.std.proofs.Common.{false, nat_lt, min, List, length, drop, ap}
 use Rattle.std.proofs.Common.{arith, slice_index, slice_set, get_or-set_same, get_or-set_other, length-set}
 use Rattle.std.proofs.Common.{ne_eqb, if◌then◌else◌}
 use Rattle.plain.proofs.Names.{mul-le-mul_right, nat_tests, dite, ℕ_discrete, by_test, by_either, after_position}

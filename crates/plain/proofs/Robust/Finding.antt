@@ -1,5 +1,5 @@
 -- A find with its closure, from one question to the next.
-use Rattle.std.proofs.Common.{◌≡◌, ℕ, suc, ◌+◌, ◌-◌, ◌^◌, ◌<◌, ◌≤◌, inl, inr, true, nat_lt, if◌then◌else◌, List, []}
+use Rattle.std.proofs.Common.{◌≡◌, ℕ, suc, ◌+◌, ◌-◌, ◌^◌, ◌<◌, ◌≤◌, inl, true, nat_lt, if◌then◌else◌, List, []}
 use Rattle.std.proofs.Common.{◌∷◌, ◌++◌, length, refl, sym, ap, subst, ◌∙◌, arith}
 use Rattle.plain.proofs.Names.{FoldsTo, append_assoc, append-nil, length-append, length-drop, nat_tests, After, GoOn}
 use Rattle.plain.proofs.Names.{Done, Question, Want}

@@ -1,7 +1,6 @@
 -- A recovery that runs alone, from one question to the next.
 use Rattle.std.proofs.Common.{◌≡◌, ◌≢◌, ℕ, suc, ◌+◌, ◌^◌, ◌<◌, ◌≤◌, nat_lt, List, [], ◌∷◌, length, drop, map}
 use Rattle.std.proofs.Common.{refl, sym, ap, ◌∙◌, arith, slice_index, slice_set, length-set, eq-eqb}
-use Rattle.std.proofs.Common.{if◌then◌else◌}
 use Rattle.plain.proofs.Names.{nat_tests, drop-set-lt, by_test, by_eq, Question, Want, After, ReleaseMode}
 use Rattle.plain.proofs.Names.{LockIfLastIndex, Default, ReleaseState}
 use Rattle.steps.specs.Indices.Robust.Parts.{cell_word, empty, locked, raise_want, raise_after, lock_want, lock_after, first_lock}

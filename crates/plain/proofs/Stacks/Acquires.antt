@@ -1,6 +1,6 @@
 -- An acquire that runs alone.
 use Rattle.std.proofs.Common.{◌≡◌, ◌≢◌, ℕ, suc, ◌+◌, ◌-◌, ◌%◌, ◌^◌, ◌<◌, ⊎_elim, true, false, not, eqb, eq-eqb}
-use Rattle.std.proofs.Common.{ne_eqb, if◌then◌else◌, List, [], ◌∷◌, length, drop, sym, ap, subst, ◌∙◌}
+use Rattle.std.proofs.Common.{ne_eqb, if◌then◌else◌, List, ◌∷◌, length, drop, sym, ap, subst, ◌∙◌}
 use Rattle.std.proofs.Common.{arith, slice_index, slice_set, get_or-set_same, get_or-set_other, length-set, true≢false}
 use Rattle.std.specs.Prelude.{bit_or, Ok, Err}
 use Rattle.plain.proofs.Names.{IsDistinct, nat_tests, eqb_tells, cases_Bool, by_test, by_eq, After}

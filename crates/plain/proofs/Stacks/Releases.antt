@@ -9,7 +9,6 @@ use Rattle.steps.specs.Indices.Head.{next_word, flag_word, flag, proposed, borro
 use Rattle.steps.specs.Indices.Unique.{first_release, head_given_back, head_locked, head_released}
 use Rattle.steps.specs.Indices.Unique.{state_after, release_want, release_after, borrowed_number}
 use Rattle.steps.specs.declared.indices.unique.Release.{Release}
-use Rattle.steps.specs.declared.indices.unique.ReleaseStage as releases
 use Rattle.plain.specs.Alone.{EndsFrom, EndsIn, BehavesAs}
 use Rattle.steps.specs.Objects.Stacks.{IsOut, out, released, released_or_locked, release_state}
 use Rattle.plain.specs.Unique.{chain, free_in, stack_in, claimed, Represents}

@@ -1,5 +1,5 @@
 -- How the events of the container are read, beside those of its set of indices.
-use Rattle.std.specs.Prelude.{◌≡◌, ℕ, ◌==◌, Bool, true, false, Option, Some, None, List, [], ◌∷◌, ◌++◌, fold, if◌then◌else◌}
+use Rattle.std.specs.Prelude.{◌≡◌, ℕ, ◌==◌, Bool, true, false, Option, Some, None, List, [], ◌∷◌, fold, if◌then◌else◌}
 use Rattle.std.specs.List.{flat_map}
 use Rattle.model.specs.declared.event.Answer.TheVariants.{Index, Done}
 use Rattle.model.specs.declared.event.Event.{Event}

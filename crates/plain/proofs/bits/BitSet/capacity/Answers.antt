@@ -1,6 +1,5 @@
 use Rattle.std.proofs.Common.{arith}
 use Rattle.std.proofs.Common.{length}
-use Rattle.plain.proofs.Names.{Places}
 use Rattle.plain.proofs.Places.Flags.{flags_length}
 use Rattle.plain.proofs.bits.BitSet.capacity.Goals as goal
 

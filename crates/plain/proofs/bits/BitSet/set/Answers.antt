@@ -1,5 +1,4 @@
 use Rattle.std.proofs.Common.{length, arith}
-use Rattle.plain.proofs.Names.{Places}
 use Rattle.plain.proofs.Places.Flags.{flags_length}
 use Rattle.plain.proofs.bits.BitSet.set.Goals as goal
 
