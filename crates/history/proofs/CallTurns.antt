@@ -89,9 +89,7 @@ module _ {T C M E : Type 0} (code : Coding T) (kind : Kind) (effects : World T �
         flight_now ask low y.there asks_it finds
 
     run_then : (base : View T) → Stage base v c m → IsRun code kind base.capacity then_trace
-    run_then base stage =
-        subst (λ n. IsRun code kind n then_trace)
-        (sym (sym (same_capacity code kind effects size_of laws call base v c m stage) ∙ known)) next_between.run
+    run_then x0 x1 = grind (arith, same_capacity, next_between)
 
     abbrev pub view_then : View T
     view_then = view_after code kind key id y.p v then_gained then_trace

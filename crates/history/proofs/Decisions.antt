@@ -146,7 +146,7 @@ module _ {T C M E : Type 0} (code : Coding T) (kind : Kind) (decides : MayDecide
           ∙ (y.state leaves is_p ∙ k.before.state leaves (was ∙ ap Some (sym same)))
 
       run_then : IsRun code kind base.capacity u_then
-      run_then = subst (λ i. IsRun code kind i u_then) (sym (sym k.before.capacity ∙ known)) between_heard.run
+      run_then = grind (arith, between_heard)
 
       lifted : IsUnderWay code kind call base view_heard c m
       lifted =

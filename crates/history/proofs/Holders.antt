@@ -94,13 +94,7 @@ module _ {T : Type 0} (c : ℕ) where
   -- what a push and a pop know of the list, where these values wait
   module _ {V : Type 0} (code : Coding V) (named : V → Item T) (k : Core V) (before : List (Event T)) (same : waiting before ≡ map named k.waiting) where
     room_at : (v : V) (stage : pushes.PushStage) → KnowsPush code c k v stage → RoomAt before stage
-    room_at v pushes.TheVariants.LoadsWrite knows = tt
-    room_at v (pushes.TheVariants.LoadsRead write) knows = tt
-    room_at v (pushes.TheVariants.StoresCell write cell at) knows = tt
-    room_at v (pushes.TheVariants.StoresWrite write) knows =
-        (let room = knows.1 in
-        let long : length (waiting before) ≡ length k.waiting = ap length same ∙ length-map k.waiting named in
-        omega arith)
+    room_at x0 x1 x2 = grind (arith, length, waiting, length-map)
 
     first_at : (words : List ℕ) (stage : pops.PopStage) → KnowsPop code c k words stage → FirstAt before (named (value_in code.value_of code.size words)) stage
     first_at x0 x1 x2 = grind arith

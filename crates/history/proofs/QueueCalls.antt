@@ -1,8 +1,8 @@
 -- The pushes and pops of the index queue as calls of the model.
 use Rattle.history.proofs.Names.{inl, not, ◌≡◌, ℕ, ◌+◌, ◌^◌, ◌%◌, ◌*◌, ◌<◌, ◌==◌, Bool}
-use Rattle.history.proofs.Names.{true, false, Option, Some, None, [], ◌++◌, refl, ap, ◌∙◌}
+use Rattle.history.proofs.Names.{true, false, Option, Some, None, [], refl}
 use Rattle.history.proofs.Names.{arith, nat_tests, written, Ask, After, GoOn, OneWord, after_position}
-use Rattle.history.proofs.Names.{Answer, Truth, Flight, PushIndex, Pop}
+use Rattle.history.proofs.Names.{Answer, Flight, PushIndex, Pop}
 use Rattle.history.proofs.Names.{Coding, after_of, words_of_index, popped, push_effect, pop_effect, answered}
 use Rattle.history.proofs.Names.{KeepsRule, IsFresh, Producer, Consumer, holds}
 use Rattle.steps.specs.declared.ask.Op.TheVariants.{Load, Store}
@@ -23,7 +23,7 @@ use Rattle.history.specs.declared.view.View.{View}
 use Rattle.history.specs.History.{IsMachine}
 use Rattle.history.specs.Roles.{HasRole}
 use Rattle.model.specs.declared.families.queues.QueueKind.TheVariants.{IndexQueue}
-use Rattle.history.specs.Queues.{push_skips, PushStage, push_wrote, pushes_index, Taking, PopStage, pop_wrote}
+use Rattle.history.specs.Queues.{push_skips, PushStage, pushes_index, Taking, PopStage, pop_wrote}
 use Rattle.history.specs.Queues.{pops_index}
 use Rattle.history.proofs.Drives.{IsCallOf, goes, keeps, keeps_all}
 use Rattle.history.proofs.Queues.{queue_effects, index_owes, role_starts}
@@ -47,18 +47,9 @@ module _ {T : Type 0} (code : Coding T) (v : ℕ) where
       → queue_effects code p (call.flight c m) n ≡ effects_of p (PushIndex v) (push_effect (Index v) c.stage) None
   effects_on p c d m n e = rw e refl
 
-  effects_end : (p : ℕ) (c : Push ℕ) (b : Bool) (m : Unit {0}) (n : ℕ) → push_after 1 c n ≡ Done b
-      → queue_effects code p (call.flight c m) n ≡ effects_of p (PushIndex v) (push_effect (Index v) c.stage) (Some (Truth b))
-  effects_end p c b m n e = rw e refl
-
   quiet : (p n : ℕ) (c d : Push ℕ) (stage : pushes.PushStage) → push_takes 1 c stage n ≡ GoOn d
       → effects_of {T = T} p (PushIndex v) (push_effect (Index v) stage) None ≡ []
   quiet x0 x1 x2 x3 x4 x5 = grind arith
-
-  loud : (p n : ℕ) (c : Push ℕ) (b : Bool) (stage : pushes.PushStage) → push_skips stage n ≡ false
-      → push_takes 1 c stage n ≡ Done b
-      → effects_of {T = T} p (PushIndex v) (push_effect (Index v) stage) (Some (Truth b)) ≡ push_wrote p v b
-  loud x0 x1 x2 x3 x4 x5 x6 = grind arith
 
   -- where it stands next
   stays : (capacity : ℕ) (c d : Push ℕ) (n : ℕ) (stage : pushes.PushStage) → c.capacity ≡ capacity
@@ -93,23 +84,7 @@ module _ {T : Type 0} (code : Coding T) (v : ℕ) where
 
   pub push_is_call : IsCallOf code (queue_effects code) (λ capacity. 4 + capacity)
       (λ c. push_want words_of_index c v) (λ c n. push_after 1 c n) (λ c m n. m) call
-  push_is_call =
-      record {
-        same_want = λ c m. refl;
-        same_after = λ capacity c m n h. same_after c m n;
-        hears = λ c m a n e. (hears c a n c.stage e, refl);
-        stays = λ capacity c d n h e. (let next = stays capacity c d n c.stage h.1 h.2 e in (h.0, next.0, next.1));
-        asks = λ capacity c h. asks capacity c.stage h.0 h.2;
-        past = λ capacity c d n k h e. (stays capacity c d n c.stage h.1 h.2 e).2 k;
-        finds = λ c m n small t. finds n c.stage small t;
-        leaves = λ c a n t e. leaves c a n c.stage t e;
-        tells =
-            λ capacity p from c d m n es h wrote e. ap (λ zs. zs ++ queue_effects code p (call.flight c m) n) wrote
-            ∙ (effects_on p c d m n e ∙ quiet p n c d c.stage e);
-        tells_all =
-            λ capacity p from c b m n es h skip wrote e still. ap (λ zs. zs ++ queue_effects code p (call.flight c m) n) wrote
-            ∙ (effects_end p c b m n e ∙ loud p n c b c.stage skip e);
-      }
+  push_is_call = grind (arith, same_after, hears, stays, asks, finds, leaves, queue_effects, effects_on, quiet)
 
   -- each step of a push keeps the rule of the table: it is a machine
   pub push_keeps : KeepsRule (λ (z : View T). z.capacity) (At code kinds.IndexQueue call)
@@ -172,23 +147,7 @@ module _ {T : Type 0} (code : Coding T) where
   pop_hears x0 x1 x2 x3 x4 x5 = grind arith
 
   pub pop_is_call : IsCallOf code (queue_effects code) (λ capacity. 4 + capacity) (λ (c : Taking). pop_want c) (λ c n. pop_after 1 c n) keeps_it taking
-  pop_is_call =
-      record {
-        same_want = λ c m. refl;
-        same_after = λ capacity c m n h. pop_same_after c m n;
-        hears = λ c m a n e. pop_hears c m a n c.stage e;
-        stays = λ capacity c d n h e. (let next = pop_stays capacity c d n c.stage h.1 h.2 e in (h.0, next.0, next.1));
-        asks = λ capacity c h. pop_finds_word capacity c.stage h.0 h.2;
-        past = λ capacity c d n k h e. refl;
-        finds = λ c m n small t. tt;
-        leaves = λ c a n t e. absurd (cc);
-        tells =
-            λ capacity p from c d m n es h wrote e. ap (λ zs. zs ++ queue_effects code p (taking.flight c m) n) wrote
-            ∙ (pop_effects_on p c d m n e ∙ pop_quiet p n m.0 c d c.stage e);
-        tells_all =
-            λ capacity p from c b m n es h skip wrote e still. ap (λ zs. zs ++ queue_effects code p (taking.flight c m) n) wrote
-            ∙ (pop_effects_end p c b m n e ∙ pop_loud p n c m b c.stage e);
-      }
+  pop_is_call = grind (arith, pop_same_after, pop_hears, pop_stays, pop_finds_word, queue_effects, pop_effects_on, pop_quiet, pop_effects_end, pop_loud)
 
   pub pop_keep_all : KeepsRule (λ (z : View T). z.capacity) (At code kinds.IndexQueue taking)
       (Ends code kinds.IndexQueue taking) (λ key. 4 + key + 1) (λ key. key) (λ key. IsMachine code kinds.IndexQueue key)

@@ -87,13 +87,7 @@ module _ {T : Type 0} (code : Coding T) (capacity : ℕ) (kd : QueueKind) where
 
   -- its words
   pub sized_so : (t : Trace T) → IsOf t → length t.world.words ≡ 4 + words_of_cell code.size kd * cells_of kd capacity
-  sized_so t run =
-      let s = sound_of t run in
-      let cells : length s.state.core.cells ≡ words_of_cell code.size kd * cells_of kd capacity =
-      s.holds.good.cells ∙ (ap (λ (n : ℕ). (encoded t.world.coding kd).size * cells_of kd n) run.sized
-      ∙ (cell_sizes kd t.world.coding ∙ ap (λ (z : Coding T). words_of_cell z.size kd * cells_of kd capacity) run.coded))
-      in
-      ap length (kept_is t.world.kept t.world.words s.state s.fit).1 ∙ omega arith
+  sized_so x0 x1 = grind (arith, sound_of, length, words_of_cell, cells_of, encoded, cell_sizes, kept_is)
 
 -- ---- what a bounded queue owes, of indices or of values
 

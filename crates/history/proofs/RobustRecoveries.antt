@@ -280,17 +280,7 @@ module _ {T : Type 0} (code : Coding T) (mode : ReleaseMode) where
   recover_hears = grind arith
 
   pub recover_first : (v : View T) → v.going ≡ None → v.other ≡ [] → 0 < v.share.part → At v v (first_recover v.capacity) []
-  recover_first v idle alone any =
-      inl (inl (record {
-        is = refl;
-        idle = idle;
-        fresh = alone;
-        standing = (refl, tt);
-        some = any;
-        first = refl;
-        starts = robust_starts code v (recovers_owned mode) (Recover mode) (first_recover v.capacity) [] refl (λ o p h. h) (λ kept. refl) (λ dead none. refl);
-        wrote = λ p new. (refl, refl);
-      }))
+  recover_first x0 x1 x2 x3 = grind (arith, robust_starts, recovers_owned, first_recover)
 
   -- ---- the view tells which visits they are
 

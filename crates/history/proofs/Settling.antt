@@ -51,17 +51,7 @@ module _ {T : Type 0} (code : Coding T) (kind : Kind) (decides : MayDecide kind)
     none = grind arith
 
     between : Between code kind key r.owner s id h.party [] r.trace
-    between =
-        at_first code kind key s id h.party r [] mine (here.self h.some)
-        (λ q of_id ne. here.idle q of_id (λ e. (
-        let both : ◌≡◌ {A = Option ℕ} (Some h.party) (Some q) = sym h.mine ∙ e in
-        let same : h.party ≡ q = cc in
-        ne (sym same))))
-        (λ x there f. (
-        let same : sum_by f x.made ≡ sum_by f v.made = ap (λ (z : View T). sum_by f z.made) (some-injective x v (sym there ∙ at)) in
-        let all = here.made f in
-        let no : sum_by f here.late ≡ 0 = ap (sum_by f) none in
-        omega arith))
+    between = grind (arith, at_first, mine, here, sum_by, some-injective, none)
 
     there : call_in r.trace.world h.party ≡ Some (h.start, h.flight)
     there = here.going h.party mine h.mine ∙ h.going
@@ -98,8 +88,7 @@ module _ {T : Type 0} (code : Coding T) (kind : Kind) (decides : MayDecide kind)
 
     -- an answer is no look
     state_stays : view_settled.state ≡ v.state
-    state_stays =
-        (laws key).states r.trace (Decide h.party false) r.run between_then.run free h.party refl ∙ here.stated h.party mine h.mine
+    state_stays = grind (arith, between_then, free, here, mine)
 
     wrote_none : effects r.trace.world h.party h.flight (number_of false) ≡ []
     wrote_none = quiet r.trace.world h.party h.flight h.answer h.asks comes

@@ -277,22 +277,13 @@ module _ {T : Type 0} where
         goes_then n = goes_of code p flight n u.world.kept
 
         pub goes_to : call_in (after_turn u (Next p)).world p ≡ call_then start (goes_then found)
-        goes_to =
-            its_step.going ∙ ap (call_then start)
-            (ap (λ z. goes_of z p flight (old_of u.world.words (ask_of (want_of u.world.coding flight))) u.world.kept) b.run.coded
-            ∙ ap goes_then found_old)
+        goes_to = grind (arith, its_step, call_then, goes_of, old_of, ask_of, want_of, found_old)
 
         abbrev pub tells : List (Event T)
         tells = effects u.world p flight found ++ ending_of p start (answer_in (goes_then found))
 
         pub told : events_of u.world (Next p) ≡ tells
-        told =
-            its_step.events
-            ∙ (ap (λ z. effects u.world p flight (old_of u.world.words (ask_of (want_of u.world.coding flight)))
-            ++ ending_of p start
-            (answer_in (goes_of z p flight (old_of u.world.words (ask_of (want_of u.world.coding flight))) u.world.kept)))
-            b.run.coded
-            ∙ ap (λ n. effects u.world p flight n ++ ending_of p start (answer_in (goes_then n))) found_old)
+        told = grind (arith, its_step, old_of, ask_of, want_of, ending_of, answer_in, goes_of, found_old)
 
         -- and what is kept then
         pub kept_then : (after_turn u (Next p)).world.kept ≡ (step_in u.world p (stands u.world p start flight at).x flight found).kept
@@ -313,11 +304,7 @@ module _ {T : Type 0} where
             omega arith
 
         beside : (q : ℕ) → q ≢ p → IsLate kind (call_in u.world q) (events_by q (events_of u.world (Next p)))
-        beside q ne =
-            subst (λ zs. IsLate kind (call_in u.world q) zs)
-            (sym (ap (events_by q) told ∙ by_same q (effects u.world p flight found) (ending_of p start (answer_in (goes_then found)))
-            (by_other p q (ending_of p start (answer_in (goes_then found))) ne ends_own)))
-            (mine.beside found q ne)
+        beside x0 x1 = grind (arith, call_in, events_by, told, by_same, ending_of, answer_in, by_other, ends_own, mine)
 
         -- what it writes of its own
         pub own_told : events_by p (events_of u.world (Next p))
@@ -357,28 +344,17 @@ module _ {T : Type 0} where
         comes_here = grind arith
 
         pub heard : events_of u.world (Decide p said) ≡ hears ++ ends_so
-        heard =
-            heard_events u.world p start flight (effects u.world p flight) (stands u.world p start flight at) steps_so.goes steps_so.writes said
-            ∙ ap (λ (a : After (Flight T) (Answer T)). hears ++ ending_of p start (answer_in a)) comes_here
+        heard = grind (arith, heard_events, stands, steps_so, ending_of, answer_in, comes_here)
 
         -- what it writes of its own
         pub own_heard : events_by p (events_of u.world (Decide p said)) ≡ events_by p hears ++ ends_so
         own_heard = grind (arith, heard, by_more, by_mine, ending_of_own)
 
         heard_someone : sum_by (λ e. of_none (whose e)) (events_of u.world (Decide p said)) ≡ 0
-        heard_someone =
-            let all : sum_by (λ e. of_none (whose e)) (events_of u.world (Decide p said)) ≡ sum_by (λ e. of_none (whose e)) (hears ++ ends_so) =
-            ap (sum_by (λ e. of_none (whose e))) heard in
-            let one = sum_by-append (λ e. of_none (whose e)) hears ends_so in
-            let wrote = steps_so.someone (number_of said) in
-            let ends = all_someone p ends_so (ending_of_own p start (answer_in next)) in
-            omega arith
+        heard_someone = grind (arith, sum_by, of_none, whose, events_of, heard, sum_by-append, steps_so, number_of, all_someone)
 
         heard_beside : (q : ℕ) → q ≢ p → IsLate kind (call_in u.world q) (events_by q (events_of u.world (Decide p said)))
-        heard_beside q ne =
-            subst (λ zs. IsLate kind (call_in u.world q) zs)
-            (sym (ap (events_by q) heard ∙ by_same q hears ends_so (by_other p q ends_so ne (ending_of_own p start (answer_in next)))))
-            (steps_so.beside (number_of said) q ne)
+        heard_beside x0 x1 = grind (arith, call_in, events_by, heard, by_same, by_other, ending_of_own, answer_in, steps_so, number_of)
 
         pub decided : Between owner s id p (gained ++ events_by p (events_of u.world (Decide p said))) (after_turn u (Decide p said))
         decided =

@@ -2,7 +2,7 @@
 use Rattle.history.proofs.Names.{inl, ◌≡◌, nat_lt, ℕ, ◌+◌, ◌^◌, ◌*◌, ◌<◌, ◌==◌, ◌||◌, cond, Bool}
 use Rattle.history.proofs.Names.{true, false, Option, Some, None, List, [], ◌++◌, slice_set, slice_index, refl}
 use Rattle.history.proofs.Names.{sym, ap, ◌∙◌, arith, written, Ask, After, GoOn}
-use Rattle.history.proofs.Names.{after_position, Truth}
+use Rattle.history.proofs.Names.{after_position}
 use Rattle.history.proofs.Names.{Flight, Pop, Values, Coding, IsCoding, after_of, fresh_cell, kept_at}
 use Rattle.history.proofs.Names.{push_effect, answered, KeepsRule, IsFresh, Producer, Consumer}
 use Rattle.steps.specs.declared.ask.Op.TheVariants.{Load, Store}
@@ -29,7 +29,7 @@ use Rattle.history.specs.Queues.{push_skips}
 use Rattle.history.specs.Roles.{HasRole}
 use Rattle.history.specs.Rooms.{room_of}
 use Rattle.history.specs.Stages.{Calling, At, Ends, Over}
-use Rattle.history.specs.ValueQueue.{IsWordOf, PushPlace, PopPlace, value_push_wrote, value_pop_wrote, pushes_value, value_there, pops_value}
+use Rattle.history.specs.ValueQueue.{IsWordOf, PushPlace, PopPlace, value_pop_wrote, pushes_value, value_there, pops_value}
 use Rattle.history.proofs.Drives.{IsCallOf, goes, keeps, keeps_all}
 use Rattle.history.proofs.QueueCalls.{holds_it}
 use Rattle.history.proofs.Queues.{queue_effects, values_owe, role_starts}
@@ -53,18 +53,9 @@ module _ {T : Type 0} (code : Coding T) (law : IsCoding code) (v : T) where
       → queue_effects code p (pushing.flight c m) n ≡ effects_of p (Push v) (push_effect (Value v) c.stage) None
   effects_on p c d m n e = rw e refl
 
-  effects_end : (p : ℕ) (c : Pushing T) (b : Bool) (m : Unit {0}) (n : ℕ) → push_after code.size c n ≡ Done b
-      → queue_effects code p (pushing.flight c m) n ≡ effects_of p (Push v) (push_effect (Value v) c.stage) (Some (Truth b))
-  effects_end p c b m n e = rw e refl
-
   quiet : (p n : ℕ) (c d : Pushing T) (stage : pushes.PushStage) → push_takes code.size c stage n ≡ GoOn d
       → effects_of {T = T} p (Push v) (push_effect (Value v) stage) None ≡ []
   quiet x0 x1 x2 x3 x4 x5 = grind arith
-
-  loud : (p n : ℕ) (c : Pushing T) (b : Bool) (stage : pushes.PushStage) → push_skips stage n ≡ false
-      → push_takes code.size c stage n ≡ Done b
-      → effects_of {T = T} p (Push v) (push_effect (Value v) stage) (Some (Truth b)) ≡ value_push_wrote p v b
-  loud x0 x1 x2 x3 x4 x5 x6 = grind arith
 
   -- where it stands next
   module _ (capacity : ℕ) where
@@ -98,23 +89,7 @@ module _ {T : Type 0} (code : Coding T) (law : IsCoding code) (v : T) where
 
   push_is_call : IsCallOf code (queue_effects code) (λ capacity. 4 + code.size * capacity)
       (λ c. push_want code.words_of c v) (λ c n. push_after code.size c n) (λ c m n. m) pushing
-  push_is_call =
-      record {
-        same_want = λ c m. refl;
-        same_after = λ capacity c m n h. push_same_after c m n;
-        hears = λ c m a n e. (push_hears c a n c.stage e, refl);
-        stays = λ capacity c d n h e. (let next = push_stays capacity c d n c.stage h.1 h.2 e in (h.0, next.0, next.1));
-        asks = λ capacity c h. push_finds_word capacity c.stage h.2;
-        past = λ capacity c d n k h e. (push_stays capacity c d n c.stage h.1 h.2 e).2 k;
-        finds = λ c m n small t. push_finds n c.stage small t;
-        leaves = λ c a n t e. push_leaves c a n c.stage t e;
-        tells =
-            λ capacity p from c d m n es h wrote e. ap (λ zs. zs ++ queue_effects code p (pushing.flight c m) n) wrote
-            ∙ (effects_on p c d m n e ∙ quiet p n c d c.stage e);
-        tells_all =
-            λ capacity p from c b m n es h skip wrote e still. ap (λ zs. zs ++ queue_effects code p (pushing.flight c m) n) wrote
-            ∙ (effects_end p c b m n e ∙ loud p n c b c.stage skip e);
-      }
+  push_is_call = grind (arith, push_same_after, push_hears, push_stays, push_finds_word, push_finds, push_leaves, queue_effects, effects_on, quiet)
 
   pub value_push_keeps : KeepsRule (λ (z : View T). z.capacity) (At code kinds.Queue pushing)
       (Over code kinds.Queue pushing) (λ key. 4 + code.size * key + 1) (λ key. key)

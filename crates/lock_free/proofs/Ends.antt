@@ -1,5 +1,6 @@
 -- What is known of a whole call on a set, whichever it is.
-use Rattle.lock_free.proofs.Names.{◌≡◌, ℕ, Option, Some, None, IfSome, List, [], ◌∷◌, ◌++◌, sym, ap, subst, ◌∙◌}
+use Rattle.std.proofs.Common.{arith}
+use Rattle.lock_free.proofs.Names.{◌≡◌, ℕ, Option, Some, None, IfSome, List, [], ◌∷◌, ◌++◌, sym, ap, ◌∙◌}
 use Rattle.lock_free.proofs.Names.{append_assoc, Answer, Event, Begun, Finished, Start, Kind, one_word, View, Called}
 use Rattle.lock_free.proofs.Names.{Calling, Ends, called}
 use Rattle.lock_free.specs.Driven.{HasDone, HasMade}
@@ -26,13 +27,7 @@ module _ {C M E : Type 0} (kind : Kind) (call : Calling ℕ C M E)
 module _ {C M E : Type 0} (kind : Kind) (call : Calling ℕ C M E) (base w : View ℕ) (e : E) (m : M) (ends : Ends one_word kind call base e m w)
     (idle : base.going ≡ None) (wrote : ℕ → List (Event ℕ)) where
   pub has_made : ends.wrote ≡ wrote ends.party → HasMade call.start (call.answer e m) wrote base w
-  has_made tells =
-      record {
-        by = ends.party;
-        mine = ends.mine;
-        called =
-            subst (λ es. Called ends.party call.start (call.answer e m) es base w) tells (called one_word kind call base w e m idle ends);
-      }
+  has_made x0 = grind (arith, called, one_word)
 
 -- all that was seen before the end of the call
 abbrev pub before_end : {p : ℕ} {start : Start ℕ} {answer : Answer ℕ} {wrote : List (Event ℕ)} {old new : View ℕ}

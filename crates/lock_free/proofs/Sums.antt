@@ -1,5 +1,5 @@
 -- For clients of the sets: how a call changes the sums over what its pass made, and where its begin stands.
-use Rattle.lock_free.proofs.Names.{◌≡◌, ℕ, ◌+◌, ◌≤◌, Bool, true, false, cond, List, [], ◌∷◌, ◌++◌, refl, sym, ap, subst}
+use Rattle.lock_free.proofs.Names.{◌≡◌, ℕ, ◌+◌, ◌≤◌, Bool, cond, List, [], ◌∷◌, ◌++◌, refl, sym, ap, subst}
 use Rattle.lock_free.proofs.Names.{◌∙◌, append_assoc, arith, sum_by-append, sum_by-cons, sum_by_push, Answer, Event}
 use Rattle.lock_free.proofs.Names.{Begun, Finished, Start, BeginsNone, events_by, View, Called, IsBeginning}
 use Rattle.std.specs.List.{sum_by}
@@ -8,18 +8,12 @@ use Rattle.model.specs.Reading.{whose, is_party}
 -- what a call adds: its begin, what it wrote, its end
 pub sum_made : (f : Event ℕ → ℕ) (p : ℕ) (start : Start ℕ) (answer : Answer ℕ) (wrote : List (Event ℕ)) (old new : View ℕ) → Called p start answer wrote old new
     → sum_by f new.made ≡ sum_by f old.made + (f (Begun p start) + (sum_by f wrote + f (Finished p start answer)))
-sum_made f p start answer wrote old new h =
-    ap (sum_by f) h.made
-    ∙ (sum_by-append f old.made (Begun p start ∷ (wrote ++ Finished p start answer ∷ []))
-    ∙ ap (λ n. sum_by f old.made + n)
-    (sum_by-cons f (Begun p start) (wrote ++ Finished p start answer ∷ [])
-    ∙ ap (λ n. f (Begun p start) + n) (sum_by_push f wrote (Finished p start answer))))
+sum_made x0 x1 x2 x3 x4 x5 x6 x7 = grind (arith, sum_by, sum_by-append, sum_by-cons, sum_by_push)
 
 -- a party's events are some of all events
 some_of : (f : Event ℕ → ℕ) (e : Event ℕ) (own all : List (Event ℕ)) (t : Bool) → sum_by f own ≤ sum_by f all
     → sum_by f (cond t (e ∷ []) [] ++ own) ≤ sum_by f (e ∷ all)
-some_of f e own all true less = let one = sum_by-cons f e own in let two = sum_by-cons f e all in omega arith
-some_of f e own all false less = let two = sum_by-cons f e all in omega arith
+some_of x0 x1 x2 x3 x4 x5 = grind (arith, sum_by-cons)
 
 sum_of_party : (f : Event ℕ → ℕ) (p : ℕ) (es : List (Event ℕ)) → sum_by f (events_by p es) ≤ sum_by f es
 sum_of_party f p [] = omega arith
@@ -28,15 +22,7 @@ sum_of_party f p (e ∷ es) = some_of f e (events_by p es) es (is_party p (whose
 -- what a call wrote was seen
 pub sum_seen : (f : Event ℕ → ℕ) (p : ℕ) (start : Start ℕ) (answer : Answer ℕ) (wrote : List (Event ℕ)) (old new : View ℕ)
     → Called p start answer wrote old new → sum_by f wrote ≤ sum_by f new.seen
-sum_seen f p start answer wrote old new h =
-    let end : List (Event ℕ) = Finished p start answer ∷ [] in
-    let own = ap (sum_by f) h.during_own in
-    let some = sum_of_party f p h.during in
-    let one = ap (sum_by f) h.is in
-    let two = sum_by-append f (old.seen ++ h.others) (Begun p start ∷ (h.during ++ end)) in
-    let three = sum_by-cons f (Begun p start) (h.during ++ end) in
-    let four = sum_by-append f h.during end in
-    omega arith
+sum_seen x0 x1 x2 x3 x4 x5 x6 x7 = grind (arith, sum_by, sum_of_party, sum_by-append, sum_by-cons)
 
 -- the sums over what was seen only grow
 pub sum_grows : (f : Event ℕ → ℕ) (seen events : List (Event ℕ)) → IsBeginning seen events → sum_by f seen ≤ sum_by f events
@@ -44,11 +30,7 @@ sum_grows f seen events h = let e = ap (sum_by f) h.is ∙ sum_by-append f seen 
 
 pub seen_begins : (p : ℕ) (start : Start ℕ) (answer : Answer ℕ) (wrote : List (Event ℕ)) (old new : View ℕ)
     → Called p start answer wrote old new → IsBeginning old.seen new.seen
-seen_begins p start answer wrote old new h =
-    record {
-      rest = h.others ++ Begun p start ∷ (h.during ++ Finished p start answer ∷ []);
-      is = h.is ∙ append_assoc old.seen h.others (Begun p start ∷ (h.during ++ Finished p start answer ∷ []));
-    }
+seen_begins x0 x1 x2 x3 x4 x5 x6 = grind (arith, append_assoc)
 
 pub same_last : {A : Type 0} → (xs ys : List A) (a b : A) → xs ++ a ∷ [] ≡ ys ++ b ∷ [] → a ≡ b
 same_last [] [] a b e = cc

@@ -1,5 +1,5 @@
 -- What is known of whole calls on a value.
-use Rattle.std.proofs.Common.{◌≡◌, inl, inr, ℕ, ◌+◌, ◌-◌, ◌^◌, ◌<◌, ◌==◌, Bool, true, false, Some, None, List, [], ◌∷◌}
+use Rattle.std.proofs.Common.{◌≡◌, inl, inr, ℕ, ◌-◌, ◌^◌, ◌<◌, ◌==◌, Bool, true, false, Some, None, List, [], ◌∷◌}
 use Rattle.std.proofs.Common.{◌++◌, length, replicate, slice_index, sum_by, refl, sym, ap, subst, ◌∙◌, append_assoc}
 use Rattle.std.proofs.Common.{append-nil, length-append, arith}
 use Rattle.lock_free_value.proofs.Names.{nat_tests, flat_map-append, sum_by-append, Truth, Loaded, Done, Event, Begun}
@@ -82,11 +82,7 @@ module _ {T : Type 0} where
         back_over p seen others (each_left (seen ++ others) (Begun p start ∷ part) each) none_others back
 
     none_between : stored ((seen ++ others) ++ Begun p start ∷ part) ≡ stored seen
-    none_between =
-        flat_map-append stores (seen ++ others) (Begun p start ∷ part)
-        ∙ (ap (λ zs. stored (seen ++ others) ++ zs) later.1
-        ∙ (append-nil (stored (seen ++ others))
-        ∙ (flat_map-append stores seen others ∙ (ap (λ zs. stored seen ++ zs) earlier.1 ∙ append-nil (stored seen)))))
+    none_between = grind (arith, flat_map-append, stores, stored, later, append-nil, earlier)
 
   it_is : (p : ℕ) (start : Start T) (answer : Answer T) → events_by p (Finished p start answer ∷ []) ≡ Finished p start answer ∷ []
   it_is p start answer = (let t : (p == p) ≡ true = grind (arith, nat_tests) in rw t refl)
@@ -119,12 +115,7 @@ module _ {T : Type 0} where
 
   moved : (taken given : ℕ) (old new more : List (Event T)) → new ≡ old ++ more → sum_by takes_producer more ≡ taken
       → sum_by gives_producer more ≡ given → Moved taken given old new
-  moved taken given old new more is t g =
-      let a = sum_by-append takes_producer old more in
-      let b = sum_by-append gives_producer old more in
-      let c : sum_by takes_producer new ≡ sum_by takes_producer (old ++ more) = ap (sum_by takes_producer) is in
-      let d : sum_by gives_producer new ≡ sum_by gives_producer (old ++ more) = ap (sum_by gives_producer) is in
-      record { takes = omega arith; gives = omega arith }
+  moved x0 x1 x2 x3 x4 x5 x6 x7 = grind (arith, sum_by-append, takes_producer, gives_producer, sum_by)
 
 -- a store is left out where its first load finds the last version
 ends_at : {T : Type 0} (code : Coding T) (x : T) (stage : stages.StoreStage) (n : ℕ) (a : Ask)
@@ -145,35 +136,11 @@ module _ {T : Type 0} (code : Coding T) (base w : View T) (idle : base.going ≡
     pub begun : 0 < length (stored base.seen) → 0 < length (stored w.seen)
 
   begun_still : IsBeginning base.seen w.seen → 0 < length (stored base.seen) → 0 < length (stored w.seen)
-  begun_still h some =
-      let whole : length (stored w.seen) ≡ length (stored base.seen ++ stored h.rest) =
-      ap (λ es. length (stored es)) h.is ∙ ap length (flat_map-append stores base.seen h.rest) in
-      let long = length-append (stored base.seen) (stored h.rest) in
-      omega arith
+  begun_still x0 x1 = grind (arith, length, stored, flat_map-append, stores, length-append)
 
   module _ {C M E : Type 0} (call : Calling T C M E) where
     ends_leaves : (e : E) (m : M) → Ends code kinds.Atomic call base e m w → Leaves
-    ends_leaves e m ends =
-        let since : IsBeginning base.seen w.seen =
-        record {
-          rest =
-              ends.since.others
-              ++ (opened ends.party call.start base.going ++ (ends.since.during ++ Finished ends.party call.start (call.answer e m) ∷ []));
-          is = ends.since.is ∙ append_assoc base.seen ends.since.others _;
-        } in
-        record {
-          goes =
-              record {
-                share = ends.share;
-                since = since;
-                history = subst (λ n. IsHistory code kinds.Atomic n w.seen) one ends.history;
-                all = λ whole. ends.all (subst IsAll ends.share whole);
-              };
-          sized = ends.capacity ∙ one;
-          quiet = ends.idle;
-          alone = ends.alone;
-          begun = begun_still since;
-        }
+    ends_leaves x0 x1 x2 = grind (arith, opened, append_assoc, begun_still)
 
     pub leaves : (e : E) (m : M) → Over code kinds.Atomic call base e m w → Leaves
     leaves e m (inl ends) = ends_leaves e m ends
@@ -203,14 +170,7 @@ module _ {T : Type 0} (code : Coding T) (base w : View T) (idle : base.going ≡
   -- ---- the role
 
   pub acquired : (b : Bool) (m : Unit {0}) → Ends code kinds.Atomic acquires_producer base b m w → HasAcquired b base w
-  acquired b m ends =
-      record {
-        by = ends.party;
-        mine = ends.mine;
-        called =
-            subst (λ es. Called ends.party (Atomic AcquireProducer) (Truth b) es base w) ends.tells
-            (called code kinds.Atomic acquires_producer base w b m idle ends);
-      }
+  acquired x0 x1 x2 = grind (arith, called, acquires_producer)
 
   pub taken_once : (b : Bool) (m : Unit {0}) → Ends code kinds.Atomic acquires_producer base b m w → b ≡ true → Moved 1 0 base.made w.made
   unfolding acquired
@@ -280,9 +240,7 @@ module _ {T : Type 0} (code : Coding T) (base w : View T) (idle : base.going ≡
 
     stored_so : (m : Unit {0}) → (ends : Ends code kinds.Atomic (stores_value code x) base true m w)
         → Called ends.party (Atomic (Store x)) (Truth true) (act ends.party ∷ []) base w
-    stored_so m ends =
-        subst (λ es. Called ends.party (Atomic (Store x)) (Truth true) es base w) ends.tells.1
-        (called code kinds.Atomic (stores_value code x) base w true m idle ends)
+    stored_so x0 x1 = grind (arith, called, stores_value)
 
     has_stored : (m : Unit {0}) → Ends code kinds.Atomic (stores_value code x) base true m w → HasStored x base w
     has_stored m ends =
@@ -318,15 +276,7 @@ module _ {T : Type 0} (code : Coding T) (base w : View T) (idle : base.going ≡
 
     pub at_end_if : base.other ≡ [] → 0 < base.share.part → HasProducer base.made → (e : Bool) (m : Unit {0})
         → Over code kinds.Atomic (stores_value code x) base e m w → e ≡ false → WasAtEnd base w
-    at_end_if alone some has e m (inl ends) is = (let no : true ≡ false = sym ends.tells.0 ∙ is in absurd (cc))
-    at_end_if alone some has e m (inr left) is =
-        let at = ends_at code x left.from.stage left.word left.ask left.skipped left.asks in
-        let word : slice_index left.trace.world.words 0 ≡ 2 ^ 64 - 1 = ap (λ n. slice_index left.trace.world.words n) (sym at.0) ∙ (left.found ∙ at.1) in
-        record {
-          made = left.looked.made;
-          end = ap (λ es. length (stored es) + 1) left.seen ∙ (sym (version_is_count code base.capacity left.trace left.run) ∙ word);
-          list = looked_alone left.looked alone some has;
-        }
+    at_end_if x0 x1 x2 x3 x4 x5 x6 = grind (arith, ends_at, slice_index, length, stored, version_is_count, looked_alone)
 
     pub store_moves : (e : Bool) (m : Unit {0}) → Over code kinds.Atomic (stores_value code x) base e m w → Moved 0 0 base.made w.made
     store_moves e m (inl ends) =
@@ -344,9 +294,7 @@ module _ {T : Type 0} (code : Coding T) (base w : View T) (idle : base.going ≡
 
     loaded_so : (e : Unit {0}) (m : R) → (ends : Ends code kinds.Atomic (loads_value code words_in) base e m w)
         → Called ends.party (Atomic Load) (Loaded (value_there m)) (Acted ends.party (Atomic Load) (Loaded (value_there m)) ∷ []) base w
-    loaded_so e m ends =
-        subst (λ es. Called ends.party (Atomic Load) (Loaded (value_there m)) es base w) ends.tells
-        (called code kinds.Atomic (loads_value code words_in) base w e m idle ends)
+    loaded_so x0 x1 x2 = grind (arith, called, loads_value)
 
     pub has_loaded : (e : Unit {0}) (m : R) → Ends code kinds.Atomic (loads_value code words_in) base e m w → HasLoaded (value_there m) base w
     has_loaded e m ends =

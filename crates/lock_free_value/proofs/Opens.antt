@@ -1,11 +1,10 @@
 -- The words with which a value's table opens, as they are filled in.
 use Rattle.std.proofs.Common.{◌≡◌, ℕ, zero, suc, ◌+◌, ◌*◌, ◌<◌, nat_lt, if◌then◌else◌, Bool, true, false, List, []}
 use Rattle.std.proofs.Common.{◌∷◌, ◌++◌, length, get_or, replicate, set, refl, sym, ap, ◌∙◌, length-append, arith}
-use Rattle.lock_free_value.proofs.Names.{nat_tests, flat_map-append, sum_by-append, Done, Event, Begun, Finished}
-use Rattle.lock_free_value.proofs.Names.{Atomic, Coding, IsCoding, stores, stored, takes_producer, gives_producer}
+use Rattle.lock_free_value.proofs.Names.{nat_tests, flat_map-append, sum_by-append}
+use Rattle.lock_free_value.proofs.Names.{Coding, IsCoding, stores, stored, takes_producer, gives_producer}
 use Rattle.lock_free_value.proofs.Names.{HasProducer}
 use Rattle.std.proofs.lemmas.List.{length-replicate, replicate_more}
-use Rattle.model.specs.declared.families.atomic.AtomicStart.TheVariants.{ReleaseProducer}
 use Rattle.lock_free_value.specs.Roles.{LacksProducer}
 use Rattle.laws_value.proofs.Core.{set_at, zeros as zero_there}
 use Rattle.history.specs.ValueOpened.{first_stores, stored_once, stored_times, opened_view, opened_cells}
@@ -15,9 +14,7 @@ use Rattle.history.proofs.ValueOpened.{set_right, mix, mix_step, mix_length, mix
 
 -- its version
 pub first_is : (version : ℕ) → (if nat_lt version 2 then 2 else version) ≡ first_stores version + 1
-first_is zero = refl
-first_is (suc zero) = refl
-first_is (suc (suc more)) = (let t : nat_lt (suc (suc more)) 2 ≡ false = grind (arith, nat_tests) in rw t (omega arith))
+first_is x0 = grind (arith, suc, nat_lt, nat_tests)
 
 module _ {T : Type 0} (code : Coding T) (value : T) (version : ℕ) where
   -- the words of the first cell in the end
@@ -60,18 +57,14 @@ module _ {T : Type 0} (code : Coding T) (law : IsCoding code) (value : T) (versi
       go false t = rw t (sym (zero_there code.size at 0))
 
   pub begins : set (set (replicate (code.size * 2 + 2 + 1) 0) 0 (first_stores version + 1)) 1 1 ≡ filled 0
-  begins =
-      let all : code.size * 2 + 2 + 1 ≡ suc (suc ((code.size + code.size) + 1)) = omega arith in
-      let cells : replicate ((code.size + code.size) + 1) 0 ≡ (zeros ++ zeros) ++ 0 ∷ [] =
-      sym (ap (λ zs. zs ++ 0 ∷ []) (replicate_both code.size code.size 0) ∙ replicate_more (code.size + code.size) 0) in
-      ap (λ n. set (set (replicate n 0) 0 (first_stores version + 1)) 1 1) all ∙ ap (λ zs. (first_stores version + 1) ∷ 1 ∷ zs) cells
+  begins = grind (arith, suc, replicate, replicate_both, replicate_more, set, first_stores)
 
   module _ (at : ℕ) (below : at < code.size) where
     xs_long : length (mix at first_words zeros) ≡ code.size
-    xs_long = (let a = firsts_long in let b = zeros_long in mix_length at first_words zeros (omega arith) (omega arith) ∙ b)
+    xs_long = grind (arith, firsts_long, zeros_long, mix_length)
 
     ys_long : length (mix at ws zeros) ≡ code.size
-    ys_long = (let a = law.sized value in let b = zeros_long in mix_length at ws zeros (omega arith) (omega arith) ∙ b)
+    ys_long = grind (arith, zeros_long, mix_length)
 
     pub steps : set (set (filled at) (2 + code.size + at) (get_or ws at 0)) (2 + at) (get_or first_words at 0) ≡ filled (suc at)
     steps =
@@ -112,44 +105,23 @@ module _ {T : Type 0} (code : Coding T) (law : IsCoding code) (value : T) (versi
       ∙ (ap (λ w. set (set (filled at) (2 + code.size + at) (get_or ws at 0)) (2 + at) w) one ∙ (steps at below ∙ ap filled next))))
 
   cells_are : (n : ℕ) → (if nat_lt 2 n then ws else zeros) ++ ws ≡ opened_cells code value (first_stores n)
-  cells_are zero = refl
-  cells_are (suc zero) = refl
-  cells_are (suc (suc zero)) = refl
-  cells_are (suc (suc (suc n))) = (let t : nat_lt 2 (suc (suc (suc n))) ≡ true = grind (arith, nat_tests) in rw t refl)
+  cells_are x0 = grind (arith, suc, nat_lt, nat_tests)
 
   pub ends : filled code.size ≡ (first_stores version + 1) ∷ 1 ∷ (opened_cells code value (first_stores version) ++ 0 ∷ [])
-  ends =
-      let one = mix_all code.size first_words zeros firsts_long zeros_long in
-      let two = mix_all code.size ws zeros (law.sized value) zeros_long in
-      ap (λ zs. (first_stores version + 1) ∷ 1 ∷ (zs ++ 0 ∷ []))
-      (ap (λ zs. zs ++ mix code.size ws zeros) one ∙ (ap (λ zs. first_words ++ zs) two ∙ cells_are version))
+  ends = grind (arith, mix_all, firsts_long, zeros_long, first_stores, mix, cells_are)
 
 -- ---- what the first pass knows
 
 module _ {T : Type 0} (value : T) where
   times_some : (n : ℕ) → 0 < n → 0 < length (stored (stored_times value n))
-  times_some zero some = absurd (omega arith)
-  times_some (suc n) some =
-      (let all : length (stored (stored_times value n ++ stored_once value)) ≡ length (stored (stored_times value n) ++ value ∷ []) =
-      ap length (flat_map-append stores (stored_times value n) (stored_once value)) in
-      let long = length-append (stored (stored_times value n)) (value ∷ []) in
-      omega arith)
+  times_some x0 x1 = grind (arith, suc, length, stored, stored_times, stored_once, flat_map-append, stores, length-append)
 
   stores_some : (version : ℕ) → 0 < first_stores version
-  stores_some zero = omega arith
-  stores_some (suc zero) = omega arith
-  stores_some (suc (suc more)) = omega arith
+  stores_some x0 = grind (arith, suc)
 
   -- something was stored
   pub opened_some : (version : ℕ) → 0 < length (stored (opened_view value version).seen)
-  opened_some version =
-      let n = first_stores version in
-      let last : List (Event T) = Begun 0 (Atomic ReleaseProducer) ∷ Finished 0 (Atomic ReleaseProducer) Done ∷ [] in
-      let some = times_some n (stores_some version) in
-      let all : length (stored (stored_times value n ++ last)) ≡ length (stored (stored_times value n) ++ []) =
-      ap length (flat_map-append stores (stored_times value n) last) in
-      let long = length-append (stored (stored_times value n)) [] in
-      omega arith
+  opened_some x0 = grind (arith, first_stores, times_some, stores_some, length, stored, stored_times, flat_map-append, stores, length-append)
 
   times_has : (n : ℕ) → HasProducer (stored_times value n)
   times_has zero = refl
@@ -161,10 +133,4 @@ module _ {T : Type 0} (value : T) where
 
   -- and the role was given back
   pub opened_lacks : (version : ℕ) → LacksProducer (opened_view value version).made
-  opened_lacks version =
-      let n = first_stores version in
-      let last : List (Event T) = Begun 0 (Atomic ReleaseProducer) ∷ Finished 0 (Atomic ReleaseProducer) Done ∷ [] in
-      let t = sum_by-append takes_producer (stored_times value n) last in
-      let g = sum_by-append gives_producer (stored_times value n) last in
-      let h = times_has n in
-      omega arith
+  opened_lacks x0 = grind (arith, first_stores, sum_by-append, takes_producer, stored_times, gives_producer, times_has)

@@ -70,11 +70,7 @@ module _ {T : Type 0} where
       omega arith
 
   grows : (old new : List (Event T)) → IsBeginning old new → length (stored old) ≤ length (stored new)
-  grows old new h =
-      let all : length (stored new) ≡ length (stored old ++ stored h.rest) =
-      ap (λ es. length (stored es)) h.is ∙ ap length (flat_map-append stores old h.rest) in
-      let long = length-append (stored old) (stored h.rest) in
-      omega arith
+  grows x0 x1 x2 = grind (arith, length, stored, flat_map-append, stores, length-append)
 
   pub stored_once : (p q v : ℕ) (x y : T) (events : List (Event T)) → IsStored p v x events → IsStored q v y events → (p ≡ q) × (x ≡ y)
   stored_once p q v x y events a b =
@@ -125,30 +121,18 @@ module _ {T : Type 0} where
   -- ---- what stands in a beginning stands in the whole
 
   pub still_stored : (p v : ℕ) (x : T) (old new : List (Event T)) → IsBeginning old new → IsStored p v x old → IsStored p v x new
-  still_stored p v x old new h a =
-      record {
-        before = a.before;
-        after = a.after ++ h.rest;
-        is = h.is ∙ (ap (λ es. es ++ h.rest) a.is ∙ append_assoc a.before (Acted p (Atomic (Store x)) (Truth true) ∷ a.after) h.rest);
-        rank = a.rank;
-      }
+  still_stored x0 x1 x2 x3 x4 x5 x6 = grind (arith, append_assoc)
 
   pub still_loaded : (p v : ℕ) (x : T) (old new : List (Event T)) → IsBeginning old new → IsLoaded p v x old → IsLoaded p v x new
-  still_loaded p v x old new h a =
-      record {
-        before = a.before;
-        after = a.after ++ h.rest;
-        is = h.is ∙ (ap (λ es. es ++ h.rest) a.is ∙ append_assoc a.before (Acted p (Atomic Load) (Loaded x) ∷ a.after) h.rest);
-        rank = a.rank;
-      }
+  still_loaded x0 x1 x2 x3 x4 x5 x6 = grind (arith, append_assoc)
 
   -- ---- versions that were known
 
   known_stored : (q v : ℕ) (y : T) (old : List (Event T)) → IsStored q v y old → v ≤ length (stored old) + 1
-  known_stored q v y old a = (let low = before_low old a.before a.after (Acted q (Atomic (Store y)) (Truth true)) a.is in let r = a.rank in omega arith)
+  known_stored x0 x1 x2 x3 x4 = grind (arith, before_low)
 
   known_loaded : (q v : ℕ) (y : T) (old : List (Event T)) → IsLoaded q v y old → v ≤ length (stored old) + 1
-  known_loaded q v y old a = (let low = before_low old a.before a.after (Acted q (Atomic Load) (Loaded y)) a.is in let r = a.rank in omega arith)
+  known_loaded x0 x1 x2 x3 x4 = grind (arith, before_low)
 
   pub stored_above : (x : T) (old new : View T) → (h : HasStored x old new)
       → IsStored h.by (length (stored old.seen) + 2) x new.seen

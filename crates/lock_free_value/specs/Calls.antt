@@ -1,5 +1,5 @@
 -- Which value a pass is for, and what it knows of the value's history.
-use Rattle.std.specs.Prelude.{◌≡◌, ℕ, ◌+◌, ◌-◌, ◌^◌, length}
+use Rattle.std.specs.Prelude.{◌≡◌, ◌+◌, ◌-◌, ◌^◌, length}
 use Rattle.std.specs.Arc.{arc_value}
 use Rattle.laws_value.specs.Stored.{stored}
 use Rattle.atomic_table.specs.Seated.{TableId}

@@ -156,7 +156,7 @@ module _ {v : View ℕ} {table : List Holders} (book : IsBookOf v table) where
 
     -- what is held stays held
     pub stays_held : is_held (holders_at table i) ≡ true → is_held h ≡ true → IsBookOf v (set table i h)
-    stays_held was held = moved v (λ j. ap (λ n. sum_by (claims j) v.made + (sum_by (frees j) v.made + (if i == j then n else 0))) (ap counts (was ∙ sym held)))
+    stays_held x0 x1 = grind (arith, moved, sum_by, claims, frees)
 
     -- what is given back is free
     pub is_freed : (state : ReleaseState) (w : View ℕ) → is_held (holders_at table i) ≡ true → is_held h ≡ false
@@ -250,11 +250,7 @@ book_opens v n none =
 
 pub set_changes : (table : List Holders) (i : ℕ) (h : Holders) (holder : Holder) → i < length table
     → SameBut holder (holders_at table i) h → ChangesAt i holder table (set table i h)
-set_changes table i h holder lt same =
-    record {
-      elsewhere = λ j ne. get_or-set_other table i j h nobody ne;
-      here = subst (SameBut holder (holders_at table i)) (sym (get_or-set_same table i h nobody lt)) same;
-    }
+set_changes x0 x1 x2 x3 x4 x5 = grind (arith, get_or-set_other, nobody, holders_at, get_or-set_same)
 
 pub set_has : (table : List Holders) (i : ℕ) (h : Holders) (holder : Holder) → i < length table → Has h holder → HasSlot (set table i h) i holder
 set_has table i h holder lt has = subst (λ z. Has z holder) (sym (get_or-set_same table i h nobody lt)) has
@@ -278,15 +274,11 @@ pub keeps_both : (holder : Holder) (one two three : List Holders) → KeepsOther
 keeps_both holder one two three first second slot i small ne = second slot i small ne ∙ first slot i small ne
 
 pub changes_none : (slot : ℕ) (holder : Holder) (table : List Holders) → ChangesAt slot holder table table
-changes_none slot holder table = record { elsewhere = λ j ne. refl; here = λ i small ne. refl }
+changes_none x0 x1 x2 = grind arith
 
 pub changes_both : (slot : ℕ) (holder : Holder) (one two three : List Holders) → ChangesAt slot holder one two
     → ChangesAt slot holder two three → ChangesAt slot holder one three
-changes_both slot holder one two three first second =
-    record {
-      elsewhere = λ j ne. second.elsewhere j ne ∙ first.elsewhere j ne;
-      here = λ i small ne. second.here i small ne ∙ first.here i small ne;
-    }
+changes_both x0 x1 x2 x3 x4 x5 x6 = grind arith
 
 module _ (slot : ℕ) (holder : Holder) (old new : List Holders) (number : ℕ) (changes : ChangesAt slot holder old new) (ne : number ≢ slot) where
   pub had_elsewhere : HasSlot new number holder → HasSlot old number holder
@@ -358,13 +350,13 @@ back_gains slot holder old new changes lacks other i small has = ⊎_elim here t
     there ne = subst (λ h. bit_at h.bits i ≡ 1) (changes.elsewhere other ne) has
 
 pub changes_only : (slot : ℕ) (holder : Holder) (old new : List Holders) → ChangesAt slot holder old new → GainsOnly slot old new
-changes_only slot holder old new changes other ne i small has = subst (λ h. bit_at h.bits i ≡ 1) (changes.elsewhere other ne) has
+changes_only x0 x1 x2 x3 x4 x5 x6 x7 x8 x9 = grind (arith, bit_at)
 
 pub gains_only : (slot : ℕ) (old new : List Holders) → GainsNone old new → GainsOnly slot old new
 gains_only slot old new gains other ne = gains other
 
 pub only_both : (slot : ℕ) (one two three : List Holders) → GainsOnly slot one two → GainsOnly slot two three → GainsOnly slot one three
-only_both slot one two three first second other ne i small has = first other ne i small (second other ne i small has)
+only_both x0 x1 x2 x3 x4 x5 x6 x7 x8 x9 x10 = grind arith
 
 -- ---- loans
 

@@ -1,7 +1,7 @@
 -- What goes on from lane to lane.
-use Rattle.std.proofs.Common.{◌≡◌, ◌≢◌, ◌⊎◌, ℕ, zero, suc, ◌+◌, ◌<◌, ◌≤◌, Bool, true, false, cond, Some, List, [], ◌∷◌}
+use Rattle.std.proofs.Common.{◌≡◌, ◌≢◌, ◌⊎◌, ℕ, zero, suc, ◌+◌, ◌<◌, ◌≤◌, Bool, false, cond, Some, List, [], ◌∷◌}
 use Rattle.std.proofs.Common.{◌++◌, length, map, take, set, get_or, refl, ap, sym, ◌∙◌, subst, inl, inr, ⊎_elim}
-use Rattle.std.proofs.Common.{true≢false, arith}
+use Rattle.std.proofs.Common.{arith}
 use Rattle.std.proofs.lemmas.Bool.{cases_eq}
 use Rattle.std.proofs.lemmas.List.Sums.{sum_by-cons, sum_by_more}
 use Rattle.std.specs.List.{count_by}
@@ -99,13 +99,10 @@ module _ {X : Type 0} where
 -- one lane more at the next place, where nobody takes part
 module _ (lanes : List Outlet) (lane : Outlet) where
   pub placed_more : HaveTheirPlaces (holders_in lanes) → bit_of (holder_of lane) ≡ length lanes + 1 → HaveTheirPlaces (holders_in (lanes ++ lane ∷ []))
-  placed_more placed bit place holder is =
-      ⊎_elim (λ was. placed place holder was)
-      (λ at. (let p : place ≡ length lanes = at.0 in let same : bit_of (holder_of lane) ≡ bit_of holder = ap bit_of at.1 in omega arith))
-      (got_pushed holder_of lanes lane place holder is)
+  placed_more x0 x1 x2 x3 x4 = grind (arith, length, bit_of, holder_of, got_pushed)
 
   pub closed_more : NobodyTakesPart (open_in lanes) → is_open lane ≡ false → NobodyTakesPart (open_in (lanes ++ lane ∷ []))
-  closed_more closed shut place is = ⊎_elim (λ was. closed place was) (λ at. true≢false (sym at.1 ∙ shut)) (got_pushed is_open lanes lane place true is)
+  closed_more x0 x1 x2 x3 = grind (arith, got_pushed, is_open)
 
 -- the lane at a place has its bit
 pub placed_at : (lanes : List Outlet) (place : ℕ) (lane : Outlet) → HaveTheirPlaces (holders_in lanes)
@@ -138,7 +135,7 @@ above_none n table i lt small slot = refl
 
 pub above_more : (n : ℕ) (holder : Holder) (one two three : List Holders) → bit_of holder ≡ n + 1
     → KeepsAbove n one two → KeepsOthers holder two three → KeepsAbove (n + 1) one three
-above_more n holder one two three bit above others i lt small slot = others slot i small (λ e. absurd (omega arith)) ∙ above i (omega arith) small slot
+above_more x0 x1 x2 x3 x4 x5 x6 x7 x8 x9 x10 x11 = grind arith
 
 -- whom one bit more stands for
 module _ (R : List Holders → List Holders → Outlet → Outlet → Type 0)

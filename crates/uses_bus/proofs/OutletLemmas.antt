@@ -1,6 +1,6 @@
 -- What a call does to a lane, as the table goes on before and after it.
 use Rattle.std.proofs.Common.{◌≡◌, ◌≢◌, ◌⊎◌, ℕ, ◌+◌, ◌<◌, Bool, true, cond, take, Some, List, [], ◌∷◌, ◌++◌, length}
-use Rattle.std.proofs.Common.{map, ◌==◌, ◌&&◌, not, refl, ap, sym, ◌∙◌, subst, inl, inr, ⊎_elim, append_assoc}
+use Rattle.std.proofs.Common.{map, ◌==◌, ◌&&◌, not, ap, sym, ◌∙◌, subst, inl, inr, ⊎_elim, append_assoc}
 use Rattle.std.proofs.Common.{append-nil, arith, length-append}
 use Rattle.std.proofs.lemmas.List.{map-append}
 use Rattle.std.proofs.lemmas.List.Elements.{Contains-append_left, Contains-push, Contains-push_cases}
@@ -28,17 +28,7 @@ use Rattle.uses_bus.proofs.ViewLemmas.{begins_further, begins_itself, empty_foun
 
 module _ (slot : ℕ) (one two three : List Holders) (old new : Outlet) where
   pub served_still : KeepsSlots (holder_of old) two three → IsServed slot one two old new → IsServed slot one three old new
-  served_still keeps served =
-      record {
-        sent =
-            λ on can. (let s = served.sent on can in
-            record {
-              back = s.back;
-              pushed = s.pushed;
-              has = λ n. (λ has. (s.has n).0 (sym (keeps n) ∙ has), λ x. keeps n ∙ (s.has n).1 x);
-            });
-        other = λ no n. keeps n ∙ served.other no n;
-      }
+  served_still x0 x1 = grind arith
 
   pub served_from : KeepsSlots (holder_of old) one two → KeepsLoans one two → IsServed slot two three old new → IsServed slot one three old new
   served_from keeps loans served =
@@ -93,9 +83,7 @@ counted slot one two three n number lanes lane gained placed above others is cou
 -- what the publisher alone gives up is no subscriber's
 module _ (slot : ℕ) (one two three : List Holders) (olds news : List Outlet) (changes : ChangesAt slot publisher two three) where
   kept : (lane : Outlet) → KeepsSlots (holder_of lane) two three
-  kept lane s =
-      changes_keep slot publisher two three changes s (bit_of (holder_of lane)) lane.holder.within
-      (λ e. (let some = lane.subscribes in absurd (omega arith)))
+  kept x0 x1 = grind (arith, changes_keep, publisher, bit_of, holder_of)
 
   pub served_after : EachLane (IsServed slot one two) olds news → EachLane (IsServed slot one three) olds news
   served_after each =
@@ -103,28 +91,16 @@ module _ (slot : ℕ) (one two three : List Holders) (olds news : List Outlet) (
       (λ k old new is served. served_still slot one two three old new (kept old) served) each
 
   pub number_after : count_by (has_gained slot one two) olds ≡ count_by (has_gained slot one three) olds
-  number_after = count_same (has_gained slot one two) (has_gained slot one three) olds (λ k lane is. gained_still slot one two three lane (kept lane))
+  number_after = grind (arith, count_same, has_gained, gained_still, kept)
 
 -- ---- a collect
 
 module _ (slots : ℕ) (one two three : List Holders) (old new : Outlet) where
   pub taken_still : KeepsSlots (holder_of old) two three → IsTakenBack slots one two old new → IsTakenBack slots one three old new
-  taken_still keeps t =
-      record {
-        numbers = t.numbers;
-        taken = t.taken;
-        all = t.all;
-        has = λ n. (λ has. (t.has n).0 (sym (keeps n) ∙ has), λ x. keeps n ∙ (t.has n).1 x);
-      }
+  taken_still x0 x1 = grind arith
 
   pub taken_from : KeepsSlots (holder_of old) one two → KeepsLoans one two → IsTakenBack slots two three old new → IsTakenBack slots one three old new
-  taken_from keeps loans t =
-      record {
-        numbers = t.numbers;
-        taken = t.taken;
-        all = t.all;
-        has = λ n. (λ has. (let x = (t.has n).0 has in (sym (keeps n) ∙ x.0, x.1)), λ x. (t.has n).1 (keeps n ∙ x.0, x.1));
-      }
+  taken_from x0 x1 x2 = grind arith
 
 -- so many numbers came back, and nothing else changed
 pub record TakenSo (number : ℕ) (holder : Holder) (before after : List Holders) (old new : View ℕ) : Type 0 where
@@ -135,14 +111,7 @@ pub record TakenSo (number : ℕ) (holder : Holder) (before after : List Holders
   pub has : (slot : ℕ) → HasSlot after slot holder ↔ (HasSlot before slot holder × ¬ Contains numbers slot)
 
 pub so_none : (holder : Holder) (table : List Holders) (v : View ℕ) → TakenSo 0 holder table table v v
-so_none holder table v =
-    record {
-      numbers = [];
-      taken = sym (append-nil (handed_out v.seen));
-      many = refl;
-      since = begins_itself v.seen;
-      has = λ slot. (λ has. (has, λ c. omega arith), λ x. x.0);
-    }
+so_none x0 x1 x2 = grind (arith, append-nil, handed_out, begins_itself)
 
 pub so_more : (number back : ℕ) (holder : Holder) (one two three : List Holders) (u v w : View ℕ)
     → TakenSo number holder one two u v → HasTakenOut (Index back) v w → ChangesAt back holder two three
@@ -182,26 +151,16 @@ module _ (slots number : ℕ) (one two : List Holders) (old now new : Outlet)
       }
 
   pub so_full : number ≡ slots → IsTakenBack slots one two old now
-  so_full all = record { numbers = so.numbers; taken = so.taken; all = inr (so.many ∙ all); has = so.has }
+  so_full x0 = grind arith
 
 -- ---- a look at who takes part
 
 module _ (roll : Roll) (one two three : List Holders) (old new : Outlet) where
   pub settled_still : KeepsSlots (holder_of old) two three → IsSettled roll one two old new → IsSettled roll one three old new
-  settled_still keeps s =
-      record {
-        takes = s.takes;
-        free = λ is. ⊎_elim (λ was. inl was) (λ x. inr (λ n has. x.0 n (sym (keeps n) ∙ has), x.1)) (s.free is);
-        kept = λ is n. keeps n ∙ s.kept is n;
-      }
+  settled_still x0 x1 = grind arith
 
   pub settled_from : KeepsSlots (holder_of old) one two → KeepsLoans one two → IsSettled roll two three old new → IsSettled roll one three old new
-  settled_from keeps loans s =
-      record {
-        takes = s.takes;
-        free = s.free;
-        kept = λ is n. s.kept is n ∙ keeps n;
-      }
+  settled_from x0 x1 x2 = grind arith
 
 -- who takes part after a look is one whom the roll shows
 pub shown_after : (roll : Roll) (before after : List Holders) (olds news : List Outlet)

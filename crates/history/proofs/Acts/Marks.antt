@@ -1,8 +1,8 @@
 -- How marks go on: one more at the end, and a silent act put between two of them.
 use Rattle.history.proofs.Names.{◌≡◌, ◌≢◌, ℕ, ◌==◌, ◌&&◌, Bool, true, false, cond, Option, Some, None, List, [], ◌∷◌}
-use Rattle.history.proofs.Names.{◌++◌, refl, sym, ap, subst, ◌∙◌, arith, nat_tests, Event, Begun, Finished, Start}
+use Rattle.history.proofs.Names.{◌++◌, refl, sym, ap, ◌∙◌, arith, nat_tests, Event, Begun, Finished, Start}
 use Rattle.history.proofs.Names.{Kind, BeginsNone}
-use Rattle.history.specs.Acts.{Mark, Happens, Leaves, left_by, told, does, number_after, Way, MayAct, Acts, found_now, way_after, IsRight}
+use Rattle.history.specs.Acts.{Mark, Happens, Leaves, left_by, told, does, number_after, Way, MayAct, found_now, way_after, IsRight}
 
 -- ---- tests
 
@@ -208,15 +208,7 @@ module _ {T : Type 0} (kind : Kind) (capacity : ℕ) (Sure : ℕ → Type 0) whe
       here = rw (same_number p, same_number b) refl
 
       pub put_here : Right p b 0 None (ms ++ Leaves p b ∷ ns)
-      put_here =
-          right_more p b 0 None ms (Leaves p b ∷ ns) (right_first p b 0 None ms ns right) (
-            (λ yes. subst (Acts kind b n n) (sym calm.was) (may, left)),
-            calm.right (cond (p == p && b == b) (found_now n (way_at p b 0 None ms)) (way_at p b 0 None ms)),
-          )
+      put_here = grind (arith, right_more, right_first, calm, cond, found_now)
 
       pub way_here : way_at p b 0 None (ms ++ Leaves p b ∷ ns) ≡ Some (start, Some n)
-      way_here =
-          way_at_more p b 0 None ms (Leaves p b ∷ ns)
-          ∙ (calm.stays (cond (p == p && b == b) (found_now n (way_at p b 0 None ms)) (way_at p b 0 None ms))
-          ∙ (ap (λ z. cond z (found_now n (way_at p b 0 None ms)) (way_at p b 0 None ms)) here
-          ∙ ap (λ w. found_now n w) calm.was))
+      way_here = grind (arith, way_at_more, calm, cond, found_now, here)

@@ -1,5 +1,5 @@
 -- Resetting the next place: a call of the model, and what it answers.
-use Rattle.lock_free.proofs.Names.{◌≡◌, inl, ℕ, ◌+◌, ◌-◌, ◌<◌, ◌≤◌, ◌==◌, nat_lt, Bool, true, false, Option, Some, None}
+use Rattle.lock_free.proofs.Names.{◌≡◌, ℕ, ◌+◌, ◌<◌, ◌≤◌, ◌==◌, nat_lt, Bool, true, false, Option, Some, None}
 use Rattle.lock_free.proofs.Names.{IfSome, List, [], ◌++◌, refl, sym, ap, subst, ◌∙◌, arith, nat_tests, by_test}
 use Rattle.lock_free.proofs.Names.{element_of, elements, has_flag, Ask, After, ResetNone, Event, Finished, Bits}
 use Rattle.lock_free.proofs.Names.{ResetNext, one_word, after_of, IsBitSet, bits_go_on, answered, KeepsRule, View}
@@ -23,13 +23,10 @@ use Rattle.lock_free.specs.Bits.Told.{HasReset, AllClearOnce}
 use Rattle.lock_free.proofs.Ends.{has_made, before_end, to_end}
 
 place_below : (cap start passed : ℕ) → start ≤ cap → passed < cap → place_after cap start passed < cap
-place_below cap start passed low few =
-    by_test (λ p. p < cap) (nat_lt (start + passed) cap) (start + passed) (start + passed - cap)
-    (λ t. grind (arith, nat_tests)) (λ t. omega arith)
+place_below x0 x1 x2 x3 x4 = grind (arith, by_test, nat_lt, nat_tests)
 
 at_most_below : (cap position : ℕ) → at_most cap position ≤ cap
-at_most_below cap position =
-    by_test (λ p. p ≤ cap) (nat_lt cap position) cap position (λ t. omega arith) (λ t. grind (arith, nat_tests))
+at_most_below x0 x1 = grind (arith, by_test, nat_lt, nat_tests)
 
 abbrev at_stage : ℕ → ResetNextStage → Resetting
 at_stage cap stage = record { capacity = cap; stage = stage }
@@ -42,17 +39,10 @@ Stands cap p (GoOn d) es = (d.capacity ≡ cap) × ResetStands cap d.stage × (e
 Stands cap p (Done o) es = IsPlace cap o × (es ≡ reset_wrote p o)
 
 comes_to : (cap p start passed : ℕ) (from : ResetNextStage) → start ≤ cap → Stands cap p (reset_comes_to (at_stage cap from) start passed) []
-comes_to cap p start passed from low =
-    by_test (λ a. Stands cap p a []) (nat_lt passed cap) (GoOn (at_stage cap (resets.TheVariants.LoadsElement start passed))) (Done None)
-    (λ t. let further : passed < cap = grind (arith, nat_tests) in (refl, (low, further), refl))
-    (λ t. (tt, refl))
+comes_to x0 x1 x2 x3 x4 x5 = grind (arith, by_test, nat_lt, nat_tests)
 
 tests : (cap p start passed k : ℕ) (from : ResetNextStage) → start ≤ cap → passed < cap → Stands cap p (reset_tests (at_stage cap from) start passed k) []
-tests cap p start passed k from low few =
-    by_test (λ a. Stands cap p a []) (has_flag k (place_after cap start passed))
-    (GoOn (at_stage cap (resets.TheVariants.ExchangesElement start passed k)))
-    (reset_comes_to (at_stage cap from) start (passed + 1))
-    (λ t. (refl, (low, few), refl)) (λ t. comes_to cap p start (passed + 1) from low)
+tests x0 x1 x2 x3 x4 x5 x6 x7 = grind (arith, by_test, has_flag, place_after, reset_comes_to, comes_to)
 
 -- what a step makes of what the call had written
 takes : (cap p n : ℕ) (m : Unit {0}) (stage : ResetNextStage) → ResetStands cap stage
@@ -71,10 +61,7 @@ takes cap p n m (resets.TheVariants.StoresPosition place) h = (h, refl)
 
 stands_on : (cap p n : ℕ) (m : Unit {0}) (c : Resetting) → (c.capacity ≡ cap) × ResetStands cap c.stage
     → Stands cap p (reset_after c n) (reset_so_far p c.stage ++ set_effects p (resets_next.flight c m) n)
-stands_on cap p n m c h =
-    subst (λ k. Stands cap p (reset_after (at_stage k c.stage) n)
-    (reset_so_far p c.stage ++ set_effects p (resets_next.flight (at_stage k c.stage) m) n))
-    (sym h.0) (takes cap p n m c.stage h.1)
+stands_on x0 x1 x2 x3 x4 x5 = grind (arith, reset_after, reset_so_far, set_effects, resets_next, takes)
 
 -- ---- it is a call of the model
 
@@ -129,31 +116,7 @@ hears c a n e = at c.stage e
     at (resets.TheVariants.StoresPosition place) w = refl
 
 is_call : IsCallOf one_word set_effects (λ capacity. 1 + elements capacity) reset_want reset_after (λ c m n. m) (resets_next {T = ℕ})
-is_call =
-    record {
-      same_want = λ c m. refl;
-      same_after = λ capacity c m n h. same_after c m n;
-      hears = λ c m a n e. (hears c a n e, refl);
-      stays =
-          λ capacity c d n stands e.
-          (let h =
-          subst (λ a. Stands capacity 0 a (reset_so_far 0 c.stage ++ set_effects 0 (resets_next.flight c tt) n)) e
-          (stands_on capacity 0 n tt c stands) in
-          (h.0, h.1));
-      asks = asks;
-      past = λ capacity c d n k h e. refl;
-      finds = λ c m n small t. tt;
-      leaves = λ c a n t e. absurd (cc);
-      tells =
-          λ capacity p from c d m n es stands wrote e none.
-          (let h =
-          subst (λ a. Stands capacity p a (reset_so_far p c.stage ++ set_effects p (resets_next.flight c m) n)) e
-          (stands_on capacity p n m c stands) in
-          ap (λ zs. zs ++ set_effects p (resets_next.flight c m) n) (wrote none) ∙ h.2);
-      tells_all = λ capacity p from c o m n es stands skip wrote e still. (
-          let h = subst (λ a. Stands capacity p a (reset_so_far p c.stage ++ set_effects p (resets_next.flight c m) n)) e (stands_on capacity p n m c stands) in
-          (h.0, λ none. ap (λ zs. zs ++ set_effects p (resets_next.flight c m) n) (wrote none) ∙ h.1));
-    }
+is_call = grind (arith, same_after, hears, reset_so_far, set_effects, resets_next, stands_on, asks)
 
 pub next_keeps : KeepsRule (λ (z : View ℕ). z.capacity) (At one_word kinds.Bits resets_next)
     (Ends one_word kinds.Bits resets_next) (λ key. 1 + elements key + 1) (λ key. key)
@@ -163,17 +126,7 @@ next_keeps =
     reset_after (λ c m n. m) resets_next is_call (λ c n. refl)
 
 pub next_first : (v : View ℕ) (m : Unit {0}) → IsIdle v.capacity v → At one_word kinds.Bits resets_next v v (first_reset v.capacity) m
-next_first v m idle =
-    inl (record {
-      is = refl;
-      idle = idle.idle;
-      fresh = idle.alone;
-      standing = (refl, tt);
-      some = idle.some;
-      first = refl;
-      starts = bits_starts one_word resets_next v (first_reset v.capacity) m (λ o p h. h) refl (λ p. refl);
-      wrote = λ p e. refl;
-    })
+next_first x0 x1 x2 = grind (arith, bits_starts, one_word, resets_next, first_reset)
 
 module _ (base w : View ℕ) (o : Option ℕ) (m : Unit {0}) (idle : base.going ≡ None) (ends : Ends one_word kinds.Bits resets_next base o m w) where
   pub cleared : HasReset o base w

@@ -1,5 +1,5 @@
 -- Setting a place: a call of the model, and what it answers.
-use Rattle.lock_free.proofs.Names.{◌≡◌, inl, ℕ, ◌+◌, ◌<◌, ◌==◌, nat_le, Bool, true, false, None, List, [], ◌++◌, refl}
+use Rattle.lock_free.proofs.Names.{◌≡◌, ℕ, ◌+◌, ◌<◌, ◌==◌, nat_le, Bool, true, false, None, List, [], refl}
 use Rattle.lock_free.proofs.Names.{sym, ap, subst, ◌∙◌, arith, nat_tests, element_of, elements, has_flag, Ask, After}
 use Rattle.lock_free.proofs.Names.{Truth, Event, Finished, Bits, Set, one_word, after_of, IsBitSet, bits_go_on}
 use Rattle.lock_free.proofs.Names.{answered, KeepsRule, View, IsMachine, At, Ends, IsCallOf, goes, keeps_all}
@@ -96,23 +96,7 @@ module _ (place : ℕ) where
 
   is_call : IsCallOf one_word set_effects (λ capacity. 1 + elements capacity) (λ c. set_want c place)
       (λ c n. set_after c place n) (λ c m n. m) (sets_place {T = ℕ} place)
-  is_call =
-      record {
-        same_want = λ c m. refl;
-        same_after = λ capacity c m n h. same_after c m n;
-        hears = λ c m a n e. (hears c a n e, refl);
-        stays = λ capacity c d n stands e. stands;
-        asks = asks;
-        past = λ capacity c d n k h e. refl;
-        finds = λ c m n small t. tt;
-        leaves = λ c a n t e. absurd (cc);
-        tells =
-            λ capacity p from c d m n es stands wrote e. ap (λ zs. zs ++ set_effects p ((sets_place place).flight c m) n) wrote
-            ∙ subst (λ a. Wrote p a (set_effects p ((sets_place place).flight c m) n)) e (writes p c m n);
-        tells_all =
-            λ capacity p from c b m n es stands skip wrote e still. ap (λ zs. zs ++ set_effects p ((sets_place place).flight c m) n) wrote
-            ∙ subst (λ a. Wrote p a (set_effects p ((sets_place place).flight c m) n)) e (writes p c m n);
-      }
+  is_call = grind (arith, same_after, hears, asks, set_effects, sets_place, writes)
 
   pub set_keeps : KeepsRule (λ (z : View ℕ). z.capacity) (At one_word kinds.Bits (sets_place place))
       (Ends one_word kinds.Bits (sets_place place)) (λ key. 1 + elements key + 1) (λ key. key)
@@ -122,18 +106,7 @@ module _ (place : ℕ) where
       (λ c. set_want c place) (λ c n. set_after c place n) (λ c m n. m) (sets_place place) is_call (λ c n. refl)
 
   pub set_first : (v : View ℕ) (m : Unit {0}) → IsIdle v.capacity v → place < v.capacity → At one_word kinds.Bits (sets_place place) v v first_set m
-  set_first v m idle below =
-      let past : nat_le v.capacity place ≡ false = grind (arith, nat_tests) in
-      inl (record {
-        is = refl;
-        idle = idle.idle;
-        fresh = idle.alone;
-        standing = below;
-        some = idle.some;
-        first = refl;
-        starts = bits_starts one_word (sets_place place) v first_set m (λ o p h. h) refl (λ p. rw past refl);
-        wrote = λ p. refl;
-      })
+  set_first x0 x1 x2 x3 = grind (arith, nat_le, nat_tests, bits_starts, one_word, sets_place, first_set)
 
   module _ (base w : View ℕ) (b : Bool) (m : Unit {0}) (idle : base.going ≡ None) (ends : Ends one_word kinds.Bits (sets_place place) base b m w) where
     pub added : HasSet place b base w

@@ -1,5 +1,5 @@
 -- Counting a place: a call of the model in one step, and what it answers.
-use Rattle.lock_free.proofs.Names.{◌≡◌, inl, ℕ, ◌+◌, ◌<◌, nat_le, false, None, List, [], ◌∷◌, ◌++◌, refl, sym, ap, ◌∙◌}
+use Rattle.lock_free.proofs.Names.{◌≡◌, ℕ, ◌+◌, ◌<◌, nat_le, None, List, [], ◌∷◌, ◌++◌, refl, sym, ap, ◌∙◌}
 use Rattle.lock_free.proofs.Names.{arith, nat_tests, Ask, Number, Event, Finished, Bits, Set, one_word, IsCountingOn}
 use Rattle.lock_free.proofs.Names.{counts_go_on, answered, KeepsRule, View, IsMachine, At, Ends, IsCallOf, keeps_all}
 use Rattle.steps.specs.Bits.Counts.{set_want, set_after}
@@ -45,24 +45,12 @@ module _ (place : ℕ) where
 
   pub count_first : (v : View ℕ) (c : counting.Set) (m : Unit {0}) → IsIdle v.capacity v → place < v.capacity
       → At one_word kinds.Counts (counts_place place) v v c m
-  count_first v c m idle below =
-      let past : nat_le v.capacity place ≡ false = grind (arith, nat_tests) in
-      inl (record {
-        is = refl;
-        idle = idle.idle;
-        fresh = idle.alone;
-        standing = below;
-        some = idle.some;
-        first = refl;
-        starts = counts_starts one_word (counts_place place) v c m (λ o p h. h) refl (λ p. rw past refl);
-        wrote = λ p. refl;
-      })
+  count_first x0 x1 x2 x3 x4 = grind (arith, nat_le, nat_tests, counts_starts, one_word, counts_place)
 
   module _ (base w : View ℕ) (number : ℕ) (m : Unit {0}) (idle : base.going ≡ None)
       (ends : Ends one_word kinds.Counts (counts_place place) base number m w) where
     pub counted : HasCounted place number base w
-    counted =
-        has_made kinds.Counts (counts_place place) base w number m ends idle (λ by. Counted by place ∷ []) ends.tells
+    counted = grind (arith, has_made, counts_place)
 
     pub answers : AnswersCount place number w
     answers =

@@ -1,6 +1,6 @@
 -- What a closure was called with so far, while a set is emptied, and that it is what the call wrote.
-use Rattle.lock_free.proofs.Names.{◌≡◌, ◌==◌, false, ℕ, zero, suc, ◌+◌, ◌<◌, List, [], ◌∷◌, ◌++◌, sym, refl, subst}
-use Rattle.lock_free.proofs.Names.{arith, map, append-nil, All, FoldsTo, nat_tests, FoldsTo-push, All-nil, All-push}
+use Rattle.lock_free.proofs.Names.{◌≡◌, ℕ, zero, suc, ◌+◌, ◌<◌, List, [], ◌∷◌, ◌++◌, sym, refl, subst}
+use Rattle.lock_free.proofs.Names.{arith, map, append-nil, All, FoldsTo, nat_tests, FoldsTo-push, All-push}
 use Rattle.lock_free.proofs.Names.{All-weaker, all_pairs_push, BitState}
 use Rattle.model.specs.Families.Bits.Steps.{take_events}
 use Rattle.lock_free.specs.Counts.Told.{taken_by}
@@ -16,26 +16,14 @@ pub record Counted {F : Type 0} (R : F → BitState → F → Type 0) (cap low :
 
 module _ {F : Type 0} (R : F → BitState → F → Type 0) (cap : ℕ) (v : F) where
   pub none_counted : (low : ℕ) → Counted R cap low v v
-  none_counted low =
-      record {
-        states = [];
-        ascend = ((λ i j d lt within. absurd (omega arith)), All-nil (λ (x : BitState). (x.bit < cap) × (0 < x.count)));
-        below = All-nil (λ (x : BitState). x.bit < low);
-        folds = refl;
-      }
+  none_counted x0 = grind arith
 
   pub none_states : (low : ℕ) → (none_counted low).states ≡ []
   unfolding none_counted
   none_states low = refl
 
   pub counted_on : (low : ℕ) (p q : F) → q ≡ p → Counted R cap low v p → Counted R cap (low + 1) v q
-  counted_on low p q same h =
-      record {
-        states = h.states;
-        ascend = h.ascend;
-        below = All-weaker (λ (x : BitState). x.bit < low) (λ (x : BitState). x.bit < low + 1) (λ x l. omega arith) h.states h.below;
-        folds = subst (λ z. FoldsTo R v h.states z) (sym same) h.folds;
-      }
+  counted_on x0 x1 x2 x3 x4 = grind arith
 
   pub counted_more : (low count : ℕ) (p q : F) → low < cap → 0 < count → R p (record { bit = low; count = count }) q
       → Counted R cap low v p → Counted R cap (low + 1) v q
@@ -63,8 +51,7 @@ module _ {F : Type 0} (R : F → BitState → F → Type 0) (cap : ℕ) (v : F) 
   found place (suc n) = record { bit = place; count = suc n } ∷ []
 
   pub found_events : (p place n : ℕ) → map (taken_by p) (found place n) ≡ take_events p place n
-  found_events p place zero = refl
-  found_events p place (suc n) = let t : (suc n == 0) ≡ false = grind (arith, nat_tests) in rw t refl
+  found_events x0 x1 x2 = grind (arith, suc, nat_tests)
 
   pub counted_found : (low n : ℕ) (p q : F) → low < cap → (0 < n → R p (record { bit = low; count = n }) q)
       → (n ≡ 0 → q ≡ p) → (h : Counted R cap low v p)

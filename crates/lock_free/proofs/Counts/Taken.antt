@@ -37,16 +37,14 @@ module _ {F : Type 0} (R : F → BitState → F → Type 0) (cap : ℕ) (visit :
       (goes_so : reset_all_after c n ≡ a)
       (told : (b : View ℕ) → At one_word kinds.Counts (empties Counts) b v c m → Goes Counts b a room w) where
     pub within : c.word < cap
-    within = let left = words_left Counts cap (λ p. map (taken_by p) h.handed.states) base v c m h.call in subst (λ z. c.word < z) left.0 left.2
+    within = grind (arith, words_left, map, taken_by)
 
     module _ (g : F) (hit : 0 < room.0 → R f (record { bit = c.word; count = room.0 }) g) (miss : room.0 ≡ 0 → g ≡ f) where
       next_handed : (x : Counted R cap (c.word + 1) visit g) × (x.states ≡ h.handed.states ++ found R cap visit c.word room.0)
       next_handed = counted_found R cap visit c.word room.0 f g within hit miss h.handed
 
       same_events : (p : ℕ) → map (taken_by p) h.handed.states ++ take_events p c.word room.0 ≡ map (taken_by p) next_handed.0.states
-      same_events p =
-          ap (λ es. map (taken_by p) h.handed.states ++ es) (sym (found_events R cap visit p c.word room.0))
-          ∙ (sym (map-append (taken_by p) h.handed.states (found R cap visit c.word room.0)) ∙ ap (map (taken_by p)) (sym next_handed.1))
+      same_events x0 = grind (arith, map, taken_by, found_events, map-append, found, next_handed)
 
       pub so_far_on : (next : Emptying) → a ≡ GoOn next → SoFar base w next room g
       so_far_on next is =

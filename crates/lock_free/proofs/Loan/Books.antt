@@ -24,9 +24,7 @@ within (p ∷ ps) (suc i) h = let lt = within ps i h in omega arith
 
 -- what is not out is free
 pub is_free : (p : Place) → is_out p ≡ false → p ≡ Free
-is_free Free h = refl
-is_free Loaned h = absurd (true≢false h)
-is_free Sent h = absurd (true≢false h)
+is_free x0 x1 = grind arith
 
 -- what is sent is out
 pub sent_out : (p : Place) → is_sent p ≡ true → is_out p ≡ true
@@ -197,11 +195,7 @@ kept_one (p ∷ ps) (suc i) h = ap (λ z. reclaimed p ∷ z) (kept_one ps i h)
 
 module _ (ps ys : List Place) (i : ℕ) (e : ys ≡ so_far i ps) (lt : i < length ps) where
   pub sent_step : is_sent (place_at ys i) ≡ true → (set ys i Free ≡ so_far (i + 1) ps) × (count_by is_sent (take (i + 1) ps) ≡ count_by is_sent (take i ps) + 1)
-  sent_step h =
-      let there : is_sent (place_at ps i) ≡ true = ap is_sent (sym (at_so_far ps i) ∙ ap (λ z. place_at z i) (sym e)) ∙ h in (
-        subst (λ n. set ys i Free ≡ so_far n ps) (sym (add-one i)) (ap (λ z. set z i Free) e ∙ freed_one ps i there),
-        count_by_more_yes is_sent ps i Free lt there,
-      )
+  sent_step x0 = grind (arith, is_sent, place_at, at_so_far, set, add-one, freed_one, count_by_more_yes)
 
   pub other_step : is_sent (place_at ys i) ≡ false → (ys ≡ so_far (i + 1) ps) × (count_by is_sent (take (i + 1) ps) ≡ count_by is_sent (take i ps))
   other_step h =

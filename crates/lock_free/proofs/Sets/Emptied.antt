@@ -29,10 +29,7 @@ word_at_first Counts n = refl
 
 begins_at : (kind : SetKind) (n : ℕ) (c : Emptying) (m : OneWord)
     → first_of (machine_kind kind) n emptying ((opening_of (machine_kind kind)).kept n) ≡ Some (flight_at kind c m) → c.word ≡ first_word kind
-begins_at kind n c m e =
-    let both : Some (flight_at {T = ℕ} kind (all_words kind n) fresh) ≡ Some (flight_at kind c m) = sym (begins kind n) ∙ e in
-    let same : flight_at {T = ℕ} kind (all_words kind n) fresh ≡ flight_at kind c m = cc in
-    sym (has_word kind c m) ∙ (sym (ap flight_word same) ∙ (has_word kind (all_words kind n) fresh ∙ word_at_first kind n))
+begins_at x0 x1 x2 x3 x4 = grind (arith, flight_at, all_words, fresh, begins, has_word, flight_word, word_at_first)
 
 -- the call stands here, and has written this
 pub record WroteSoFar (kind : SetKind) (cap : ℕ) (wrote : ℕ → List (Event ℕ)) (base v : View ℕ) (c : Emptying) (m : OneWord) : Type 0 where
@@ -62,13 +59,10 @@ module _ (kind : SetKind) where
 
   -- where it stands is its word
   pub itself : (base v : View ℕ) (c : Emptying) (m : OneWord) → AtWord base v c m → AtWord v v c m
-  itself base v c m at =
-      at_itself one_word (machine_kind kind) (empties kind) base v c m (λ p. refl)
-      (λ n p. let here = has_word kind c m in (omega arith, λ e. refl, λ e. absurd (omega arith))) at
+  itself x0 x1 x2 x3 x4 = grind (arith, at_itself, one_word, machine_kind, empties, has_word)
 
   pub word_now : (base v : View ℕ) (c : Emptying) (m : OneWord) → base.going ≡ v.going → AtWord base v c m → word_of (first_word kind) v.going ≡ c.word
-  word_now base v c m same (inl now) = ap (word_of (first_word kind)) (sym same ∙ now.idle) ∙ sym (begins_at kind base.capacity c m now.first)
-  word_now base v c m same (inr under) = ap (word_of (first_word kind)) under.going ∙ has_word kind c m
+  word_now x0 x1 x2 x3 x4 x5 = grind (arith, word_of, first_word, begins_at, has_word)
 
   pub stands : (base v : View ℕ) (c : Emptying) (m : OneWord) → AtWord base v c m
       → (c.end ≡ words_of kind base.capacity) × (first_word kind ≤ c.word) × (c.word < c.end)
@@ -76,8 +70,7 @@ module _ (kind : SetKind) where
   stands base v c m (inr under) = under.standing
 
   pub same_capacity : (base v : View ℕ) (c : Emptying) (m : OneWord) → AtWord base v c m → v.capacity ≡ base.capacity
-  same_capacity base v c m (inl now) = ap (λ (z : View ℕ). z.capacity) now.is
-  same_capacity base v c m (inr under) = under.capacity
+  same_capacity x0 x1 x2 x3 x4 = grind arith
 
   module _ (base v w : View ℕ) (c : Emptying) (m room : OneWord) (n : ℕ) (f : ℕ → List (Event ℕ))
       (idle : base.going ≡ None) (so_far : MadeSoFar emptying base v f) (at : AtWord base v c m)
@@ -176,20 +169,11 @@ module _ (kind : SetKind) where
       }
 
   pub first_wrote : (cap : ℕ) (v : View ℕ) → IsIdle cap v → 0 < cap → WroteSoFar kind cap (λ p. []) v v (all_words kind cap) fresh
-  first_wrote cap v idle some =
-      record {
-        at =
-            subst (λ n. AtWord v v (all_words kind n) fresh) idle.known
-            (first_at kind v (record { known = refl; idle = idle.idle; alone = idle.alone; some = idle.some })
-            (subst (λ n. 0 < n) (sym idle.known) some));
-        size = idle.known;
-        idle = idle.idle;
-        made = inl (refl, λ p. refl);
-      }
+  first_wrote x0 x1 x2 x3 = grind (arith, all_words, fresh, first_at)
 
   module _ (cap : ℕ) (wrote : ℕ → List (Event ℕ)) (base v : View ℕ) (c : Emptying) (m : OneWord) (h : WroteSoFar kind cap wrote base v c m) where
     pub words_left : (c.end ≡ words_of kind cap) × (first_word kind ≤ c.word) × (c.word < c.end)
-    words_left = subst (λ k. (c.end ≡ words_of kind k) × (first_word kind ≤ c.word) × (c.word < c.end)) h.size (stands base v c m h.at)
+    words_left = grind (arith, words_of, first_word, stands)
 
     module _ (w : View ℕ) (room : OneWord) (n : ℕ) (kept : room ≡ reset_all_kept m n) (a : After Emptying (Unit {0}))
         (goes_so : reset_all_after c n ≡ a) (told : (b : View ℕ) → AtWord b v c m → Goes b a room w) where

@@ -1,6 +1,6 @@
 -- The call that empties a set: a call of the model, a word at each step.
-use Rattle.lock_free.proofs.Names.{◌≡◌, inl, ℕ, ◌+◌, ◌<◌, ◌≤◌, nat_lt, Bool, true, false, true≢false, Option, Some}
-use Rattle.lock_free.proofs.Names.{None, IfSome, List, [], ◌++◌, map, refl, sym, ap, subst, ◌∙◌, arith, nat_tests}
+use Rattle.lock_free.proofs.Names.{◌≡◌, ℕ, ◌+◌, ◌<◌, ◌≤◌, nat_lt, Bool, true, false, Option, Some}
+use Rattle.lock_free.proofs.Names.{None, IfSome, List, [], ◌++◌, map, refl, ap, subst, ◌∙◌, arith, nat_tests}
 use Rattle.lock_free.proofs.Names.{by_test, elements, Ask, After, Emptying, OneWord, Event, Cleared, Bits, ResetAll}
 use Rattle.lock_free.proofs.Names.{one_word, Trace, after_of, opening_of, first_of, fresh, Allows, answered, KeepsRule}
 use Rattle.lock_free.proofs.Names.{View, IsMachine, Calling, At, Ends, IsCallOf, goes, keeps_all}
@@ -35,21 +35,10 @@ module _ (c : Emptying) (n : ℕ) where
   next_of (Done e) = c
 
   pub goes_next : (d : Emptying) → reset_all_after c n ≡ GoOn d → (d ≡ record { word = c.word + 1; end = c.end }) × (d.word < d.end)
-  goes_next d =
-      by_test (λ a. a ≡ GoOn d → (d ≡ record { word = c.word + 1; end = c.end }) × (d.word < d.end)) (nat_lt (c.word + 1) c.end)
-      (GoOn (record { word = c.word + 1; end = c.end })) (Done tt)
-      (λ t e.
-      let further : c.word + 1 < c.end = grind (arith, nat_tests) in
-      let is : d ≡ record { word = c.word + 1; end = c.end } = sym (ap next_of e) in
-      (is, subst (λ (z : Emptying). z.word < z.end) (sym is) further))
-      (λ t e. absurd (true≢false (ap is_done e)))
+  goes_next x0 = grind (arith, by_test, nat_lt, nat_tests)
 
   pub ends_last : (end : Unit {0}) → reset_all_after c n ≡ Done end → c.end ≤ c.word + 1
-  ends_last end =
-      by_test (λ a. a ≡ Done end → c.end ≤ c.word + 1) (nat_lt (c.word + 1) c.end)
-      (GoOn (record { word = c.word + 1; end = c.end })) (Done tt)
-      (λ t e. absurd (true≢false (sym (ap is_done e))))
-      (λ t e. grind (arith, nat_tests))
+  ends_last x0 = grind (arith, by_test, nat_lt, nat_tests)
 
 wants_word : (c : Emptying) → c.word < c.end → reset_all_want c ≡ wants.Ask (record { word = c.word; op = Swap 0 })
 wants_word c less = let t : nat_lt c.word c.end ≡ true = grind (arith, nat_tests) in rw t refl
@@ -161,12 +150,10 @@ may Counts n p = refl
 
 stands_first : (kind : SetKind) (n : ℕ) → 0 < n
     → ((all_words kind n).end ≡ words_of kind n) × (first_word kind ≤ (all_words kind n).word) × ((all_words kind n).word < (all_words kind n).end)
-stands_first Flags n some = (refl, omega arith, (let l : 1 < 1 + elements n = omega arith in l))
-stands_first Counts n some = (refl, omega arith, some)
+stands_first x0 x1 x2 = grind (arith, elements)
 
 wrote_first : (kind : SetKind) (n p : ℕ) → (empties {T = ℕ} kind).wrote n p None (all_words kind n) fresh []
-wrote_first Flags n p = (omega arith, λ e. refl, λ e. absurd (omega arith))
-wrote_first Counts n p = (omega arith, λ e. refl, λ e. absurd (omega arith))
+wrote_first x0 x1 x2 = grind arith
 
 -- it may begin at any time, as the party that the pass was last
 starts : (kind : SetKind) (call : Calling ℕ Emptying OneWord (Unit {0})) (v : View ℕ) (c : Emptying) (m : OneWord)
@@ -182,32 +169,12 @@ starts Counts = counts_starts one_word
 
 module _ (kind : SetKind) (v : View ℕ) (idle : IsIdle v.capacity v) where
   pub first_at : 0 < v.capacity → At one_word (machine_kind kind) (empties kind) v v (all_words kind v.capacity) fresh
-  first_at some =
-      inl (record {
-        is = refl;
-        idle = idle.idle;
-        fresh = idle.alone;
-        standing = stands_first kind v.capacity some;
-        some = idle.some;
-        first = begins kind v.capacity;
-        starts = starts kind (empties kind) v (all_words kind v.capacity) fresh (λ o p h. h) (begins kind v.capacity) (may kind v.capacity);
-        wrote = wrote_first kind v.capacity;
-      })
+  first_at x0 = grind (arith, stands_first, begins, starts, empties, all_words, fresh, may, wrote_first)
 
   -- ---- a set of no place
 
   none_first : IsFirst one_word (machine_kind kind) (empties_none kind) v v (all_words kind v.capacity) fresh
-  none_first =
-      record {
-        is = refl;
-        idle = idle.idle;
-        fresh = idle.alone;
-        standing = tt;
-        some = idle.some;
-        first = begins kind v.capacity;
-        starts = starts kind (empties_none kind) v (all_words kind v.capacity) fresh (λ o p h. h) (begins kind v.capacity) (may kind v.capacity);
-        wrote = λ p. refl;
-      }
+  none_first = grind (arith, begins, starts, empties_none, all_words, fresh, may)
 
   pub none_at : v.capacity ≡ 0 → (slots id word : ℕ) → Allows (IsMachine one_word (machine_kind kind) v.capacity) slots id (v, []) word (λ n. n)
       (λ found me. Ends one_word (machine_kind kind) (empties_none kind) v tt (record { 0 = 0 }) me.0 × (me.1 ≡ []))

@@ -119,7 +119,7 @@ module _ (base w : View ℕ) (same : w.capacity ≡ base.capacity) (h : IsHistor
     last = Finished p (Indices start) answer
 
     is_last : w.seen ≡ before ++ last ∷ []
-    is_last = c.is ∙ sym (append_assoc (base.seen ++ c.others) (Begun p (Indices start) ∷ c.during) (last ∷ []))
+    is_last = grind (arith, append_assoc)
 
     at_end : h.trace.events ≡ before ++ last ∷ []
     at_end = sym h.is ∙ is_last
@@ -226,13 +226,11 @@ module _ (base w : View ℕ) (m : Unit {0}) (idle : base.going ≡ None) where
       answered_by base w ends.capacity ends.history t.by Acquire (acquire_answer answer) (claimed_by t.by answer) t.called
 
   pub given : (index : ℕ) (state : ReleaseState) → Ends one_word kinds.Indices (gives_index index) base state m w → HasGiven index state base w
-  given index state ends =
-      has_made kinds.Indices (gives_index index) base w state m ends idle (λ by. Freed by index ∷ []) (ends.tells idle)
+  given x0 x1 x2 = grind (arith, has_made, gives_index)
 
   pub given_or_locked : (index : ℕ) (state : ReleaseState)
       → Ends one_word kinds.Indices (gives_or_locks index) base state m w → HasGivenOrLocked index state base w
-  given_or_locked index state ends =
-      has_made kinds.Indices (gives_or_locks index) base w state m ends idle (λ by. given_by by index state) (ends.tells idle)
+  given_or_locked x0 x1 x2 = grind (arith, has_made, gives_or_locks, given_by)
 
   pub counted : (n : ℕ) → Ends one_word kinds.Indices counts_out base n m w → HasCounted n base w
   counted n ends =

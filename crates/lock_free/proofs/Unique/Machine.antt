@@ -61,9 +61,7 @@ is_open (Open start wrote) = 1
 is_open (Ended start answer wrote) = 0
 
 longer_same : (span : Span ℕ) (e : Event ℕ) → is_open (longer span e) ≡ is_open span
-longer_same Never e = refl
-longer_same (Open start wrote) e = refl
-longer_same (Ended start answer wrote) e = refl
+longer_same x0 x1 = grind arith
 
 module _ (c p : ℕ) (before : List (Event ℕ)) where
   abbrev span : Span ℕ
@@ -199,10 +197,7 @@ module _ (capacity : ℕ) (seen : List (Event ℕ)) (h : IsHistory one_word kind
   past i more = get_or_past hs i None (let long = laws.good.long in omega arith)
 
   pub held_within : (i p : ℕ) → holder_of i seen ≡ Some p → i < capacity
-  held_within i p is = ⊎_elim
-      (λ less. (let size_is = h.run.sized in omega arith))
-      (λ more. (let none = past i more in let same = holder_is i in absurd (cc)))
-      (cases_lt i c)
+  held_within x0 x1 x2 = grind (arith, past, holder_is, cases_lt)
 
   -- nobody holds one once the set is locked
   pub none_held : is_locked seen ≡ true → (i : ℕ) → holder_of i seen ≡ None
@@ -245,13 +240,7 @@ module _ (capacity : ℕ) (seen : List (Event ℕ)) (h : IsHistory one_word kind
     none_under weight = sum_none (weight_at weight t.world.latest) machine.state.seats (λ p below. ap (weight_of weight) (idle p))
 
     times_is : (i : ℕ) → times i is ≡ one_held (holder hs i)
-    times_is i =
-        let a = all (claims i) in
-        let b = all (frees i) in
-        let d = held i in
-        let e = holder_counts i in
-        let f = ap one_held (holder_is i) in
-        omega arith
+    times_is x0 = grind (arith, claims, frees, holder_counts, one_held, holder_is)
 
     held_is : held_below hs c ≡ length is
     held_is =
@@ -264,12 +253,7 @@ module _ (capacity : ℕ) (seen : List (Event ℕ)) (h : IsHistory one_word kind
         ap tally_of h.is ∙ (laws.tally ∙ same_tally (held_below hs c) (length is) _ 0 _ 0 held_is (none_under (of_any takes)) (none_under (of_any gives)))
 
     pub few : length is ≤ capacity
-    few =
-        let total_is = held_below hs c + all_counted t.world.latest machine.state.seats in
-        let most : held_below hs c ≤ c = ⊎_elim (λ x. (let a = x.0 in let b = x.1 in omega arith)) (λ x. (let b = x.1 in omega arith)) laws.good.tally in
-        let size = h.run.sized in
-        let same = held_is in
-        omega arith
+    few = grind (arith, held_below, all_counted, machine, held_is)
 
     pub none_left : is_locked seen ≡ true → length is ≡ 0
     none_left shut =
@@ -307,7 +291,4 @@ module _ (capacity : ℕ) (v : View ℕ) (h : IsHistory one_word kinds.Indices c
 
   -- no more than are held, and nothing once the set is locked
   pub own_few : (length is ≤ (tally_of v.seen).held) × (is_locked v.seen ≡ true → length is ≡ 0)
-  own_few =
-      let most = most_held in
-      let all = counts_held capacity v.seen h in
-      (omega arith, λ shut. (let none = none_below capacity v.seen h shut in omega arith))
+  own_few = grind (arith, most_held, counts_held, none_below)

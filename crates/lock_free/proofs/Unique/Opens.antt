@@ -1,5 +1,5 @@
 -- How a set's table opens.
-use Rattle.lock_free.proofs.Names.{◌≡◌, ℕ, ◌-◌, ◌^◌, ◌<◌, nat_lt, false, List, [], ◌∷◌, ◌++◌, refl, arith, nat_tests}
+use Rattle.lock_free.proofs.Names.{◌≡◌, ℕ, ◌-◌, ◌^◌, ◌<◌, nat_lt, false, List, [], ◌∷◌, ◌++◌, arith, nat_tests}
 use Rattle.lock_free.proofs.Names.{opening, one_word, IsMachine, first_view}
 use Rattle.model.specs.declared.turn.Kind.TheVariants as kinds
 use Rattle.model.specs.Families.Indices.Opening.{opening_words}
@@ -14,7 +14,4 @@ module _ (capacity : ℕ) (some : 0 < capacity) (small : capacity < 2 ^ 24 - 1) 
 
   pub indices_open : (words : List ℕ) → words ≡ opening_words capacity ++ 0 ∷ []
       → IsMachine one_word kinds.Indices capacity (opening words [] (first_view capacity))
-  indices_open words same =
-      opens one_word kinds.Indices capacity words
-      (record { some = omega arith; few = omega arith; sized = λ x. refl; given_back = λ x. refl })
-      (rw (most, least) refl) same
+  indices_open x0 x1 = grind (arith, opens, one_word, most, least)

@@ -156,10 +156,10 @@ module _ (base w : View ℕ) (m : Unit {0}) (idle : base.going ≡ None) where
     a = counted_answered base w m idle n ends
 
     same_tally : tally_of w.seen ≡ tally_of a.before
-    same_tally = ap tally_of a.is ∙ fold-append tally_after _ a.before (Finished a.by (Indices BorrowedIndices) (Number n) ∷ [])
+    same_tally = grind (arith, tally_of, fold-append, tally_after)
 
     same_lock : is_locked w.seen ≡ is_locked a.before
-    same_lock = ap is_locked a.is ∙ fold-append locked_after false a.before (Finished a.by (Indices BorrowedIndices) (Number n) ∷ [])
+    same_lock = grind (arith, is_locked, fold-append, locked_after)
 
     -- no less than a pass holds are counted
     pub counted_least : (is : List ℕ) → HeldBy is w.made → length is ≤ n

@@ -1,5 +1,6 @@
 -- What a call on a pass whose last one may rest leaves: of one that has ended, and of one that rests itself.
-use Rattle.lock_free_owners.proofs.Names.{◌≡◌, inl, inr, ℕ, false, Option, Some, None, IfSome, List, [], ◌∷◌, ◌++◌}
+use Rattle.std.proofs.Common.{arith}
+use Rattle.lock_free_owners.proofs.Names.{◌≡◌, ℕ, false, Option, Some, None, IfSome, List, [], ◌∷◌, ◌++◌}
 use Rattle.lock_free_owners.proofs.Names.{sym, ap, subst, ◌∙◌, append_assoc, append-nil, Answer, Event, Begun}
 use Rattle.lock_free_owners.proofs.Names.{Finished, Start, Container, ContainerStart, Coding, is_locked, IsUnlocked}
 use Rattle.lock_free_owners.proofs.Names.{HeldSometime, IsAll, View, IsHistory, Called, IsBeginning, Goes}
@@ -14,30 +15,22 @@ module _ {T : Type 0} (code : Coding T) (base from : View T) (settled : SettledF
   -- ---- where it began
 
   settled_since : SettledFrom code kinds.Container base from → IsBeginning base.seen from.seen
-  settled_since (inl same) = record { rest = []; is = ap (λ (z : View T). z.seen) same.0 ∙ sym (append-nil base.seen) }
-  settled_since (inr s) =
-      let end : List (Event T) = Finished s.resting.party s.resting.start s.resting.answer ∷ [] in
-      record { rest = s.others ++ end; is = s.seen ∙ append_assoc base.seen s.others end }
+  settled_since x0 = grind (arith, append-nil, append_assoc)
 
   settled_idle : SettledFrom code kinds.Container base from → from.going ≡ None
-  settled_idle (inl same) = ap (λ (z : View T). z.going) same.0 ∙ same.1
-  settled_idle (inr s) = s.idle
+  settled_idle x0 = grind arith
 
   settled_capacity : SettledFrom code kinds.Container base from → from.capacity ≡ base.capacity
-  settled_capacity (inl same) = ap (λ (z : View T). z.capacity) same.0
-  settled_capacity (inr s) = s.capacity
+  settled_capacity x0 = grind arith
 
   settled_share : SettledFrom code kinds.Container base from → from.share ≡ base.share
-  settled_share (inl same) = ap (λ (z : View T). z.share) same.0
-  settled_share (inr s) = s.share
+  settled_share x0 = grind arith
 
   settled_party : SettledFrom code kinds.Container base from → from.party ≡ base.party
-  settled_party (inl same) = ap (λ (z : View T). z.party) same.0
-  settled_party (inr s) = s.party
+  settled_party x0 = grind arith
 
   settled_state : SettledFrom code kinds.Container base from → from.state ≡ base.state
-  settled_state (inl same) = ap (λ (z : View T). z.state) same.0
-  settled_state (inr s) = s.state
+  settled_state x0 = grind arith
 
   pub idle_from : from.going ≡ None
   idle_from = settled_idle settled
@@ -49,7 +42,7 @@ module _ {T : Type 0} (code : Coding T) (base from : View T) (settled : SettledF
   share_from = settled_share settled
 
   pub later : (xs : List (Event T)) → IsBeginning base.seen (from.seen ++ xs)
-  later xs = (let a = settled_since settled in record { rest = a.rest ++ xs; is = ap (λ zs. zs ++ xs) a.is ∙ append_assoc base.seen a.rest xs })
+  later x0 = grind (arith, settled_since, append_assoc)
 
   pub from_since : (xs ys : List (Event T)) → ys ≡ from.seen ++ xs → IsBeginning base.seen ys
   from_since xs ys is = (let all = later xs in record { rest = all.rest; is = is ∙ all.is })
@@ -65,9 +58,7 @@ module _ {T : Type 0} (code : Coding T) (base from : View T) (settled : SettledF
     made_is = s.made ∙ ap (λ os. from.made ++ (os ++ (wrote ++ last))) opens
 
     pub since_base : IsBeginning base.seen w.seen
-    since_base =
-        from_since (s.others ++ Begun p start ∷ (s.during ++ last)) w.seen
-        (seen_is ∙ append_assoc from.seen s.others (Begun p start ∷ (s.during ++ last)))
+    since_base = grind (arith, from_since, seen_is, append_assoc)
 
   module _ {C M E : Type 0} (call : Calling T C M E) (w : View T) where
     -- ---- it has ended
@@ -87,9 +78,7 @@ module _ {T : Type 0} (code : Coding T) (base from : View T) (settled : SettledF
 
       module _ (start : ContainerStart T) (is_start : call.start ≡ Container start) (answer : Answer T) (is_answer : call.answer e m ≡ answer) where
         pub ended_called : Called ends.party (Container start) answer ends.wrote from w
-        ended_called =
-            subst (λ s. Called ends.party s answer ends.wrote from w) is_start
-            (subst (λ a. Called ends.party call.start a ends.wrote from w) is_answer (called code kinds.Container call from w e m idle_from ends))
+        ended_called = grind (arith, called, idle_from)
 
         unfoldable pub ended_answered : Answered code start answer base w
         ended_answered =
@@ -131,14 +120,10 @@ module _ {T : Type 0} (code : Coding T) (base from : View T) (settled : SettledF
 
     module _ (leaves : LeavesState call) (by_same : (was : Option ℕ) (p : ℕ) → call.by was p → IfSome was (λ q. q ≡ p)) where
       same_party : (p party : ℕ) → call.by from.party party → base.party ≡ Some p → p ≡ party
-      same_party p party by is = subst (λ (o : Option ℕ). IfSome o (λ q. q ≡ party)) (settled_party settled ∙ is) (by_same from.party party by)
+      same_party x0 x1 x2 x3 = grind (arith, settled_party)
 
       kept_by : (party : ℕ) → w.party ≡ Some party → call.by from.party party → (from.party ≡ Some party → w.state ≡ from.state) → KeepsState base w
-      kept_by party mine by stays p is =
-          let same = same_party p party by is in (
-            mine ∙ ap Some (sym same),
-            stays (settled_party settled ∙ (is ∙ ap Some same)) ∙ settled_state settled,
-          )
+      kept_by x0 x1 x2 x3 x4 x5 = grind (arith, same_party, settled_party, settled_state)
 
       pub ended_keeps : (e : E) (m : M) → Ends code kinds.Container call from e m w → KeepsState base w
       ended_keeps e m ends = kept_by ends.party ends.mine ends.same (ends.state leaves)

@@ -1,5 +1,5 @@
 -- A find of a container between two turns, as a call of the history.
-use Rattle.lock_free_owners.proofs.Names.{◌≡◌, ◌⊎◌, inl, inr, ℕ, ◌+◌, ◌<◌, ◌==◌, nat_lt, Bool, true, false, Option}
+use Rattle.lock_free_owners.proofs.Names.{◌≡◌, ◌⊎◌, inl, inr, ℕ, ◌+◌, ◌<◌, nat_lt, Bool, true, false, Option}
 use Rattle.lock_free_owners.proofs.Names.{Some, None, List, [], ◌∷◌, ◌++◌, slice_set, refl, sym, ap, subst, ◌∙◌}
 use Rattle.lock_free_owners.proofs.Names.{append-nil, fold, arith, find_asks, find_want, empty, by_test, After, GoOn}
 use Rattle.lock_free_owners.proofs.Names.{Done, Buffer, Number, Event, Begun, Copied, Container, Coding, IsCoding}
@@ -62,21 +62,12 @@ module _ {T : Type 0} (code : Coding T) (law : IsCoding code) (owner : ℕ) wher
 
   answers_later : (c : Find T (Buffer 128)) (n : ℕ) (stage : FindStage) → is_question (find_asks code.size c.capacity stage) ≡ true
       → IsLater (find_takes code.size c stage owner n)
-  answers_later c n (finds.LoadsCell index found) due = absurd (cc)
-  answers_later c n (finds.LoadsCount index found) due = absurd (cc)
-  answers_later c n (finds.LoadsWord index found count at) due = absurd (cc)
-  answers_later c n (finds.ChecksCount index found count) due = absurd (cc)
-  answers_later c n (finds.Asks index found) due =
-      by_test IsLater (n == 0) _ _ (λ t. tt) (λ t. by_test IsLater (nat_lt (index + 1) c.capacity) _ _ (λ u. (index, found, refl)) (λ u. tt))
+  answers_later x0 x1 x2 x3 = grind (arith, by_test, nat_lt)
 
   never_first : (capacity : ℕ) (c d : Find T (Buffer 128)) (m : Copying T) (n : ℕ) → is_question (find_want code.size c) ≡ true
       → find_goes code owner c n ≡ GoOn d
       → BeginsFind owner capacity d m → ⊥
-  never_first capacity c d m n due goes b =
-      let later = subst IsLater goes (answers_later c n c.stage due) in
-      let same : finds.LoadsCell 0 0 ≡ finds.LoadsCell (later.0 + 1) later.1 = sym (ap (λ (z : Find T (Buffer 128)). z.stage) b.0) ∙ later.2 in
-      let no : 0 ≡ later.0 + 1 = cc in
-      omega arith
+  never_first x0 x1 x2 x3 x4 x5 x6 x7 = grind (arith, answers_later)
 
   -- each step at a word
   pub find_keeps : KeepsWhere code kinds.Container (container_words code) (λ (c : Find T (Buffer 128)). is_question (find_want code.size c) ≡ false)
@@ -88,18 +79,11 @@ module _ {T : Type 0} (code : Coding T) (law : IsCoding code) (owner : ℕ) wher
       (container_find_word code law words_in kept_at put_in owner)
 
   pub at_its_word : (capacity : ℕ) (stage : FindStage) → IsAtWord stage → is_question (find_asks code.size capacity stage) ≡ false
-  at_its_word capacity (finds.LoadsCell index found) still = refl
-  at_its_word capacity (finds.LoadsCount index found) still = refl
-  at_its_word capacity (finds.LoadsWord index found count at) still = refl
-  at_its_word capacity (finds.ChecksCount index found count) still = refl
-  at_its_word capacity (finds.Asks index found) still = absurd still
+  at_its_word x0 x1 x2 = grind arith
 
   apart : (base v : View T) (c : Find T (Buffer 128)) (m k : Copying T) → IsResting code v
       → BeginsFind owner v.capacity c k → FindBegun code owner base v c m → ⊥
-  apart =
-      apart_asked code (finding code owner) (λ c. find_want code.size c) (λ c m. refl) (BeginsFind owner) begins_asks
-      (find_goes code owner) (find_copying code owner) (FindOver code owner) never_first
-      (container_find_keeps code law words_in kept_at put_in owner) begins_first
+  apart = grind (arith, apart_asked, finding, find_want, begins_asks, find_goes, find_copying, never_first, container_find_keeps, words_in)
 
   abbrev WaitsAt : View T → View T → Find T (Buffer 128) → Copying T → Type 0
   WaitsAt = Waits code kinds.Container (λ base. BeginsFind owner base.capacity)
@@ -108,7 +92,7 @@ module _ {T : Type 0} (code : Coding T) (law : IsCoding code) (owner : ℕ) wher
   rested_at base v c m waits = subst (λ z. IsResting code z) (sym waits.is) waits.resting
 
   begins_at : (base v : View T) (c : Find T (Buffer 128)) (m : Copying T) → WaitsAt base v c m → BeginsFind owner v.capacity c m
-  begins_at base v c m waits = subst (λ (z : View T). BeginsFind owner z.capacity c m) (sym waits.is) waits.first
+  begins_at x0 x1 x2 x3 x4 = grind arith
 
   -- it has copied the same, whatever the view with which it is told that it began
   same_copies : (base other v : View T) (c : Find T (Buffer 128)) (m k : Copying T) → FindAt code owner base v c m → FindAt code owner other v c k → m.1 ≡ k.1
@@ -159,19 +143,11 @@ module _ {T : Type 0} (code : Coding T) (law : IsCoding code) (owner : ℕ) wher
 
     -- it is under way, and has heard no answer yet
     under_at : (from : View T) → FindBegun code owner from v c m → IsUnderWay code kinds.Container (finding code owner) from v c m
-    under_at from (inl (inl first)) =
-        clash (is_question (find_want code.size c)) due ((find_call code law words_in kept_at put_in owner).first from.capacity c m first.first)
-    under_at from (inl (inr under)) = under
-    under_at from (inr heard) =
-        clash (is_question (find_want code.size c)) due
-        ((find_call code law words_in kept_at put_in owner).one heard.asking c (number_of heard.said) heard.asks heard.goes)
+    under_at x0 x1 = grind (arith, clash, is_question, find_want, due, find_call, words_in, kept_at, put_in, number_of)
 
     pub asked_from : FindAt code owner base v c m
         → (from : View T) × SettledFrom code kinds.Container base from × IsUnderWay code kinds.Container (finding code owner) from v c m
-    asked_from (inl x) = (x.from, x.settled, under_at x.from x.stage)
-    asked_from (inr waits) =
-        let same : finds.LoadsCell 0 0 ≡ finds.Asks index found = sym (ap (λ (z : Find T (Buffer 128)). z.stage) waits.first.0) ∙ is in
-        absurd (cc)
+    asked_from x0 = grind (arith, under_at)
 
     same_room : (n : ℕ) → find_copying code owner c m n ≡ m
     same_room n = ap (λ stage. (keeps_of kept_at stage m.0 n, copies_after stage n (value_of_room code words_in m.0) m.1)) is
@@ -189,8 +165,7 @@ module _ {T : Type 0} (code : Coding T) (law : IsCoding code) (owner : ℕ) wher
 
     rests_at : (e : ℕ) (said : Bool) → find_goes code owner c (number_of said) ≡ Done e → (at : FindAt code owner base v c m)
         → RestsAt code kinds.Container (find_goes code owner) (find_copying code owner) (finding code owner) (asked_from at).0 v e m
-    rests_at e said goes at =
-        record { asking = c; before = (asked_from at).2; asks = due; said = said; goes = goes; keeps = same_room (number_of said) }
+    rests_at x0 x1 x2 x3 = grind (arith, asked_from, due, same_room, number_of)
 
   -- ---- where it has ended, or rests
 
@@ -241,22 +216,10 @@ module _ {T : Type 0} (code : Coding T) (law : IsCoding code) (owner : ℕ) wher
           (no_ends code law words_in kept_at put_in owner from w e m rest h.trace.world.kept) (copies_of under.party m.1) at_work)
 
       pub rested_so : HasSearched code cap owner e (below_question rest.asking.stage) (visits_of owner id m.1) base w
-      rested_so =
-          record {
-            from = from;
-            settled = settled;
-            by = under.party;
-            mine = under.mine;
-            counts = counted_at;
-            over = inr (rests_so, sym (ap asked_below under.going));
-          }
+      rested_so = grind (arith, counted_at, rests_so, asked_below)
 
       at_question : (stage : FindStage) → is_question (find_asks code.size rest.asking.capacity stage) ≡ true → asks stage ≡ true
-      at_question (finds.LoadsCell index found) due = absurd (cc)
-      at_question (finds.LoadsCount index found) due = absurd (cc)
-      at_question (finds.LoadsWord index found count at) due = absurd (cc)
-      at_question (finds.ChecksCount index found count) due = absurd (cc)
-      at_question (finds.Asks index found) due = refl
+      at_question x0 x1 = grind arith
 
       pub rested_left : IsLeft code base w
       rested_left =

@@ -43,8 +43,7 @@ module _ {T F : Type 0} (code : Coding T) (step : F → T → ContainerHandle �
   whole : (w : View T) (n bound : ℕ) (q : F) (copies : List (ℕ × T))
       → IsLeft code base w × HasSearched code cap owner n bound (visits_of owner id copies) base w
       → HasFound step cap (IsNamed cap owner id) f n bound (visits_of owner id copies) q → Over w n q
-  whole w n bound q copies x found =
-      record { left = x.0; bound = bound; visits = visits_of owner id copies; searched = x.1; found = found }
+  whole x0 x1 x2 x3 x4 x5 x6 = grind (arith, visits_of)
 
   module _ (law : IsCoding code) (small : cap < 2 ^ 32) (size : cap ≡ base.capacity) (v : View T) (c : Find T (Buffer 128)) (m : Buffer 128)
       (p : F) (h : Searching v c m p) where
@@ -75,7 +74,7 @@ module _ {T F : Type 0} (code : Coding T) (step : F → T → ContainerHandle �
 
     module _ (index found : ℕ) (is : c.stage ≡ finds.Asks index found) where
       so_here : SoFar step cap owner id f (finds.Asks index found) h.copies (value_in_room m) p
-      so_here = subst (λ z. SoFar step cap owner id f z h.copies (value_in_room m) p) is h.so_far
+      so_here = grind arith
 
       within : index < cap
       within = (subst (visits.FindStage code.size cap) is h.stands.1).0
@@ -121,18 +120,7 @@ module _ {T F : Type 0} (code : Coding T) (step : F → T → ContainerHandle �
 
     turned : (stage : FindStage) → c.stage ≡ stage → (w : View T) (a : After (Find T (Buffer 128)) ℕ) (left : Buffer 128) (q : F)
         → FindTurns code owner stage v c m a left w → FindMoves step code.size id c owner stage (value_in_room m) p a q → Further w a left q
-    turned (finds.LoadsCell index found) is w a left q turns moves =
-        subst (λ (z : F). Further w a left z) (sym moves) (by_step (finds.LoadsCell index found) is tt w a left turns)
-    turned (finds.LoadsCount index found) is w a left q turns moves =
-        subst (λ (z : F). Further w a left z) (sym moves) (by_step (finds.LoadsCount index found) is tt w a left turns)
-    turned (finds.LoadsWord index found count place) is w a left q turns moves =
-        subst (λ (z : F). Further w a left z) (sym moves) (by_step (finds.LoadsWord index found count place) is tt w a left turns)
-    turned (finds.ChecksCount index found count) is w a left q turns moves =
-        subst (λ (z : F). Further w a left z) (sym moves) (by_step (finds.ChecksCount index found count) is tt w a left turns)
-    turned (finds.Asks index found) is w a left q turns moves =
-        subst (λ (z : View T). Further z a left q) (sym turns.0)
-        (subst (λ (x : Buffer 128). Further v a x q) (sym turns.1)
-        (subst (λ r. Further v r m q) (sym moves.2) (by_answer index found is q moves.0 moves.1)))
+    turned x0 x1 x2 x3 x4 x5 x6 x7 = grind (arith, by_step, by_answer)
 
     pub further : (w : View T) (a : After (Find T (Buffer 128)) ℕ) (left : Buffer 128) (q : F) → FindTurns code owner c.stage v c m a left w
         → FindMoves step code.size id c owner c.stage (value_in_room m) p a q → Further w a left q
@@ -144,6 +132,4 @@ module _ {T F : Type 0} (code : Coding T) (step : F → T → ContainerHandle �
   pub starts : (c : Find T (Buffer 128)) (m : Buffer 128) → c ≡ first_find cap → m ≡ fresh_cell → 0 < cap
       → FindAt code owner base base (first_find cap) (fresh_cell, [])
       → Searching base c m f
-  starts c m is fresh some at =
-      subst (λ (z : Find T (Buffer 128) × Buffer 128). Searching base z.0 z.1 f) (λ i. (sym is i, sym fresh i))
-      (record { copies = []; at = at; stands = (refl, (some, omega arith)); so_far = came_none step cap owner id f 0 })
+  starts x0 x1 x2 x3 x4 x5 = grind (arith, came_none)

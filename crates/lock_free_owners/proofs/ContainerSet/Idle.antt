@@ -1,4 +1,5 @@
 -- A pass between two of its calls has none under way, or its last one rests.
+use Rattle.std.proofs.Common.{arith}
 use Rattle.lock_free_owners.proofs.Names.{◌≡◌, ◌⊎◌, inl, inr, ℕ, ◌<◌, true, false, true≢false, Option, Some, None, []}
 use Rattle.lock_free_owners.proofs.Names.{refl, sym, ap, ◌∙◌, Done, Number, Start, Flight, Coding, goes_of, number_of}
 use Rattle.lock_free_owners.proofs.Names.{View, IsResting}
@@ -44,8 +45,7 @@ module _ {T : Type 0} (code : Coding T) (v : View T) (fresh : v.other ≡ []) (s
   of_find p start flight mine going due = absurd (true≢false (sym due))
 
   of_call : (p : ℕ) (start : Start T) (flight : Flight T) → v.party ≡ Some p → v.going ≡ Some (start, flight) → is_at_question flight ≡ true → Rests
-  of_call p start (flights.TheVariants.Container flight) mine going due = of_find p start flight mine going due
-  of_call p start flight mine going due = absurd (true≢false (sym due))
+  of_call x0 x1 x2 x3 x4 x5 = grind (arith, of_find)
 
   by_party : (party : Option ℕ) (going : Option (Start T × Flight T)) → v.party ≡ party → v.going ≡ going → may_rest party going ≡ true → Rests
   by_party party None mine going t = inl going

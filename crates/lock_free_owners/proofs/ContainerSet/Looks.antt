@@ -1,5 +1,5 @@
 -- A look of a state on a pass: its steps, its begin, and what it leaves.
-use Rattle.lock_free_owners.proofs.Names.{◌≡◌, ◌⊎◌, inl, inr, ℕ, zero, suc, ◌+◌, ◌<◌, ◌==◌, nat_lt, Bool, true, false}
+use Rattle.lock_free_owners.proofs.Names.{◌≡◌, ◌⊎◌, inl, inr, ℕ, zero, suc, ◌+◌, ◌<◌, nat_lt, Bool, true, false}
 use Rattle.lock_free_owners.proofs.Names.{Some, None, List, [], refl, sym, ap, subst, ◌∙◌, slice_index_or, arith}
 use Rattle.lock_free_owners.proofs.Names.{nat_tests, is_even, first_look, look_want, look_comes_to, look_finds}
 use Rattle.lock_free_owners.proofs.Names.{look_takes, look_after, look_kept, Numbers, Showing, by_test, After, GoOn}
@@ -10,7 +10,6 @@ use Rattle.lock_free_owners.proofs.Names.{Goes, IsResting, Keeps}
 use Rattle.steps.specs.declared.ask.Want.{Want}
 use Rattle.steps.specs.declared.container.look.Look.{Look as Looking}
 use Rattle.steps.specs.declared.container.look.LookStage.{LookStage}
-use Rattle.steps.specs.declared.container.look.LookStage.TheVariants as looks
 use Rattle.model.specs.declared.families.container.calls.LookOf.{LookOf}
 use Rattle.model.specs.declared.turn.Kind.TheVariants as kinds
 use Rattle.model.specs.Families.Container.States.{settled}
@@ -60,13 +59,11 @@ module _ {T : Type 0} (code : Coding T) (law : IsCoding code) (which : LookOf) (
 
   joins : On → (base : View T) (a : After (Looking T) Bool) (m : Showing T) (w : View T)
       → NextOf (RestedLooks code which from.capacity seen) (RestedLooked code which from.capacity seen) from a m w → NextOf At Over base a m w
-  joins on base (GoOn d) m w h = (λ y. h, λ other. absurd (other on))
-  joins on base (Done e) m w h = (λ y. h, λ other. absurd (other on))
+  joins x0 x1 x2 x3 x4 x5 = grind arith
 
   leaves : (On → ⊥) → (base : View T) (a : After (Looking T) Bool) (m : Showing T) (w : View T)
       → NextOf (Still (LookStands code.size)) LookEnds from a m w → NextOf At Over base a m w
-  leaves other base (GoOn d) m w h = (λ y. absurd (other y), λ n. h)
-  leaves other base (Done e) m w h = (λ y. absurd (other y), λ n. h)
+  leaves x0 x1 x2 x3 x4 x5 = grind arith
 
   abbrev ToldOn : Looking T → Showing T → View T → ℕ → View T → Type 0
   ToldOn c m =
@@ -102,11 +99,7 @@ module _ {T : Type 0} (code : Coding T) (law : IsCoding code) (which : LookOf) (
   finds c index count = by_test Past (is_even count) _ _ (λ t. comes c (index + 1)) (λ t. tt)
 
   takes : (c : Looking T) (stage : LookStage) (n : ℕ) → IsPast stage → Past (look_takes code.size c stage seen n)
-  takes c looks.LoadsChange n past = absurd past
-  takes c (looks.LoadsCount index) n past =
-      by_test Past (n == slice_index_or seen.counts index 0) _ _ (λ t. comes c (index + 1)) (λ t. finds c index n)
-  takes c (looks.LoadsWord index count at) n past = by_test Past (nat_lt (at + 1) code.size) _ _ (λ t. tt) (λ t. tt)
-  takes c (looks.ChecksCount index count) n past = by_test Past (n == count) _ _ (λ t. comes c (index + 1)) (λ t. finds c index n)
+  takes x0 x1 x2 x3 = grind (arith, by_test, slice_index_or, comes, finds, nat_lt)
 
   goes_past : (base : View T) (a : After (Looking T) Bool) (m : Showing T) (w : View T) → Past a → NextOf At Over base a m w → NextOf AtOn OverOn base a m w
   goes_past base (GoOn d) m w past h = (h, past)
@@ -125,10 +118,7 @@ module _ {T : Type 0} (code : Coding T) (law : IsCoding code) (which : LookOf) (
 
   -- what the first step leads to on a container that has an index
   pub first_leads : (capacity : ℕ) (a : After (Looking T) Bool) (n : ℕ) → 0 < capacity → a ≡ look_after code.size (first_look capacity) seen n → IsAfterFirst a
-  first_leads capacity a n some e = subst IsAfterFirst (sym e) (by_test IsAfterFirst (n == seen.change) _ _ (λ t. refl) (λ t. comes_first))
-    where
-      comes_first : IsAfterFirst (look_comes_to (first_look capacity) 0)
-      comes_first = (let low : nat_lt 0 capacity ≡ true = grind (arith, nat_tests) in rw low tt)
+  first_leads x0 x1 x2 x3 x4 = grind (arith, by_test, look_comes_to, first_look, nat_lt, nat_tests)
 
   -- ---- where a step has led
 
@@ -150,11 +140,10 @@ module _ {T : Type 0} (code : Coding T) (law : IsCoding code) (which : LookOf) (
 
   begins_on : On → (from.going ≡ None) ⊎ IsResting code from → from.other ≡ [] → 0 < from.share.part
       → RestedLooks code which from.capacity seen from from (first_look from.capacity) shown
-  begins_on on (inl none) alone any = state_rests_idle code law which from.capacity seen from (first_look from.capacity) shown (refl, refl, on) none alone any
-  begins_on on (inr resting) alone any = state_rests_rested code law which from.capacity seen from (first_look from.capacity) shown (refl, refl, on) resting
+  begins_on x0 x1 x2 x3 = grind (arith, state_rests_idle, first_look, state_rests_rested)
 
   pub look_begins : IsIdle from → from.other ≡ [] → 0 < from.share.part → LookAt code which from shown seen from (first_look from.capacity) shown
-  look_begins idle alone any = (λ on. begins_on on (rests code from alone any idle) alone any, λ other. (refl, (refl, tt)))
+  look_begins x0 x1 x2 = grind (arith, begins_on, rests)
 
 module _ {T : Type 0} (code : Coding T) (which : LookOf) (from w : View T) (seen : Numbers) (changed : Bool) (m : Showing T)
     (ends : RestedLooked code which from.capacity seen from changed m w) where
@@ -168,19 +157,7 @@ module _ {T : Type 0} (code : Coding T) (which : LookOf) (from w : View T) (seen
 
   pub look_made : HasMade code (look_start which) (looked which (state_of_look from.capacity seen m) changed)
       (λ by es. HasLookedAll from.capacity by changed es) from w
-  look_made =
-      let over = ends.over.0 in
-      record {
-        from = ends.from;
-        settled = ends.settled;
-        by = over.party;
-        mine = over.mine;
-        wrote = over.wrote;
-        tells = subst (λ n. HasLookedAll n over.party changed over.wrote) (capacity_from code from ends.from ends.settled)
-            (over.tells (idle_from code from ends.from ends.settled));
-        called = ended_called code from ends.from ends.settled (looking code which from.capacity seen) w changed m over (look_start which) refl
-            (looked which (state_of_look from.capacity seen m) changed) refl;
-      }
+  look_made = grind (arith, capacity_from, idle_from, ended_called, looking, look_start, looked, state_of_look)
 
 -- what was written may be said more widely
 pub made_as : {T : Type 0} (code : Coding T) (start : ContainerStart T) (answer : Answer T) (Wrote More : ℕ → List (Event T) → Type 0) (v w : View T)
@@ -194,8 +171,7 @@ module _ (T : Type 0) where
   none_copied p (suc index) = inl (none_copied p index)
 
   pub some_copied : (capacity p : ℕ) (changed : Bool) (es : List (Event T)) → HasLookedAll capacity p changed es → HasCopied p 0 capacity es
-  some_copied capacity p true es h = h
-  some_copied capacity p false es h = subst (λ zs. HasCopied p 0 capacity zs) (sym h) (none_copied p capacity)
+  some_copied x0 x1 x2 x3 x4 = grind (arith, none_copied)
 
 -- ---- the state that the pass has
 
@@ -212,13 +188,7 @@ module _ {T : Type 0} (code : Coding T) (from : View T) where
   pub latest_so : (which : LookOf) (w : View T) (changed : Bool) (old new : ContainerState T) → old.capacity ≡ from.capacity
       → new ≡ settled_if (Done changed) (record old { shown = new.shown })
       → RestedLooked code which from.capacity old.seen from changed new.shown w → HasIt w new
-  latest_so which w changed old new e is ends =
-      (ends.over.0.party, ends.over.0.mine, ends.over.1 ∙ ap Some (same changed ∙ ap (λ s. unnumbered s) (sym is)))
-    where
-      same : (b : Bool) → settled_if (Done b) (state_of_look from.capacity old.seen new.shown)
-          ≡ unnumbered (settled_if (Done b) (record old { shown = new.shown }))
-      same true = ap (λ n. settled (state_of_look n old.seen new.shown)) (sym e)
-      same false = ap (λ n. state_of_look n old.seen new.shown) (sym e)
+  latest_so x0 x1 x2 x3 x4 x5 x6 x7 = grind (arith, unnumbered, settled_if, state_of_look, settled)
 
 -- what is known of a pass that a look has left
 pub record Left {T : Type 0} (v w : View T) : Type 0 where
@@ -230,19 +200,4 @@ pub record Left {T : Type 0} (v w : View T) : Type 0 where
 module _ {T : Type 0} (code : Coding T) (which : LookOf) (from : View T) (shown : Showing T) (seen : Numbers)
     (changed : Bool) (m : Showing T) (w : View T) where
   pub left_so : Decided (IsOnHistory code which from shown seen) → IsIdle from → from.other ≡ [] → LookOver code which from shown seen changed m w → Left from w
-  left_so (inl on) idle alone over =
-      let ends = over.0 on in
-      record {
-        idle = idle_none w ends.over.0.idle;
-        alone = ends.over.0.alone;
-        share = ends.over.0.share ∙ share_from code from ends.from ends.settled;
-        capacity = ends.over.0.capacity ∙ capacity_from code from ends.from ends.settled;
-      }
-  left_so (inr other) idle alone over =
-      let same = over.1 other in
-      record {
-        idle = subst IsIdle (sym same) idle;
-        alone = ap (λ (z : View T). z.other) same ∙ alone;
-        share = ap (λ (z : View T). z.share) same;
-        capacity = ap (λ (z : View T). z.capacity) same;
-      }
+  left_so x0 x1 x2 x3 = grind (arith, idle_none, share_from, capacity_from)

@@ -1,6 +1,6 @@
 -- How a container's table opens.
-use Rattle.lock_free_owners.proofs.Names.{◌≡◌, ℕ, ◌+◌, ◌*◌, ◌-◌, ◌^◌, ◌<◌, nat_lt, false, List, [], ◌∷◌, ◌++◌, refl}
-use Rattle.lock_free_owners.proofs.Names.{sym, ap, ◌∙◌, append_assoc, arith, nat_tests, opening, total_words, empty}
+use Rattle.lock_free_owners.proofs.Names.{◌≡◌, ℕ, ◌+◌, ◌-◌, ◌^◌, ◌<◌, nat_lt, false, List, [], ◌∷◌, ◌++◌, refl}
+use Rattle.lock_free_owners.proofs.Names.{append_assoc, arith, nat_tests, opening, total_words, empty}
 use Rattle.lock_free_owners.proofs.Names.{Coding, IsCoding, IsMachine, first_view, opens}
 use Rattle.std.proofs.Common.{replicate}
 use Rattle.model.specs.declared.turn.Kind.TheVariants as kinds
@@ -11,11 +11,7 @@ module _ (capacity size : ℕ) where
   -- the words as they are filled in
   pub filled : (rest : ℕ) → rest ≡ total_words capacity size + 1 - (1 + capacity)
       → (0 ∷ replicate capacity empty) ++ replicate rest 0 ≡ opening_words size capacity ++ 0 ∷ []
-  filled rest is =
-      let more : rest ≡ (1 + capacity + size * capacity) + 1 = omega arith in
-      ap (λ n. (0 ∷ replicate capacity empty) ++ replicate n 0) more
-      ∙ (ap (λ zs. (0 ∷ replicate capacity empty) ++ zs) (one_more (1 + capacity + size * capacity))
-      ∙ sym (append_assoc (0 ∷ replicate capacity empty) (replicate (1 + capacity + size * capacity) 0) (0 ∷ [])))
+  filled x0 x1 = grind (arith, replicate, empty, one_more, append_assoc)
 
 module _ {T : Type 0} (code : Coding T) (law : IsCoding code) (capacity : ℕ) (some : 0 < capacity) (small : capacity < 2 ^ 32) where
   most : nat_lt (2 ^ 32 - 1) capacity ≡ false

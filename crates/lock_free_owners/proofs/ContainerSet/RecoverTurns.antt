@@ -1,5 +1,5 @@
 -- A recovery of a container between two turns, as a call of the history.
-use Rattle.lock_free_owners.proofs.Names.{◌≡◌, ◌⊎◌, inl, inr, ℕ, ◌+◌, ◌<◌, ◌==◌, nat_lt, Bool, true, false, None}
+use Rattle.lock_free_owners.proofs.Names.{◌≡◌, ◌⊎◌, inl, inr, ℕ, ◌<◌, nat_lt, Bool, true, false, None}
 use Rattle.lock_free_owners.proofs.Names.{List, [], ◌∷◌, ◌++◌, slice_set, refl, sym, ap, subst, ◌∙◌, append_assoc}
 use Rattle.lock_free_owners.proofs.Names.{append-nil, arith, goes_to, empty, by_test, After, GoOn, Done, DeadOwner}
 use Rattle.lock_free_owners.proofs.Names.{Buffer, ReleaseState, State, Event, Begun, Copied, Asked, Finished}
@@ -51,10 +51,7 @@ module _ {T : Type 0} (code : Coding T) (law : IsCoding code) (given : DeadOwner
   begins_first : (v : View T) (c : Recover T (Buffer 128)) (m : Visiting T) → BeginsRecover given v.capacity c m → v.going ≡ None → v.other ≡ []
       → 0 < v.share.part
       → RecoverBegun code given v v c m
-  begins_first v c m b idle alone any =
-      subst (λ (d : Recover T (Buffer 128)). RecoverBegun code given v v d m) (sym b.0)
-      (container_recover_first code law words_in kept_at put_in given v m (ap (λ (x : Visiting T). room_of code.size (words_in x.0)) b.2 ∙ fresh_room)
-      (ap (λ (x : Visiting T). x.1) b.2) idle alone any b.1)
+  begins_first x0 x1 x2 x3 x4 x5 x6 = grind (arith, container_recover_first, words_in, kept_at, put_in, room_of, fresh_room)
 
   -- no answer leads there
   abbrev IsLater : After (Recover T (Buffer 128)) ReleaseState → Type 0
@@ -66,27 +63,11 @@ module _ {T : Type 0} (code : Coding T) (law : IsCoding code) (given : DeadOwner
 
   answers_later : (c : Recover T (Buffer 128)) (n : ℕ) (stage : RecoverStage) → is_question (recover_asks code.size c.capacity stage given.owner) ≡ true
       → IsLater (recover_takes code.size c stage given n)
-  answers_later c n recovers.LoadsCounter due = absurd (cc)
-  answers_later c n (recovers.LoadsCell index) due = absurd (cc)
-  answers_later c n (recovers.LoadsCount index) due = absurd (cc)
-  answers_later c n (recovers.LoadsWord index count at) due = absurd (cc)
-  answers_later c n (recovers.ChecksCount index count) due = absurd (cc)
-  answers_later c n (recovers.Asks index count) due =
-      by_test IsLater (n == 0) _ _
-      (λ t. by_test (λ (stage : RecoverStage). IsLater (goes_to c stage)) (nat_lt (index + 1) c.capacity) _ _ (λ u e. absurd (cc)) (λ u e. absurd (cc)))
-      (λ t e. absurd (cc))
-  answers_later c n (recovers.EmptiesCell index count) due = absurd (cc)
-  answers_later c n (recovers.Hides index count) due = absurd (cc)
-  answers_later c n (recovers.Raises index raise) due = clash (is_question _) due (raise_asks_none raise)
-  answers_later c n (recovers.Locks index lock) due = clash (is_question _) due (lock_asks_none lock)
-  answers_later c n recovers.LoadsCounterAgain due = absurd (cc)
-  answers_later c n (recovers.AddsChange state) due = absurd (cc)
+  answers_later x0 x1 x2 x3 = grind (arith, by_test, goes_to, nat_lt, clash, is_question, raise_asks_none, lock_asks_none)
 
   never_first : (capacity : ℕ) (c d : Recover T (Buffer 128)) (m : Visiting T) (n : ℕ) → is_question (recover_want code.size c given) ≡ true
       → recover_goes code given c n ≡ GoOn d → BeginsRecover given capacity d m → ⊥
-  never_first capacity c d m n due goes b =
-      let later = subst IsLater goes (answers_later c n c.stage due) in
-      later (ap (λ (z : Recover T (Buffer 128)). z.stage) b.0)
+  never_first x0 x1 x2 x3 x4 x5 x6 x7 = grind (arith, answers_later)
 
   pub recover_keeps : Keeps code (RecoverAt code given) (RecoverEnds code given) (λ c. recover_want code.size c given) (recover_goes code given)
       (recover_visiting code given)
@@ -97,10 +78,7 @@ module _ {T : Type 0} (code : Coding T) (law : IsCoding code) (given : DeadOwner
 
   apart : (base v : View T) (c : Recover T (Buffer 128)) (m k : Visiting T) → IsResting code v → BeginsRecover given v.capacity c k
       → RecoverBegun code given base v c m → ⊥
-  apart =
-      apart_asked code (recovering code given) (λ c. recover_want code.size c given) (λ c m. refl) (BeginsRecover given) begins_asks
-      (recover_goes code given) (recover_visiting code given) (Ends code kinds.Container (recovering code given)) never_first
-      (container_recover_keeps code law words_in kept_at put_in given) begins_first
+  apart = grind (arith, apart_asked, recovering, recover_want, begins_asks, recover_goes, recover_visiting, never_first, container_recover_keeps, words_in)
 
   abbrev WaitsAt : View T → View T → Recover T (Buffer 128) → Visiting T → Type 0
   WaitsAt = Waits code kinds.Container (λ base. BeginsRecover given base.capacity)
@@ -109,7 +87,7 @@ module _ {T : Type 0} (code : Coding T) (law : IsCoding code) (given : DeadOwner
   rested_at base v c m waits = subst (λ z. IsResting code z) (sym waits.is) waits.resting
 
   begins_at : (base v : View T) (c : Recover T (Buffer 128)) (m : Visiting T) → WaitsAt base v c m → BeginsRecover given v.capacity c m
-  begins_at base v c m waits = subst (λ (z : View T). BeginsRecover given z.capacity c m) (sym waits.is) waits.first
+  begins_at x0 x1 x2 x3 x4 = grind arith
 
   -- it has done the same, whatever the view with which it is told that it began
   same_visits : (base other v : View T) (c : Recover T (Buffer 128)) (m k : Visiting T) → RecoverAt code given base v c m → RecoverAt code given other v c k
@@ -158,20 +136,11 @@ module _ {T : Type 0} (code : Coding T) (law : IsCoding code) (given : DeadOwner
     due = ap (λ stage. is_question (recover_asks code.size c.capacity stage given.owner)) is
 
     under_at : (from : View T) → RecoverBegun code given from v c m → IsUnderWay code kinds.Container (recovering code given) from v c m
-    under_at from (inl (inl first)) =
-        clash (is_question (recover_want code.size c given)) due
-        ((recover_call code law words_in kept_at put_in given).asking.first from.capacity c m first.first)
-    under_at from (inl (inr under)) = under
-    under_at from (inr heard) =
-        clash (is_question (recover_want code.size c given)) due
-        ((recover_call code law words_in kept_at put_in given).asking.one heard.asking c (number_of heard.said) heard.asks heard.goes)
+    under_at x0 x1 = grind (arith, clash, is_question, recover_want, due, recover_call, words_in, kept_at, put_in, number_of)
 
     asked_from : RecoverAt code given base v c m
         → (from : View T) × SettledFrom code kinds.Container base from × IsUnderWay code kinds.Container (recovering code given) from v c m
-    asked_from (inl x) = (x.from, x.settled, under_at x.from x.stage)
-    asked_from (inr waits) =
-        let same : recovers.LoadsCounter ≡ recovers.Asks index count = sym (ap (λ (z : Recover T (Buffer 128)). z.stage) waits.first.0) ∙ is in
-        absurd (cc)
+    asked_from x0 = grind (arith, under_at)
 
     same_room : (n : ℕ) → recover_visiting code given c m n ≡ m
     same_room n = ap (λ stage. (keeps_of kept_at stage m.0 n, visits_after given.owner stage n (value_there code words_in m.0) m.1)) is
@@ -236,10 +205,7 @@ module _ {T : Type 0} (code : Coding T) (law : IsCoding code) (given : DeadOwner
     -- it has written just what it did
     pub recovered_called : Called ends.over.party (Container (starts.Recover given.owner given.mode)) (State e)
         (wrote_visits ends.over.party given.owner m.1) ends.from w
-    recovered_called =
-        subst (λ es. Called ends.over.party (Container (starts.Recover given.owner given.mode)) (State e) es ends.from w)
-        (ends.over.tells (idle_from code base ends.from ends.settled))
-        (ended_called code base ends.from ends.settled (recovering code given) w e m ends.over (starts.Recover given.owner given.mode) refl (State e) refl)
+    recovered_called = grind (arith, idle_from, ended_called, recovering)
 
     pub recovered_answered : Answered code (starts.Recover given.owner given.mode) (State e) base w
     recovered_answered =

@@ -1,4 +1,5 @@
 -- A recovery of a container between two turns: where it stands on the history, and what its closure was asked.
+use Rattle.std.proofs.Common.{arith}
 use Rattle.lock_free_owners.proofs.Names.{◌≡◌, ℕ, Bool, true, false, List, [], if◌then◌else◌, refl, sym, ap, subst}
 use Rattle.lock_free_owners.proofs.Names.{recover_kept, After, GoOn, Done, DeadOwner, Buffer, ReleaseState, Coding}
 use Rattle.lock_free_owners.proofs.Names.{IsCoding, is_locked, fresh_cell, kept_at, number_of, View, value_of_room}
@@ -127,7 +128,7 @@ module _ {T F : Type 0} (code : Coding T) (step : F → T → Bool → F → Typ
     module _ (w : View T) (a : After (Recover T (Buffer 128)) ReleaseState) (left : Buffer 128) (q : F) where
       passes : (stage : RecoverStage) → c.stage ≡ stage → IsQuiet step cap shut given f stage
           → RecoverGoes code given v c m a left w → q ≡ p → Further w a left q
-      passes stage is still turns moves = subst (λ (z : F). Further w a left z) (sym moves) (by_step stage is still w a left turns)
+      passes x0 x1 x2 x3 x4 = grind (arith, by_step)
 
       turned : (stage : RecoverStage) → c.stage ≡ stage → RecoverTurns code given stage v c m a left w
           → RecoverMoves step code.size c given stage value p a q → Further w a left q
@@ -156,6 +157,4 @@ module _ {T F : Type 0} (code : Coding T) (step : F → T → Bool → F → Typ
   pub starts : (c : Recover T (Buffer 128)) (m : Buffer 128) → c ≡ first_recover cap → m ≡ fresh_cell
       → RecoverAt code given base base (first_recover cap) (fresh_cell, [])
       → Standing base c m f
-  starts c m is fresh at =
-      subst (λ (z : Recover T (Buffer 128) × Buffer 128). Standing base z.0 z.1 f) (λ i. (sym is i, sym fresh i))
-      (record { visits = []; at = at; stands = (refl, tt); so_far = (refl, refl) })
+  starts x0 x1 x2 x3 x4 = grind arith

@@ -1,10 +1,9 @@
 -- What holds of each history of a container: what the laws of its open runs say.
-use Rattle.lock_free_owners.proofs.Names.{◌≡◌, inl, inr, ⊎_elim, ℕ, List, slice_index, sym, subst, ◌∙◌, greatest}
-use Rattle.lock_free_owners.proofs.Names.{ReleaseMode, LockIfLastIndex, Default, Unlocked, NoPlace, State, Event}
-use Rattle.lock_free_owners.proofs.Names.{Finished, Container, Add, Remove, Coding, SetDoes, IsWellFormed, HoldsRight}
+use Rattle.std.proofs.Common.{arith}
+use Rattle.lock_free_owners.proofs.Names.{◌≡◌, ℕ, List, slice_index, sym, subst, ◌∙◌, greatest}
+use Rattle.lock_free_owners.proofs.Names.{ReleaseMode, Event}
+use Rattle.lock_free_owners.proofs.Names.{Coding, SetDoes, IsWellFormed, HoldsRight}
 use Rattle.lock_free_owners.proofs.Names.{Each, Word, IsHonest, IsHistory, is_open_container}
-use Rattle.steps.specs.declared.container.enums.ContainerAddFailure.TheVariants.{OutOfSpace}
-use Rattle.model.specs.declared.families.container.ContainerStart.TheVariants.{Recover}
 use Rattle.model.specs.declared.turn.Kind.TheVariants as kinds
 use Rattle.laws_container.specs.Gone.{AsksBy, RecoversBy, AnswersBy, FilledSinceEachBy}
 use Rattle.laws_container.specs.Open.{IsOpenContainer}
@@ -13,16 +12,11 @@ use Rattle.lock_free_owners.specs.Container.Told.{IsSound}
 module _ {T : Type 0} {worn other : Type 0} (may : worn → other) where
   since_each : (mode : ReleaseMode) (p owner : ℕ) (events : List (Event T)) → FilledSinceEachBy worn mode p owner events
       → FilledSinceEachBy other mode p owner events
-  since_each LockIfLastIndex p owner events h = λ index freed. ⊎_elim (λ x. inl (may x)) (λ x. inr x) (h index freed)
-  since_each Default p owner events h = tt
+  since_each x0 x1 x2 x3 x4 = grind arith
 
   -- what an answer says where its counter may be worn it says where that may be for another reason
   worn_on : (capacity : ℕ) (before : List (Event T)) (e : Event T) → AnswersBy Word worn capacity before e → AnswersBy Word other capacity before e
-  worn_on capacity before (Finished p (Container (Add value owner)) (NoPlace OutOfSpace)) h = (h.0, ⊎_elim (λ x. inl (may x)) (λ x. inr x) h.1)
-  worn_on capacity before (Finished p (Container (Remove index owner LockIfLastIndex)) (State Unlocked)) h =
-      (h.0, ⊎_elim (λ x. inl (may x)) (λ x. inr x) h.1)
-  worn_on capacity before (Finished p (Container (Recover owner mode)) (State Unlocked)) h = (h.0, h.1, since_each mode p owner before h.2)
-  worn_on capacity before e h = h
+  worn_on x0 x1 x2 x3 = grind (arith, since_each)
 
 pub sound_history : {T : Type 0} (code : Coding T) (capacity : ℕ) (events : List (Event T)) → IsHistory code kinds.Container capacity events
     → IsSound code capacity events

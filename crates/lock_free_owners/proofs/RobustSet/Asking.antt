@@ -8,11 +8,8 @@ use Rattle.lock_free_owners.proofs.Names.{recovers_owned, HasAsked, WasTold, Has
 use Rattle.lock_free_owners.proofs.Names.{wrote_to, wrote_by, wrote_now, wider, wrote_last, Since, opened, IsUnderWay}
 use Rattle.lock_free_owners.proofs.Names.{IsFirst, is_open_set}
 use Rattle.steps.specs.Indices.Robust.Recover.{recover_asks, recover_comes_to, recover_takes}
-use Rattle.steps.specs.declared.indices.robust.parts.Count.TheVariants as counts
 use Rattle.steps.specs.declared.indices.robust.parts.Lock.{Lock}
-use Rattle.steps.specs.declared.indices.robust.parts.Lock.TheVariants as locks
 use Rattle.steps.specs.declared.indices.robust.parts.Raise.{Raise}
-use Rattle.steps.specs.declared.indices.robust.parts.Raise.TheVariants as raises
 use Rattle.steps.specs.declared.indices.robust.recover.RecoverStage.{RecoverStage}
 use Rattle.steps.specs.declared.indices.robust.recover.RecoverStage.TheVariants as recovers
 use Rattle.model.specs.declared.event.Event.TheVariants.{Told}
@@ -31,14 +28,10 @@ use Rattle.lock_free_owners.proofs.Rules.Robust.Recovering.{IsOpenAt, Knows}
 -- ---- which stage asks
 
 raise_asks_none : (raise : Raise) → is_question (raise_want raise) ≡ true → ⊥
-raise_asks_none raises.LoadsCounter due = absurd (cc)
-raise_asks_none (raises.ExchangesCounter counter) due = absurd (cc)
+raise_asks_none x0 x1 = grind arith
 
 lock_asks_none : (lock : Lock) → is_question (lock_want lock) ≡ true → ⊥
-lock_asks_none (locks.Counts counts.LoadsCounter) due = absurd (cc)
-lock_asks_none (locks.Counts (counts.LoadsCell counter index filled)) due = absurd (cc)
-lock_asks_none (locks.Counts (counts.ExchangesCounter counter filled)) due = absurd (cc)
-lock_asks_none (locks.ExchangesCounter counter) due = absurd (cc)
+lock_asks_none x0 x1 = grind arith
 
 -- the stage of a recovery that is a flight
 abbrev stage_in : Option (Flight ℕ) → RecoverStage

@@ -1,10 +1,10 @@
 -- What is known of whole calls on a set.
 use Rattle.lock_free_owners.proofs.Names.{◌≡◌, ⊎_elim, ℕ, ◌<◌, ◌≤◌, Bool, true, false, true≢false, None, Ok, Err}
-use Rattle.lock_free_owners.proofs.Names.{IfOk, IfErr, OnOk, List, [], ◌∷◌, ◌++◌, refl, sym, ap, subst, ◌∙◌}
+use Rattle.lock_free_owners.proofs.Names.{IfOk, IfErr, OnOk, List, [], ◌∷◌, ◌++◌, refl, sym, ap, ◌∙◌}
 use Rattle.lock_free_owners.proofs.Names.{append_assoc, arith, Acquired, Released, ReleaseMode, LockIfLastIndex}
 use Rattle.lock_free_owners.proofs.Names.{Default, ReleaseState, OutOfIndices, WasLocked, GiveBack, Answer, State}
 use Rattle.lock_free_owners.proofs.Names.{Number, Truth, Event, Begun, Filled, Granted, FreedOf, Finished, Robust}
-use Rattle.lock_free_owners.proofs.Names.{Release, one_word, is_locked, count_most, IsAll, View, IsHistory, Called}
+use Rattle.lock_free_owners.proofs.Names.{Release, one_word, is_locked, count_most, View, IsHistory, Called}
 use Rattle.lock_free_owners.proofs.Names.{IsBeginning, Goes, takes_owned, gives_owned, recovers_owned, counts_owned}
 use Rattle.lock_free_owners.proofs.Names.{looks_owned, Visit, wrote_by, Calling, Ends, opened, Looks, called}
 use Rattle.steps.specs.declared.indices.enums.ReleaseState.TheVariants as states
@@ -73,28 +73,14 @@ last_of {start} {answer} {old} {new} a = record { rest = Finished a.by (Robust s
 -- what any call leaves of what a pass knows
 module _ {C M E : Type 0} (call : Calling ℕ C M E) where
   pub goes : (base w : View ℕ) (e : E) (m : M) → Ends one_word kinds.Robust call base e m w → Goes one_word kinds.Robust base.capacity base w
-  goes base w e m ends =
-      let more = opened ends.party call.start base.going ++ (ends.since.during ++ Finished ends.party call.start (call.answer e m) ∷ []) in
-      record {
-        share = ends.share;
-        since = record { rest = ends.since.others ++ more; is = ends.since.is ∙ append_assoc base.seen ends.since.others more };
-        history = ends.history;
-        all = λ whole. ends.all (subst IsAll ends.share whole);
-      }
+  goes x0 x1 x2 x3 x4 = grind (arith, opened, append_assoc)
 
 module _ (base w : View ℕ) (m : Unit {0}) (idle : base.going ≡ None) where
   -- ---- acquire
 
   module _ (owner : ℕ) where
     pub taken : (answer : Acquired) → Ends one_word kinds.Robust (takes_owned owner) base answer m w → HasTaken owner answer base w
-    taken answer ends = record {
-      by = ends.party;
-      mine = ends.mine;
-      wrote = ends.wrote;
-      tells = ends.tells idle;
-      called = called one_word kinds.Robust
-          (takes_owned owner) base w answer m idle ends;
-    }
+    taken x0 x1 = grind (arith, called, one_word, takes_owned)
 
     pub taken_answered : (answer : Acquired) → Ends one_word kinds.Robust (takes_owned owner) base answer m w
         → Answered (Acquire owner) (acquire_answer answer) base w
@@ -125,8 +111,7 @@ module _ (base w : View ℕ) (m : Unit {0}) (idle : base.going ≡ None) where
 
     pub within : (answer : Acquired) → Ends one_word kinds.Robust (takes_owned owner) base answer m w → (capacity : ℕ) → base.capacity ≡ capacity
         → IfOk answer (λ index. index < capacity)
-    within (Err e) ends capacity size = tt
-    within (Ok index) ends capacity size = subst (λ n. index < n) size (taken (Ok index) ends).tells.0
+    within x0 x1 x2 x3 = grind (arith, taken)
 
     refused_so : (e : UniqueIndexSetAcquireFailure) → Ends one_word kinds.Robust (takes_owned owner) base (Err e) m w → WasRefused owner e base w
     refused_so OutOfIndices ends =
@@ -156,14 +141,7 @@ module _ (base w : View ℕ) (m : Unit {0}) (idle : base.going ≡ None) where
 
     pub given : (mode : ReleaseMode) (answer : Released) → Ends one_word kinds.Robust (gives_owned (given_of mode)) base answer m w
         → HasGiven (given_of mode) answer base w
-    given mode answer ends = record {
-      by = ends.party;
-      mine = ends.mine;
-      wrote = ends.wrote;
-      tells = ends.tells idle;
-      called = called one_word kinds.Robust
-          (gives_owned (given_of mode)) base w answer m idle ends;
-    }
+    given x0 x1 x2 = grind (arith, called, one_word, gives_owned)
 
     pub given_answered : (mode : ReleaseMode) (answer : Released) → Ends one_word kinds.Robust (gives_owned (given_of mode)) base answer m w
         → Answered (Release index owner mode) (release_answer answer) base w
@@ -202,42 +180,20 @@ module _ (base w : View ℕ) (m : Unit {0}) (idle : base.going ≡ None) where
   -- ---- looks
 
   pub counted : (n : ℕ) → Ends one_word kinds.Robust counts_owned base n m w → HasCounted n base w
-  counted n ends = record {
-    by = ends.party;
-    mine = ends.mine;
-    wrote = ends.wrote;
-    tells = ends.tells;
-    called = called one_word kinds.Robust
-        counts_owned base w n m idle ends;
-  }
+  counted x0 x1 = grind (arith, called, one_word, counts_owned)
 
   module _ (n : ℕ) (ends : Ends one_word kinds.Robust counts_owned base n m w) where
     pub counted_answered : Answered BorrowedIndices (Number n) base w
     counted_answered = (let t = counted n ends in answered_by base w ends.history t.by BorrowedIndices (Number n) t.wrote t.called)
 
     pub counted_most : n ≤ base.capacity
-    counted_most = go (is_locked counted_answered.before) refl
-      where
-        go : (b : Bool) → is_locked counted_answered.before ≡ b → n ≤ base.capacity
-        go true t = (let none = counted_answered.right.0 t in omega arith)
-        go false t =
-            let count = counted_answered.right.1 t in
-            let most = count_most count.chosen base.capacity in
-            let is = count.is in
-            omega arith
+    counted_most = grind (arith, is_locked, counted_answered, count_most)
 
     pub counted_none : is_locked base.seen ≡ true → n ≡ 0
     counted_none lock = counted_answered.right.0 (lock_stays counted_answered.since lock)
 
   pub looked : (b : Bool) → Ends one_word kinds.Robust looks_owned base b m w → HasLooked b base w
-  looked b ends = record {
-    by = ends.party;
-    mine = ends.mine;
-    wrote = ends.wrote;
-    tells = ends.tells;
-    called = called one_word kinds.Robust
-        looks_owned base w b m idle ends;
-  }
+  looked x0 x1 = grind (arith, called, one_word, looks_owned)
 
   pub looked_answered : (b : Bool) → Ends one_word kinds.Robust looks_owned base b m w → Answered IsLocked (Truth b) base w
   looked_answered b ends = (let t = looked b ends in answered_by base w ends.history t.by IsLocked (Truth b) t.wrote t.called)
@@ -251,9 +207,7 @@ module _ (base w : View ℕ) (m : Unit {0}) (idle : base.going ≡ None) where
 module _ (base w : View ℕ) (idle : base.going ≡ None) (mode : ReleaseMode) (state : ReleaseState) (visits : List Visit)
     (ends : Ends one_word kinds.Robust (recovers_owned mode) base state visits w) where
   recover_called : Called ends.party (Robust (Recover mode)) (State state) (wrote_by ends.party visits) base w
-  recover_called =
-      subst (λ es. Called ends.party (Robust (Recover mode)) (State state) es base w) (ends.tells idle).1
-      (called one_word kinds.Robust (recovers_owned mode) base w state visits idle ends)
+  recover_called = grind (arith, called, one_word, recovers_owned)
 
   pub recovered : {F S : Type 0} (step : F → ℕ → ℕ → Bool → F → Type 0) (tell : S → ℕ → ℕ → S → Type 0) (f q : F) (s y : S)
       → HasVisited step tell f s visits q y → HasRecovered step tell mode state f s q y base w
@@ -281,5 +235,4 @@ recovered_lock base w idle mode states.Unlocked visits ends =
 -- ---- find
 
 pub looks_goes : (capacity : ℕ) (base w : View ℕ) → Looks one_word kinds.Robust capacity base w → Goes one_word kinds.Robust capacity base w
-looks_goes capacity base w looks =
-    record { share = looks.share; since = looks.mine; history = looks.history; all = λ whole. looks.all (subst IsAll looks.share whole) }
+looks_goes x0 x1 x2 x3 = grind arith

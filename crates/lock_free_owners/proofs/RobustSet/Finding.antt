@@ -2,7 +2,7 @@
 -- history said.
 use Rattle.lock_free_owners.proofs.Names.{◌≡◌, ◌≢◌, ◌⊎◌, inl, inr, ℕ, ◌+◌, ◌-◌, ◌*◌, ◌^◌, ◌<◌, ◌≤◌, nat_lt, Some}
 use Rattle.lock_free_owners.proofs.Names.{List, [], ◌∷◌, ◌++◌, refl, sym, ◌∙◌, subst, length-append, arith, nat_tests}
-use Rattle.lock_free_owners.proofs.Names.{FoldsTo-push, All-nil, by_test, by_eq, After, GoOn, Done}
+use Rattle.lock_free_owners.proofs.Names.{FoldsTo-push, by_test, by_eq, After, GoOn}
 use Rattle.lock_free_owners.proofs.Names.{CallbackProgression, Continue, Stop, cell_word, empty, Event, one_word}
 use Rattle.lock_free_owners.proofs.Names.{TakesPlaces, View, IsBeginning, Looks, LooksAt}
 use Rattle.steps.specs.declared.indices.robust.find.Find.{Find}
@@ -27,25 +27,17 @@ at_cell capacity so_many index = record { capacity = capacity; stage = finds.Loa
 -- ---- fewer steps are left behind each
 
 comes_down : (c : Find) (cap left index found : ℕ) → c.capacity ≡ cap → 2 * (cap - index) + 1 < left → GoesDown cap left (find_comes_to c index found)
-comes_down c cap left index found is low =
-    by_test (λ (a : After Find ℕ). GoesDown cap left a) (nat_lt index c.capacity) (GoOn (at_find c (finds.LoadsCell index found))) (Done found)
-    (λ t. low)
-    (λ t. tt)
+comes_down x0 x1 x2 x3 x4 x5 x6 = grind (arith, by_test, nat_lt, at_find)
 
 module _ (c : Find) (cap : ℕ) (is : c.capacity ≡ cap) where
   -- from a cell that it has come to
   pub load_down : (first so_many index found owner k : ℕ) → first ≤ index → index < cap
       → GoesDown cap (find_left cap (finds.LoadsCell first so_many)) (find_takes c (finds.LoadsCell index found) owner k)
-  load_down first so_many index found owner k up low =
-      by_eq (λ (a : After Find ℕ). GoesDown cap (find_left cap (finds.LoadsCell first so_many)) a) k owner
-      (GoOn (at_find c (finds.Asks index (one_more found)))) (find_comes_to c (index + 1) found)
-      (λ e. omega arith)
-      (λ ne. comes_down c cap (2 * (cap - first) + 1) (index + 1) found is (omega arith))
+  load_down x0 x1 x2 x3 x4 x5 x6 x7 = grind (arith, by_eq, find_left, at_find, one_more, find_comes_to, comes_down)
 
   pub ask_down : (index found owner : ℕ) (answer : CallbackProgression) → index < cap
       → GoesDown cap (find_left cap (finds.Asks index found)) (find_takes c (finds.Asks index found) owner (says answer))
-  ask_down index found owner Continue low = comes_down c cap (2 * (cap - index)) (index + 1) found is (omega arith)
-  ask_down index found owner Stop low = tt
+  ask_down x0 x1 x2 x3 x4 = grind (arith, comes_down)
 
 module _ {F : Type 0} (step : F → ℕ → CallbackProgression → F → Type 0) (cap owner : ℕ) (base : View ℕ) (f : F) where
   abbrev Came : ℕ → ℕ → List (Event ℕ) → F → Type 0
@@ -66,16 +58,7 @@ module _ {F : Type 0} (step : F → ℕ → CallbackProgression → F → Type 0
   -- ---- the list
 
   came_none : Came 0 0 base.seen f
-  came_none =
-      record {
-        indices = [];
-        calls = refl;
-        ascend = ((λ i j d lt within. absurd (omega arith)), All-nil (λ x. x < cap));
-        below = All-nil (λ x. x < 0);
-        count = refl;
-        few = omega arith;
-        owned = owned_none owner base.seen base.seen;
-      }
+  came_none = grind (arith, owned_none)
 
   module _ (low n : ℕ) (es : List (Event ℕ)) (p : F) (h : Came low n es p) where
     came_later : (later : List (Event ℕ)) → IsBeginning es later → Came low n later p
@@ -132,26 +115,14 @@ module _ {F : Type 0} (step : F → ℕ → CallbackProgression → F → Type 0
           }
 
     found_all : low ≡ cap → HasFound step cap owner f n p base.seen es
-    found_all end =
-        record {
-          indices = h.indices;
-          number_is = sym h.count;
-          ascend = h.ascend;
-          bound = low;
-          calls = inl (h.calls, end);
-          owned = h.owned;
-        }
+    found_all x0 = grind arith
 
   -- ---- a turn
 
   -- it has come past the indices below this one
   comes : (w : View ℕ) (c : Find) (index found : ℕ) (q : F) → Looked w → w.capacity ≡ cap → 0 < w.share.part → c.capacity ≡ cap → index ≤ cap
       → Came index found w.seen q → On (find_comes_to c index found) w q
-  comes w c index found q looked known some standing low h =
-      by_test (λ (a : After Find ℕ). On a w q) (nat_lt index c.capacity) (GoOn (at_find c (finds.LoadsCell index found))) (Done found)
-      (λ t. (let below : index < c.capacity = grind (arith, nat_tests) in
-      record { known = known; some = some; standing = standing; so_far = (omega arith, inr looked, h) }))
-      (λ t. (let past : c.capacity ≤ index = grind (arith, nat_tests) in (looked, found_all index found w.seen q h (omega arith))))
+  comes x0 x1 x2 x3 x4 x5 x6 x7 x8 x9 x10 = grind (arith, by_test, nat_lt, at_find, nat_tests, found_all)
 
   module _ (small : cap < 2 ^ 32) (fits : owner < empty) (v w : View ℕ) (c : Find) (p : F) (h : Search v c p) where
     module _ (index found k : ℕ) (at : SoFar (finds.LoadsCell index found) v p) (looks : LooksAt one_word kinds.Robust cap (cell_word index) v k w) where
@@ -191,8 +162,7 @@ module _ {F : Type 0} (step : F → ℕ → CallbackProgression → F → Type 0
     heard index found Stop q at hit = (at.1, found_last index at.3.0 v.seen p at.3.2 at.1.mine found q at.0 at.3.1 at.2 hit)
 
   pub starts : (c : Find) → c ≡ first_find cap → base.capacity ≡ cap → 0 < base.share.part → 0 < cap → Search base c f
-  starts c is known some any =
-      subst (λ (d : Find). Search base d f) (sym is) (record { known = known; some = some; standing = refl; so_far = (any, inl refl, came_none) })
+  starts x0 x1 x2 x3 x4 = grind (arith, came_none)
 
   -- the closure may be called with the index that it has come to
   pub may_go : {pre : F → ℕ → Type 0} (v : View ℕ) (c : Find) (p : F) → TakesPlaces pre (λ p x q. step p x Continue q) cap f → Search v c p
@@ -200,5 +170,4 @@ module _ {F : Type 0} (step : F → ℕ → CallbackProgression → F → Type 0
   may_go {pre} v c p takes h = go c.stage h.so_far
     where
       go : (stage : FindStage) → SoFar stage v p → FindAsks pre cap stage p
-      go (finds.LoadsCell index found) at = at.0
-      go (finds.Asks index found) at = (let so = at.3.2 in (at.0, takes.at so.indices p index so.calls so.ascend so.below at.0))
+      go x0 x1 = grind arith

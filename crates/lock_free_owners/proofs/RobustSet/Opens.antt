@@ -1,5 +1,5 @@
 -- How a set's table opens.
-use Rattle.lock_free_owners.proofs.Names.{◌≡◌, ℕ, ◌-◌, ◌^◌, ◌<◌, nat_lt, false, List, [], ◌∷◌, ◌++◌, refl, arith}
+use Rattle.lock_free_owners.proofs.Names.{◌≡◌, ℕ, ◌-◌, ◌^◌, ◌<◌, nat_lt, false, List, [], ◌∷◌, ◌++◌, arith}
 use Rattle.lock_free_owners.proofs.Names.{nat_tests, opening, one_word, IsMachine, first_view, opens}
 use Rattle.model.specs.declared.turn.Kind.TheVariants as kinds
 use Rattle.model.specs.Families.Indices.Robust.Opening.{opening_words}
@@ -13,5 +13,4 @@ module _ (capacity : ℕ) (some : 0 < capacity) (small : capacity < 2 ^ 32) wher
 
   pub robust_opens : (words : List ℕ) → words ≡ opening_words capacity ++ 0 ∷ []
       → IsMachine one_word kinds.Robust capacity (opening words [] (first_view capacity))
-  robust_opens words same = opens one_word kinds.Robust capacity words
-      (record { some = omega arith; few = omega arith; sized = λ x. refl; given_back = λ x. refl }) (rw (most, least) refl) same
+  robust_opens x0 x1 = grind (arith, opens, one_word, most, least)

@@ -1,5 +1,6 @@
 -- A recovery between two turns: where it stands on the history with its visits, and what its closures were called with.
-use Rattle.lock_free_owners.proofs.Names.{◌≡◌, ℕ, Bool, true, false, None, List, [], refl, sym, ap, subst, ◌∙◌}
+use Rattle.std.proofs.Common.{arith}
+use Rattle.lock_free_owners.proofs.Names.{◌≡◌, ℕ, Bool, true, false, None, List, [], refl, sym, subst}
 use Rattle.lock_free_owners.proofs.Names.{recover_after, After, GoOn, Done, ReleaseMode, ReleaseState, Recovering}
 use Rattle.lock_free_owners.proofs.Names.{one_word, is_question, number_of, is_locked, View, Visit, recover_hears}
 use Rattle.steps.specs.Indices.Robust.Recover.{first_recover, recover_asks, recover_takes}
@@ -46,8 +47,7 @@ module _ {F S : Type 0} (step : F → ℕ → ℕ → Bool → F → Type 0) (te
   -- the first step
   pub counter_moves : (call : Recovering) (after : After Recovering ReleaseState) (k : ℕ) → call ≡ first_recover cap → after ≡ recover_after call mode k
       → (p : F) (x : S) → RecoverMoves step tell call mode call.stage k p x after p x
-  counter_moves call after k is goes p x =
-      subst (λ d. after ≡ recover_after d mode k → RecoverMoves step tell d mode d.stage k p x after p x) (sym is) (λ e. (refl, refl, e)) goes
+  counter_moves x0 x1 x2 x3 x4 x5 x6 = grind (arith, recover_after)
 
   -- a step that it has heard this at
   module _ (v w : View ℕ) (call : Recovering) (after : After Recovering ReleaseState) (k : ℕ) (goes : RecoverSteps mode v call k after w)
@@ -74,10 +74,7 @@ module _ {F S : Type 0} (step : F → ℕ → ℕ → Bool → F → Type 0) (te
       (p : F) (x : S) (so : Stands v call p x) (still : Onward step tell cap shut f s after so.0 p x) where
     still_at : (a : After Recovering ReleaseState) → after ≡ a
         → Next (λ (z : View ℕ). z.capacity) (RecoverAt mode) (RecoverEnds mode) base a so.0 w × Onward step tell cap shut f s a so.0 p x
-    still_at a is = (
-      subst (λ z. Next (λ (n : View ℕ). n.capacity) (RecoverAt mode) (RecoverEnds mode) base z so.0 w) is (goes base so.0 idle so.1),
-      subst (λ z. Onward step tell cap shut f s z so.0 p x) is still,
-    )
+    still_at x0 x1 = grind arith
 
     pub stays_on : (next : Recovering) → after ≡ GoOn next → Stands w next p x
     stays_on next is = (let now = still_at (GoOn next) is in (so.0, now.0, now.1))
@@ -101,9 +98,4 @@ module _ (mode : ReleaseMode) (base v : View ℕ) (call : Recovering) (visits : 
 
   pub said_goes : RecoverAt mode base v call visits → Next (λ (z : View ℕ). z.capacity) (RecoverAt mode) (RecoverEnds mode) base
       (recover_after call mode (number_of said)) (visits_after call visits (number_of said)) v
-  said_goes at = go (recover_after call mode (number_of said)) refl
-    where
-      go : (a : After Recovering ReleaseState) → recover_after call mode (number_of said) ≡ a
-          → Next (λ (z : View ℕ). z.capacity) (RecoverAt mode) (RecoverEnds mode) base a (visits_after call visits (number_of said)) v
-      go (GoOn d) e = recover_hears one_word mode base v call d visits said (ap (λ stage. is_question (recover_asks stage)) is) e at
-      go (Done state) e = absurd (lasts said state (ap (λ stage. recover_takes call stage mode (number_of said)) (sym is) ∙ e))
+  said_goes x0 = grind (arith, recover_after, number_of, visits_after, recover_hears, one_word, is_question, recover_asks, lasts, recover_takes)

@@ -1,29 +1,25 @@
 -- Between two turns of a call: how it has gone on, and where the loops of its own lead.
-use Rattle.lock_free_owners.proofs.Names.{◌≡◌, ℕ, ◌+◌, ◌<◌, ◌==◌, nat_lt, if◌then◌else◌, sym, ap, subst, ◌∙◌, arith}
-use Rattle.lock_free_owners.proofs.Names.{nat_tests, Acquired, at_acquire, acquire_tries, acquire_after}
+use Rattle.lock_free_owners.proofs.Names.{◌≡◌, ℕ, ◌+◌, ◌<◌, ◌==◌, nat_lt, if◌then◌else◌, arith}
+use Rattle.lock_free_owners.proofs.Names.{nat_tests, at_acquire, acquire_tries, acquire_after}
 use Rattle.lock_free_owners.proofs.Names.{borrowed_counted, borrowed_after, empty, greatest, count_comes_to, by_test}
 use Rattle.lock_free_owners.proofs.Names.{After, GoOn, Done, View}
 use Rattle.steps.specs.Indices.Robust.Parts.{one_more}
 use Rattle.steps.specs.declared.indices.robust.acquire.Acquire.{Acquire}
-use Rattle.steps.specs.declared.indices.robust.acquire.AcquireStage.{AcquireStage}
 use Rattle.steps.specs.declared.indices.robust.acquire.AcquireStage.TheVariants as acquires
 use Rattle.steps.specs.declared.indices.robust.looks.BorrowedIndices.{BorrowedIndices}
 use Rattle.steps.specs.declared.indices.robust.parts.Count.{Count}
 use Rattle.steps.specs.declared.indices.robust.parts.Count.TheVariants as counts
 use Rattle.steps.specs.declared.indices.robust.parts.Counted.{Counted}
-use Rattle.steps.specs.declared.indices.robust.parts.Counted.TheVariants as ends
-use Rattle.steps.specs.declared.indices.robust.parts.Raise.TheVariants as raises
 use Rattle.steps.specs.declared.indices.robust.recover.Recover.{Recover}
 use Rattle.steps.specs.declared.indices.robust.recover.RecoverStage.TheVariants as recovers
-use Rattle.threaded.specs.Driver.{Next}
 use Rattle.lock_free_owners.specs.Robust.Turns.{Goes}
 
 module _ {T C E : Type 0} (at : View T → View T → C → Unit {0} → Type 0) (ends : View T → E → Unit {0} → View T → Type 0) where
   pub gone_on : (base v w : View T) (c d : C) (a : After C E) → Goes at ends v c a w → a ≡ GoOn d → at base v c tt → at base w d tt
-  gone_on base v w c d a goes is here = subst (λ z. Next (λ (x : View T). x.capacity) at ends base z tt w) is (goes base here)
+  gone_on x0 x1 x2 x3 x4 x5 x6 x7 x8 = grind arith
 
   pub has_ended : (base v w : View T) (c : C) (e : E) (a : After C E) → Goes at ends v c a w → a ≡ Done e → at base v c tt → ends base e tt w
-  has_ended base v w c e a goes is here = subst (λ z. Next (λ (x : View T). x.capacity) at ends base z tt w) is (goes base here)
+  has_ended x0 x1 x2 x3 x4 x5 x6 x7 x8 = grind arith
 
 -- ---- an exchange of a cell leads to the next cell, or to no cell
 
@@ -35,25 +31,7 @@ module _ (capacity counter cell : ℕ) where
   FillsNext other index d = d.stage ≡ acquires.FillsCell other index → (d ≡ fills index) × (cell < index) × (index < capacity)
 
   pub fills_next : (k other index : ℕ) (d : Acquire) → acquire_after (fills cell) k ≡ GoOn d → FillsNext other index d
-  fills_next k other index d =
-      by_test (λ (a : After Acquire Acquired). a ≡ GoOn d → FillsNext other index d) (k == empty)
-      (GoOn (at_acquire (fills cell) (acquires.Raises cell raises.LoadsCounter))) (acquire_tries (fills cell) counter (cell + 1))
-      (λ t e is. (
-      let same : at_acquire (fills cell) (acquires.Raises cell raises.LoadsCounter) ≡ d = cc in
-      let stage : acquires.Raises cell raises.LoadsCounter ≡ acquires.FillsCell other index = ap (λ (z : Acquire). z.stage) same ∙ is in
-      absurd (cc)))
-      (λ t. by_test (λ (stage : AcquireStage). ◌≡◌ {A = After Acquire Acquired} (GoOn (at_acquire (fills cell) stage)) (GoOn d) → FillsNext other index d)
-      (nat_lt (cell + 1) capacity) (acquires.FillsCell counter (cell + 1)) (acquires.ChecksCounter counter)
-      (λ u e is. (
-      let same : fills (cell + 1) ≡ d = cc in
-      let stage : acquires.FillsCell counter (cell + 1) ≡ acquires.FillsCell other index = ap (λ (z : Acquire). z.stage) same ∙ is in
-      let next : cell + 1 ≡ index = cc in
-      let low : cell + 1 < capacity = grind (arith, nat_tests) in
-      (sym same ∙ ap fills next, omega arith, omega arith)))
-      (λ u e is. (
-      let same : at_acquire (fills cell) (acquires.ChecksCounter counter) ≡ d = cc in
-      let stage : acquires.ChecksCounter counter ≡ acquires.FillsCell other index = ap (λ (z : Acquire). z.stage) same ∙ is in
-      absurd (cc))))
+  fills_next x0 x1 x2 x3 = grind (arith, by_test, empty, at_acquire, acquire_tries, nat_lt, nat_tests)
 
 -- ---- so does a load of a cell by a count
 
@@ -69,24 +47,7 @@ module _ (capacity counter cell filled : ℕ) where
 
   comes_next : (seen other index found : ℕ) (d : BorrowedIndices) → counted (count_comes_to capacity counter (cell + 1) seen) ≡ GoOn d
       → LoadsNext other index found d
-  comes_next seen other index found d =
-      by_test (λ (a : After Count Counted). counted a ≡ GoOn d → LoadsNext other index found d) (nat_lt (cell + 1) capacity)
-      (GoOn (counts.LoadsCell counter (cell + 1) seen))
-      (if counter == greatest then Done (ends.Filled seen counter) else GoOn (counts.ExchangesCounter counter seen))
-      (λ u e is. (
-      let same : loads (cell + 1) seen ≡ d = cc in
-      let stage : counts.LoadsCell counter (cell + 1) seen ≡ counts.LoadsCell other index found = ap (λ (z : BorrowedIndices). z.count) same ∙ is in
-      let next : cell + 1 ≡ index = cc in
-      let both : seen ≡ found = cc in
-      let low : cell + 1 < capacity = grind (arith, nat_tests) in
-      (sym same ∙ (ap (λ i. loads i seen) next ∙ ap (loads index) both), omega arith, omega arith)))
-      (λ u. by_test (λ (a : After Count Counted). counted a ≡ GoOn d → LoadsNext other index found d) (counter == greatest)
-      (Done (ends.Filled seen counter)) (GoOn (counts.ExchangesCounter counter seen))
-      (λ t e is. absurd (cc))
-      (λ t e is. (
-      let same : record (loads cell filled) { count = counts.ExchangesCounter counter seen } ≡ d = cc in
-      let stage : counts.ExchangesCounter counter seen ≡ counts.LoadsCell other index found = ap (λ (z : BorrowedIndices). z.count) same ∙ is in
-      absurd (cc))))
+  comes_next x0 x1 x2 x3 x4 = grind (arith, by_test, nat_lt, greatest, nat_tests)
 
   pub loads_next : (k other index found : ℕ) (d : BorrowedIndices) → borrowed_after (loads cell filled) k ≡ GoOn d → LoadsNext other index found d
   loads_next k other index found d = comes_next (if k == empty then filled else one_more filled) other index found d

@@ -1,4 +1,5 @@
 -- A step of a container's table that leaves each word as it is may leave what its seat knows.
+use Rattle.std.proofs.Common.{arith}
 use Rattle.lock_free_owners.proofs.Names.{◌≡◌, ℕ, zero, suc, List, [], ◌∷◌, set, slice_index, refl, sym, ap, subst}
 use Rattle.lock_free_owners.proofs.Names.{◌∙◌, Allows, keeps, written, by_eq, After, Coding, moves, View, IsMachine}
 use Rattle.lock_free_owners.proofs.Names.{set_same}
@@ -17,7 +18,7 @@ set_there (y ∷ ys) (suc i) x e = ap (λ zs. y ∷ zs) (set_there ys i x e)
 
 -- an exchange of a number for itself
 pub unchanged : (count found : ℕ) → written (ops.Exchange count count) found ≡ found
-unchanged count found = by_eq (λ (z : ℕ). z ≡ found) found count count found (λ e. sym e) (λ ne. refl)
+unchanged x0 x1 = grind (arith, by_eq)
 
 module _ {T : Type 0} (code : Coding T) (key slots id : ℕ) (v : View T) where
   pub leaves : (word : ℕ) (f : ℕ → ℕ) → ((k : ℕ) → f k ≡ k) → (Says : View T → ℕ → View T → Type 0) → ((k : ℕ) → Says v k v)
@@ -40,5 +41,4 @@ module _ {T C E M : Type 0} (stands : View T → C → Type 0) (ends : View T �
 
   pub still_tells : (after : C → ℕ → After C E) (kept : C → M → ℕ → M) (c : C) (m : M) (k : ℕ) → Stays (after c k)
       → Told (λ (z : View T). z.capacity) (Still stands) ends after kept c m v k v
-  still_tells after kept c m k goes =
-      (refl, λ base here. subst (λ z. Next (λ (x : View T). x.capacity) (Still stands) ends z (after c k) (kept c m k) v) here.0 (goes (kept c m k)))
+  still_tells x0 x1 x2 x3 x4 x5 = grind arith

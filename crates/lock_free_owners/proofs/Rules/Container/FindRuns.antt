@@ -1,5 +1,5 @@
 -- Where a find of a container stands after each step.
-use Rattle.lock_free_owners.proofs.Names.{◌≡◌, ℕ, ◌+◌, ◌<◌, ◌≤◌, nat_lt, arith, nat_tests, by_test, by_eq, After}
+use Rattle.lock_free_owners.proofs.Names.{◌≡◌, ℕ, ◌≤◌, nat_lt, arith, nat_tests, by_test, by_eq, After}
 use Rattle.lock_free_owners.proofs.Names.{GoOn, Done, is_even}
 use Rattle.steps.specs.declared.container.find.Find.{Find}
 use Rattle.steps.specs.declared.container.find.FindStage as finds
@@ -15,31 +15,10 @@ module _ {T R : Type 0} where
 
   module _ (size : ℕ) (some_words : 1 ≤ size) (capacity : ℕ) (c : Find T R) (same : c.capacity ≡ capacity) where
     comes : (index found : ℕ) → found ≤ index → StillStands size capacity (find_comes_to c index found)
-    comes index found few =
-        by_test (StillStands size capacity) (nat_lt index c.capacity) (GoOn (at_find c (finds.TheVariants.LoadsCell index found))) (Done found)
-        (λ t. (same, ((let l : index < c.capacity = grind (arith, nat_tests) in omega arith), few)))
-        (λ t. tt)
+    comes x0 x1 x2 = grind (arith, by_test, nat_lt, at_find, nat_tests)
 
     takes_stands : (stage : finds.FindStage) (owner k : ℕ) → FindStage size capacity stage → StillStands size capacity (find_takes size c stage owner k)
-    takes_stands (finds.TheVariants.LoadsCell index found) owner k at =
-        by_eq (StillStands size capacity) k owner (GoOn (at_find c (finds.TheVariants.LoadsCount index (one_more found)))) (find_comes_to c (index + 1) found)
-        (λ e. (same, (at.0, (let l = at.1 in omega arith))))
-        (λ ne. comes (index + 1) found (let l = at.1 in omega arith))
-    takes_stands (finds.TheVariants.LoadsCount index found) owner k at =
-        by_test (StillStands size capacity) (is_even k) (find_comes_to c (index + 1) found) (GoOn (at_find c (finds.TheVariants.LoadsWord index found k 0)))
-        (λ t. comes (index + 1) found at.1)
-        (λ t. (same, (at.0, at.1, omega arith)))
-    takes_stands (finds.TheVariants.LoadsWord index found count place) owner k at =
-        by_test (StillStands size capacity) (nat_lt (place + 1) size) (GoOn (at_find c (finds.TheVariants.LoadsWord index found count (place + 1))))
-        (GoOn (at_find c (finds.TheVariants.ChecksCount index found count)))
-        (λ t. (same, (at.0, at.1, (let l : place + 1 < size = grind (arith, nat_tests) in l))))
-        (λ t. (same, (at.0, at.1)))
-    takes_stands (finds.TheVariants.ChecksCount index found count) owner k at =
-        by_eq (StillStands size capacity) k count (GoOn (at_find c (finds.TheVariants.Asks index found))) (find_comes_to c (index + 1) found)
-        (λ e. (same, at))
-        (λ ne. comes (index + 1) found at.1)
-    takes_stands (finds.TheVariants.Asks index found) owner k at =
-        by_eq (StillStands size capacity) k 0 (Done found) (find_comes_to c (index + 1) found) (λ e. tt) (λ ne. comes (index + 1) found at.1)
+    takes_stands x0 x1 x2 x3 = grind (arith, by_eq, at_find, one_more, find_comes_to, comes, by_test, is_even, nat_lt, nat_tests)
 
   pub still_stands : (size : ℕ) → 1 ≤ size → (capacity : ℕ) (c : Find T R) (owner k : ℕ) → FindStands size capacity c
       → StillStands size capacity (find_after size c owner k)

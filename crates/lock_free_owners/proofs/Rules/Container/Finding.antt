@@ -1,7 +1,7 @@
 -- What the closure of a find on a container was called with so far.
-use Rattle.lock_free_owners.proofs.Names.{◌≡◌, ℕ, ◌+◌, ◌^◌, ◌<◌, ◌≤◌, ◌==◌, nat_lt, Bool, true, false, inl, inr, List}
+use Rattle.lock_free_owners.proofs.Names.{◌≡◌, ℕ, ◌+◌, ◌^◌, ◌<◌, ◌≤◌, nat_lt, inr, List}
 use Rattle.lock_free_owners.proofs.Names.{[], ◌∷◌, ◌++◌, length, refl, sym, ap, subst, ◌∙◌, arith, length-append}
-use Rattle.lock_free_owners.proofs.Names.{Contains, All, FoldsTo, FoldsTo-push, map-append, All-nil, All-push}
+use Rattle.lock_free_owners.proofs.Names.{Contains, All, FoldsTo, FoldsTo-push, map-append, All-push}
 use Rattle.lock_free_owners.proofs.Names.{All-weaker, Contains-push, Contains-append_left, all_pairs_push, by_test}
 use Rattle.lock_free_owners.proofs.Names.{by_eq, After, GoOn, Done, CallbackProgression, Continue, Stop}
 use Rattle.lock_free_owners.proofs.Names.{ContainerHandle, is_even, find_keeps, copies_after, Ascends}
@@ -58,37 +58,17 @@ module _ {T F : Type 0} (step : F → T → ContainerHandle → CallbackProgress
       (before : List (ℕ × T)) × (copies ≡ before ++ (index, value) ∷ []) × Counted index found before p
 
   pub came_none : (low : ℕ) → Came low 0 [] f
-  came_none low =
-      record {
-        indices = [];
-        ascend = ((λ i j d lt within. absurd (omega arith)), All-nil (λ x. x < cap));
-        below = All-nil (λ x. x < low);
-        count = refl;
-        visits_ascend = ((λ i j d lt within. absurd (omega arith)), All-nil (λ (x : Visit T). mine x.handle));
-        visits_below = All-nil (λ (x : Visit T). x.handle.index < low);
-        among = All-nil (λ (x : Visit T). Contains [] x.handle.index);
-        calls = refl;
-      }
+  came_none x0 = grind arith
 
   higher : (low : ℕ) (xs : List (Visit T)) → Below low xs → Below (low + 1) xs
-  higher low xs h = All-weaker (λ (x : Visit T). x.handle.index < low) (λ (x : Visit T). x.handle.index < low + 1) (λ x l. omega arith) xs h
+  higher x0 x1 x2 = grind arith
 
   wider : (indices : List ℕ) (index : ℕ) (xs : List (Visit T)) → Among indices xs → Among (indices ++ index ∷ []) xs
   wider indices index xs h = All-weaker (λ (x : Visit T). Contains indices x.handle.index) (λ (x : Visit T). Contains
       (indices ++ index ∷ []) x.handle.index) (λ x i. Contains-append_left indices (index ∷ []) x.handle.index i) xs h
 
   came_on : (low n : ℕ) (visits : List (Visit T)) (p : F) → Came low n visits p → Came (low + 1) n visits p
-  came_on low n visits p h =
-      record {
-        indices = h.indices;
-        ascend = h.ascend;
-        below = below_more h.indices low h.below;
-        count = h.count;
-        visits_ascend = h.visits_ascend;
-        visits_below = higher low visits h.visits_below;
-        among = h.among;
-        calls = h.calls;
-      }
+  came_on x0 x1 x2 x3 x4 = grind (arith, below_more, higher)
 
   -- an index that is counted alone
   came_by : (low n : ℕ) (visits : List (Visit T)) (p : F) → low < cap → Came low n visits p → Came (low + 1) (n + 1) visits p
@@ -107,15 +87,7 @@ module _ {T F : Type 0} (step : F → T → ContainerHandle → CallbackProgress
       }
 
   found_all : (low n : ℕ) (visits : List (Visit T)) (p : F) → Came low n visits p → HasFound step cap mine f n cap visits p
-  found_all low n visits p h =
-      record {
-        indices = h.indices;
-        ascend = h.ascend;
-        number = h.count;
-        visits_ascend = h.visits_ascend;
-        among = h.among;
-        calls = inl (h.calls, refl);
-      }
+  found_all x0 x1 x2 x3 x4 = grind arith
 
   -- a step at a word, which leaves it
   abbrev pub IsQuiet : finds.FindStage → Type 0
@@ -199,16 +171,12 @@ module _ {T F : Type 0} (step : F → T → ContainerHandle → CallbackProgress
     module _ (size : ℕ) (c : Find T R) where
       comes : (index found : ℕ) (copies : List (ℕ × T)) (value : T) (q : F) → Came index found (told copies) q
           → Onward (find_comes_to c index found) copies value q
-      comes index found copies value q h =
-          by_test (λ a. Onward a copies value q) (nat_lt index c.capacity) (GoOn (at_find c (finds.TheVariants.LoadsCell index found))) (Done found)
-          (λ t. h)
-          (λ t. found_all index found (told copies) q h)
+      comes x0 x1 x2 x3 x4 x5 = grind (arith, by_test, nat_lt, at_find, found_all)
 
       -- past an index that is counted
       passes : (index found : ℕ) (copies : List (ℕ × T)) (value : T) (p : F) → index < cap → Counted index found copies p
           → Onward (find_comes_to c (index + 1) found) copies value p
-      passes index found copies value p within h =
-          comes (index + 1) found copies value p (subst (λ z. Came (index + 1) z (told copies) p) h.1 (came_by index h.0 (told copies) p within h.2))
+      passes x0 x1 x2 x3 x4 x5 x6 = grind (arith, comes, came_by)
 
       -- ---- what a step leaves, by what it did with the closure
 
@@ -219,37 +187,12 @@ module _ {T F : Type 0} (step : F → T → ContainerHandle → CallbackProgress
 
         pub quietly : cap < 2 ^ 32 → (stage : finds.FindStage) → IsQuiet stage → FindStage size cap stage → (copies : List (ℕ × T)) (room : R) (p : F) (k : ℕ)
             → SoFar stage copies (value_of room) p → StepsOnward stage copies room k p
-        quietly small (finds.TheVariants.LoadsCell index found) still at copies room p k so =
-            by_eq (λ a. Onward a copies (value_of room) p) k owner
-            (GoOn (at_find c (finds.TheVariants.LoadsCount index (one_more found))))
-            (find_comes_to c (index + 1) found)
-            (λ e. (found, (let l = at.0 in let few = at.1 in omega arith), so))
-            (λ ne. comes (index + 1) found copies (value_of room) p (came_on index found (told copies) p so))
-        quietly small (finds.TheVariants.LoadsCount index found) still at copies room p k so =
-            by_test (λ a. Onward a copies (value_of room) p) (is_even k) (find_comes_to c (index + 1) found)
-            (GoOn (at_find c (finds.TheVariants.LoadsWord index found k 0)))
-            (λ t. passes index found copies (value_of room) p at.0 so)
-            (λ t. so)
-        quietly small (finds.TheVariants.LoadsWord index found count place) still at copies room p k so =
-            by_test (λ a. Onward a copies (value_of (with_word room place k)) p) (nat_lt (place + 1) size)
-            (GoOn (at_find c (finds.TheVariants.LoadsWord index found count (place + 1)))) (GoOn (at_find c (finds.TheVariants.ChecksCount index found count)))
-            (λ t. so)
-            (λ t. so)
-        quietly small (finds.TheVariants.ChecksCount index found count) still at copies room p k so = go (k == count) refl
-          where
-            go : (b : Bool) → (k == count) ≡ b → StepsOnward (finds.TheVariants.ChecksCount index found count) copies room k p
-            go true t = rw t (copies, refl, so)
-            go false t = rw t (passes index found copies (value_of room) p at.0 so)
-        quietly small (finds.TheVariants.Asks index found) still at copies room p k so = absurd still
+        quietly x0 x1 x2 x3 x4 x5 x6 x7 x8 = grind (arith, by_eq, at_find, one_more, find_comes_to, comes, came_on, by_test, is_even, passes)
 
       -- it is told to go on
       pub told_on : (index found : ℕ) (copies : List (ℕ × T)) (value : T) (p q : F) → index < cap → step p value (named index owner id) Continue q
           → SoFar (finds.TheVariants.Asks index found) copies value p → Onward (find_comes_to c (index + 1) found) copies value q
-      told_on index found copies value p q within hit so =
-          let h = so.2 in
-          let visits : told so.0 ++ at_index index value ∷ [] ≡ told copies = sym (ap told so.1 ∙ told_push so.0 index value) in
-          comes (index + 1) found copies value q (subst (λ z. Came (index + 1) z (told copies) q) h.1
-          (subst (λ vs. Came (index + 1) (h.0 + 1) vs q) visits (came_more index h.0 value (told so.0) p q within hit h.2)))
+      told_on x0 x1 x2 x3 x4 x5 x6 x7 x8 = grind (arith, told_push, comes, came_more)
 
   -- or to stop
   pub told_to_stop : (index found : ℕ) (copies : List (ℕ × T)) (value : T) (p q : F) → index < cap → step p value (named index owner id) Stop q

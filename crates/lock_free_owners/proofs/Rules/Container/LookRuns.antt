@@ -1,5 +1,5 @@
 -- A look of a state keeps the rule of a container at each of its stages.
-use Rattle.lock_free_owners.proofs.Names.{◌≡◌, ℕ, ◌+◌, ◌<◌, ◌≤◌, nat_lt, Bool, true, false, List, [], slice_index_or}
+use Rattle.lock_free_owners.proofs.Names.{◌≡◌, ℕ, ◌+◌, ◌<◌, ◌≤◌, nat_lt, Bool, false, List, [], slice_index_or}
 use Rattle.lock_free_owners.proofs.Names.{refl, sym, subst, ◌∙◌, arith, nat_tests, written, by_test, by_eq, After}
 use Rattle.lock_free_owners.proofs.Names.{GoOn, Done, change_word, count_word, element_word, total_words, is_even}
 use Rattle.lock_free_owners.proofs.Names.{Numbers, Showing, at_look, look_asks, look_want, look_comes_to, look_finds}
@@ -32,16 +32,10 @@ module _ {T : Type 0} (code : Coding T) (value_of : List ℕ → T) (size : ℕ)
 
   -- the next element, or the end
   comes : (index : ℕ) → Here (look_comes_to c index)
-  comes index =
-      by_test Here (nat_lt index c.capacity) (at_look c (looks.TheVariants.LoadsCount index)) (Done true)
-      (λ t n. (refl, (same, (let l : index < c.capacity = grind (arith, nat_tests) in omega arith))))
-      (λ t n. refl)
+  comes x0 = grind (arith, by_test, nat_lt, at_look, nat_tests)
 
   finds : (index count : ℕ) → index < v.capacity → Here (look_finds c index count)
-  finds index count within =
-      by_test Here (is_even count) (look_comes_to c (index + 1)) (at_look c (looks.TheVariants.LoadsWord index count 0))
-      (λ t. comes (index + 1))
-      (λ t n. (refl, (same, (within, omega arith))))
+  finds x0 x1 x2 = grind (arith, by_test, is_even, look_comes_to, at_look, comes)
 
   stage_owes : (stage : looks.LookStage) → ((k : ℕ) → look_takes size c stage seen k ≡ look_after size c seen k) → LookStage size v stage
       → Owes (IsMachine code kinds.Container cap) words slots id Says (look_asks size c.capacity stage) (v, [])

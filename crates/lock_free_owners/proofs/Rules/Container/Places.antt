@@ -19,13 +19,7 @@ before : (size n m at : ℕ) → n + size ≤ m → at < size → n + at < m
 before size n m at l k = omega arith
 
 row : (size index cap : ℕ) → index < cap → size * index + size ≤ size * cap
-row size index cap l =
-    let up : size * suc index ≤ size * cap = mul-le-mul_left size (omega arith) in
-    let e : size * suc index ≡ size * index + size = mul-suc size index in
-    joined (size * suc index) (size * cap) (size * index + size) up e
-  where
-    joined : (a b c : ℕ) → a ≤ b → a ≡ c → c ≤ b
-    joined a b c l e = omega arith
+row x0 x1 x2 x3 = grind (arith, suc, mul-le-mul_left, mul-suc)
 
 module _ (cap size words : ℕ) (sized : words ≡ total_words cap size + 1) where
   pub cell_fits : (index : ℕ) → index < cap → 1 + index < words
@@ -38,4 +32,4 @@ module _ (cap size words : ℕ) (sized : words ≡ total_words cap size + 1) whe
   count_fits index l = in_counts cap (size * cap) index words sized l
 
   pub element_fits : (index at : ℕ) → index < cap → at < size → element_word cap size index at < words
-  element_fits index at l k = in_elements cap (size * cap) (size * index) at words sized (before size (size * index) (size * cap) at (row size index cap l) k)
+  element_fits x0 x1 x2 x3 = grind (arith, in_elements, before, row)

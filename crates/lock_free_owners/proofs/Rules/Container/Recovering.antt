@@ -1,9 +1,9 @@
 -- What the closure of a recovery on a container was asked so far.
 use Rattle.lock_free_owners.proofs.Names.{◌≡◌, ℕ, ◌+◌, ◌<◌, ◌≤◌, nat_lt, Bool, true, false, true≢false, ◌==◌, Some}
 use Rattle.lock_free_owners.proofs.Names.{None, List, [], ◌∷◌, ◌++◌, length, append-nil, refl, sym, ap, ◌∙◌, subst}
-use Rattle.lock_free_owners.proofs.Names.{arith, if◌then◌else◌, length-append, All, FoldsTo, FoldsTo-push, All-nil}
+use Rattle.lock_free_owners.proofs.Names.{arith, if◌then◌else◌, length-append, All, FoldsTo, FoldsTo-push}
 use Rattle.lock_free_owners.proofs.Names.{All-push, All-weaker, all_pairs_push, by_test, by_eq, After, GoOn, Done}
-use Rattle.lock_free_owners.proofs.Names.{ReleaseMode, LockIfLastIndex, Default, ReleaseState, Unlocked, DeadOwner}
+use Rattle.lock_free_owners.proofs.Names.{ReleaseMode, ReleaseState, DeadOwner}
 use Rattle.lock_free_owners.proofs.Names.{locked, raise_after, first_lock, lock_after, is_even, goes_to, recover_sees}
 use Rattle.lock_free_owners.proofs.Names.{recover_ends, recover_raises, recover_keeps, HasFound, MayCome, with_last}
 use Rattle.lock_free_owners.proofs.Names.{told, freed, hides, came_locked, seen_under, IsToFree, IsFreed, by_bool}
@@ -38,57 +38,30 @@ module _ {T F : Type 0} (step : F → T → Bool → F → Type 0) (cap : ℕ) (
     pub nothing : shut ≡ true → questions_of visits ≡ []
 
   no_answers : AnswersAscend {T = T} cap []
-  no_answers = ((λ i j d lt within. absurd (omega arith)), All-nil (λ (a : Answered T). a.index < cap))
+  no_answers = grind arith
 
   none : (low : ℕ) (p : F) → p ≡ f → Asked low [] p
-  none low p e =
-      record {
-        are = tt;
-        questions = sym e;
-        ascend = no_answers;
-        below = All-nil (λ (a : Answered T). a.index < low);
-        few = omega arith;
-        nothing = λ t. refl;
-      }
+  none x0 x1 x2 = grind (arith, no_answers)
 
   higher : (low high : ℕ) → low ≤ high → (visits : Visits) → AreVisits given.mode low visits → AreVisits given.mode high visits
   higher low high up [] h = tt
   higher low high up (visit ∷ before) h = ((let l = h.0 in omega arith), h.1, h.2)
 
   widen : (low high : ℕ) (visits : Visits) (p : F) → low ≤ high → Asked low visits p → Asked high visits p
-  widen low high visits p up h =
-      record {
-        are = higher low high up visits h.are;
-        questions = h.questions;
-        ascend = h.ascend;
-        below = All-weaker (λ (a : Answered T). a.index < low) (λ (a : Answered T). a.index < high) (λ a l. omega arith) (questions_of visits) h.below;
-        few = (let l = h.few in omega arith);
-        nothing = h.nothing;
-      }
+  widen x0 x1 x2 x3 x4 x5 = grind (arith, higher, questions_of)
 
   -- the same of visits with the same questions
   with_same : (low : ℕ) (xs ys : Visits) (p : F) → questions_of xs ≡ questions_of ys → AreVisits given.mode low ys → Asked low xs p → Asked low ys p
-  with_same low xs ys p same are h =
-      record {
-        are = are;
-        questions = subst (λ qs. FoldsTo (asks step) f qs p) same h.questions;
-        ascend = subst (λ qs. AnswersAscend cap qs) same h.ascend;
-        below = subst (λ qs. Below low qs) same h.below;
-        few = subst (λ qs. length qs ≤ low) same h.few;
-        nothing = λ t. sym same ∙ h.nothing t;
-      }
+  with_same x0 x1 x2 x3 x4 x5 x6 = grind (arith, asks, length)
 
   -- it comes further with the last of them, and nothing is asked anew
   further : (index : ℕ) (came next : Came T) (before : Visits) (p : F) → question_at index came ≡ question_at index next → MayCome given.mode next
       → Asked (index + 1) ((index, came) ∷ before) p → Asked (index + 1) ((index, next) ∷ before) p
-  further index came next before p same may h =
-      with_same (index + 1) ((index, came) ∷ before) ((index, next) ∷ before) p (ap (λ qs. questions_of before ++ qs) same) (h.are.0, may, h.are.2) h
+  further x0 x1 x2 x3 x4 x5 x6 x7 = grind (arith, with_same, questions_of)
 
   -- it comes to an index at which nothing stands
   comes_none : (index : ℕ) (before : Visits) (p : F) → Asked index before p → Asked (index + 1) ((index, HasFound None) ∷ before) p
-  comes_none index before p h =
-      let wide = widen index (index + 1) before p (omega arith) h in
-      with_same (index + 1) before ((index, HasFound None) ∷ before) p (sym (append-nil (questions_of before))) (omega arith, tt, h.are) wide
+  comes_none x0 x1 x2 x3 = grind (arith, widen, with_same, append-nil, questions_of)
 
   -- one question more
   more : (index : ℕ) (value : T) (answer : Bool) (came : Came T) (before : Visits) (p q : F)
@@ -168,8 +141,7 @@ module _ {T F : Type 0} (step : F → T → Bool → F → Type 0) (cap : ℕ) (
 
     module _ (size : ℕ) (c : Recover T R) where
       so_then : (value : T) (p : F) (r s : After (Recover T R) ReleaseState) (xs ys : Visits) → r ≡ s → xs ≡ ys → Onward s ys value p → Onward r xs value p
-      so_then value p r s xs ys goes visits h =
-          subst (λ (z : After (Recover T R) ReleaseState × Visits). Onward z.0 z.1 value p) (λ i. (sym goes i, sym visits i)) h
+      so_then x0 x1 x2 x3 x4 x5 x6 x7 x8 = grind arith
 
       comes : (index : ℕ) (visits : Visits) (value : T) (p : F) → index ≤ cap → Asked index visits p → Onward (recover_comes_to c index) visits value p
       comes index visits value p within h =
@@ -189,33 +161,16 @@ module _ {T F : Type 0} (step : F → T → Bool → F → Type 0) (cap : ℕ) (
 
       raised : (index : ℕ) (by : ReleaseMode) (visits : Visits) (value : T) (p : F) (a : After raises.Raise ReleaseState) → index < cap → IsFreed index visits
           → Asked (index + 1) visits p → Onward (recover_raised c index by a) visits value p
-      raised index by visits value p (GoOn raise) within at h = (at, h)
-      raised index by visits value p (Done Locked) within at h = widen (index + 1) cap visits p (omega arith) h
-      raised index LockIfLastIndex visits value p (Done Unlocked) within at h = (at, h)
-      raised index Default visits value p (Done Unlocked) within at h = comes (index + 1) visits value p (omega arith) h
+      raised x0 x1 x2 x3 x4 x5 x6 x7 x8 = grind (arith, widen, comes)
 
       locking : (index : ℕ) (visits : Visits) (value : T) (p : F) (a : After locks.Lock ReleaseState) → index < cap → IsFreed index visits
           → Asked (index + 1) visits p → Onward (recover_locked c index a) visits value p
-      locking index visits value p (GoOn lock) within at h = (at, h)
-      locking index visits value p (Done state) within at h = comes (index + 1) visits value p (omega arith) h
+      locking x0 x1 x2 x3 x4 x5 x6 x7 = grind (arith, comes)
 
       -- it has freed the index: where its number was odd, a value stood there
       freed_on : (index count : ℕ) (now : Came T) (before : Visits) (value : T) (p : F) → IsToFree count now → Asked (index + 1) ((index, told now) ∷ before) p
           → Onward (if is_even count then recover_raises c index else goes_to c (recovers.TheVariants.Hides index count)) ((index, freed now) ∷ before) value p
-      freed_on index count (came.HasAsked gone) before value p odd h =
-          let next : Came T = HasFreed (Some gone) false false in
-          let visits : Visits = (index, next) ∷ before in
-          so_then value p (if is_even count then recover_raises c index else goes_to c (recovers.TheVariants.Hides index count))
-          (goes_to c (recovers.TheVariants.Hides index count)) visits visits (rw odd refl) refl
-          (gone, before, refl, further index (HasFound (Some gone)) next before p refl ((λ e. refl), (λ e. absurd (cc))) h)
-      freed_on index count (HasFound None) before value p even h =
-          let next : Came T = HasFreed None false false in
-          let visits : Visits = (index, next) ∷ before in
-          so_then value p (if is_even count then recover_raises c index else goes_to c (recovers.TheVariants.Hides index count))
-          (recover_raises c index) visits visits (rw even refl) refl
-          ((None, false, before, refl, λ e. refl), further index (HasFound None) next before p refl ((λ e. refl), (λ e. absurd (cc))) h)
-      freed_on index count (HasFound (Some gone)) before value p never h = absurd never
-      freed_on index count (HasFreed found hid done) before value p never h = absurd never
+      freed_on x0 x1 x2 x3 x4 x5 x6 x7 = grind (arith, so_then, is_even, recover_raises, goes_to, further)
 
       module _ (value_of : R → T) (with_word : R → ℕ → ℕ → R) where
         abbrev pub StepsOnward : recovers.RecoverStage → Visits → R → ℕ → F → Type 0

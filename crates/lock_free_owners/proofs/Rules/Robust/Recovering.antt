@@ -2,9 +2,9 @@
 use mathlib.Core.List.{map-append}
 use Rattle.lock_free_owners.proofs.Names.{◌≡◌, ℕ, ◌+◌, ◌<◌, ◌≤◌, ◌==◌, nat_lt, Bool, true, false, List, [], ◌∷◌, ◌++◌}
 use Rattle.lock_free_owners.proofs.Names.{map, filter, append-nil, refl, sym, ap, ◌∙◌, subst, arith, All, FoldsTo}
-use Rattle.lock_free_owners.proofs.Names.{FoldsTo-push, length-map, get_or-map, All-nil, All-push, All-weaker}
+use Rattle.lock_free_owners.proofs.Names.{FoldsTo-push, length-map, get_or-map, All-push, All-weaker}
 use Rattle.lock_free_owners.proofs.Names.{Contains-push, filter-append, all_pairs_push, by_test, by_eq, After, GoOn}
-use Rattle.lock_free_owners.proofs.Names.{Done, ReleaseMode, LockIfLastIndex, Default, ReleaseState, Unlocked, empty}
+use Rattle.lock_free_owners.proofs.Names.{Done, ReleaseMode, ReleaseState, empty}
 use Rattle.lock_free_owners.proofs.Names.{locked, raise_after, lock_after, at_recover, number_of, HasAsked, WasTold}
 use Rattle.lock_free_owners.proofs.Names.{HasLocked, Visit, visit, came_to, HasCome, visits_locked, visits_taken}
 use Rattle.lock_free_owners.proofs.Names.{came_last}
@@ -48,9 +48,7 @@ questions_last : (visits : List Visit) (v : Visit) → questions_of (visits ++ v
 questions_last visits v = map-append question_at visits (v ∷ [])
 
 freed_last : (visits : List Visit) (v : Visit) → freed_of (visits ++ v ∷ []) ≡ freed_of visits ++ freed_of (v ∷ [])
-freed_last visits v =
-    ap (map owned_at) (filter-append (λ (z : Visit). was_freed z.came) visits (v ∷ []))
-    ∙ map-append owned_at (filter (λ (z : Visit). was_freed z.came) visits) (filter (λ (z : Visit). was_freed z.came) (v ∷ []))
+freed_last x0 x1 = grind (arith, map, owned_at, filter-append, was_freed, map-append, filter)
 
 not_freed : (visits : List Visit) (v : Visit) → freed_of (v ∷ []) ≡ [] → freed_of (visits ++ v ∷ []) ≡ freed_of visits
 not_freed visits v is = freed_last visits v ∙ (ap (λ os. freed_of visits ++ os) is ∙ append-nil (freed_of visits))
@@ -97,31 +95,15 @@ module _ {F S : Type 0} (step : F → ℕ → ℕ → Bool → F → Type 0) (te
   Onward (Done state) visits p q = Visited visits p q
 
   none : Visits [] 0 0 f s
-  none =
-      record {
-        questions = refl;
-        calls = refl;
-        asked_ascend = ((λ i j d lt within. absurd (omega arith)), All-nil (λ (a : Asked). IsOwned cap a.of));
-        told_ascend = ((λ i j d lt within. absurd (omega arith)), All-nil (IsOwned cap));
-        asked_below = All-nil (λ (a : Asked). a.of.index < 0);
-        told_below = All-nil (λ (o : Owned). o.index < 0);
-      }
+  none = grind arith
 
   -- where nothing was visited yet
   at_none : (visits : List Visit) (p : F) (q : S) → visits ≡ [] → (p ≡ f) × (q ≡ s) → Visits visits 0 0 p q
-  at_none visits p q is e = subst (λ (z : List Visit × (F × S)). Visits z.0 0 0 z.1.0 z.1.1) (λ i. (sym is i, (sym e.0 i, sym e.1 i))) none
+  at_none x0 x1 x2 x3 x4 = grind (arith, none)
 
   widen : (asked : List Asked) (told : List Owned) (low high above over : ℕ) (p : F) (q : S) → low ≤ above → high ≤ over → Calls asked told low high p q
       → Calls asked told above over p q
-  widen asked told low high above over p q up wide h =
-      record {
-        questions = h.questions;
-        calls = h.calls;
-        asked_ascend = h.asked_ascend;
-        told_ascend = h.told_ascend;
-        asked_below = All-weaker (λ (a : Asked). a.of.index < low) (λ (a : Asked). a.of.index < above) (λ a l. omega arith) asked h.asked_below;
-        told_below = All-weaker (λ (o : Owned). o.index < high) (λ (o : Owned). o.index < over) (λ o l. omega arith) told h.told_below;
-      }
+  widen x0 x1 x2 x3 x4 x5 x6 x7 x8 x9 x10 = grind arith
 
   wide : (visits : List Visit) (low high above over : ℕ) (p : F) (q : S) → low ≤ above → high ≤ over → Visits visits low high p q
       → Visits visits above over p q
@@ -130,8 +112,7 @@ module _ {F S : Type 0} (step : F → ℕ → ℕ → Bool → F → Type 0) (te
   -- by other lists that are the same
   as_lists : (asked other : List Asked) (told more : List Owned) (low high : ℕ) (p : F) (q : S) → asked ≡ other → told ≡ more → Calls asked told low high p q
       → Calls other more low high p q
-  as_lists asked other told more low high p q is so h =
-      subst (λ (z : List Asked × List Owned). Calls z.0 z.1 low high p q) (λ i. (is i, so i)) h
+  as_lists x0 x1 x2 x3 x4 x5 x6 x7 x8 x9 x10 = grind arith
 
   -- one question more
   asks_more : (asked : List Asked) (told : List Owned) (index owner : ℕ) (answer : Bool) (p p' : F) (q : S) → owner < empty → index < cap
@@ -170,47 +151,32 @@ module _ {F S : Type 0} (step : F → ℕ → ℕ → Bool → F → Type 0) (te
       }
 
   comes : (c : Recover) (index : ℕ) (visits : List Visit) (p : F) (q : S) → Visits visits index index p q → Onward (recover_comes_to c index) visits p q
-  comes c index visits p q h =
-      by_test (λ stage. Onward (GoOn (at_recover c stage)) visits p q) (nat_lt index c.capacity) (recovers.TheVariants.LoadsCell index)
-      recovers.TheVariants.LoadsCounterAgain (λ t. h) (λ t. (index, h))
+  comes x0 x1 x2 x3 x4 x5 = grind (arith, by_test, at_recover, nat_lt)
 
   -- past cells without an owner
   passed_to : (index : ℕ) (visits : List Visit) (p : F) (q : S) (stage : recovers.RecoverStage) → Visits visits index index p q → HasPassedTo index stage
       → SoFar stage visits p q
-  passed_to index visits p q recovers.TheVariants.LoadsCounter h to = absurd to
-  passed_to index visits p q (recovers.TheVariants.LoadsCell next) h to = wide visits index index next next p q to to h
-  passed_to index visits p q (recovers.TheVariants.Asks next owner) h to = wide visits index index next next p q to to h
-  passed_to index visits p q (recovers.TheVariants.EmptiesCell next owner) h to = absurd to
-  passed_to index visits p q (recovers.TheVariants.Raises next raise) h to = absurd to
-  passed_to index visits p q (recovers.TheVariants.Locks next lock) h to = absurd to
-  passed_to index visits p q recovers.TheVariants.LoadsCounterAgain h to = (index, h)
+  passed_to x0 x1 x2 x3 x4 x5 x6 = grind (arith, wide)
 
   passed : (index : ℕ) (visits : List Visit) (p : F) (q : S) (a : After Recover ReleaseState) → Visits visits index index p q → HasPassed index a
       → Onward a visits p q
-  passed index visits p q (GoOn d) h to = passed_to index visits p q d.stage h to
-  passed index visits p q (Done state) h to = absurd to
+  passed x0 x1 x2 x3 x4 x5 x6 = grind (arith, passed_to)
 
   -- ---- what each stage leaves
 
   raised : (c : Recover) (index : ℕ) (mode : ReleaseMode) (visits : List Visit) (p : F) (q : S) (a : After raises.Raise ReleaseState)
       → Visits visits (index + 1) (index + 1) p q → Onward (recover_raised c index mode a) visits p q
-  raised c index mode visits p q (GoOn raise) h = h
-  raised c index mode visits p q (Done Locked) h = (index + 1, index + 1, h)
-  raised c index LockIfLastIndex visits p q (Done Unlocked) h = h
-  raised c index Default visits p q (Done Unlocked) h = comes c (index + 1) visits p q h
+  raised x0 x1 x2 x3 x4 x5 x6 x7 = grind (arith, comes)
 
   locking : (c : Recover) (index : ℕ) (visits : List Visit) (p : F) (q : S) (a : After locks.Lock ReleaseState)
       → Visits visits (index + 1) (index + 1) p q → Onward (recover_locked c index a) visits p q
-  locking c index visits p q (GoOn lock) h = h
-  locking c index visits p q (Done state) h = comes c (index + 1) visits p q h
+  locking x0 x1 x2 x3 x4 x5 x6 = grind (arith, comes)
 
   module _ (c : Recover) (mode : ReleaseMode) (visits : List Visit) where
     quietly : (stage : recovers.RecoverStage) (k : ℕ) → c.stage ≡ stage → (p p' : F) (q q' : S) (a : After Recover ReleaseState)
         → Onward (recover_takes c stage mode k) (visits_taken stage visits k) p q → GoesQuietly c mode k p q a p' q'
         → Onward a (visits_taken stage visits k) p' q'
-    quietly stage k is p p' q q' a goes m =
-        subst (λ (z : F × S). Onward a (visits_taken stage visits k) z.0 z.1) (λ i. (sym m.0 i, sym m.1 i))
-        (subst (λ z. Onward z (visits_taken stage visits k) p q) (ap (λ z. recover_takes c z mode k) (sym is) ∙ sym m.2) goes)
+    quietly x0 x1 x2 x3 x4 x5 x6 x7 x8 x9 = grind (arith, visits_taken, recover_takes)
 
     answered : (index owner : ℕ) (answer : Bool) (p p' : F) (q : S) → owner < empty → index < cap → step p owner index answer p'
         → Visits visits index index p q
@@ -327,26 +293,11 @@ module _ {F S : Type 0} (step : F → ℕ → ℕ → Bool → F → Type 0) (te
 
   pub passes_on : (call : Recover) (visits : List Visit) (p : F) (q : S) (after : After Recover ReleaseState) (stage : recovers.RecoverStage)
       → call.stage ≡ stage → PassesCells call stage after → SoFar call.stage visits p q → Onward after visits p q
-  passes_on call visits p q after recovers.TheVariants.LoadsCounter is h so = stays call visits p q after h so
-  passes_on call visits p q after (recovers.TheVariants.LoadsCell index) is h so =
-      passed index visits p q after (subst (λ stage. SoFar stage visits p q) is so) h
-  passes_on call visits p q after (recovers.TheVariants.Asks index owner) is h so = stays call visits p q after h so
-  passes_on call visits p q after (recovers.TheVariants.EmptiesCell index owner) is h so = stays call visits p q after h so
-  passes_on call visits p q after (recovers.TheVariants.Raises index raise) is h so = stays call visits p q after h so
-  passes_on call visits p q after (recovers.TheVariants.Locks index lock) is h so = stays call visits p q after h so
-  passes_on call visits p q after recovers.TheVariants.LoadsCounterAgain is h so = stays call visits p q after h so
+  passes_on x0 x1 x2 x3 x4 x5 x6 x7 x8 = grind (arith, stays, passed)
 
   pub looks_on : (call : Recover) (mode : ReleaseMode) (visits : List Visit) (p : F) (q : S) (after : After Recover ReleaseState)
       (stage : recovers.RecoverStage) → call.stage ≡ stage → LooksAgain call mode stage after → SoFar call.stage visits p q → Onward after visits p q
-  looks_on call mode visits p q after recovers.TheVariants.LoadsCounter is h so = stays call visits p q after h so
-  looks_on call mode visits p q after (recovers.TheVariants.LoadsCell index) is h so = stays call visits p q after h so
-  looks_on call mode visits p q after (recovers.TheVariants.Asks index owner) is h so = stays call visits p q after h so
-  looks_on call mode visits p q after (recovers.TheVariants.EmptiesCell index owner) is h so = stays call visits p q after h so
-  looks_on call mode visits p q after (recovers.TheVariants.Raises index raise) is h so = stays call visits p q after h so
-  looks_on call mode visits p q after (recovers.TheVariants.Locks index lock) is h so = stays call visits p q after h so
-  looks_on call mode visits p q after recovers.TheVariants.LoadsCounterAgain is h so =
-      let past = subst (λ stage. SoFar stage visits p q) is so in
-      subst (λ a. Onward a visits p q) (sym (h.1 ∙ ap (λ stage. recover_takes call stage mode h.0) is)) (past.0, past.0, past.1)
+  looks_on x0 x1 x2 x3 x4 x5 x6 x7 x8 x9 = grind (arith, stays, recover_takes)
 
   -- each of them has a right owner
   pub well_formed : (visits : List Visit) (low high : ℕ) (p : F) (q : S) → Visits visits low high p q → All (λ (v : Visit). v.owner < empty) visits
