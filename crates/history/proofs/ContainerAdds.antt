@@ -1,14 +1,13 @@
 -- That an add and a replace of the container are calls of the model.
 use Rattle.history.proofs.Names.{◌≡◌, inl, ℕ, ◌+◌, ◌<◌, nat_lt, true, false, None, List, [], ◌++◌}
-use Rattle.history.proofs.Names.{append_assoc, refl, sym, ap, subst, ◌∙◌, arith, nat_tests, is_even}
+use Rattle.history.proofs.Names.{refl, sym, ap, subst, arith, nat_tests}
 use Rattle.history.proofs.Names.{total_words, Replaced, first_replace, replace_asks, replace_want, replace_takes}
-use Rattle.history.proofs.Names.{replace_after, empty, went_on, Ask, After, GoOn, ReplaceStage, AcquireStage}
-use Rattle.history.proofs.Names.{Answer, Event, Hidden, Add, Replace, Coding, IsCoding, opening_of, replace_of, added}
-use Rattle.history.proofs.Names.{replaced, hidden, placed, add_effects, replace_effects, as_it_is}
+use Rattle.history.proofs.Names.{replace_after, empty, went_on, Ask, After, GoOn, ReplaceStage}
+use Rattle.history.proofs.Names.{Answer, Event, Add, Replace, Coding, IsCoding, opening_of, replace_of, added}
+use Rattle.history.proofs.Names.{replaced, add_effects, replace_effects, as_it_is}
 use Rattle.history.proofs.Names.{as_call, data_within, answered, KeepsRule}
-use Rattle.steps.specs.Container.Add.{Added, first_add, inner_acquire, add_asks, add_want, add_acquired, add_takes}
+use Rattle.steps.specs.Container.Add.{Added, first_add, add_asks, add_want, add_takes}
 use Rattle.steps.specs.Container.Add.{add_after}
-use Rattle.steps.specs.Indices.Robust.Acquire.{Acquired}
 use Rattle.steps.specs.declared.ask.After.TheVariants.{Done}
 use Rattle.steps.specs.declared.ask.Want.TheVariants as wants
 use Rattle.steps.specs.declared.container.add.Add.{Add as Adding}
@@ -18,29 +17,18 @@ use Rattle.steps.specs.declared.container.add.Owned.{Owned}
 use Rattle.steps.specs.declared.container.replace.Replace.{Replace as Replacing}
 use Rattle.steps.specs.declared.container.replace.ReplaceStage.TheVariants as replaces
 use Rattle.steps.specs.declared.container.replace.Replacement.{Replacement}
-use Rattle.steps.specs.declared.indices.robust.acquire.Acquire.{Acquire as Acquiring}
 use Rattle.model.specs.declared.families.Flight.TheVariants as flights
 use Rattle.model.specs.declared.families.container.calls.ContainerFlight.TheVariants as calls
 use Rattle.model.specs.declared.turn.Kind.TheVariants as kinds
 use Rattle.history.specs.declared.view.View.{View}
-use Rattle.history.specs.Container.{when, HasCleared, HasPut, AddIn, AddedAt, HasAdded, adds_value, ReplaceIn, ReplacedAt, HasReplaced, replaces_value}
+use Rattle.history.specs.Container.{AddIn, AddedAt, HasAdded, adds_value, ReplaceIn, ReplacedAt, HasReplaced, replaces_value}
 use Rattle.history.specs.History.{IsMachine}
 use Rattle.history.specs.Stages.{Calling, At, Ends}
 use Rattle.history.proofs.CallsIn.{AsksFor}
 use Rattle.history.proofs.ContainerCalls.{set_words, change_low, count_low, place_is}
 use Rattle.history.proofs.Containers.{plain_effects, container_words, container_keeps, container_first, container_starts, fewer}
 use Rattle.history.proofs.Drives.{IsCallOf, goes}
-use Rattle.history.proofs.RobustCalls.{acquire_words, AcquireGoes}
-
--- ---- what is written of an element
-
-module _ {T : Type 0} (p index : ℕ) (before : List (Event T)) where
-  cleared : (es : List (Event T)) (count old : ℕ) → es ≡ before → HasCleared p index before (es ++ hidden p index count old)
-  cleared es count old at = grind (arith, hidden)
-
-  put : (es : List (Event T)) (value : T) (old : ℕ) → HasCleared p index before es → HasPut p index value before (es ++ placed p index value old)
-  put es value old h =
-      (h.0, is_even old, ap (λ zs. zs ++ placed p index value old) h.1 ∙ append_assoc before (when h.0 (Hidden p index)) (placed p index value old))
+use Rattle.history.proofs.RobustCalls.{acquire_words}
 
 -- ---- add
 
@@ -64,12 +52,6 @@ module _ {T : Type 0} (capacity size : ℕ) (some : 0 < size) (c : Adding T) (sa
   abbrev AddGoes : List (Event T) → After (Adding T) Added → Type 0
   AddGoes es (GoOn d) = (adds_value size given).stands capacity d × AddedAt p given d.stage es
   AddGoes es (Done e) = HasAdded capacity p given e es
-
-  abbrev IsAcquired : AcquireStage → List (Event T) → After Acquiring Acquired → Type 0
-  IsAcquired stage = AcquireGoes T capacity (inner_acquire c.capacity stage) same p given.owner
-
-  acquired : (stage : AcquireStage) (es : List (Event T)) (r : After Acquiring Acquired) → IsAcquired stage es r → AddGoes es (add_acquired c r)
-  acquired x0 x1 x2 x3 = grind arith
 
   -- it may have written something where it stands
   some_added : (stage : AddStage) → (es : List (Event T)) × AddedAt p given stage es
@@ -95,7 +77,7 @@ module _ {T : Type 0} (code : Coding T) (law : IsCoding code) (given : Owned T) 
   as_added (GoOn d) = refl
   as_added (Done e) = refl
 
-  -- a step puts no question
+  -- where a step goes on, and what it has written then
   add_goes : (capacity p : ℕ) (c : Adding T) (n : ℕ) (es : List (Event T)) (r : After (Adding T) Added) → (h : adding.stands capacity c)
       → AddedAt p given c.stage es → add_then c n ≡ r
       → AddGoes capacity code.size has_words c h.0 p given (es ++ (add_effects p given c.stage n ++ [])) r

@@ -120,11 +120,6 @@ module _ (T : Type 0) (capacity : ℕ) (c : Removing) (same : c.capacity ≡ cap
       → ReleaseGoes T capacity (inner_release c.capacity stage) same p given low es r → RemoveGoes es (remove_released c count r)
   released x0 x1 x2 x3 x4 = grind arith
 
-  -- where it stands then, whatever it has written
-  abbrev StandsThen : After Removing Removed → Type 0
-  StandsThen (GoOn d) = (removes_value {T = T} given).stands capacity d
-  StandsThen (Done e) = Unit {0}
-
   removes_so : (stage : RemoveStage) (k : ℕ) (es : List (Event T)) → RemoveIn capacity given.mode stage → RemovedAt p given stage es
       → RemoveGoes (es ++ remove_effects p given stage k) (remove_takes c stage given k)
   removes_so removes.Refuses k es h at = absurd h

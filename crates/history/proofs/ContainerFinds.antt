@@ -1,6 +1,6 @@
 -- That a find on a container is a call of the model, which may rest at its question.
 use Rattle.history.proofs.Names.{Bool, true, false, if◌then◌else◌, option_map, ◌≡◌, ◌⊎◌, inl, inr, ℕ, ◌+◌, ◌*◌, ◌<◌}
-use Rattle.history.proofs.Names.{◌≤◌, ◌==◌, nat_lt, Option, Some, None, List, [], ◌∷◌, ◌++◌, slice_set, append-nil}
+use Rattle.history.proofs.Names.{◌≤◌, ◌==◌, nat_lt, Some, None, List, [], ◌∷◌, ◌++◌, slice_set, append-nil}
 use Rattle.history.proofs.Names.{append_assoc, fold, refl, sym, ap, subst, ◌∙◌, arith, mul-le-mul_left, nat_tests}
 use Rattle.history.proofs.Names.{map-append, find_asks, find_keeps, first_find, find_want, find_comes_to, find_takes}
 use Rattle.history.proofs.Names.{find_after, is_even, total_words, empty, went_on, Ask, After, GoOn, Want}
@@ -157,10 +157,6 @@ module _ {T R : Type 0} (code : Coding T) (law : IsCoding code) (words_in : R �
       → es ++ plain_effects code p (finding.flight c m) n ≡ copies_of p (copied_then c m n)
   tells_so x0 x1 x2 x3 x4 x5 = grind (arith, append-nil, read_in, copies_so)
 
-  abbrev StandsThen : ℕ → After (Finding T R) ℕ → Type 0
-  StandsThen capacity (GoOn d) = (d.capacity ≡ capacity) × FindIn code.size capacity d.stage
-  StandsThen capacity (Done found) = Unit {0}
-
   stands_then : (capacity : ℕ) (c : Finding T R) (same : c.capacity ≡ capacity) (stage : FindStage) (n : ℕ)
       → FindIn code.size capacity stage → (d : Finding T R)
       → find_takes code.size c stage owner n ≡ GoOn d → (d.capacity ≡ capacity) × FindIn code.size capacity d.stage
@@ -192,14 +188,6 @@ module _ {T R : Type 0} (code : Coding T) (law : IsCoding code) (words_in : R �
       }
 
   -- ---- which find a flight is, and with which room
-
-  abbrev find_in : Finding T R → Flight T → Finding T R
-  find_in c (flights.Container (calls.Find run)) = record { capacity = run.call.capacity; stage = run.call.stage; of = record {} }
-  find_in c flight = c
-
-  abbrev begun_find : Finding T R → Option (Flight T) → Finding T R
-  begun_find c None = c
-  begun_find c (Some flight) = find_in c flight
 
   -- the first of it puts no question
   first_so : (capacity : ℕ) (c : Finding T R) (m : Room) (named : Bool)

@@ -74,9 +74,6 @@ module _ {T R : Type 0} (code : Coding T) (law : IsCoding code) (words_in : R �
   goes_is m (GoOn d) = refl
   goes_is m (Done e) = refl
 
-  abbrev model_call : Recovering T R → Recovering T (buffers.Buffer 128)
-  model_call c = record { capacity = c.capacity; stage = c.stage; of = record {} }
-
   module _ (c : Recovering T R) (n : ℕ) (room : buffers.Buffer 128) where
     abbrev SameTakes : RecoverStage → Type 0
     SameTakes stage =
@@ -153,10 +150,6 @@ module _ {T R : Type 0} (code : Coding T) (law : IsCoding code) (words_in : R �
   abbrev recovery_of : Recovering T R → Flight T → Recovering T R
   recovery_of c (flights.Container (calls.Recover run)) = record { capacity = run.call.capacity; stage = run.call.stage; of = record {} }
   recovery_of c flight = c
-
-  abbrev begun_recovery : Recovering T R → Option (Flight T) → Recovering T R
-  begun_recovery c None = c
-  begun_recovery c (Some flight) = recovery_of c flight
 
   -- the first of it puts no question
   first_so : (capacity : ℕ) (c : Recovering T R) (m : Room) (named : Bool)

@@ -2,11 +2,10 @@
 use Rattle.std.proofs.Common.{arith}
 use Rattle.history.proofs.Names.{Bool, true, false, ◌≡◌, ℕ, ◌+◌, ◌<◌, Option, None, List, []}
 use Rattle.history.proofs.Names.{sym, ◌∙◌, Allows, After, GoOn, Want}
-use Rattle.history.proofs.Names.{Answer, Event, Start, Flight, ContainerFlight, Coding, want_of}
+use Rattle.history.proofs.Names.{Answer, Event, Start, Flight, Coding, want_of}
 use Rattle.history.proofs.Names.{goes_of, is_question, number_of, World}
 use Rattle.history.proofs.Names.{KeepsRule}
 use Rattle.steps.specs.declared.ask.After.TheVariants.{Done}
-use Rattle.model.specs.declared.families.Flight as flights
 use Rattle.model.specs.declared.turn.Kind.TheVariants as kinds
 use Rattle.history.specs.declared.view.View.{View}
 use Rattle.history.specs.History.{IsMachine, IsLate}
@@ -23,16 +22,6 @@ module _ {T : Type 0} where
   -- ---- an answer that ends a call writes nothing
 
   module _ (code : Coding T) (w : World T) (p : ℕ) (answer : Answer T) where
-    abbrev EndsBy : ContainerFlight T → Type 0
-    EndsBy flight =
-        is_question (want_of code (flights.TheVariants.Container flight)) ≡ true
-        → goes_of code p (flights.TheVariants.Container flight) (number_of false) w.kept ≡ Done answer
-        → container_effects w p (flights.TheVariants.Container flight) (number_of false) ≡ []
-
-    abbrev IsOn : After (Flight T) (Answer T) → Type 0
-    IsOn (GoOn flight) = Unit {0}
-    IsOn (Done answer) = ⊥
-
     quietly : (flight : Flight T) → is_question (want_of code flight) ≡ true → goes_of code p flight (number_of false) w.kept ≡ Done answer
         → container_effects w p flight (number_of false) ≡ []
     quietly x0 x1 x2 = grind arith

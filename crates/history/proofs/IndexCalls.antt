@@ -1,7 +1,7 @@
 -- That an acquire and a release of the unique index set are calls of the model.
 use Rattle.history.proofs.Names.{◌≡◌, inl, ℕ, ◌+◌, ◌<◌, true, false, None, List, [], ◌∷◌}
 use Rattle.history.proofs.Names.{◌++◌, refl, arith, went_on, Ask, After}
-use Rattle.history.proofs.Names.{GoOn, Want, ReleaseState, load, Answer, Event, Freed, Flight, Coding}
+use Rattle.history.proofs.Names.{GoOn, ReleaseState, load, Answer, Event, Freed, Flight, Coding}
 use Rattle.history.proofs.Names.{as_it_is, as_call, answer_in, answered, KeepsRule}
 use Rattle.steps.specs.Indices.Head.{flag_word, proposed}
 use Rattle.steps.specs.Indices.Unique.{borrowed_after, locked_after, Acquired, first_acquire, acquire_asks}
@@ -104,10 +104,6 @@ module _ (n index : ℕ) (c : Giving) (same : c.capacity ≡ n) (low : index < n
   asks_for (releases.TheVariants.StoresNext head) = (_, (let l : 1 + index < core.size n = omega arith in l), refl)
   asks_for (releases.TheVariants.ExchangesHead head) = (_, omega arith, refl)
   asks_for releases.TheVariants.Subtracts = (_, omega arith, refl)
-
-gives_load : (c : Giving) (w : Want (Unit {0})) (b a : Ask) (n : ℕ) → w ≡ wants.Ask b → answered b.op n ≡ n
-    → w ≡ wants.Ask a → release_after false c (answered a.op n) ≡ release_after false c n
-gives_load x0 x1 x2 x3 x4 x5 x6 x7 = grind arith
 
 gives_heard : (index : ℕ) (c : Giving) (stage : releases.ReleaseStage) (a : Ask) (n : ℕ)
     → release_asks false c.capacity index stage ≡ wants.Ask a

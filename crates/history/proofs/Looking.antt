@@ -1,5 +1,5 @@
 -- A look after a look is one look.
-use Rattle.history.proofs.Names.{◌≡◌, ◌≢◌, inl, inr, ⊎_elim, ℕ, ◌<◌, ◌==◌, if◌then◌else◌}
+use Rattle.history.proofs.Names.{◌≡◌, ◌≢◌, inl, inr, ⊎_elim, ℕ, ◌<◌}
 use Rattle.history.proofs.Names.{List, [], ◌∷◌, ◌++◌, length, sum_by, refl, sym, ap, subst, ◌∙◌, append_assoc}
 use Rattle.history.proofs.Names.{arith, cases_eq, Event, Kind, Coding, IsAll}
 use Rattle.std.proofs.Common.{length-append}
@@ -20,20 +20,9 @@ none_left (x ∷ xs) rest e = absurd (cc)
 
 -- ---- how many events of a party a seat knows
 
-zeros : (owner : ℕ → ℕ) (j q : ℕ) → ◌≡◌ {A = ℕ} (if owner q == j then 0 else 0) 0
-zeros x0 x1 x2 = grind arith
-
 module _ {T : Type 0} (p : ℕ) where
   abbrev ones : Event T → ℕ
   ones e = length (own_of p e)
-
-  counted : (es : List (Event T)) → sum_by ones es ≡ length (events_by p es)
-  counted [] = refl
-  counted (e ∷ es) =
-      let first = sum_first ones e es in
-      let rest = counted es in
-      let both = length-append (own_of p e) (events_by p es) in
-      omega arith
 
   module _ (owner : ℕ → ℕ) (j : ℕ) where
     one_none : owner p ≢ j → (e : Event T) → owned owner j ones e ≡ 0

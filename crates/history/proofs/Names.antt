@@ -8,19 +8,18 @@ pub use Rattle.laws_bits.proofs.Counts.Invariant.{counting_set}
 pub use Rattle.laws_bits.proofs.Counts.Justified.{counts_go_on, laws as counts_laws}
 pub use Rattle.laws_bits.proofs.Spans.{wrote_in}
 pub use Rattle.laws_container.proofs.Core.{data_within}
-pub use Rattle.laws_container.proofs.LooksTell.{look_asks_none}
 pub use Rattle.laws_queues.proofs.Overflow.Core.{oldest}
 pub use Rattle.laws_queues.proofs.Overflow.Knows.{IsFreshOver, KnowsOverflowPop, KnowsOverflowPush, overflow_wrote}
 pub use Rattle.laws_queues.proofs.Queues.Invariant.{machine_kind, waiting_is}
 pub use Rattle.laws_queues.proofs.Queues.Kept.{kept_on as queue_kept_on, promised_by}
 pub use Rattle.laws_queues.proofs.Queues.Knows.{IsFreshCall, IsFreshStore, free, layout}
 pub use Rattle.laws_queues.proofs.Queues.Runs.{AllMay, attempt_sound}
-pub use Rattle.laws_queues.proofs.Queues.Sound.{admitted_fits, fresh_more, fresh_opening}
+pub use Rattle.laws_queues.proofs.Queues.Sound.{admitted_fits, fresh_more}
 pub use Rattle.laws_queues.proofs.Queues.Values.{Val, encoded}
 pub use Rattle.laws_queues.proofs.Ring.Kinds.{Ring, kind_of, of_indices, of_values}
 pub use Rattle.laws_queues.proofs.Ring.Knows.{IsFresh, KnowsPop, KnowsPush}
 pub use Rattle.laws_robust.proofs.Alive.{AllLive}
-pub use Rattle.laws_robust.proofs.Sound.{count_asks_none, lock_asks_none, raise_asks_none}
+pub use Rattle.laws_robust.proofs.Sound.{lock_asks_none, raise_asks_none}
 pub use Rattle.laws_robust.specs.Gone.{Word}
 pub use Rattle.laws_robust.specs.Open.{IsOpenSet, open_refusal}
 pub use Rattle.laws_value.proofs.Core.{cell_within}
@@ -30,7 +29,7 @@ pub use Rattle.model.proofs.Linearizable.Kinds.{run_linearizable}
 pub use Rattle.model.proofs.Parties.{found_put_same, party_put_other, party_put_same}
 pub use Rattle.model.proofs.Reached.{kept_by_runs, kept_by_runs_on, reached_on_more, reached_on_opening, turn_making}
 pub use Rattle.model.proofs.Readings.{AreRight, Each-append, Each-nil}
-pub use Rattle.model.proofs.Rows.{must_be_due, passes, row_passed}
+pub use Rattle.model.proofs.Rows.{must_be_due, passes}
 pub use Rattle.model.proofs.Scenes.{stands_there}
 pub use Rattle.model.specs.Coding.{Coding, IsCoding, one_word}
 pub use Rattle.model.specs.Families.{after_of, ask_of, begin_rows, beside_of, first_of, goes_of, going_rows}
@@ -42,28 +41,26 @@ pub use Rattle.model.specs.Families.Bits.Promises.{AnswersCountOn, BitsAnswerRig
 pub use Rattle.model.specs.Families.Bits.Promises.{CountsWrote, HasCleared, HasTakenOn, MayClear, bits_promise}
 pub use Rattle.model.specs.Families.Bits.Promises.{counts_promise}
 pub use Rattle.model.specs.Families.Bits.Reading.{clears, counts, sets, standing, takes}
-pub use Rattle.model.specs.Families.Container.Calls.{added, counted, find_of, first, first as first_call, look_came}
-pub use Rattle.model.specs.Families.Container.Calls.{place_of, recover_of, remove_of, removed, replace_of, replaced}
-pub use Rattle.model.specs.Families.Container.Calls.{settled_if}
+pub use Rattle.model.specs.Families.Container.Calls.{added, counted, find_of, first, first as first_call, place_of}
+pub use Rattle.model.specs.Families.Container.Calls.{recover_of, remove_of, removed, replace_of, replaced, settled_if}
 pub use Rattle.model.specs.Families.Container.Keeping.{is_look_of}
 pub use Rattle.model.specs.Families.Container.Looks.{WasCopied, is_looking, state_in}
 pub use Rattle.model.specs.Families.Container.Opening.{names_owner}
-pub use Rattle.model.specs.Families.Container.Steps.{add_effects, find_effects, hidden, look_effects, look_effects_of}
-pub use Rattle.model.specs.Families.Container.Steps.{placed, question_of, questions, remove_effects, replace_effects}
+pub use Rattle.model.specs.Families.Container.Steps.{add_effects, find_effects, hidden, look_effects, placed}
+pub use Rattle.model.specs.Families.Container.Steps.{question_of, questions, remove_effects, replace_effects}
 pub use Rattle.model.specs.Families.Indices.Promises.{HoldsRight, IsIndexSet}
 pub use Rattle.model.specs.Families.Indices.Robust.Dead.{has_died}
 pub use Rattle.model.specs.Families.Indices.Robust.Opening.{is_owner}
 pub use Rattle.model.specs.Families.Indices.Robust.Reading.{SetAct, filled_of, set_acts_of}
-pub use Rattle.model.specs.Families.Indices.Robust.Steps.{acquire_effects, granted, release_effects}
-pub use Rattle.model.specs.Families.Queues.Calls.{as_it_is, fresh_cell, kept_at, length_answer, popped, read_in}
-pub use Rattle.model.specs.Families.Queues.Calls.{read_word, words_of_index}
+pub use Rattle.model.specs.Families.Indices.Robust.Steps.{acquire_effects, release_effects}
+pub use Rattle.model.specs.Families.Queues.Calls.{as_it_is, fresh_cell, kept_at, popped, read_in, read_word}
+pub use Rattle.model.specs.Families.Queues.Calls.{words_of_index}
 pub use Rattle.model.specs.Families.Queues.Opening.{cells_of, holds, words_of_cell}
-pub use Rattle.model.specs.Families.Queues.Reading.{consumer_after, consumer_of, handed_out, hands_out}
-pub use Rattle.model.specs.Families.Queues.Reading.{producer_after, producer_of, published, publishes, waiting}
+pub use Rattle.model.specs.Families.Queues.Reading.{consumer_after, consumer_of, handed_out, hands_out, producer_after}
+pub use Rattle.model.specs.Families.Queues.Reading.{producer_of, published, publishes, waiting}
 pub use Rattle.model.specs.Families.Queues.Steps.{acts_if_done, effect_of, overflow_pop_effect, overflow_push_effect}
 pub use Rattle.model.specs.Families.Queues.Steps.{pending, pop_effect, push_effect, takes_effect}
-pub use Rattle.model.specs.Linearizable.{Call, IsLinearizable, Precedes, StandsBefore, calls_from, calls_of}
-pub use Rattle.model.specs.Linearizable.{response_in}
+pub use Rattle.model.specs.Linearizable.{Call, IsLinearizable, Precedes, calls_from, calls_of, response_in}
 pub use Rattle.model.specs.Linearized.{IsLinearized, as_list, as_value}
 pub use Rattle.model.specs.Moments.{BeginsNone, HeldSometime, SinceBegin}
 pub use Rattle.model.specs.Parties.{doing_of, flight_of, party_of}
@@ -77,18 +74,16 @@ pub use Rattle.model.specs.Refusals.{call_refusal, is_due, refusal_of}
 pub use Rattle.model.specs.Rows.{first_row}
 pub use Rattle.model.specs.Step.{Step, answer_in, as_call}
 pub use Rattle.model.specs.Turns.{IsReached, IsReachedOn, after_answer, after_begin, after_decision, after_next}
-pub use Rattle.model.specs.Turns.{after_step, after_turn, ask_of_doing, attempt_on, change_of, ending_of, events_of}
+pub use Rattle.model.specs.Turns.{after_step, after_turn, ask_of_doing, attempt_on, ending_of, events_of}
 pub use Rattle.model.specs.Turns.{events_of_answer, events_of_decision, events_of_next, events_of_step, number_of}
-pub use Rattle.model.specs.Turns.{old_of, one_if, party_after, party_at_begin, run, run_on, step_count, step_in}
-pub use Rattle.model.specs.Turns.{unless_refused, words_after}
+pub use Rattle.model.specs.Turns.{old_of, one_if, run, run_on, step_in, unless_refused, words_after}
 pub use Rattle.model.specs.World.{Trace, World, capacity_error, flight_in, opened}
 pub use Rattle.model.specs.declared.event.Answer.{Answer}
-pub use Rattle.model.specs.declared.event.Answer.TheVariants.{Loaded, Number, PoppedIndex, PoppedNone, Reset}
-pub use Rattle.model.specs.declared.event.Answer.TheVariants.{ResetNone, Truth}
+pub use Rattle.model.specs.declared.event.Answer.TheVariants.{Loaded, Number, PoppedNone, Reset, ResetNone, Truth}
 pub use Rattle.model.specs.declared.event.Event.{Event}
-pub use Rattle.model.specs.declared.event.Event.TheVariants.{Acted, Asked, Begun, Claimed, Cleared, Copied, Died}
-pub use Rattle.model.specs.declared.event.Event.TheVariants.{Filled, Finished, Freed, FreedOf, HandedOut, Hidden}
-pub use Rattle.model.specs.declared.event.Event.TheVariants.{Published, Shown, TakenOut}
+pub use Rattle.model.specs.declared.event.Event.TheVariants.{Acted, Asked, Begun, Cleared, Copied, Died, Finished}
+pub use Rattle.model.specs.declared.event.Event.TheVariants.{Freed, FreedOf, HandedOut, Hidden, Published, Shown}
+pub use Rattle.model.specs.declared.event.Event.TheVariants.{TakenOut}
 pub use Rattle.model.specs.declared.event.Item.{Item}
 pub use Rattle.model.specs.declared.event.Start.{Start}
 pub use Rattle.model.specs.declared.event.Start.TheVariants.{Container, Queues}
@@ -100,14 +95,12 @@ pub use Rattle.model.specs.declared.families.bits.BitsStart.{BitsStart}
 pub use Rattle.model.specs.declared.families.bits.BitsStart.TheVariants.{ResetAll, ResetNext, Set}
 pub use Rattle.model.specs.declared.families.bits.calls.BitsFlight.{BitsFlight}
 pub use Rattle.model.specs.declared.families.container.ContainerStart.{ContainerStart}
-pub use Rattle.model.specs.declared.families.container.ContainerStart.TheVariants.{Add, Find, GetState, Remove}
-pub use Rattle.model.specs.declared.families.container.ContainerStart.TheVariants.{Replace, UpdateState}
+pub use Rattle.model.specs.declared.families.container.ContainerStart.TheVariants.{Add, Find, Remove, Replace}
 pub use Rattle.model.specs.declared.families.container.calls.ContainerFlight.{ContainerFlight}
 pub use Rattle.model.specs.declared.families.container.calls.LookOf.{LookOf}
 pub use Rattle.model.specs.declared.families.queues.QueueKind.{QueueKind}
 pub use Rattle.model.specs.declared.families.queues.QueueStart.{QueueStart}
-pub use Rattle.model.specs.declared.families.queues.QueueStart.TheVariants.{AcquireConsumer, Pop, PushIndex}
-pub use Rattle.model.specs.declared.families.queues.QueueStart.TheVariants.{ReleaseConsumer}
+pub use Rattle.model.specs.declared.families.queues.QueueStart.TheVariants.{Pop, PushIndex}
 pub use Rattle.model.specs.declared.families.queues.Roles.{Roles}
 pub use Rattle.model.specs.declared.families.queues.calls.LengthOf.{LengthOf}
 pub use Rattle.model.specs.declared.families.queues.calls.QueueFlight.{QueueFlight}
@@ -120,20 +113,18 @@ pub use Rattle.model.specs.declared.party.Doing.TheVariants.{Going, Over}
 pub use Rattle.model.specs.declared.party.Party.{Party}
 pub use Rattle.model.specs.declared.turn.Kind.{Kind}
 pub use Rattle.model.specs.declared.turn.Refusal.{Refusal}
-pub use Rattle.model.specs.declared.turn.Refusal.TheVariants.{Idle, Undecided, WrongCall}
 pub use Rattle.model.specs.declared.turn.Turn.{Turn}
 pub use Rattle.model.specs.declared.turn.Turn.TheVariants.{Begin, Decide, Die, Next}
-pub use Rattle.std.proofs.Common.{Bool, Err, IfSome, List, None, Ok, Option, Some, [], ap, append-nil, append_assoc}
-pub use Rattle.std.proofs.Common.{arith, cond, drop, false, fold, get_or, if◌then◌else◌, inl, inr, is_none, length}
-pub use Rattle.std.proofs.Common.{length-set, map, nat_le, nat_lt, not, option_map, refl, replicate, set, set-set}
-pub use Rattle.std.proofs.Common.{slice_index, slice_index_or, slice_set, subst, suc, sum_by, sym, true, zero, ℕ}
-pub use Rattle.std.proofs.Common.{⊎_elim, ◌%◌, ◌&&◌, ◌*◌, ◌++◌, ◌+◌, ◌-◌, ◌<◌, ◌==◌, ◌^◌, ◌||◌, ◌∙◌, ◌∷◌, ◌≡◌, ◌≢◌}
-pub use Rattle.std.proofs.Common.{◌≤◌, ◌⊎◌}
+pub use Rattle.std.proofs.Common.{Bool, IfSome, List, None, Option, Some, [], ap, append-nil, append_assoc, arith, cond}
+pub use Rattle.std.proofs.Common.{drop, false, fold, get_or, if◌then◌else◌, inl, inr, is_none, length, length-set, map}
+pub use Rattle.std.proofs.Common.{nat_le, nat_lt, not, option_map, refl, replicate, set, set-set, slice_index}
+pub use Rattle.std.proofs.Common.{slice_index_or, slice_set, subst, suc, sum_by, sym, true, zero, ℕ, ⊎_elim, ◌%◌, ◌&&◌}
+pub use Rattle.std.proofs.Common.{◌*◌, ◌++◌, ◌+◌, ◌-◌, ◌<◌, ◌==◌, ◌^◌, ◌||◌, ◌∙◌, ◌∷◌, ◌≡◌, ◌≢◌, ◌≤◌, ◌⊎◌}
 pub use Rattle.std.proofs.Math.Nat.{mul-le-mul_left}
 pub use Rattle.std.proofs.lemmas.Bool.{cases_eq, cases_lt}
 pub use Rattle.std.proofs.lemmas.Bool.Decides.{nat_tests}
 pub use Rattle.std.proofs.lemmas.List.{append_cancel_right, length-map, length-replicate, map-append, take-append-le}
-pub use Rattle.std.proofs.lemmas.List.Elements.{All-nil, All-push, All-weaker, Contains-append_left, Contains-push}
+pub use Rattle.std.proofs.lemmas.List.Elements.{All-push, All-weaker, Contains-append_left, Contains-push}
 pub use Rattle.std.proofs.lemmas.List.Sums.{fold-append, sum_by-append, sum_by-cons}
 pub use Rattle.std.specs.List.{AllByRecursion, Contains, flat_map}
 pub use Rattle.steps.specs.Ask.{written}
@@ -151,13 +142,12 @@ pub use Rattle.steps.specs.Container.Replace.{Replaced, first_replace, replace_a
 pub use Rattle.steps.specs.Container.Replace.{replace_want}
 pub use Rattle.steps.specs.Container.State.{Numbers, Showing, shown_at}
 pub use Rattle.steps.specs.Indices.Robust.Looks.{borrowed_counted, borrowed_want, first_borrowed}
-pub use Rattle.steps.specs.Indices.Robust.Parts.{count_after, count_comes_to, count_want, empty, first_lock, greatest}
-pub use Rattle.steps.specs.Indices.Robust.Parts.{lock_after, lock_counted, lock_want, locked, raise_after, raise_want}
-pub use Rattle.steps.specs.Indices.Robust.Release.{Released, release_locked, release_raised}
+pub use Rattle.steps.specs.Indices.Robust.Parts.{count_after, count_want, empty, first_lock, lock_after, lock_want}
+pub use Rattle.steps.specs.Indices.Robust.Parts.{locked, raise_after, raise_want}
+pub use Rattle.steps.specs.Indices.Robust.Release.{Released, release_raised}
 pub use Rattle.steps.specs.Picks.{by_test}
-pub use Rattle.steps.specs.Queues.Lengths.{at_len, first_len, len_after, len_asks, len_takes, len_want}
-pub use Rattle.steps.specs.Queues.Lengths.{number_waiting}
-pub use Rattle.steps.specs.Queues.Ring.{after_position, distance, load}
+pub use Rattle.steps.specs.Queues.Lengths.{first_len, len_after, len_asks, len_takes, len_want}
+pub use Rattle.steps.specs.Queues.Ring.{after_position, load}
 pub use Rattle.steps.specs.Routine.{went_on}
 pub use Rattle.steps.specs.declared.ask.After.{After}
 pub use Rattle.steps.specs.declared.ask.After.TheVariants.{GoOn}

@@ -26,7 +26,7 @@ use Rattle.laws_queues.proofs.Queues.Core.{Core, word_at}
 use Rattle.laws_queues.proofs.Queues.Invariant.{family}
 use Rattle.laws_queues.proofs.Queues.Sound.{kept_is}
 use Rattle.history.specs.declared.view.View.{View}
-use Rattle.history.specs.History.{IsMachine, IsRun}
+use Rattle.history.specs.History.{IsMachine}
 use Rattle.history.specs.Known.{events_by}
 use Rattle.history.specs.Overflow.{IsWithin, over_push_skips, HasPushWord, over_push_wrote, pushes_over}
 use Rattle.history.specs.Roles.{HasRole}
@@ -72,9 +72,6 @@ module _ {T : Type 0} where
 module _ {T : Type 0} (code : Coding T) (v : ℕ) where
   abbrev pushing : Calling T Pushing OneWord PushEnd
   pushing = pushes_over v
-
-  abbrev IsOver : ℕ → Trace T → Type 0
-  IsOver capacity t = IsRun code kinds.Overflow capacity t
 
   same_after : (c : Pushing) (m : OneWord) (n : ℕ) → after_of code (pushing.flight c m) n ≡ goes pushing (push_after c n) (push_kept c m n)
   same_after x0 x1 x2 = grind arith

@@ -89,11 +89,6 @@ module _ {T : Type 0} (code : Coding T) where
   takes p item answer None apart = grind (arith, by_mine, own_of_effect)
   takes p item answer (Some push) apart = room_by_own p push.0 item push.1 (Some answer) (apart push.0 push.1 refl)
 
-  -- the name of a call, if there is one
-  abbrev name_in : Option (Start T × Flight T) → Start T
-  name_in None = Queues Pop
-  name_in (Some call) = call.0
-
   pop_is_no_push : (v : ℕ) → ◌≡◌ {A = Start T} (Queues Pop) (Queues (PushIndex v)) → ⊥
   pop_is_no_push v e = absurd (cc)
 

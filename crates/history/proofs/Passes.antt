@@ -263,7 +263,7 @@ module _ {T : Type 0} (code : Coding T) (kind : Kind) (capacity : ℕ) where
               go None h = tt
               go (Some q) h = stays q (λ e. apart_too (sym h ∙ e)) ∙ h
 
-      -- apart_too party is left to it
+      -- no party is left to it
       never : (p j : ℕ) → j ≡ other → handed_on id other m.owner p ≡ j → ⊥
       never x0 x1 x2 x3 = grind (arith, moves, stays, cases_eq)
 

@@ -4,7 +4,7 @@ use Rattle.history.proofs.Names.{refl, sym, ap, subst, ◌∙◌, arith, Event, 
 use Rattle.history.proofs.Names.{Registry, QueueKind, QueueStart, PushIndex, Pop, Roles, QueueFlight, Values}
 use Rattle.history.proofs.Names.{Party, Coding, first_of, step_of, beside_of, after_of, going_rows, read_in}
 use Rattle.history.proofs.Names.{cells_of, words_of_cell, IsKeptBy, push_effect, pop_effect}
-use Rattle.history.proofs.Names.{party_of, first_row, answer_in, Step, Trace, stands_there}
+use Rattle.history.proofs.Names.{party_of, first_row, answer_in, Trace, stands_there}
 use Rattle.history.proofs.Names.{machine_kind, promised_by, free, Val, encoded, Ring, of_indices, of_values, kind_of}
 use Rattle.model.specs.declared.event.Item.TheVariants.{Index, Value}
 use Rattle.model.specs.declared.families.Flight as flights
@@ -64,12 +64,6 @@ module _ {T : Type 0} (code : Coding T) where
 
   effects_own : (p : ℕ) (flight : Flight T) (n : ℕ) → AreOf p (queue_effects p flight n)
   effects_own x0 x1 x2 = grind arith
-
-  -- ---- a step of a call that the queue has
-
-  module _ (words : List ℕ) (waits : Option (ℕ × ℕ)) (c p n : ℕ) (ro : Roles) where
-    abbrev step_now : QueueStart T → QueueFlight T → Step (Flight T) (Registry T) T
-    step_now start flight = step_of code words waits p (Queues start) (flights.TheVariants.Queues flight) n (registries.TheVariants.Queues ro)
 
 -- ---- of a queue of any kind
 

@@ -1,14 +1,13 @@
 -- That an acquire and a release of the robust index set, and its looks, are calls of the model.
 use Rattle.history.proofs.Names.{◌≡◌, inl, ℕ, ◌+◌, ◌<◌, nat_lt, nat_le, true, false, None, List, []}
-use Rattle.history.proofs.Names.{◌∷◌, ◌++◌, refl, arith, nat_tests, first_borrowed}
+use Rattle.history.proofs.Names.{◌++◌, refl, arith, nat_tests, first_borrowed}
 use Rattle.history.proofs.Names.{borrowed_want, borrowed_counted, empty, count_after}
-use Rattle.history.proofs.Names.{Released, release_raised, load, went_on, Ask}
-use Rattle.history.proofs.Names.{After, GoOn, ReleaseMode, ReleaseState, AcquireStage}
-use Rattle.history.proofs.Names.{Count, Raise, GiveBack, ReleaseStage, Answer, Number, Event, FreedOf}
+use Rattle.history.proofs.Names.{Released, load, went_on, Ask}
+use Rattle.history.proofs.Names.{After, GoOn, AcquireStage}
+use Rattle.history.proofs.Names.{Count, GiveBack, ReleaseStage, Answer, Number, Event}
 use Rattle.history.proofs.Names.{Coding, acquire_effects, release_effects, as_it_is, as_call, answered}
 use Rattle.history.proofs.Names.{KeepsRule}
 use Rattle.steps.specs.Indices.Robust.Acquire.{Acquired, first_acquire, acquire_asks, acquire_want}
-use Rattle.steps.specs.Indices.Robust.Acquire.{acquire_tries, acquire_sees}
 use Rattle.steps.specs.Indices.Robust.Acquire.{acquire_after}
 use Rattle.steps.specs.Indices.Robust.Looks.{borrowed_after, locked_after}
 use Rattle.steps.specs.Indices.Robust.Release.{first_release, release_asks, release_want}
@@ -52,12 +51,6 @@ module _ (T : Type 0) (capacity : ℕ) (c : Acquiring) (same : c.capacity ≡ ca
   abbrev pub AcquireGoes : List (Event T) → After Acquiring Acquired → Type 0
   AcquireGoes es (GoOn d) = (takes_owned {T = T} owner).stands capacity d × (es ≡ filled_at p owner d.stage)
   AcquireGoes es (Done e) = AcquireWrote capacity p owner e es
-
-  tries : (counter index : ℕ) → AcquireGoes [] (acquire_tries c counter index)
-  tries x0 x1 = grind arith
-
-  sees : (k : ℕ) → AcquireGoes [] (acquire_sees c k)
-  sees x0 = grind arith
 
 module _ {T : Type 0} (code : Coding T) (owner : ℕ) where
   as_taken : (r : After Acquiring Acquired) → as_call flights.Robust (λ answer. answer)
@@ -110,12 +103,6 @@ module _ (T : Type 0) (capacity : ℕ) (c : Releasing) (same : c.capacity ≡ ca
   abbrev pub ReleaseGoes : List (Event T) → After Releasing Released → Type 0
   ReleaseGoes es (GoOn d) = (gives_owned {T = T} given).stands capacity d × (es ≡ freed_at p given d.stage)
   ReleaseGoes es (Done e) = ReleaseWrote p given e es
-
-  abbrev freed_it : List (Event T)
-  freed_it = FreedOf p given.index given.owner ∷ []
-
-  raised : (mode : ReleaseMode) → given.mode ≡ mode → (r : After Raise ReleaseState) → ReleaseGoes freed_it (release_raised c mode r)
-  raised x0 x1 x2 = grind arith
 
   pub gives_so : (stage : ReleaseStage) (k : ℕ) → ReleaseIn capacity given.mode stage
       → ReleaseGoes (freed_at p given stage ++ release_effects p given stage k) (release_takes c stage given k)

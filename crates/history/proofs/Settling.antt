@@ -14,7 +14,7 @@ use Rattle.threaded.specs.Driver.{Told}
 use Rattle.history.specs.declared.view.View.{View}
 use Rattle.history.specs.Known.{events_by}
 use Rattle.history.specs.History.{IsRun, IsMachine, Fits, IsLate, call_in, refusal_as}
-use Rattle.history.specs.Settled.{IsResting, Settles, SettledFrom, Waits, AtWaiting, AtRested, EndsSettled, EndsRested}
+use Rattle.history.specs.Settled.{IsResting, Settles, SettledFrom, AtWaiting, AtRested, EndsSettled, EndsRested}
 use Rattle.history.proofs.Known.{by_more, within}
 use Rattle.history.proofs.AllSeen.{known_whole}
 use Rattle.history.proofs.Reached.{MayDecide, decide_as}
@@ -191,9 +191,6 @@ module _ {T : Type 0} (code : Coding T) (kind : Kind) (decides : MayDecide kind)
     onward : (base from : View T) → SettledFrom code kind base from → (a : After C E) (m : M) (w : View T)
         → NextKnown (λ (z : View T). z.capacity) Stage Over from a m w → NextKnown (λ (z : View T). z.capacity) Rested RestedOver base a m w
     onward x0 x1 x2 x3 x4 x5 x6 = grind arith
-
-    never : {A : Type 0} (base other v : View T) (c : C) (m : M) → Stage base v c m → Waits code kind Begins other v c m → A
-    never x0 x1 x2 x3 x4 x5 x6 = grind arith
 
     begun_keeps : (base₀ v : View T) (c : C) (m : M) (key words slots id : ℕ) → Stage base₀ v c m → (w : Want (Unit {0}))
         → Owes (IsMachine code kind key) words slots id (ToldStage c m) w (v, []) → Owes (IsMachine code kind key) words slots id (ToldRested c m) w (v, [])

@@ -17,7 +17,6 @@ use Rattle.model.specs.Families.Atomic.Reading.{holder_after, holder_of}
 use Rattle.model.specs.Families.Atomic.Roles.{GrantsRight, KeepsHolder}
 use Rattle.model.proofs.Frame as frame
 use Rattle.laws_value.proofs.Invariant.{Value, family}
-use Rattle.laws_value.proofs.Knows.{At}
 use Rattle.laws_value.proofs.Sound.{kept_is, kept_on, sound_on}
 use Rattle.history.specs.declared.view.View.{View}
 use Rattle.history.specs.History.{IsRun, IsOfParties, call_in}
@@ -44,11 +43,6 @@ module _ {T : Type 0} where
 
   effects_own : (code : Coding T) (p : ℕ) (flight : Flight T) (n : ℕ) → AreOf p (value_effects code p flight n)
   effects_own x0 x1 x2 x3 = grind arith
-
-  -- the name is that of the call that stands so
-  named : (code : Coding T) (s : Value) (p : ℕ) (start : AtomicStart T) (flight : AtomicFlight T)
-      → At code s.holder s.core p start flight → start ≡ start_of flight
-  named x0 x1 x2 x3 x4 x5 = grind arith
 
   -- the step of a call that stands so, whatever its name
   record Facts (z : Coding T) (words : List ℕ) (waits : Option (ℕ × ℕ)) (p n : ℕ) (start : Start T) (flight : Flight T) (kept : Registry T) : Type 0 where

@@ -4,7 +4,7 @@ use Rattle.laws_container.proofs.Names.{false, Option, Some, None, is_some, List
 use Rattle.laws_container.proofs.Names.{nat_tests, LookStage, ContainerState, Truth, Start, Container, Loan, Flight}
 use Rattle.laws_container.proofs.Names.{Registry, ContainerStart, GetState, UpdateState, ContainerFlight, LookOf}
 use Rattle.laws_container.proofs.Names.{Doing, Going, Over, Party, Turn, Begin, Coding, first_of, want_of}
-use Rattle.laws_container.proofs.Names.{is_question, beside_of, step_of, kept_after_begin, kept_after_death}
+use Rattle.laws_container.proofs.Names.{is_question, beside_of, step_of, kept_after_begin}
 use Rattle.laws_container.proofs.Names.{goes_after, states_after, writes_state, is_look_of, MovesInLooks}
 use Rattle.laws_container.proofs.Names.{BeginsWithState, KeepsStates, steps_of, state_in, is_looking, EndsLook, keeps}
 use Rattle.laws_container.proofs.Names.{state_of, with_state, fresh, loan_keeps, party_of, put}
@@ -78,9 +78,6 @@ module _ {T : Type 0} where
   begun_stays code capacity p q (Container start) kept w none = held_stays code capacity p q start kept w none
   begun_stays code capacity p q (Loan start) kept w none = loan_stays q start kept
   begun_stays code capacity p q start kept w none = refl
-
-  died_stays : (kept : Registry T) (owner q : ℕ) → state_in (kept_after_death kept owner) q ≡ state_in kept q
-  died_stays kept owner q = grind arith
 
   update_keeps : (code : Coding T) (capacity p : ℕ) (kept : Registry T) (state : ContainerState T)
       → state_in kept p ≡ Some state
@@ -164,9 +161,6 @@ module _ {T : Type 0} (shown : Shown T) (terms : Terms) (code : Coding T) (t : T
 -- ---- an update that answers false
 
 module _ {T : Type 0} where
-  abbrev at : ℕ → LookStage → Look T
-  at c stage = record { capacity = c; stage = stage; of = record {} }
-
   -- it has loaded the number of changes, and nothing else
   first_step : (code : Coding T) (c : ℕ) (which : LookOf) (stage : LookStage) (o : Option (ContainerState T)) (n : ℕ)
       → UpdateState ≡ looks_as {T = T} which

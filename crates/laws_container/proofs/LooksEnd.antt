@@ -165,11 +165,6 @@ module _ {T : Type 0} (scene : Scene T) (inv : Inv scene) (which : LookOf) (stag
     module _ (answer : Answer T) (same : IsSame did st)
         (was : IsWellFormedSoFar scene.terms (put p y latest) (events ++ (did ++ Finished p (Container start) answer ∷ []))
         → WellFormed m) where
-      abbrev Right : List (Event T) → Type 0
-      Right es =
-          (IsWellFormedSoFar scene.terms (put p y latest) (events ++ es) → WellFormed m)
-          → IsWellFormedSoFar scene.terms (put p y latest) (events ++ es) → IsCurrent p c st (events ++ es)
-
       module _ (holds : WellFormed m) where
         abbrev es : List (Event T)
         es = Finished p (Container start) answer ∷ []

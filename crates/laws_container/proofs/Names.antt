@@ -1,9 +1,8 @@
 -- The names of the standard library and of the crates below that proofs here use.
 pub use Rattle.laws_robust.proofs.Alive.{AllLive, StepsLeave, all_live_on, end_leaves}
 pub use Rattle.laws_robust.proofs.Core.{cell, counter_of}
-pub use Rattle.laws_robust.proofs.Counting.{chosen_with, count_later, count_next, count_none, count_with}
-pub use Rattle.laws_robust.proofs.Counting.{count_within, still_once, still_through, times_below, with_here}
-pub use Rattle.laws_robust.proofs.Counting.{with_there}
+pub use Rattle.laws_robust.proofs.Counting.{chosen_with, count_later, count_next, count_none, count_with, count_within}
+pub use Rattle.laws_robust.proofs.Counting.{still_once, still_through, times_below, with_here, with_there}
 pub use Rattle.laws_robust.proofs.Effects.{Quiet, Stays, at_other, at_same, both_ways, filled_by, is_shut, not_shut}
 pub use Rattle.laws_robust.proofs.Effects.{one_owner, quiet_end, quiet_none, quietly, some_none, stays_raised}
 pub use Rattle.laws_robust.proofs.Effects.{stays_same, unlocked}
@@ -37,23 +36,23 @@ pub use Rattle.model.specs.Coding.{Coding, IsCoding}
 pub use Rattle.model.specs.Families.{ask_of, beside_of, first_of, goes_of, going_rows, is_question, kept_after_begin}
 pub use Rattle.model.specs.Families.{kept_after_death, step_of, want_of}
 pub use Rattle.model.specs.Families.Container.Bounds.{most_steps}
-pub use Rattle.model.specs.Families.Container.Calls.{acts_for_dead, added, after, after as goes_after, first}
-pub use Rattle.model.specs.Families.Container.Calls.{goes_back, look_came, look_goes, look_shows, looked, place_of}
-pub use Rattle.model.specs.Families.Container.Calls.{removed, replaced, settled_if, states_after, want, writes_state}
+pub use Rattle.model.specs.Families.Container.Calls.{acts_for_dead, added, after, after as goes_after, first, goes_back}
+pub use Rattle.model.specs.Families.Container.Calls.{look_came, look_goes, look_shows, looked, place_of, removed}
+pub use Rattle.model.specs.Families.Container.Calls.{replaced, settled_if, states_after, want, writes_state}
 pub use Rattle.model.specs.Families.Container.Keeping.{BeginsWithState, KeepsStates, MovesInLooks, ShowsOwnCopies}
 pub use Rattle.model.specs.Families.Container.Keeping.{is_look_of, steps_of}
 pub use Rattle.model.specs.Families.Container.Looks.{AnswersOfState, EndsLook, IsCurrent, IsLook, IsOwnOrDeath}
-pub use Rattle.model.specs.Families.Container.Looks.{MomentsOfState, ShowsCopies, ShowsMoments, StoodThrough}
-pub use Rattle.model.specs.Families.Container.Looks.{WasAlone, WasAnnounced, WasCopied, is_looking, shows, state_in}
+pub use Rattle.model.specs.Families.Container.Looks.{MomentsOfState, ShowsCopies, ShowsMoments, StoodThrough, WasAlone}
+pub use Rattle.model.specs.Families.Container.Looks.{WasAnnounced, WasCopied, is_looking, shows, state_in}
 pub use Rattle.model.specs.Families.Container.Opening.{keeps, names_owner, opening_words, states_at_begin}
-pub use Rattle.model.specs.Families.Container.Promises.{AnswersRight, AsksRight, ContainsRight, FreedRight}
-pub use Rattle.model.specs.Families.Container.Promises.{HasElements, IsContained, IsContainer, IsFoundWhole, IsLength}
+pub use Rattle.model.specs.Families.Container.Promises.{AnswersRight, AsksRight, ContainsRight, FreedRight, HasElements}
+pub use Rattle.model.specs.Families.Container.Promises.{IsContained, IsContainer, IsFoundWhole, IsLength}
 pub use Rattle.model.specs.Families.Container.Promises.{IsWellFormedRun, KeepsDead, LeavesState, PlacesRight}
-pub use Rattle.model.specs.Families.Container.Promises.{RecoversRight, ReplacesRight, StandsWellFormed, WasShown}
-pub use Rattle.model.specs.Families.Container.Promises.{most, promise}
-pub use Rattle.model.specs.Families.Container.Questions.{AllRight, AsksCopies, AsksOnce, HasWritten, IsAnswered}
-pub use Rattle.model.specs.Families.Container.Questions.{IsTold, NoTells, QuestionsRight, WritesRight, YesTells}
-pub use Rattle.model.specs.Families.Container.Questions.{question_at, question_in}
+pub use Rattle.model.specs.Families.Container.Promises.{RecoversRight, ReplacesRight, StandsWellFormed, WasShown, most}
+pub use Rattle.model.specs.Families.Container.Promises.{promise}
+pub use Rattle.model.specs.Families.Container.Questions.{AllRight, AsksCopies, AsksOnce, HasWritten, IsAnswered, IsTold}
+pub use Rattle.model.specs.Families.Container.Questions.{NoTells, QuestionsRight, WritesRight, YesTells, question_at}
+pub use Rattle.model.specs.Families.Container.Questions.{question_in}
 pub use Rattle.model.specs.Families.Container.Reading.{Act, Copies, Hides, Hides as HidesOne, MayReplace, NoneTakes}
 pub use Rattle.model.specs.Families.Container.Reading.{Places, Sees, TakesNot, act, acts, acts_of, announced_after}
 pub use Rattle.model.specs.Families.Container.Reading.{announced_of, contents_after, contents_of, index_seen, places}
@@ -69,12 +68,11 @@ pub use Rattle.model.specs.Families.Indices.Reading.{is_locked, locked_after}
 pub use Rattle.model.specs.Families.Indices.Robust.Dead.{dead_with, has_died}
 pub use Rattle.model.specs.Families.Indices.Robust.Promises.{FilledSinceFreed, HeldThroughout, HoldsRight, IsCount}
 pub use Rattle.model.specs.Families.Indices.Robust.Promises.{IsFilled, IsFilledWith, IsIn, IsUnlocked, LivesToRelease}
-pub use Rattle.model.specs.Families.Indices.Robust.Promises.{MayGiveBack, SetDoes, StillToFree, cell_of, count_below}
+pub use Rattle.model.specs.Families.Indices.Robust.Promises.{SetDoes, StillToFree, cell_of, count_below}
 pub use Rattle.model.specs.Families.Indices.Robust.Reading.{Asks, Fills, Frees, Grants, IsLatest, IsOneOf, Locks}
-pub use Rattle.model.specs.Families.Indices.Robust.Reading.{SetAct, Yes, asked_in, dead_after, filled_after}
-pub use Rattle.model.specs.Families.Indices.Robust.Reading.{filled_of, holder_after, holder_of, index_asked, is_dead}
-pub use Rattle.model.specs.Families.Indices.Robust.Reading.{set_act, set_acts, set_acts_of, settled_after, settled_of}
-pub use Rattle.model.specs.Families.Indices.Robust.Reading.{wrote_in}
+pub use Rattle.model.specs.Families.Indices.Robust.Reading.{SetAct, Yes, asked_in, dead_after, filled_after, filled_of}
+pub use Rattle.model.specs.Families.Indices.Robust.Reading.{holder_after, holder_of, index_asked, is_dead, set_act}
+pub use Rattle.model.specs.Families.Indices.Robust.Reading.{set_acts, set_acts_of, settled_after, settled_of, wrote_in}
 pub use Rattle.model.specs.Families.Indices.Robust.Spans.{HasJustFreed}
 pub use Rattle.model.specs.Families.Loan.Opening.{is_loan, keeps as loan_keeps}
 pub use Rattle.model.specs.Families.Queues.Calls.{as_it_is, kept_at, read_in}
@@ -113,15 +111,15 @@ pub use Rattle.model.specs.declared.families.container.calls.LookOf.{LookOf}
 pub use Rattle.model.specs.declared.party.Doing.{Doing}
 pub use Rattle.model.specs.declared.party.Doing.TheVariants.{Going, Over}
 pub use Rattle.model.specs.declared.party.Party.{Party}
-pub use Rattle.model.specs.declared.turn.Refusal.TheVariants.{Busy, Idle, OwnerIsDead, Undecided, WrongCall}
+pub use Rattle.model.specs.declared.turn.Refusal.TheVariants.{Busy, Idle, Undecided, WrongCall}
 pub use Rattle.model.specs.declared.turn.Turn.{Turn}
 pub use Rattle.model.specs.declared.turn.Turn.TheVariants.{Begin, Decide, Die, Next}
-pub use Rattle.std.proofs.Common.{Bool, IfSome, List, None, Option, Some, [], ap, append-nil, append_assoc, arith}
-pub use Rattle.std.proofs.Common.{cond, eq-eqb, ext_get_or, false, fold, get_or, get_or-set_other, get_or-set_same}
+pub use Rattle.std.proofs.Common.{Bool, IfSome, List, None, Option, Some, [], ap, append-nil, append_assoc, arith, cond}
+pub use Rattle.std.proofs.Common.{eq-eqb, ext_get_or, false, fold, get_or, get_or-set_other, get_or-set_same}
 pub use Rattle.std.proofs.Common.{get_or-take, if◌then◌else◌, inl, inr, is_none, is_some, length, length-append}
 pub use Rattle.std.proofs.Common.{length-take-le, nat_lt, ne_eqb, not, option_map, refl, replicate, set, slice_get}
-pub use Rattle.std.proofs.Common.{slice_index, slice_index_or, subst, suc, sym, take, true, zero, ℕ, ⊎_elim, ◌%◌}
-pub use Rattle.std.proofs.Common.{◌&&◌, ◌*◌, ◌++◌, ◌+◌, ◌-◌, ◌<◌, ◌==◌, ◌^◌, ◌∙◌, ◌∷◌, ◌≡◌, ◌≢◌, ◌≤◌, ◌⊎◌}
+pub use Rattle.std.proofs.Common.{slice_index, slice_index_or, subst, suc, sym, take, true, zero, ℕ, ⊎_elim, ◌%◌, ◌&&◌}
+pub use Rattle.std.proofs.Common.{◌*◌, ◌++◌, ◌+◌, ◌-◌, ◌<◌, ◌==◌, ◌^◌, ◌∙◌, ◌∷◌, ◌≡◌, ◌≢◌, ◌≤◌, ◌⊎◌}
 pub use Rattle.std.proofs.lemmas.Bool.{cases_eq, cases_lt}
 pub use Rattle.std.proofs.lemmas.Bool.Decides.{nat_tests}
 pub use Rattle.std.proofs.lemmas.List.{append_cancel_left, get_or-append-add, get_or-replicate, length-replicate}

@@ -1,7 +1,7 @@
 -- What is proved of every run of a loan channel: its turns write down in order, act where the promise says, and go on by the table.
 use Rattle.laws_loan.proofs.Names.{◌≡◌, ◌≢◌, ℕ, ◌-◌, ◌^◌, ◌<◌, Option, Some, List, ◌++◌, refl, sym, ap, subst, After}
 use Rattle.laws_loan.proofs.Names.{OneWord, SendStage, Answer, Event, Start, Flight, Registry}
-use Rattle.laws_loan.proofs.Names.{LoanStart, LoanFlight, Receive, Going}
+use Rattle.laws_loan.proofs.Names.{LoanStart, LoanFlight, Going}
 use Rattle.laws_loan.proofs.Names.{Party, Next, Coding, ask_of, beside_of, step_of, goes_of, want, after, promise}
 use Rattle.laws_loan.proofs.Names.{effect_of, IsTurnBy, IsKeptBy, ask_in, answer_in, old_of, ending_of, after_turn}
 use Rattle.laws_loan.proofs.Names.{Trace, StandsThere, stands_there, InOrder, in_order_from}
@@ -28,11 +28,6 @@ use Rattle.laws_loan.proofs.Receives.{receive_at}
 use Rattle.laws_loan.proofs.Sender.{any_call}
 use Rattle.laws_loan.proofs.SendStep.{send_at}
 use Rattle.laws_loan.proofs.StepLaw.{channel}
-
--- a receive on a queue of any capacity, which begins at any word
-abbrev receive_on : ℕ → ℕ → ℕ → PopStage → OneWord → LoanFlight
-receive_on p base queue stage room =
-    Receive p (record { call = record { base = base; call = record { capacity = queue; stage = stage } }; given = tt; room = room })
 
 module _ {T : Type 0} (code : Coding T) (slots queue : ℕ) (t : Trace T)
     (s : frame.Sound (channel code slots queue) t) (small : t.world.turns < 2 ^ 64 - 2) (p : ℕ) (x : Party T)

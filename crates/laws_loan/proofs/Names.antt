@@ -5,15 +5,15 @@ pub use Rattle.laws_indices.proofs.Knows.{AllClaimed, ReleaseAt, acquire_counts,
 pub use Rattle.laws_indices.proofs.Knows.{release_number, release_wrote}
 pub use Rattle.laws_queues.proofs.Overflow.Core.{oldest, pop_front, pop_room, push_over, push_room, push_waits}
 pub use Rattle.laws_queues.proofs.Overflow.Keeping.{fill_keeps_pop, publish_keeps_pop, take_keeps_pop}
-pub use Rattle.laws_queues.proofs.Overflow.Knows.{KnowsBacks, KnowsOverflowPop, KnowsOverflowPush}
-pub use Rattle.laws_queues.proofs.Overflow.Knows.{overflow_pop_number, overflow_push_number}
-pub use Rattle.laws_queues.proofs.Queues.Core.{Core, GoesUp, Holds, at_below, filled, fills, front, one_filled}
-pub use Rattle.laws_queues.proofs.Queues.Core.{set_at, taken}
+pub use Rattle.laws_queues.proofs.Overflow.Knows.{KnowsBacks, KnowsOverflowPop, KnowsOverflowPush, overflow_pop_number}
+pub use Rattle.laws_queues.proofs.Overflow.Knows.{overflow_push_number}
+pub use Rattle.laws_queues.proofs.Queues.Core.{Core, GoesUp, Holds, at_below, filled, fills, front, one_filled, set_at}
+pub use Rattle.laws_queues.proofs.Queues.Core.{taken}
 pub use Rattle.laws_queues.proofs.Queues.Knows.{in_one, layout}
 pub use Rattle.laws_queues.proofs.Ring.Knows.{KnowsPop, KnowsPush, pop_number, push_number}
 pub use Rattle.model.proofs.Parties.{party_put_other, party_put_same}
-pub use Rattle.model.proofs.Readings.{AllFollow, AreOwn, AreRight, Each-append, Each-nil, span_of-death}
-pub use Rattle.model.proofs.Readings.{span_of-other, span_of-own}
+pub use Rattle.model.proofs.Readings.{AllFollow, AreOwn, AreRight, Each-append, Each-nil, span_of-death, span_of-other}
+pub use Rattle.model.proofs.Readings.{span_of-own}
 pub use Rattle.model.proofs.Rows.{MayBegin, MayDie, decision_passes, may_begin, may_die, next_passes, passes}
 pub use Rattle.model.proofs.Scenes.{InOrder, StandsThere, asked, comes_from, in_order_from, stands_there}
 pub use Rattle.model.specs.Coding.{Coding, one_word}
@@ -24,21 +24,20 @@ pub use Rattle.model.specs.Families.Loan.Bounds.{most_steps}
 pub use Rattle.model.specs.Families.Loan.Calls.{after, first, give_back_of, give_up_of, loan_of, receive_of}
 pub use Rattle.model.specs.Families.Loan.Calls.{reclaim_goes, reclaim_of, send_of, take_back_of, want}
 pub use Rattle.model.specs.Families.Loan.Opening.{asks_for, call_rows, is_past, kept_rows, lacks_index, lacks_role}
-pub use Rattle.model.specs.Families.Loan.Opening.{opening_book, opening_kept, opening_words, reclaims_early}
-pub use Rattle.model.specs.Families.Loan.Opening.{taken_from}
-pub use Rattle.model.specs.Families.Loan.Promises.{AddsOne, AnswersRight, AreThose, BeginsRight, IsChannel}
-pub use Rattle.model.specs.Families.Loan.Promises.{IsChannelBy, IsIn, IsReclaiming, KeepsBook, LivesRight, MayFree}
-pub use Rattle.model.specs.Families.Loan.Promises.{MovesRight, given_back_in, holder_in, promise, read_word, sent_in}
+pub use Rattle.model.specs.Families.Loan.Opening.{opening_book, opening_kept, opening_words, reclaims_early, taken_from}
+pub use Rattle.model.specs.Families.Loan.Promises.{AddsOne, AnswersRight, AreThose, BeginsRight, IsChannel, IsChannelBy}
+pub use Rattle.model.specs.Families.Loan.Promises.{IsIn, IsReclaiming, KeepsBook, LivesRight, MayFree, MovesRight}
+pub use Rattle.model.specs.Families.Loan.Promises.{given_back_in, holder_in, promise, read_word, sent_in}
 pub use Rattle.model.specs.Families.Loan.Reading.{Free, Move, Passing, Returning, Spot, Waiting, With, as_queue}
 pub use Rattle.model.specs.Families.Loan.Reading.{died_after, freed, given_back, gives_back, has_died_by, move_of}
 pub use Rattle.model.specs.Families.Loan.Reading.{moved, place_after, place_of, queue_acts, queue_moments}
 pub use Rattle.model.specs.Families.Loan.Reading.{receiver_after, receiver_of, reclaims_after, spot_after, spot_of}
 pub use Rattle.model.specs.Families.Loan.Reading.{taken_back, takes_back}
 pub use Rattle.model.specs.Families.Loan.Spans.{Wrote, may_stand}
-pub use Rattle.model.specs.Families.Loan.Steps.{beside, book_after, effect_of, effects_of, ended_book}
-pub use Rattle.model.specs.Families.Loan.Steps.{give_back_effect, given_back_at, pending, pending_send, push_effect}
-pub use Rattle.model.specs.Families.Loan.Steps.{read_in, receive_effect, reclaim_effect, release_effect, room_made}
-pub use Rattle.model.specs.Families.Loan.Steps.{sent_at, take_back_effect}
+pub use Rattle.model.specs.Families.Loan.Steps.{beside, book_after, effect_of, effects_of, ended_book, give_back_effect}
+pub use Rattle.model.specs.Families.Loan.Steps.{given_back_at, pending, pending_send, push_effect, read_in}
+pub use Rattle.model.specs.Families.Loan.Steps.{receive_effect, reclaim_effect, release_effect, room_made, sent_at}
+pub use Rattle.model.specs.Families.Loan.Steps.{take_back_effect}
 pub use Rattle.model.specs.Families.Queues.Calls.{as_it_is, fresh, popped, words_of_index}
 pub use Rattle.model.specs.Families.Queues.Objects.{answer_of_item, cut_off, overflowing_list}
 pub use Rattle.model.specs.Families.Queues.Opening.{cells_of, holds, words_of_cell}
@@ -54,9 +53,9 @@ pub use Rattle.model.specs.Rows.{first_row}
 pub use Rattle.model.specs.Shape.{IsShut}
 pub use Rattle.model.specs.Step.{answer_in, as_call}
 pub use Rattle.model.specs.Turns.{IsReached, after_answer, after_begin, after_decision, after_next, after_turn}
-pub use Rattle.model.specs.Turns.{ask_of_doing, change_of, ending_of, events_of, events_of_answer, events_of_decision}
-pub use Rattle.model.specs.Turns.{events_of_next, events_of_step, number_of, old_of, one_if, party_after}
-pub use Rattle.model.specs.Turns.{party_at_begin, step_count, words_after}
+pub use Rattle.model.specs.Turns.{change_of, ending_of, events_of, events_of_answer, events_of_decision, events_of_next}
+pub use Rattle.model.specs.Turns.{events_of_step, number_of, old_of, one_if, party_after, party_at_begin, step_count}
+pub use Rattle.model.specs.Turns.{words_after}
 pub use Rattle.model.specs.World.{Trace, capacity_error, flight_in, opened, queue_error}
 pub use Rattle.model.specs.declared.event.Answer.{Answer}
 pub use Rattle.model.specs.declared.event.Answer.TheVariants.{Number, PoppedIndex, PoppedNone}
@@ -75,27 +74,25 @@ pub use Rattle.model.specs.declared.families.loan.calls.LoanFlight.TheVariants.{
 pub use Rattle.model.specs.declared.families.loan.calls.LoanFlight.TheVariants.{Send, TakeBack}
 pub use Rattle.model.specs.declared.families.loan.effects.Effect.{Effect}
 pub use Rattle.model.specs.declared.party.Doing.{Doing}
-pub use Rattle.model.specs.declared.party.Doing.TheVariants.{Going, Over}
+pub use Rattle.model.specs.declared.party.Doing.TheVariants.{Going}
 pub use Rattle.model.specs.declared.party.Party.{Party}
 pub use Rattle.model.specs.declared.turn.Turn.{Turn}
 pub use Rattle.model.specs.declared.turn.Turn.TheVariants.{Begin, Decide, Die, Next}
-pub use Rattle.std.proofs.Common.{AllPairs, Bool, Contains, List, None, Option, Some, [], ap, append-nil}
-pub use Rattle.std.proofs.Common.{append_assoc, bit_or, drop, drop_at, eq-eqb, false, fold, get_or, if◌then◌else◌}
-pub use Rattle.std.proofs.Common.{inl, inr, is_some, length, length-append, length-set, map, nat_le, nat_lt, ne_eqb}
-pub use Rattle.std.proofs.Common.{not, option_map, refl, replicate, set, slice_get, subst, suc, sym, take, true}
-pub use Rattle.std.proofs.Common.{true≢false, zero, ℕ, ⊎_elim, ◌%◌, ◌&&◌, ◌*◌, ◌++◌, ◌+◌, ◌-◌, ◌<◌, ◌==◌, ◌^◌, ◌||◌}
-pub use Rattle.std.proofs.Common.{◌∙◌, ◌∷◌, ◌≡◌, ◌≢◌, ◌≤◌, ◌⊎◌}
+pub use Rattle.std.proofs.Common.{AllPairs, Bool, Contains, List, None, Option, Some, [], ap, append-nil, append_assoc}
+pub use Rattle.std.proofs.Common.{bit_or, drop, drop_at, eq-eqb, false, fold, get_or, if◌then◌else◌, inl, inr, is_some}
+pub use Rattle.std.proofs.Common.{length, length-append, length-set, map, nat_le, nat_lt, ne_eqb, not, option_map, refl}
+pub use Rattle.std.proofs.Common.{replicate, set, slice_get, subst, suc, sym, take, true, true≢false, zero, ℕ, ⊎_elim}
+pub use Rattle.std.proofs.Common.{◌%◌, ◌&&◌, ◌*◌, ◌++◌, ◌+◌, ◌-◌, ◌<◌, ◌==◌, ◌^◌, ◌||◌, ◌∙◌, ◌∷◌, ◌≡◌, ◌≢◌, ◌≤◌, ◌⊎◌}
 pub use Rattle.std.proofs.lemmas.Bool.{cases_eq, cases_lt}
 pub use Rattle.std.proofs.lemmas.Bool.Decides.{nat_tests}
-pub use Rattle.std.proofs.lemmas.List.{get_or-append-add, get_or-map, get_or_append_left, length-map}
-pub use Rattle.std.proofs.lemmas.List.{length-replicate, map-append, nil_from_length, set-append_left}
-pub use Rattle.std.proofs.lemmas.List.{set-append_right, set-get_or, take-map}
+pub use Rattle.std.proofs.lemmas.List.{get_or-append-add, get_or-map, get_or_append_left, length-map, length-replicate}
+pub use Rattle.std.proofs.lemmas.List.{map-append, nil_from_length, set-append_left, set-append_right, set-get_or}
+pub use Rattle.std.proofs.lemmas.List.{take-map}
 pub use Rattle.std.proofs.lemmas.List.Concat.{flat_map-append}
 pub use Rattle.std.proofs.lemmas.List.Sums.{fold-append}
 pub use Rattle.std.specs.List.{AllByRecursion}
 pub use Rattle.std.specs.Prelude.{Err, Ok}
 pub use Rattle.steps.specs.Indices.Head.{borrowed, flag, flag_word, has_flag, locked, next_word, proposed}
-pub use Rattle.steps.specs.Indices.Head.{says_locked}
 pub use Rattle.steps.specs.Indices.Unique.{Acquired, acquire_asks, acquire_goes_back, acquire_sees, acquire_takes}
 pub use Rattle.steps.specs.Indices.Unique.{at_acquire, first_claim, head_given_back, head_taken}
 pub use Rattle.steps.specs.Loan.Back.{back_asks, back_takes, index_in, inner_release}
@@ -124,7 +121,7 @@ pub use Rattle.steps.specs.declared.indices.unique.ReleaseStage.{ReleaseStage}
 pub use Rattle.steps.specs.declared.loan.parts.Part.{Part}
 pub use Rattle.steps.specs.declared.loan.places.Place.{Place}
 pub use Rattle.steps.specs.declared.loan.reclaim.ReclaimStage.{ReclaimStage}
-pub use Rattle.steps.specs.declared.loan.reclaim.ReclaimStage.TheVariants.{Drains, Empties, Releases}
+pub use Rattle.steps.specs.declared.loan.reclaim.ReclaimStage.TheVariants.{Releases}
 pub use Rattle.steps.specs.declared.loan.send.SendStage.{SendStage}
 pub use Rattle.steps.specs.declared.loan.take_back.TakeBackStage.{TakeBackStage}
 pub use Rattle.steps.specs.declared.queues.overflow.Pop.{Pop}

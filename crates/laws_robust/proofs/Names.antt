@@ -4,29 +4,25 @@ pub use Rattle.model.proofs.Readings.{AllFollow, AreOwn, AreRight, Each-append, 
 pub use Rattle.model.proofs.Readings.{no_more, span_of-death, span_of-other, span_of-own, split_last}
 pub use Rattle.model.proofs.Rows.{MayBegin, MayDie, must_be_due, passes, row_passed}
 pub use Rattle.model.proofs.Scenes.{ComesFrom, StandsThere, asked, comes_from, stands_there}
-pub use Rattle.model.specs.Coding.{Coding, IsCoding}
+pub use Rattle.model.specs.Coding.{Coding}
 pub use Rattle.model.specs.Families.{after_of, ask_of, beside_of, first_of, goes_of, going_rows, is_question}
 pub use Rattle.model.specs.Families.{kept_after_begin, kept_after_death, step_of, want_of}
 pub use Rattle.model.specs.Families.Container.Reading.{NoneTakes}
 pub use Rattle.model.specs.Families.Indices.Reading.{is_locked, locked_after}
 pub use Rattle.model.specs.Families.Indices.Robust.Bounds.{most_steps}
-pub use Rattle.model.specs.Families.Indices.Robust.Calls.{acquire_answer, after, first, goes_back, release_answer}
-pub use Rattle.model.specs.Families.Indices.Robust.Calls.{want}
+pub use Rattle.model.specs.Families.Indices.Robust.Calls.{acquire_answer, after, first, goes_back, release_answer, want}
 pub use Rattle.model.specs.Families.Indices.Robust.Dead.{acts_for_dead, dead_with, frees_living, has_died}
-pub use Rattle.model.specs.Families.Indices.Robust.Opening.{call_rows, is_owner, kept_rows, names_owner}
-pub use Rattle.model.specs.Families.Indices.Robust.Opening.{opening_words}
+pub use Rattle.model.specs.Families.Indices.Robust.Opening.{call_rows, is_owner, kept_rows, names_owner, opening_words}
 pub use Rattle.model.specs.Families.Indices.Robust.Promises.{AnswersRight, AsksRight, FilledSinceFreed, FindsAll}
-pub use Rattle.model.specs.Families.Indices.Robust.Promises.{FindsUpTo, FreesRight, HeldThroughout, HoldsRight}
-pub use Rattle.model.specs.Families.Indices.Robust.Promises.{IsCount, IsFilled, IsFilledWith, IsIn, IsRobustSet}
-pub use Rattle.model.specs.Families.Indices.Robust.Promises.{IsStopped, IsTold, IsUnlocked, IsWellFormed, KeepsDead}
-pub use Rattle.model.specs.Families.Indices.Robust.Promises.{LivesToRelease, MayGiveBack, SetDoes, StillToFree}
-pub use Rattle.model.specs.Families.Indices.Robust.Promises.{TellsOnce, ToldRight, YesTells, cell_of, count_below}
-pub use Rattle.model.specs.Families.Indices.Robust.Promises.{owned_by, owned_of, promise}
+pub use Rattle.model.specs.Families.Indices.Robust.Promises.{FindsUpTo, FreesRight, HeldThroughout, HoldsRight, IsCount}
+pub use Rattle.model.specs.Families.Indices.Robust.Promises.{IsFilled, IsFilledWith, IsIn, IsRobustSet, IsStopped}
+pub use Rattle.model.specs.Families.Indices.Robust.Promises.{IsTold, IsUnlocked, IsWellFormed, KeepsDead}
+pub use Rattle.model.specs.Families.Indices.Robust.Promises.{LivesToRelease, SetDoes, StillToFree, TellsOnce, ToldRight}
+pub use Rattle.model.specs.Families.Indices.Robust.Promises.{YesTells, cell_of, count_below, owned_by, promise}
 pub use Rattle.model.specs.Families.Indices.Robust.Reading.{Asks, Fills, Frees, Grants, IsLatest, IsOneOf, Locks}
-pub use Rattle.model.specs.Families.Indices.Robust.Reading.{SetAct, Yes, asked_in, dead_after, filled_after}
-pub use Rattle.model.specs.Families.Indices.Robust.Reading.{filled_of, holder_after, holder_of, index_asked, is_dead}
-pub use Rattle.model.specs.Families.Indices.Robust.Reading.{set_act, set_acts, set_acts_of, settled_after, settled_of}
-pub use Rattle.model.specs.Families.Indices.Robust.Reading.{wrote_in}
+pub use Rattle.model.specs.Families.Indices.Robust.Reading.{SetAct, Yes, asked_in, dead_after, filled_after, filled_of}
+pub use Rattle.model.specs.Families.Indices.Robust.Reading.{holder_after, holder_of, index_asked, is_dead, set_act}
+pub use Rattle.model.specs.Families.Indices.Robust.Reading.{set_acts, set_acts_of, settled_after, settled_of, wrote_in}
 pub use Rattle.model.specs.Families.Indices.Robust.Spans.{FilledLate, HasDone, HasJustFreed}
 pub use Rattle.model.specs.Families.Indices.Robust.Steps.{acquire_effects, effects, freed, granted, locked_by}
 pub use Rattle.model.specs.Families.Indices.Robust.Steps.{release_effects}
@@ -41,11 +37,10 @@ pub use Rattle.model.specs.Reading.{Each, Open, Span, own_after, span_of}
 pub use Rattle.model.specs.Refusals.{call_refusal, is_due, refusal_of}
 pub use Rattle.model.specs.Rows.{first_row}
 pub use Rattle.model.specs.Step.{Step, answer_in, as_call}
-pub use Rattle.model.specs.Turns.{IsReached, after_answer, after_begin, after_decision, after_next}
-pub use Rattle.model.specs.Turns.{after_turn, ask_of_doing, change_of, ending_of, events_of, events_of_answer}
-pub use Rattle.model.specs.Turns.{events_of_decision, events_of_next, events_of_step, number_of, old_of, one_if}
-pub use Rattle.model.specs.Turns.{party_after, party_at_begin, step_count, step_in, unless_refused, words_after}
-pub use Rattle.model.specs.Turns.{world_after}
+pub use Rattle.model.specs.Turns.{IsReached, after_answer, after_begin, after_decision, after_next, after_turn}
+pub use Rattle.model.specs.Turns.{ask_of_doing, change_of, ending_of, events_of, events_of_answer, events_of_decision}
+pub use Rattle.model.specs.Turns.{events_of_next, events_of_step, number_of, old_of, one_if, party_after}
+pub use Rattle.model.specs.Turns.{party_at_begin, step_count, step_in, unless_refused, words_after, world_after}
 pub use Rattle.model.specs.World.{Trace, World, capacity_error, flight_in, opening, progress_in}
 pub use Rattle.model.specs.declared.event.Answer.{Answer}
 pub use Rattle.model.specs.declared.event.Answer.TheVariants.{Index, NoIndex, NotOwned, Number, State, Truth}
@@ -80,9 +75,9 @@ pub use Rattle.steps.specs.Indices.Robust.Acquire.{Acquired, acquire_asks, acqui
 pub use Rattle.steps.specs.Indices.Robust.Acquire.{acquire_sees, acquire_takes, acquire_tries, at_acquire}
 pub use Rattle.steps.specs.Indices.Robust.Find.{at_find, find_after, find_comes_to}
 pub use Rattle.steps.specs.Indices.Robust.Parts.{cell_word, count_after, count_comes_to, count_goes_back, count_want}
-pub use Rattle.steps.specs.Indices.Robust.Parts.{empty, first_lock, greatest, lock_after, lock_counted}
-pub use Rattle.steps.specs.Indices.Robust.Parts.{lock_goes_back, lock_want, locked, one_more, raise_after}
-pub use Rattle.steps.specs.Indices.Robust.Parts.{raise_goes_back, raise_sees, raise_want}
+pub use Rattle.steps.specs.Indices.Robust.Parts.{empty, first_lock, greatest, lock_after, lock_counted, lock_goes_back}
+pub use Rattle.steps.specs.Indices.Robust.Parts.{lock_want, locked, one_more, raise_after, raise_goes_back, raise_sees}
+pub use Rattle.steps.specs.Indices.Robust.Parts.{raise_want}
 pub use Rattle.steps.specs.Indices.Robust.Recover.{at_recover, recover_comes_to, recover_locked, recover_raised}
 pub use Rattle.steps.specs.Indices.Robust.Release.{Released, at_release, release_asks, release_goes_back}
 pub use Rattle.steps.specs.Indices.Robust.Release.{release_locked, release_raised, release_takes}

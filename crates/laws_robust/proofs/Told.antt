@@ -10,7 +10,7 @@ use Rattle.laws_robust.proofs.Names.{IsStopped, FindsUpTo, ToldRight, TellsOnce,
 use Rattle.laws_robust.proofs.Names.{doing_of, flight_of, refusal_of, is_due, call_refusal, answer_in, old_of}
 use Rattle.laws_robust.proofs.Names.{number_of, ask_of_doing, events_of_step, events_of_answer, events_of_next}
 use Rattle.laws_robust.proofs.Names.{events_of_decision, events_of, ending_of, after_turn, Trace, flight_in}
-use Rattle.laws_robust.proofs.Names.{row_passed, passes, StandsThere, stands_there}
+use Rattle.laws_robust.proofs.Names.{row_passed, passes, stands_there}
 use Rattle.steps.specs.declared.ask.Want.{Want}
 use Rattle.model.specs.declared.families.Flight as flights
 use Rattle.model.specs.declared.families.Registry as registries
@@ -19,7 +19,7 @@ use Rattle.model.proofs.Frame as frame
 use Rattle.laws_robust.proofs.Invariant.{family}
 use Rattle.laws_robust.proofs.Knows.{Knows}
 use Rattle.laws_robust.specs.Gone.{Death}
-use Rattle.laws_robust.proofs.Sound.{kept_is, scene_of, is_there}
+use Rattle.laws_robust.proofs.Sound.{kept_is, scene_of}
 use Rattle.laws_robust.proofs.Stages.{all, now, any_call}
 use Rattle.laws_robust.proofs.Standing.{recover_at, At}
 use Rattle.laws_robust.proofs.Written.{effects_hold}
@@ -39,9 +39,6 @@ lock_asks_none : (lock : Lock) → is_question (lock_want lock) ≡ true → ⊥
 lock_asks_none x0 x1 = grind (arith, count_asks_none)
 
 module _ {T : Type 0} where
-  robust_is : (a b : RobustStart) → ◌≡◌ {A = Start T} (Robust a) (Robust b) → a ≡ b
-  robust_is a b e = cc
-
   pub joined : (P : Event T → Type 0) (xs ys : List (Event T)) → AllByRecursion P xs → AllByRecursion P ys → AllByRecursion P (xs ++ ys)
   joined P [] ys h r = r
   joined P (x ∷ xs) ys h r = (h.0, joined P xs ys h.1 r)
@@ -71,15 +68,6 @@ module _ {T : Type 0} (code : Coding T) (c : ℕ) (t : Trace T) (s : frame.Sound
     pub knows : Knows c flight (now (scene_of Death code c t s p party since))
     pub wrote : events_of t.world (Decide p said)
         ≡ effects p flight (number_of said) ++ ending_of p (Robust start) (answer_in (any_call (after {T = T} flight (number_of said))))
-
-  module _ (p : ℕ) (said : Bool) (start : RobustStart) (x : Party T) (found : party_of p t.world.latest ≡ Some x) where
-    by_names : (since : ℕ) (a : Start T) (flight : Flight T) → StandsThere (family code c) t s p x since a flight
-        → a ≡ Robust start → is_question (want_of t.world.coding flight) ≡ true
-        → events_of t.world (Decide p said) ≡ writes p (number_of said) own a flight → IsDecided p said start
-    by_names x0 x1 x2 x3 x4 x5 x6 = grind (arith, is_there, robust_is, all, effects, number_of, after)
-
-    by_doing : (doing : Doing T) → x.doing ≡ doing → IsIn p (Robust start) t → is_due t.world.coding (flight_of (Some doing)) ≡ true → IsDecided p said start
-    by_doing x0 x1 x2 x3 = grind (arith, stands_there, family, number_of, same_kept, by_names)
 
   pub decided : (p : ℕ) (said : Bool) (start : RobustStart) → refusal_of t.world (Decide p said) ≡ None → IsIn p (Robust start) t → IsDecided p said start
   decided p said start r under_way = grind arith

@@ -1,7 +1,7 @@
 -- What any call of the robust set leaves, of which a recovery in mode LockIfLastIndex is one.
 use Rattle.std.proofs.Common.{arith}
 use Rattle.laws_turns.proofs.Names.{◌≡◌, ◌≢◌, ℕ, ◌-◌, ◌^◌, ◌<◌, true, Option, Some, None, List, [], ◌∷◌, ◌++◌, refl}
-use Rattle.laws_turns.proofs.Names.{sym, ap, subst, ◌∙◌, append_assoc, append-nil, AllByRecursion, After, GoOn, Done}
+use Rattle.laws_turns.proofs.Names.{sym, ap, subst, ◌∙◌, append_assoc, append-nil, AllByRecursion, After}
 use Rattle.laws_turns.proofs.Names.{ReleaseMode, ReleaseState, raise_want, lock_want}
 use Rattle.laws_turns.proofs.Names.{Running, went_on, Answer, State}
 use Rattle.laws_turns.proofs.Names.{Event, Finished, Start, Robust, Flight, RobustStart, RobustFlight, Party}
@@ -91,11 +91,6 @@ module _ {T : Type 0} (c p : ℕ) (events : List (Event T)) where
         ends : (o : Option (Answer T)) → AreRight LocksRight (events ++ effects p call answer) (ending_of p (Robust start) o)
         ends None = tt
         ends (Some a) = (free a (events ++ effects p call answer), tt)
-
-  none_known : (f : RobustFlight → Type 0) (a : After RobustFlight (Answer T)) (es : List (Event T))
-      → ((call : RobustFlight) → CallKnows c p call es) → FlightKnows c p (left_by (any_call a)) es
-  none_known f (GoOn call) es h = h call
-  none_known f (Done answer) es h = tt
 
   -- a recovery
   module _ (mode : ReleaseMode) (stage : RecoverStage) (answer : ℕ) where

@@ -48,16 +48,14 @@ pub use Rattle.model.specs.Reading.{Each, whose}
 pub use Rattle.model.specs.Refusals.{is_due, refusal_of}
 pub use Rattle.model.specs.Step.{Step, answer_in, as_call}
 pub use Rattle.model.specs.Turns.{IsReached, after_answer, after_begin, after_decision, after_next, after_turn}
-pub use Rattle.model.specs.Turns.{ask_of_doing, attempt, change_of, doing_after, ending_of, events_of}
-pub use Rattle.model.specs.Turns.{events_of_answer, events_of_decision, events_of_next, events_of_step, number_of}
-pub use Rattle.model.specs.Turns.{old_of, party_after, party_at_begin, run, step_count, step_in, unless_refused}
-pub use Rattle.model.specs.Turns.{words_after, world_after}
+pub use Rattle.model.specs.Turns.{ask_of_doing, attempt, doing_after, ending_of, events_of, events_of_answer}
+pub use Rattle.model.specs.Turns.{events_of_decision, events_of_next, events_of_step, number_of, old_of, run, step_in}
+pub use Rattle.model.specs.Turns.{unless_refused, words_after, world_after}
 pub use Rattle.model.specs.World.{Trace, World, capacity_error, flight_in, kept_opened}
 pub use Rattle.model.specs.declared.event.Answer.{Answer}
 pub use Rattle.model.specs.declared.event.Answer.TheVariants.{Number, State, Truth}
 pub use Rattle.model.specs.declared.event.Event.{Event}
-pub use Rattle.model.specs.declared.event.Event.TheVariants.{Acted, Asked, Begun, Claimed, Died, Filled, Finished}
-pub use Rattle.model.specs.declared.event.Event.TheVariants.{Freed, FreedOf, Published, Told}
+pub use Rattle.model.specs.declared.event.Event.TheVariants.{Acted, Asked, Begun, Died, Filled, Finished, FreedOf, Told}
 pub use Rattle.model.specs.declared.event.Start.{Start}
 pub use Rattle.model.specs.declared.event.Start.TheVariants.{Container, Robust}
 pub use Rattle.model.specs.declared.families.Flight.{Flight}
@@ -86,18 +84,18 @@ pub use Rattle.std.proofs.lemmas.List.{append_cancel_left, ext_get_or, get_or-re
 pub use Rattle.std.proofs.lemmas.List.{length-replicate, length-set, set_past}
 pub use Rattle.std.proofs.lemmas.List.Sums.{fold-append}
 pub use Rattle.std.specs.List.{AllByRecursion, range_with_len}
-pub use Rattle.steps.specs.Container.Add.{Added, add_acquired, add_after, add_asks, inner_acquire}
+pub use Rattle.steps.specs.Container.Add.{Added, add_acquired, add_after, add_asks}
 pub use Rattle.steps.specs.Container.Find.{find_asks, find_kept}
 pub use Rattle.steps.specs.Container.Layout.{change_word, count_word, element_word, is_even}
 pub use Rattle.steps.specs.Container.Look.{at_look, look_asks, look_comes_to, look_finds, look_keeps, look_takes}
 pub use Rattle.steps.specs.Container.Recover.{recover_after, recover_keeps, recover_kept}
 pub use Rattle.steps.specs.Container.Remove.{Removed, inner_release, remove_after, remove_asks, remove_released}
 pub use Rattle.steps.specs.Container.Replace.{Replaced, replace_after, replace_asks}
-pub use Rattle.steps.specs.Indices.Robust.Acquire.{Acquired, acquire_after, acquire_asks, acquire_takes}
+pub use Rattle.steps.specs.Indices.Robust.Acquire.{Acquired, acquire_asks}
 pub use Rattle.steps.specs.Indices.Robust.Looks.{borrowed_after}
 pub use Rattle.steps.specs.Indices.Robust.Parts.{cell_word, count_want, empty, lock_after, lock_goes_back, lock_want}
 pub use Rattle.steps.specs.Indices.Robust.Parts.{locked, one_more, raise_after, raise_want}
-pub use Rattle.steps.specs.Indices.Robust.Release.{Released, release_after, release_asks, release_takes}
+pub use Rattle.steps.specs.Indices.Robust.Release.{Released, release_asks, release_takes}
 pub use Rattle.steps.specs.Routine.{went_on}
 pub use Rattle.steps.specs.declared.ask.After.{After}
 pub use Rattle.steps.specs.declared.ask.After.TheVariants.{Done, GoOn}

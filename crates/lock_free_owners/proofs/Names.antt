@@ -46,7 +46,7 @@ pub use Rattle.model.specs.Moments.{BeginsNone, HeldSometime}
 pub use Rattle.model.specs.Reading.{Each, Open, Span, is_party, own_after, span_of, whose}
 pub use Rattle.model.specs.Turns.{after_turn, ending_of, events_of, number_of}
 pub use Rattle.model.specs.declared.event.Answer.{Answer}
-pub use Rattle.model.specs.declared.event.Answer.TheVariants.{NoIndex, NoPlace, Number, State, Truth}
+pub use Rattle.model.specs.declared.event.Answer.TheVariants.{NoIndex, Number, State, Truth}
 pub use Rattle.model.specs.declared.event.Event.{Event}
 pub use Rattle.model.specs.declared.event.Event.TheVariants.{Asked, Begun, Copied, Filled, Finished, FreedOf, Granted}
 pub use Rattle.model.specs.declared.event.Event.TheVariants.{Hidden}
@@ -59,15 +59,15 @@ pub use Rattle.model.specs.declared.families.container.calls.CountOf.{CountOf}
 pub use Rattle.model.specs.declared.families.container.calls.LookOf.TheVariants.{GetState, UpdateState}
 pub use Rattle.model.specs.declared.families.indices.robust.RobustStart.TheVariants.{Release}
 pub use Rattle.std.proofs.Common.{Bool, Err, IfErr, IfOk, IfSome, List, None, Ok, OnOk, Option, Some, [], ap}
-pub use Rattle.std.proofs.Common.{append-nil, append_assoc, arith, false, filter, fold, if◌then◌else◌, inl, inr}
-pub use Rattle.std.proofs.Common.{length, length-append, map, nat_lt, refl, rules, set, slice_index, slice_index_or}
-pub use Rattle.std.proofs.Common.{slice_set, subst, suc, sym, take, true, true≢false, zero, ℕ, ⊎_elim, ◌*◌, ◌++◌, ◌+◌}
-pub use Rattle.std.proofs.Common.{◌-◌, ◌<◌, ◌==◌, ◌^◌, ◌∙◌, ◌∷◌, ◌≡◌, ◌≢◌, ◌≤◌, ◌⊎◌}
+pub use Rattle.std.proofs.Common.{append-nil, append_assoc, arith, false, filter, fold, if◌then◌else◌, inl, inr, length}
+pub use Rattle.std.proofs.Common.{length-append, map, nat_lt, refl, rules, set, slice_index, slice_index_or, slice_set}
+pub use Rattle.std.proofs.Common.{subst, suc, sym, take, true, true≢false, zero, ℕ, ⊎_elim, ◌*◌, ◌++◌, ◌+◌, ◌-◌, ◌<◌}
+pub use Rattle.std.proofs.Common.{◌==◌, ◌^◌, ◌∙◌, ◌∷◌, ◌≡◌, ◌≢◌, ◌≤◌, ◌⊎◌}
 pub use Rattle.std.proofs.lemmas.Bool.Decides.{nat_tests}
 pub use Rattle.std.proofs.lemmas.Fn.{FoldsTo-push}
 pub use Rattle.std.proofs.lemmas.List.{append_cancel_left, get_or-map, length-map, length-replicate, map-append}
 pub use Rattle.std.proofs.lemmas.List.{same_from_push, take_all}
-pub use Rattle.std.proofs.lemmas.List.Elements.{All-nil, All-push, All-weaker, Contains-append_left, Contains-push}
+pub use Rattle.std.proofs.lemmas.List.Elements.{All-push, All-weaker, Contains-append_left, Contains-push}
 pub use Rattle.std.proofs.lemmas.List.Elements.{filter-append}
 pub use Rattle.std.proofs.lemmas.List.Quantifiers.{all_pairs_push}
 pub use Rattle.std.specs.List.{All, FoldsTo}

@@ -41,10 +41,9 @@ pub use Rattle.model.specs.Coding.{Coding, IsCoding, coding_of, one_word}
 pub use Rattle.model.specs.Families.{after_of, beside_of, first_of, opening_of, want_of}
 pub use Rattle.model.specs.Families.Queues.Calls.{fresh_cell, length_answer, popped, popped_value}
 pub use Rattle.model.specs.Families.Queues.Opening.{cells_of, lacks_role, words_of_cell}
-pub use Rattle.model.specs.Families.Queues.Reading.{consumer_of, handed_out, hands_out, producer_of, published}
-pub use Rattle.model.specs.Families.Queues.Reading.{publishes, waiting}
+pub use Rattle.model.specs.Families.Queues.Reading.{handed_out, hands_out, producer_of, published, publishes, waiting}
 pub use Rattle.model.specs.Families.Queues.Roles.{GrantsRight}
-pub use Rattle.model.specs.Families.Queues.Steps.{effects_of, pending, takes_effect}
+pub use Rattle.model.specs.Families.Queues.Steps.{pending}
 pub use Rattle.model.specs.Reading.{Each, is_party, whose}
 pub use Rattle.model.specs.World.{Trace, World, capacity_error}
 pub use Rattle.model.specs.declared.event.Answer.{Answer}
@@ -58,18 +57,16 @@ pub use Rattle.model.specs.declared.event.Start.TheVariants.{Queues}
 pub use Rattle.model.specs.declared.families.Flight.{Flight}
 pub use Rattle.model.specs.declared.families.queues.QueueKind.{QueueKind}
 pub use Rattle.model.specs.declared.families.queues.QueueKind.TheVariants.{IndexQueue, Overflow, Queue}
-pub use Rattle.model.specs.declared.families.queues.QueueStart.TheVariants.{AcquireConsumer, AcquireProducer, Pop}
-pub use Rattle.model.specs.declared.families.queues.QueueStart.TheVariants.{PushIndex, ReleaseConsumer}
-pub use Rattle.model.specs.declared.families.queues.QueueStart.TheVariants.{ReleaseProducer}
+pub use Rattle.model.specs.declared.families.queues.QueueStart.TheVariants.{Pop, PushIndex}
 pub use Rattle.model.specs.declared.families.queues.calls.LengthOf.{LengthOf}
 pub use Rattle.model.specs.declared.turn.Kind.{Kind}
 pub use Rattle.plain.specs.Overflowing.{list_in}
 pub use Rattle.std.proofs.Common.{Bool, IfNone, IfOk, IfSome, List, None, Option, Some, [], ap, append-nil}
 pub use Rattle.std.proofs.Common.{append_assoc, arith, cond, drop, false, fold, get_or, get_or-set_other}
-pub use Rattle.std.proofs.Common.{get_or-set_same, inl, inr, length, length-set, map, max, min, nat_lt, refl}
-pub use Rattle.std.proofs.Common.{replicate, rules, set, slice_get, slice_index, slice_set, subst, suc, sum_by, sym}
-pub use Rattle.std.proofs.Common.{take, true, zero, ℕ, ⊎_elim, ◌%◌, ◌*◌, ◌++◌, ◌+◌, ◌-◌, ◌<◌, ◌==◌, ◌^◌, ◌∙◌, ◌∷◌}
-pub use Rattle.std.proofs.Common.{◌≡◌, ◌≢◌, ◌≤◌, ◌⊎◌}
+pub use Rattle.std.proofs.Common.{get_or-set_same, inl, inr, length, length-set, map, max, min, nat_lt, refl, replicate}
+pub use Rattle.std.proofs.Common.{rules, set, slice_get, slice_index, slice_set, subst, suc, sum_by, sym, take, true}
+pub use Rattle.std.proofs.Common.{zero, ℕ, ⊎_elim, ◌%◌, ◌*◌, ◌++◌, ◌+◌, ◌-◌, ◌<◌, ◌==◌, ◌^◌, ◌∙◌, ◌∷◌, ◌≡◌, ◌≢◌, ◌≤◌}
+pub use Rattle.std.proofs.Common.{◌⊎◌}
 pub use Rattle.std.proofs.Math.Nat.{mod-eq_of_lt, mul-add-mod_self_left, mul-le-mul_left}
 pub use Rattle.std.proofs.lemmas.Bool.{cases_eq, cases_lt}
 pub use Rattle.std.proofs.lemmas.Bool.Decides.{nat_tests}
@@ -91,7 +88,7 @@ pub use Rattle.steps.specs.declared.ask.Ask.{Ask}
 pub use Rattle.steps.specs.declared.ask.Op.TheVariants.{Exchange, Load, Store}
 pub use Rattle.steps.specs.declared.copied.OneWord.{OneWord}
 pub use Rattle.steps.specs.declared.queues.overflow.PushEnd.{PushEnd}
-pub use Rattle.steps.specs.declared.queues.overflow.PushEnd.TheVariants.{Added, Oldest, Own}
+pub use Rattle.steps.specs.declared.queues.overflow.PushEnd.TheVariants.{Added, Oldest}
 pub use Rattle.steps.specs.declared.queues.roles.Role.{Role}
 pub use Rattle.steps.specs.declared.queues.roles.Role.TheVariants.{Consumer, Producer}
 pub use Rattle.threaded.specs.Driver.{KeepsRule}

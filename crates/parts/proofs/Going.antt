@@ -57,9 +57,6 @@ module _ {T : Type 0} (w : World T) (p : ℕ) (said : Option Bool) where
       } ≡ after_turn (record { world = w; events = events }) (turn_of p said)
   going_is events x a latest found allowed is written = rw written (go x.doing refl said refl)
     where
-      begun : Around T
-      begun = record { party = x; words = w.words; kept = w.kept; changes = w.changes; events = events }
-
       go : (doing : Doing T) → x.doing ≡ doing → (b : Option Bool) → said ≡ b
           → record {
             world =

@@ -108,10 +108,6 @@ module _ {C G M E : Type 0} (want_of : C → G → Want (Unit {0})) (after : C �
         stops = h.ends;
       }
 
-  abbrev end_in : E → Stop C E → E
-  end_in e (Ended f) = f
-  end_in e (Asked question call) = e
-
   abbrev has_ended : Stop C E → Type 0
   has_ended (Ended f) = Unit {0}
   has_ended (Asked question call) = ⊥

@@ -89,11 +89,6 @@ pub positive : (a b : ℕ) → 0 < a → 0 < b → 0 < a * b
 positive (suc a) b p q = omega arith
 positive zero b p q = absurd (omega arith)
 
-both_none : (a d c b : ℕ) → 0 < b → 0 < d → a * d + c * b ≡ 0 → (a ≡ 0) × (c ≡ 0)
-both_none zero d zero b p q e = (refl, refl)
-both_none zero d (suc c) b p q e = absurd (omega arith)
-both_none (suc a) d c b p q e = absurd (omega arith)
-
 module _ {V : Type 0} where
   -- ---- views in lists
 

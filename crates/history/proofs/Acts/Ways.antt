@@ -4,7 +4,6 @@ use Rattle.history.proofs.Names.{◌≡◌, ℕ, Option, Some, None, List, [], �
 use Rattle.history.proofs.Names.{subst, ◌∙◌, append_assoc, append-nil, fold-append, Answer, Event, Begun}
 use Rattle.history.proofs.Names.{Finished, Start, BeginsNone, Span, Never, Open, Ended, longer}
 use Rattle.history.proofs.Names.{own_after, span_after, span_of}
-use Rattle.model.specs.Reading.{ended}
 use Rattle.model.specs.Shape.{IsOpenFor, IsShut}
 use Rattle.history.specs.Acts.{Way, way_after}
 use Rattle.history.proofs.Acts.Marks.{way_in, number_in, way_more}
@@ -62,9 +61,6 @@ module _ {T : Type 0} where
     pub begun_fits : (p q b n : ℕ) (span : Span T) (way : Way T) (s : Start T) → Fit s b [] None
         → WayFits b span way → WayFits b (span_after p span (Begun q s)) (way_after p b n way (Begun q s))
     begun_fits x0 x1 x2 x3 x4 x5 x6 x7 x8 = grind arith
-
-    over : (b : ℕ) (span : Span T) (a : Answer T) → WayFits b (ended span a) None
-    over x0 x1 x2 = grind arith
 
     pub finished_fits : (p q b n : ℕ) (span : Span T) (way : Way T) (s : Start T) (a : Answer T)
         → WayFits b span way → WayFits b (span_after p span (Finished q s a)) (way_after p b n way (Finished q s a))

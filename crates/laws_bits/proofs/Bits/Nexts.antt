@@ -99,9 +99,6 @@ module _ {T : Type 0} (code : Coding T) (c : ℕ) (s : SetState T) (events : Lis
 
   -- ---- the reset position
 
-  abbrev loading : Ask
-  loading = record { word = 0; op = Load }
-
   loads_position : backs + since ≤ changes → steps ≤ backs → DoesOf [] resetting.TheVariants.LoadsPosition
   loads_position paid few = go (nat_lt 0 c) refl
     where

@@ -16,7 +16,6 @@ use Rattle.laws_queues.proofs.Queues.Core as core
 use Rattle.laws_queues.proofs.Queues.Core.{Core, Holds, Good, publishes}
 use Rattle.laws_queues.proofs.Overflow.Knows.{overflow_push_at}
 use Rattle.laws_queues.proofs.Queues.Knows.{free, layout, Hangs}
-use Rattle.laws_queues.proofs.Queues.Invariant.{Inv}
 use Rattle.laws_queues.proofs.Queues.Keeping.{clash, kept}
 use Rattle.laws_queues.proofs.Queues.Pending.{pending_after, none_hangs}
 use Rattle.laws_queues.proofs.Queues.Stages.{party_then, DoesStep}

@@ -19,7 +19,6 @@ use Rattle.laws_queues.proofs.Overflow.Core.{none_passes, one_passes, oldest, pu
 use Rattle.laws_queues.proofs.Queues.Core.{Holds, filled, taken, fills, one_filled, takes, word_at, set_at}
 use Rattle.laws_queues.proofs.Overflow.Knows.{overflow_push_at, IsFreshOver, KnowsOverflowPush, overflow_push_number}
 use Rattle.laws_queues.proofs.Queues.Knows.{free, layout, has_written}
-use Rattle.laws_queues.proofs.Queues.Invariant.{Inv}
 use Rattle.laws_queues.proofs.Queues.Keeping.{clash, kept}
 use Rattle.laws_queues.proofs.Queues.Pending.{pending_after, few_wait, none_hangs}
 use Rattle.laws_queues.proofs.Queues.Stages.{party_then, DoesStep, Moves, MovesOf, still_hangs, quiet, alone}

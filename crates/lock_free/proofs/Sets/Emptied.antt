@@ -57,10 +57,11 @@ module _ (kind : SetKind) where
   abbrev pub Goes : View ℕ → After Emptying (Unit {0}) → OneWord → View ℕ → Type 0
   Goes base a m w = Next (λ (z : View ℕ). z.capacity) AtWord EndsAll base a m w
 
-  -- where it stands is its word
+  -- it stands so as of its own view too
   pub itself : (base v : View ℕ) (c : Emptying) (m : OneWord) → AtWord base v c m → AtWord v v c m
   itself x0 x1 x2 x3 x4 = grind (arith, at_itself, one_word, machine_kind, empties, has_word)
 
+  -- where it stands is its word
   pub word_now : (base v : View ℕ) (c : Emptying) (m : OneWord) → base.going ≡ v.going → AtWord base v c m → word_of (first_word kind) v.going ≡ c.word
   word_now x0 x1 x2 x3 x4 x5 = grind (arith, word_of, first_word, begins_at, has_word)
 

@@ -1,7 +1,7 @@
 -- The call that empties a set: a call of the model, a word at each step.
 use Rattle.lock_free.proofs.Names.{◌≡◌, ℕ, ◌+◌, ◌<◌, ◌≤◌, nat_lt, Bool, true, false, Option, Some}
 use Rattle.lock_free.proofs.Names.{None, IfSome, List, [], ◌++◌, map, refl, ap, subst, ◌∙◌, arith, nat_tests}
-use Rattle.lock_free.proofs.Names.{by_test, elements, Ask, After, Emptying, OneWord, Event, Cleared, Bits, ResetAll}
+use Rattle.lock_free.proofs.Names.{by_test, elements, Ask, Emptying, OneWord, Event, Cleared, Bits, ResetAll}
 use Rattle.lock_free.proofs.Names.{one_word, Trace, after_of, opening_of, first_of, fresh, Allows, answered, KeepsRule}
 use Rattle.lock_free.proofs.Names.{View, IsMachine, Calling, At, Ends, IsCallOf, goes, keeps_all}
 use Rattle.std.specs.List.{sum_by}
@@ -26,14 +26,6 @@ use Rattle.lock_free.specs.Sets.Stages.{all_words, word_of, flight_at, emptied, 
 -- ---- how it goes on
 
 module _ (c : Emptying) (n : ℕ) where
-  abbrev is_done : After Emptying (Unit {0}) → Bool
-  is_done (GoOn d) = false
-  is_done (Done e) = true
-
-  abbrev next_of : After Emptying (Unit {0}) → Emptying
-  next_of (GoOn d) = d
-  next_of (Done e) = c
-
   pub goes_next : (d : Emptying) → reset_all_after c n ≡ GoOn d → (d ≡ record { word = c.word + 1; end = c.end }) × (d.word < d.end)
   goes_next x0 = grind (arith, by_test, nat_lt, nat_tests)
 

@@ -30,10 +30,6 @@ abbrev pub IsAnswer : {A B : Type 0} → Result A B → Type 0
 IsAnswer (Ok x) = Unit {0}
 IsAnswer (Err e) = ⊥
 
-abbrev number_in : {B : Type 0} → Result ℕ B → ℕ
-number_in (Ok i) = i
-number_in (Err e) = 0
-
 pub acquired_low : (s : Owners) (i : ℕ) → Ok i ≡ acquired s → i < length s.owners
 acquired_low x0 x1 = grind (arith, by_test, length, is_none, nat_tests)
 

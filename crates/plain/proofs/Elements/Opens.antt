@@ -1,5 +1,5 @@
 -- A container as it opens.
-use Rattle.std.proofs.Common.{◌≡◌, ℕ, zero, suc, ◌+◌, ◌-◌, ◌<◌, ◌≤◌, List, [], ◌∷◌, ◌++◌, length, take, map, replicate}
+use Rattle.std.proofs.Common.{◌≡◌, ℕ, zero, suc, ◌+◌, ◌-◌, ◌≤◌, List, [], ◌∷◌, ◌++◌, length, take, map, replicate}
 use Rattle.std.proofs.Common.{refl, ap, ◌∙◌, arith, slice_index, slice_set, length-set, take_all, Result}
 use Rattle.std.proofs.Common.{is_ok, is_err, false, true≢false, if◌then◌else◌}
 use Rattle.plain.proofs.Names.{range_with_len, length-replicate}
@@ -24,11 +24,6 @@ behind_zero : (xs : List ℕ) (n i : ℕ) → length xs ≤ i → slice_index (x
 behind_zero [] n i far = zero_in n i
 behind_zero (x ∷ xs) n zero far = absurd (omega arith)
 behind_zero (x ∷ xs) n (suc i) far = behind_zero xs n i (omega arith)
-
-front_word : (xs ys : List ℕ) (i : ℕ) → i < length xs → slice_index (xs ++ ys) i ≡ slice_index xs i
-front_word [] ys i low = absurd (omega arith)
-front_word (x ∷ xs) ys zero low = refl
-front_word (x ∷ xs) ys (suc i) low = front_word xs ys i (omega arith)
 
 same_there : {X : Type 0} (x : X) (f : ℕ → X) (n a : ℕ) → ((i : ℕ) → f i ≡ x)
     → map f (range_with_len a n) ≡ replicate n x

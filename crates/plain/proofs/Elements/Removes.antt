@@ -16,7 +16,7 @@ use Rattle.plain.specs.Robust as robust
 use Rattle.plain.specs.Robust.{owners_in}
 use Rattle.plain.specs.Contents.{Contents, changed, names, removed, after_remove, contents_in, Represents}
 use Rattle.plain.proofs.Alone.{Runs}
-use Rattle.plain.proofs.Walks.{plus, plus_sum, Walks, Goes, OnEnd, part_walks_low, runs}
+use Rattle.plain.proofs.Walks.{plus, plus_sum, Goes, OnEnd, part_walks_low, runs}
 use Rattle.plain.proofs.Fronts.{Behind, stays, front_walks}
 use Rattle.plain.proofs.Elements.Adds.{IsAnswer}
 use Rattle.plain.proofs.Elements.Handles.{has_past, names_own}
@@ -34,9 +34,6 @@ module _ {V : Type 0} (value_of : List ℕ → V) (size : ℕ) (wide : size ≤ 
 
   abbrev handle : ContainerHandle
   handle = record { index = index; owner = owner; container = container }
-
-  abbrev Ends : ℕ → (Removed → List ℕ → Type 0) → Remove → List ℕ → Type 0
-  Ends n P call words = Walks (λ c. remove_want c given) (λ c old. remove_after c given old) n (OnEnd P) call words
 
   abbrev From : ℕ → (Removed → List ℕ → Type 0) → After Remove Removed → List ℕ → Type 0
   From n P a words = Goes (λ c. remove_want c given) (λ c old. remove_after c given old) n (OnEnd P) a words

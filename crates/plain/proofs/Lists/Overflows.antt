@@ -4,7 +4,6 @@ use Rattle.std.proofs.Common.{◌&&◌, ◌==◌, nat_lt, min, Option, Some, Non
 use Rattle.std.proofs.Common.{drop, sym, ap, subst, ◌∙◌, arith, slice_index, slice_set, get_or-set_same}
 use Rattle.std.proofs.Common.{get_or-set_other, length-set, eq-eqb, ne_eqb, if◌then◌else◌}
 use Rattle.plain.proofs.Names.{nat_tests, cases_lt, length-append, dite, ℕ_discrete, by_eq, distance, after_position}
-use Rattle.plain.proofs.Names.{After}
 use Rattle.steps.specs.Queues.Overflow.{cell_word, first_push, push_want, push_after, push_kept, push_answer}
 use Rattle.steps.specs.Queues.Overflow.{first_pop, pop_want, pop_after, pop_kept, pop_answer}
 use Rattle.steps.specs.declared.copied.OneWord.{OneWord}
@@ -13,7 +12,7 @@ use Rattle.steps.specs.declared.queues.overflow.PushEnd.{PushEnd}
 use Rattle.steps.specs.declared.queues.overflow.PushEnd.TheVariants.{Added, Own, Oldest}
 use Rattle.steps.specs.declared.queues.overflow.Pop.{Pop}
 use Rattle.steps.specs.Objects.Lists.{Bounded, front, popped, takes_in, handed_back, pushed_over}
-use Rattle.plain.specs.Alone.{EndsFrom, EndsIn, BehavesAs}
+use Rattle.plain.specs.Alone.{EndsIn, BehavesAs}
 use Rattle.plain.specs.Queues.{value_at}
 use Rattle.plain.specs.Overflowing.{number_of, numbers_from, list_in, Represents}
 use Rattle.plain.proofs.Alone.{Runs}
@@ -47,10 +46,6 @@ module _ (capacity : ℕ) where
     abbrev Ends : ℕ → PushEnd → OneWord → List ℕ → Push → OneWord → List ℕ → Type 0
     Ends n end last_room last call room words =
         EndsIn push_want (λ c given old. push_after c old) push_kept value n end last_room last call room words
-
-    abbrev From : ℕ → PushEnd → OneWord → List ℕ → After Push PushEnd → OneWord → List ℕ → Type 0
-    From n end last_room last a room words =
-        EndsFrom push_want (λ c given old. push_after c old) push_kept value n end last_room last a room words
 
     hands_back : (room : OneWord) (words : List ℕ) → capacity ≡ 0
         → Ends 1 Own room words (first_push capacity) room words
@@ -300,10 +295,6 @@ module _ (capacity : ℕ) where
   abbrev PopEnds : ℕ → Bool → OneWord → List ℕ → Pop → OneWord → List ℕ → Type 0
   PopEnds n end last_room last call room words =
       EndsIn (λ c (given : Unit {0}). pop_want c) (λ c given old. pop_after c old) pop_kept tt n end last_room last call room words
-
-  abbrev PopFrom : ℕ → Bool → OneWord → List ℕ → After Pop Bool → OneWord → List ℕ → Type 0
-  PopFrom n end last_room last a room words =
-      EndsFrom (λ c (given : Unit {0}). pop_want c) (λ c given old. pop_after c old) pop_kept tt n end last_room last a room words
 
   abbrev pub Popped : List ℕ → Bool → OneWord → List ℕ → Type 0
   Popped words end room last =

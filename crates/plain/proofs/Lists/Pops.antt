@@ -69,9 +69,6 @@ module _ {V R : Type 0} (value_of : List ℕ → V) (size : ℕ) (some : 1 ≤ s
 
   module _ (room : R) (wide : size ≤ length (words_in room)) (words : List ℕ) (fits : Represents size capacity words)
       (m : ℕ) (there : slice_index words 0 - slice_index words 1 ≡ suc m) where
-    abbrev w : ℕ
-    w = slice_index words 0
-
     abbrev r : ℕ
     r = slice_index words 1
 

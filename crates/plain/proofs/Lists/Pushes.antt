@@ -63,11 +63,6 @@ module _ {V : Type 0} (words_of : V → List ℕ) (value_of : List ℕ → V) (s
       → Ends 2 false words (first_push capacity) words
   no_room x0 x1 x2 = grind (arith, by_eq, false, by_either)
 
-  abbrev taken : List ℕ → List ℕ
-  taken words =
-      slice_set (stored words (cell_word capacity size (slice_index words 0)) (words_of value) 0 size) 0
-      (after_position (slice_index words 0))
-
   goes_in : (n : ℕ) → suc n ≡ size → (words : List ℕ) → slice_index words 0 ≢ 2 ^ 64 - 1 → capacity ≢ 0
       → distance (slice_index words 0) (slice_index words 1) ≢ capacity
       → Ends (suc (suc (suc (suc n)))) true

@@ -138,10 +138,6 @@ module _ (capacity : ℕ) (words : List ℕ) (fits : Represents capacity words) 
   From n end last a ws =
       EndsFrom (λ c (given : Unit {0}). reset_want c) (λ c given old. reset_after c old) (λ c (room : Unit {0}) old. room) tt n end tt last a tt ws
 
-  abbrev Did : Option ℕ → List ℕ → Type 0
-  Did end last =
-      BehavesAs (Represents capacity) (places_in capacity) next_place after_next words end last
-
   -- from where so many places have been passed it ends within so many steps
   pub record Comes (most k : ℕ) : Type 0 where
     pub steps : ℕ

@@ -3,12 +3,12 @@ use Rattle.std.proofs.Common.{◌≡◌, ◌≢◌, ℕ, suc, ◌+◌, ◌-◌, 
 use Rattle.std.proofs.Common.{ne_eqb, if◌then◌else◌, List, ◌∷◌, length, drop, sym, ap, subst, ◌∙◌}
 use Rattle.std.proofs.Common.{arith, slice_index, slice_set, get_or-set_same, get_or-set_other, length-set, true≢false}
 use Rattle.std.specs.Prelude.{bit_or, Ok, Err}
-use Rattle.plain.proofs.Names.{IsDistinct, nat_tests, eqb_tells, cases_Bool, by_test, by_eq, After}
+use Rattle.plain.proofs.Names.{IsDistinct, nat_tests, eqb_tells, cases_Bool, by_test, by_eq}
 use Rattle.steps.specs.Indices.Head.{next_word, flag_word, flag, proposed, borrowed, locked, says_locked}
 use Rattle.steps.specs.Indices.Unique.{Acquired, first_acquire, head_taken, acquire_want, acquire_after, borrowed_number}
 use Rattle.steps.specs.declared.indices.enums.UniqueIndexSetAcquireFailure.TheVariants as failures
 use Rattle.steps.specs.declared.indices.unique.Acquire.{Acquire}
-use Rattle.plain.specs.Alone.{EndsFrom, EndsIn, BehavesAs}
+use Rattle.plain.specs.Alone.{EndsIn, BehavesAs}
 use Rattle.steps.specs.Objects.Stacks.{top, acquired, after_acquire}
 use Rattle.plain.specs.Unique.{chain, free_in, stack_in, claimed, Represents}
 use Rattle.plain.proofs.Alone.{Runs}
@@ -18,10 +18,6 @@ module _ (capacity : ℕ) where
   abbrev Ends : ℕ → Acquired → List ℕ → Acquire → List ℕ → Type 0
   Ends n end last call words =
       EndsIn (λ c (given : Unit {0}). acquire_want c) (λ c given old. acquire_after c old) (λ c (room : Unit {0}) old. room) tt n end tt last call tt words
-
-  abbrev From : ℕ → Acquired → List ℕ → After Acquire Acquired → List ℕ → Type 0
-  From n end last a words =
-      EndsFrom (λ c (given : Unit {0}). acquire_want c) (λ c given old. acquire_after c old) (λ c (room : Unit {0}) old. room) tt n end tt last a tt words
 
   abbrev pub Took : List ℕ → Acquired → Unit {0} → List ℕ → Type 0
   Took words end room last =
@@ -83,9 +79,6 @@ module _ (capacity : ℕ) where
 
   module _ (words : List ℕ) (fits : Represents capacity words) (unlocked : says_locked (slice_index words 0) ≡ false)
       (m : ℕ) (there : capacity - borrowed (slice_index words 0) ≡ suc m) where
-    rest : List ℕ
-    rest = chain words (next words) m
-
     free_is : free_in capacity words ≡ p words ∷ chain words (next words) m
     free_is = grind (arith, chain, number_of)
 
@@ -97,9 +90,6 @@ module _ (capacity : ℕ) where
 
     rest_below : (i : ℕ) → is_in i (chain words (next words) m) ≡ true → i < capacity
     rest_below i h = fits.below i (ap (is_in i) free_is ∙ in_rest i (p words) (chain words (next words) m) h)
-
-    new : ℕ
-    new = head_taken (h words) (next words)
 
     clear : claimed capacity (headed words) (p words) ≡ false
     clear = grind (arith, claimed_elsewhere, own, first_in)

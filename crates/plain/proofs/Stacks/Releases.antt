@@ -3,13 +3,13 @@ use Rattle.std.proofs.Common.{◌≡◌, ◌≢◌, ℕ, suc, ◌+◌, ◌-◌, 
 use Rattle.std.proofs.Common.{◌==◌, eqb, eq-eqb, ne_eqb, if◌then◌else◌, List, ◌∷◌, length, refl, sym, ap, subst, ◌∙◌}
 use Rattle.std.proofs.Common.{arith, slice_index, slice_set, get_or-set_same, get_or-set_other, length-set, true≢false}
 use Rattle.std.specs.Prelude.{bit_and}
-use Rattle.plain.proofs.Names.{nat_tests, eqb_tells, cases_Bool, by_eq, After, ReleaseState, Locked, Unlocked}
+use Rattle.plain.proofs.Names.{nat_tests, eqb_tells, cases_Bool, by_eq, ReleaseState, Locked, Unlocked}
 use Rattle.std.proofs.lemmas.Map.Steps.{length-le_from_distinct_below}
 use Rattle.steps.specs.Indices.Head.{next_word, flag_word, flag, proposed, borrowed, locked, says_locked}
 use Rattle.steps.specs.Indices.Unique.{first_release, head_given_back, head_locked, head_released}
 use Rattle.steps.specs.Indices.Unique.{state_after, release_want, release_after, borrowed_number}
 use Rattle.steps.specs.declared.indices.unique.Release.{Release}
-use Rattle.plain.specs.Alone.{EndsFrom, EndsIn, BehavesAs}
+use Rattle.plain.specs.Alone.{EndsIn, BehavesAs}
 use Rattle.steps.specs.Objects.Stacks.{IsOut, out, released, released_or_locked, release_state}
 use Rattle.plain.specs.Unique.{chain, free_in, stack_in, claimed, Represents}
 use Rattle.plain.proofs.Alone.{Runs}
@@ -32,10 +32,6 @@ module _ (lock : Bool) (capacity index : ℕ) (words : List ℕ) where
     abbrev pub Ends : ℕ → ReleaseState → Release M → List ℕ → Type 0
     Ends n end call now =
         EndsIn (release_want lock) (λ c given old. release_after lock c old) (λ c (room : Unit {0}) old. room) index n end tt last call tt now
-
-    abbrev From : ℕ → ReleaseState → After (Release M) ReleaseState → List ℕ → Type 0
-    From n end a now =
-        EndsFrom (release_want lock) (λ c given old. release_after lock c old) (λ c (room : Unit {0}) old. room) index n end tt last a tt now
 
     -- the head stands while the flag is cleared and the index is linked
     goes : slice_index cleared 0 ≡ h → slice_index linked 0 ≡ h
