@@ -1,9 +1,57 @@
-//! What a seat knows. No value of this type is made: it is for contracts and proofs.
-use model::event::{Event, Start};
-use model::families::Flight;
-use std::collections::LinkedList;
-use steps::container::state::ContainerState;
+//! What a seat knows. No value of this type is made: it is for contracts and proofs. What a view holds is data of proofs:
+//! as Rust types, events and calls under way would be written out in the proof of each function above, once for each
+//! type that a view is part of.
+ghost use Rattle.std.specs.Prelude.{List};
+ghost use base.Fml.{ftrue};
+ghost use Rattle.model.specs.declared.event.Event.{Event};
+ghost use Rattle.model.specs.declared.event.Start.{Start};
+ghost use Rattle.model.specs.declared.families.Flight.{Flight};
+ghost use Rattle.steps.specs.declared.container.state.ContainerState.{ContainerState};
+
+use std::marker::{Model, PhantomData};
 use threaded::share::Share;
+
+/// A list of events, as contracts see it.
+pub struct Events<T> {
+    marker: PhantomData<T>,
+    ghost events: { List (Event T) },
+}
+
+impl<T> Model for Events<T> {
+    ghost also_owns = { λ _. ftrue };
+
+    ghost Value = { List (Event T) };
+
+    ghost view = { λ e. e.events };
+}
+
+/// A call under way, as contracts see it: what it began as, and where it stands.
+pub struct Going<T> {
+    marker: PhantomData<T>,
+    ghost call: { Start T × Flight T },
+}
+
+impl<T> Model for Going<T> {
+    ghost also_owns = { λ _. ftrue };
+
+    ghost Value = { Start T × Flight T };
+
+    ghost view = { λ g. g.call };
+}
+
+/// A state of a container, as contracts see it.
+pub struct Shown<T> {
+    marker: PhantomData<T>,
+    ghost state: { ContainerState T },
+}
+
+impl<T> Model for Shown<T> {
+    ghost also_owns = { λ _. ftrue };
+
+    ghost Value = { ContainerState T };
+
+    ghost view = { λ s. s.state };
+}
 
 /// What a seat has seen of the history of its table, and where its own call stands.
 pub struct View<T> {
@@ -14,13 +62,13 @@ pub struct View<T> {
     /// Its share of the right to know the whole.
     pub share: Share,
     /// A beginning of the history.
-    pub seen: LinkedList<Event<T>>,
+    pub seen: Events<T>,
     /// What a seat that was taken in has seen: a beginning of the history too.
-    pub other: LinkedList<Event<T>>,
+    pub other: Events<T>,
     /// The events of its own calls, and those of the seats that were taken in.
-    pub made: LinkedList<Event<T>>,
+    pub made: Events<T>,
     /// Its call under way.
-    pub going: Option<(Start<T>, Flight<T>)>,
+    pub going: Option<Going<T>>,
     /// The state of a container that its party has, as its latest look has left it.
-    pub state: Option<ContainerState<T>>,
+    pub state: Option<Shown<T>>,
 }

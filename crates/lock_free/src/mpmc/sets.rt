@@ -23,23 +23,35 @@ pub mod rule;
 pub use handles::Handle;
 
 /// A set of places, which threads share by reference.
-#[derive(Drop)]
 pub struct Set<E: Kind> {
     table: Arc<Table<(), View<u64>, u32, SetRule<E>, Global>, Global>,
     capacity: u32,
 }
 
+impl<E: Kind> Drop for Set<E> {
+    fn drop(self) {
+        let Self {
+            table: _table,
+            capacity: _,
+        } = self;
+    }
+}
+
 /// The same for CAPACITY places. It is used as the set that it has.
-#[derive(Drop)]
 pub struct FixedSize<E: Kind, const CAPACITY: usize> {
     set: Set<E>,
     ghost sized: { set.capacity ≡ CAPACITY },
 }
 
+impl<E: Kind, const CAPACITY: usize> Drop for FixedSize<E, CAPACITY> {
+    fn drop(self) {
+        let Self { set: _set } = self;
+    }
+}
+
 /// What a caller makes each call on a set with: it says which set it is for, how much of the set's history it has seen,
 /// and what of it is its own doing. Each call is made with a pass of its set, which is the caller's concern. This
 /// project's own. (T and Q are parameters, though only u64 and `SetRule<E>` are used: else `sized` could not name the kind.)
-#[derive(Drop)]
 pub struct Held<E: Kind, T, Q: TableRule<(), View<T>, u32>> {
     pub of: PhantomData<E>,
     pub(crate) seated: Seated<View<T>, u32, Q>,
@@ -50,6 +62,16 @@ pub struct Held<E: Kind, T, Q: TableRule<(), View<T>, u32>> {
     ghost idle: { seated.seat.me.0.going ≡ None },
     ghost alone: { seated.seat.me.0.other ≡ [] },
     ghost some: { (0 < seated.seat.me.0.share.part) × (0 < seated.seat.me.0.share.parts) },
+}
+
+impl<E: Kind, T, Q: TableRule<(), View<T>, u32>> Drop for Held<E, T, Q> {
+    fn drop(self) {
+        let Self {
+            of: _,
+            seated: _seated,
+            capacity: _,
+        } = self;
+    }
 }
 
 pub type Pass<E> = Held<E, u64, SetRule<E>>;

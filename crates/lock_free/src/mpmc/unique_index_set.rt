@@ -26,23 +26,35 @@ pub mod rule;
 pub use handles::Handle;
 
 /// A set of the indices below its capacity, which threads share by reference. After `UniqueIndexSet` of the Rust crate.
-#[derive(Drop)]
 pub struct UniqueIndexSet {
     table: Arc<Table<(), View<u64>, u64, IndicesRule, Global>, Global>,
     capacity: u32,
 }
 
+impl Drop for UniqueIndexSet {
+    fn drop(self) {
+        let Self {
+            table: _table,
+            capacity: _,
+        } = self;
+    }
+}
+
 /// The same with a capacity of at most CAPACITY, which is from 1 to 2^24 - 2. It is used as the set that it has. After
 /// `FixedSizeUniqueIndexSet` of the Rust crate.
-#[derive(Drop)]
 pub struct FixedSizeUniqueIndexSet<const CAPACITY: usize> {
     set: UniqueIndexSet,
+}
+
+impl<const CAPACITY: usize> Drop for FixedSizeUniqueIndexSet<CAPACITY> {
+    fn drop(self) {
+        let Self { set: _set } = self;
+    }
 }
 
 /// What a caller makes each call on a set with: it says which set it is for, how much of the set's history it has seen,
 /// and what of it is its own doing, so which indices it holds. Each call is made with a pass of its set, which is the
 /// caller's concern. An index that a dropped pass holds stays out for good. This project's own.
-#[derive(Drop)]
 pub struct Pass {
     seated: Seated<View<u64>, u64, IndicesRule>,
     capacity: u32,
@@ -55,6 +67,15 @@ pub struct Pass {
     ghost some: { (0 < seated.seat.me.0.share.part) × (0 < seated.seat.me.0.share.parts) },
     ghost sound: { IsSound seated.seat.me.0 },
     ghost done: { IsDone seated.seat.me.0.made },
+}
+
+impl Drop for Pass {
+    fn drop(self) {
+        let Self {
+            seated: _seated,
+            capacity: _,
+        } = self;
+    }
 }
 
 /// An index that is held. It owns the pass that it was acquired with, and gives the index back in mode `Default` when

@@ -14,7 +14,6 @@ mod places;
 
 /// The end of a loan channel that loans and sends. It keeps a table of where each index is: Free, Loaned, which is
 /// here, or Sent. Its pass holds exactly the indices that are Loaned or Sent, each once (`holds` says so).
-#[derive(Drop)]
 pub struct LoanSender<'a> {
     set: &'a UniqueIndexSet,
     pass: Pass,
@@ -23,6 +22,18 @@ pub struct LoanSender<'a> {
     places: Vec<Place>,
     ghost of: { IsPassOf set.now pass },
     ghost book: { IsBookOf (view pass) places.items },
+}
+
+impl<'a> Drop for LoanSender<'a> {
+    fn drop(self) {
+        let Self {
+            set: _,
+            pass: _pass,
+            submission: _submission,
+            completion: _completion,
+            places: _places,
+        } = self;
+    }
 }
 
 /// Why there is no sender.

@@ -36,7 +36,6 @@ pub use steps::enums::{CallbackProgression, OwnerId, OwnerIdNewError};
 
 /// A container of values, at indices below its capacity, which threads share by reference. After `Container` of the Rust
 /// crate.
-#[derive(Drop)]
 pub struct Container<T: Words> {
     table: Arc<Board<T>, Global>,
     capacity: u32,
@@ -44,17 +43,40 @@ pub struct Container<T: Words> {
     alloc: Global,
 }
 
+impl<T: Words> Drop for Container<T> {
+    fn drop(self) {
+        let Self {
+            table: _table,
+            capacity: _,
+            id: _,
+            alloc: _,
+        } = self;
+    }
+}
+
 /// The same with its capacity in the type, which is from 1 to 2^32 - 1. It is used as the container that it has. After
 /// `FixedSizeContainer` of the Rust crate.
-#[derive(Drop)]
 pub struct FixedSizeContainer<T: Words, const CAPACITY: usize> {
     container: Container<T>,
+}
+
+impl<T: Words, const CAPACITY: usize> Drop for FixedSizeContainer<T, CAPACITY> {
+    fn drop(self) {
+        let Self {
+            container: _container,
+        } = self;
+    }
 }
 
 /// What a caller makes each call on a container with: it says which container it is for, how much of the container's
 /// history it has seen, and what of it is its own doing. Each call is made with a pass of its container, which is the
 /// caller's concern. This project's own.
-#[derive(Drop)]
 pub struct Pass<T: Words> {
     token: Token<T>,
+}
+
+impl<T: Words> Drop for Pass<T> {
+    fn drop(self) {
+        let Self { token: _token } = self;
+    }
 }

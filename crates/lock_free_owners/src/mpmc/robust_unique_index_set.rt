@@ -38,23 +38,35 @@ pub use steps::indices::enums::RobustUniqueIndexSetReleaseError;
 
 /// A set of the indices below its capacity, which threads share by reference. After `RobustUniqueIndexSet` of the Rust
 /// crate.
-#[derive(Drop)]
 pub struct RobustUniqueIndexSet {
     table: Arc<Board, Global>,
     capacity: u32,
 }
 
+impl Drop for RobustUniqueIndexSet {
+    fn drop(self) {
+        let Self {
+            table: _table,
+            capacity: _,
+        } = self;
+    }
+}
+
 /// The same with a capacity of at most CAPACITY, which is from 1 to 2^32 - 1. It is used as the set that it has. After
 /// `StaticRobustUniqueIndexSet` of the Rust crate.
-#[derive(Drop)]
 pub struct StaticRobustUniqueIndexSet<const CAPACITY: usize> {
     set: RobustUniqueIndexSet,
+}
+
+impl<const CAPACITY: usize> Drop for StaticRobustUniqueIndexSet<CAPACITY> {
+    fn drop(self) {
+        let Self { set: _set } = self;
+    }
 }
 
 /// What a caller makes each call on a set with: it says which set it is for, how much of the set's history it has seen,
 /// and what of it is its own doing. Each call is made with a pass of its set, which is the caller's concern. This
 /// project's own.
-#[derive(Drop)]
 pub struct Pass {
     seated: Seat,
     capacity: u32,
@@ -65,4 +77,13 @@ pub struct Pass {
     ghost idle: { seated.seat.me.0.going ≡ None },
     ghost alone: { seated.seat.me.0.other ≡ [] },
     ghost some: { (0 < seated.seat.me.0.share.part) × (0 < seated.seat.me.0.share.parts) },
+}
+
+impl Drop for Pass {
+    fn drop(self) {
+        let Self {
+            seated: _seated,
+            capacity: _,
+        } = self;
+    }
 }

@@ -31,7 +31,6 @@ pub mod rule;
 pub use handles::Handle;
 
 /// A queue, which threads share by reference. One producer pushes and one consumer pops at a time.
-#[derive(Drop)]
 pub struct Ring<E: Kind, T: Words> {
     table: Arc<Board<E, T>, Global>,
     pub(crate) capacity: u32,
@@ -39,7 +38,6 @@ pub struct Ring<E: Kind, T: Words> {
 }
 
 /// A queue whose capacity is part of its type. It is used as the queue that it has.
-#[derive(Drop)]
 pub struct FixedSize<E: Kind, T: Words, const CAPACITY: usize> {
     pub(crate) ring: Ring<E, T>,
     ghost sized: { ring.capacity ≡ CAPACITY },
@@ -66,7 +64,6 @@ pub type Token<E, T> = Held<E, T, RingRule<E, T>>;
 /// What a caller makes each call with: it says which queue it is for, how much of the queue's history it has seen, and
 /// what of it is its own doing. Each call is made with a pass of its queue, which is the caller's concern. It has no
 /// role. This project's own.
-#[derive(Drop)]
 pub struct Pass<E: Kind, T: Words> {
     pub(crate) token: Token<E, T>,
     ghost none: { LacksRole roles.Producer token.seated.seat.me.0.made × LacksRole roles.Consumer token.seated.seat.me.0.made },
@@ -86,6 +83,48 @@ pub struct Consumer<'a, E: Kind, T: Words> {
     ring: &'a Ring<E, T>,
     pub(crate) token: Token<E, T>,
     ghost role: { HasRole roles.Consumer token.seated.seat.me.0.made × LacksRole roles.Producer token.seated.seat.me.0.made },
+}
+
+// A drop by hand is one call in a caller's proof, on each way out; one that is derived is as many as it has fields below.
+impl<E: Kind, T: Words> Drop for Ring<E, T> {
+    fn drop(self) {
+        let Self {
+            table: _table,
+            capacity: _,
+            alloc: _,
+        } = self;
+    }
+}
+
+impl<E: Kind, T: Words, const CAPACITY: usize> FixedSize<E, T, CAPACITY> {
+    pub(crate) fn into_ring(self) -> Ring<E, T>
+        ensures { result ≡ self.ring }
+    {
+        let Self { ring } = self;
+        ring
+    }
+}
+
+impl<E: Kind, T: Words, const CAPACITY: usize> Drop for FixedSize<E, T, CAPACITY> {
+    fn drop(self) {
+        let Self { ring: _ring } = self;
+    }
+}
+
+impl<E: Kind, T: Words> Pass<E, T> {
+    pub(crate) fn into_token(self) -> Token<E, T>
+        ensures token { result ≡ self.token }
+        ensures none { LacksRole roles.Producer result.seated.seat.me.0.made × LacksRole roles.Consumer result.seated.seat.me.0.made }
+    {
+        let Self { token } = self;
+        token
+    }
+}
+
+impl<E: Kind, T: Words> Drop for Pass<E, T> {
+    fn drop(self) {
+        let Self { token: _token } = self;
+    }
 }
 
 impl<'a, E: Kind, T: Words> Drop for Producer<'a, E, T> {

@@ -25,9 +25,14 @@ pub use handles::Handle;
 
 /// A value that threads share by reference. One producer at a time stores it, and any number of readers load it whole.
 /// After `UnrestrictedAtomic` of the Rust crate.
-#[derive(Drop)]
 pub struct UnrestrictedAtomic<T: Words> {
     board: Arc<Board<T>, Global>,
+}
+
+impl<T: Words> Drop for UnrestrictedAtomic<T> {
+    fn drop(self) {
+        let Self { board: _board } = self;
+    }
 }
 
 /// A seat at a value's table, with no call under way. Its rule is a parameter: only so can its size be told by
@@ -48,10 +53,25 @@ pub type Token<T> = Held<T, ValueRule<T>>;
 /// What a caller makes each call with: it says which value it is for, how much of the value's history it has seen, and
 /// what of it is its own doing. Each call is made with a pass of its value, which is the caller's concern. It has no
 /// role. This project's own.
-#[derive(Drop)]
 pub struct Pass<T: Words> {
     token: Token<T>,
     ghost none: { LacksProducer token.seated.seat.me.0.made },
+}
+
+impl<T: Words> Pass<T> {
+    fn into_token(self) -> Token<T>
+        ensures token { result ≡ self.token }
+        ensures none { LacksProducer result.seated.seat.me.0.made }
+    {
+        let Self { token } = self;
+        token
+    }
+}
+
+impl<T: Words> Drop for Pass<T> {
+    fn drop(self) {
+        let Self { token: _token } = self;
+    }
 }
 
 /// The end of a value that stores. There is one at a time. It owns the pass that it was acquired with, and gives the

@@ -41,7 +41,11 @@ impl<E: Kind> Held<E, u64, SetRule<E>> {
         ensures history { HasHistory self.new }
         ensures all { MissesNothing self.new }
     {
-        let Held { seated: other, .. } = other;
+        let Held {
+            of: _,
+            seated: other,
+            capacity: _,
+        } = other;
         let Seated { seat, .. } = other;
         let capacity = self.capacity;
         let seated = &mut self.seated;

@@ -44,7 +44,10 @@ impl Pass {
         ensures sound { IsSound (view self.new) }
         ensures all { MissesNothing self.new }
     {
-        let Pass { seated: other, .. } = other;
+        let Pass {
+            seated: other,
+            capacity: _,
+        } = other;
         let Seated { seat, .. } = other;
         let seated = &mut self.seated;
         seated

@@ -10,9 +10,17 @@ mod visits;
 
 /// A container with a pass of it. Its calls are those of the container, and ask for nothing but a state of it, which an
 /// `if` with `is_state_of` shows, and closures that may be called. Each thread has a handle of its own, by `split`. This project's own.
-#[derive(Drop)]
 pub struct Handle<'a, T: Words> {
     container: &'a Container<T>,
     pass: Pass<T>,
     ghost of: { IsPassOf container.now pass },
+}
+
+impl<'a, T: Words> Drop for Handle<'a, T> {
+    fn drop(self) {
+        let Self {
+            container: _,
+            pass: _pass,
+        } = self;
+    }
 }

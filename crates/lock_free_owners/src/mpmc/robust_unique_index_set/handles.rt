@@ -8,9 +8,17 @@ mod visits;
 
 /// A set with a pass of it. Its calls are those of the set, and ask for nothing but an index below the capacity, which
 /// an `if` shows, and closures that may be called. Each thread has a handle of its own, by `split`. This project's own.
-#[derive(Drop)]
 pub struct Handle<'a> {
     set: &'a RobustUniqueIndexSet,
     pass: Pass,
     ghost of: { IsPassOf set.now pass },
+}
+
+impl<'a> Drop for Handle<'a> {
+    fn drop(self) {
+        let Self {
+            set: _,
+            pass: _pass,
+        } = self;
+    }
 }

@@ -38,7 +38,6 @@ impl<T: Words, const CAPACITY: usize> Queue<T, CAPACITY> {
         ensures list { IfOk result (λ q. Closes Value CAPACITY (view pass) q) }
         ensures refused { IfErr result (λ e. e ≡ NoMemory) }
     {
-        let ring::FixedSize { ring } = self;
-        ring.close(pass)
+        self.into_ring().close(pass)
     }
 }

@@ -24,7 +24,7 @@ impl<E: Kind, T: Words> Ring<E, T> {
             × GoesOn (coding_of T.WORDS T.words_of T.value_of) E.KIND (queue_of pass).capacity (view pass) (view p)
             × HasAcquired roles.Producer false (view pass) (view p)) }
     {
-        let Pass { mut token } = pass;
+        let mut token = pass.into_token();
         if token.take::<Pushing>() {
             Ok(Producer { ring: self, token })
         } else {
@@ -43,7 +43,7 @@ impl<E: Kind, T: Words> Ring<E, T> {
             × GoesOn (coding_of T.WORDS T.words_of T.value_of) E.KIND (queue_of pass).capacity (view pass) (view p)
             × HasAcquired roles.Consumer false (view pass) (view p)) }
     {
-        let Pass { mut token } = pass;
+        let mut token = pass.into_token();
         if token.take::<Popping>() {
             Ok(Consumer { ring: self, token })
         } else {

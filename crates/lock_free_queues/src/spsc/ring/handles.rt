@@ -9,9 +9,17 @@ mod calls;
 
 /// A queue with a pass of it. Its calls are those of the queue, and ask for nothing; `Producer` pushes and `Consumer`
 /// pops. Each thread has a handle of its own, by `split`. This project's own.
-#[derive(Drop)]
 pub struct Handle<'a, E: Kind, T: Words> {
     ring: &'a Ring<E, T>,
     pass: Pass<E, T>,
     ghost of: { IsPassOf ring.now pass },
+}
+
+impl<'a, E: Kind, T: Words> Drop for Handle<'a, E, T> {
+    fn drop(self) {
+        let Self {
+            ring: _,
+            pass: _pass,
+        } = self;
+    }
 }

@@ -113,7 +113,7 @@ impl<'a, E: Kind, T: Words> Producer<'a, E, T> {
         ensures history { HasHistory (coding_of T.WORDS T.words_of T.value_of) E.KIND (producer_queue self.old).capacity (producer_view self.new) }
         ensures all { MissesNothing (producer_view self.new) }
     {
-        let Pass { token } = other;
+        let token = other.into_token();
         self.token.join(token);
     }
 }
@@ -127,7 +127,7 @@ impl<'a, E: Kind, T: Words> Consumer<'a, E, T> {
         ensures history { HasHistory (coding_of T.WORDS T.words_of T.value_of) E.KIND (consumer_queue self.old).capacity (consumer_view self.new) }
         ensures all { MissesNothing (consumer_view self.new) }
     {
-        let Pass { token } = other;
+        let token = other.into_token();
         self.token.join(token);
     }
 }

@@ -71,7 +71,7 @@ impl<E: Kind, T: Words> Ring<E, T> {
             (words_in_cells T.WORDS E.KIND (capacity_of self.now)) (capacity_of self.now) (view pass) words.items) }
         ensures refused { IfErr result (λ e. e ≡ NoMemory) }
     {
-        let Pass { mut token } = pass;
+        let mut token = pass.into_token();
         match token.last_words(self.alloc, count) {
             Ok(words) => Ok(words),
             Err(_) => Err(UniqueIndexCreationError::NoMemory),

@@ -43,7 +43,6 @@ impl<const CAPACITY: usize> FixedSizeSafelyOverflowingIndexQueue<CAPACITY> {
         ensures list { IfOk result (λ q. Closes Index CAPACITY (view pass) q) }
         ensures refused { IfErr result (λ e. e ≡ NoMemory) }
     {
-        let ring::FixedSize { ring } = self;
-        ring.close(pass)
+        self.into_ring().close(pass)
     }
 }

@@ -20,7 +20,7 @@ impl<T: Words> UnrestrictedAtomic<T> {
             × GoesOn (coding_of T.WORDS T.words_of T.value_of) (view pass) (view p)
             × HasAcquired false (view pass) (view p)) }
     {
-        let Pass { mut token } = pass;
+        let mut token = pass.into_token();
         if token.take_producer() {
             Ok(Producer { value: self, token })
         } else {

@@ -8,9 +8,17 @@ mod calls;
 
 /// A value with a pass of it. Its calls are those of the value, and ask for nothing; `Producer` stores. Each thread has a
 /// handle of its own, by `split`. This project's own.
-#[derive(Drop)]
 pub struct Handle<'a, T: Words> {
     value: &'a UnrestrictedAtomic<T>,
     pass: Pass<T>,
     ghost of: { IsPassOf value.now pass },
+}
+
+impl<'a, T: Words> Drop for Handle<'a, T> {
+    fn drop(self) {
+        let Self {
+            value: _,
+            pass: _pass,
+        } = self;
+    }
 }

@@ -108,7 +108,7 @@ impl<'a, T: Words> Producer<'a, T> {
         ensures history { HasHistory (coding_of T.WORDS T.words_of T.value_of) (producer_view self.new) }
         ensures all { MissesNothing (producer_view self.new) }
     {
-        let Pass { token } = other;
+        let token = other.into_token();
         self.token.join(token);
     }
 }

@@ -24,7 +24,8 @@ impl<'a, E: Kind> Handle<'a, E> {
     pub fn into_pass(self) -> Pass<E>
         ensures { result ≡ pass_in self.entry }
     {
-        self.pass
+        let Handle { set: _, pass } = self;
+        pass
     }
 
     /// A further handle of the set, with a pass that has seen the same and made nothing, as by `Pass::split`.

@@ -30,7 +30,8 @@ impl<'a> Handle<'a> {
     pub fn into_pass(self) -> Pass
         ensures { result ≡ pass_in self.entry }
     {
-        self.pass
+        let Handle { set: _, pass } = self;
+        pass
     }
 
     /// A further handle of the set, with a pass that has seen the same and holds nothing, as by `Pass::split`.

@@ -31,7 +31,8 @@ impl<'a, E: Kind, T: Words> Handle<'a, E, T> {
     pub fn into_pass(self) -> Pass<E, T>
         ensures { result ≡ pass_in self.entry }
     {
-        self.pass
+        let Handle { ring: _, pass } = self;
+        pass
     }
 
     /// A further handle of the queue, with a pass that has seen the same and made nothing, as by `Pass::split`.

@@ -26,7 +26,8 @@ impl<'a, T: Words> Handle<'a, T> {
     pub fn into_pass(self) -> Pass<T>
         ensures { result ≡ pass_in self.entry }
     {
-        self.pass
+        let Handle { value: _, pass } = self;
+        pass
     }
 
     /// A further handle of the value, with a pass that has seen the same and made nothing, as by `Pass::split`.
