@@ -5,7 +5,4 @@ pub mod mpmc;
 pub mod spsc;
 
 pub use lock_free_owners::laws as owner_laws;
-pub use lock_free_queues::laws as spsc_laws;
-pub use lock_free_value::{laws as value_laws, spmc};
-pub use steps::words;
-pub use threaded::laws;
+pub use lock_free_sp::{laws, spmc, spsc_laws, value_laws, words};

@@ -1,5 +1,5 @@
 //! One producer and one consumer: the queues, and a loan channel over them.
 
-pub use lock_free_queues::spsc::{index_queue, queue, safely_overflowing_index_queue};
+pub use lock_free_sp::spsc::{index_queue, queue, safely_overflowing_index_queue};
 
 pub mod loan;
