@@ -1,4 +1,4 @@
-//! Lock-free containers for zero-copy middleware, after the Rust crate iceoryx2-bb-lock-free, under its module paths.
+//! The containers of the Rust crate iceoryx2-bb-lock-free, for the threads of one process, under its module paths.
 #![tactic(auto)]
 
 pub mod mpmc;

@@ -48,8 +48,8 @@ pub fn overflowing_histories_are_sound<T>()
 {}
 
 /// Each call is wait-free, or obstruction-free, as docs/FIELD.md says: in the machine that has the history, whatever
-/// the number of turns, no call has taken more steps than that. Each atomic step of a thread's call is one turn of it,
-/// and a look at the last position one step and none. The lemma is `guarantees` there.
+/// the number of turns, no call has taken more steps than that. No clause says that
+/// a thread's call takes one atomic step for each of these turns, and no more. The lemma is `guarantees` there.
 pub fn calls_keep_guarantees<T>()
     ensures { (code : Coding T) (kind : QueueKind) (capacity : ℕ) (v : View T)
         → (h : IsHistory code (machine_kind kind) capacity v.seen) → KeepsGuarantees h.trace }

@@ -1,6 +1,6 @@
-//! Programs of users over `lock_free`, and one over `uses_bus`: each module here is one, which stands by itself, with its proofs in the folder of
-//! its name and the files of `specs/` and `proofs/` that it and they import. Its name as the argument runs it alone; with
-//! none all run in turn.
+//! Programs of users over `lock_free`, and one over `uses_bus`: each module here is one, which stands by itself, with
+//! its proofs in the folder of its name and the files of `specs/` and `proofs/` that it and they import. Its name as
+//! the argument runs it alone; with none all run in turn.
 #![tactic(auto)]
 
 mod bells;

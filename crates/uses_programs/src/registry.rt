@@ -1,7 +1,8 @@
 //! Participants of a system, each with its records in one registry. The first keeps a state of it up to date while they
-//! join, one is taken out after its death, and the last to leave closes the registry. Proved: who joins has got an index for
-//! a record of each port, by one add after another; what the first one's state shows when all have joined, its pass has
-//! copied from the registry; and who has seen it closed gets nobody in.
+//! join, one is taken out after its death, and the last to leave closes the registry. Proved of `run`, without a
+//! premise: a participant that has seen it closed gets nobody in. Proved of functions that it calls, under their
+//! premises: one that joins has got an index for a record of each port, by one add after another, and what the first
+//! one's state shows when all have joined, its pass has copied from the registry.
 
 ghost use Rattle.std.specs.Prelude.{◌≡◌, true, false, [], ◌∷◌, length, IfSome};
 ghost use Rattle.lock_free.specs.Container.Names.{view, code_of, container_of, IsPassOf, IsHandleFor, IsStateOf};

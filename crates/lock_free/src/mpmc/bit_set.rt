@@ -1,4 +1,7 @@
 //! A set of places that any number of threads set and reset.
+//!
+//! The comments say how many atomic steps a call takes, and its contract does not. These bounds are proved in the
+//! model, of the calls that it has. What is proved of threads is what the contracts say.
 use super::sets;
 use super::sets::rule::Flags;
 

@@ -2,6 +2,9 @@
 //!
 //! Each call but `capacity` is made with a pass, and what a caller holds is told by what its pass made. Passes of one set
 //! never hold the same index, and once any of them has seen the lock, none holds one.
+//!
+//! The comments say how many atomic steps a call takes, and its contract does not. These bounds are proved in the
+//! model, of the calls that it has. What is proved of threads is what the contracts say.
 ghost use Rattle.std.specs.Prelude.{◌≡◌, ◌<◌, ◌+◌, [], None};
 ghost use Rattle.std.specs.Arc.{arc_value};
 ghost use Rattle.history.specs.Held.{Holds};

@@ -1,6 +1,9 @@
 //! A loan channel: a sender loans indices of a set, sends them through an overflowing queue, and gets them back through
 //! an index queue as long as the set. The receiver's end is the two other guards: it pops what is sent, and pushes it
 //! back. Not of the Rust crate.
+//!
+//! The comments say how many atomic steps a call takes, and its contract does not. These bounds are proved in the
+//! model, of the calls that it has. What is proved of threads is what the contracts say.
 ghost use Rattle.lock_free.specs.UniqueIndexSet.{view, IsPassOf};
 ghost use Rattle.lock_free.specs.Loan.Places.{IsBookOf};
 

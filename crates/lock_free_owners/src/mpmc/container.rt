@@ -9,6 +9,10 @@
 //! its holder; no remove and no replace of a handle is begun while a replace of it is under way; and nobody acts for an
 //! owner once its recovery has begun. Where a caller breaks them each call still answers as its contract says, but a
 //! value can be torn, stay hidden, or be that of another.
+//!
+//! The comments say how many atomic steps a call takes, and its contract does not. These bounds are proved in the
+//! model, of the calls that it has. What is proved of threads is what the contracts say. Nor does a contract say that
+//! an index taken is the lowest.
 use self::rule::Board;
 use self::token::Token;
 use std::alloc::Global;

@@ -12,6 +12,10 @@
 //!
 //! The generation counter of a set ends at `u64::MAX - 1`. From there on no index is handed out, and the set is locked
 //! no more (so `steps` has it, and tests say; a contract only excuses then what it says of a refusal).
+//!
+//! The comments say how many atomic steps a call takes, and its contract does not. These bounds are proved in the
+//! model, of the calls that it has. What is proved of threads is what the contracts say. Nor does a contract say that
+//! an index taken is the lowest.
 ghost use Rattle.std.specs.Prelude.{◌≡◌, ◌<◌, ◌+◌, [], None};
 ghost use Rattle.std.specs.Arc.{arc_value};
 ghost use Rattle.lock_free_owners.specs.Robust.Turns.{size};

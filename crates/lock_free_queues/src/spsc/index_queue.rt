@@ -1,4 +1,7 @@
 //! The bounded queue of numbers of 64 bits with one producer and one consumer, shared between threads.
+//!
+//! The comments say how many atomic steps a call takes, and its contract does not. These bounds are proved in the
+//! model, of the calls that it has. What is proved of threads is what the contracts say.
 use super::ring;
 use super::ring::rule::Numbers;
 

@@ -1,5 +1,8 @@
 //! What the queues have in common: what threads share, what each of them holds, and the calls but pushes and pops. The
 //! queues are this with a kind E and values T; each module of `spsc` has its own names for them.
+//!
+//! The comments say how many atomic steps a call takes, and its contract does not. These bounds are proved in the
+//! model, of the calls that it has. What is proved of threads is what the contracts say.
 ghost use Rattle.std.specs.Prelude.{◌≡◌, ◌<◌, ◌+◌, ◌^◌, [], None};
 ghost use Rattle.std.specs.Arc.{arc_value};
 ghost use Rattle.steps.specs.declared.queues.roles.Role.TheVariants as roles;

@@ -1,5 +1,8 @@
 //! The queue of numbers of 64 bits that hands its oldest number back where it is full, with one producer and one
 //! consumer, shared between threads.
+//!
+//! The comments say how many atomic steps a call takes, and its contract does not. These bounds are proved in the
+//! model, of the calls that it has. What is proved of threads is what the contracts say.
 use super::ring;
 use super::ring::rule::Overflowing;
 

@@ -1,4 +1,7 @@
 //! One value of any type with words, with one producer and any number of readers, shared between threads.
+//!
+//! The comments say how many atomic steps a call takes, and its contract does not. These bounds are proved in the
+//! model, of the calls that it has. What is proved of threads is what the contracts say.
 ghost use Rattle.std.specs.Prelude.{◌≡◌, ◌<◌, ◌+◌, ◌*◌, [], None, length};
 ghost use Rattle.laws_value.specs.Stored.{stored};
 ghost use Rattle.history.specs.Value.{HasProducer};
