@@ -1,4 +1,4 @@
-//! The program of docs/TUTORIAL.md, a file for each step.
+//! The program of the tutorial, a file for each step.
 #![tactic(auto)]
 
 mod alone;
