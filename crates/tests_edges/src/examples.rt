@@ -3,3 +3,4 @@ mod handles;
 mod percent;
 mod readme;
 mod roles;
+mod structures;

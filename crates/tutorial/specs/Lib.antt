@@ -1,0 +1,2 @@
+-- What the contracts of this crate speak of.
+pub mod Sent
