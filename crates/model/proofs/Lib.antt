@@ -4,6 +4,7 @@ pub mod Family
 pub mod FamilyLaws
 pub mod Frame
 pub mod Linearizable
+pub mod LockFree
 pub mod Looks
 pub mod Moments
 pub mod Openings
