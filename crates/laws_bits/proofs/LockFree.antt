@@ -232,7 +232,7 @@ module _ {T : Type 0} where
         stage = resetting.TheVariants.ExchangesElement start passed found
 
         go : (t : Bool) → (word == found) ≡ t → Shown (next_at c stage)
-        go true t = rw t (inr (inr (omega arith)))
+        go true t = rw t (inr (rw t (omega arith), inr (omega arith)))
         go false t =
             rw t
             (tests_fall (loaded (element_of place)) (next_flight c stage) c start passed stage (load_leaves words (element_of place))
@@ -242,14 +242,18 @@ module _ {T : Type 0} where
     -- a reset of all
     all_falls : (word end : ℕ) (room : OneWord)
         → Shown (calls.TheVariants.ResetAll (record { call = record { word = word; end = end }; given = tt; room = room }))
-    all_falls word end room = go (nat_lt (word + 1) end) refl
+    all_falls word end room = go (nat_lt (word + 1) end) refl (nat_lt word end) refl
       where
         flight : BitsFlight
         flight = calls.TheVariants.ResetAll (record { call = record { word = word; end = end }; given = tt; room = room })
 
-        go : (t : Bool) → nat_lt (word + 1) end ≡ t → Shown flight
-        go true t = let less : word + 1 < end = grind (arith, nat_tests) in rw t (inr (inr (omega arith)))
-        go false t = rw t tt
+        go : (t : Bool) → nat_lt (word + 1) end ≡ t → (u : Bool) → nat_lt word end ≡ u → Shown flight
+        go true t true u = let less : word + 1 < end = grind (arith, nat_tests) in rw (t, u) (inr (omega arith, inr (omega arith)))
+        go true t false u =
+            let less : word + 1 < end = grind (arith, nat_tests) in
+            let not_less : end ≤ word = grind (arith, nat_tests) in
+            absurd (omega arith)
+        go false t u e = rw t tt
 
     bits_fall : (c : ℕ) (start : Start T) (flight : Flight T) → FlightStands (BitsStand c) start flight → StepFalls M code words flight
     bits_fall c (starts.Bits start) (flights.TheVariants.Bits (calls.TheVariants.Set run)) at = set_falls run.given run.call.stage
@@ -269,7 +273,7 @@ module _ {T : Type 0} where
         flight = calls.TheVariants.TakeAll (record { call = record { word = word; end = end }; given = tt; room = room })
 
         go : (t : Bool) → nat_lt (word + 1) end ≡ t → (u : Bool) → nat_lt word end ≡ u → CountShown flight
-        go true t true u = let less : word + 1 < end = grind (arith, nat_tests) in rw (t, u) (inr (inl (λ other. omega arith, omega arith, omega arith)))
+        go true t true u = let less : word + 1 < end = grind (arith, nat_tests) in rw (t, u) (inr (omega arith, inl (λ other. omega arith, omega arith)))
         go true t false u = let less : word + 1 < end = grind (arith, nat_tests) in let not_less : end ≤ word = grind (arith, nat_tests) in absurd (omega arith)
         go false t u e = rw t tt
 

@@ -243,16 +243,16 @@ module _ {T : Type 0} (alone changes : ℕ) (code : Coding T) (words : List ℕ)
       go false t = rw t (inl (load_leaves words 0, omega arith, omega arith))
   over_push_falls run (overflow_pushes.TheVariants.LoadsRead w) = inl (load_leaves words 1, omega arith, omega arith)
   over_push_falls run (overflow_pushes.TheVariants.StoresCell w r) =
-      inr (inl (rest_leaves (overflow.cell_word run.call.capacity w) run.given (omega arith), omega arith, omega arith))
+      inr (omega arith, inl (rest_leaves (overflow.cell_word run.call.capacity w) run.given (omega arith), omega arith))
   over_push_falls run (overflow_pushes.TheVariants.StoresWrite w r) = go (distance w r == run.call.capacity) refl
     where
       go : (t : Bool) → (distance w r == run.call.capacity) ≡ t → Shown (over_pushing run (overflow_pushes.TheVariants.StoresWrite w r))
-      go true t = rw t (inr (inr (omega arith)))
+      go true t = rw t (inr (omega arith, inr (omega arith)))
       go false t = rw t tt
   over_push_falls run (overflow_pushes.TheVariants.MovesRead r) = go (read == r) refl
     where
       go : (t : Bool) → (read == r) ≡ t → Shown (over_pushing run (overflow_pushes.TheVariants.MovesRead r))
-      go true t = rw t (inr (inr (omega arith)))
+      go true t = rw t (inr (omega arith, inr (omega arith)))
       go false t = rw t tt
   over_push_falls run (overflow_pushes.TheVariants.LoadsCell r) = tt
 
@@ -278,7 +278,7 @@ module _ {T : Type 0} (alone changes : ℕ) (code : Coding T) (words : List ℕ)
 
       go : (t : Bool) → nat_lt (at + 1) 1 ≡ t → Shown (pushing run (pushes.TheVariants.StoresCell w cell at))
       go true t = let less : at + 1 < 1 = grind (arith, nat_tests) in absurd (omega arith)
-      go false t = rw t (inr (inl (leaves (get_or (words_of_index run.given) at 0), omega arith, omega arith)))
+      go false t = rw t (inr (omega arith, inl (leaves (get_or (words_of_index run.given) at 0), omega arith)))
   push_falls run c (pushes.TheVariants.StoresWrite w) fits at = tt
 
   abbrev popping : Running (Pop ℕ OneWord) (Unit {0}) OneWord → pops.PopStage → QueueFlight T
@@ -322,8 +322,8 @@ module _ {T : Type 0} (alone changes : ℕ) (code : Coding T) (words : List ℕ)
       go : (t : Bool) → nat_lt (at + 1) code.size ≡ t → Shown (value_pushing run (pushes.TheVariants.StoresCell w cell at))
       go true t =
           let less : at + 1 < code.size = grind (arith, nat_tests) in
-          rw t (inr (inl (leaves (get_or (code.words_of run.given) at 0), omega arith, omega arith)))
-      go false t = rw t (inr (inl (leaves (get_or (code.words_of run.given) at 0), omega arith, omega arith)))
+          rw t (inr (omega arith, inl (leaves (get_or (code.words_of run.given) at 0), omega arith)))
+      go false t = rw t (inr (omega arith, inl (leaves (get_or (code.words_of run.given) at 0), omega arith)))
   value_push_falls run c (pushes.TheVariants.StoresWrite w) few fits at = tt
 
   abbrev value_popping : Running (Pop T (buffers.Buffer 128)) (Unit {0}) (buffers.Buffer 128) → pops.PopStage → QueueFlight T

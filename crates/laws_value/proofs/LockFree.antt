@@ -119,8 +119,8 @@ module _ {T : Type 0} where
         go : (t : Bool) → nat_lt (at + 1) code.size ≡ t → Shown (storing run (stores.TheVariants.StoresCell cell at))
         go true t =
             let less : at + 1 < code.size = grind (arith, nat_tests) in
-            rw t (inr (inl (leaves (get_or (code.words_of run.given) at 0), omega arith, omega arith)))
-        go false t = rw t (inr (inl (leaves (get_or (code.words_of run.given) at 0), omega arith, omega arith)))
+            rw t (inr (omega arith, inl (leaves (get_or (code.words_of run.given) at 0), omega arith)))
+        go false t = rw t (inr (omega arith, inl (leaves (get_or (code.words_of run.given) at 0), omega arith)))
     store_falls run stores.TheVariants.AddsVersion at = tt
 
     abbrev loading : Running (Load T (buffers.Buffer 128)) (Unit {0}) (buffers.Buffer 128) → loads.LoadStage → AtomicFlight T

@@ -85,9 +85,9 @@ HasLockFreeRuns T kind bound =
 -- ---- the bounds
 
 -- Of n parties whose calls each take at most so many steps before their last one, while no other call does what adds to
--- them, and make at most so many changes of a word that can add to those of others.
+-- them, and make at most so many changes of a word that can add to those of the others.
 abbrev pub stretch : ℕ → ℕ → ℕ → ℕ
-stretch n changes alone = n * changes * (n * alone + 1) + n * alone
+stretch n changes alone = n * changes * ((n - 1) * alone) + n * alone
 
 -- The bound of a kind, where there is one. With no change that costs another party a step it is n times one number.
 abbrev pub lock_free_bound : Kind → Option Bound

@@ -1,5 +1,5 @@
 -- What a step of a call shows, by what it comes to.
-use Rattle.std.proofs.Common.{◌≡◌, ◌⊎◌, inl, inr, ℕ, ◌+◌, ◌≤◌, ◌==◌, true, Some, List, sym, subst, arith}
+use Rattle.std.proofs.Common.{◌≡◌, ◌⊎◌, inl, inr, ⊎_elim, ℕ, ◌+◌, ◌≤◌, ◌==◌, true, Some, List, sym, subst, arith}
 use Rattle.std.proofs.lemmas.List.{set-get_or}
 use Rattle.std.proofs.lemmas.Bool.Decides.{nat_tests}
 use Rattle.steps.specs.declared.ask.After.{After}
@@ -25,12 +25,12 @@ module _ {T : Type 0} (M : Measure T) where
   abbrev pub LeavesAll : List ℕ → List ℕ → Type 0
   LeavesAll old new = (other : Flight T) → M.left new other ≤ M.left old other
 
-  -- a step less in the same words, a step less in words that cost nobody one, or a change less
+  -- a step less, in words that are the same, or that cost nobody a step, or for a change less
   abbrev pub FallsThere : List ℕ → List ℕ → ℕ → Flight T → Flight T → Type 0
   FallsThere old new steps was next =
       ((new ≡ old) × (M.left old next + steps ≤ M.left old was) × (M.pays next ≤ M.pays was))
-      ⊎ ((LeavesAll old new × (M.left new next + steps ≤ M.left old was) × (M.pays next ≤ M.pays was))
-      ⊎ (M.pays next + 1 ≤ M.pays was))
+      ⊎ ((M.left new next + steps ≤ M.left old was)
+      × ((LeavesAll old new × (M.pays next ≤ M.pays was)) ⊎ (M.pays next + 1 ≤ M.pays was)))
 
   abbrev pub FallsIn : List ℕ → List ℕ → ℕ → Flight T → After (Flight T) (Answer T) → Type 0
   FallsIn old new steps was (GoOn next) = FallsThere old new steps was next
@@ -40,13 +40,9 @@ module _ {T : Type 0} (M : Measure T) where
   falls_there : (w : World T) (p : ℕ) (new : List ℕ) (steps : ℕ) (was next : Flight T) → FallsThere w.words new steps was next
       → Falls M w p new steps was next
   falls_there w p new steps was next (inl h) =
-      inl (
-        λ q ne other e. subst (λ ws. M.left ws other ≤ M.left w.words other) (sym h.0) (omega arith),
-        subst (λ ws. M.left ws next + steps ≤ M.left w.words was) (sym h.0) h.1,
-        h.2,
-      )
-  falls_there w p new steps was next (inr (inl h)) = inl (λ q ne other e. h.0 other, h.1, h.2)
-  falls_there w p new steps was next (inr (inr h)) = inr h
+      (subst (λ ws. M.left ws next + steps ≤ M.left w.words was) (sym h.0) h.1,
+      inl (λ q ne other e. subst (λ ws. M.left ws other ≤ M.left w.words other) (sym h.0) (omega arith), h.2))
+  falls_there w p new steps was next (inr h) = (h.0, ⊎_elim (λ same. inl (λ q ne other e. same.0 other, same.1)) (λ less. inr less) h.1)
 
   pub falls_by : (w : World T) (p : ℕ) (new : List ℕ) (steps : ℕ) (was : Flight T) (after : After (Flight T) (Answer T))
       → FallsIn w.words new steps was after → (next : Flight T) → after ≡ GoOn next → Falls M w p new steps was next

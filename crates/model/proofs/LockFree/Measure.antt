@@ -25,7 +25,7 @@ use Rattle.model.specs.World.{World, Trace, flight_in}
 use Rattle.model.proofs.Parties.{party_put_same, party_put_other}
 use Rattle.model.proofs.Turns.{GoesAsTold}
 use Rattle.model.specs.LockFree.{end_of, ends, stretch}
-use Rattle.model.proofs.LockFree.Sums.{sum_below, sum_le, sum_falls, sum_most}
+use Rattle.model.proofs.LockFree.Sums.{sum_below, sum_le, sum_falls, sum_rises, sum_most}
 
 -- more of them are worth more
 pub worth : (fewer more each : ℕ) → fewer ≤ more → fewer * each ≤ more * each
@@ -46,11 +46,11 @@ module _ {T : Type 0} (M : Measure T) where
   abbrev pub Harmless : World T → ℕ → List ℕ → Type 0
   Harmless w p new = (q : ℕ) → q ≢ p → (other : Flight T) → flight_in w q ≡ Some other → M.left new other ≤ M.left w.words other
 
-  -- a call that goes on has a step less to take, and leaves the others no more, or it has a change less to make
+  -- a call that goes on has a step less to take, and leaves the others no more or has a change less to make
   abbrev pub Falls : World T → ℕ → List ℕ → ℕ → Flight T → Flight T → Type 0
   Falls w p new steps was next =
-      (Harmless w p new × (M.left new next + steps ≤ M.left w.words was) × (M.pays next ≤ M.pays was))
-      ⊎ (M.pays next + 1 ≤ M.pays was)
+      (M.left new next + steps ≤ M.left w.words was)
+      × ((Harmless w p new × (M.pays next ≤ M.pays was)) ⊎ (M.pays next + 1 ≤ M.pays was))
 
   abbrev pub FallsBy : World T → ℕ → Flight T → Option Ask → ℕ → Type 0
   FallsBy w p flight ask answer =
@@ -85,8 +85,9 @@ module _ {T : Type 0} (M : Measure T) where
   pays_at w p = pays_of (flight_in w p)
 
   module _ (n : ℕ) where
+    -- what a change can cost the others
     abbrev pub price : ℕ
-    price = n * M.alone + 1
+    price = (n - 1) * M.alone
 
     abbrev pub weight : World T → ℕ
     weight w = sum_below n (pays_at w) * price + sum_below n (left_at w)
@@ -115,11 +116,11 @@ module _ {T : Type 0} (M : Measure T) where
         let no_more = worth (sum_below n (pays_at new)) (sum_below n (pays_at old)) price (sum_le n (pays_at new) (pays_at old) pays) in
         omega arith
 
-    by_change : (old new : World T) (p steps : ℕ) → p < n → steps ≤ 1 → ((q : ℕ) → left_at new q ≤ M.alone)
+    by_change : (old new : World T) (p steps : ℕ) → p < n → ((q : ℕ) → left_at new q ≤ M.alone) → left_at new p + steps ≤ left_at old p
         → ((q : ℕ) → pays_at new q ≤ pays_at old q) → pays_at new p + 1 ≤ pays_at old p → steps + weight new ≤ weight old
-    by_change old new p steps below one left pays here =
+    by_change old new p steps below left left_here pays here =
         let less = sum_falls n (pays_at new) (pays_at old) p 1 below pays here in
-        let most = sum_most n (left_at new) M.alone left in
+        let rises = sum_rises n (left_at new) (left_at old) p steps M.alone below left left_here in
         let paid = worth (sum_below n (pays_at new) + 1) (sum_below n (pays_at old)) price less in
         omega arith
 
@@ -158,8 +159,11 @@ module _ {T : Type 0} (M : Measure T) where
         here = ap (λ o. flight_of (doing_of o)) (party_put_same p _ w.latest)
 
         goes_on : (next : Flight T) → s.after ≡ GoOn next → Shows w new (step_count ask) (ends (events_of_step p x.start s))
-        goes_on next e = ⊎_elim by_less by_pay (falls next (sym told ∙ e))
+        goes_on next e = ⊎_elim by_less by_pay fell.1
           where
+            fell : Falls w p new.words (step_count ask) flight next
+            fell = falls next (sym told ∙ e)
+
             now : flight_in new p ≡ Some next
             now = here ∙ ap (λ a. flight_of (Some (doing_after (w.changes + change_of w.words ask) (since + change_of w.words ask) a))) e
 
@@ -176,15 +180,15 @@ module _ {T : Type 0} (M : Measure T) where
             still q ne harmless None e = omega arith
             still q ne harmless (Some other) e = harmless q ne other e
 
-            by_less : (Harmless w p new.words × (M.left new.words next + step_count ask ≤ M.left w.words flight) × (M.pays next ≤ M.pays flight))
+            left_here : left_at new p + step_count ask ≤ left_at w p
+            left_here = rw (now, was) fell.0
+
+            by_less : (Harmless w p new.words × (M.pays next ≤ M.pays flight))
                 → Shows w new (step_count ask) (ends (events_of_step p x.start s))
             by_less h =
-                let less = by_left w new p (step_count ask) below left_no_less left_here (λ q. no_less q h.2) in
+                let less = by_left w new p (step_count ask) below left_no_less left_here (λ q. no_less q h.1) in
                 omega arith
               where
-                left_here : left_at new p + step_count ask ≤ left_at w p
-                left_here = rw (now, was) h.1
-
                 left_no_less : (q : ℕ) → left_at new q ≤ left_at w q
                 left_no_less q = ⊎_elim mine theirs (cases_eq q p)
                   where
@@ -196,7 +200,7 @@ module _ {T : Type 0} (M : Measure T) where
 
             by_pay : M.pays next + 1 ≤ M.pays flight → Shows w new (step_count ask) (ends (events_of_step p x.start s))
             by_pay h =
-                let less = by_change w new p (step_count ask) below (few ask) within.left (λ q. no_less q (omega (arith, h))) (rw (now, was) h) in
+                let less = by_change w new p (step_count ask) below within.left left_here (λ q. no_less q (omega (arith, h))) (rw (now, was) h) in
                 omega arith
 
         go : (after : After (Flight T) (Answer T)) → s.after ≡ after → Shows w new (step_count ask) (ends (events_of_step p x.start s))
