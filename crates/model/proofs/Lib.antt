@@ -26,6 +26,7 @@ pub mod WorkedBits
 pub mod WorkedContainer
 pub mod WorkedIndices
 pub mod WorkedLinearizable
+pub mod WorkedLockFree
 pub mod WorkedLoan
 pub mod WorkedProgress
 pub mod WorkedRobust
