@@ -1,5 +1,6 @@
 -- From a measure of each call under way to lock-freedom.
 pub mod Falls
+pub mod Framed
 pub mod Machines
 pub mod Measure
 pub mod Own

@@ -25,10 +25,10 @@ use Rattle.model.specs.Turns.{doing_after, after_begin, after_next, after_decisi
 use Rattle.model.specs.World.{World, Trace, capacity_error, opening, flight_in}
 use Rattle.model.proofs.LockFree.Falls.{falls_by, StepFalls}
 use Rattle.model.proofs.LockFree.Measure.{Measure, Owed, FallsBy}
+use Rattle.model.proofs.LockFree.Stays.{under_way}
 use Rattle.model.proofs.LockFree.Walks.{calls_end}
 use Rattle.model.proofs.Parties.{party_put_same, party_put_other}
 use Rattle.model.proofs.Reached.{turn_making, kept_by_runs_on}
-use Rattle.model.proofs.Rows.{some_party}
 
 -- what is said of a family, for each coding and each capacity
 pub record Outline (T : Type 0) : Type 1 where
@@ -169,20 +169,10 @@ module _ {T : Type 0} (K : Outline T) where
       pub at : K.At w.coding w.capacity start flight
 
     stands : (w : World T) → IsOwn w → (p : ℕ) (flight : Flight T) → flight_in w p ≡ Some flight → Stands w flight
-    stands w h p flight e = go (some_party (party_of p w.latest) flight e)
-      where
-        go : (x : Party T) × (party_of p w.latest ≡ Some x) → Stands w flight
-        go (x, found) = doing x.doing refl
-          where
-            doing : (d : Doing T) → x.doing ≡ d → Stands w flight
-            doing (Over others) d =
-                let none : flight_in w p ≡ None = ap (λ o. flight_of (doing_of o)) found ∙ ap (λ d. flight_of (Some d)) d in
-                absurd (cc)
-            doing (Going now since) d =
-                let here : flight_in w p ≡ Some now = ap (λ o. flight_of (doing_of o)) found ∙ ap (λ d. flight_of (Some d)) d in
-                let same : now ≡ flight = grind arith in
-                let own : OwnDoing w x.start (Going now since) = subst (OwnDoing w x.start) d (own_there w h p x found) in
-                subst (Stands w) same (record { start = x.start; at = own })
+    stands w h p flight e =
+        let under = under_way w p flight e in
+        let x = under.party in
+        record { start = x.start; at = subst (OwnDoing w x.start) under.doing (own_there w h p x under.found) }
 
     abbrev asked : Coding T → Flight T → Option Ask
     asked code flight = ask_of (want_of code flight)
