@@ -17,7 +17,7 @@ use Rattle.model.specs.Turns.{IsReachedOn}
 use Rattle.model.proofs.FamilyLaws as laws
 use Rattle.model.proofs.FamilyLaws.{Opens, Owed, OwesAll}
 use Rattle.model.proofs.Frame as frame
-use Rattle.model.proofs.Orders.{Keeps}
+use Rattle.model.proofs.Orders.{Keeps, Orders}
 use Rattle.model.proofs.Readings.{Each-nil}
 use Rattle.model.proofs.Scenes.{step_from}
 use Rattle.laws_indices.proofs.Core.{held_below}
@@ -96,6 +96,10 @@ module _ {T : Type 0} where
   -- what is proved of every run of the unique index set
   pub index_keeps : Keeps T kinds.TheVariants.Indices
   index_keeps = laws.keeps outline May owes_all
+
+  -- a step writes down in order, and its call goes on as its table says
+  pub orders_of : (code : Coding T) (c : ℕ) → Orders (family code c)
+  orders_of code c = laws.orders outline code c May (owed code c)
 
   -- what holds of every run where neither turns nor parties have a bound
   pub reached_on_sound : (t : Trace T) → t.world.kind ≡ kinds.TheVariants.Indices → IsReachedOn t → frame.Sound (family t.world.coding t.world.capacity) t

@@ -1,3 +1,4 @@
+pub mod LockFree
 mod Names
 pub mod Overflow
 pub mod Queues

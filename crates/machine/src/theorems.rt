@@ -2,7 +2,9 @@
 //! law, whose proof is a lemma that a client's proof can cite.
 ghost use Rattle.model.specs.declared.families.Flight.{Flight};
 ghost use Rattle.model.specs.declared.turn.Kind.{Kind};
+ghost use Rattle.model.specs.declared.turn.Kind.TheVariants.{Robust};
 ghost use Rattle.model.specs.Coding.{Coding};
+ghost use Rattle.model.specs.LockFree.{Bound, IsLockFree, KeepsEnding, HasLockFreeRuns, lock_free_bound};
 ghost use Rattle.model.specs.Linearized.{IsLinearizableRun};
 ghost use Rattle.model.specs.Progress.{AreGuaranteed, KeepsGuarantees, Looks, ChangesNothing};
 ghost use Rattle.model.specs.Promises.{IsKept};
@@ -30,4 +32,24 @@ pub fn keeps_guarantees<T>()
 /// `proofs/Looks.antt` of `model`.
 pub fn looks_change_nothing<T>()
     ensures { (code : Coding T) (flight : Flight T) → Looks flight → ChangesNothing code flight }
+{}
+
+/// Lock-freedom of index queues, overflowing queues, queues, the single value, bit sets and counting bit sets, each with its
+/// bound as the table `lock_free_bound` says: wherever turns have led, and whatever turns n parties take from there while the
+/// others have stopped anywhere, in more steps than the bound one of their calls ends, and calls go on ending as often as the
+/// steps have that bound. The third clause says the first of the machines as they run, where n is the number of parties. A
+/// turn that is refused is in no such list, a call that waits for a decision takes no step, and nothing says that a party
+/// takes turns. The proof is `keep_ending` of `proofs/LockFree.antt`, by a measure of each call in the crate of its kind's
+/// laws.
+pub fn lock_free<T>()
+    ensures one_ends { (kind : Kind) → IfSome (lock_free_bound kind) (IsLockFree T kind) }
+    ensures keep_ending { (kind : Kind) → IfSome (lock_free_bound kind) (KeepsEnding T kind) }
+    ensures as_run { (kind : Kind) → IfSome (lock_free_bound kind) (HasLockFreeRuns T kind) }
+{}
+
+/// A robust index set of two indices has no such bound below 200 for two parties: two releases in the mode `LockIfLastIndex`
+/// make each other begin again, in a run of 200 steps in which no call ends. The run is `rounds 20` of
+/// `proofs/WorkedLockFree.antt` of `model`.
+pub fn not_lock_free_below()
+    ensures { (bound : Bound) → bound 2 2 1 < 200 → IsLockFree ℕ Robust bound → ⊥ }
 {}

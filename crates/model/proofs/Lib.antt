@@ -4,6 +4,7 @@ pub mod Family
 pub mod FamilyLaws
 pub mod Frame
 pub mod Linearizable
+pub mod LockFree
 pub mod Looks
 pub mod Moments
 pub mod Openings
@@ -25,6 +26,7 @@ pub mod WorkedBits
 pub mod WorkedContainer
 pub mod WorkedIndices
 pub mod WorkedLinearizable
+pub mod WorkedLockFree
 pub mod WorkedLoan
 pub mod WorkedProgress
 pub mod WorkedRobust

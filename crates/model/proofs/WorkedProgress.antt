@@ -11,7 +11,7 @@ use Rattle.model.specs.World.{Trace, progress_in}
 use Rattle.model.proofs.Runs.{nexts, begins, ran}
 
 -- each has emptied its cell, and has counted that no cell has an owner
-abbrev both_count : List (Turn ℕ)
+abbrev pub both_count : List (Turn ℕ)
 both_count =
     begins 0 (Robust (Acquire 1)) 4
     ++ (begins 1 (Robust (Acquire 2)) 5
@@ -19,7 +19,7 @@ both_count =
     ++ (begins 1 (Robust (Release 1 2 LockIfLastIndex)) 3 ++ (nexts 0 4 ++ nexts 1 4))))
 
 -- each finds the counter changed by the count of the other, and counts again
-abbrev round : List (Turn ℕ)
+abbrev pub round : List (Turn ℕ)
 round = nexts 0 5 ++ nexts 1 5
 
 abbrev after_three : Trace ℕ

@@ -2,6 +2,7 @@ pub mod Coding
 pub mod Families
 pub mod Linearizable
 pub mod Linearized
+pub mod LockFree
 pub mod Moments
 pub mod Objects
 pub mod Opening

@@ -1,0 +1,401 @@
+-- The unique index set is lock-free: a measure of its calls.
+use Rattle.std.proofs.Common.{◌≡◌, ◌≢◌, ℕ, ◌+◌, ◌-◌, ◌<◌, ◌≤◌, ◌==◌, inl, inr, nat_lt, min, ⊎_elim, Bool, true, false, cond}
+use Rattle.std.proofs.Common.{Option, Some, List, length, get_or, set, bit_and, bit_or, ◌^◌, refl, sym, subst, ◌∙◌, arith}
+use Rattle.laws_indices.proofs.Names.{nat_tests, cases_eq, flag_word, flag, borrowed, proposed, says_locked}
+use Rattle.laws_indices.proofs.Names.{LockIfLastIndex, Default, AcquireStage, ReleaseStage, Start, Indices, Flight, IndexStart, IndexFlight}
+use Rattle.laws_indices.proofs.Names.{Party, Coding, party_of, Trace}
+use Rattle.steps.specs.Indices.Head.{next_word}
+use Rattle.steps.specs.Indices.Unique.{acquire_sees, head_taken, Acquired}
+use Rattle.steps.specs.Routine.{went_on}
+use Rattle.steps.specs.declared.ask.After.{After}
+use Rattle.steps.specs.declared.indices.unique.Acquire as acquiring
+use Rattle.steps.specs.declared.indices.unique.AcquireStage as acquires
+use Rattle.steps.specs.declared.indices.unique.ReleaseStage as releases
+use Rattle.model.specs.declared.event.Answer.{Answer}
+use Rattle.model.specs.declared.families.Flight as flights
+use Rattle.model.specs.declared.families.indices.IndexStart as starts
+use Rattle.model.specs.declared.families.indices.calls.IndexFlight as calls
+use Rattle.model.specs.declared.turn.Kind as kinds
+use Rattle.model.specs.Families.{want_of, ask_of, after_of, is_question}
+use Rattle.model.specs.Families.Indices.Calls.{acquire_answer}
+use Rattle.model.specs.Families.Queues.Calls.{as_it_is}
+use Rattle.model.specs.LockFree.{KeepsEnding, stretch}
+use Rattle.model.specs.Parties.{doing_of, flight_of}
+use Rattle.model.specs.Step.{as_call}
+use Rattle.model.specs.Turns.{old_of, words_after, step_count}
+use Rattle.model.proofs.Family.{scene_of}
+use Rattle.model.proofs.Frame.{Sound}
+use Rattle.model.proofs.LockFree.Falls.{same_is, load_leaves, falls_by, FallsIn, LeavesAll, StepFalls}
+use Rattle.model.proofs.LockFree.Framed.{FramedLaws, framed_keep_ending}
+use Rattle.model.proofs.LockFree.Measure.{Measure, FallsBy}
+use Rattle.model.proofs.Scenes.{stands_there}
+use Rattle.laws_indices.proofs.Core.{head_of, is_claimed, flag_within, claims_stay, claim_leaves, clear_clears, clear_leaves, head_stays, Good}
+use Rattle.laws_indices.proofs.Invariant.{FlightAt, outline, family}
+use Rattle.laws_indices.proofs.Knows.{acquire_at, default_at, lock_at, counts, AcquireAt, At}
+use Rattle.laws_indices.proofs.Moves.{some_free}
+use Rattle.laws_indices.proofs.Scans.{scan, scan_few, scan_wraps, scan_on, scan_fewer}
+use Rattle.laws_indices.proofs.Sound.{orders_of, reached_on_sound}
+use Rattle.laws_indices.proofs.Stages.{busy, busy_here}
+
+module _ (c : ℕ) where
+  -- ---- how many steps a call takes at most before its last one, while the head stays and no flag more stands
+
+  -- a scan that is under way finds a free flag
+  abbrev scans : List ℕ → ℕ → ℕ
+  scans words i = min (c - 1) (scan c words i)
+
+  abbrev acquire_left : List ℕ → AcquireStage → ℕ
+  acquire_left words acquires.TheVariants.LoadsHead = c + 3
+  acquire_left words (acquires.TheVariants.LoadsNext head) = cond (head_of words == head) (c + 2) (c + 4)
+  acquire_left words (acquires.TheVariants.ExchangesHead head next) = cond (head_of words == head) (c + 1) (c + 3)
+  acquire_left words (acquires.TheVariants.Claims i) = cond (is_claimed c words i) (scans words 0 + 1) 0
+  acquire_left words (acquires.TheVariants.Scans i) = scans words i
+
+-- ---- how many changes it makes at most before its last step that can add to the steps of others
+
+-- an acquire moves the head
+abbrev acquire_pays : AcquireStage → ℕ
+acquire_pays (acquires.TheVariants.Claims i) = 0
+acquire_pays (acquires.TheVariants.Scans i) = 0
+acquire_pays stage = 1
+
+abbrev default_left : ReleaseStage → ℕ
+default_left releases.TheVariants.ClearsFlag = 4
+default_left releases.TheVariants.LoadsHead = 3
+default_left (releases.TheVariants.StoresNext head) = 2
+default_left (releases.TheVariants.ExchangesHead head) = 1
+default_left releases.TheVariants.Subtracts = 0
+
+-- one that may lock goes on from the head found
+abbrev lock_left : ℕ → ReleaseStage → ℕ
+lock_left now releases.TheVariants.ClearsFlag = 3
+lock_left now releases.TheVariants.LoadsHead = 2
+lock_left now (releases.TheVariants.StoresNext head) = cond (now == head) 1 3
+lock_left now (releases.TheVariants.ExchangesHead head) = cond (now == head) 0 2
+lock_left now releases.TheVariants.Subtracts = 0
+
+abbrev call_left : ℕ → List ℕ → IndexFlight → ℕ
+call_left c words (calls.TheVariants.Acquire run) = acquire_left c words run.call.stage
+call_left c words (calls.TheVariants.ReleaseDefault run) = default_left run.call.stage
+call_left c words (calls.TheVariants.ReleaseLock run) = lock_left (head_of words) run.call.stage
+call_left c words (calls.TheVariants.BorrowedIndices run) = 0
+call_left c words (calls.TheVariants.IsLocked run) = 0
+
+abbrev call_pays : IndexFlight → ℕ
+call_pays (calls.TheVariants.Acquire run) = acquire_pays run.call.stage
+call_pays flight = 0
+
+module _ {T : Type 0} where
+  abbrev left : ℕ → List ℕ → Flight T → ℕ
+  left c words (flights.TheVariants.Indices flight) = call_left c words flight
+  left c words flight = 0
+
+  abbrev pays : Flight T → ℕ
+  pays (flights.TheVariants.Indices flight) = call_pays flight
+  pays flight = 0
+
+  abbrev measure : ℕ → Measure T
+  measure c = record { left = left c; pays = pays; alone = c + 4; changes = 1 }
+
+-- ---- words in which the head is the same and no flag more stands cost nobody a step
+
+module _ (c : ℕ) (old new : List ℕ) (same : head_of new ≡ head_of old) (fewer : (j : ℕ) → is_claimed c new j ≡ true → is_claimed c old j ≡ true) where
+  scans_fewer : (i : ℕ) → scans c new i ≤ scans c old i
+  scans_fewer i = let fewer = scan_fewer c old new fewer i in grind arith
+
+  acquire_fewer : (stage : AcquireStage) → acquire_left c new stage ≤ acquire_left c old stage
+  acquire_fewer acquires.TheVariants.LoadsHead = omega arith
+  acquire_fewer (acquires.TheVariants.LoadsNext head) = rw same (omega arith)
+  acquire_fewer (acquires.TheVariants.ExchangesHead head next) = rw same (omega arith)
+  acquire_fewer (acquires.TheVariants.Claims i) = go (is_claimed c new i) refl
+    where
+      go : (t : Bool) → is_claimed c new i ≡ t → cond t (scans c new 0 + 1) 0 ≤ acquire_left c old (acquires.TheVariants.Claims i)
+      go true t =
+          let stood = fewer i t in
+          let rest = scans_fewer 0 in
+          rw stood (omega arith)
+      go false t = omega arith
+  acquire_fewer (acquires.TheVariants.Scans i) = scans_fewer i
+
+  leaves : {T : Type 0} → LeavesAll (measure {T = T} c) old new
+  leaves (flights.TheVariants.Indices (calls.TheVariants.Acquire run)) = acquire_fewer run.call.stage
+  leaves (flights.TheVariants.Indices (calls.TheVariants.ReleaseDefault run)) = omega arith
+  leaves (flights.TheVariants.Indices (calls.TheVariants.ReleaseLock run)) = rw same (omega arith)
+  leaves (flights.TheVariants.Indices (calls.TheVariants.BorrowedIndices run)) = omega arith
+  leaves (flights.TheVariants.Indices (calls.TheVariants.IsLocked run)) = omega arith
+  leaves flight = omega arith
+
+-- ---- each step falls
+
+module _ {T : Type 0} (code : Coding T) (c : ℕ) (words : List ℕ) where
+  abbrev M : Measure T
+  M = measure c
+
+  abbrev Shown : IndexFlight → Type 0
+  Shown flight = StepFalls M code words (flights.TheVariants.Indices flight)
+
+  abbrev now : ℕ
+  now = head_of words
+
+  -- ---- an acquire
+
+  abbrev as_acquire : After acquiring.Acquire Acquired → After (Flight T) (Answer T)
+  as_acquire after =
+      as_call flights.TheVariants.Indices (λ answer. answer)
+      (as_call calls.TheVariants.Acquire acquire_answer (went_on as_it_is tt tt after))
+
+  -- a head was found, in words that stay
+  sees_falls : (new : List ℕ) (was : Flight T) (stage : AcquireStage) → new ≡ words → c + 3 ≤ left c words was → 1 ≤ pays was
+      → FallsIn M words new 1 was (as_acquire (acquire_sees (record { capacity = c; stage = stage }) now))
+  sees_falls new was stage same enough one = go (says_locked now) refl (borrowed now == c) refl (nat_lt (proposed now) c) refl
+    where
+      go : (t : Bool) → says_locked now ≡ t → (u : Bool) → (borrowed now == c) ≡ u → (v : Bool) → nat_lt (proposed now) c ≡ v
+          → FallsIn M words new 1 was (as_acquire (acquire_sees (record { capacity = c; stage = stage }) now))
+      go true t u e v f = rw t tt
+      go false t true u v f = rw (t, u) tt
+      go false t false u true v = let self = same_is now in rw (t, u, v) (inl (same, rw self (omega arith), one))
+      go false t false u false v = let self = same_is now in rw (t, u, v) (inl (same, rw self (omega arith), one))
+
+  claims_most : 1 ≤ c → (new : List ℕ) (i : ℕ) → acquire_left c new (acquires.TheVariants.Claims i) ≤ c
+  claims_most some new i = go (is_claimed c new i)
+    where
+      go : (t : Bool) → cond t (scans c new 0 + 1) 0 ≤ c
+      go true = grind arith
+      go false = omega arith
+
+  scans_most : 1 ≤ c → (new : List ℕ) (i : ℕ) → scans c new i + 1 ≤ c
+  scans_most x0 x1 x2 = grind arith
+
+  exchange_falls : 1 ≤ c → (head next : ℕ) → Shown (acquire_at c (acquires.TheVariants.ExchangesHead head next))
+  exchange_falls some head next = go (now == head) refl (nat_lt (proposed head) c) refl
+    where
+      stage : AcquireStage
+      stage = acquires.TheVariants.ExchangesHead head next
+
+      go : (t : Bool) → (now == head) ≡ t → (u : Bool) → nat_lt (proposed head) c ≡ u → Shown (acquire_at c stage)
+      go true t true u = let most = claims_most some (set words 0 (head_taken head next)) (proposed head) in
+          rw (t, u) (inr (rw t (omega arith), inr (omega arith)))
+      go true t false u = let most = scans_most some (set words 0 (head_taken head next)) 0 in rw (t, u) (inr (rw t (omega arith), inr (omega arith)))
+      go false t u e =
+          rw t (sees_falls _ (flights.TheVariants.Indices (acquire_at c stage)) stage (load_leaves words 0) (rw t (omega arith)) (omega arith))
+
+  -- what a claim of a flag that stands leaves
+  module _ (holders : List (Option ℕ)) (busy_calls : ℕ) (g : Good c words holders busy_calls) (i : ℕ)
+      (below : i < c) (stood : is_claimed c words i ≡ true) where
+    abbrev tried : List ℕ
+    tried = set words (flag_word c i) (bit_or (get_or words (flag_word c i) 0) (flag i))
+
+    tried_head : head_of tried ≡ now
+    tried_head = head_stays c words (flag_word c i) _ (omega arith)
+
+    tried_fewer : (j : ℕ) → is_claimed c tried j ≡ true → is_claimed c words j ≡ true
+    tried_fewer j t = ⊎_elim here there (cases_eq j i)
+      where
+        here : j ≡ i → is_claimed c words j ≡ true
+        here e = subst (λ k. is_claimed c words k ≡ true) (sym e) stood
+
+        there : j ≢ i → is_claimed c words j ≡ true
+        there ne =
+            let wide = g.wide in
+            let within = flag_within c i below in
+            sym (claim_leaves c words i (omega arith) j ne) ∙ t
+
+    claims_fall : Shown (acquire_at c (acquires.TheVariants.Claims i))
+    claims_fall =
+        let rest = scans_fewer c words tried tried_head tried_fewer 0 in
+        rw stood (inr (rw stood (omega arith), inl (leaves c words tried tried_head tried_fewer, omega arith)))
+
+    module _ (free : ((j : ℕ) → j < c → is_claimed c words j ≡ true) → ⊥) where
+      one_on : (next here : ℕ) → next + 1 ≤ here → here ≤ c - 1 → min (c - 1) next + 1 ≤ min (c - 1) here
+      one_on x0 x1 x2 x3 = grind arith
+
+      scans_fall : Shown (acquire_at c (acquires.TheVariants.Scans i))
+      scans_fall = go (nat_lt (i + 1) c) refl
+        where
+          most : scan c words i ≤ c - 1
+          most = scan_few c words free i below
+
+          go : (t : Bool) → nat_lt (i + 1) c ≡ t → Shown (acquire_at c (acquires.TheVariants.Scans i))
+          go true t =
+              let more : i + 1 < c = grind (arith, nat_tests) in
+              let rest = scans_fewer c words tried tried_head tried_fewer (i + 1) in
+              let on = one_on (scan c words (i + 1)) (scan c words i) (scan_on c words i more stood) most in
+              rw (stood, t) (inr (omega arith, inl (leaves c words tried tried_head tried_fewer, omega arith)))
+          go false t =
+              let last : c ≤ i + 1 = grind (arith, nat_tests) in
+              let rest = scans_fewer c words tried tried_head tried_fewer 0 in
+              let on = one_on (scan c words 0) (scan c words i) (scan_wraps c words free i below last stood) most in
+              rw (stood, t) (inr (omega arith, inl (leaves c words tried tried_head tried_fewer, omega arith)))
+
+  acquire_falls : (holders : List (Option ℕ)) (busy_calls : ℕ) → Good c words holders busy_calls → (stage : AcquireStage) → AcquireAt c stage
+      → counts (acquire_at c stage) ≤ busy_calls → Shown (acquire_at c stage)
+  acquire_falls holders busy_calls g acquires.TheVariants.LoadsHead at heavy =
+      sees_falls _ (flights.TheVariants.Indices (acquire_at c acquires.TheVariants.LoadsHead)) acquires.TheVariants.LoadsHead (load_leaves words 0)
+      (omega arith) (omega arith)
+  acquire_falls holders busy_calls g (acquires.TheVariants.LoadsNext head) at heavy = go (now == head) refl
+    where
+      go : (t : Bool) → (now == head) ≡ t → Shown (acquire_at c (acquires.TheVariants.LoadsNext head))
+      go true t = inl (load_leaves words (next_word (proposed head)), rw t (omega arith), omega arith)
+      go false t = inl (load_leaves words (next_word (proposed head)), rw t (omega arith), omega arith)
+  acquire_falls holders busy_calls g (acquires.TheVariants.ExchangesHead head next) at heavy = exchange_falls g.some head next
+  acquire_falls holders busy_calls g (acquires.TheVariants.Claims i) at heavy = go (is_claimed c words i) refl
+    where
+      go : (t : Bool) → is_claimed c words i ≡ t → Shown (acquire_at c (acquires.TheVariants.Claims i))
+      go true t = claims_fall holders busy_calls g i at t
+      go false t = rw t tt
+  acquire_falls holders busy_calls g (acquires.TheVariants.Scans i) at heavy = go (is_claimed c words i) refl
+    where
+      go : (t : Bool) → is_claimed c words i ≡ t → Shown (acquire_at c (acquires.TheVariants.Scans i))
+      go true t = scans_fall holders busy_calls g i at t (some_free c words holders busy_calls g heavy)
+      go false t = rw t tt
+
+  -- ---- a release
+
+  module _ (holders : List (Option ℕ)) (busy_calls : ℕ) (g : Good c words holders busy_calls) (index : ℕ) (below : index < c) where
+    abbrev cleared : List ℕ
+    cleared = set words (flag_word c index) (bit_and (get_or words (flag_word c index) 0) (2 ^ 64 - 1 - flag index))
+
+    cleared_head : head_of cleared ≡ now
+    cleared_head = head_stays c words (flag_word c index) _ (omega arith)
+
+    cleared_fewer : (j : ℕ) → is_claimed c cleared j ≡ true → is_claimed c words j ≡ true
+    cleared_fewer j t = ⊎_elim here there (cases_eq j index)
+      where
+        within : flag_word c index < length words
+        within = let wide = g.wide in let low = flag_within c index below in omega arith
+
+        here : j ≡ index → is_claimed c words j ≡ true
+        here e =
+            let clear = clear_clears c words index within in
+            let stood : is_claimed c cleared index ≡ true = subst (λ k. is_claimed c cleared k ≡ true) e t in
+            absurd (cc)
+
+        there : j ≢ index → is_claimed c words j ≡ true
+        there ne = sym (clear_leaves c words index within j ne) ∙ t
+
+    abbrev stored : ℕ → List ℕ
+    stored head = set words (next_word index) (proposed head)
+
+    stored_head : (head : ℕ) → head_of (stored head) ≡ now
+    stored_head head = head_stays c words (next_word index) (proposed head) (omega arith)
+
+    stored_fewer : (head j : ℕ) → is_claimed c (stored head) j ≡ true → is_claimed c words j ≡ true
+    stored_fewer head j t = sym (claims_stay c words (next_word index) (proposed head) j (omega arith)) ∙ t
+
+    default_falls : (stage : ReleaseStage) → Shown (default_at c index stage)
+    default_falls releases.TheVariants.ClearsFlag = inr (omega arith, inl (leaves c words cleared cleared_head cleared_fewer, omega arith))
+    default_falls releases.TheVariants.LoadsHead = inl (load_leaves words 0, omega arith, omega arith)
+    default_falls (releases.TheVariants.StoresNext head) =
+        inr (omega arith, inl (leaves c words (stored head) (stored_head head) (stored_fewer head), omega arith))
+    default_falls (releases.TheVariants.ExchangesHead head) = go (now == head) refl
+      where
+        go : (t : Bool) → (now == head) ≡ t → Shown (default_at c index (releases.TheVariants.ExchangesHead head))
+        go true t = rw t tt
+        go false t = rw t (inl (load_leaves words 0, omega arith, omega arith))
+    default_falls releases.TheVariants.Subtracts = tt
+
+    lock_falls : (stage : ReleaseStage) → Shown (lock_at c index stage)
+    lock_falls releases.TheVariants.ClearsFlag = inr (omega arith, inl (leaves c words cleared cleared_head cleared_fewer, omega arith))
+    lock_falls releases.TheVariants.LoadsHead = let self = same_is now in inl (load_leaves words 0, rw self (omega arith), omega arith)
+    lock_falls (releases.TheVariants.StoresNext head) = go (now == head) refl
+      where
+        go : (t : Bool) → (now == head) ≡ t → Shown (lock_at c index (releases.TheVariants.StoresNext head))
+        go true t =
+            let same = stored_head head in
+            inr (rw (same, t) (omega arith), inl (leaves c words (stored head) same (stored_fewer head), omega arith))
+        go false t =
+            let same = stored_head head in
+            inr (rw (same, t) (omega arith), inl (leaves c words (stored head) same (stored_fewer head), omega arith))
+    lock_falls (releases.TheVariants.ExchangesHead head) = go (now == head) refl
+      where
+        go : (t : Bool) → (now == head) ≡ t → Shown (lock_at c index (releases.TheVariants.ExchangesHead head))
+        go true t = rw t tt
+        go false t = let self = same_is now in rw t (inl (load_leaves words 0, rw (self, t) (omega arith), omega arith))
+    lock_falls releases.TheVariants.Subtracts = tt
+
+  call_falls : (holders : List (Option ℕ)) (busy_calls p : ℕ) → Good c words holders busy_calls → (start : IndexStart) (flight : IndexFlight)
+      → At c holders p start flight → counts flight ≤ busy_calls → Shown flight
+  call_falls holders busy_calls p g starts.TheVariants.Acquire (calls.TheVariants.Acquire run) at heavy =
+      subst (λ n. counts (acquire_at n run.call.stage) ≤ busy_calls → Shown (acquire_at n run.call.stage)) (sym at.0)
+      (λ h. acquire_falls holders busy_calls g run.call.stage at.1 h) heavy
+  call_falls holders busy_calls p g (starts.TheVariants.Release index Default) (calls.TheVariants.ReleaseDefault run) at heavy =
+      subst (λ n. Shown (default_at n run.given run.call.stage)) (sym at.0)
+      (subst (λ i. Shown (default_at c i run.call.stage)) (sym at.1) (default_falls holders busy_calls g index at.2 run.call.stage))
+  call_falls holders busy_calls p g (starts.TheVariants.Release index LockIfLastIndex) (calls.TheVariants.ReleaseLock run) at heavy =
+      subst (λ n. Shown (lock_at n run.given run.call.stage)) (sym at.0)
+      (subst (λ i. Shown (lock_at c i run.call.stage)) (sym at.1) (lock_falls holders busy_calls g index at.2 run.call.stage))
+  call_falls holders busy_calls p g starts.TheVariants.BorrowedIndices (calls.TheVariants.BorrowedIndices run) at heavy = tt
+  call_falls holders busy_calls p g starts.TheVariants.IsLocked (calls.TheVariants.IsLocked run) at heavy = tt
+  call_falls holders busy_calls p g start flight at heavy = absurd at
+
+-- ---- no call has more left
+
+module _ (c : ℕ) (some : 1 ≤ c) (words : List ℕ) where
+  one_of : (t : Bool) (a b most : ℕ) → a ≤ most → b ≤ most → cond t a b ≤ most
+  one_of true a b most x y = x
+  one_of false a b most x y = y
+
+  scans_low : (i : ℕ) → scans c words i ≤ c + 3
+  scans_low x0 = grind arith
+
+  acquire_most : (stage : AcquireStage) → acquire_left c words stage ≤ c + 4
+  acquire_most acquires.TheVariants.LoadsHead = omega arith
+  acquire_most (acquires.TheVariants.LoadsNext head) = one_of _ (c + 2) (c + 4) (c + 4) (omega arith) (omega arith)
+  acquire_most (acquires.TheVariants.ExchangesHead head next) = one_of _ (c + 1) (c + 3) (c + 4) (omega arith) (omega arith)
+  acquire_most (acquires.TheVariants.Claims i) = let low = scans_low 0 in one_of _ (scans c words 0 + 1) 0 (c + 4) (omega arith) (omega arith)
+  acquire_most (acquires.TheVariants.Scans i) = let low = scans_low i in omega arith
+
+  most : {T : Type 0} → (flight : Flight T) → (left c words flight ≤ c + 4) × (pays flight ≤ 1)
+  most (flights.TheVariants.Indices (calls.TheVariants.Acquire run)) = (acquire_most run.call.stage, grind arith)
+  most (flights.TheVariants.Indices (calls.TheVariants.ReleaseDefault run)) = (grind arith, omega arith)
+  most (flights.TheVariants.Indices (calls.TheVariants.ReleaseLock run)) = (grind arith, omega arith)
+  most (flights.TheVariants.Indices (calls.TheVariants.BorrowedIndices run)) = (omega arith, omega arith)
+  most (flights.TheVariants.Indices (calls.TheVariants.IsLocked run)) = (omega arith, omega arith)
+  most flight = (omega arith, omega arith)
+
+-- ---- of each machine that turns have reached
+
+module _ {T : Type 0} (t : Trace T) (s : Sound (family t.world.coding t.world.capacity) t) (p : ℕ) (x : Party T) (since : ℕ) where
+  good : Good t.world.capacity t.world.words s.state.holders (busy (scene_of outline t.world.coding t.world.capacity t s p x.steps x.backs since))
+  good =
+      subst (λ ws. Good t.world.capacity ws s.state.holders (busy (scene_of outline t.world.coding t.world.capacity t s p x.steps x.backs since)))
+      (sym s.fit.1) s.holds.good
+
+  flight_falls : (start : Start T) (flight : Flight T) → FlightAt t.world.capacity s.state.holders p start flight
+      → party_of p t.world.latest ≡ Some x → flight_of (doing_of (party_of p t.world.latest)) ≡ Some flight
+      → FallsBy (measure t.world.capacity) t.world p flight (ask_of (want_of t.world.coding flight))
+      (old_of t.world.words (ask_of (want_of t.world.coding flight)))
+  flight_falls (Indices start) (flights.TheVariants.Indices flight) at found is =
+      let w = t.world in
+      let any : Flight T = flights.TheVariants.Indices flight in
+      let heavy =
+      busy_here (scene_of outline w.coding w.capacity t s p x.steps x.backs since) flight
+      (record { seat = s.holds.bounded p x found; under = is }) in
+      falls_by (measure w.capacity) w p (words_after w.words (ask_of (want_of w.coding any))) (step_count (ask_of (want_of w.coding any))) any
+      (after_of w.coding any (old_of w.words (ask_of (want_of w.coding any))))
+      (call_falls w.coding w.capacity w.words s.state.holders _ p good start flight at heavy)
+  flight_falls start flight at found is = absurd at
+
+module _ {T : Type 0} where
+  never_asks : (code : Coding T) (c : ℕ) (holders : List (Option ℕ)) (p : ℕ) (start : Start T) (flight : Flight T)
+      → FlightAt c holders p start flight → is_question (want_of code flight) ≡ false
+  never_asks x0 x1 x2 x3 x4 x5 x6 = grind arith
+
+  laws : FramedLaws kinds.TheVariants.Indices (family {T = T}) measure
+  laws =
+      record {
+        sound = reached_on_sound;
+        goes = λ t s p x flight since answer found doing. (orders_of t.world.coding t.world.capacity).after t p x flight since answer s found doing;
+        most = λ t s p x flight since found doing. (let some = s.holds.good.some in most t.world.capacity some t.world.words flight);
+        step = λ t s p x flight since found doing.
+            (let there = stands_there (family t.world.coding t.world.capacity) t s p x since flight found doing in
+            flight_falls t s p x since x.start flight there.at found there.found);
+        decision = λ t s p x flight since said found doing asks.
+            (let there = stands_there (family t.world.coding t.world.capacity) t s p x since flight found doing in
+            let none = never_asks t.world.coding t.world.capacity s.state.holders p x.start flight there.at in
+            absurd (cc));
+      }
+
+  pub indices_keep_ending : KeepsEnding T kinds.TheVariants.Indices (λ n capacity size. stretch n 1 (capacity + 4))
+  indices_keep_ending =
+      framed_keep_ending kinds.TheVariants.Indices family measure laws (λ n capacity size. stretch n 1 (capacity + 4)) (λ c n size. refl)

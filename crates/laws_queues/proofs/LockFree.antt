@@ -1,0 +1,432 @@
+-- The index queue, the queue and the overflowing queue are lock-free: a measure of their calls.
+use Rattle.std.proofs.Common.{◌≡◌, ℕ, ◌+◌, ◌-◌, ◌*◌, ◌<◌, ◌≤◌, ◌==◌, ◌||◌, ◌^◌, inl, inr, nat_lt, max, Bool, true, false, cond}
+use Rattle.std.proofs.Common.{Option, Some, None, List, get_or, set, get_or-set_other, refl, arith}
+use Rattle.std.proofs.Math.Nat.{mul-le-mul_left}
+use Rattle.std.proofs.lemmas.Bool.Decides.{nat_tests}
+use Rattle.steps.specs.Queues.Ring.{distance, word_at, cell_word}
+use Rattle.steps.specs.Queues.Overflow as overflow
+use Rattle.steps.specs.declared.copied.OneWord.{OneWord}
+use Rattle.steps.specs.declared.copied.Buffer as buffers
+use Rattle.steps.specs.declared.queues.lengths.Len.{Len}
+use Rattle.steps.specs.declared.queues.lengths.LenStage.{LenStage}
+use Rattle.steps.specs.declared.queues.lengths.LenStage.TheVariants as lens
+use Rattle.steps.specs.declared.queues.overflow.Push as overflow_push
+use Rattle.steps.specs.declared.queues.overflow.PushStage as overflow_pushes
+use Rattle.steps.specs.declared.queues.overflow.Pop as overflow_pop
+use Rattle.steps.specs.declared.queues.overflow.PopStage as overflow_pops
+use Rattle.steps.specs.declared.queues.ring.Push.{Push}
+use Rattle.steps.specs.declared.queues.ring.PushStage as pushes
+use Rattle.steps.specs.declared.queues.ring.Pop.{Pop}
+use Rattle.steps.specs.declared.queues.ring.PopStage as pops
+use Rattle.steps.specs.declared.routine.Running.{Running}
+use Rattle.model.specs.declared.event.Start.{Start}
+use Rattle.model.specs.declared.event.Start.TheVariants as starts
+use Rattle.model.specs.declared.families.Flight.{Flight}
+use Rattle.model.specs.declared.families.Flight as flights
+use Rattle.model.specs.declared.families.Registry.{Registry}
+use Rattle.model.specs.declared.families.Registry as registries
+use Rattle.model.specs.declared.families.queues.QueueKind.{QueueKind}
+use Rattle.model.specs.declared.families.queues.QueueKind as queue_kinds
+use Rattle.model.specs.declared.families.queues.calls.LengthOf.{LengthOf}
+use Rattle.model.specs.declared.families.queues.calls.OverflowCall as overflows
+use Rattle.model.specs.declared.families.queues.calls.QueueFlight.{QueueFlight}
+use Rattle.model.specs.declared.families.queues.calls.QueueFlight.TheVariants.{Role, Indices, Values, Overflow, Length}
+use Rattle.model.specs.declared.families.queues.calls.RingCall as rings
+use Rattle.model.specs.declared.families.queues.calls.RoleCall.TheVariants.{Acquire, Release}
+use Rattle.model.specs.Coding.{Coding, IsCoding}
+use Rattle.model.specs.Families.{opening_of, first_of, want_of, after_of, goes_of, step_of, is_question, kept_after_begin, kept_after_death}
+use Rattle.model.specs.Families.Queues.Calls.{words_of_index}
+use Rattle.model.specs.LockFree.{KeepsEnding, stretch}
+use Rattle.model.specs.World.{capacity_error}
+use Rattle.model.proofs.LockFree.Falls.{same_is, load_leaves, LeavesAll, StepFalls}
+use Rattle.model.proofs.LockFree.Measure.{Measure}
+use Rattle.model.proofs.LockFree.Own.{Outline, OwnLaws, OwnAfter, keeps_ending}
+use Rattle.laws_queues.proofs.Queues.Core.{cell_within}
+use Rattle.laws_queues.proofs.Queues.Invariant.{machine_kind}
+use Rattle.laws_queues.proofs.Queues.Sound.{admitted_fits}
+
+-- ---- how many steps a call takes at most before its last one, while neither position moves
+
+abbrev len_left : ℕ → ℕ → LenStage → ℕ
+len_left write read lens.LoadsWrite = 3
+len_left write read (lens.LoadsRead w) = cond (write == w) 2 5
+len_left write read (lens.LoadsWriteAgain w r) = cond (write == w) (cond (read == r) 1 5) 4
+len_left write read (lens.LoadsReadAgain w r) = cond (read == r) 0 4
+
+abbrev push_left : ℕ → pushes.PushStage → ℕ
+push_left size pushes.TheVariants.LoadsWrite = size - 1 + 3
+push_left size (pushes.TheVariants.LoadsRead write) = size - 1 + 2
+push_left size (pushes.TheVariants.StoresCell write cell at) = size - (at + 1) + 1
+push_left size (pushes.TheVariants.StoresWrite write) = 0
+
+abbrev pop_left : ℕ → pops.PopStage → ℕ
+pop_left size pops.TheVariants.LoadsRead = size - 1 + 3
+pop_left size (pops.TheVariants.LoadsWrite read) = size - 1 + 2
+pop_left size (pops.TheVariants.LoadsCell read cell at) = size - (at + 1) + 1
+pop_left size (pops.TheVariants.StoresRead read) = 0
+
+abbrev over_left : ℕ → overflow_pops.PopStage → ℕ
+over_left read overflow_pops.TheVariants.FindsNone = 0
+over_left read overflow_pops.TheVariants.LoadsRead = 3
+over_left read (overflow_pops.TheVariants.LoadsWrite r) = cond (read == r) 2 4
+over_left read (overflow_pops.TheVariants.LoadsCell r) = cond (read == r) 1 3
+over_left read (overflow_pops.TheVariants.MovesRead r) = cond (read == r) 0 2
+
+-- ---- how many changes it makes at most before its last step that can add to the steps of others
+
+-- a push moves the write position, and where the queue was full the read position
+abbrev over_pays : overflow_pushes.PushStage → ℕ
+over_pays overflow_pushes.TheVariants.HandsBack = 0
+over_pays (overflow_pushes.TheVariants.MovesRead read) = 1
+over_pays (overflow_pushes.TheVariants.LoadsCell read) = 0
+over_pays stage = 2
+
+module _ {T : Type 0} where
+  abbrev call_left : ℕ → ℕ → ℕ → QueueFlight T → ℕ
+  call_left size write read (Role call) = 0
+  call_left size write read (Indices (rings.TheVariants.Push run)) = push_left 1 run.call.stage
+  call_left size write read (Indices (rings.TheVariants.Pop run)) = pop_left 1 run.call.stage
+  call_left size write read (Values (rings.TheVariants.Push run)) = push_left size run.call.stage
+  call_left size write read (Values (rings.TheVariants.Pop run)) = pop_left size run.call.stage
+  call_left size write read (Overflow (overflows.TheVariants.Push run)) = overflow.push_left run.call.stage
+  call_left size write read (Overflow (overflows.TheVariants.Pop run)) = over_left read run.call.stage
+  call_left size write read (Length which run) = len_left write read run.call.stage
+
+  abbrev left_at : ℕ → ℕ → ℕ → Flight T → ℕ
+  left_at size write read (flights.TheVariants.Queues flight) = call_left size write read flight
+  left_at size write read flight = 0
+
+  abbrev call_pays : QueueFlight T → ℕ
+  call_pays (Overflow (overflows.TheVariants.Push run)) = over_pays run.call.stage
+  call_pays flight = 0
+
+  abbrev pays : Flight T → ℕ
+  pays (flights.TheVariants.Queues flight) = call_pays flight
+  pays flight = 0
+
+  abbrev measure : ℕ → ℕ → ℕ → Measure T
+  measure size alone changes =
+      record { left = λ words flight. left_at size (get_or words 0 0) (get_or words 1 0) flight; pays = pays; alone = alone; changes = changes }
+
+-- ---- by kind
+
+abbrev alone_of : ℕ → QueueKind → ℕ
+alone_of size queue_kinds.TheVariants.IndexQueue = 5
+alone_of size queue_kinds.TheVariants.Overflow = 5
+alone_of size queue_kinds.TheVariants.Queue = max 5 (size + 2)
+
+abbrev changes_of : QueueKind → ℕ
+changes_of queue_kinds.TheVariants.IndexQueue = 0
+changes_of queue_kinds.TheVariants.Overflow = 2
+changes_of queue_kinds.TheVariants.Queue = 0
+
+-- a push stores words of a cell
+abbrev PushStands : ℕ → ℕ → pushes.PushStage → Type 0
+PushStands size capacity (pushes.TheVariants.StoresCell write cell at) = (4 ≤ cell) × (cell ≤ 4 + size * capacity) × (at < size)
+PushStands size capacity stage = Unit {0}
+
+abbrev IsPush : {V : Type 0} → ℕ → ℕ → Push V → Type 0
+IsPush size c call = (call.capacity ≡ c) × PushStands size c call.stage
+
+module _ {T : Type 0} where
+  abbrev CallStands : ℕ → QueueKind → ℕ → QueueFlight T → Type 0
+  CallStands size kd c (Role call) = Unit {0}
+  CallStands size kd c (Length which run) = Unit {0}
+  CallStands size queue_kinds.TheVariants.IndexQueue c (Indices (rings.TheVariants.Push run)) = IsPush 1 c run.call
+  CallStands size queue_kinds.TheVariants.IndexQueue c (Indices (rings.TheVariants.Pop run)) = Unit {0}
+  CallStands size queue_kinds.TheVariants.Queue c (Values (rings.TheVariants.Push run)) = IsPush size c run.call
+  CallStands size queue_kinds.TheVariants.Queue c (Values (rings.TheVariants.Pop run)) = Unit {0}
+  CallStands size queue_kinds.TheVariants.Overflow c (Overflow call) = Unit {0}
+  CallStands size kd c flight = ⊥
+
+  abbrev At : QueueKind → Coding T → ℕ → Start T → Flight T → Type 0
+  At kd code c (starts.Queues start) (flights.TheVariants.Queues flight) = CallStands code.size kd c flight
+  At kd code c start flight = ⊥
+
+  abbrev Kept : Registry T → Type 0
+  Kept (registries.TheVariants.Queues roles) = Unit {0}
+  Kept kept = ⊥
+
+  abbrev outline : QueueKind → Outline T
+  outline kd =
+      record {
+        kind = machine_kind kd;
+        Kept = Kept;
+        At = At kd;
+        measure = λ code c. measure code.size (alone_of code.size kd) (changes_of kd);
+      }
+
+-- ---- each step falls
+
+module _ {T : Type 0} (alone changes : ℕ) (code : Coding T) (words : List ℕ) where
+  abbrev M : Measure T
+  M = measure code.size alone changes
+
+  abbrev Shown : QueueFlight T → Type 0
+  Shown flight = StepFalls M code words (flights.TheVariants.Queues flight)
+
+  abbrev write : ℕ
+  write = get_or words 0 0
+
+  abbrev read : ℕ
+  read = get_or words 1 0
+
+  -- a word that is none of the positions costs nobody a step
+  rest_leaves : (word new : ℕ) → 2 ≤ word → LeavesAll M words (set words word new)
+  rest_leaves word new high other =
+      let same_write : get_or (set words word new) 0 0 ≡ write = get_or-set_other words word 0 new 0 (λ e. absurd (omega arith)) in
+      let same_read : get_or (set words word new) 1 0 ≡ read = get_or-set_other words word 1 new 0 (λ e. absurd (omega arith)) in
+      rw (same_write, same_read) (omega arith)
+
+  cell_leaves : (size capacity cell at new : ℕ) → size ≤ 128 → capacity < 2 ^ 32 → 4 ≤ cell → cell ≤ 4 + size * capacity → at < size
+      → LeavesAll M words (set words (word_at cell at) new)
+  cell_leaves size capacity cell at new few fits low high below =
+      let most : size * capacity ≤ size * 2 ^ 32 = mul-le-mul_left size (omega arith) in
+      rest_leaves (word_at cell at) new (omega arith)
+
+  -- the lengths
+  abbrev measuring : LengthOf → Running Len (Unit {0}) (Unit {0}) → LenStage → QueueFlight T
+  measuring which run stage = Length which (record run { call = record run.call { stage = stage } })
+
+  len_falls : (which : LengthOf) (run : Running Len (Unit {0}) (Unit {0})) (stage : LenStage) → Shown (measuring which run stage)
+  len_falls which run lens.LoadsWrite = let self = same_is write in inl (load_leaves words 0, rw self (omega arith), omega arith)
+  len_falls which run (lens.LoadsRead w) = go (write == w) refl
+    where
+      go : (t : Bool) → (write == w) ≡ t → Shown (measuring which run (lens.LoadsRead w))
+      go true t = let self = same_is read in inl (load_leaves words 1, rw (t, self) (omega arith), omega arith)
+      go false t = inl (load_leaves words 1, rw t (omega arith), omega arith)
+  len_falls which run (lens.LoadsWriteAgain w r) = go (write == w) refl (read == r) refl
+    where
+      go : (t : Bool) → (write == w) ≡ t → (u : Bool) → (read == r) ≡ u → Shown (measuring which run (lens.LoadsWriteAgain w r))
+      go true t true u = rw t (inl (load_leaves words 0, rw (t, u) (omega arith), omega arith))
+      go true t false u = rw t (inl (load_leaves words 0, rw (t, u) (omega arith), omega arith))
+      go false t u e = rw t (inl (load_leaves words 0, rw t (omega arith), omega arith))
+  len_falls which run (lens.LoadsReadAgain w r) = go (read == r) refl
+    where
+      go : (t : Bool) → (read == r) ≡ t → Shown (measuring which run (lens.LoadsReadAgain w r))
+      go true t = rw t tt
+      go false t = rw t (inl (load_leaves words 1, rw t (omega arith), omega arith))
+
+  -- the overflowing queue
+  abbrev over_popping : Running overflow_pop.Pop (Unit {0}) OneWord → overflow_pops.PopStage → QueueFlight T
+  over_popping run stage = Overflow (overflows.TheVariants.Pop (record run { call = record run.call { stage = stage } }))
+
+  over_pop_falls : (run : Running overflow_pop.Pop (Unit {0}) OneWord) (stage : overflow_pops.PopStage) → Shown (over_popping run stage)
+  over_pop_falls run overflow_pops.TheVariants.FindsNone = tt
+  over_pop_falls run overflow_pops.TheVariants.LoadsRead = let self = same_is read in inl (load_leaves words 1, rw self (omega arith), omega arith)
+  over_pop_falls run (overflow_pops.TheVariants.LoadsWrite r) = go (write == r) refl (read == r) refl
+    where
+      go : (t : Bool) → (write == r) ≡ t → (u : Bool) → (read == r) ≡ u → Shown (over_popping run (overflow_pops.TheVariants.LoadsWrite r))
+      go true t u e = rw t tt
+      go false t true u = rw t (inl (load_leaves words 0, rw u (omega arith), omega arith))
+      go false t false u = rw t (inl (load_leaves words 0, rw u (omega arith), omega arith))
+  over_pop_falls run (overflow_pops.TheVariants.LoadsCell r) = go (read == r) refl
+    where
+      go : (u : Bool) → (read == r) ≡ u → Shown (over_popping run (overflow_pops.TheVariants.LoadsCell r))
+      go true u = inl (load_leaves words (overflow.cell_word run.call.capacity r), rw u (omega arith), omega arith)
+      go false u = inl (load_leaves words (overflow.cell_word run.call.capacity r), rw u (omega arith), omega arith)
+  over_pop_falls run (overflow_pops.TheVariants.MovesRead r) = go (read == r) refl
+    where
+      go : (u : Bool) → (read == r) ≡ u → Shown (over_popping run (overflow_pops.TheVariants.MovesRead r))
+      go true u = rw u tt
+      go false u = let self = same_is read in rw u (inl (load_leaves words 1, rw (self, u) (omega arith), omega arith))
+
+  abbrev over_pushing : Running overflow_push.Push ℕ OneWord → overflow_pushes.PushStage → QueueFlight T
+  over_pushing run stage = Overflow (overflows.TheVariants.Push (record run { call = record run.call { stage = stage } }))
+
+  over_push_falls : (run : Running overflow_push.Push ℕ OneWord) (stage : overflow_pushes.PushStage) → Shown (over_pushing run stage)
+  over_push_falls run overflow_pushes.TheVariants.HandsBack = tt
+  over_push_falls run overflow_pushes.TheVariants.LoadsWrite = go (write == 2 ^ 64 - 1) refl
+    where
+      go : (t : Bool) → (write == 2 ^ 64 - 1) ≡ t → Shown (over_pushing run overflow_pushes.TheVariants.LoadsWrite)
+      go true t = rw t tt
+      go false t = rw t (inl (load_leaves words 0, omega arith, omega arith))
+  over_push_falls run (overflow_pushes.TheVariants.LoadsRead w) = inl (load_leaves words 1, omega arith, omega arith)
+  over_push_falls run (overflow_pushes.TheVariants.StoresCell w r) =
+      inr (omega arith, inl (rest_leaves (overflow.cell_word run.call.capacity w) run.given (omega arith), omega arith))
+  over_push_falls run (overflow_pushes.TheVariants.StoresWrite w r) = go (distance w r == run.call.capacity) refl
+    where
+      go : (t : Bool) → (distance w r == run.call.capacity) ≡ t → Shown (over_pushing run (overflow_pushes.TheVariants.StoresWrite w r))
+      go true t = rw t (inr (omega arith, inr (omega arith)))
+      go false t = rw t tt
+  over_push_falls run (overflow_pushes.TheVariants.MovesRead r) = go (read == r) refl
+    where
+      go : (t : Bool) → (read == r) ≡ t → Shown (over_pushing run (overflow_pushes.TheVariants.MovesRead r))
+      go true t = rw t (inr (omega arith, inr (omega arith)))
+      go false t = rw t tt
+  over_push_falls run (overflow_pushes.TheVariants.LoadsCell r) = tt
+
+  -- the index queue
+  abbrev pushing : Running (Push ℕ) ℕ (Unit {0}) → pushes.PushStage → QueueFlight T
+  pushing run stage = Indices (rings.TheVariants.Push (record run { call = record run.call { stage = stage } }))
+
+  push_falls : (run : Running (Push ℕ) ℕ (Unit {0})) (c : ℕ) (stage : pushes.PushStage) → c < 2 ^ 32 → PushStands 1 c stage → Shown (pushing run stage)
+  push_falls run c pushes.TheVariants.LoadsWrite fits at = go (write == 2 ^ 64 - 1) refl
+    where
+      go : (t : Bool) → (write == 2 ^ 64 - 1) ≡ t → Shown (pushing run pushes.TheVariants.LoadsWrite)
+      go true t = rw t tt
+      go false t = rw t (inl (load_leaves words 0, omega arith, omega arith))
+  push_falls run c (pushes.TheVariants.LoadsRead w) fits at = go (run.call.capacity == 0 || distance w read == run.call.capacity) refl
+    where
+      go : (t : Bool) → (run.call.capacity == 0 || distance w read == run.call.capacity) ≡ t → Shown (pushing run (pushes.TheVariants.LoadsRead w))
+      go true t = rw t tt
+      go false t = rw t (inl (load_leaves words 1, omega arith, omega arith))
+  push_falls run c (pushes.TheVariants.StoresCell w cell at) fits stands = go (nat_lt (at + 1) 1) refl
+    where
+      leaves : (new : ℕ) → LeavesAll M words (set words (word_at cell at) new)
+      leaves new = cell_leaves 1 c cell at new (omega arith) fits stands.0 stands.1 stands.2
+
+      go : (t : Bool) → nat_lt (at + 1) 1 ≡ t → Shown (pushing run (pushes.TheVariants.StoresCell w cell at))
+      go true t = let less : at + 1 < 1 = grind (arith, nat_tests) in absurd (omega arith)
+      go false t = rw t (inr (omega arith, inl (leaves (get_or (words_of_index run.given) at 0), omega arith)))
+  push_falls run c (pushes.TheVariants.StoresWrite w) fits at = tt
+
+  abbrev popping : Running (Pop ℕ OneWord) (Unit {0}) OneWord → pops.PopStage → QueueFlight T
+  popping run stage = Indices (rings.TheVariants.Pop (record run { call = record run.call { stage = stage } }))
+
+  pop_falls : (run : Running (Pop ℕ OneWord) (Unit {0}) OneWord) (stage : pops.PopStage) → Shown (popping run stage)
+  pop_falls run pops.TheVariants.LoadsRead = inl (load_leaves words 1, omega arith, omega arith)
+  pop_falls run (pops.TheVariants.LoadsWrite r) = go (run.call.capacity == 0 || write == r) refl
+    where
+      go : (t : Bool) → (run.call.capacity == 0 || write == r) ≡ t → Shown (popping run (pops.TheVariants.LoadsWrite r))
+      go true t = rw t tt
+      go false t = rw t (inl (load_leaves words 0, omega arith, omega arith))
+  pop_falls run (pops.TheVariants.LoadsCell r cell at) = go (nat_lt (at + 1) 1) refl
+    where
+      go : (t : Bool) → nat_lt (at + 1) 1 ≡ t → Shown (popping run (pops.TheVariants.LoadsCell r cell at))
+      go true t = let less : at + 1 < 1 = grind (arith, nat_tests) in absurd (omega arith)
+      go false t = rw t (inl (load_leaves words (word_at cell at), omega arith, omega arith))
+  pop_falls run (pops.TheVariants.StoresRead r) = tt
+
+  -- the queue of values
+  abbrev value_pushing : Running (Push T) T (Unit {0}) → pushes.PushStage → QueueFlight T
+  value_pushing run stage = Values (rings.TheVariants.Push (record run { call = record run.call { stage = stage } }))
+
+  value_push_falls : (run : Running (Push T) T (Unit {0})) (c : ℕ) (stage : pushes.PushStage) → code.size ≤ 128 → c < 2 ^ 32
+      → PushStands code.size c stage → Shown (value_pushing run stage)
+  value_push_falls run c pushes.TheVariants.LoadsWrite few fits at = go (write == 2 ^ 64 - 1) refl
+    where
+      go : (t : Bool) → (write == 2 ^ 64 - 1) ≡ t → Shown (value_pushing run pushes.TheVariants.LoadsWrite)
+      go true t = rw t tt
+      go false t = rw t (inl (load_leaves words 0, omega arith, omega arith))
+  value_push_falls run c (pushes.TheVariants.LoadsRead w) few fits at = go (run.call.capacity == 0 || distance w read == run.call.capacity) refl
+    where
+      go : (t : Bool) → (run.call.capacity == 0 || distance w read == run.call.capacity) ≡ t → Shown (value_pushing run (pushes.TheVariants.LoadsRead w))
+      go true t = rw t tt
+      go false t = rw t (inl (load_leaves words 1, omega arith, omega arith))
+  value_push_falls run c (pushes.TheVariants.StoresCell w cell at) few fits stands = go (nat_lt (at + 1) code.size) refl
+    where
+      leaves : (new : ℕ) → LeavesAll M words (set words (word_at cell at) new)
+      leaves new = cell_leaves code.size c cell at new few fits stands.0 stands.1 stands.2
+
+      go : (t : Bool) → nat_lt (at + 1) code.size ≡ t → Shown (value_pushing run (pushes.TheVariants.StoresCell w cell at))
+      go true t =
+          let less : at + 1 < code.size = grind (arith, nat_tests) in
+          rw t (inr (omega arith, inl (leaves (get_or (code.words_of run.given) at 0), omega arith)))
+      go false t = rw t (inr (omega arith, inl (leaves (get_or (code.words_of run.given) at 0), omega arith)))
+  value_push_falls run c (pushes.TheVariants.StoresWrite w) few fits at = tt
+
+  abbrev value_popping : Running (Pop T (buffers.Buffer 128)) (Unit {0}) (buffers.Buffer 128) → pops.PopStage → QueueFlight T
+  value_popping run stage = Values (rings.TheVariants.Pop (record run { call = record run.call { stage = stage } }))
+
+  value_pop_falls : (run : Running (Pop T (buffers.Buffer 128)) (Unit {0}) (buffers.Buffer 128)) (stage : pops.PopStage) → Shown (value_popping run stage)
+  value_pop_falls run pops.TheVariants.LoadsRead = inl (load_leaves words 1, omega arith, omega arith)
+  value_pop_falls run (pops.TheVariants.LoadsWrite r) = go (run.call.capacity == 0 || write == r) refl
+    where
+      go : (t : Bool) → (run.call.capacity == 0 || write == r) ≡ t → Shown (value_popping run (pops.TheVariants.LoadsWrite r))
+      go true t = rw t tt
+      go false t = rw t (inl (load_leaves words 0, omega arith, omega arith))
+  value_pop_falls run (pops.TheVariants.LoadsCell r cell at) = go (nat_lt (at + 1) code.size) refl
+    where
+      go : (t : Bool) → nat_lt (at + 1) code.size ≡ t → Shown (value_popping run (pops.TheVariants.LoadsCell r cell at))
+      go true t = let less : at + 1 < code.size = grind (arith, nat_tests) in rw t (inl (load_leaves words (word_at cell at), omega arith, omega arith))
+      go false t = rw t (inl (load_leaves words (word_at cell at), omega arith, omega arith))
+  value_pop_falls run (pops.TheVariants.StoresRead r) = tt
+
+  call_falls : (kd : QueueKind) (c : ℕ) → code.size ≤ 128 → c < 2 ^ 32 → (flight : QueueFlight T) → CallStands code.size kd c flight → Shown flight
+  call_falls kd c few fits (Role (Acquire run)) at = tt
+  call_falls kd c few fits (Role (Release run)) at = tt
+  call_falls kd c few fits (Length which run) at = len_falls which run run.call.stage
+  call_falls queue_kinds.TheVariants.IndexQueue c few fits (Indices (rings.TheVariants.Push run)) at = push_falls run c run.call.stage fits at.1
+  call_falls queue_kinds.TheVariants.IndexQueue c few fits (Indices (rings.TheVariants.Pop run)) at = pop_falls run run.call.stage
+  call_falls queue_kinds.TheVariants.Queue c few fits (Values (rings.TheVariants.Push run)) at =
+      value_push_falls run c run.call.stage few fits at.1
+  call_falls queue_kinds.TheVariants.Queue c few fits (Values (rings.TheVariants.Pop run)) at = value_pop_falls run run.call.stage
+  call_falls queue_kinds.TheVariants.Overflow c few fits (Overflow (overflows.TheVariants.Push run)) at = over_push_falls run run.call.stage
+  call_falls queue_kinds.TheVariants.Overflow c few fits (Overflow (overflows.TheVariants.Pop run)) at = over_pop_falls run run.call.stage
+  call_falls kd c few fits flight at = absurd at
+
+-- ---- what a kind owes
+
+-- the first word of a cell
+cell_low : (capacity size position : ℕ) → 4 ≤ cell_word capacity size position
+cell_low x0 x1 x2 = grind arith
+
+cell_high : (capacity size position : ℕ) → 1 ≤ size → cell_word capacity size position ≤ 4 + size * capacity
+cell_high capacity size position some = go (capacity == 0) refl
+  where
+    go : (t : Bool) → (capacity == 0) ≡ t → cell_word capacity size position ≤ 4 + size * capacity
+    go true t = rw t (omega arith)
+    go false t =
+        let least : 0 < capacity = grind (arith, nat_tests) in
+        let within = cell_within size capacity position 0 least (omega arith) in
+        rw t (omega arith)
+
+module _ {T : Type 0} (kd : QueueKind) where
+  falls : (code : Coding T) (c : ℕ) → code.size ≤ 128 → c < 2 ^ 32 → (words : List ℕ) (start : Start T) (flight : Flight T) → At kd code c start flight
+      → StepFalls ((outline kd).measure code c) code words flight
+  falls code c few fits words (starts.Queues start) (flights.TheVariants.Queues flight) at =
+      call_falls (alone_of code.size kd) (changes_of kd) code words kd c few fits flight at
+  falls code c few fits words start flight at = absurd at
+
+  module _ (code : Coding T) (c : ℕ) where
+    abbrev GoesOn : Start T → QueueFlight T → ℕ → Type 0
+    GoesOn start flight old = OwnAfter (outline kd) code c start (after_of code (flights.TheVariants.Queues flight) old)
+
+    goes : 1 ≤ code.size → (start : Start T) (flight : Flight T) (old : ℕ) → At kd code c start flight
+        → OwnAfter (outline kd) code c start (after_of code flight old)
+    goes x0 x1 x2 x3 x4 = grind (arith, nat_tests, cell_low, cell_high)
+
+    begins : (start : Start T) (kept : Registry T) (flight : Flight T) → Kept kept → first_of (machine_kind kd) c start kept ≡ Some flight
+        → At kd code c start flight × ((p : ℕ) → Kept (kept_after_begin code c start p kept))
+    begins x0 x1 x2 x3 x4 = grind arith
+
+    stays : (words : List ℕ) (beside : Option (ℕ × ℕ)) (p : ℕ) (start : Start T) (flight : Flight T) (old : ℕ) (kept : Registry T)
+        → At kd code c start flight → Kept kept → Kept (step_of code words beside p start flight old kept).kept
+    stays x0 x1 x2 x3 x4 x5 x6 x7 x8 = grind arith
+
+    told : (words : List ℕ) (beside : Option (ℕ × ℕ)) (p : ℕ) (start : Start T) (flight : Flight T) (old : ℕ) (kept : Registry T)
+        → At kd code c start flight → Kept kept
+        → ((step_of code words beside p start flight old kept).after ≡ after_of code flight old)
+        × (goes_of code p flight old kept ≡ after_of code flight old)
+    told x0 x1 x2 x3 x4 x5 x6 x7 x8 = grind arith
+
+    asks : (start : Start T) (flight : Flight T) → At kd code c start flight → is_question (want_of code flight) ≡ false
+    asks x0 x1 x2 = grind arith
+
+    dies : (kept : Registry T) (owner : ℕ) → Kept kept → Kept (kept_after_death kept owner)
+    dies x0 x1 x2 = grind arith
+
+    most : 1 ≤ code.size → (words : List ℕ) (start : Start T) (flight : Flight T) → At kd code c start flight
+        → (((outline kd).measure code c).left words flight ≤ alone_of code.size kd) × (pays flight ≤ changes_of kd)
+    most x0 x1 x2 x3 x4 = grind arith
+
+    opens : (kd : QueueKind) → Kept {T = T} ((opening_of (machine_kind kd)).kept c)
+    opens x0 = grind arith
+
+  laws : (code : Coding T) (c : ℕ) → IsCoding code → capacity_error (machine_kind kd) c ≡ None → OwnLaws (outline kd) code c
+  laws code c coded admitted =
+      record {
+        opens = opens code c kd;
+        begins = begins code c;
+        stays = stays code c;
+        goes = goes code c coded.some;
+        told = told code c;
+        dies = dies code c;
+        asks = asks code c;
+        most = most code c coded.some;
+        falls = falls code c coded.few (admitted_fits kd c admitted);
+      }
+
+  pub queue_keeps_ending : KeepsEnding T (machine_kind kd) (λ n capacity size. stretch n (changes_of kd) (alone_of size kd))
+  queue_keeps_ending = keeps_ending (outline kd) laws (λ n capacity size. stretch n (changes_of kd) (alone_of size kd)) (λ code c n. refl)

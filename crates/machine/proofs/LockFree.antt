@@ -1,0 +1,43 @@
+-- Which kinds are lock-free, one line a kind.
+use Rattle.std.proofs.Common.{Option, Some, None, refl}
+use Rattle.std.specs.Prelude.{IfSome}
+use Rattle.model.specs.declared.turn.Kind.{Kind}
+use Rattle.model.specs.declared.turn.Kind.TheVariants.{IndexQueue, Overflow, Queue, Atomic, Bits, Counts, Indices, Robust, Container, Loan}
+use Rattle.model.specs.declared.families.queues.QueueKind as queue_kinds
+use Rattle.model.specs.LockFree.{Bound, IsLockFree, KeepsEnding, HasLockFreeRuns, lock_free_bound}
+use Rattle.model.proofs.LockFree.Machines.{one_call_ends, machines}
+use Rattle.laws_bits.proofs.LockFree.{bits_keep_ending, counts_keep_ending}
+use Rattle.laws_queues.proofs.LockFree.{queue_keeps_ending}
+use Rattle.laws_value.proofs.LockFree.{value_keeps_ending}
+
+pub keep_ending : {T : Type 0} (kind : Kind) → IfSome (lock_free_bound kind) (KeepsEnding T kind)
+keep_ending IndexQueue = queue_keeps_ending queue_kinds.TheVariants.IndexQueue
+keep_ending Overflow = queue_keeps_ending queue_kinds.TheVariants.Overflow
+keep_ending Queue = queue_keeps_ending queue_kinds.TheVariants.Queue
+keep_ending Atomic = value_keeps_ending
+keep_ending Bits = bits_keep_ending
+keep_ending Counts = counts_keep_ending
+keep_ending Indices = tt
+keep_ending Robust = tt
+keep_ending Container = tt
+keep_ending Loan = tt
+
+if_some : {A : Type 0} (P Q : A → Type 0) (o : Option A) → ((x : A) → P x → Q x) → IfSome o P → IfSome o Q
+if_some P Q None more h = tt
+if_some P Q (Some x) more h = more x h
+
+pub one_ends : {T : Type 0} (kind : Kind) → IfSome (lock_free_bound kind) (IsLockFree T kind)
+one_ends {T} kind = if_some (KeepsEnding T kind) (IsLockFree T kind) (lock_free_bound kind) (one_call_ends kind) (keep_ending kind)
+
+-- the machines as they run
+pub as_run : {T : Type 0} (kind : Kind) → IfSome (lock_free_bound kind) (HasLockFreeRuns T kind)
+as_run IndexQueue = machines IndexQueue refl _ (one_ends IndexQueue)
+as_run Overflow = machines Overflow refl _ (one_ends Overflow)
+as_run Queue = machines Queue refl _ (one_ends Queue)
+as_run Atomic = machines Atomic refl _ (one_ends Atomic)
+as_run Bits = machines Bits refl _ (one_ends Bits)
+as_run Counts = machines Counts refl _ (one_ends Counts)
+as_run Indices = tt
+as_run Robust = tt
+as_run Container = tt
+as_run Loan = tt

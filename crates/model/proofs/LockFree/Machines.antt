@@ -1,0 +1,66 @@
+-- In more steps than the bound a call ends, and the same of the machines as they run, with a number of parties and at most
+-- 2^64 - 2 turns.
+use Rattle.std.proofs.Common.{◌≡◌, ℕ, ◌+◌, ◌<◌, ◌≤◌, ⊎_elim, false, None, List, [], ◌∷◌, refl, sym, subst, ◌∙◌, arith}
+use Rattle.std.specs.Prelude.{nat_le}
+use Rattle.std.specs.List.{AllByRecursion}
+use Rattle.std.proofs.lemmas.Bool.{cases_lt}
+use Rattle.std.proofs.lemmas.Bool.Decides.{nat_tests}
+use Rattle.model.specs.declared.turn.Kind.{Kind}
+use Rattle.model.specs.declared.turn.Turn.{Turn}
+use Rattle.model.specs.declared.turn.Turn.TheVariants.{Begin, Next, Decide, Die}
+use Rattle.model.specs.declared.turn.Refusal.TheVariants.{AtEnd, NoParty}
+use Rattle.model.specs.Families.Loan.Opening.{is_loan}
+use Rattle.model.specs.Refusals.{refusal_of, is_at_end}
+use Rattle.model.specs.Turns.{after_turn, after_turns, AreAllowed, IsReached, IsReachedOn}
+use Rattle.model.specs.World.{World, Trace}
+use Rattle.model.proofs.Openings.{opened_others}
+use Rattle.model.proofs.Reached.{turn_making, kept_by_runs, reached_on_more, reached_on_opening}
+use Rattle.model.proofs.Rows.{row_passed, passes}
+use Rattle.model.specs.LockFree.{IsBelow, AreAllowedOn, Bound, AreWithinEnds, IsLockFree, KeepsEnding, HasLockFreeRuns, steps_in, ends}
+use Rattle.model.proofs.LockFree.Measure.{worth}
+
+past_none : (parties p : ℕ) → nat_le parties p ≡ false → p < parties
+past_none x0 x1 x2 = grind (arith, nat_tests)
+
+-- where no more have ended, there were no more steps than the bound
+one_ends : (bound steps before after : ℕ) → AreWithinEnds bound steps before after → bound < steps → before < after
+one_ends bound steps before after within many = ⊎_elim (λ less. less) none (cases_lt before after)
+  where
+    none : after ≤ before → before < after
+    none le = let paid = worth after before (bound + 1) le in absurd (omega arith)
+
+module _ {T : Type 0} where
+  pub one_call_ends : (kind : Kind) (bound : Bound) → KeepsEnding T kind bound → IsLockFree T kind bound
+  one_call_ends kind bound keeps t is r n turns allowed below many =
+      one_ends (bound n t.world.capacity t.world.coding.size) (steps_in t turns) (ends t.events) (ends (after_turns t turns).events)
+      (keeps t is r n turns allowed below) many
+
+  -- ---- machines as they run
+
+  below_parties : (w : World T) (turn : Turn T) → refusal_of w turn ≡ None → IsBelow w.parties turn
+  below_parties w (Begin p start) e = past_none w.parties p (row_passed (nat_le w.parties p) NoParty _ (row_passed (is_at_end w) AtEnd _ e).1).0
+  below_parties w (Next p) e = past_none w.parties p (row_passed (nat_le w.parties p) NoParty _ (row_passed (is_at_end w) AtEnd _ e).1).0
+  below_parties w (Decide p said) e = past_none w.parties p (row_passed (nat_le w.parties p) NoParty _ (row_passed (is_at_end w) AtEnd _ e).1).0
+  below_parties w (Die owner) e = tt
+
+  all_allowed : (t : Trace T) (turns : List (Turn T)) (n : ℕ) → t.world.parties ≡ n → AreAllowed t turns
+      → AreAllowedOn t turns × AllByRecursion (IsBelow n) turns
+  all_allowed t [] n same all = (tt, tt)
+  all_allowed t (turn ∷ turns) n same all =
+      let rest = all_allowed (after_turn t turn) turns n ((turn_making t.world turn).parties ∙ same) all.1 in
+      let here : IsBelow n turn = subst (λ m. IsBelow m turn) same (below_parties t.world turn all.0) in
+      (((passes t.world turn all.0).on, rest.0), (here, rest.1))
+
+  reached_on : (t : Trace T) → is_loan t.world.kind ≡ false → IsReached t → IsReachedOn t
+  reached_on t no_loan r =
+      kept_by_runs IsReachedOn (λ u turn e h. reached_on_more u turn (passes u.world turn e).on h) t
+      (λ queue queued.
+      subst IsReachedOn (sym (opened_others t.world.coding t.world.kind t.world.capacity queue t.world.parties no_loan))
+      (reached_on_opening t.world.coding t.world.kind t.world.capacity t.world.parties r.coded r.admitted))
+      r
+
+  pub machines : (kind : Kind) → is_loan kind ≡ false → (bound : Bound) → IsLockFree T kind bound → HasLockFreeRuns T kind bound
+  machines kind no_loan bound free t is r turns all many =
+      let allowed = all_allowed t turns t.world.parties refl all in
+      let none : is_loan t.world.kind ≡ false = subst (λ k. is_loan k ≡ false) (sym is) no_loan in
+      free t is (reached_on t none r) t.world.parties turns allowed.0 allowed.1 many

@@ -1,0 +1,214 @@
+-- From a measure of each call to a bound of the steps between two ends.
+use Rattle.std.proofs.Common.{◌≡◌, ◌≢◌, ℕ, ◌+◌, ◌*◌, ◌-◌, ◌<◌, ◌≤◌, ◌⊎◌, ⊎_elim, Bool, true, Option, Some, None}
+use Rattle.std.proofs.Common.{List, ◌++◌, refl, sym, ap, ◌∙◌, arith}
+use Rattle.std.proofs.lemmas.Bool.{cases_eq}
+use Rattle.std.proofs.lemmas.List.Sums.{sum_by-append}
+use Rattle.steps.specs.declared.ask.Ask.{Ask}
+use Rattle.steps.specs.declared.ask.After.{After}
+use Rattle.steps.specs.declared.ask.After.TheVariants.{GoOn, Done}
+use Rattle.model.specs.declared.event.Answer.{Answer}
+use Rattle.model.specs.declared.event.Event.{Event}
+use Rattle.model.specs.declared.families.Flight.{Flight}
+use Rattle.model.specs.declared.families.Registry.{Registry}
+use Rattle.model.specs.declared.party.Doing.TheVariants.{Going}
+use Rattle.model.specs.declared.party.Party.{Party}
+use Rattle.model.specs.declared.turn.Turn.{Turn}
+use Rattle.model.specs.Families.{want_of, ask_of, goes_of, is_question}
+use Rattle.model.specs.Parties.{party_of, doing_of, flight_of}
+use Rattle.model.specs.Refusals.{call_refusal}
+use Rattle.model.specs.Step.{Step}
+use Rattle.model.specs.Step.{answer_in}
+use Rattle.model.specs.Turns.{change_of, doing_after, old_of, words_after, step_count, number_of, after_step, party_after, step_in}
+use Rattle.model.specs.Turns.{events_of_step, ending_of}
+use Rattle.model.specs.Turns.{after_turn}
+use Rattle.model.specs.World.{World, Trace, flight_in}
+use Rattle.model.proofs.Parties.{party_put_same, party_put_other}
+use Rattle.model.proofs.Turns.{GoesAsTold}
+use Rattle.model.specs.LockFree.{end_of, ends, stretch}
+use Rattle.model.proofs.LockFree.Sums.{sum_below, sum_le, sum_falls, sum_rises, sum_most}
+
+-- more of them are worth more
+pub worth : (fewer more each : ℕ) → fewer ≤ more → fewer * each ≤ more * each
+worth fewer more each le = let rest : more ≡ fewer + (more - fewer) = omega arith in rw rest (spread fewer (more - fewer) each)
+  where
+    spread : (a b each : ℕ) → a * each ≤ (a + b) * each
+    spread a b each = omega arith
+
+-- what is said of each call under way
+pub record Measure (T : Type 0) : Type 0 where
+  pub left : List ℕ → Flight T → ℕ  -- how many steps it takes at most before its last one, while no other call adds to them
+  pub pays : Flight T → ℕ  -- how many changes it makes at most that can add to the steps of others, before its last step
+  pub alone : ℕ  -- no call has more steps left
+  pub changes : ℕ  -- and none has more such changes to make
+
+module _ {T : Type 0} (M : Measure T) where
+  -- these words leave the calls of the others no more steps
+  abbrev pub Harmless : World T → ℕ → List ℕ → Type 0
+  Harmless w p new = (q : ℕ) → q ≢ p → (other : Flight T) → flight_in w q ≡ Some other → M.left new other ≤ M.left w.words other
+
+  -- a call that goes on has a step less to take, and leaves the others no more or has a change less to make
+  abbrev pub Falls : World T → ℕ → List ℕ → ℕ → Flight T → Flight T → Type 0
+  Falls w p new steps was next =
+      (M.left new next + steps ≤ M.left w.words was)
+      × ((Harmless w p new × (M.pays next ≤ M.pays was)) ⊎ (M.pays next + 1 ≤ M.pays was))
+
+  abbrev pub FallsBy : World T → ℕ → Flight T → Option Ask → ℕ → Type 0
+  FallsBy w p flight ask answer =
+      (next : Flight T) → goes_of w.coding p flight answer w.kept ≡ GoOn next
+      → Falls w p (words_after w.words ask) (step_count ask) flight next
+
+  -- what a family owes of the machines of which it speaks, and of the turns that may be taken
+  pub record Owed (P : Trace T → Type 0) (May : Turn T → Type 0) : Type 0 where
+    pub keeps : (t : Trace T) (turn : Turn T) → call_refusal t.world turn ≡ None → May turn → P t → P (after_turn t turn)
+    pub goes : (t : Trace T) → P t → GoesAsTold t.world
+    pub most : (t : Trace T) → P t → (p : ℕ) (flight : Flight T) → flight_in t.world p ≡ Some flight
+        → (M.left t.world.words flight ≤ M.alone) × (M.pays flight ≤ M.changes)
+    pub step : (t : Trace T) → P t → (p : ℕ) (flight : Flight T) → flight_in t.world p ≡ Some flight
+        → FallsBy t.world p flight (ask_of (want_of t.world.coding flight)) (old_of t.world.words (ask_of (want_of t.world.coding flight)))
+    pub decision : (t : Trace T) → P t → (p : ℕ) (flight : Flight T) (said : Bool) → flight_in t.world p ≡ Some flight
+        → is_question (want_of t.world.coding flight) ≡ true → FallsBy t.world p flight None (number_of said)
+
+  -- ---- what all parties below n have left
+
+  abbrev pub left_of : List ℕ → Option (Flight T) → ℕ
+  left_of words None = M.alone
+  left_of words (Some flight) = M.left words flight
+
+  abbrev pub pays_of : Option (Flight T) → ℕ
+  pays_of None = M.changes
+  pays_of (Some flight) = M.pays flight
+
+  abbrev pub left_at : World T → ℕ → ℕ
+  left_at w p = left_of w.words (flight_in w p)
+
+  abbrev pub pays_at : World T → ℕ → ℕ
+  pays_at w p = pays_of (flight_in w p)
+
+  module _ (n : ℕ) where
+    -- what a change can cost the others
+    abbrev pub price : ℕ
+    price = (n - 1) * M.alone
+
+    abbrev pub weight : World T → ℕ
+    weight w = sum_below n (pays_at w) * price + sum_below n (left_at w)
+
+    abbrev pub bound : ℕ
+    bound = stretch n M.changes M.alone
+
+    pub record IsWithin (w : World T) : Type 0 where
+      pub left : (q : ℕ) → left_at w q ≤ M.alone
+      pub pays : (q : ℕ) → pays_at w q ≤ M.changes
+
+    pub at_most : (w : World T) → IsWithin w → weight w ≤ bound
+    at_most w within =
+        let pays = sum_most n (pays_at w) M.changes within.pays in
+        let left = sum_most n (left_at w) M.alone within.left in
+        let all = worth (sum_below n (pays_at w)) (n * M.changes) price pays in
+        omega arith
+
+    -- ---- one turn
+
+    -- the sums of a turn in which the party p has so much less
+    pub by_left : (old new : World T) (p steps : ℕ) → p < n → ((q : ℕ) → left_at new q ≤ left_at old q) → left_at new p + steps ≤ left_at old p
+        → ((q : ℕ) → pays_at new q ≤ pays_at old q) → steps + weight new ≤ weight old
+    by_left old new p steps below left here pays =
+        let less = sum_falls n (left_at new) (left_at old) p steps below left here in
+        let no_more = worth (sum_below n (pays_at new)) (sum_below n (pays_at old)) price (sum_le n (pays_at new) (pays_at old) pays) in
+        omega arith
+
+    by_change : (old new : World T) (p steps : ℕ) → p < n → ((q : ℕ) → left_at new q ≤ M.alone) → left_at new p + steps ≤ left_at old p
+        → ((q : ℕ) → pays_at new q ≤ pays_at old q) → pays_at new p + 1 ≤ pays_at old p → steps + weight new ≤ weight old
+    by_change old new p steps below left left_here pays here =
+        let less = sum_falls n (pays_at new) (pays_at old) p 1 below pays here in
+        let rises = sum_rises n (left_at new) (left_at old) p steps M.alone below left left_here in
+        let paid = worth (sum_below n (pays_at new) + 1) (sum_below n (pays_at old)) price less in
+        omega arith
+
+    -- what a turn shows
+    abbrev pub Shows : World T → World T → ℕ → ℕ → Type 0
+    Shows old new steps ended = steps + weight new ≤ weight old + ended * (bound + 1)
+
+    few : (ask : Option Ask) → step_count ask ≤ 1
+    few None = omega arith
+    few (Some ask) = omega arith
+
+    pub ended_more : (xs ys : List (Event T)) → ends (xs ++ ys) ≡ ends xs + ends ys
+    ended_more xs ys = sum_by-append end_of xs ys
+
+    -- a call goes on by an answer
+    pub resumes : (w : World T) (p : ℕ) (x : Party T) (flight : Flight T) (since answer : ℕ) (ask : Option Ask) → p < n
+        → party_of p w.latest ≡ Some x → x.doing ≡ Going flight since
+        → (step_in w p x flight answer).after ≡ goes_of w.coding p flight answer w.kept
+        → FallsBy w p flight ask answer → IsWithin (after_step w p x since ask (step_in w p x flight answer))
+        → Shows w (after_step w p x since ask (step_in w p x flight answer)) (step_count ask) (ends (events_of_step p x.start (step_in w p x flight answer)))
+    resumes w p x flight since answer ask below found doing told falls within = go s.after refl
+      where
+        s : Step (Flight T) (Registry T) T
+        s = step_in w p x flight answer
+
+        new : World T
+        new = after_step w p x since ask s
+
+        was : flight_in w p ≡ Some flight
+        was = ap (λ o. flight_of (doing_of o)) found ∙ ap (λ d. flight_of (Some d)) doing
+
+        others : (q : ℕ) → q ≢ p → flight_in new q ≡ flight_in w q
+        others q ne = ap (λ o. flight_of (doing_of o)) (party_put_other q p _ w.latest ne)
+
+        here : flight_in new p ≡ flight_of (doing_of (Some (party_after x since w.changes (step_count ask) (change_of w.words ask) s)))
+        here = ap (λ o. flight_of (doing_of o)) (party_put_same p _ w.latest)
+
+        goes_on : (next : Flight T) → s.after ≡ GoOn next → Shows w new (step_count ask) (ends (events_of_step p x.start s))
+        goes_on next e = ⊎_elim by_less by_pay fell.1
+          where
+            fell : Falls w p new.words (step_count ask) flight next
+            fell = falls next (sym told ∙ e)
+
+            now : flight_in new p ≡ Some next
+            now = here ∙ ap (λ a. flight_of (Some (doing_after (w.changes + change_of w.words ask) (since + change_of w.words ask) a))) e
+
+            no_less : (q : ℕ) → M.pays next ≤ M.pays flight → pays_at new q ≤ pays_at w q
+            no_less q le = ⊎_elim mine theirs (cases_eq q p)
+              where
+                mine : q ≡ p → pays_at new q ≤ pays_at w q
+                mine same = rw same (rw (now, was) le)
+
+                theirs : q ≢ p → pays_at new q ≤ pays_at w q
+                theirs ne = rw (others q ne) (omega arith)
+
+            still : (q : ℕ) → q ≢ p → Harmless w p new.words → (o : Option (Flight T)) → flight_in w q ≡ o → left_of new.words o ≤ left_of w.words o
+            still q ne harmless None e = omega arith
+            still q ne harmless (Some other) e = harmless q ne other e
+
+            left_here : left_at new p + step_count ask ≤ left_at w p
+            left_here = rw (now, was) fell.0
+
+            by_less : (Harmless w p new.words × (M.pays next ≤ M.pays flight))
+                → Shows w new (step_count ask) (ends (events_of_step p x.start s))
+            by_less h =
+                let less = by_left w new p (step_count ask) below left_no_less left_here (λ q. no_less q h.1) in
+                omega arith
+              where
+                left_no_less : (q : ℕ) → left_at new q ≤ left_at w q
+                left_no_less q = ⊎_elim mine theirs (cases_eq q p)
+                  where
+                    mine : q ≡ p → left_at new q ≤ left_at w q
+                    mine same = let here = left_here in rw same (omega arith)
+
+                    theirs : q ≢ p → left_at new q ≤ left_at w q
+                    theirs ne = rw (others q ne) (still q ne h.0 (flight_in w q) refl)
+
+            by_pay : M.pays next + 1 ≤ M.pays flight → Shows w new (step_count ask) (ends (events_of_step p x.start s))
+            by_pay h =
+                let less = by_change w new p (step_count ask) below within.left left_here (λ q. no_less q (omega (arith, h))) (rw (now, was) h) in
+                omega arith
+
+        go : (after : After (Flight T) (Answer T)) → s.after ≡ after → Shows w new (step_count ask) (ends (events_of_step p x.start s))
+        go (GoOn next) e = goes_on next e
+        go (Done answer) e =
+            let most = at_most new within in
+            let one = few ask in
+            let more = ended_more s.wrote (ending_of p x.start (answer_in s.after)) in
+            let end : ends (ending_of p x.start (answer_in s.after)) ≡ 1 = rw e refl in
+            let paid = worth 1 (ends (events_of_step p x.start s)) (bound + 1) (omega arith) in
+            omega arith

@@ -1,0 +1,156 @@
+-- Every turn, and every list of turns.
+use Rattle.std.proofs.Common.{◌≡◌, ◌≢◌, ℕ, ◌+◌, ◌*◌, ◌<◌, ◌≤◌, ⊎_elim, Bool, true, false, Option, Some, None, is_none}
+use Rattle.std.proofs.Common.{List, [], ◌∷◌, refl, ap, ◌∙◌, arith}
+use Rattle.std.proofs.lemmas.Bool.{cases_eq}
+use Rattle.std.specs.List.{AllByRecursion}
+use Rattle.model.specs.declared.event.Start.{Start}
+use Rattle.model.specs.declared.families.Flight.{Flight}
+use Rattle.model.specs.declared.party.Doing.{Doing}
+use Rattle.model.specs.declared.party.Doing.TheVariants.{Going, Over}
+use Rattle.model.specs.declared.party.Party.{Party}
+use Rattle.model.specs.declared.turn.Turn.{Turn}
+use Rattle.model.specs.declared.turn.Turn.TheVariants.{Begin, Next, Decide, Die}
+use Rattle.model.specs.Families.{first_of, want_of, ask_of}
+use Rattle.model.specs.Parties.{party_of, doing_of, flight_of}
+use Rattle.model.specs.Promises.Turns.{ask_of_flight}
+use Rattle.model.specs.Refusals.{call_refusal, is_due}
+use Rattle.model.specs.Turns.{old_of, step_count, number_of, ask_of_doing, after_begin, after_next, after_decision, after_answer}
+use Rattle.model.specs.Turns.{events_of, events_of_next, events_of_decision, events_of_answer, world_after, after_turn, after_turns}
+use Rattle.model.specs.World.{World, Trace, flight_in}
+use Rattle.model.proofs.Frame.{is_true}
+use Rattle.model.proofs.Rows.{may_begin, may_next, may_decide, must_be_due}
+use Rattle.model.specs.LockFree.{ends, steps_of, steps_in, IsBelow, AreAllowedOn, AreWithinEnds}
+use Rattle.model.proofs.LockFree.Measure.{Measure, Owed, left_of, pays_of, left_at, pays_at, weight, bound}
+use Rattle.model.proofs.LockFree.Measure.{IsWithin, Shows, at_most, by_left, resumes, ended_more}
+use Rattle.model.proofs.LockFree.Stays.{begun}
+
+one_turn_more : (s steps old new last before ended after each : ℕ) → s + new ≤ old + ended * each
+    → steps + last + (before + ended) * each ≤ new + after * each
+    → s + steps + last + before * each ≤ old + after * each
+one_turn_more s steps old new last before ended after each here rest = omega arith
+
+module _ {T : Type 0} (M : Measure T) (P : Trace T → Type 0) (May : Turn T → Type 0) (O : Owed M P May) where
+  left_within : (t : Trace T) → P t → (q : ℕ) (o : Option (Flight T)) → flight_in t.world q ≡ o → left_of M t.world.words o ≤ M.alone
+  left_within t h q None e = omega arith
+  left_within t h q (Some flight) e = (O.most t h q flight e).0
+
+  pays_within : (t : Trace T) → P t → (q : ℕ) (o : Option (Flight T)) → flight_in t.world q ≡ o → pays_of M o ≤ M.changes
+  pays_within t h q None e = omega arith
+  pays_within t h q (Some flight) e = (O.most t h q flight e).1
+
+  module _ (n : ℕ) (below : (turn : Turn T) → May turn → IsBelow n turn) where
+    within : (t : Trace T) → P t → IsWithin M n t.world
+    within t h = record { left = λ q. left_within t h q (flight_in t.world q) refl; pays = λ q. pays_within t h q (flight_in t.world q) refl }
+
+    abbrev Shown : Trace T → Turn T → Type 0
+    Shown t turn = Shows M n t.world (world_after t.world turn) (steps_of t.world turn) (ends (events_of t.world turn))
+
+    -- a call begins
+    begins : (w : World T) (p : ℕ) (start : Start T) → p < n → (o : Option (Flight T)) → is_none o ≡ false → flight_in w p ≡ None
+        → IsWithin M n (after_begin w p start o) → 0 + weight M n (after_begin w p start o) ≤ weight M n w
+    begins w p start below None e free within = absurd (cc)
+    begins w p start below (Some flight) e free within = by_left M n w new p 0 below left here pays
+      where
+        new : World T
+        new = after_begin w p start (Some flight)
+
+        here : left_at M new p + 0 ≤ left_at M w p
+        here = let most = within.left p in rw free (omega arith)
+
+        left : (q : ℕ) → left_at M new q ≤ left_at M w q
+        left q = ⊎_elim mine theirs (cases_eq q p)
+          where
+            mine : q ≡ p → left_at M new q ≤ left_at M w q
+            mine same = let most = within.left p in rw (same, free) most
+
+            theirs : q ≢ p → left_at M new q ≤ left_at M w q
+            theirs ne = rw (begun w p start (Some flight) q ne) (omega arith)
+
+        pays : (q : ℕ) → pays_at M new q ≤ pays_at M w q
+        pays q = ⊎_elim mine theirs (cases_eq q p)
+          where
+            mine : q ≡ p → pays_at M new q ≤ pays_at M w q
+            mine same = let most = within.pays p in rw (same, free) most
+
+            theirs : q ≢ p → pays_at M new q ≤ pays_at M w q
+            theirs ne = rw (begun w p start (Some flight) q ne) (omega arith)
+
+    -- a call goes on
+    nexts : (t : Trace T) → P t → (p : ℕ) → p < n → (flight : Flight T) → flight_in t.world p ≡ Some flight
+        → IsWithin M n (world_after t.world (Next p)) → (o : Option (Party T)) → party_of p t.world.latest ≡ o
+        → IsWithin M n (after_next t.world p o)
+        → Shows M n t.world (after_next t.world p o) (step_count (ask_of_flight t.world.coding (flight_of (doing_of o)))) (ends (events_of_next t.world p o))
+    nexts t h p below flight is within None found there = let none : flight_in t.world p ≡ None = ap (λ o. flight_of (doing_of o)) found in absurd (cc)
+    nexts t h p below flight is within (Some x) found there = go x.doing refl there
+      where
+        go : (doing : Doing T) → x.doing ≡ doing
+            → IsWithin M n (after_answer t.world p x (ask_of_doing t.world.coding doing) (old_of t.world.words (ask_of_doing t.world.coding doing)) doing)
+            → Shows M n t.world
+            (after_answer t.world p x (ask_of_doing t.world.coding doing) (old_of t.world.words (ask_of_doing t.world.coding doing)) doing)
+            (step_count (ask_of_flight t.world.coding (flight_of (Some doing))))
+            (ends (events_of_answer t.world p x (old_of t.world.words (ask_of_doing t.world.coding doing)) doing))
+        go (Over others) e there =
+            let none : flight_in t.world p ≡ None = ap (λ o. flight_of (doing_of o)) found ∙ ap (λ d. flight_of (Some d)) e in
+            absurd (cc)
+        go (Going now since) e there =
+            let here : flight_in t.world p ≡ Some now = ap (λ o. flight_of (doing_of o)) found ∙ ap (λ d. flight_of (Some d)) e in
+            let ask = ask_of (want_of t.world.coding now) in
+            resumes M n t.world p x now since (old_of t.world.words ask) ask below found e
+            (O.goes t h p x now since (old_of t.world.words ask) found e) (O.step t h p now here) there
+
+    decides : (t : Trace T) → P t → (p : ℕ) (said : Bool) → p < n → (flight : Flight T) → flight_in t.world p ≡ Some flight
+        → is_due t.world.coding (flight_in t.world p) ≡ true → (o : Option (Party T)) → party_of p t.world.latest ≡ o
+        → IsWithin M n (after_decision t.world p said o)
+        → Shows M n t.world (after_decision t.world p said o) 0 (ends (events_of_decision t.world p said o))
+    decides t h p said below flight is due None found there = let none : flight_in t.world p ≡ None = ap (λ o. flight_of (doing_of o)) found in absurd (cc)
+    decides t h p said below flight is due (Some x) found there = go x.doing refl there
+      where
+        go : (doing : Doing T) → x.doing ≡ doing → IsWithin M n (after_answer t.world p x None (number_of said) doing)
+            → Shows M n t.world (after_answer t.world p x None (number_of said) doing) 0
+            (ends (events_of_answer t.world p x (number_of said) doing))
+        go (Over others) e there =
+            let none : flight_in t.world p ≡ None = ap (λ o. flight_of (doing_of o)) found ∙ ap (λ d. flight_of (Some d)) e in
+            absurd (cc)
+        go (Going now since) e there =
+            let here : flight_in t.world p ≡ Some now = ap (λ o. flight_of (doing_of o)) found ∙ ap (λ d. flight_of (Some d)) e in
+            resumes M n t.world p x now since (number_of said) None below found e
+            (O.goes t h p x now since (number_of said) found e) (O.decision t h p now said here (rw here at due)) there
+
+    turn_shows : (t : Trace T) → P t → (turn : Turn T) → call_refusal t.world turn ≡ None → IsBelow n turn
+        → IsWithin M n (world_after t.world turn) → Shown t turn
+    turn_shows t h (Begin p start) e below there =
+        let may = may_begin t.world p start e in
+        let shows = begins t.world p start below (first_of t.world.kind t.world.capacity start t.world.kept) may.call may.free there in
+        omega arith
+    turn_shows t h (Next p) e below there =
+        let may = may_next t.world p e in
+        nexts t h p below may.flight may.is there (party_of p t.world.latest) refl there
+    turn_shows t h (Decide p said) e below there =
+        let may = may_decide t.world p said e in
+        decides t h p said below may.flight may.is (is_true (is_due t.world.coding (flight_in t.world p)) (must_be_due t.world p said e))
+        (party_of p t.world.latest) refl there
+    turn_shows t h (Die owner) e below there = omega arith
+
+    -- ---- a list of turns
+
+    walks : (t : Trace T) → P t → (turns : List (Turn T)) → AreAllowedOn t turns → AllByRecursion May turns
+        → steps_in t turns + weight M n (after_turns t turns).world + ends t.events * (bound M n + 1)
+        ≤ weight M n t.world + ends (after_turns t turns).events * (bound M n + 1)
+    walks t h [] allowed may = omega arith
+    walks t h (turn ∷ turns) allowed may =
+        let next = O.keeps t turn allowed.0 may.0 h in
+        let here = turn_shows t h turn allowed.0 (below turn may.0) (within (after_turn t turn) next) in
+        let rest = walks (after_turn t turn) next turns allowed.1 may.1 in
+        let more = ended_more M n t.events (events_of t.world turn) in
+        one_turn_more (steps_of t.world turn) (steps_in (after_turn t turn) turns) (weight M n t.world)
+        (weight M n (world_after t.world turn)) (weight M n (after_turns (after_turn t turn) turns).world)
+        (ends t.events) (ends (events_of t.world turn)) (ends (after_turns (after_turn t turn) turns).events)
+        (bound M n + 1) here (rw more at rest)
+
+    -- where k calls more have ended, at most k + 1 times the bound and k steps were taken
+    pub calls_end : (t : Trace T) → P t → (turns : List (Turn T)) → AreAllowedOn t turns → AllByRecursion May turns
+        → AreWithinEnds (bound M n) (steps_in t turns) (ends t.events) (ends (after_turns t turns).events)
+    calls_end t h turns allowed may =
+        let all = walks t h turns allowed may in
+        let most = at_most M n t.world (within t h) in
+        omega arith

@@ -1,0 +1,100 @@
+-- Lock-freedom, of lists of turns: where so many parties take turns, after so many steps one of their calls has ended.
+use Rattle.std.specs.Prelude.{◌≡◌, ◌<◌, ◌≤◌, ℕ, ◌+◌, ◌-◌, ◌*◌, max, Option, Some, None, List, [], ◌∷◌}
+use Rattle.std.specs.List.{AllByRecursion, sum_by}
+use Rattle.steps.specs.Bits.Words.{elements}
+use Rattle.model.specs.declared.event.Event.{Event}
+use Rattle.model.specs.declared.event.Event.TheVariants.{Finished}
+use Rattle.model.specs.declared.turn.Kind.{Kind}
+use Rattle.model.specs.declared.turn.Kind.TheVariants.{IndexQueue, Overflow, Queue, Atomic, Bits, Counts}
+use Rattle.model.specs.declared.turn.Turn.{Turn}
+use Rattle.model.specs.declared.turn.Turn.TheVariants.{Begin, Next, Decide, Die}
+use Rattle.model.specs.Promises.Turns.{ask_in}
+use Rattle.model.specs.Refusals.{call_refusal}
+use Rattle.model.specs.Turns.{step_count, after_turn, after_turns, AreAllowed, IsReached, IsReachedOn}
+use Rattle.model.specs.World.{World, Trace}
+
+module _ {T : Type 0} where
+  -- ---- a stretch of a run: turns from a machine that turns have reached, of which none is refused
+
+  -- a call that ends writes one
+  abbrev pub end_of : Event T → ℕ
+  end_of (Finished p start answer) = 1
+  end_of e = 0
+
+  -- how many calls have ended
+  abbrev pub ends : List (Event T) → ℕ
+  ends events = sum_by end_of events
+
+  -- 1 for a turn that does an operation on a word
+  abbrev pub steps_of : World T → Turn T → ℕ
+  steps_of w turn = step_count (ask_in w turn)
+
+  -- how many steps the turns take
+  abbrev pub steps_in : Trace T → List (Turn T) → ℕ
+  steps_in t [] = 0
+  steps_in t (turn ∷ turns) = steps_of t.world turn + steps_in (after_turn t turn) turns
+
+  -- the turn is of a party below n; a death is of none
+  abbrev pub IsBelow : ℕ → Turn T → Type 0
+  IsBelow n (Begin p start) = p < n
+  IsBelow n (Next p) = p < n
+  IsBelow n (Decide p said) = p < n
+  IsBelow n (Die owner) = Unit {0}
+
+  -- none of the turns is refused, where neither turns nor parties have a bound
+  abbrev pub AreAllowedOn : Trace T → List (Turn T) → Type 0
+  AreAllowedOn t [] = Unit {0}
+  AreAllowedOn t (turn ∷ turns) =
+      (call_refusal t.world turn ≡ None) × AreAllowedOn (after_turn t turn) turns
+
+-- ---- the law
+
+-- a number of steps, by how many parties take turns, the capacity, and the words of a value
+abbrev pub Bound : Type 0
+Bound = ℕ → ℕ → ℕ → ℕ
+
+-- Wherever turns have led, and whatever turns n parties take from there, others having stopped: in more steps than the
+-- bound says for n parties, the capacity and the words of a value, a call ends.
+abbrev pub IsLockFree : Type 0 → Kind → Bound → Type 0
+IsLockFree T kind bound =
+    (t : Trace T) → t.world.kind ≡ kind → IsReachedOn t → (n : ℕ) (turns : List (Turn T))
+    → AreAllowedOn t turns → AllByRecursion (IsBelow n) turns
+    → bound n t.world.capacity t.world.coding.size < steps_in t turns
+    → ends t.events < ends (after_turns t turns).events
+
+-- one stretch of more steps than the bound costs one end: so k calls more have ended before the steps are more than
+-- k times one more than the bound, and once the bound
+abbrev pub AreWithinEnds : ℕ → ℕ → ℕ → ℕ → Type 0
+AreWithinEnds bound steps before after = steps + before * (bound + 1) ≤ bound + after * (bound + 1)
+
+-- It goes on so: from there calls end as often as the steps have that bound.
+abbrev pub KeepsEnding : Type 0 → Kind → Bound → Type 0
+KeepsEnding T kind bound =
+    (t : Trace T) → t.world.kind ≡ kind → IsReachedOn t → (n : ℕ) (turns : List (Turn T))
+    → AreAllowedOn t turns → AllByRecursion (IsBelow n) turns
+    → AreWithinEnds (bound n t.world.capacity t.world.coding.size) (steps_in t turns) (ends t.events)
+    (ends (after_turns t turns).events)
+
+-- The same of a machine as it runs: in more steps than the bound says for its parties a call ends.
+abbrev pub HasLockFreeRuns : Type 0 → Kind → Bound → Type 0
+HasLockFreeRuns T kind bound =
+    (t : Trace T) → t.world.kind ≡ kind → IsReached t → (turns : List (Turn T)) → AreAllowed t turns
+    → bound t.world.parties t.world.capacity t.world.coding.size < steps_in t turns
+    → ends t.events < ends (after_turns t turns).events
+
+-- ---- the bounds
+
+-- Of n parties whose calls each take at most so many steps before their last one, while no other call does what adds to
+-- them, and make at most so many changes of a word that can add to those of the others.
+abbrev pub stretch : ℕ → ℕ → ℕ → ℕ
+stretch n changes alone = n * changes * ((n - 1) * alone) + n * alone
+
+-- The bound of a kind, where there is one. With no change that costs another party a step it is n times one number.
+abbrev pub lock_free_bound : Kind → Option Bound
+lock_free_bound IndexQueue = Some (λ n capacity size. stretch n 0 5)
+lock_free_bound Overflow = Some (λ n capacity size. stretch n 2 5)
+lock_free_bound Queue = Some (λ n capacity size. stretch n 0 (max 5 (size + 2)))
+lock_free_bound Atomic = Some (λ n capacity size. stretch n 0 (2 * size + 1))
+lock_free_bound Bits = Some (λ n capacity size. stretch n (max 1 (elements capacity - 1)) (capacity + 2))
+lock_free_bound Counts = Some (λ n capacity size. stretch n 0 (capacity - 1))
+lock_free_bound kind = None
