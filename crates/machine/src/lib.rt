@@ -60,7 +60,7 @@ impl<T: Words> Model for Machine<T> {
 impl<T: Words> Machine<T> {
     ghost use Rattle.model.specs.World.{opening, loan_opening, capacity_error, loan_error, IsCreationError, IsLoanError, trace_in, world_in, progress_in};
     ghost use Rattle.model.specs.Refusals.{refusal_of, IsRefusal, is_going};
-    ghost use Rattle.model.specs.Turns.{after_turn, after_turns, AreAllowed};
+    ghost use Rattle.model.specs.Turns.{after_turn, after_turns, AreAllowed, IsReached};
     ghost use Rattle.model.specs.Linearized.{IsLinearizableRun};
     ghost use Rattle.model.specs.Progress.{KeepsGuarantees};
     ghost use Rattle.model.specs.declared.families.Registry.TheVariants as registries;
@@ -233,6 +233,14 @@ impl<T: Words> Machine<T> {
     /// bounded or an overflowing list, and the stores and loads of the single value as those of one value.
     pub fn linearizable(&self)
         ensures { IsLinearizableRun (trace_in ⟦<T as Coded>⟧.coding self.now) }
+    {
+        let _ = &self.parts;
+    }
+
+    /// A law of every machine, which does nothing: turns have led to it. So every law of reached machines is one of it: those of
+    /// the crate `headline`, which is what all machines do in one statement, and those of `laws_turns`.
+    pub fn reached(&self)
+        ensures { IsReached (trace_in ⟦<T as Coded>⟧.coding self.now) }
     {
         let _ = &self.parts;
     }

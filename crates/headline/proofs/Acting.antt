@@ -1,0 +1,136 @@
+-- A call that has finished began, and acted once since then.
+use Rattle.std.proofs.Common.{◌≡◌, ◌≢◌, ℕ, ◌==◌, Bool, true, false, Option, Some, None, List, [], ◌∷◌, ◌++◌, fold, if◌then◌else◌, refl, sym, ap, subst, ◌∙◌, append_assoc, append-nil, arith}
+use Rattle.std.proofs.lemmas.Bool.Decides.{nat_tests}
+use Rattle.std.proofs.lemmas.List.Concat.{flat_map-append}
+use Rattle.std.specs.List.{flat_map}
+use Rattle.model.specs.declared.event.Answer.{Answer}
+use Rattle.model.specs.declared.event.Event.{Event}
+use Rattle.model.specs.declared.event.Event.TheVariants.{Begun, Acted, Finished}
+use Rattle.model.specs.declared.event.Start.{Start}
+use Rattle.model.specs.Moments.{BeginsNone}
+use Rattle.model.specs.Promise.{Promise}
+use Rattle.model.specs.Promises.{IsKeptBy}
+use Rattle.model.specs.Reading.{acts, moments, whose, is_party, Span, Never, Open, Ended, longer, ended, own_after, span_after, span_of}
+use Rattle.model.specs.Shape.{IsOpenFor}
+use Rattle.model.specs.World.{Trace}
+use Rattle.model.proofs.Moments.{begins_none_more}
+use Rattle.headline.specs.Moments.{Follows, act_of, ActedOnce}
+
+is_it : (q p : ℕ) → (q == p) ≡ true → q ≡ p
+is_it q p t = grind (arith, nat_tests)
+
+is_another : (q p : ℕ) → (q == p) ≡ false → q ≢ p
+is_another q p t = grind (arith, nat_tests)
+
+module _ {T : Type 0} where
+  -- ---- a call that has ended has written what its answer says
+
+  pub record Wrote (P : List (Event T) → Type 0) (p : ℕ) (start : Start T) (before : List (Event T)) : Type 0 where
+    pub wrote : List (Event T)
+    pub opens : span_of p before ≡ Open start wrote
+    pub right : P wrote
+
+  opened_for : (P : List (Event T) → Type 0) (p : ℕ) (start : Start T) (before : List (Event T)) (span : Span T) → span_of p before ≡ span
+      → IsOpenFor start P span → Wrote P p start before
+  opened_for P p start before Never is h = absurd h
+  opened_for P p start before (Open call wrote) is h =
+      record { wrote = wrote; opens = is ∙ ap (λ (c : Start T). Open c wrote) h.0; right = h.1 }
+  opened_for P p start before (Ended call answer wrote) is h = absurd h
+
+  pub finished_wrote : (promise : Promise T) (t : Trace T) (p : ℕ) (start : Start T) (answer : Answer T) (before : List (Event T))
+      → IsKeptBy promise t → Follows (Finished p start answer) before t.events
+      → Wrote (promise.wrote t.world.capacity start answer) p start before
+  finished_wrote promise t p start answer before kept at =
+      opened_for (promise.wrote t.world.capacity start answer) p start before (span_of p before) refl
+      (kept.spans before at.0 (Finished p start answer) at.1)
+
+  -- ---- a span that is open for a call
+
+  module _ (p : ℕ) where
+    pub record Began (start : Start T) (wrote events : List (Event T)) : Type 0 where
+      pub before : List (Event T)
+      pub since : List (Event T)
+      pub is : events ≡ before ++ Begun p start ∷ since
+      pub within : BeginsNone p since
+      pub once : flat_map (act_of p) since ≡ moments wrote
+
+    abbrev Reads : Span T → List (Event T) → Type 0
+    Reads Never events = Unit {0}
+    Reads (Open start wrote) events = Began start wrote events
+    Reads (Ended start answer wrote) events = Unit {0}
+
+    -- one event more, which begins no call of the party
+    one_more : (start : Start T) (wrote more events : List (Event T)) (e : Event T) → BeginsNone p (e ∷ [])
+        → flat_map (act_of p) (e ∷ []) ≡ moments more → Began start wrote events → Began start (wrote ++ more) (events ++ e ∷ [])
+    one_more start wrote more events e none same b =
+        record {
+          before = b.before;
+          since = b.since ++ e ∷ [];
+          is = ap (λ (xs : List (Event T)). xs ++ e ∷ []) b.is ∙ append_assoc b.before (Begun p start ∷ b.since) (e ∷ []);
+          within = begins_none_more p b.since (e ∷ []) b.within none;
+          once = flat_map-append (act_of p) b.since (e ∷ [])
+          ∙ (ap (λ (xs : List (Start T × Answer T)). xs ++ flat_map (act_of p) (e ∷ [])) b.once
+          ∙ (ap (λ (xs : List (Start T × Answer T)). moments wrote ++ xs) same ∙ sym (flat_map-append acts wrote more)));
+        }
+
+    longer_reads : (span : Span T) (before : List (Event T)) (e : Event T) → BeginsNone p (e ∷ [])
+        → flat_map (act_of p) (e ∷ []) ≡ moments (e ∷ []) → Reads span before → Reads (longer span e) (before ++ e ∷ [])
+    longer_reads Never before e none same r = tt
+    longer_reads (Open start wrote) before e none same r = one_more start wrote (e ∷ []) before e none same r
+    longer_reads (Ended start answer wrote) before e none same r = tt
+
+    same_reads : (span : Span T) (before : List (Event T)) (e : Event T) → BeginsNone p (e ∷ [])
+        → flat_map (act_of p) (e ∷ []) ≡ [] → Reads span before → Reads span (before ++ e ∷ [])
+    same_reads Never before e none same r = tt
+    same_reads (Open start wrote) before e none same r =
+        subst (λ (xs : List (Event T)). Began start xs (before ++ e ∷ [])) (append-nil wrote) (one_more start wrote [] before e none same r)
+    same_reads (Ended start answer wrote) before e none same r = tt
+
+    ended_reads : (span : Span T) (events : List (Event T)) (answer : Answer T) → Reads (ended span answer) events
+    ended_reads Never events answer = tt
+    ended_reads (Open start wrote) events answer = tt
+    ended_reads (Ended start first wrote) events answer = tt
+
+    -- an event that is no begin, no act and no end
+    quiet_reads : (span : Span T) (before : List (Event T)) (e : Event T) → ((s : Span T) → own_after s e ≡ longer s e)
+        → BeginsNone p (e ∷ []) → act_of p e ≡ [] → acts e ≡ [] → Reads span before
+        → (b : Bool) → is_party p (whose e) ≡ b → Reads (if b then own_after span e else span) (before ++ e ∷ [])
+    quiet_reads span before e writes none mine its r true t =
+        subst (λ (s : Span T). Reads s (before ++ e ∷ [])) (sym (writes span))
+        (longer_reads span before e none (ap (λ (xs : List (Start T × Answer T)). xs ++ []) (mine ∙ sym its)) r)
+    quiet_reads span before e writes none mine its r false t =
+        same_reads span before e none (ap (λ (xs : List (Start T × Answer T)). xs ++ []) mine) r
+
+    step : (span : Span T) (before : List (Event T)) (e : Event T) → Reads span before → Reads (span_after p span e) (before ++ e ∷ [])
+    step span before (Begun q start) r = go (q == p) refl
+      where
+        go : (b : Bool) → (q == p) ≡ b → Reads (if b then Open start [] else span) (before ++ Begun q start ∷ [])
+        go true t =
+            record { before = before; since = []; is = ap (λ n. before ++ Begun n start ∷ []) (is_it q p t); within = tt; once = refl }
+        go false t = same_reads span before (Begun q start) (is_another q p t, tt) refl r
+    step span before (Acted q start answer) r = go (q == p) refl
+      where
+        go : (b : Bool) → (q == p) ≡ b → Reads (if b then longer span (Acted q start answer) else span) (before ++ Acted q start answer ∷ [])
+        go true t = longer_reads span before (Acted q start answer) tt (rw t refl) r
+        go false t = same_reads span before (Acted q start answer) tt (rw t refl) r
+    step span before (Finished q start answer) r = go (q == p) refl
+      where
+        go : (b : Bool) → (q == p) ≡ b → Reads (if b then ended span answer else span) (before ++ Finished q start answer ∷ [])
+        go true t = ended_reads span (before ++ Finished q start answer ∷ []) answer
+        go false t = same_reads span before (Finished q start answer) tt refl r
+    step span before e r = quiet_reads span before e (λ s. refl) tt refl refl r (is_party p (whose e)) refl
+
+    walk : (es before : List (Event T)) (span : Span T) → Reads span before → Reads (fold (span_after p) span es) (before ++ es)
+    walk [] before span r = subst (Reads span) (sym (append-nil before)) r
+    walk (e ∷ es) before span r =
+        subst (Reads (fold (span_after p) (span_after p span e) es)) (append_assoc before (e ∷ []) es)
+        (walk es (before ++ e ∷ []) (span_after p span e) (step span before e r))
+
+    began : (start : Start T) (wrote events : List (Event T)) → span_of p events ≡ Open start wrote → Began start wrote events
+    began start wrote events is = subst (λ (s : Span T). Reads s events) is (walk events [] Never tt)
+
+  pub acted_once : (p : ℕ) (start : Start T) (answer : Answer T) (before wrote : List (Event T))
+      → span_of p before ≡ Open start wrote → moments wrote ≡ (start, answer) ∷ [] → ActedOnce p start answer before
+  acted_once p start answer before wrote is one =
+      let b = began p start wrote before is in
+      record { before = b.before; since = b.since; is = b.is; within = b.within; once = b.once ∙ one }

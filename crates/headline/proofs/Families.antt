@@ -1,0 +1,278 @@
+-- What each kind's machine does, from what its family promises and from the laws of turns.
+use Rattle.std.proofs.Common.{◌≡◌, ◌≢◌, ◌⊎◌, ℕ, Bool, true, false, Option, Some, None, List, [], ◌∷◌, ◌++◌, refl, sym, ap, subst, ◌∙◌, ⊎_elim}
+use Rattle.steps.specs.declared.indices.enums.ReleaseMode.{ReleaseMode}
+use Rattle.steps.specs.declared.indices.enums.ReleaseMode.TheVariants.{LockIfLastIndex, Default}
+use Rattle.steps.specs.declared.indices.enums.ReleaseState.TheVariants.{Unlocked}
+use Rattle.model.specs.declared.event.Answer.{Answer}
+use Rattle.model.specs.declared.event.Answer.TheVariants as answers
+use Rattle.model.specs.declared.event.Event.{Event}
+use Rattle.model.specs.declared.event.Event.TheVariants.{Published, HandedOut, Claimed, Freed, Filled, Granted, FreedOf, Locked, Returned, TakenBack, Copied, Finished}
+use Rattle.model.specs.declared.event.Item.TheVariants as items
+use Rattle.model.specs.declared.event.Start.{Start}
+use Rattle.model.specs.declared.event.Start.TheVariants as starts
+use Rattle.model.specs.declared.families.Registry.{Registry}
+use Rattle.model.specs.declared.families.Registry.TheVariants as registries
+use Rattle.model.specs.declared.families.loan.Book.{Book}
+use Rattle.model.specs.declared.families.atomic.AtomicStart.TheVariants as atomics
+use Rattle.model.specs.declared.families.queues.QueueKind.{QueueKind}
+use Rattle.model.specs.declared.families.queues.QueueKind.TheVariants as queue_kinds
+use Rattle.model.specs.declared.families.queues.QueueStart.TheVariants as queues
+use Rattle.model.specs.declared.turn.Kind.{Kind}
+use Rattle.model.specs.declared.turn.Kind.TheVariants as kinds
+use Rattle.model.specs.Families.Atomic.Promises as value_promises
+use Rattle.model.specs.Families.Bits.Promises.{bits_promise, counts_promise}
+use Rattle.model.specs.Families.Container.Promises as container_promises
+use Rattle.model.specs.Families.Indices.Promises as index_promises
+use Rattle.model.specs.Families.Indices.Reading as unique
+use Rattle.model.specs.Families.Indices.Robust.Promises as robust_promises
+use Rattle.model.specs.Families.Indices.Robust.Reading as robust
+use Rattle.model.specs.Families.Indices.Robust.Reading.{wrote_in}
+use Rattle.model.specs.Families.Indices.Spans.{SetActs, set_acts, claimed}
+use Rattle.model.specs.Families.Loan.Promises as loan_promises
+use Rattle.model.specs.Families.Loan.Reading.{Free, Waiting, Returning}
+use Rattle.model.specs.Families.Queues.Promises as queue_promises
+use Rattle.model.specs.Linearizable.{IsLinearizable}
+use Rattle.model.specs.Linearized.{as_list, as_value, is_push_or_pop, is_store_or_load, IsLinearized}
+use Rattle.model.specs.Promises.{IsKeptBy, IsKept}
+use Rattle.model.specs.Promises.Families.{promise_of}
+use Rattle.model.specs.Reading.{Each, moments, Span, Open, span_of}
+use Rattle.model.specs.Turns.{IsReached}
+use Rattle.model.specs.World.{Trace}
+use Rattle.laws_turns.specs.Others.{queue_in}
+use Rattle.laws_turns.proofs.Counting as counting
+use Rattle.laws_turns.proofs.Locking as locking
+use Rattle.laws_turns.proofs.Meeting as meeting
+use Rattle.laws_turns.proofs.Queue as submission
+use Rattle.laws_turns.proofs.Waiting as waiting
+use Rattle.headline.specs.Holders.{Hand, Takes, Neither, claims, fills, grants, loans, holders, NoTwoHold, NoneOnceLocked}
+use Rattle.headline.specs.Headline.{QueueRuns, ValueRuns, BitsRun, CountsRun, IndicesRun, RobustRuns, ContainerRuns, ChannelRuns, Runs}
+use Rattle.headline.specs.Moments.{Follows, ActedOnce, ActAs}
+use Rattle.headline.proofs.Acting.{finished_wrote, acted_once}
+use Rattle.headline.proofs.Holding.{no_two_hold, none_once_locked, none_latest, one_latest, claims_read, fills_read, grants_read, loaned_free, TakesFree}
+
+module _ {T : Type 0} where
+  -- ---- the queues and the value
+
+  queue_moments : (kind : QueueKind) (capacity : ℕ) (start : Start T) (answer : Answer T) (wrote : List (Event T))
+      → is_push_or_pop start ≡ true → queue_promises.wrote kind capacity start answer wrote → moments wrote ≡ (start, answer) ∷ []
+  queue_moments kind capacity (starts.Queues (queues.PushIndex index)) answer wrote t h = h.moments
+  queue_moments kind capacity (starts.Queues (queues.Push value)) answer wrote t h = h.moments
+  queue_moments kind capacity (starts.Queues queues.Pop) answer wrote t h = h.moments
+  queue_moments kind capacity (starts.Queues other) answer wrote t h = absurd (cc)
+  queue_moments kind capacity other answer wrote t h = absurd h
+
+  queue_runs : (kind : QueueKind) (t : Trace T) → IsKeptBy (queue_promises.promise kind) t
+      → IsLinearizable (as_list kind t.world.capacity) t.events → QueueRuns kind t
+  queue_runs kind t kept linearizable =
+      record {
+        list =
+            record {
+              inside = λ p start answer before is_call at.
+              let w = finished_wrote (queue_promises.promise kind) t p start answer before kept at in
+              acted_once p start answer before w.wrote w.opens (queue_moments kind t.world.capacity start answer w.wrote is_call w.right);
+              answers = kept.promised.moments;
+              linearizable = linearizable;
+            };
+        conserved = kept.promised.book.rest;
+      }
+
+  value_moments : (capacity : ℕ) (start : Start T) (answer : Answer T) (wrote : List (Event T)) → is_store_or_load start ≡ true
+      → value_promises.wrote capacity start answer wrote → moments wrote ≡ (start, answer) ∷ []
+  value_moments capacity (starts.Atomic (atomics.Store value)) answer wrote t h = h
+  value_moments capacity (starts.Atomic atomics.Load) answer wrote t h = h
+  value_moments capacity (starts.Atomic other) answer wrote t h = absurd (cc)
+  value_moments capacity other answer wrote t h = absurd (cc)
+
+  value_runs : (t : Trace T) → IsKeptBy value_promises.promise t → IsLinearizable (as_value t.world.coding) t.events → ValueRuns t
+  value_runs t kept linearizable =
+      record {
+        value =
+            record {
+              inside = λ p start answer before is_call at.
+              let w = finished_wrote value_promises.promise t p start answer before kept at in
+              acted_once p start answer before w.wrote w.opens (value_moments t.world.capacity start answer w.wrote is_call w.right);
+              answers = kept.promised.moments;
+              linearizable = linearizable;
+            };
+      }
+
+  -- ---- unique indices
+
+  module _ (t : Trace T) (kept : IsKeptBy index_promises.promise t) where
+    claims_free : TakesFree claims t.events
+    claims_free (Claimed p i) before index holder at takes =
+        let is : i ≡ index = cc in
+        subst (λ n. holders claims n before ≡ []) is
+        (none_latest (holders claims i before) (claims_read i before ∙ (kept.promised.holds before at.0 (Claimed p i) at.1).1))
+    claims_free (Freed p i) before index holder at takes = absurd (cc)
+    claims_free e before index holder at takes = absurd (cc)
+
+    claims_unlocked : (e : Event T) (before : List (Event T)) (index holder : ℕ) → Follows e before t.events → claims e ≡ Takes index holder
+        → unique.is_locked before ≡ false
+    claims_unlocked (Claimed p i) before index holder at takes = (kept.promised.holds before at.0 (Claimed p i) at.1).2
+    claims_unlocked (Freed p i) before index holder at takes = absurd (cc)
+    claims_unlocked e before index holder at takes = absurd (cc)
+
+    one_claim : NoTwoHold claims t.events
+    one_claim = no_two_hold claims t.events claims_free
+
+    index_claimed : (index : ℕ) (all : SetActs) → Some (claimed index) ≡ Some all → all ≡ claimed index
+    index_claimed index all e = cc
+
+    indices_run : IndicesRun t
+    indices_run =
+        record {
+          no_two_hold = one_claim;
+          none_once_locked = none_once_locked claims t.events
+          (record {
+            locked = λ p. refl;
+            at_lock = λ p before at i. none_latest (holders claims i before) (claims_read i before ∙ (kept.promised.holds before at.0 (Locked p) at.1).0 i);
+            before_lock = claims_unlocked;
+          });
+          acquired = λ p index before at.
+          let w = finished_wrote index_promises.promise t p _ _ before kept at in
+          ap (λ (s : Span T). set_acts (wrote_in s)) w.opens ∙ index_claimed index (set_acts w.wrote) w.right;
+          freed = λ p index before at.
+          one_latest (holders claims index before) p (claims_read index before ∙ kept.promised.holds before at.0 (Freed p index) at.1)
+          (one_claim before (Freed p index ∷ at.0) at.1 index);
+        }
+
+  -- ---- a set of indices of owners
+
+  module _ (capacity : ℕ) (events : List (Event T)) (does : Each (robust_promises.SetDoes capacity) events) where
+    fills_free : TakesFree fills events
+    fills_free (Filled p i o) before index holder at takes =
+        let is : i ≡ index = cc in
+        subst (λ n. holders fills n before ≡ []) is
+        (none_latest (holders fills i before) (fills_read i before ∙ (does before at.0 (Filled p i o) at.1).1))
+    fills_free (FreedOf p i o) before index holder at takes = absurd (cc)
+    fills_free e before index holder at takes = absurd (cc)
+
+    no_two_fill : NoTwoHold fills events
+    no_two_fill = no_two_hold fills events fills_free
+
+    freed_of : (p index owner : ℕ) (before : List (Event T)) → Follows (FreedOf p index owner) before events
+        → holders fills index before ≡ owner ∷ []
+    freed_of p index owner before at =
+        one_latest (holders fills index before) owner (fills_read index before ∙ (does before at.0 (FreedOf p index owner) at.1).0)
+        (no_two_fill before (FreedOf p index owner ∷ at.0) at.1 index)
+
+    -- in a well-formed run
+    module _ (holds : Each robust_promises.HoldsRight events) where
+      grants_free : TakesFree grants events
+      grants_free (Granted p i o) before index holder at takes =
+          let is : i ≡ index = cc in
+          subst (λ n. holders grants n before ≡ []) is
+          (none_latest (holders grants i before) (grants_read i before ∙ holds before at.0 (Granted p i o) at.1))
+      grants_free (FreedOf p i o) before index holder at takes = absurd (cc)
+      grants_free e before index holder at takes = absurd (cc)
+
+      grants_unlocked : (e : Event T) (before : List (Event T)) (index holder : ℕ) → Follows e before events → grants e ≡ Takes index holder
+          → unique.is_locked before ≡ false
+      grants_unlocked (Granted p i o) before index holder at takes = (does before at.0 (Granted p i o) at.1).0
+      grants_unlocked (FreedOf p i o) before index holder at takes = absurd (cc)
+      grants_unlocked e before index holder at takes = absurd (cc)
+
+      one_grant : NoTwoHold grants events
+      one_grant = no_two_hold grants events grants_free
+
+      none_granted : NoneOnceLocked grants events
+      none_granted =
+          none_once_locked grants events
+          (record {
+            locked = λ p. refl;
+            at_lock = λ p before at i. none_latest (holders grants i before) (grants_read i before ∙ holds before at.0 (Locked p) at.1 i);
+            before_lock = grants_unlocked;
+          })
+
+  robust_runs : (t : Trace T) → t.world.kind ≡ kinds.Robust → IsReached t → IsKeptBy robust_promises.promise t → RobustRuns t
+  robust_runs t is r kept =
+      let set = kept.promised in
+      record {
+        no_two_fill = no_two_fill t.world.capacity t.events set.does;
+        no_two_hold = λ well. one_grant t.world.capacity t.events set.does (set.holds well);
+        none_once_locked = λ well. none_granted t.world.capacity t.events set.does (set.holds well);
+        acquired = λ p index owner before at.
+        let w = finished_wrote robust_promises.promise t p _ _ before kept at in
+        ap (λ (s : Span T). robust.set_acts (wrote_in s)) w.opens ∙ w.right;
+        freed = freed_of t.world.capacity t.events set.does;
+        recovered = λ p index owner mode before at. (set.answers before at.0 _ at.1).1.gone index owner;
+        locks = λ p index owner before at one.
+        let late = locking.locks t is r before at.0 _ at.1 index owner one in (late.other, late.once);
+      }
+
+  container_runs : (t : Trace T) → t.world.kind ≡ kinds.Container → IsReached t → IsKeptBy container_promises.promise t → ContainerRuns t
+  container_runs t is r kept =
+      let set = kept.promised in
+      record {
+        no_two_fill = no_two_fill t.world.capacity t.events set.does;
+        no_two_hold = λ well. one_grant t.world.capacity t.events set.does (set.well_formed well).holders;
+        none_once_locked = λ well. none_granted t.world.capacity t.events set.does (set.well_formed well).holders;
+        freed = freed_of t.world.capacity t.events set.does;
+        copied = λ well p index value before at. (set.well_formed well).contents before at.0 (Copied p index value) at.1;
+        added = λ well p index owner value before at. (set.well_formed well).placed before at.0 _ at.1;
+        replaced = λ well p index owner value before at. (set.well_formed well).placed before at.0 _ at.1;
+        asked = set.questions;
+        shown = λ p index state value rests has shows.
+        let was = set.states p index state value rests has shows in record { before = was.before; after = was.after; is = was.is };
+        recovered = λ p index owner mode before at. (set.answers before at.0 _ at.1).1.gone index;
+        locks = λ p index owner before at one.
+        let late = (set.answers before at.0 _ at.1).2 index one in (late.other, late.once);
+        waits = waiting.waits t is r;
+        changes = counting.counts_changes t is r;
+        met = λ p before at. meeting.meets_changes t is r before at.0 _ at.1;
+        met_none = λ p before at. meeting.meets_changes t is r before at.0 _ at.1;
+      }
+
+  -- ---- the loan channel
+
+  module _ (book : Book) (t : Trace T) (channel : loan_promises.IsChannelOf book t) where
+    loans_free : TakesFree loans t.events
+    loans_free (Claimed p i) before index holder at takes =
+        let is : i ≡ index = cc in
+        subst (λ n. holders loans n before ≡ []) is (loaned_free i before Free (channel.moves before at.0 (Claimed p i) at.1).1 tt)
+    loans_free (HandedOut p (items.Index i)) before index holder at takes =
+        let is : i ≡ index = cc in
+        subst (λ n. holders loans n before ≡ []) is
+        (loaned_free i before Waiting (channel.moves before at.0 (HandedOut p (items.Index i)) at.1).1 tt)
+    loans_free (TakenBack p i) before index holder at takes =
+        let is : i ≡ index = cc in
+        subst (λ n. holders loans n before ≡ []) is (loaned_free i before Returning (channel.moves before at.0 (TakenBack p i) at.1).1 tt)
+    loans_free (Published p (items.Index i)) before index holder at takes = absurd (cc)
+    loans_free (Returned p i) before index holder at takes = absurd (cc)
+    loans_free (Freed p i) before index holder at takes = absurd (cc)
+    loans_free e before index holder at takes = absurd (cc)
+
+    channel_of : queue_in t.world.kept ≡ Some book.queue → ChannelRuns book.queue t
+    channel_of length =
+        record {
+          length = length;
+          no_two_hold = no_two_hold loans t.events loans_free;
+          list = channel.legal;
+          sent = channel.sent;
+          returned = channel.returned;
+        }
+
+  channel_runs : (queue : ℕ) (t : Trace T) (kept : Registry T) → t.world.kept ≡ kept → loan_promises.IsChannelBy kept t
+      → queue_in t.world.kept ≡ Some queue → ChannelRuns queue t
+  channel_runs queue t (registries.Loan book) is channel length =
+      let same : Some book.queue ≡ Some queue = sym (ap queue_in is) ∙ length in
+      let one : book.queue ≡ queue = cc in
+      subst (λ n. ChannelRuns n t) one (channel_of book t channel (length ∙ sym same))
+  channel_runs queue t kept is channel length = absurd channel
+
+  -- ---- every kind
+
+  pub by_kind : (kind : Kind) (queue : ℕ) (t : Trace T) → t.world.kind ≡ kind → (r : IsReached t) → r.queue ≡ queue
+      → IsKeptBy (promise_of kind) t → IsLinearized kind t → Runs kind queue t
+  by_kind kinds.IndexQueue queue t is r same kept linearizable = queue_runs queue_kinds.IndexQueue t kept linearizable
+  by_kind kinds.Overflow queue t is r same kept linearizable = queue_runs queue_kinds.Overflow t kept linearizable
+  by_kind kinds.Queue queue t is r same kept linearizable = queue_runs queue_kinds.Queue t kept linearizable
+  by_kind kinds.Atomic queue t is r same kept linearizable = value_runs t kept linearizable
+  by_kind kinds.Bits queue t is r same kept linearizable = record { conserved = kept.promised.conserved }
+  by_kind kinds.Counts queue t is r same kept linearizable = record { conserved = kept.promised.conserved }
+  by_kind kinds.Indices queue t is r same kept linearizable = indices_run t kept
+  by_kind kinds.Robust queue t is r same kept linearizable = robust_runs t is r kept
+  by_kind kinds.Container queue t is r same kept linearizable = container_runs t is r kept
+  by_kind kinds.Loan queue t is r same kept linearizable =
+      channel_runs queue t t.world.kept refl kept.promised (submission.queue_is t is r ∙ ap (λ (n : ℕ). Some n) same)

@@ -1,0 +1,231 @@
+-- That no index has two holders, from what each event finds.
+use Rattle.std.proofs.Common.{◌≡◌, ◌≤◌, ℕ, ◌==◌, Bool, true, false, Option, Some, None, List, [], ◌∷◌, ◌++◌, length, fold, if◌then◌else◌, refl, sym, ap, subst, ◌∙◌, append_assoc, append-nil, arith}
+use Rattle.std.proofs.lemmas.Bool.Decides.{nat_tests}
+use Rattle.std.proofs.lemmas.List.Sums.{fold-append}
+use Rattle.model.specs.declared.event.Answer.{Answer}
+use Rattle.model.specs.declared.event.Answer.TheVariants as answers
+use Rattle.model.specs.declared.event.Event.{Event}
+use Rattle.model.specs.declared.event.Event.TheVariants.{Begun, Published, HandedOut, Claimed, Freed, Locked, Filled, Granted, FreedOf, Returned, TakenBack, Finished}
+use Rattle.model.specs.declared.event.Item.TheVariants as items
+use Rattle.model.specs.declared.event.Start.{Start}
+use Rattle.model.specs.declared.event.Start.TheVariants as starts
+use Rattle.model.specs.declared.families.loan.LoanStart.TheVariants as calls
+use Rattle.model.specs.Families.Indices.Reading as unique
+use Rattle.model.specs.Families.Indices.Robust.Reading as robust
+use Rattle.model.specs.Families.Loan.Reading.{Spot, Free, Passing, With, Waiting, Returning, Move, move_of, moved, spot_after, spot_of}
+use Rattle.headline.specs.Holders.{Hand, Takes, Gives, Neither, held_after, claims, fills, grants, loans, holders, NoTwoHold, NoneOnceLocked}
+use Rattle.headline.specs.Moments.{Follows}
+
+is_it : (index i : ℕ) → (index == i) ≡ true → index ≡ i
+is_it index i t = grind (arith, nat_tests)
+
+either : (b : Bool) (held : List ℕ) → (if b then held else held) ≡ held
+either true held = refl
+either false held = refl
+
+stays_none : (i : ℕ) (h : Hand) → ((index holder : ℕ) → h ≡ Takes index holder → ⊥) → held_after i [] h ≡ []
+stays_none i (Takes index holder) never = absurd (never index holder refl)
+stays_none i (Gives index) never = either (index == i) []
+stays_none i Neither never = refl
+
+true_false : (b : Bool) → b ≡ true → b ≡ false → ⊥
+true_false b t f = cc
+
+module _ {T : Type 0} (hand : Event T → Hand) where
+  abbrev after : ℕ → List ℕ → Event T → List ℕ
+  after i held e = held_after i held (hand e)
+
+  one_after : (i : ℕ) (before : List (Event T)) (e : Event T) → holders hand i (before ++ e ∷ []) ≡ after i (holders hand i before) e
+  one_after i before e = fold-append (after i) [] before (e ∷ [])
+
+  -- ---- what stands at each moment of a run
+
+  -- what holds at the opening, and after each event if it holds before
+  pub always : (P : List (Event T) → Type 0) (events : List (Event T)) → P []
+      → ((e : Event T) (before : List (Event T)) → Follows e before events → P before → P (before ++ e ∷ []))
+      → (past future : List (Event T)) → events ≡ past ++ future → P past
+  always P events first next past future is = go past [] is first
+    where
+      go : (es before : List (Event T)) → events ≡ before ++ (es ++ future) → P before → P (before ++ es)
+      go [] before is h = subst P (sym (append-nil before)) h
+      go (e ∷ es) before is h =
+          subst P (append_assoc before (e ∷ []) es)
+          (go es (before ++ e ∷ []) (is ∙ sym (append_assoc before (e ∷ []) (es ++ future))) (next e before (es ++ future, is) h))
+
+  -- ---- what an index goes to, goes to it where it has no holder
+
+  abbrev pub TakesFree : List (Event T) → Type 0
+  TakesFree events =
+      (e : Event T) (before : List (Event T)) (index holder : ℕ) → Follows e before events → hand e ≡ Takes index holder
+      → holders hand index before ≡ []
+
+  at_most_one : (i : ℕ) (held : List ℕ) (h : Hand) → ((index holder : ℕ) → h ≡ Takes index holder → i ≡ index → held ≡ [])
+      → length held ≤ 1 → length (held_after i held h) ≤ 1
+  at_most_one i held (Takes index holder) free few = go (index == i) refl
+    where
+      none : index ≡ i → held ≡ []
+      none is = free index holder refl (sym is)
+
+      go : (b : Bool) → (index == i) ≡ b → length (if b then holder ∷ held else held) ≤ 1
+      go true t = let is : index ≡ i = is_it index i t in rw (none is) (omega arith)
+      go false t = few
+  at_most_one i held (Gives index) free few = go (index == i)
+    where
+      go : (b : Bool) → length (if b then [] else held) ≤ 1
+      go true = omega arith
+      go false = few
+  at_most_one i held Neither free few = few
+
+  pub no_two_hold : (events : List (Event T)) → TakesFree events → NoTwoHold hand events
+  no_two_hold events free =
+      always (λ past. (i : ℕ) → length (holders hand i past) ≤ 1) events (λ i. omega arith)
+      (λ e before at few i.
+      subst (λ (held : List ℕ). length held ≤ 1) (sym (one_after i before e))
+      (at_most_one i (holders hand i before) (hand e)
+      (λ index holder takes is. subst (λ n. holders hand n before ≡ []) (sym is) (free e before index holder at takes)) (few i)))
+
+  -- ---- none is held once the set is locked
+
+  -- the lock comes where none is held, and no index goes to a holder after it
+  pub record LocksFree (events : List (Event T)) : Type 0 where
+    pub locked : (p : ℕ) → hand (Locked p) ≡ Neither
+    pub at_lock : (p : ℕ) (before : List (Event T)) → Follows (Locked p) before events → (i : ℕ) → holders hand i before ≡ []
+    pub before_lock : (e : Event T) (before : List (Event T)) (index holder : ℕ) → Follows e before events → hand e ≡ Takes index holder
+        → unique.is_locked before ≡ false
+
+  abbrev IsNone : List (Event T) → Type 0
+  IsNone past = unique.is_locked past ≡ true → (i : ℕ) → holders hand i past ≡ []
+
+  -- an event that is no lock
+  quiet_none : (events : List (Event T)) → LocksFree events → (e : Event T) (before : List (Event T)) → Follows e before events
+      → ((b : Bool) → unique.locked_after b e ≡ b) → IsNone before → IsNone (before ++ e ∷ [])
+  quiet_none events free e before at quiet none locked i =
+      let still : unique.is_locked before ≡ true =
+      sym (quiet (unique.is_locked before)) ∙ (sym (fold-append unique.locked_after false before (e ∷ [])) ∙ locked) in
+      one_after i before e
+      ∙ (ap (λ (held : List ℕ). after i held e) (none still i)
+      ∙ stays_none i (hand e) (λ index holder takes. true_false (unique.is_locked before) still (free.before_lock e before index holder at takes)))
+
+  next_none : (events : List (Event T)) → LocksFree events → (e : Event T) (before : List (Event T)) → Follows e before events
+      → IsNone before → IsNone (before ++ e ∷ [])
+  next_none events free (Locked p) before at none = λ locked i.
+      one_after i before (Locked p)
+      ∙ (ap (held_after i (holders hand i before)) (free.locked p) ∙ free.at_lock p before at i)
+  next_none events free e before at none = quiet_none events free e before at (λ b. refl) none
+
+  pub none_once_locked : (events : List (Event T)) → LocksFree events → NoneOnceLocked hand events
+  none_once_locked events free = always IsNone events (λ locked i. refl) (next_none events free)
+
+-- ---- the holder that a family reads is the latest one
+
+abbrev latest : List ℕ → Option ℕ
+latest [] = None
+latest (x ∷ xs) = Some x
+
+pub none_latest : (held : List ℕ) → latest held ≡ None → held ≡ []
+none_latest [] e = refl
+none_latest (x ∷ xs) e = absurd (cc)
+
+pub one_latest : (held : List ℕ) (x : ℕ) → latest held ≡ Some x → length held ≤ 1 → held ≡ x ∷ []
+one_latest [] x e few = absurd (cc)
+one_latest (y ∷ []) x e few = let is : y ≡ x = cc in ap (λ (n : ℕ). n ∷ []) is
+one_latest (y ∷ z ∷ zs) x e few = absurd (omega arith)
+
+if_takes : (b : Bool) (x : ℕ) (held : List ℕ) → latest (if b then x ∷ held else held) ≡ (if b then Some x else latest held)
+if_takes true x held = refl
+if_takes false x held = refl
+
+if_gives : (b : Bool) (held : List ℕ) → latest (if b then [] else held) ≡ (if b then None else latest held)
+if_gives true held = refl
+if_gives false held = refl
+
+abbrev IsNobodys : Spot → Type 0
+IsNobodys Free = Unit {0}
+IsNobodys (Passing p) = ⊥
+IsNobodys (With p) = ⊥
+IsNobodys Waiting = Unit {0}
+IsNobodys Returning = Unit {0}
+
+abbrev Fits : Spot → List ℕ → Type 0
+Fits spot held = IsNobodys spot → held ≡ []
+
+goes_to : (b : Bool) (spot to : Spot) (x : ℕ) (held : List ℕ) → (IsNobodys to → ⊥) → Fits spot held
+    → Fits (if b then to else spot) (if b then x ∷ held else held)
+goes_to true spot to x held never fits nobody = absurd (never nobody)
+goes_to false spot to x held never fits nobody = fits nobody
+
+stays_with : (b : Bool) (spot to : Spot) (held : List ℕ) → (IsNobodys to → ⊥) → Fits spot held → Fits (if b then to else spot) held
+stays_with true spot to held never fits nobody = absurd (never nobody)
+stays_with false spot to held never fits nobody = fits nobody
+
+comes_back : (b : Bool) (spot to : Spot) (held : List ℕ) → Fits spot held → Fits (if b then to else spot) (if b then [] else held)
+comes_back true spot to held fits nobody = refl
+comes_back false spot to held fits nobody = fits nobody
+
+module _ {T : Type 0} where
+  reads : (hand : Event T → Hand) (i : ℕ) (read : Option ℕ → Event T → Option ℕ)
+      → ((held : List ℕ) (e : Event T) → latest (held_after i held (hand e)) ≡ read (latest held) e)
+      → (es : List (Event T)) (held : List ℕ)
+      → latest (fold (λ held e. held_after i held (hand e)) held es) ≡ fold read (latest held) es
+  reads hand i read one [] held = refl
+  reads hand i read one (e ∷ es) held =
+      reads hand i read one es (held_after i held (hand e)) ∙ ap (λ (o : Option ℕ). fold read o es) (one held e)
+
+  one_claim : (i : ℕ) (held : List ℕ) (e : Event T) → latest (held_after i held (claims e)) ≡ unique.holder_after i (latest held) e
+  one_claim i held (Claimed p index) = if_takes (index == i) p held
+  one_claim i held (Freed p index) = if_gives (index == i) held
+  one_claim i held e = refl
+
+  pub claims_read : (i : ℕ) (events : List (Event T)) → latest (holders claims i events) ≡ unique.holder_of i events
+  claims_read i events = reads claims i (unique.holder_after i) (one_claim i) events []
+
+  one_fill : (i : ℕ) (held : List ℕ) (e : Event T) → latest (held_after i held (fills e)) ≡ robust.filled_after i (latest held) e
+  one_fill i held (Filled p index o) = if_takes (index == i) o held
+  one_fill i held (FreedOf p index o) = if_gives (index == i) held
+  one_fill i held e = refl
+
+  pub fills_read : (i : ℕ) (events : List (Event T)) → latest (holders fills i events) ≡ robust.filled_of i events
+  fills_read i events = reads fills i (robust.filled_after i) (one_fill i) events []
+
+  one_grant : (i : ℕ) (held : List ℕ) (e : Event T) → latest (held_after i held (grants e)) ≡ robust.holder_after i (latest held) e
+  one_grant i held (Granted p index o) = if_takes (index == i) o held
+  one_grant i held (FreedOf p index o) = if_gives (index == i) held
+  one_grant i held e = refl
+
+  pub grants_read : (i : ℕ) (events : List (Event T)) → latest (holders grants i events) ≡ robust.holder_of i events
+  grants_read i events = reads grants i (robust.holder_after i) (one_grant i) events []
+
+  -- ---- a loan channel: an index that is free or in a queue is with nobody
+
+  one_loan : (i : ℕ) (spot : Spot) (held : List ℕ) (e : Event T) → Fits spot held → Fits (spot_after i spot e) (held_after i held (loans e))
+  one_loan i spot held (Claimed p index) fits = goes_to (index == i) spot (Passing p) p held (λ no. no) fits
+  one_loan i spot held (HandedOut p (items.Index index)) fits = goes_to (index == i) spot (Passing p) p held (λ no. no) fits
+  one_loan i spot held (TakenBack p index) fits = goes_to (index == i) spot (Passing p) p held (λ no. no) fits
+  one_loan i spot held (Published p (items.Index index)) fits = comes_back (index == i) spot Waiting held fits
+  one_loan i spot held (Returned p index) fits = comes_back (index == i) spot Returning held fits
+  one_loan i spot held (Freed p index) fits = comes_back (index == i) spot Free held fits
+  one_loan i spot held (Begun p start) fits = begun start
+    where
+      begun : (start : Start T) → Fits (spot_after i spot (Begun p start)) held
+      begun (starts.Loan (calls.Send index)) = stays_with (index == i) spot (Passing p) held (λ no. no) fits
+      begun (starts.Loan (calls.GiveUp index)) = stays_with (index == i) spot (Passing p) held (λ no. no) fits
+      begun (starts.Loan (calls.GiveBack index)) = stays_with (index == i) spot (Passing p) held (λ no. no) fits
+      begun start = fits
+  one_loan i spot held (Finished p start answer) fits = finished start answer
+    where
+      finished : (start : Start T) (answer : Answer T) → Fits (spot_after i spot (Finished p start answer)) held
+      finished (starts.Loan calls.Loan) (answers.Index index) = stays_with (index == i) spot (With p) held (λ no. no) fits
+      finished (starts.Loan calls.Receive) (answers.PoppedIndex index) = stays_with (index == i) spot (With p) held (λ no. no) fits
+      finished start answer = fits
+  one_loan i spot held e fits = fits
+
+  all_loans : (i : ℕ) (es : List (Event T)) (spot : Spot) (held : List ℕ) → Fits spot held
+      → Fits (fold (spot_after i) spot es) (fold (λ held e. held_after i held (loans e)) held es)
+  all_loans i [] spot held fits = fits
+  all_loans i (e ∷ es) spot held fits = all_loans i es (spot_after i spot e) (held_after i held (loans e)) (one_loan i spot held e fits)
+
+  nobodys : (i : ℕ) (events : List (Event T)) → IsNobodys (spot_of i events) → holders loans i events ≡ []
+  nobodys i events = all_loans i events Free [] (λ nobody. refl)
+
+  pub loaned_free : (i : ℕ) (events : List (Event T)) (spot : Spot) → spot_of i events ≡ spot → IsNobodys spot → holders loans i events ≡ []
+  loaned_free i events spot is nobody = nobodys i events (subst IsNobodys (sym is) nobody)

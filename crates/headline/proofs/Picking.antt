@@ -1,0 +1,12 @@
+-- What holds of each of a list holds of one of them.
+use Rattle.std.proofs.Common.{List, [], ◌∷◌, ◌++◌, subst}
+use Rattle.std.specs.List.{AllByRecursion}
+use Rattle.model.specs.Families.Indices.Robust.Reading.{IsOneOf}
+
+module _ {A : Type 0} (P : A → Type 0) where
+  there : (before : List A) (one : A) (after : List A) → AllByRecursion P (before ++ one ∷ after) → P one
+  there [] one after all = all.0
+  there (x ∷ xs) one after all = there xs one after all.1
+
+  pub picked : (one : A) (all : List A) → IsOneOf one all → AllByRecursion P all → P one
+  picked one all is each = there is.before one is.after (subst (AllByRecursion P) is.is each)

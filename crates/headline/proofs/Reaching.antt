@@ -1,0 +1,58 @@
+-- Every list of turns reaches a machine, from the opening with this number.
+use Rattle.std.proofs.Common.{◌≡◌, ℕ, Option, Some, None, List, [], ◌∷◌, refl, sym, subst, ◌∙◌}
+use Rattle.model.specs.declared.turn.Kind.{Kind}
+use Rattle.model.specs.declared.turn.Refusal.{Refusal}
+use Rattle.model.specs.declared.turn.Turn.{Turn}
+use Rattle.model.specs.Coding.{Coding, IsCoding}
+use Rattle.model.specs.Refusals.{refusal_of}
+use Rattle.model.specs.Turns.{IsReached, after_turn, attempt, unless_refused, run}
+use Rattle.model.specs.World.{World, Trace, opened, capacity_error, queue_error}
+use Rattle.model.proofs.Reached.{SameMaking, turn_making}
+
+module _ {T : Type 0} where
+  -- reached, with a submission queue of this capacity
+  pub record IsReachedWith (queue : ℕ) (t : Trace T) : Type 0 where
+    pub reached : IsReached t
+    pub is : reached.queue ≡ queue
+
+  still : (v old new : World T) → SameMaking v old → SameMaking old new → SameMaking v new
+  still v old new a b =
+      record {
+        coding = b.coding ∙ a.coding;
+        kind = b.kind ∙ a.kind;
+        capacity = b.capacity ∙ a.capacity;
+        parties = b.parties ∙ a.parties;
+      }
+
+  tried : (v : World T) (t : Trace T) (turn : Turn T) (o : Option Refusal) → SameMaking v t.world
+      → SameMaking v (unless_refused t (after_turn t turn) o).world
+  tried v t turn None m = still v t.world (after_turn t turn).world m (turn_making t.world turn)
+  tried v t turn (Some refusal) m = m
+
+  goes_on : (v : World T) (turns : List (Turn T)) (t : Trace T) → SameMaking v t.world → SameMaking v (run turns t).world
+  goes_on v [] t m = m
+  goes_on v (turn ∷ turns) t m = goes_on v turns (attempt t turn) (tried v t turn (refusal_of t.world turn) m)
+
+  same_opening : (turns : List (Turn T)) (code code' : Coding T) (kind kind' : Kind) (capacity capacity' queue parties parties' : ℕ)
+      → code' ≡ code → kind' ≡ kind → capacity' ≡ capacity → parties' ≡ parties
+      → run turns (opened code kind capacity queue parties) ≡ run turns (opened code' kind' capacity' queue parties')
+  same_opening turns code code' kind kind' capacity capacity' queue parties parties' a b c d = rw (a, b, c, d) refl
+
+  pub reaches : (code : Coding T) (kind : Kind) (capacity queue parties : ℕ) (turns : List (Turn T)) → IsCoding code
+      → capacity_error kind capacity ≡ None → queue_error kind queue ≡ None
+      → IsReachedWith queue (run turns (opened code kind capacity queue parties))
+  reaches code kind capacity queue parties turns coded admitted queued =
+      let first = opened code kind capacity queue parties in
+      let m = goes_on first.world turns first (record { coding = refl; kind = refl; capacity = refl; parties = refl }) in
+      record {
+        reached =
+            record {
+              coded = rw m.coding coded;
+              admitted = rw (m.kind, m.capacity) admitted;
+              queue = queue;
+              queued = rw m.kind queued;
+              turns = turns;
+              is = same_opening turns code _ kind _ capacity _ queue parties _ m.coding m.kind m.capacity m.parties;
+            };
+        is = refl;
+      }

@@ -1,0 +1,77 @@
+use Rattle.std.proofs.Common.{◌≡◌, ◌⊎◌, ⊎_elim, ℕ, Bool, false, None, List, ◌++◌, refl, subst}
+use Rattle.model.specs.declared.turn.Kind.TheVariants as kinds
+use Rattle.model.specs.declared.turn.Turn.{Turn}
+use Rattle.model.specs.declared.turn.Turn.TheVariants.{Decide}
+use Rattle.model.specs.Refusals.{refusal_of}
+use Rattle.model.specs.Turns.{IsReached, events_of, after_turn, run}
+use Rattle.model.specs.World.{Trace, opened, progress_in}
+use Rattle.model.specs.Progress.{guarantee_of}
+use Rattle.model.specs.Promises.Families.{promise_of}
+use Rattle.model.specs.Reading.{span_of}
+use Rattle.model.proofs.Linearizable.Kinds.{run_linearizable}
+use Rattle.model.proofs.Orders.{reached_kept}
+use Rattle.model.proofs.Progress.{keeps_guarantees}
+use Rattle.laws_turns.proofs.Answering as answering
+use Rattle.laws_turns.proofs.Asking as asking
+use Rattle.laws_turns.proofs.Finding as finding
+use Rattle.laws_turns.proofs.Others as others
+use Rattle.laws_turns.proofs.Queue as submission
+use Rattle.laws_turns.proofs.Waiting as waiting
+use Rattle.laws_turns.specs.Questions.{waits_at}
+use Rattle.headline.specs.Headline.{Holds}
+use Rattle.headline.proofs.Families.{by_kind}
+use Rattle.headline.proofs.Laws.{laws_of}
+use Rattle.headline.proofs.Picking.{picked}
+use Rattle.headline.proofs.Progressing.{pays, is_bounded, is_guaranteed}
+use Rattle.headline.proofs.Reaching.{reaches}
+use Rattle.headline.proofs.headline.Goals as goal
+
+holds : {T : Type 0} (t : Trace T) (r : IsReached t) → Holds r.queue t
+holds t r =
+    let kept = reached_kept laws_of t r in
+    let guarantees = keeps_guarantees t kept in
+    record {
+      runs = by_kind t.world.kind r.queue t refl r refl kept (run_linearizable t kept);
+      progress =
+          record {
+            paid = λ p g is.
+            pays (promise_of t.world.kind) t.world.capacity t.world.coding.size (span_of p t.events) (progress_in t.world p) g (kept.progress p) is;
+            bounded = λ p start g call is.
+            is_bounded (promise_of t.world.kind) t.world.capacity t.world.coding.size (span_of p t.events) (progress_in t.world p) start g
+            (kept.progress p) call is;
+            guaranteed = λ p start g call is.
+            is_guaranteed (guarantee_of t.world.kind t.world.capacity t.world.coding.size) (span_of p t.events) (progress_in t.world p) start g
+            (guarantees p) call is;
+          };
+      kept = kept;
+    }
+
+pub returns-clause-reached : goal.returns-clause-reached
+returns-clause-reached g c t r = holds t r
+
+pub returns-clause-runs : goal.returns-clause-runs
+returns-clause-runs g c code kind capacity queue parties turns coded admitted queued =
+    let last = run turns (opened code kind capacity queue parties) in
+    let r = reaches code kind capacity queue parties turns coded admitted queued in
+    subst (λ n. Holds n last) r.is (holds last r.reached)
+
+-- a decision is the last word, of the robust set and of a container
+last_word : {T : Type 0} (t : Trace T) (turn : Turn T) → IsReached t → refusal_of t.world turn ≡ None
+    → (t.world.kind ≡ kinds.Robust) ⊎ (t.world.kind ≡ kinds.Container)
+    → (p : ℕ) (said : Bool) → turn ≡ Decide p said → waits_at (after_turn t turn) p ≡ false
+last_word t turn r e is p said decides =
+    ⊎_elim (λ robust. answering.answered t robust r turn e p said decides) (λ container. waiting.answered t container r turn e p said decides) is
+
+pub returns-clause-turn : goal.returns-clause-turn
+returns-clause-turn g c t turn r e =
+    let is_turn = (laws_of t.world.kind).turn t turn refl e r in
+    record {
+      one_word = is_turn.word;
+      others_stay = others.others_stay t.world turn;
+      grows = (events_of t.world turn, refl);
+      keeps_queue = submission.keeps_queue t.world turn;
+      asks = λ is p index owner wrote grown one. picked _ _ wrote one (asking.asks_at_once t turn is r wrote grown);
+      finds = λ is p index owner next here loads. finding.finds_asking t is r turn e p owner index next here loads;
+      answered = last_word t turn r e;
+      is_turn = is_turn;
+    }

@@ -1,0 +1,250 @@
+-- What every machine does, at every admitted capacity, after every list of turns, whoever stops where.
+use Rattle.std.specs.Prelude.{◌≡◌, ◌≢◌, ◌⊎◌, ◌<◌, ◌≤◌, ℕ, ◌+◌, Bool, true, false, Some, is_some, List, [], ◌∷◌, ◌++◌, map, slice_index}
+use Rattle.steps.specs.Bits.Words.{stands}
+use Rattle.steps.specs.Container.Layout.{change_word}
+use Rattle.steps.specs.declared.container.state.ContainerState.{ContainerState}
+use Rattle.steps.specs.declared.indices.enums.ReleaseMode.{ReleaseMode}
+use Rattle.steps.specs.declared.indices.enums.ReleaseMode.TheVariants.{LockIfLastIndex}
+use Rattle.steps.specs.declared.indices.enums.ReleaseState.TheVariants.{Unlocked}
+use Rattle.model.specs.declared.event.Answer.TheVariants.{Done, Index, State, Truth}
+use Rattle.model.specs.declared.event.Event.TheVariants.{Freed, FreedOf, Asked, Copied, Finished}
+use Rattle.model.specs.declared.event.Event.{Event}
+use Rattle.model.specs.declared.event.Item.TheVariants as items
+use Rattle.model.specs.declared.event.Start.{Start}
+use Rattle.model.specs.declared.event.Start.TheVariants.{Indices, Robust, Container}
+use Rattle.model.specs.declared.families.container.ContainerStart.TheVariants as containers
+use Rattle.model.specs.declared.families.indices.IndexStart.TheVariants as indices
+use Rattle.model.specs.declared.families.indices.robust.RobustStart.TheVariants.{Acquire, Find, Recover}
+use Rattle.model.specs.declared.families.queues.QueueKind.{QueueKind}
+use Rattle.model.specs.declared.families.queues.QueueKind.TheVariants as queues
+use Rattle.model.specs.declared.party.Progress.{Progress}
+use Rattle.model.specs.declared.turn.Kind.{Kind}
+use Rattle.model.specs.declared.turn.Kind.TheVariants as kinds
+use Rattle.model.specs.declared.turn.Turn.{Turn}
+use Rattle.model.specs.declared.turn.Turn.TheVariants.{Next, Decide}
+use Rattle.model.specs.Families.Bits.Reading.{sets, clears, counts, takes}
+use Rattle.model.specs.Families.Container.Looks.{state_in, shows, is_looking}
+use Rattle.model.specs.Families.Container.Promises.{IsWellFormedRun}
+use Rattle.model.specs.Families.Container.Questions.{question_at}
+use Rattle.model.specs.Families.Container.Reading.{contents_of, Copies, Sees, acts_of, places}
+use Rattle.model.specs.Families.Indices.Robust.Promises.{IsWellFormed, IsFilled, IsIn, asked_of, owned_of}
+use Rattle.model.specs.Families.Indices.Robust.Reading.{filled_of, Fills, Grants, Frees, Yes, set_acts_of, wrote_in, IsOneOf, IsLatest}
+use Rattle.model.specs.Families.Indices.Spans.{set_acts, claimed}
+use Rattle.model.specs.Families.Loan.Promises.{sent_in, given_back_in}
+use Rattle.model.specs.Families.Loan.Reading.{given_back, taken_back, queue_moments}
+use Rattle.model.specs.Families.Queues.Book.{waiting_in}
+use Rattle.model.specs.Families.Queues.Objects.{overflowing_list}
+use Rattle.model.specs.Families.Queues.Reading.{published, handed_out}
+use Rattle.model.specs.Linearized.{as_list, as_value}
+use Rattle.model.specs.Moments.{HeldSometime}
+use Rattle.model.specs.Objects.{IsLegal}
+use Rattle.model.specs.Progress.{guarantee_of, IsWithin}
+use Rattle.model.specs.Promises.{IsTurn, IsKept}
+use Rattle.model.specs.Promises.Families.{promise_of}
+use Rattle.model.specs.Promises.Turns.{IsParty, ask_in}
+use Rattle.model.specs.Reading.{span_of}
+use Rattle.model.specs.Turns.{words_after, one_if}
+use Rattle.model.specs.World.{Trace, flight_in, progress_in}
+use Rattle.laws_turns.specs.Changes.{changes_of, seen_by}
+use Rattle.laws_turns.specs.Others.{queue_in}
+use Rattle.laws_turns.specs.Questions.{waits_at, index_if, loads_cell}
+use Rattle.headline.specs.Holders.{holders, claims, fills, grants, loans, NoTwoHold, NoneOnceLocked}
+use Rattle.headline.specs.Moments.{Follows, call_in, ActAs}
+
+module _ {T : Type 0} where
+  -- ---- the queues and the value
+
+  -- Each finished push and pop acts at one moment inside it on one bounded list, or on one that overflows. The values handed
+  -- out are the first of those published, in order, and the rest waits in the cells.
+  pub record QueueRuns (kind : QueueKind) (t : Trace T) : Type 0 where
+    pub list : ActAs (as_list kind t.world.capacity) t.events
+    pub conserved : published t.events
+        ≡ handed_out t.events ++ waiting_in t.world.coding kind t.world.capacity t.world.words
+
+  -- Each finished store and load acts at one moment inside it on one value: a load answers the latest store, whole.
+  pub record ValueRuns (t : Trace T) : Type 0 where
+    pub value : ActAs (as_value t.world.coding) t.events
+
+  -- ---- bits and counts are conserved
+
+  -- each bit was set as often as it was cleared, and once more if it stands
+  pub record BitsRun (t : Trace T) : Type 0 where
+    pub conserved : (b : ℕ) → sets b t.events ≡ clears b t.events + one_if (stands t.world.words b)
+
+  -- each place was counted as often as all that was taken out of it says, and what it counts now
+  pub record CountsRun (t : Trace T) : Type 0 where
+    pub conserved : (b : ℕ) → counts b t.events ≡ takes b t.events + slice_index t.world.words b
+
+  -- ---- unique indices
+
+  -- No index has two holders, and none has one once the set is locked. Who is answered an index has claimed it in that call,
+  -- and its holder alone frees it.
+  pub record IndicesRun (t : Trace T) : Type 0 where
+    pub no_two_hold : NoTwoHold claims t.events
+    pub none_once_locked : NoneOnceLocked claims t.events
+    pub acquired : (p index : ℕ) (before : List (Event T))
+        → Follows (Finished p (Indices indices.Acquire) (Index index)) before t.events
+        → set_acts (wrote_in (span_of p before)) ≡ claimed index
+    pub freed : (p index : ℕ) (before : List (Event T))
+        → Follows (Freed p index) before t.events
+        → holders claims index before ≡ p ∷ []
+
+  -- ---- indices of owners
+
+  -- some index was filled at a moment of the party's latest call after that call had freed its own
+  abbrev pub FilledAfter : ℕ → ℕ → ℕ → List (Event T) → Type 0
+  FilledAfter p index owner before =
+      (other : ℕ)
+      × HeldSometime p
+      (λ part. IsOneOf (Frees index owner) (set_acts_of p part) × IsFilled other part)
+      before
+
+  -- No index is filled for two owners. In a well-formed run no index has two holders, and none has one once the set is locked.
+  -- Who is answered an index was granted it in that call, and it is freed of the owner that fills it.
+  --
+  -- A recovery that answers Unlocked has left no owner an index of his that it was told to free; in the mode that locks, some
+  -- index was filled after each that it freed.
+  pub record RobustRuns (t : Trace T) : Type 0 where
+    pub no_two_fill : NoTwoHold fills t.events
+    pub no_two_hold : IsWellFormed t.events → NoTwoHold grants t.events
+    pub none_once_locked : IsWellFormed t.events → NoneOnceLocked grants t.events
+    pub acquired : (p index owner : ℕ) (before : List (Event T))
+        → Follows (Finished p (Robust (Acquire owner)) (Index index)) before t.events
+        → set_acts_of p before ≡ Fills index owner ∷ Grants index owner ∷ []
+    pub freed : (p index owner : ℕ) (before : List (Event T))
+        → Follows (FreedOf p index owner) before t.events
+        → holders fills index before ≡ owner ∷ []
+    pub recovered : (p index owner : ℕ) (mode : ReleaseMode) (before : List (Event T))
+        → Follows (Finished p (Robust (Recover mode)) (State Unlocked)) before t.events
+        → IsOneOf (Yes index owner) (set_acts_of p before)
+        → filled_of index before ≢ Some owner
+    pub locks : (p index owner : ℕ) (before : List (Event T))
+        → Follows (Finished p (Robust (Recover LockIfLastIndex)) (State Unlocked)) before t.events
+        → IsOneOf (Frees index owner) (set_acts_of p before)
+        → FilledAfter p index owner before
+
+  -- ---- the container
+
+  -- The same of its indices. In a well-formed run what is copied is the element that stands, whole, and an add or a replace that
+  -- succeeded has placed its argument. What a party is asked about, and what its state shows, it has copied.
+  --
+  -- A recovery that answers Unlocked has left its owner no index that it was told to free, or was shown empty. A call waits for
+  -- a decision just where it asks about a value.
+  --
+  -- The number of changes is that of the adds, removes and replaces that succeeded, and of the recoveries. An update of a state
+  -- that answers true has met a change since the look began that last brought it up to date, and one that answers false has
+  -- met none since that look ended.
+  pub record ContainerRuns (t : Trace T) : Type 0 where
+    pub no_two_fill : NoTwoHold fills t.events
+    pub no_two_hold : IsWellFormedRun t → NoTwoHold grants t.events
+    pub none_once_locked : IsWellFormedRun t → NoneOnceLocked grants t.events
+    pub freed : (p index owner : ℕ) (before : List (Event T))
+        → Follows (FreedOf p index owner) before t.events
+        → holders fills index before ≡ owner ∷ []
+    pub copied : IsWellFormedRun t → (p index : ℕ) (value : T) (before : List (Event T))
+        → Follows (Copied p index value) before t.events
+        → contents_of index before ≡ Some value
+    pub added : IsWellFormedRun t → (p index owner : ℕ) (value : T) (before : List (Event T))
+        → Follows (Finished p (Container (containers.Add value owner)) (Index index)) before t.events
+        → places (acts_of p before) ≡ (index, value) ∷ []
+    pub replaced : IsWellFormedRun t → (p index owner : ℕ) (value : T) (before : List (Event T))
+        → Follows (Finished p (Container (containers.Replace index value owner)) Done) before t.events
+        → places (acts_of p before) ≡ (index, value) ∷ []
+    pub asked : (p index : ℕ) (value : T) → question_at t p ≡ Some (index, value)
+        → IsLatest (Copies index value) (acts_of p t.events)
+    pub shown : (p index : ℕ) (state : ContainerState T) (value : T)
+        → is_looking (flight_in t.world p) ≡ false
+        → state_in t.world.kept p ≡ Some state
+        → shows state index ≡ Some value
+        → IsOneOf (Copied p index value) t.events
+    pub recovered : (p index owner : ℕ) (mode : ReleaseMode) (before : List (Event T))
+        → Follows (Finished p (Container (containers.Recover owner mode)) (State Unlocked)) before t.events
+        → IsOneOf (Yes index owner) (set_acts_of p before) ⊎ IsOneOf (Sees index) (acts_of p before)
+        → filled_of index before ≢ Some owner
+    pub locks : (p index owner : ℕ) (before : List (Event T))
+        → Follows (Finished p (Container (containers.Recover owner LockIfLastIndex)) (State Unlocked)) before t.events
+        → IsOneOf (Frees index owner) (set_acts_of p before)
+        → FilledAfter p index owner before
+    pub waits : (p : ℕ) → waits_at t p ≡ is_some (question_at t p)
+    pub changes : slice_index t.world.words (change_word t.world.capacity) ≡ changes_of t.events
+    pub met : (p : ℕ) (before : List (Event T))
+        → Follows (Finished p (Container containers.UpdateState) (Truth true)) before t.events
+        → (seen_by p before).least < changes_of before
+    pub met_none : (p : ℕ) (before : List (Event T))
+        → Follows (Finished p (Container containers.UpdateState) (Truth false)) before t.events
+        → changes_of before ≡ (seen_by p before).most
+
+  -- ---- the loan channel, with a submission queue of this capacity
+
+  -- No index is with two parties. Sends and receives act, in one order, on one list that overflows; what waits in a queue is
+  -- what was put there and not yet taken out.
+  pub record ChannelRuns (queue : ℕ) (t : Trace T) : Type 0 where
+    pub length : queue_in t.world.kept ≡ Some queue
+    pub no_two_hold : NoTwoHold loans t.events
+    pub list : IsLegal (overflowing_list queue) (queue_moments t.events)
+    pub sent : published t.events
+        ≡ handed_out t.events ++ sent_in t.world.coding t.world.capacity queue t.world.words
+    pub returned : map items.Index (given_back t.events)
+        ≡ map items.Index (taken_back t.events)
+        ++ given_back_in t.world.coding t.world.capacity queue t.world.words
+
+  abbrev pub Runs : Kind → ℕ → Trace T → Type 0
+  Runs kinds.IndexQueue queue t = QueueRuns queues.IndexQueue t
+  Runs kinds.Overflow queue t = QueueRuns queues.Overflow t
+  Runs kinds.Queue queue t = QueueRuns queues.Queue t
+  Runs kinds.Atomic queue t = ValueRuns t
+  Runs kinds.Bits queue t = BitsRun t
+  Runs kinds.Counts queue t = CountsRun t
+  Runs kinds.Indices queue t = IndicesRun t
+  Runs kinds.Robust queue t = RobustRuns t
+  Runs kinds.Container queue t = ContainerRuns t
+  Runs kinds.Loan queue t = ChannelRuns queue t
+
+  -- ---- any kind
+
+  -- Of each party's latest call: each turn back to the start of a loop is paid by a change that another party has made to a word
+  -- since the call began, and its steps are bounded, by its turns back and, for one that is wait-free or obstruction-free, by
+  -- the constants of that guarantee.
+  pub record Progresses (t : Trace T) : Type 0 where
+    pub paid : (p : ℕ) (g : Progress) → progress_in t.world p ≡ Some g → g.backs ≤ g.others
+    pub bounded : (p : ℕ) (start : Start T) (g : Progress)
+        → call_in (span_of p t.events) ≡ Some start
+        → progress_in t.world p ≡ Some g
+        → g.steps
+        ≤ (promise_of t.world.kind).most_steps t.world.capacity t.world.coding.size start g.backs
+    pub guaranteed : (p : ℕ) (start : Start T) (g : Progress)
+        → call_in (span_of p t.events) ≡ Some start
+        → progress_in t.world p ≡ Some g
+        → IsWithin (guarantee_of t.world.kind t.world.capacity t.world.coding.size start) g
+
+  -- what holds of a machine after any turns; a loan channel was made with a submission queue of this capacity
+  pub record Holds (queue : ℕ) (t : Trace T) : Type 0 where
+    pub runs : Runs t.world.kind queue t
+    pub progress : Progresses t
+    pub kept : IsKept t  -- all that its family promises
+
+  -- ---- one turn
+
+  -- A turn that was taken changes one word at most, as its operation says, leaves the calls of all other parties where they
+  -- stood, and writes behind what was written.
+  --
+  -- What a recovery of the robust set writes that it asks, it asks. A find there that has loaded a cell asks about its index just
+  -- where that is filled with its owner. A decision is the last word.
+  pub record Takes (old : Trace T) (turn : Turn T) (new : Trace T) : Type 0 where
+    pub one_word : new.world.words ≡ words_after old.world.words (ask_in old.world turn)
+    pub others_stay : (q : ℕ) → ¬ IsParty turn q → flight_in new.world q ≡ flight_in old.world q
+    pub grows : (wrote : List (Event T)) × (new.events ≡ old.events ++ wrote)
+    pub keeps_queue : queue_in new.world.kept ≡ queue_in old.world.kept
+    pub asks : old.world.kind ≡ kinds.Robust → (p index owner : ℕ) (wrote : List (Event T))
+        → new.events ≡ old.events ++ wrote
+        → IsOneOf (Asked p index owner) wrote
+        → owned_of new.world.coding (flight_in new.world p) ≡ Some (index, owner)
+    pub finds : old.world.kind ≡ kinds.Robust → (p index owner : ℕ) → turn ≡ Next p
+        → IsIn p (Robust (Find owner)) old
+        → ask_in old.world turn ≡ Some (loads_cell index)
+        → asked_of new.world.coding (flight_in new.world p)
+        ≡ index_if owner index (filled_of index old.events)
+    pub answered : (old.world.kind ≡ kinds.Robust) ⊎ (old.world.kind ≡ kinds.Container)
+        → (p : ℕ) (said : Bool) → turn ≡ Decide p said
+        → waits_at new p ≡ false
+    pub is_turn : IsTurn old turn new  -- all that is promised of a turn

@@ -1,0 +1,64 @@
+-- Who holds an index.
+use Rattle.std.specs.Prelude.{◌≡◌, ◌≤◌, ℕ, ◌==◌, true, List, [], ◌∷◌, length, fold, if◌then◌else◌}
+use Rattle.model.specs.declared.event.Event.{Event}
+use Rattle.model.specs.declared.event.Event.TheVariants.{Published, HandedOut, Claimed, Freed, Filled, Granted, FreedOf, Returned, TakenBack}
+use Rattle.model.specs.declared.event.Item.TheVariants as items
+use Rattle.model.specs.Families.Indices.Reading.{is_locked}
+use Rattle.headline.specs.Moments.{Always}
+
+-- an index goes to a holder, or has none any more
+pub data Hand : Type 0 where
+  Takes : (index holder : ℕ) → Hand
+  Gives : (index : ℕ) → Hand
+  Neither : Hand
+
+abbrev pub held_after : ℕ → List ℕ → Hand → List ℕ
+held_after i holders (Takes index holder) = if index == i then holder ∷ holders else holders
+held_after i holders (Gives index) = if index == i then [] else holders
+held_after i holders Neither = holders
+
+module _ {T : Type 0} where
+  -- ---- what an event makes of an index
+
+  -- a party of the unique index set claims it, or frees it
+  abbrev pub claims : Event T → Hand
+  claims (Claimed p index) = Takes index p
+  claims (Freed p index) = Gives index
+  claims e = Neither
+
+  -- its cell, in the robust set or a container, is filled with an owner, or emptied
+  abbrev pub fills : Event T → Hand
+  fills (Filled p index owner) = Takes index owner
+  fills (FreedOf p index owner) = Gives index
+  fills e = Neither
+
+  -- an owner is granted it, or it is freed
+  abbrev pub grants : Event T → Hand
+  grants (Granted p index owner) = Takes index owner
+  grants (FreedOf p index owner) = Gives index
+  grants e = Neither
+
+  -- a party of a loan channel gets it, from the set or out of a queue, or puts it back there
+  abbrev pub loans : Event T → Hand
+  loans (Claimed p index) = Takes index p
+  loans (HandedOut p (items.Index index)) = Takes index p
+  loans (TakenBack p index) = Takes index p
+  loans (Published p (items.Index index)) = Gives index
+  loans (Returned p index) = Gives index
+  loans (Freed p index) = Gives index
+  loans e = Neither
+
+  -- ---- holders
+
+  -- all to whom the index has gone since it had no holder, the latest first
+  abbrev pub holders : (Event T → Hand) → ℕ → List (Event T) → List ℕ
+  holders hand i events = fold (λ held e. held_after i held (hand e)) [] events
+
+  -- no index has two holders, at any moment
+  abbrev pub NoTwoHold : (Event T → Hand) → List (Event T) → Type 0
+  NoTwoHold hand events = Always (λ past. (i : ℕ) → length (holders hand i past) ≤ 1) events
+
+  -- and none once the set is locked
+  abbrev pub NoneOnceLocked : (Event T → Hand) → List (Event T) → Type 0
+  NoneOnceLocked hand events =
+      Always (λ past. is_locked past ≡ true → (i : ℕ) → holders hand i past ≡ []) events

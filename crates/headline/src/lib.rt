@@ -1,0 +1,23 @@
+//! What is proved of every machine, in one place: the statement to read first. The functions do nothing; the contract of each
+//! is a law, and what its words mean stands in `specs`.
+#![tactic(auto)]
+
+ghost use Rattle.std.specs.Prelude.{◌≡◌, ℕ, List, None};
+ghost use Rattle.model.specs.declared.turn.Kind.{Kind};
+ghost use Rattle.model.specs.declared.turn.Turn.{Turn};
+ghost use Rattle.model.specs.Coding.{Coding, IsCoding};
+ghost use Rattle.model.specs.Refusals.{refusal_of};
+ghost use Rattle.model.specs.Turns.{IsReached, after_turn, run};
+ghost use Rattle.model.specs.World.{Trace, opened, capacity_error, queue_error};
+ghost use Rattle.headline.specs.Headline.{Holds, Takes};
+
+/// Of every kind, at every admitted capacity, after every list of turns, of which those that are refused change nothing; and of
+/// each further turn that is not refused.
+pub fn headline<T>()
+    ensures runs { (code : Coding T) (kind : Kind) (capacity queue parties : ℕ) (turns : List (Turn T))
+        → IsCoding code → capacity_error kind capacity ≡ None → queue_error kind queue ≡ None
+        → Holds queue (run turns (opened code kind capacity queue parties)) }
+    ensures reached { (t : Trace T) → (r : IsReached t) → Holds r.queue t }
+    ensures turn { (t : Trace T) (turn : Turn T) → IsReached t → refusal_of t.world turn ≡ None
+        → Takes t turn (after_turn t turn) }
+{}

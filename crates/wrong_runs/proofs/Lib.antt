@@ -1,0 +1,9 @@
+pub mod Bits
+pub mod Container
+pub mod Indices
+pub mod Loan
+pub mod Machines
+pub mod Open
+pub mod Queues
+pub mod Robust
+pub mod Value

@@ -1,0 +1,136 @@
+-- For each field of what a loan channel promises a run that this field alone refuses here.
+use Rattle.std.proofs.Common.{◌≡◌, ◌≢◌, ◌⊎◌, ⊎_elim, inl, ℕ, ◌<◌, true, false, Some, None, List, [], ◌∷◌, refl, arith}
+use Rattle.steps.specs.declared.indices.enums.UniqueIndexSetAcquireFailure.TheVariants as failures
+use Rattle.steps.specs.declared.loan.places.Place.TheVariants as places
+use Rattle.model.specs.declared.event.Answer.TheVariants.{Index, NoIndex, PoppedIndex}
+use Rattle.model.specs.declared.event.Event.{Event}
+use Rattle.model.specs.declared.event.Event.TheVariants.{Begun, Published, Claimed, Returned, Died, Acted, Finished}
+use Rattle.model.specs.declared.event.Item.TheVariants as items
+use Rattle.model.specs.declared.event.Start.{Start}
+use Rattle.model.specs.declared.event.Start.TheVariants as starts
+use Rattle.model.specs.declared.families.Registry.TheVariants as registries
+use Rattle.model.specs.declared.families.loan.Book.{Book}
+use Rattle.model.specs.declared.families.loan.LoanStart.TheVariants.{Loan, Receive}
+use Rattle.model.specs.declared.turn.Kind.TheVariants as kinds
+use Rattle.model.specs.Families.Loan.Promises.{IsChannelOf}
+use Rattle.model.specs.World.{Trace}
+use Rattle.wrong_runs.proofs.Machines.{machine}
+
+-- a channel of two slots with a submission queue of two, in which nothing was sent yet
+abbrev fresh : Book
+fresh = record { queue = 2; places = []; holders = []; receiver = 1; dead = [] }
+
+-- words: the head, two next indices and the flags; then of each queue its positions, its roles and its cells
+abbrev still : List ℕ
+still = 0 ∷ 1 ∷ 2 ∷ 0 ∷ 0 ∷ 0 ∷ 1 ∷ 1 ∷ 0 ∷ 0 ∷ 0 ∷ 0 ∷ 0 ∷ 1 ∷ 1 ∷ 0 ∷ 0 ∷ []
+
+abbrev channel : List ℕ → List (Event ℕ) → Trace ℕ
+channel words events = machine kinds.Loan words (registries.Loan fresh) events
+
+abbrev loan : Start ℕ
+loan = starts.Loan Loan
+
+abbrev receive : Start ℕ
+receive = starts.Loan Receive
+
+-- an index is claimed that somebody has
+claimed_twice : IsChannelOf fresh (channel still (Claimed 0 0 ∷ Claimed 1 0 ∷ [])) → ⊥
+claimed_twice k = let e = (k.moves (Claimed 0 0 ∷ []) [] (Claimed 1 0) refl).1 in cc
+
+-- the receiver loans
+receiver_loans : IsChannelOf fresh (channel still (Begun 1 loan ∷ [])) → ⊥
+receiver_loans k = let e = k.begins [] [] (Begun 1 loan) refl in cc
+
+-- a loan fails because of a lock
+locked : IsChannelOf fresh (channel still (Finished 0 loan (NoIndex failures.IsLocked) ∷ [])) → ⊥
+locked k = k.answers [] [] (Finished 0 loan (NoIndex failures.IsLocked)) refl
+
+-- who has died receives
+dead_receives : IsChannelOf fresh (channel still (Died 1 ∷ Begun 1 receive ∷ [])) → ⊥
+dead_receives k = let e = k.lives (Died 1 ∷ []) [] (Begun 1 receive) refl in cc
+
+-- the sender's table says that an index is loaned that nobody has claimed
+abbrev tabled : Book
+tabled = record fresh { places = places.Loaned ∷ [] }
+
+loaned_unclaimed : IsChannelOf tabled (machine kinds.Loan still (registries.Loan tabled) []) → ⊥
+loaned_unclaimed k = let e = k.table 0 in cc
+
+-- an index is in passing, and its party has no call
+passes_nowhere : IsChannelOf fresh (channel still (Claimed 0 0 ∷ [])) → ⊥
+passes_nowhere k = k.passing 0 0 refl
+
+-- a third party has an index
+abbrev third : List (Event ℕ)
+third = Finished 2 loan (Index 0) ∷ []
+
+not_party : (n p : ℕ) → p < n → n ≡ p → ⊥
+not_party n p far e = absurd (omega arith)
+
+third_has : IsChannelOf fresh (channel still third) → ⊥
+third_has k = ⊎_elim (not_party 2 0 (omega arith)) (not_party 2 1 (omega arith)) (k.parties 0 2 (inl refl))
+
+-- a flag stands, and the index is free
+abbrev flagged : List ℕ
+flagged = 0 ∷ 1 ∷ 2 ∷ 1 ∷ 0 ∷ 0 ∷ 1 ∷ 1 ∷ 0 ∷ 0 ∷ 0 ∷ 0 ∷ 0 ∷ 1 ∷ 1 ∷ 0 ∷ 0 ∷ []
+
+flag_stands : IsChannelOf fresh (channel flagged []) → ⊥
+flag_stands k = (k.flags 0 (omega arith)).0 refl refl
+
+-- an index is sent, and waits in no cell
+sent_nowhere : IsChannelOf fresh (channel still (Published 0 (items.Index 0) ∷ [])) → ⊥
+sent_nowhere k = let e = k.sent in cc
+
+-- the submission queue holds an index that nobody has sent, or one twice
+abbrev filled : List ℕ
+filled = 0 ∷ 1 ∷ 2 ∷ 0 ∷ 1 ∷ 0 ∷ 1 ∷ 1 ∷ 0 ∷ 0 ∷ 0 ∷ 0 ∷ 0 ∷ 1 ∷ 1 ∷ 0 ∷ 0 ∷ []
+
+waits_unsent : IsChannelOf fresh (channel filled []) → ⊥
+waits_unsent k = let e = (k.waits.each 0).0 (0, omega arith, refl) in cc
+
+abbrev filled_twice : List ℕ
+filled_twice = 0 ∷ 1 ∷ 2 ∷ 0 ∷ 2 ∷ 0 ∷ 1 ∷ 1 ∷ 0 ∷ 0 ∷ 0 ∷ 0 ∷ 0 ∷ 1 ∷ 1 ∷ 0 ∷ 0 ∷ []
+
+waits_twice : IsChannelOf fresh (channel filled_twice (Published 0 (items.Index 0) ∷ Published 0 (items.Index 0) ∷ [])) → ⊥
+waits_twice k = k.waits.once 0 1 (items.Index 0) (omega arith) (omega arith) refl
+
+-- an index is published, and no send has acted
+unacted : IsChannelOf fresh (channel filled (Published 0 (items.Index 0) ∷ [])) → ⊥
+unacted k = let e = k.list in cc
+
+-- a receive answers an index that nobody has sent
+invents : IsChannelOf fresh (channel still (Acted 1 receive (PoppedIndex 0) ∷ [])) → ⊥
+invents k = let e = k.legal in cc
+
+-- an index is given back, and waits in no cell
+returned_nowhere : IsChannelOf fresh (channel still (Returned 1 0 ∷ [])) → ⊥
+returned_nowhere k = let e = k.returned in cc
+
+-- the completion queue holds an index that nobody has given back
+abbrev returning : List ℕ
+returning = 0 ∷ 1 ∷ 2 ∷ 0 ∷ 0 ∷ 0 ∷ 1 ∷ 1 ∷ 0 ∷ 0 ∷ 0 ∷ 1 ∷ 0 ∷ 1 ∷ 1 ∷ 0 ∷ 0 ∷ []
+
+returns_unreturned : IsChannelOf fresh (channel returning []) → ⊥
+returns_unreturned k = let e = (k.returns.each 0).0 (0, omega arith, refl) in cc
+
+-- what is kept says what the events do not: of the table, of who has an index, of the receiver, of the dead
+placed : IsChannelOf tabled (machine kinds.Loan still (registries.Loan tabled) []) → ⊥
+placed k = let e = k.keeps.places 0 in ⊎_elim (λ x. cc) (λ x. cc) e
+
+abbrev named : Book
+named = record fresh { holders = Some 0 ∷ [] }
+
+unnamed_holder : IsChannelOf named (machine kinds.Loan still (registries.Loan named) []) → ⊥
+unnamed_holder k = let e = k.keeps.holders 0 in cc
+
+abbrev second : Book
+second = record fresh { receiver = 2 }
+
+other_receiver : IsChannelOf second (machine kinds.Loan still (registries.Loan second) []) → ⊥
+other_receiver k = let e = k.keeps.receiver in cc
+
+abbrev mourned : Book
+mourned = record fresh { dead = 1 ∷ [] }
+
+unnamed_dead : IsChannelOf mourned (machine kinds.Loan still (registries.Loan mourned) []) → ⊥
+unnamed_dead k = let e = k.keeps.dead 1 in cc

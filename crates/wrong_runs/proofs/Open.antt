@@ -1,0 +1,130 @@
+-- For each field of what holds of a robust index set and of a container in which nobody sees an owner die a run that this field alone
+-- refuses here.
+use Rattle.std.proofs.Common.{◌≡◌, ◌<◌, ℕ, ◌-◌, ◌^◌, true, false, Some, None, List, [], ◌∷◌, ◌++◌, refl, arith}
+use Rattle.steps.specs.declared.indices.enums.ReleaseMode.TheVariants.{Default}
+use Rattle.model.specs.declared.event.Answer.TheVariants.{Truth}
+use Rattle.model.specs.declared.event.Event.{Event}
+use Rattle.model.specs.declared.event.Event.TheVariants.{Begun, Filled, Granted, FreedOf, Asked, Told, Copied, Died, Finished}
+use Rattle.model.specs.declared.event.Start.{Start}
+use Rattle.model.specs.declared.event.Start.TheVariants as starts
+use Rattle.model.specs.declared.families.Registry.TheVariants as registries
+use Rattle.model.specs.declared.families.container.ContainerStart.TheVariants as containers
+use Rattle.model.specs.declared.families.indices.robust.RobustStart.TheVariants as robust
+use Rattle.model.specs.declared.turn.Kind.TheVariants as kinds
+use Rattle.model.specs.Families.Container.Promises.{IsWellFormedRun}
+use Rattle.model.specs.Families.Container.Reading.{Act, Copies}
+use Rattle.model.specs.Families.Indices.Robust.Promises.{FreesRight, IsWellFormed}
+use Rattle.model.specs.Reading.{Each}
+use Rattle.model.specs.World.{Trace}
+use Rattle.model.proofs.Readings.{Each-append, Each-nil, no_more}
+use Rattle.model.proofs.Runs.{begins, ran}
+use Rattle.laws_robust.specs.Gone.{IsHonest, ActsForRight}
+use Rattle.laws_robust.specs.Open.{IsOpenSet, IsReachedOpen}
+use Rattle.laws_container.specs.Open.{IsOpenContainer, IsFaithful, IsFaithfulRun}
+use Rattle.wrong_runs.proofs.Container as plain
+use Rattle.wrong_runs.proofs.Machines.{machine}
+
+abbrev empty : ℕ
+empty = 2 ^ 64 - 1
+
+-- an index is granted to two owners, in a run that is well-formed and honest
+abbrev two : List (Event ℕ)
+two = Filled 0 0 7 ∷ Granted 0 0 7 ∷ Granted 1 0 9 ∷ []
+
+well_formed : IsWellFormed two
+well_formed = Each-append FreesRight [] two (Each-nil FreesRight) (tt, (tt, (tt, tt)))
+
+honest : IsHonest two
+honest = Each-append ActsForRight [] two (Each-nil ActsForRight) (refl, (refl, (refl, tt)))
+
+-- ---- the robust index set: the counter, and a cell for each index
+
+abbrev set : List ℕ → List (Event ℕ) → Trace ℕ
+set words events = machine kinds.Robust words (registries.Owners []) events
+
+filled_twice : IsOpenSet (set (0 ∷ 7 ∷ empty ∷ []) (Filled 0 0 7 ∷ Filled 1 0 9 ∷ [])) → ⊥
+filled_twice k = let e = (k.does (Filled 0 0 7 ∷ []) [] (Filled 1 0 9) refl).1 in cc
+
+-- a recovery asks about an index that nobody has filled
+asks_of_nothing : IsOpenSet (set (0 ∷ empty ∷ empty ∷ []) (Asked 1 0 7 ∷ [])) → ⊥
+asks_of_nothing k = let e = (k.asks [] [] (Asked 1 0 7) refl).0 in cc
+
+says_so : IsOpenSet (set (0 ∷ empty ∷ empty ∷ []) (Finished 0 (starts.Robust robust.IsLocked) (Truth true) ∷ [])) → ⊥
+says_so k = let e = k.answers [] [] (Finished 0 (starts.Robust robust.IsLocked) (Truth true)) refl in cc
+
+granted_twice : IsOpenSet (set (0 ∷ 7 ∷ empty ∷ []) two) → ⊥
+granted_twice k = let e = k.holds well_formed honest (Filled 0 0 7 ∷ Granted 0 0 7 ∷ []) [] (Granted 1 0 9) refl in cc
+
+holds_unfilled : IsOpenSet (set (0 ∷ 7 ∷ empty ∷ []) []) → ⊥
+holds_unfilled k = let e = k.cells 0 (omega arith) in absurd (omega arith)
+
+counter_says_so : IsOpenSet (set ((2 ^ 64 - 1) ∷ empty ∷ empty ∷ []) []) → ⊥
+counter_says_so k = let e = k.lock in cc
+
+-- an owner is seen to die
+seen_to_die : IsOpenSet (set (0 ∷ empty ∷ empty ∷ []) (Died 7 ∷ [])) → ⊥
+seen_to_die k = let e = k.lives 7 in cc
+
+unnamed_dead : IsOpenSet (machine kinds.Robust (0 ∷ empty ∷ empty ∷ []) (registries.Owners (7 ∷ [])) []) → ⊥
+unnamed_dead k = let e = k.dead 7 in cc
+
+-- ---- the container, of whatever turns
+
+-- it is what such a container promises
+abbrev IsRefused : Trace ℕ → Type 0
+IsRefused t = (r : IsReachedOpen t) → IsOpenContainer t r → ⊥
+
+filled_twice_there : IsRefused (plain.container plain.still (Filled 0 0 7 ∷ Filled 1 0 9 ∷ []))
+filled_twice_there r k = let e = (k.does (Filled 0 0 7 ∷ []) [] (Filled 1 0 9) refl).1 in cc
+
+-- a recovery is told to free an index of an owner for whom none has begun
+told_unbegun : IsRefused (plain.container plain.still (Told 1 0 7 ∷ []))
+told_unbegun r k = let e = k.asks [] [] (Told 1 0 7) refl in cc
+
+-- a recovery frees an index of an owner who is not its own
+abbrev other : Start ℕ
+other = starts.Container (containers.Recover 9 Default)
+
+not_another : (o p : ℕ) → o < p → o ≡ p → ⊥
+not_another o p far e = absurd (omega arith)
+
+frees_another : IsRefused (plain.container plain.still (Filled 0 0 7 ∷ Begun 1 other ∷ FreedOf 1 0 7 ∷ []))
+frees_another r k = not_another 7 9 (omega arith) (k.recovers (Filled 0 0 7 ∷ Begun 1 other ∷ []) [] (FreedOf 1 0 7) refl).0
+
+says_so_there : IsRefused (plain.container plain.still (Finished 0 (starts.Container containers.IsLocked) (Truth true) ∷ []))
+says_so_there r k = let e = k.answers [] [] (Finished 0 (starts.Container containers.IsLocked) (Truth true)) refl in cc
+
+holds_unfilled_there : IsRefused (plain.container (0 ∷ 7 ∷ empty ∷ 0 ∷ 0 ∷ 0 ∷ 0 ∷ 0 ∷ []) [])
+holds_unfilled_there r k = let e = k.cells 0 (omega arith) in absurd (omega arith)
+
+counter_says_so_there : IsRefused (plain.container ((2 ^ 64 - 1) ∷ empty ∷ empty ∷ 0 ∷ 0 ∷ 0 ∷ 0 ∷ 0 ∷ []) [])
+counter_says_so_there r k = let e = k.lock in cc
+
+seen_to_die_there : IsRefused (plain.container plain.still (Died 7 ∷ []))
+seen_to_die_there r k = let e = k.lives 7 in cc
+
+unnamed_dead_there : IsRefused (machine kinds.Container plain.still (registries.Container (7 ∷ []) []) [])
+unnamed_dead_there r k = let e = k.dead 7 in cc
+
+asks_uncopied : IsRefused (plain.forgotten (begins 1 (starts.Container (containers.Find 1)) 4))
+asks_uncopied r k = let e = k.questions 1 0 5 refl in plain.no_copy e.before (Copies 0 5) e.is
+
+shows_uncopied : IsRefused (plain.forgotten (begins 1 (starts.Container containers.GetState) 4))
+shows_uncopied r k = let e = k.states 1 0 _ 5 refl refl refl in no_more e.before (Copied 1 0 5) e.after e.is
+
+granted_twice_there : IsRefused (plain.container plain.still two)
+granted_twice_there r k = let e = k.holds well_formed honest (Filled 0 0 7 ∷ Granted 0 0 7 ∷ []) [] (Granted 1 0 9) refl in cc
+
+-- an index is filled for an owner for whom a recovery has begun, though nobody takes a step for one who is gone
+abbrev dishonest : Trace ℕ
+dishonest = plain.container plain.still (Begun 1 (starts.Container (containers.Recover 7 Default)) ∷ Filled 0 0 7 ∷ [])
+
+fills_for_gone : (r : IsReachedOpen dishonest) → IsFaithful dishonest r → IsOpenContainer dishonest r → ⊥
+fills_for_gone r faithful k =
+    let e = k.honest faithful (Begun 1 (starts.Container (containers.Recover 7 Default)) ∷ []) [] (Filled 0 0 7) refl in cc
+
+-- a value is copied that does not stand there, in a run that is well-formed, faithful and short
+copies_nothing : (r : IsReachedOpen (plain.container plain.still plain.copied)) → IsFaithfulRun (plain.container plain.still plain.copied) r
+    → IsOpenContainer (plain.container plain.still plain.copied) r
+    → ⊥
+copies_nothing r faithful k = plain.copies_nothing (k.contained plain.copied_well_formed faithful)

@@ -1,0 +1,33 @@
+-- What it is that a run is refused, and a wrong run: one index of a robust set is granted to two owners.
+use Rattle.std.specs.Prelude.{ℕ, ◌-◌, ◌^◌, List, [], ◌∷◌}
+use Rattle.model.specs.declared.event.Event.{Event}
+use Rattle.model.specs.declared.event.Event.TheVariants.{Filled, Granted}
+use Rattle.model.specs.declared.families.Registry.TheVariants as registries
+use Rattle.model.specs.declared.turn.Kind.TheVariants as kinds
+use Rattle.model.specs.Coding.{one_word}
+use Rattle.model.specs.World.{Trace}
+
+-- no machine that keeps the promise has come to this
+pub record IsRefused (P : Trace ℕ → Type 0) (t : Trace ℕ) : Type 0 where
+  pub refused : P t → ⊥
+
+abbrev pub two_grants : List (Event ℕ)
+two_grants = Filled 0 0 7 ∷ Granted 0 0 7 ∷ Granted 1 0 9 ∷ []
+
+abbrev pub granted_twice : Trace ℕ
+granted_twice =
+    record {
+      world =
+          record {
+            coding = one_word;
+            kind = kinds.Robust;
+            capacity = 2;
+            parties = 2;
+            words = 0 ∷ 7 ∷ (2 ^ 64 - 1) ∷ [];
+            kept = registries.Owners [];
+            latest = [];
+            changes = 0;
+            turns = 0;
+          };
+      events = two_grants;
+    }
