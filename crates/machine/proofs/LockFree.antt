@@ -7,6 +7,7 @@ use Rattle.model.specs.declared.families.queues.QueueKind as queue_kinds
 use Rattle.model.specs.LockFree.{Bound, IsLockFree, KeepsEnding, HasLockFreeRuns, lock_free_bound}
 use Rattle.model.proofs.LockFree.Machines.{one_call_ends, machines}
 use Rattle.laws_bits.proofs.LockFree.{bits_keep_ending, counts_keep_ending}
+use Rattle.laws_indices.proofs.LockFree.{indices_keep_ending}
 use Rattle.laws_queues.proofs.LockFree.{queue_keeps_ending}
 use Rattle.laws_value.proofs.LockFree.{value_keeps_ending}
 
@@ -17,7 +18,7 @@ keep_ending Queue = queue_keeps_ending queue_kinds.TheVariants.Queue
 keep_ending Atomic = value_keeps_ending
 keep_ending Bits = bits_keep_ending
 keep_ending Counts = counts_keep_ending
-keep_ending Indices = tt
+keep_ending Indices = indices_keep_ending
 keep_ending Robust = tt
 keep_ending Container = tt
 keep_ending Loan = tt
@@ -37,7 +38,7 @@ as_run Queue = machines Queue refl _ (one_ends Queue)
 as_run Atomic = machines Atomic refl _ (one_ends Atomic)
 as_run Bits = machines Bits refl _ (one_ends Bits)
 as_run Counts = machines Counts refl _ (one_ends Counts)
-as_run Indices = tt
+as_run Indices = machines Indices refl _ (one_ends Indices)
 as_run Robust = tt
 as_run Container = tt
 as_run Loan = tt

@@ -2,7 +2,7 @@
 //! law, whose proof is a lemma that a client's proof can cite.
 ghost use Rattle.model.specs.declared.families.Flight.{Flight};
 ghost use Rattle.model.specs.declared.turn.Kind.{Kind};
-ghost use Rattle.model.specs.declared.turn.Kind.TheVariants.{Robust};
+ghost use Rattle.model.specs.declared.turn.Kind.TheVariants.{IndexQueue, Overflow, Queue, Atomic, Bits, Counts, Robust};
 ghost use Rattle.model.specs.Coding.{Coding};
 ghost use Rattle.model.specs.LockFree.{Bound, IsLockFree, KeepsEnding, HasLockFreeRuns, lock_free_bound};
 ghost use Rattle.model.specs.Linearized.{IsLinearizableRun};
@@ -34,8 +34,8 @@ pub fn looks_change_nothing<T>()
     ensures { (code : Coding T) (flight : Flight T) → Looks flight → ChangesNothing code flight }
 {}
 
-/// Lock-freedom of index queues, overflowing queues, queues, the single value, bit sets and counting bit sets, each with its
-/// bound as the table `lock_free_bound` says: wherever turns have led, and whatever turns n parties take from there while the
+/// Lock-freedom of index queues, overflowing queues, queues, the single value, bit sets, counting bit sets and unique index
+/// sets, each with its bound as the table `lock_free_bound` says: wherever turns have led, and whatever turns n parties take from there while the
 /// others have stopped anywhere, in more steps than the bound one of their calls ends, and calls go on ending as often as the
 /// steps have that bound. The third clause says the first of the machines as they run, where n is the number of parties. A
 /// turn that is refused is in no such list, a call that waits for a decision takes no step, and nothing says that a party
@@ -47,9 +47,16 @@ pub fn lock_free<T>()
     ensures as_run { (kind : Kind) → IfSome (lock_free_bound kind) (HasLockFreeRuns T kind) }
 {}
 
-/// A robust index set of two indices has no such bound below 200 for two parties: two releases in the mode `LockIfLastIndex`
-/// make each other begin again, in a run of 200 steps in which no call ends. The run is `rounds 20` of
-/// `proofs/WorkedLockFree.antt` of `model`.
+/// No such bound is less than these, at so many parties, this capacity and values of one word: there is a run of so many steps
+/// in which no call ends. Of the first six kinds they are what `lock_free_bound` says there, so its bounds cannot be less. A
+/// robust index set of two indices has no bound below 200 for two parties: two releases in the mode `LockIfLastIndex` make
+/// each other begin again. The runs are those of `proofs/WorkedLockFree.antt` of `model`.
 pub fn not_lock_free_below()
-    ensures { (bound : Bound) → bound 2 2 1 < 200 → IsLockFree ℕ Robust bound → ⊥ }
+    ensures index_queue { (bound : Bound) → bound 2 1 1 < 10 → IsLockFree ℕ IndexQueue bound → ⊥ }
+    ensures overflow { (bound : Bound) → bound 1 1 1 < 5 → IsLockFree ℕ Overflow bound → ⊥ }
+    ensures queue { (bound : Bound) → bound 2 1 1 < 10 → IsLockFree ℕ Queue bound → ⊥ }
+    ensures value { (bound : Bound) → bound 2 1 1 < 6 → IsLockFree ℕ Atomic bound → ⊥ }
+    ensures bits { (bound : Bound) → bound 1 3 1 < 5 → IsLockFree ℕ Bits bound → ⊥ }
+    ensures counts { (bound : Bound) → bound 2 3 1 < 4 → IsLockFree ℕ Counts bound → ⊥ }
+    ensures robust { (bound : Bound) → bound 2 2 1 < 200 → IsLockFree ℕ Robust bound → ⊥ }
 {}

@@ -1,38 +1,31 @@
--- A worked run in which no call ends: two releases that would lock a robust index set make each other begin again, twenty
--- times each, in 200 steps. So that kind has no bound below 200 for two parties and two indices.
-use Rattle.std.proofs.Common.{◌≡◌, ℕ, zero, suc, ◌<◌, ◌&&◌, Bool, true, false, Option, Some, None, List, [], ◌∷◌, ◌++◌, refl, arith}
+-- Worked runs in which no call ends. For six kinds they take as many steps as the bound says, so that none is less at that
+-- number of parties and that capacity. Two releases that would lock a robust index set make each other begin again, twenty
+-- times each, in 200 steps.
+use Rattle.std.proofs.Common.{◌≡◌, ℕ, zero, suc, ◌<◌, ◌&&◌, nat_lt, Bool, true, false, Option, Some, None, List, [], ◌∷◌, ◌++◌, refl, arith}
+use Rattle.std.proofs.lemmas.Bool.Decides.{nat_tests}
 use Rattle.std.specs.List.{AllByRecursion}
-use Rattle.model.specs.declared.turn.Kind.TheVariants.{Robust}
+use Rattle.model.specs.declared.event.Start as starts
+use Rattle.model.specs.declared.families.atomic.AtomicStart as atomics
+use Rattle.model.specs.declared.families.bits.BitsStart as bits
+use Rattle.model.specs.declared.families.queues.QueueStart.{QueueStart}
+use Rattle.model.specs.declared.families.queues.QueueStart as queues
+use Rattle.model.specs.declared.turn.Kind.{Kind}
+use Rattle.model.specs.declared.turn.Kind.TheVariants.{IndexQueue, Overflow, Queue, Atomic, Bits, Counts, Robust}
 use Rattle.model.specs.declared.turn.Refusal.{Refusal}
 use Rattle.model.specs.declared.turn.Turn.{Turn}
+use Rattle.model.specs.declared.turn.Turn.TheVariants.{Begin, Next, Decide, Die}
 use Rattle.model.specs.Coding.{one_word, IsCoding}
 use Rattle.model.specs.LockFree.{Bound, IsLockFree, IsBelow, AreAllowedOn, ends, steps_in}
 use Rattle.model.specs.Refusals.{call_refusal}
 use Rattle.model.specs.Turns.{run_on, after_turn, after_turns, IsReachedOn}
 use Rattle.model.specs.World.{Trace, opening}
+use Rattle.model.proofs.Runs.{nexts, begins}
 use Rattle.model.proofs.WorkedProgress.{both_count, round}
 
 one_word_codes : IsCoding one_word
 one_word_codes = record { some = omega arith; few = omega arith; sized = λ n. refl; given_back = λ n. refl }
 
-abbrev begun : Trace ℕ
-begun = run_on both_count (opening one_word Robust 2 2)
-
-abbrev rounds : ℕ → List (Turn ℕ)
-rounds zero = []
-rounds (suc n) = round ++ rounds n
-
-steps_are : steps_in begun (rounds 20) ≡ 200
-steps_are = refl
-
--- two calls have ended, the acquires, and no other ends
-ended_before : ends begun.events ≡ 2
-ended_before = refl
-
-ended_after : ends (after_turns begun (rounds 20)).events ≡ 2
-ended_after = refl
-
--- ---- none of those turns is refused, and each is of one of the two
+-- ---- none of the turns is refused, and each is of a party below n
 
 abbrev may : Option Refusal → Bool
 may None = true
@@ -42,6 +35,16 @@ abbrev are_taken : Trace ℕ → List (Turn ℕ) → Bool
 are_taken t [] = true
 are_taken t (turn ∷ turns) = may (call_refusal t.world turn) && are_taken (after_turn t turn) turns
 
+abbrev is_below : ℕ → Turn ℕ → Bool
+is_below n (Begin p start) = nat_lt p n
+is_below n (Next p) = nat_lt p n
+is_below n (Decide p said) = nat_lt p n
+is_below n (Die owner) = true
+
+abbrev are_below : ℕ → List (Turn ℕ) → Bool
+are_below n [] = true
+are_below n (turn ∷ turns) = is_below n turn && are_below n turns
+
 may_is : (o : Option Refusal) → may o ≡ true → o ≡ None
 may_is None e = refl
 may_is (Some refusal) e = absurd (cc)
@@ -50,35 +53,199 @@ both : (a b : Bool) → (a && b) ≡ true → (a ≡ true) × (b ≡ true)
 both true b e = (refl, e)
 both false b e = absurd (cc)
 
-are_allowed : (t : Trace ℕ) (turns : List (Turn ℕ)) → are_taken t turns ≡ true → AreAllowedOn t turns
-are_allowed t [] e = tt
-are_allowed t (turn ∷ turns) e =
+all_allowed : (t : Trace ℕ) (turns : List (Turn ℕ)) → are_taken t turns ≡ true → AreAllowedOn t turns
+all_allowed t [] e = tt
+all_allowed t (turn ∷ turns) e =
     let here = both (may (call_refusal t.world turn)) (are_taken (after_turn t turn) turns) e in
-    (may_is (call_refusal t.world turn) here.0, are_allowed (after_turn t turn) turns here.1)
+    (may_is (call_refusal t.world turn) here.0, all_allowed (after_turn t turn) turns here.1)
 
-first : 0 < 2
-first = omega arith
+low : (p n : ℕ) → nat_lt p n ≡ true → p < n
+low x0 x1 x2 = grind (arith, nat_tests)
 
-second : 1 < 2
-second = omega arith
+one_below : (n : ℕ) (turn : Turn ℕ) → is_below n turn ≡ true → IsBelow n turn
+one_below n (Begin p start) e = low p n e
+one_below n (Next p) e = low p n e
+one_below n (Decide p said) e = low p n e
+one_below n (Die owner) e = tt
 
-all_below : (n : ℕ) → AllByRecursion (IsBelow 2) (rounds n)
-all_below zero = tt
-all_below (suc n) = (first, (first, (first, (first, (first, (second, (second, (second, (second, (second, all_below n))))))))))
+all_below : (n : ℕ) (turns : List (Turn ℕ)) → are_below n turns ≡ true → AllByRecursion (IsBelow n) turns
+all_below n [] e = tt
+all_below n (turn ∷ turns) e =
+    let here = both (is_below n turn) (are_below n turns) e in
+    (one_below n turn here.0, all_below n turns here.1)
 
--- ---- so there is no such bound
+-- ---- so many steps without an end leave no bound that is less
 
-none_more : (before after : ℕ) → before ≡ 2 → after ≡ 2 → before < after → ⊥
-none_more before after e f h = absurd (omega arith)
+none_more : (before after ended : ℕ) → before ≡ ended → after ≡ ended → before < after → ⊥
+none_more before after ended was is less = absurd (omega arith)
 
-few_steps : (most steps : ℕ) → steps ≡ 200 → most < 200 → most < steps
-few_steps most steps e h = omega arith
+more_steps : (most steps here : ℕ) → steps ≡ here → most < here → most < steps
+more_steps most steps here e h = omega arith
 
-reached : IsReachedOn begun
-reached = record { coded = one_word_codes; admitted = refl; turns = both_count; is = refl }
+-- these turns take so many steps, and no call ends
+record IsEndless (t : Trace ℕ) (kind : Kind) (c n steps ended : ℕ) (turns : List (Turn ℕ)) : Type 0 where
+  pub reached : IsReachedOn t
+  pub is : t.world.kind ≡ kind
+  pub capacity : t.world.capacity ≡ c
+  pub size : t.world.coding.size ≡ 1
+  pub taken : are_taken t turns ≡ true
+  pub below : are_below n turns ≡ true
+  pub many : steps_in t turns ≡ steps
+  pub before : ends t.events ≡ ended
+  pub after : ends (after_turns t turns).events ≡ ended
 
-pub not_below : (bound : Bound) → bound 2 2 1 < 200 → IsLockFree ℕ Robust bound → ⊥
-not_below bound few free =
-    none_more (ends begun.events) (ends (after_turns begun (rounds 20)).events) ended_before ended_after
-    (free begun refl reached 2 (rounds 20) (are_allowed begun (rounds 20) refl) (all_below 20)
-    (few_steps (bound 2 2 1) (steps_in begun (rounds 20)) steps_are few))
+no_less : (t : Trace ℕ) (kind : Kind) (c n steps ended : ℕ) (turns : List (Turn ℕ)) → IsEndless t kind c n steps ended turns
+    → (bound : Bound) → bound n c 1 < steps → IsLockFree ℕ kind bound → ⊥
+no_less t kind c n steps ended turns h bound few free =
+    none_more (ends t.events) (ends (after_turns t turns).events) ended h.before h.after
+    (free t h.is h.reached n turns (all_allowed t turns h.taken) (all_below n turns h.below)
+    (more_steps (bound n t.world.capacity t.world.coding.size) (steps_in t turns) steps h.many (rw (h.capacity, h.size) few)))
+
+abbrev from : Kind → ℕ → ℕ → List (Turn ℕ) → Trace ℕ
+from kind capacity parties before = run_on before (opening one_word kind capacity parties)
+
+-- ---- two lengths of an index queue, and of a queue, whose write position has moved
+
+abbrev measured : QueueStart ℕ → List (Turn ℕ)
+measured push =
+    begins 2 (starts.TheVariants.Queues queues.TheVariants.AcquireProducer) 1
+    ++ (begins 0 (starts.TheVariants.Queues queues.TheVariants.Len) 1
+    ++ (begins 1 (starts.TheVariants.Queues queues.TheVariants.Len) 1 ++ begins 2 (starts.TheVariants.Queues push) 4))
+
+pub index_queue : (bound : Bound) → bound 2 1 1 < 10 → IsLockFree ℕ IndexQueue bound → ⊥
+index_queue =
+    no_less (from IndexQueue 1 3 (measured (queues.TheVariants.PushIndex 7))) IndexQueue 1 2 10 2 (nexts 0 5 ++ nexts 1 5)
+    (record {
+      reached = record { coded = one_word_codes; admitted = refl; turns = measured (queues.TheVariants.PushIndex 7); is = refl };
+      is = refl;
+      capacity = refl;
+      size = refl;
+      taken = refl;
+      below = refl;
+      many = refl;
+      before = refl;
+      after = refl;
+    })
+
+pub queue : (bound : Bound) → bound 2 1 1 < 10 → IsLockFree ℕ Queue bound → ⊥
+queue =
+    no_less (from Queue 1 3 (measured (queues.TheVariants.Push 7))) Queue 1 2 10 2 (nexts 0 5 ++ nexts 1 5)
+    (record {
+      reached = record { coded = one_word_codes; admitted = refl; turns = measured (queues.TheVariants.Push 7); is = refl };
+      is = refl;
+      capacity = refl;
+      size = refl;
+      taken = refl;
+      below = refl;
+      many = refl;
+      before = refl;
+      after = refl;
+    })
+
+-- ---- a push of an overflowing queue that is full
+
+abbrev full : List (Turn ℕ)
+full =
+    begins 0 (starts.TheVariants.Queues queues.TheVariants.AcquireProducer) 1
+    ++ (begins 0 (starts.TheVariants.Queues (queues.TheVariants.PushIndex 7)) 4
+    ++ (Begin 0 (starts.TheVariants.Queues (queues.TheVariants.PushIndex 8)) ∷ []))
+
+pub overflow : (bound : Bound) → bound 1 1 1 < 5 → IsLockFree ℕ Overflow bound → ⊥
+overflow =
+    no_less (from Overflow 1 1 full) Overflow 1 1 5 2 (nexts 0 5)
+    (record {
+      reached = record { coded = one_word_codes; admitted = refl; turns = full; is = refl };
+      is = refl;
+      capacity = refl;
+      size = refl;
+      taken = refl;
+      below = refl;
+      many = refl;
+      before = refl;
+      after = refl;
+    })
+
+-- ---- two loads of a value whose version has moved
+
+abbrev stale : List (Turn ℕ)
+stale =
+    begins 2 (starts.TheVariants.Atomic atomics.TheVariants.AcquireProducer) 1
+    ++ (begins 0 (starts.TheVariants.Atomic atomics.TheVariants.Load) 1
+    ++ (begins 1 (starts.TheVariants.Atomic atomics.TheVariants.Load) 1
+    ++ begins 2 (starts.TheVariants.Atomic (atomics.TheVariants.Store 7)) 3))
+
+pub value : (bound : Bound) → bound 2 1 1 < 6 → IsLockFree ℕ Atomic bound → ⊥
+value =
+    no_less (from Atomic 1 3 stale) Atomic 1 2 6 2 (nexts 0 3 ++ nexts 1 3)
+    (record {
+      reached = record { coded = one_word_codes; admitted = refl; turns = stale; is = refl };
+      is = refl;
+      capacity = refl;
+      size = refl;
+      taken = refl;
+      below = refl;
+      many = refl;
+      before = refl;
+      after = refl;
+    })
+
+-- ---- a reset of the next bit that stands in the last place, and two resets of all counts
+
+abbrev last_set : List (Turn ℕ)
+last_set =
+    begins 1 (starts.TheVariants.Bits (bits.TheVariants.Set 2)) 2 ++ (Begin 0 (starts.TheVariants.Bits bits.TheVariants.ResetNext) ∷ [])
+
+pub bit_set : (bound : Bound) → bound 1 3 1 < 5 → IsLockFree ℕ Bits bound → ⊥
+bit_set =
+    no_less (from Bits 3 2 last_set) Bits 3 1 5 1 (nexts 0 5)
+    (record {
+      reached = record { coded = one_word_codes; admitted = refl; turns = last_set; is = refl };
+      is = refl;
+      capacity = refl;
+      size = refl;
+      taken = refl;
+      below = refl;
+      many = refl;
+      before = refl;
+      after = refl;
+    })
+
+abbrev resets : List (Turn ℕ)
+resets =
+    Begin 0 (starts.TheVariants.Bits bits.TheVariants.ResetAll) ∷ Begin 1 (starts.TheVariants.Bits bits.TheVariants.ResetAll) ∷ []
+
+pub counts : (bound : Bound) → bound 2 3 1 < 4 → IsLockFree ℕ Counts bound → ⊥
+counts =
+    no_less (from Counts 3 2 resets) Counts 3 2 4 0 (nexts 0 2 ++ nexts 1 2)
+    (record {
+      reached = record { coded = one_word_codes; admitted = refl; turns = resets; is = refl };
+      is = refl;
+      capacity = refl;
+      size = refl;
+      taken = refl;
+      below = refl;
+      many = refl;
+      before = refl;
+      after = refl;
+    })
+
+-- ---- two releases that would lock a robust index set
+
+abbrev rounds : ℕ → List (Turn ℕ)
+rounds zero = []
+rounds (suc n) = round ++ rounds n
+
+pub robust : (bound : Bound) → bound 2 2 1 < 200 → IsLockFree ℕ Robust bound → ⊥
+robust =
+    no_less (from Robust 2 2 both_count) Robust 2 2 200 2 (rounds 20)
+    (record {
+      reached = record { coded = one_word_codes; admitted = refl; turns = both_count; is = refl };
+      is = refl;
+      capacity = refl;
+      size = refl;
+      taken = refl;
+      below = refl;
+      many = refl;
+      before = refl;
+      after = refl;
+    })

@@ -5,7 +5,7 @@ use Rattle.steps.specs.Bits.Words.{elements}
 use Rattle.model.specs.declared.event.Event.{Event}
 use Rattle.model.specs.declared.event.Event.TheVariants.{Finished}
 use Rattle.model.specs.declared.turn.Kind.{Kind}
-use Rattle.model.specs.declared.turn.Kind.TheVariants.{IndexQueue, Overflow, Queue, Atomic, Bits, Counts}
+use Rattle.model.specs.declared.turn.Kind.TheVariants.{IndexQueue, Overflow, Queue, Atomic, Bits, Counts, Indices}
 use Rattle.model.specs.declared.turn.Turn.{Turn}
 use Rattle.model.specs.declared.turn.Turn.TheVariants.{Begin, Next, Decide, Die}
 use Rattle.model.specs.Promises.Turns.{ask_in}
@@ -97,4 +97,5 @@ lock_free_bound Queue = Some (λ n capacity size. stretch n 0 (max 5 (size + 2))
 lock_free_bound Atomic = Some (λ n capacity size. stretch n 0 (2 * size + 1))
 lock_free_bound Bits = Some (λ n capacity size. stretch n (max 1 (elements capacity - 1)) (capacity + 2))
 lock_free_bound Counts = Some (λ n capacity size. stretch n 0 (capacity - 1))
+lock_free_bound Indices = Some (λ n capacity size. stretch n 1 (capacity + 4))
 lock_free_bound kind = None

@@ -1,5 +1,23 @@
 use Rattle.model.proofs.WorkedLockFree as worked
 use Rattle.machine.proofs.theorems.not_lock_free_below.Goals as goal
 
-pub returns : goal.returns
-returns g c bound few free = worked.not_below bound few free
+pub returns-clause-index_queue : goal.returns-clause-index_queue
+returns-clause-index_queue g c bound few free = worked.index_queue bound few free
+
+pub returns-clause-overflow : goal.returns-clause-overflow
+returns-clause-overflow g c bound few free = worked.overflow bound few free
+
+pub returns-clause-queue : goal.returns-clause-queue
+returns-clause-queue g c bound few free = worked.queue bound few free
+
+pub returns-clause-value : goal.returns-clause-value
+returns-clause-value g c bound few free = worked.value bound few free
+
+pub returns-clause-bits : goal.returns-clause-bits
+returns-clause-bits g c bound few free = worked.bit_set bound few free
+
+pub returns-clause-counts : goal.returns-clause-counts
+returns-clause-counts g c bound few free = worked.counts bound few free
+
+pub returns-clause-robust : goal.returns-clause-robust
+returns-clause-robust g c bound few free = worked.robust bound few free
