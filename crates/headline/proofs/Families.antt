@@ -6,7 +6,8 @@ use Rattle.steps.specs.declared.indices.enums.ReleaseState.TheVariants.{Unlocked
 use Rattle.model.specs.declared.event.Answer.{Answer}
 use Rattle.model.specs.declared.event.Answer.TheVariants as answers
 use Rattle.model.specs.declared.event.Event.{Event}
-use Rattle.model.specs.declared.event.Event.TheVariants.{Published, HandedOut, Claimed, Freed, Filled, Granted, FreedOf, Locked, Returned, TakenBack, Copied, Finished}
+use Rattle.model.specs.declared.event.Event.TheVariants.{Published, HandedOut, Claimed, Freed, Filled, Granted}
+use Rattle.model.specs.declared.event.Event.TheVariants.{FreedOf, Locked, Returned, TakenBack, Copied, Finished}
 use Rattle.model.specs.declared.event.Item.TheVariants as items
 use Rattle.model.specs.declared.event.Start.{Start}
 use Rattle.model.specs.declared.event.Start.TheVariants as starts
@@ -68,8 +69,8 @@ module _ {T : Type 0} where
         list =
             record {
               inside = λ p start answer before is_call at.
-              let w = finished_wrote (queue_promises.promise kind) t p start answer before kept at in
-              acted_once p start answer before w.wrote w.opens (queue_moments kind t.world.capacity start answer w.wrote is_call w.right);
+                  let w = finished_wrote (queue_promises.promise kind) t p start answer before kept at in
+                  acted_once p start answer before w.wrote w.opens (queue_moments kind t.world.capacity start answer w.wrote is_call w.right);
               answers = kept.promised.moments;
               linearizable = linearizable;
             };
@@ -89,8 +90,8 @@ module _ {T : Type 0} where
         value =
             record {
               inside = λ p start answer before is_call at.
-              let w = finished_wrote value_promises.promise t p start answer before kept at in
-              acted_once p start answer before w.wrote w.opens (value_moments t.world.capacity start answer w.wrote is_call w.right);
+                  let w = finished_wrote value_promises.promise t p start answer before kept at in
+                  acted_once p start answer before w.wrote w.opens (value_moments t.world.capacity start answer w.wrote is_call w.right);
               answers = kept.promised.moments;
               linearizable = linearizable;
             };
@@ -124,17 +125,17 @@ module _ {T : Type 0} where
         record {
           no_two_hold = one_claim;
           none_once_locked = none_once_locked claims t.events
-          (record {
-            locked = λ p. refl;
-            at_lock = λ p before at i. none_latest (holders claims i before) (claims_read i before ∙ (kept.promised.holds before at.0 (Locked p) at.1).0 i);
-            before_lock = claims_unlocked;
-          });
+              (record {
+                locked = λ p. refl;
+                at_lock = λ p before at i. none_latest (holders claims i before) (claims_read i before ∙ (kept.promised.holds before at.0 (Locked p) at.1).0 i);
+                before_lock = claims_unlocked;
+              });
           acquired = λ p index before at.
-          let w = finished_wrote index_promises.promise t p _ _ before kept at in
-          ap (λ (s : Span T). set_acts (wrote_in s)) w.opens ∙ index_claimed index (set_acts w.wrote) w.right;
+              let w = finished_wrote index_promises.promise t p _ _ before kept at in
+              ap (λ (s : Span T). set_acts (wrote_in s)) w.opens ∙ index_claimed index (set_acts w.wrote) w.right;
           freed = λ p index before at.
-          one_latest (holders claims index before) p (claims_read index before ∙ kept.promised.holds before at.0 (Freed p index) at.1)
-          (one_claim before (Freed p index ∷ at.0) at.1 index);
+              one_latest (holders claims index before) p (claims_read index before ∙ kept.promised.holds before at.0 (Freed p index) at.1)
+              (one_claim before (Freed p index ∷ at.0) at.1 index);
         }
 
   -- ---- a set of indices of owners
@@ -193,12 +194,12 @@ module _ {T : Type 0} where
         no_two_hold = λ well. one_grant t.world.capacity t.events set.does (set.holds well);
         none_once_locked = λ well. none_granted t.world.capacity t.events set.does (set.holds well);
         acquired = λ p index owner before at.
-        let w = finished_wrote robust_promises.promise t p _ _ before kept at in
-        ap (λ (s : Span T). robust.set_acts (wrote_in s)) w.opens ∙ w.right;
+            let w = finished_wrote robust_promises.promise t p _ _ before kept at in
+            ap (λ (s : Span T). robust.set_acts (wrote_in s)) w.opens ∙ w.right;
         freed = freed_of t.world.capacity t.events set.does;
         recovered = λ p index owner mode before at. (set.answers before at.0 _ at.1).1.gone index owner;
         locks = λ p index owner before at one.
-        let late = locking.locks t is r before at.0 _ at.1 index owner one in (late.other, late.once);
+            let late = locking.locks t is r before at.0 _ at.1 index owner one in (late.other, late.once);
       }
 
   container_runs : (t : Trace T) → t.world.kind ≡ kinds.Container → IsReached t → IsKeptBy container_promises.promise t → ContainerRuns t
@@ -214,10 +215,10 @@ module _ {T : Type 0} where
         replaced = λ well p index owner value before at. (set.well_formed well).placed before at.0 _ at.1;
         asked = set.questions;
         shown = λ p index state value rests has shows.
-        let was = set.states p index state value rests has shows in record { before = was.before; after = was.after; is = was.is };
+            let was = set.states p index state value rests has shows in record { before = was.before; after = was.after; is = was.is };
         recovered = λ p index owner mode before at. (set.answers before at.0 _ at.1).1.gone index;
         locks = λ p index owner before at one.
-        let late = (set.answers before at.0 _ at.1).2 index one in (late.other, late.once);
+            let late = (set.answers before at.0 _ at.1).2 index one in (late.other, late.once);
         waits = waiting.waits t is r;
         changes = counting.counts_changes t is r;
         met = λ p before at. meeting.meets_changes t is r before at.0 _ at.1;
