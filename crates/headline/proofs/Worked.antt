@@ -40,20 +40,26 @@ held_at_lock : NoneOnceLocked {T = ℕ} claims (Claimed 0 3 ∷ Locked 1 ∷ [])
 held_at_lock h = let none = h (Claimed 0 3 ∷ Locked 1 ∷ []) [] refl refl 3 in cc
 
 -- an index is filled for its owner before he is granted it
-filled_first : holders fills 0 (Filled {T = ℕ} 1 0 7 ∷ []) ≡ 7 ∷ []
-filled_first = refl
+abbrev filled : List (Event ℕ)
+filled = Filled 1 0 7 ∷ []
 
-not_granted_yet : holders grants 0 (Filled {T = ℕ} 1 0 7 ∷ []) ≡ []
-not_granted_yet = refl
+filled_first : (holders fills 0 filled ≡ 7 ∷ []) × (holders grants 0 filled ≡ [])
+filled_first = (refl, refl)
 
-given_back : holders grants 0 (Filled {T = ℕ} 1 0 7 ∷ Granted 1 0 7 ∷ FreedOf 1 0 7 ∷ []) ≡ []
+then_granted : holders grants 0 (filled ++ Granted 1 0 7 ∷ []) ≡ 7 ∷ []
+then_granted = refl
+
+given_back : holders grants 0 (filled ++ Granted 1 0 7 ∷ FreedOf 1 0 7 ∷ []) ≡ []
 given_back = refl
 
 -- what waits in a queue is nobody's
-sent : holders loans 0 (Claimed {T = ℕ} 0 0 ∷ Published 0 (Index 0) ∷ []) ≡ []
-sent = refl
+abbrev sent : List (Event ℕ)
+sent = Claimed 0 0 ∷ Published 0 (Index 0) ∷ []
 
-received : holders loans 0 (Claimed {T = ℕ} 0 0 ∷ Published 0 (Index 0) ∷ HandedOut 1 (Index 0) ∷ []) ≡ 1 ∷ []
+nobodys : holders loans 0 sent ≡ []
+nobodys = refl
+
+received : holders loans 0 (sent ++ HandedOut 1 (Index 0) ∷ []) ≡ 1 ∷ []
 received = refl
 
 -- ---- a call acts once, inside it
