@@ -1,5 +1,6 @@
 -- A call that has finished began, and acted once since then.
-use Rattle.std.proofs.Common.{◌≡◌, ◌≢◌, ℕ, ◌==◌, Bool, true, false, Option, Some, None, List, [], ◌∷◌, ◌++◌, fold, if◌then◌else◌, refl, sym, ap, subst, ◌∙◌, append_assoc, append-nil, arith}
+use Rattle.std.proofs.Common.{◌≡◌, ◌≢◌, ℕ, ◌==◌, Bool, true, false, Option, Some, None, List, [], ◌∷◌, ◌++◌, fold}
+use Rattle.std.proofs.Common.{if◌then◌else◌, refl, sym, ap, subst, ◌∙◌, append_assoc, append-nil, arith}
 use Rattle.std.proofs.lemmas.Bool.Decides.{nat_tests}
 use Rattle.std.proofs.lemmas.List.Concat.{flat_map-append}
 use Rattle.std.specs.List.{flat_map}
@@ -69,8 +70,8 @@ module _ {T : Type 0} where
           is = ap (λ (xs : List (Event T)). xs ++ e ∷ []) b.is ∙ append_assoc b.before (Begun p start ∷ b.since) (e ∷ []);
           within = begins_none_more p b.since (e ∷ []) b.within none;
           once = flat_map-append (act_of p) b.since (e ∷ [])
-          ∙ (ap (λ (xs : List (Start T × Answer T)). xs ++ flat_map (act_of p) (e ∷ [])) b.once
-          ∙ (ap (λ (xs : List (Start T × Answer T)). moments wrote ++ xs) same ∙ sym (flat_map-append acts wrote more)));
+              ∙ (ap (λ (xs : List (Start T × Answer T)). xs ++ flat_map (act_of p) (e ∷ [])) b.once
+              ∙ (ap (λ (xs : List (Start T × Answer T)). moments wrote ++ xs) same ∙ sym (flat_map-append acts wrote more)));
         }
 
     longer_reads : (span : Span T) (before : List (Event T)) (e : Event T) → BeginsNone p (e ∷ [])

@@ -6,7 +6,8 @@ use Rattle.steps.specs.declared.indices.enums.ReleaseState.TheVariants.{Unlocked
 use Rattle.model.specs.declared.event.Answer.{Answer}
 use Rattle.model.specs.declared.event.Answer.TheVariants as answers
 use Rattle.model.specs.declared.event.Event.{Event}
-use Rattle.model.specs.declared.event.Event.TheVariants.{Published, HandedOut, Claimed, Freed, Filled, Granted, FreedOf, Locked, Returned, TakenBack, Copied, Finished}
+use Rattle.model.specs.declared.event.Event.TheVariants.{Published, HandedOut, Claimed, Freed, Filled, Granted}
+use Rattle.model.specs.declared.event.Event.TheVariants.{FreedOf, Locked, Returned, TakenBack, Copied, Finished}
 use Rattle.model.specs.declared.event.Item.TheVariants as items
 use Rattle.model.specs.declared.event.Start.{Start}
 use Rattle.model.specs.declared.event.Start.TheVariants as starts
@@ -14,6 +15,9 @@ use Rattle.model.specs.declared.families.Registry.{Registry}
 use Rattle.model.specs.declared.families.Registry.TheVariants as registries
 use Rattle.model.specs.declared.families.loan.Book.{Book}
 use Rattle.model.specs.declared.families.atomic.AtomicStart.TheVariants as atomics
+use Rattle.model.specs.declared.families.container.ContainerStart.TheVariants as container_starts
+use Rattle.model.specs.declared.families.indices.IndexStart.TheVariants as index_starts
+use Rattle.model.specs.declared.families.indices.robust.RobustStart.TheVariants as robust_starts
 use Rattle.model.specs.declared.families.queues.QueueKind.{QueueKind}
 use Rattle.model.specs.declared.families.queues.QueueKind.TheVariants as queue_kinds
 use Rattle.model.specs.declared.families.queues.QueueStart.TheVariants as queues
@@ -21,6 +25,7 @@ use Rattle.model.specs.declared.turn.Kind.{Kind}
 use Rattle.model.specs.declared.turn.Kind.TheVariants as kinds
 use Rattle.model.specs.Families.Atomic.Promises as value_promises
 use Rattle.model.specs.Families.Bits.Promises.{bits_promise, counts_promise}
+use Rattle.model.specs.Families.Bits.Reading.{sets, clears, counts}
 use Rattle.model.specs.Families.Container.Promises as container_promises
 use Rattle.model.specs.Families.Indices.Promises as index_promises
 use Rattle.model.specs.Families.Indices.Reading as unique
@@ -35,7 +40,7 @@ use Rattle.model.specs.Linearizable.{IsLinearizable}
 use Rattle.model.specs.Linearized.{as_list, as_value, is_push_or_pop, is_store_or_load, IsLinearized}
 use Rattle.model.specs.Promises.{IsKeptBy, IsKept}
 use Rattle.model.specs.Promises.Families.{promise_of}
-use Rattle.model.specs.Reading.{Each, moments, Span, Open, span_of}
+use Rattle.model.specs.Reading.{Each, moments, Span, Never, Open, Ended, span_of}
 use Rattle.model.specs.Turns.{IsReached}
 use Rattle.model.specs.World.{Trace}
 use Rattle.laws_turns.specs.Others.{queue_in}
@@ -44,9 +49,9 @@ use Rattle.laws_turns.proofs.Locking as locking
 use Rattle.laws_turns.proofs.Meeting as meeting
 use Rattle.laws_turns.proofs.Queue as submission
 use Rattle.laws_turns.proofs.Waiting as waiting
-use Rattle.headline.specs.Holders.{Hand, Takes, Neither, claims, fills, grants, loans, holders, NoTwoHold, NoneOnceLocked}
+use Rattle.headline.specs.Holders.{Hand, Takes, Neither, claims, fills, grants, loans, holders, NoTwoHold, NoneOnceLocked, IsRelease, GivesBack}
 use Rattle.headline.specs.Headline.{QueueRuns, ValueRuns, BitsRun, CountsRun, IndicesRun, RobustRuns, ContainerRuns, ChannelRuns, Runs}
-use Rattle.headline.specs.Moments.{Follows, ActedOnce, ActAs}
+use Rattle.headline.specs.Moments.{Follows, call_in}
 use Rattle.headline.proofs.Acting.{finished_wrote, acted_once}
 use Rattle.headline.proofs.Holding.{no_two_hold, none_once_locked, none_latest, one_latest, claims_read, fills_read, grants_read, loaned_free, TakesFree}
 
@@ -68,8 +73,8 @@ module _ {T : Type 0} where
         list =
             record {
               inside = λ p start answer before is_call at.
-              let w = finished_wrote (queue_promises.promise kind) t p start answer before kept at in
-              acted_once p start answer before w.wrote w.opens (queue_moments kind t.world.capacity start answer w.wrote is_call w.right);
+                  let w = finished_wrote (queue_promises.promise kind) t p start answer before kept at in
+                  acted_once p start answer before w.wrote w.opens (queue_moments kind t.world.capacity start answer w.wrote is_call w.right);
               answers = kept.promised.moments;
               linearizable = linearizable;
             };
@@ -89,11 +94,31 @@ module _ {T : Type 0} where
         value =
             record {
               inside = λ p start answer before is_call at.
-              let w = finished_wrote value_promises.promise t p start answer before kept at in
-              acted_once p start answer before w.wrote w.opens (value_moments t.world.capacity start answer w.wrote is_call w.right);
+                  let w = finished_wrote value_promises.promise t p start answer before kept at in
+                  acted_once p start answer before w.wrote w.opens (value_moments t.world.capacity start answer w.wrote is_call w.right);
               answers = kept.promised.moments;
               linearizable = linearizable;
             };
+      }
+
+  -- ---- bits and counts
+
+  bits_run : (t : Trace T) → IsKeptBy bits_promise t → BitsRun t
+  bits_run t kept =
+      record {
+        conserved = kept.promised.conserved;
+        set = λ p b before at.
+            let w = finished_wrote bits_promise t p _ _ before kept at in ap (λ (s : Span T). sets b (wrote_in s)) w.opens ∙ w.right.1;
+        reset = λ p b before at.
+            let w = finished_wrote bits_promise t p _ _ before kept at in ap (λ (s : Span T). clears b (wrote_in s)) w.opens ∙ w.right.1;
+      }
+
+  counts_run : (t : Trace T) → IsKeptBy counts_promise t → CountsRun t
+  counts_run t kept =
+      record {
+        conserved = kept.promised.conserved;
+        counted = λ p b number before at.
+            let w = finished_wrote counts_promise t p _ _ before kept at in ap (λ (s : Span T). counts b (wrote_in s)) w.opens ∙ w.right.1;
       }
 
   -- ---- unique indices
@@ -119,22 +144,31 @@ module _ {T : Type 0} where
     index_claimed : (index : ℕ) (all : SetActs) → Some (claimed index) ≡ Some all → all ≡ claimed index
     index_claimed index all e = cc
 
+    by_release : (p index : ℕ) (span : Span T) → index_promises.promise.may_stand (Freed p index) span → IsRelease index (call_in span)
+    by_release p index Never h = absurd h
+    by_release p index (Open (starts.Indices (index_starts.Release i mode)) wrote) h = sym h.0
+    by_release p index (Open (starts.Indices other) wrote) h = absurd h
+    by_release p index (Open other wrote) h = absurd h
+    by_release p index (Ended start answer wrote) h = absurd h
+
     indices_run : IndicesRun t
     indices_run =
         record {
           no_two_hold = one_claim;
           none_once_locked = none_once_locked claims t.events
-          (record {
-            locked = λ p. refl;
-            at_lock = λ p before at i. none_latest (holders claims i before) (claims_read i before ∙ (kept.promised.holds before at.0 (Locked p) at.1).0 i);
-            before_lock = claims_unlocked;
-          });
+              (record {
+                locked = λ p. refl;
+                at_lock = λ p before at i. none_latest (holders claims i before) (claims_read i before ∙ (kept.promised.holds before at.0 (Locked p) at.1).0 i);
+                before_lock = claims_unlocked;
+              });
           acquired = λ p index before at.
-          let w = finished_wrote index_promises.promise t p _ _ before kept at in
-          ap (λ (s : Span T). set_acts (wrote_in s)) w.opens ∙ index_claimed index (set_acts w.wrote) w.right;
-          freed = λ p index before at.
-          one_latest (holders claims index before) p (claims_read index before ∙ kept.promised.holds before at.0 (Freed p index) at.1)
-          (one_claim before (Freed p index ∷ at.0) at.1 index);
+              let w = finished_wrote index_promises.promise t p _ _ before kept at in
+              ap (λ (s : Span T). set_acts (wrote_in s)) w.opens ∙ index_claimed index (set_acts w.wrote) w.right;
+          freed = λ p index before at. (
+            one_latest (holders claims index before) p (claims_read index before ∙ kept.promised.holds before at.0 (Freed p index) at.1)
+                (one_claim before (Freed p index ∷ at.0) at.1 index),
+            by_release p index (span_of p before) (kept.spans before at.0 (Freed p index) at.1),
+          );
         }
 
   -- ---- a set of indices of owners
@@ -185,6 +219,24 @@ module _ {T : Type 0} where
             before_lock = grants_unlocked;
           })
 
+  back_by_robust : (p index owner : ℕ) (span : Span T) → robust_promises.promise.may_stand (FreedOf p index owner) span
+      → GivesBack index owner (call_in span) (robust.set_acts (wrote_in span))
+  back_by_robust p index owner Never h = absurd h
+  back_by_robust p index owner (Open (starts.Robust (robust_starts.Release i o mode)) wrote) h = (sym h.0, sym h.1)
+  back_by_robust p index owner (Open (starts.Robust (robust_starts.Recover mode)) wrote) h = record { before = h.before; after = []; is = h.is }
+  back_by_robust p index owner (Open (starts.Robust other) wrote) h = absurd h
+  back_by_robust p index owner (Open other wrote) h = absurd h
+  back_by_robust p index owner (Ended start answer wrote) h = absurd h
+
+  back_by_container : (p index owner : ℕ) (span : Span T) → container_promises.promise.may_stand (FreedOf p index owner) span
+      → GivesBack index owner (call_in span) (robust.set_acts (wrote_in span))
+  back_by_container p index owner Never h = absurd h
+  back_by_container p index owner (Open (starts.Container (container_starts.Remove i o mode)) wrote) h = (sym h.0, sym h.1)
+  back_by_container p index owner (Open (starts.Container (container_starts.Recover o mode)) wrote) h = sym h.0
+  back_by_container p index owner (Open (starts.Container other) wrote) h = absurd h
+  back_by_container p index owner (Open other wrote) h = absurd h
+  back_by_container p index owner (Ended start answer wrote) h = absurd h
+
   robust_runs : (t : Trace T) → t.world.kind ≡ kinds.Robust → IsReached t → IsKeptBy robust_promises.promise t → RobustRuns t
   robust_runs t is r kept =
       let set = kept.promised in
@@ -193,12 +245,15 @@ module _ {T : Type 0} where
         no_two_hold = λ well. one_grant t.world.capacity t.events set.does (set.holds well);
         none_once_locked = λ well. none_granted t.world.capacity t.events set.does (set.holds well);
         acquired = λ p index owner before at.
-        let w = finished_wrote robust_promises.promise t p _ _ before kept at in
-        ap (λ (s : Span T). robust.set_acts (wrote_in s)) w.opens ∙ w.right;
-        freed = freed_of t.world.capacity t.events set.does;
+            let w = finished_wrote robust_promises.promise t p _ _ before kept at in
+            ap (λ (s : Span T). robust.set_acts (wrote_in s)) w.opens ∙ w.right;
+        freed = λ p index owner before at. (
+          freed_of t.world.capacity t.events set.does p index owner before at,
+          back_by_robust p index owner (span_of p before) (kept.spans before at.0 (FreedOf p index owner) at.1),
+        );
         recovered = λ p index owner mode before at. (set.answers before at.0 _ at.1).1.gone index owner;
         locks = λ p index owner before at one.
-        let late = locking.locks t is r before at.0 _ at.1 index owner one in (late.other, late.once);
+            let late = locking.locks t is r before at.0 _ at.1 index owner one in (late.other, late.once);
       }
 
   container_runs : (t : Trace T) → t.world.kind ≡ kinds.Container → IsReached t → IsKeptBy container_promises.promise t → ContainerRuns t
@@ -208,16 +263,19 @@ module _ {T : Type 0} where
         no_two_fill = no_two_fill t.world.capacity t.events set.does;
         no_two_hold = λ well. one_grant t.world.capacity t.events set.does (set.well_formed well).holders;
         none_once_locked = λ well. none_granted t.world.capacity t.events set.does (set.well_formed well).holders;
-        freed = freed_of t.world.capacity t.events set.does;
+        freed = λ p index owner before at. (
+          freed_of t.world.capacity t.events set.does p index owner before at,
+          back_by_container p index owner (span_of p before) (kept.spans before at.0 (FreedOf p index owner) at.1),
+        );
         copied = λ well p index value before at. (set.well_formed well).contents before at.0 (Copied p index value) at.1;
         added = λ well p index owner value before at. (set.well_formed well).placed before at.0 _ at.1;
         replaced = λ well p index owner value before at. (set.well_formed well).placed before at.0 _ at.1;
         asked = set.questions;
         shown = λ p index state value rests has shows.
-        let was = set.states p index state value rests has shows in record { before = was.before; after = was.after; is = was.is };
+            let was = set.states p index state value rests has shows in record { before = was.before; after = was.after; is = was.is };
         recovered = λ p index owner mode before at. (set.answers before at.0 _ at.1).1.gone index;
         locks = λ p index owner before at one.
-        let late = (set.answers before at.0 _ at.1).2 index one in (late.other, late.once);
+            let late = (set.answers before at.0 _ at.1).2 index one in (late.other, late.once);
         waits = waiting.waits t is r;
         changes = counting.counts_changes t is r;
         met = λ p before at. meeting.meets_changes t is r before at.0 _ at.1;
@@ -269,8 +327,8 @@ module _ {T : Type 0} where
   by_kind kinds.Overflow queue t is r same kept linearizable = queue_runs queue_kinds.Overflow t kept linearizable
   by_kind kinds.Queue queue t is r same kept linearizable = queue_runs queue_kinds.Queue t kept linearizable
   by_kind kinds.Atomic queue t is r same kept linearizable = value_runs t kept linearizable
-  by_kind kinds.Bits queue t is r same kept linearizable = record { conserved = kept.promised.conserved }
-  by_kind kinds.Counts queue t is r same kept linearizable = record { conserved = kept.promised.conserved }
+  by_kind kinds.Bits queue t is r same kept linearizable = bits_run t kept
+  by_kind kinds.Counts queue t is r same kept linearizable = counts_run t kept
   by_kind kinds.Indices queue t is r same kept linearizable = indices_run t kept
   by_kind kinds.Robust queue t is r same kept linearizable = robust_runs t is r kept
   by_kind kinds.Container queue t is r same kept linearizable = container_runs t is r kept

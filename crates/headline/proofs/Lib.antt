@@ -1,7 +1,8 @@
 pub mod Acting
 pub mod Families
 pub mod Holding
-pub mod Laws
 pub mod Picking
 pub mod Progressing
+pub mod Reached
 pub mod Reaching
+pub mod Worked

@@ -6,12 +6,13 @@ use Rattle.steps.specs.declared.container.state.ContainerState.{ContainerState}
 use Rattle.steps.specs.declared.indices.enums.ReleaseMode.{ReleaseMode}
 use Rattle.steps.specs.declared.indices.enums.ReleaseMode.TheVariants.{LockIfLastIndex}
 use Rattle.steps.specs.declared.indices.enums.ReleaseState.TheVariants.{Unlocked}
-use Rattle.model.specs.declared.event.Answer.TheVariants.{Done, Index, State, Truth}
+use Rattle.model.specs.declared.event.Answer.TheVariants.{Done, Index, State, Truth, Number, Reset}
 use Rattle.model.specs.declared.event.Event.TheVariants.{Freed, FreedOf, Asked, Copied, Finished}
 use Rattle.model.specs.declared.event.Event.{Event}
 use Rattle.model.specs.declared.event.Item.TheVariants as items
 use Rattle.model.specs.declared.event.Start.{Start}
-use Rattle.model.specs.declared.event.Start.TheVariants.{Indices, Robust, Container}
+use Rattle.model.specs.declared.event.Start.TheVariants.{Bits, Indices, Robust, Container}
+use Rattle.model.specs.declared.families.bits.BitsStart.TheVariants as bits
 use Rattle.model.specs.declared.families.container.ContainerStart.TheVariants as containers
 use Rattle.model.specs.declared.families.indices.IndexStart.TheVariants as indices
 use Rattle.model.specs.declared.families.indices.robust.RobustStart.TheVariants.{Acquire, Find, Recover}
@@ -48,7 +49,7 @@ use Rattle.model.specs.World.{Trace, flight_in, progress_in}
 use Rattle.laws_turns.specs.Changes.{changes_of, seen_by}
 use Rattle.laws_turns.specs.Others.{queue_in}
 use Rattle.laws_turns.specs.Questions.{waits_at, index_if, loads_cell}
-use Rattle.headline.specs.Holders.{holders, claims, fills, grants, loans, NoTwoHold, NoneOnceLocked}
+use Rattle.headline.specs.Holders.{holders, claims, fills, grants, loans, NoTwoHold, NoneOnceLocked, IsRelease, GivesBack}
 use Rattle.headline.specs.Moments.{Follows, call_in, ActAs}
 
 module _ {T : Type 0} where
@@ -67,18 +68,28 @@ module _ {T : Type 0} where
 
   -- ---- bits and counts are conserved
 
-  -- each bit was set as often as it was cleared, and once more if it stands
+  -- Each bit was set as often as it was cleared, and once more if it stands. A set that answers true has set its bit once, and a
+  -- reset of the next one has cleared the bit that it answers once.
   pub record BitsRun (t : Trace T) : Type 0 where
     pub conserved : (b : ℕ) → sets b t.events ≡ clears b t.events + one_if (stands t.world.words b)
+    pub set : (p b : ℕ) (before : List (Event T))
+        → Follows (Finished p (Bits (bits.Set b)) (Truth true)) before t.events
+        → sets b (wrote_in (span_of p before)) ≡ 1
+    pub reset : (p b : ℕ) (before : List (Event T))
+        → Follows (Finished p (Bits bits.ResetNext) (Reset b)) before t.events
+        → clears b (wrote_in (span_of p before)) ≡ 1
 
-  -- each place was counted as often as all that was taken out of it says, and what it counts now
+  -- Each place was counted as often as was taken out of it in all, and as it counts now. A set has counted its place once.
   pub record CountsRun (t : Trace T) : Type 0 where
     pub conserved : (b : ℕ) → counts b t.events ≡ takes b t.events + slice_index t.world.words b
+    pub counted : (p b number : ℕ) (before : List (Event T))
+        → Follows (Finished p (Bits (bits.Set b)) (Number number)) before t.events
+        → counts b (wrote_in (span_of p before)) ≡ 1
 
   -- ---- unique indices
 
   -- No index has two holders, and none has one once the set is locked. Who is answered an index has claimed it in that call,
-  -- and its holder alone frees it.
+  -- and holds it until a release of his frees it.
   pub record IndicesRun (t : Trace T) : Type 0 where
     pub no_two_hold : NoTwoHold claims t.events
     pub none_once_locked : NoneOnceLocked claims t.events
@@ -87,7 +98,7 @@ module _ {T : Type 0} where
         → set_acts (wrote_in (span_of p before)) ≡ claimed index
     pub freed : (p index : ℕ) (before : List (Event T))
         → Follows (Freed p index) before t.events
-        → holders claims index before ≡ p ∷ []
+        → (holders claims index before ≡ p ∷ []) × IsRelease index (call_in (span_of p before))
 
   -- ---- indices of owners
 
@@ -100,7 +111,8 @@ module _ {T : Type 0} where
       before
 
   -- No index is filled for two owners. In a well-formed run no index has two holders, and none has one once the set is locked.
-  -- Who is answered an index was granted it in that call, and it is freed of the owner that fills it.
+  -- Who is answered an index was granted it in that call, and it is freed of the owner that fills it, by a release for him or
+  -- by a recovery that was told so.
   --
   -- A recovery that answers Unlocked has left no owner an index of his that it was told to free; in the mode that locks, some
   -- index was filled after each that it freed.
@@ -113,7 +125,8 @@ module _ {T : Type 0} where
         → set_acts_of p before ≡ Fills index owner ∷ Grants index owner ∷ []
     pub freed : (p index owner : ℕ) (before : List (Event T))
         → Follows (FreedOf p index owner) before t.events
-        → holders fills index before ≡ owner ∷ []
+        → (holders fills index before ≡ owner ∷ [])
+        × GivesBack index owner (call_in (span_of p before)) (set_acts_of p before)
     pub recovered : (p index owner : ℕ) (mode : ReleaseMode) (before : List (Event T))
         → Follows (Finished p (Robust (Recover mode)) (State Unlocked)) before t.events
         → IsOneOf (Yes index owner) (set_acts_of p before)
@@ -140,7 +153,8 @@ module _ {T : Type 0} where
     pub none_once_locked : IsWellFormedRun t → NoneOnceLocked grants t.events
     pub freed : (p index owner : ℕ) (before : List (Event T))
         → Follows (FreedOf p index owner) before t.events
-        → holders fills index before ≡ owner ∷ []
+        → (holders fills index before ≡ owner ∷ [])
+        × GivesBack index owner (call_in (span_of p before)) (set_acts_of p before)
     pub copied : IsWellFormedRun t → (p index : ℕ) (value : T) (before : List (Event T))
         → Follows (Copied p index value) before t.events
         → contents_of index before ≡ Some value

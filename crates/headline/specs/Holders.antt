@@ -1,9 +1,15 @@
 -- Who holds an index.
-use Rattle.std.specs.Prelude.{◌≡◌, ◌≤◌, ℕ, ◌==◌, true, List, [], ◌∷◌, length, fold, if◌then◌else◌}
+use Rattle.std.specs.Prelude.{◌≡◌, ◌≤◌, ℕ, ◌==◌, true, Option, Some, List, [], ◌∷◌, length, fold, if◌then◌else◌}
 use Rattle.model.specs.declared.event.Event.{Event}
 use Rattle.model.specs.declared.event.Event.TheVariants.{Published, HandedOut, Claimed, Freed, Filled, Granted, FreedOf, Returned, TakenBack}
 use Rattle.model.specs.declared.event.Item.TheVariants as items
+use Rattle.model.specs.declared.event.Start.{Start}
+use Rattle.model.specs.declared.event.Start.TheVariants.{Indices, Robust, Container}
+use Rattle.model.specs.declared.families.container.ContainerStart.TheVariants as containers
+use Rattle.model.specs.declared.families.indices.IndexStart.TheVariants as indices
+use Rattle.model.specs.declared.families.indices.robust.RobustStart.TheVariants as robust
 use Rattle.model.specs.Families.Indices.Reading.{is_locked}
+use Rattle.model.specs.Families.Indices.Robust.Reading.{SetAct, Yes, IsOneOf}
 use Rattle.headline.specs.Moments.{Always}
 
 -- an index goes to a holder, or has none any more
@@ -62,3 +68,19 @@ module _ {T : Type 0} where
   abbrev pub NoneOnceLocked : (Event T → Hand) → List (Event T) → Type 0
   NoneOnceLocked hand events =
       Always (λ past. is_locked past ≡ true → (i : ℕ) → holders hand i past ≡ []) events
+
+  -- ---- who gives an index back
+
+  -- the call is a release of it
+  abbrev pub IsRelease : ℕ → Option (Start T) → Type 0
+  IsRelease index (Some (Indices (indices.Release i mode))) = i ≡ index
+  IsRelease index call = ⊥
+
+  -- the call, which has done this to the set, gives it back for its owner, or is a recovery that was told so, of a container
+  -- one of that owner
+  abbrev pub GivesBack : ℕ → ℕ → Option (Start T) → List SetAct → Type 0
+  GivesBack index owner (Some (Robust (robust.Release i o mode))) all = (i ≡ index) × (o ≡ owner)
+  GivesBack index owner (Some (Robust (robust.Recover mode))) all = IsOneOf (Yes index owner) all
+  GivesBack index owner (Some (Container (containers.Remove i o mode))) all = (i ≡ index) × (o ≡ owner)
+  GivesBack index owner (Some (Container (containers.Recover o mode))) all = o ≡ owner
+  GivesBack index owner call all = ⊥

@@ -8,8 +8,12 @@ ghost use Rattle.model.specs.declared.turn.Turn.{Turn};
 ghost use Rattle.model.specs.Coding.{Coding, IsCoding};
 ghost use Rattle.model.specs.Refusals.{refusal_of};
 ghost use Rattle.model.specs.Turns.{IsReached, after_turn, run};
-ghost use Rattle.model.specs.World.{Trace, opened, capacity_error, queue_error};
+ghost use Rattle.model.specs.World.{Trace, opened, capacity_error, queue_error, trace_in};
 ghost use Rattle.headline.specs.Headline.{Holds, Takes};
+
+use machine::Machine;
+use model::coding::Coded;
+use steps::words::Words;
 
 /// Of every kind, at every admitted capacity, after every list of turns, of which those that are refused change nothing; and of
 /// each further turn that is not refused.
@@ -21,3 +25,10 @@ pub fn headline<T>()
     ensures turn { (t : Trace T) (turn : Turn T) → IsReached t → refusal_of t.world turn ≡ None
         → Takes t turn (after_turn t turn) }
 {}
+
+/// The same of a machine that somebody has.
+pub fn of_machine<T: Words>(machine: &Machine<T>)
+    ensures { (queue : ℕ) × Holds queue (trace_in ⟦<T as Coded>⟧.coding machine.now) }
+{
+    machine.reached();
+}

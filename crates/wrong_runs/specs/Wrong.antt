@@ -1,4 +1,4 @@
--- What it is that a run is refused, and a wrong run: one index of a robust set is granted to two owners.
+-- A wrong run: one index of a robust set is granted to two owners.
 use Rattle.std.specs.Prelude.{ℕ, ◌-◌, ◌^◌, List, [], ◌∷◌}
 use Rattle.model.specs.declared.event.Event.{Event}
 use Rattle.model.specs.declared.event.Event.TheVariants.{Filled, Granted}
@@ -6,10 +6,6 @@ use Rattle.model.specs.declared.families.Registry.TheVariants as registries
 use Rattle.model.specs.declared.turn.Kind.TheVariants as kinds
 use Rattle.model.specs.Coding.{one_word}
 use Rattle.model.specs.World.{Trace}
-
--- no machine that keeps the promise has come to this
-pub record IsRefused (P : Trace ℕ → Type 0) (t : Trace ℕ) : Type 0 where
-  pub refused : P t → ⊥
 
 abbrev pub two_grants : List (Event ℕ)
 two_grants = Filled 0 0 7 ∷ Granted 0 0 7 ∷ Granted 1 0 9 ∷ []

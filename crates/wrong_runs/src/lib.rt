@@ -2,10 +2,10 @@
 #![tactic(auto)]
 
 ghost use Rattle.model.specs.Families.Indices.Robust.Promises.{IsRobustSet};
-ghost use Rattle.wrong_runs.specs.Wrong.{IsRefused, granted_twice};
+ghost use Rattle.wrong_runs.specs.Wrong.{granted_twice};
 
 /// A robust index set that has granted one index to two owners, in a well-formed run, does not keep what it promises. The other
 /// runs stand in `proofs`, a file for each promise.
 pub fn refused()
-    ensures { IsRefused IsRobustSet granted_twice }
+    ensures { IsRobustSet granted_twice → ⊥ }
 {}

@@ -4,13 +4,7 @@ use Rattle.model.specs.declared.turn.Turn.{Turn}
 use Rattle.model.specs.declared.turn.Turn.TheVariants.{Decide}
 use Rattle.model.specs.Refusals.{refusal_of}
 use Rattle.model.specs.Turns.{IsReached, events_of, after_turn, run}
-use Rattle.model.specs.World.{Trace, opened, progress_in}
-use Rattle.model.specs.Progress.{guarantee_of}
-use Rattle.model.specs.Promises.Families.{promise_of}
-use Rattle.model.specs.Reading.{span_of}
-use Rattle.model.proofs.Linearizable.Kinds.{run_linearizable}
-use Rattle.model.proofs.Orders.{reached_kept}
-use Rattle.model.proofs.Progress.{keeps_guarantees}
+use Rattle.model.specs.World.{Trace, opened}
 use Rattle.laws_turns.proofs.Answering as answering
 use Rattle.laws_turns.proofs.Asking as asking
 use Rattle.laws_turns.proofs.Finding as finding
@@ -19,32 +13,11 @@ use Rattle.laws_turns.proofs.Queue as submission
 use Rattle.laws_turns.proofs.Waiting as waiting
 use Rattle.laws_turns.specs.Questions.{waits_at}
 use Rattle.headline.specs.Headline.{Holds}
-use Rattle.headline.proofs.Families.{by_kind}
-use Rattle.headline.proofs.Laws.{laws_of}
+use Rattle.machine.proofs.Laws.{laws_of}
 use Rattle.headline.proofs.Picking.{picked}
-use Rattle.headline.proofs.Progressing.{pays, is_bounded, is_guaranteed}
+use Rattle.headline.proofs.Reached.{holds}
 use Rattle.headline.proofs.Reaching.{reaches}
 use Rattle.headline.proofs.headline.Goals as goal
-
-holds : {T : Type 0} (t : Trace T) (r : IsReached t) → Holds r.queue t
-holds t r =
-    let kept = reached_kept laws_of t r in
-    let guarantees = keeps_guarantees t kept in
-    record {
-      runs = by_kind t.world.kind r.queue t refl r refl kept (run_linearizable t kept);
-      progress =
-          record {
-            paid = λ p g is.
-            pays (promise_of t.world.kind) t.world.capacity t.world.coding.size (span_of p t.events) (progress_in t.world p) g (kept.progress p) is;
-            bounded = λ p start g call is.
-            is_bounded (promise_of t.world.kind) t.world.capacity t.world.coding.size (span_of p t.events) (progress_in t.world p) start g
-            (kept.progress p) call is;
-            guaranteed = λ p start g call is.
-            is_guaranteed (guarantee_of t.world.kind t.world.capacity t.world.coding.size) (span_of p t.events) (progress_in t.world p) start g
-            (guarantees p) call is;
-          };
-      kept = kept;
-    }
 
 pub returns-clause-reached : goal.returns-clause-reached
 returns-clause-reached g c t r = holds t r
