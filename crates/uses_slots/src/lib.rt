@@ -1,8 +1,9 @@
 //! Values of any type in plain memory, which many threads read where they lie while nobody writes: a word beside each value
-//! counts its readers. Nothing is copied, and no code is unsafe. Each value that is read has the fact of the user's rule, which
-//! whoever laid it there has shown.
+//! counts its readers. Nothing is copied, and no code is unsafe. Each value lies there with a number, and whoever reads them has
+//! the fact of the user's rule about both, which whoever laid them there has shown.
 #![tactic(auto)]
-ghost use Rattle.std.specs.Prelude.{◌≡◌, ◌<◌, ◌-◌, ◌%◌, ◌≤◌, vec_len, IsSome, IsSomeAnd, IfOk, IfSome};
+
+ghost use Rattle.std.specs.Prelude.{◌≡◌, ℕ, ◌<◌, ◌-◌, ◌%◌, ◌≤◌, vec_len, IsSome, IsSomeAnd, IfOk, IfSome};
 ghost use Rattle.std.proofs.Props.{props};
 ghost use Rattle.counted_slot.specs.Counting.{readers};
 
@@ -10,21 +11,23 @@ use counted_slot::{Claim, Counted, FREE, Fits, MOST_READERS, ONE_READER, PRESENT
 use std::alloc::{AllocError, Global};
 use std::marker::PhantomData;
 
-/// A rule of the user's: a fact about each value. One type may keep different facts at two places, by two rules.
+/// A rule of the user's: a fact about each value and the number that it is laid down with. One type may keep different facts at
+/// two places, by two rules.
 pub trait Keeps<X> {
-    ghost holds: { X → Type 0 };
+    ghost holds: { ℕ → X → Type 0 };
 }
 
 /// The rule that says nothing of a value.
 pub struct Anything;
 
 impl<X> Keeps<X> for Anything {
-    ghost holds = { λ _. Unit {0} };
+    ghost holds = { λ _ _. Unit {0} };
 }
 
-/// A value with the rule that it keeps.
+/// A value with its number, and the rule that they keep.
 #[derive(Drop)]
 pub struct Kept<X, K: Keeps<X>> {
+    number: u64,
     value: X,
     rule: PhantomData<K>,
 }
@@ -32,7 +35,7 @@ pub struct Kept<X, K: Keeps<X>> {
 impl<X, K: Keeps<X>> Fits for Kept<X, K> {
     type Tag = ();
 
-    ghost fits = { λ _ k. K.holds k.value };
+    ghost fits = { λ _ k. K.holds k.number k.value };
 }
 
 /// Slots, each of which is empty or has a value of X, strings and vectors too. They are shared by reference between threads where
@@ -75,9 +78,21 @@ pub struct Writing<'a, X: Drop, K: Keeps<X> = Anything> {
 }
 
 impl<'a, X, K: Keeps<X>> Reading<'a, X, K> {
+    ghost use Rattle.uses_slots.specs.Slots.{number_in};
+
+    /// The number that the value was laid there with. No atomic step.
+    pub fn number(&self) -> u64
+        ensures { result ≡ number_in self.now }
+    {
+        match self.claim.get() {
+            Some(kept) => kept.number,
+            None => unreachable!(),
+        }
+    }
+
     /// The value, where it lies, which keeps its rule. No atomic step.
     pub fn get(&self) -> &X
-        ensures fits { K.holds result.now }
+        ensures fits { K.holds (number_in self.now) result.now }
     {
         match self.claim.get() {
             Some(kept) => &kept.value,
@@ -94,18 +109,19 @@ impl<'a, X, K: Keeps<X>> Drop for Reading<'a, X, K> {
 }
 
 impl<'a, X: Drop, K: Keeps<X>> Writing<'a, X, K> {
-    /// Lays a value there, which may be read from now on, and hands out the one that lay there, if any did. One atomic step.
-    pub fn put(self, value: X) -> Option<X>
-        requires fits { K.holds value }
-        ensures fits { IfSome result K.holds }
+    /// Lays a value there with its number, which may be read from now on, and hands out those that lay there, if any did. One
+    /// atomic step.
+    pub fn put(self, number: u64, value: X) -> Option<(u64, X)>
+        requires fits { K.holds number value }
+        ensures fits { IfSome result (λ r. K.holds r.0 r.1) }
     {
         let Self { claim } = self;
-        value_of(claim.put(Some(with_rule(value)), PRESENT))
+        value_of(claim.put(Some(with_rule(number, value)), PRESENT))
     }
 
-    /// Leaves the slot empty, and hands out what lay there, if anything did. One atomic step.
-    pub fn empty(self) -> Option<X>
-        ensures fits { IfSome result K.holds }
+    /// Leaves the slot empty, and hands out what lay there with its number, if anything did. One atomic step.
+    pub fn empty(self) -> Option<(u64, X)>
+        ensures fits { IfSome result (λ r. K.holds r.0 r.1) }
     {
         let Self { claim } = self;
         value_of(claim.put(None, FREE))
@@ -118,21 +134,29 @@ impl<'a, X: Drop, K: Keeps<X>> Drop for Writing<'a, X, K> {
     }
 }
 
-fn with_rule<X, K: Keeps<X>>(value: X) -> Kept<X, K>
-    ensures { result.value ≡ value }
+fn with_rule<X, K: Keeps<X>>(number: u64, value: X) -> Kept<X, K>
+    ensures number { result.number ≡ number }
+    ensures value { result.value ≡ value }
 {
     Kept {
+        number,
         value,
         rule: PhantomData,
     }
 }
 
-fn value_of<X: Drop, K: Keeps<X>>(kept: Option<Kept<X, K>>) -> Option<X>
-    requires { IfSome kept (λ k. K.holds k.value) }
-    ensures { IfSome result K.holds }
+fn value_of<X: Drop, K: Keeps<X>>(kept: Option<Kept<X, K>>) -> Option<(u64, X)>
+    requires { IfSome kept (λ k. K.holds k.number k.value) }
+    ensures { IfSome result (λ r. K.holds r.0 r.1) }
 {
     match kept {
-        Some(Kept { value, rule: _ }) => Some(value),
+        Some(
+            Kept {
+                number,
+                value,
+                rule: _,
+            },
+        ) => Some((number, value)),
         None => None,
     }
 }
