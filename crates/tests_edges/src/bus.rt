@@ -4,3 +4,4 @@ mod limit;
 mod rooms;
 mod threads;
 mod turns;
+mod words;

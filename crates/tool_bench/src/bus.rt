@@ -5,7 +5,7 @@ mod by_copy;
 mod passing;
 
 use crate::timing::{ROUNDS, median, quotient};
-use by_bus::sizes_of;
+use by_bus::{sizes_of, spares};
 use by_copy::Waiting;
 use passing::{Ends, Reader, Writer};
 use std::alloc::Global;
@@ -16,42 +16,56 @@ use std::time::{Clock, CpuClock, Instant};
 use uses_bus::bus::Bus;
 use uses_bus::error::BusError;
 
-/// What a row is about: records of so many words, how many of them a round passes, and whether a thread writes them while
-/// another reads.
+/// What a row is about: records of so many words, each of which so many read, how many of them a round passes, and whether a
+/// thread writes them while another reads.
 #[derive(Clone, Copy)]
 struct Passed {
     name: &'static str,
     words: usize,
+    readers: usize,
     records: u64,
     at_once: bool,
 }
 
-const ROWS: [Passed; 4] = [
+/// A row of one thread.
+fn by_turns(words: usize, readers: usize, records: u64) -> Passed {
     Passed {
         name: "by turns in one thread",
-        words: 8,
-        records: 100_000,
+        words,
+        readers,
+        records,
         at_once: false,
-    },
-    Passed {
-        name: "by turns in one thread",
-        words: 512,
-        records: 10_000,
-        at_once: false,
-    },
+    }
+}
+
+/// A row of two threads.
+fn at_once(words: usize, records: u64) -> Passed {
     Passed {
         name: "between two threads",
-        words: 8,
-        records: 100_000,
+        words,
+        readers: 1,
+        records,
         at_once: true,
-    },
-    Passed {
-        name: "between two threads",
-        words: 512,
-        records: 10_000,
-        at_once: true,
-    },
-];
+    }
+}
+
+/// All rows.
+fn rows() -> [Passed; 12] {
+    [
+        by_turns(8, 1, 100_000),
+        by_turns(8, 4, 50_000),
+        by_turns(8, 16, 10_000),
+        by_turns(512, 1, 20_000),
+        by_turns(512, 4, 10_000),
+        by_turns(512, 16, 5_000),
+        by_turns(8192, 1, 2_000),
+        by_turns(8192, 4, 1_000),
+        by_turns(8192, 16, 500),
+        at_once(8, 100_000),
+        at_once(512, 20_000),
+        at_once(8192, 2_000),
+    ]
+}
 
 /// How many nanoseconds one way takes, of the processor, and the sum of what was read.
 fn time_by_turns<W: Writer, D: Reader, R: Wait + CpuClock>(
@@ -137,7 +151,7 @@ fn rounds_beside<W: Writer + Send, D: Reader + Send, R: Wait + Threads + Clock +
 ) -> Option<Came> {
     let waiting = Waiting::new(alloc, passed.words).ok()?;
     let shared = Mutex::new(waiting);
-    let mut copies = by_copy::ends(alloc, &shared, passed.words).ok()?;
+    let mut copies = by_copy::ends(alloc, &shared, passed.words, passed.readers).ok()?;
     rounds(rt, passed, bus, &mut copies)
 }
 
@@ -147,9 +161,12 @@ fn run<R: Wait + Threads + Clock + CpuClock + Sync>(
     alloc: Global,
     passed: &Passed,
 ) -> Result<Option<Came>, BusError> {
-    let (mut bus, pass) = Bus::new(alloc, sizes_of(passed.words))?;
-    let publisher = bus.publisher(rt, alloc, pass)?;
-    let Some(mut ends) = by_bus::ends(rt, publisher, passed.words) else {
+    let (mut bus, pass) = Bus::new(alloc, sizes_of(passed.readers))?;
+    let Ok(spares) = spares(alloc, passed.words) else {
+        return Ok(None);
+    };
+    let publisher = bus.publisher(rt, alloc, pass, spares)?;
+    let Some(mut ends) = by_bus::ends(rt, alloc, publisher, passed.readers) else {
         return Ok(None);
     };
     Ok(rounds_beside(rt, alloc, passed, &mut ends))
@@ -163,9 +180,10 @@ fn print_row(rt: &impl Print, passed: &Passed, came: Came) -> io::Result<()> {
         " not the same answers"
     };
     println!(rt;
-        "| {} | {} | {} | {} | {}.{}{} |{said}",
+        "| {} | {} | {} | {} | {} | {}.{}{} |{said}",
         passed.name,
         passed.words.saturating_mul(8),
+        passed.readers,
         came.bus,
         came.copies,
         came.ratio / 100,
@@ -180,10 +198,10 @@ pub fn print_table<R: Wait + Threads + Clock + CpuClock + Print + Sync>(
     alloc: Global,
 ) -> io::Result<()> {
     println!(rt;
-        "| records | bytes | by the bus, a second | copied through a Mutex and a Vec, a second | ratio |"
+        "| records | bytes | subscribers | by the bus, a second | copied through a Mutex and a Vec, a second | ratio |"
     )?;
-    println!(rt; "|---|---|---|---|---|")?;
-    for passed in ROWS.iter() {
+    println!(rt; "|---|---|---|---|---|---|")?;
+    for passed in rows().iter() {
         match run(rt, alloc, passed) {
             Ok(Some(came)) => print_row(rt, passed, came)?,
             _ => println!(rt; "{}: no memory, no clock, or no record", passed.name)?,

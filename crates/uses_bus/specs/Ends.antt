@@ -1,5 +1,6 @@
 -- What clauses see of the ends of a bus.
 use Rattle.std.specs.Prelude.{◌≡◌, ◌⊎◌, ℕ, ◌≤◌, Ok, List}
+use Rattle.uses_slots.specs.declared.Keeps.{Ghosts}
 use Rattle.lock_free.specs.Coding.{Coding}
 use Rattle.lock_free.specs.Container.Handles.{knows, pass_in}
 use Rattle.lock_free.specs.Container.Names.{code_of}
@@ -10,6 +11,8 @@ use Rattle.lock_free.specs.Queues.Rings.{QueueId, consumer_queue, consumer_view,
 use Rattle.lock_free.specs.Queues.Told.{FoundNone, HasTakenFirst, WasAtEnd, WasFull}
 use Rattle.lock_free.specs.Share.{Share}
 use Rattle.lock_free.specs.UniqueIndexSet.{SetId}
+use Rattle.uses_bus.specs.declared.error.LoanFailure.{LoanFailure}
+use Rattle.uses_bus.specs.declared.error.LoanFailure.TheVariants.{NoSlot, NoRecord, StillRead}
 use Rattle.uses_bus.specs.declared.holders.Holders.{Holders}
 use Rattle.uses_bus.specs.declared.outlet.Outlet.{Outlet}
 use Rattle.uses_bus.specs.declared.publisher.Loan.{Loan}
@@ -20,106 +23,109 @@ use Rattle.uses_bus.specs.declared.subscriber.Seat.{Seat}
 use Rattle.uses_bus.specs.declared.subscriber.Subscriber.{Subscriber}
 use Rattle.uses_bus.specs.Outlets.{holders_in}
 use Rattle.uses_bus.specs.Pools as pools
-use Rattle.uses_bus.specs.Records.{slots_in, words_in}
+use Rattle.uses_bus.specs.Books.{ChangesAt, IsLoaned}
+use Rattle.uses_bus.specs.Holders.{publisher}
+use Rattle.uses_slots.specs.Slots.{slots_in}
 
--- ---- the publisher
-
--- the slot that is written
-abbrev pub loaned : Loan → ℕ
-loaned loan = loan.slot
-
--- who holds each slot
-abbrev pub table_of : Publisher → List Holders
-table_of p = pools.table_of p.pool
-
-abbrev pub slots_of : Publisher → ℕ
-slots_of p = pools.slots_of p.pool
-
--- how many words a record has
-abbrev pub words_of : Publisher → ℕ
-words_of p = words_in p.records.now
-
--- of which set its pass is, and how much of the right to know the whole it has
-abbrev pub set_in : Publisher → SetId
-set_in p = pools.set_in p.pool
-
-abbrev pub share_in : Publisher → Share
-share_in p = pools.share_in p.pool
-
--- its end of each lane, by places, and of the registry
-abbrev pub lanes_of : Publisher → List Outlet
-lanes_of p = p.outlets.items
-
-abbrev pub roll_of : Publisher → Roll
-roll_of p = p.roll
-
--- a publisher of the same bus
-pub record IsSame (old new : Publisher) : Type 0 where
-  pub pool : pools.IsSame old.pool new.pool
-  pub records : new.records ≡ old.records
-  pub lanes : holders_in (lanes_of new) ≡ holders_in (lanes_of old)
-
--- ---- a subscriber
+-- nothing changed; or one slot more is out, which the publisher has
+abbrev pub IsTakenFor : List Holders → List Holders → LoanFailure → Type 0
+IsTakenFor old new (StillRead slot) = ChangesAt slot publisher old new × IsLoaned new slot
+IsTakenFor old new (NoSlot e) = new ≡ old
+IsTakenFor old new NoRecord = new ≡ old
 
 -- the slot that is read
 abbrev pub received : Sample → ℕ
 received sample = sample.slot
 
-abbrev pub slots_at : Subscriber → ℕ
-slots_at s = slots_in s.records.now
+-- the slot that is written
+abbrev pub loaned : {X K : Type 0} → Loan X K → ℕ
+loaned loan = loan.slot
 
-abbrev pub words_at : Subscriber → ℕ
-words_at s = words_in s.records.now
+module _ {X K : Type 0} {rule : Ghosts K X} where
+  -- ---- the publisher
 
--- how many slots and words the bus has at which it is a seat
-abbrev pub slots_before : Seat → ℕ
-slots_before s = slots_in s.records.now
+  -- who holds each slot
+  abbrev pub table_of : Publisher X K rule → List Holders
+  table_of p = pools.table_of p.pool
 
-abbrev pub words_before : Seat → ℕ
-words_before s = words_in s.records.now
+  abbrev pub slots_of : Publisher X K rule → ℕ
+  slots_of p = pools.slots_of p.pool
 
--- the place of the lane whose end it has
-abbrev pub place_before : Seat → ℕ
-place_before s = s.place
+  -- the number of the record that is published next
+  abbrev pub next_of : Publisher X K rule → ℕ
+  next_of p = p.next
 
--- how the registry's records are written in words, and what is known of it
-abbrev pub code_before : Seat → Coding ℕ
-code_before s = code_of (pass_in s.members)
+  -- of which set its pass is, and how much of the right to know the whole it has
+  abbrev pub set_in : Publisher X K rule → SetId
+  set_in p = pools.set_in p.pool
 
-abbrev pub members_before : Seat → View ℕ
-members_before s = knows s.members
+  abbrev pub share_in : Publisher X K rule → Share
+  share_in p = pools.share_in p.pool
 
-abbrev pub members_view : Subscriber → View ℕ
-members_view s = knows s.members
+  -- its end of each lane, by places, and of the registry
+  abbrev pub lanes_of : Publisher X K rule → List Outlet
+  lanes_of p = p.outlets.items
 
--- the registry was given a record of the seat's place, by this owner
-abbrev pub IsLetIn : ℕ → Seat → Subscriber → Type 0
-IsLetIn owner seat s =
-    (index : ℕ) × HasAdded (code_before seat) (record { value = place_before seat; owner = owner }) (Ok index)
-    (members_before seat) (members_view s)
+  abbrev pub roll_of : Publisher X K rule → Roll
+  roll_of p = p.roll
 
--- what it knows of the queue that it receives from, and of the one by which it gives back
-abbrev pub receives_view : Subscriber → View ℕ
-receives_view s = consumer_view s.inlet.receives
+  -- a publisher of the same bus
+  pub record IsSame (old new : Publisher X K rule) : Type 0 where
+    pub pool : pools.IsSame old.pool new.pool
+    pub records : new.records ≡ old.records
+    pub lanes : holders_in (lanes_of new) ≡ holders_in (lanes_of old)
 
-abbrev pub returns_view : Subscriber → View ℕ
-returns_view s = producer_view s.inlet.returns
+  -- ---- a subscriber
 
-abbrev pub receives_queue : Subscriber → QueueId
-receives_queue s = consumer_queue s.inlet.receives
+  abbrev pub slots_at : Subscriber X K rule → ℕ
+  slots_at s = slots_in s.records.now
 
-abbrev pub returns_queue : Subscriber → QueueId
-returns_queue s = producer_queue s.inlet.returns
+  -- how many slots the bus has at which it is a seat
+  abbrev pub slots_before : Seat X K rule → ℕ
+  slots_before s = slots_in s.records.now
 
--- nothing waited; or the queue has no room at all, and nothing is written; or what came is no slot
-abbrev pub ReceivedNone : Subscriber → Subscriber → Type 0
-ReceivedNone old new =
-    FoundNone (receives_view old) (receives_view new)
-    ⊎ ((receives_queue old).capacity ≡ 0) × (receives_view new ≡ receives_view old)
-    ⊎ (number : ℕ) × (slots_at old ≤ number) × HasTakenFirst (Index number) (receives_view old) (receives_view new)
+  -- the place of the lane whose end it has
+  abbrev pub place_before : Seat X K rule → ℕ
+  place_before s = s.place
 
--- the slot was not taken back: as many waited as the queue has room for, or its last position is reached
-abbrev pub TookNoneBack : ℕ → Subscriber → Subscriber → Type 0
-TookNoneBack slot old new =
-    WasFull (returns_queue old).capacity (Index slot) (returns_view old) (returns_view new)
-    ⊎ WasAtEnd (returns_view old) (returns_view new)
+  -- how the registry's records are written in words, and what is known of it
+  abbrev pub code_before : Seat X K rule → Coding ℕ
+  code_before s = code_of (pass_in s.members)
+
+  abbrev pub members_before : Seat X K rule → View ℕ
+  members_before s = knows s.members
+
+  abbrev pub members_view : Subscriber X K rule → View ℕ
+  members_view s = knows s.members
+
+  -- the registry was given a record of the seat's place, by this owner
+  abbrev pub IsLetIn : ℕ → Seat X K rule → Subscriber X K rule → Type 0
+  IsLetIn owner seat s =
+      (index : ℕ) × HasAdded (code_before seat) (record { value = place_before seat; owner = owner }) (Ok index)
+      (members_before seat) (members_view s)
+
+  -- what it knows of the queue that it receives from, and of the one by which it gives back
+  abbrev pub receives_view : Subscriber X K rule → View ℕ
+  receives_view s = consumer_view s.inlet.receives
+
+  abbrev pub returns_view : Subscriber X K rule → View ℕ
+  returns_view s = producer_view s.inlet.returns
+
+  abbrev pub receives_queue : Subscriber X K rule → QueueId
+  receives_queue s = consumer_queue s.inlet.receives
+
+  abbrev pub returns_queue : Subscriber X K rule → QueueId
+  returns_queue s = producer_queue s.inlet.returns
+
+  -- nothing waited; or the queue has no room at all, and nothing is written; or what came is no slot
+  abbrev pub ReceivedNone : Subscriber X K rule → Subscriber X K rule → Type 0
+  ReceivedNone old new =
+      FoundNone (receives_view old) (receives_view new)
+      ⊎ ((receives_queue old).capacity ≡ 0) × (receives_view new ≡ receives_view old)
+      ⊎ (number : ℕ) × (slots_at old ≤ number) × HasTakenFirst (Index number) (receives_view old) (receives_view new)
+
+  -- the slot was not taken back: as many waited as the queue has room for, or its last position is reached
+  abbrev pub TookNoneBack : ℕ → Subscriber X K rule → Subscriber X K rule → Type 0
+  TookNoneBack slot old new =
+      WasFull (returns_queue old).capacity (Index slot) (returns_view old) (returns_view new)
+      ⊎ WasAtEnd (returns_view old) (returns_view new)

@@ -6,6 +6,6 @@ pub mod Lanes
 pub mod News
 pub mod Outlets
 pub mod Pools
-pub mod Records
 pub mod Rolls
+pub mod Sequences
 pub mod Stores

@@ -19,26 +19,35 @@ use crate::store::Store;
 use lock_free::mpmc::unique_index_set::Pass;
 use std::alloc::Global;
 use std::sync::Wait;
+use uses_slots::{Anything, Keeps};
 
 /// How large a bus is.
 #[derive(Clone, Copy, Debug, PartialEq, Eq)]
 pub struct Sizes {
     /// How many records there may be at a time, from 1 to 2^24 - 2.
     pub slots: usize,
-    /// How many words a record has.
-    pub words: usize,
     /// How many may subscribe at a time, from 1 to 63.
     pub subscribers: usize,
     /// How many records wait for a subscriber at most, up to 2^32 - 1.
     pub queue: usize,
 }
 
-/// A bus, from one publisher to many subscribers.
-#[derive(Drop)]
-pub struct Bus {
-    store: Store,
+/// A bus, from one publisher to many subscribers, for records of a type, each of which keeps a rule with its number. A record
+/// lies in its slot until the slot is used again or the bus is dropped.
+pub struct Bus<X: Drop, K: Keeps<X> = Anything> {
+    store: Store<X, K>,
     members: Members,
     lanes: Vec<Lane>,
+}
+
+impl<X: Drop, K: Keeps<X>> Drop for Bus<X, K> {
+    fn drop(self) {
+        let Self {
+            store: _store,
+            members: _members,
+            lanes: _lanes,
+        } = self;
+    }
 }
 
 /// A lane for each subscriber.
@@ -76,24 +85,23 @@ fn make_outlets(alloc: Global, lanes: &mut [Lane]) -> Result<Vec<Outlet<'_>>, Bu
     Ok(outlets)
 }
 
-impl Bus {
-    ghost use Rattle.uses_bus.specs.Bus.{slots_of, words_of, IsAdmitted, IsPassOf};
+impl<X: Drop, K: Keeps<X>> Bus<X, K> {
+    ghost use Rattle.uses_bus.specs.Bus.{slots_of, IsAdmitted, IsPassOf};
 
-    /// A bus of which each slot is free, and the pass of its publisher, which has the whole share of the slots.
+    /// A bus of which each slot is free and has no record, and the pass of its publisher, which has the whole share of the slots.
     ///
     /// Refused are more than 63 subscribers (`TooManySubscribers`), what a part refuses (`Part`), and memory.
-    pub fn new(alloc: Global, sizes: Sizes) -> Result<(Bus, Pass), BusError>
+    pub fn new(alloc: Global, sizes: Sizes) -> Result<(Bus<X, K>, Pass), BusError>
         ensures pass { IfOk result (λ r. IsPassOf r.0 r.1) }
         ensures nothing { IfOk result (λ r. HoldsNothing (made r.1)) }
         ensures share { IfOk result (λ r. share r.1 ≡ all_shares) }
         ensures slots { IfOk result (λ r. slots_of r.0 ≡ sizes.slots) }
-        ensures words { IfOk result (λ r. words_of r.0 ≡ sizes.words) }
         ensures admitted { OnOk result (IsAdmitted sizes) }
     {
         if sizes.subscribers > MOST_SUBSCRIBERS {
             return Err(BusError::TooManySubscribers);
         }
-        let (store, pass) = Store::new(alloc, sizes.slots, sizes.words)?;
+        let (store, pass) = Store::new(alloc, sizes.slots)?;
         let members = Members::new(alloc, sizes.subscribers)?;
         let lanes = make_lanes(alloc, sizes)?;
         let bus = Bus {
@@ -104,20 +112,22 @@ impl Bus {
         Ok((bus, pass))
     }
 
-    /// The publisher, with the pass that the bus was made with.
+    /// The publisher, with the pass that the bus was made with, and the records that are to be written, which need not keep the
+    /// rule yet: one more than there are slots, and one more for each further loan that is in hand at a time.
     pub fn publisher(
         &mut self,
         rt: &impl Wait,
         alloc: Global,
         pass: Pass,
-    ) -> Result<Publisher<'_>, BusError>
+        spares: Vec<X>,
+    ) -> Result<Publisher<'_, X, K>, BusError>
         requires pass { IsPassOf self.old pass }
         requires nothing { HoldsNothing (made pass) }
         ensures set { IfOk result (λ p. ends.set_in p ≡ set_of pass) }
         ensures share { IfOk result (λ p. ends.share_in p ≡ share pass) }
         ensures slots { IfOk result (λ p. ends.slots_of p ≡ slots_of self.old) }
-        ensures words { IfOk result (λ p. ends.words_of p ≡ words_of self.old) }
         ensures free { IfOk result (λ p. AllFree (ends.table_of p)) }
+        ensures next { IfOk result (λ p. ends.next_of p ≡ 0) }
     {
         let Bus {
             store,
@@ -130,9 +140,9 @@ impl Bus {
         let Some(roll) = Roll::new(rt, member) else {
             return Err(BusError::NoMemory);
         };
-        let store: &Store = store;
+        let store: &Store<X, K> = store;
         let pool = Pool::new(alloc, store.set(), pass)?;
         let outlets = make_outlets(alloc, lanes)?;
-        Ok(Publisher::of(pool, store.records(), outlets, roll))
+        Ok(Publisher::of(pool, store.records(), spares, outlets, roll))
     }
 }

@@ -1,5 +1,5 @@
 //! The end of a bus that writes records and publishes them.
-ghost use Rattle.std.specs.Prelude.{◌≡◌, ◌<◌, ◌≤◌, ◌↔◌, Bool, false, count_by, IsTrue, IfOk, IfSome, OnErr};
+ghost use Rattle.std.specs.Prelude.{◌≡◌, ◌+◌, ◌-◌, ◌^◌, ◌<◌, ◌≤◌, ◌↔◌, Bool, false, count_by, IsTrue, IsFalse, IfOk, IfErr, IfSome};
 ghost use Rattle.lock_free.specs.Shares.{IsAll};
 ghost use Rattle.lock_free.specs.UniqueIndexSet.{set_of, share};
 ghost use Rattle.uses_bus.specs.Books.{holders_at, AllFree, ChangesAt, GainsNone, GainsOnly, IsLoaned, KeepsAllOrNone, KeepsLoans, KeepsLoansBut, held_number};
@@ -7,28 +7,41 @@ ghost use Rattle.uses_bus.specs.Holders.{is_held, publisher};
 ghost use Rattle.uses_bus.specs.Outlets.{has_gained, holders_in, open_in, AreShown, EachLane, HaveTheirPlaces};
 ghost use Rattle.uses_bus.specs.Outlets.{IsServed, IsSettled, IsTakenBack, KeepsRest, NobodyTakesPart};
 ghost use Rattle.uses_bus.specs.Pools as pools;
-ghost use Rattle.uses_bus.specs.Records.{slots_in};
 ghost use Rattle.uses_bus.specs.Rolls.{HasLooked, HasRecovered};
+ghost use Rattle.uses_slots.specs.Slots.{slots_in};
 
+use crate::error::LoanFailure;
 use crate::holders::Holder;
 use crate::outlet::Outlet;
 use crate::outlets::{free_inlet, send_to_all, settle_all, take_all_back};
 use crate::pool::Pool;
-use crate::records::Records;
 use crate::roll::Roll;
 use crate::subscriber::Seat;
 use lock_free::mpmc::container::OwnerId;
 use lock_free::mpmc::unique_index_set::Pass;
-use lock_free::mpmc::unique_index_set_enums::UniqueIndexSetAcquireFailure;
 use std::sync::Wait;
+use uses_slots::{Anything, Keeps, Slots, Writing};
 
-/// A slot that the publisher writes, until it publishes it or gives it up.
-#[derive(Debug, Drop)]
-pub struct Loan {
+/// A slot, which nobody reads, and a record for it that the publisher writes in plain memory, until it publishes it or gives it
+/// up. It stays in its thread. Where it is dropped, its record is dropped too, and its slot stays out until it is reclaimed.
+pub struct Loan<'a, X: Drop, K: Keeps<X> = Anything> {
     slot: u32,
+    /// The record, where it is written. It is one that was published before, or a spare as the publisher was given it.
+    pub value: X,
+    writing: Writing<'a, X, K>,
 }
 
-impl Loan {
+impl<'a, X: Drop, K: Keeps<X>> Drop for Loan<'a, X, K> {
+    fn drop(self) {
+        let Self {
+            slot: _,
+            value: _value,
+            writing: _writing,
+        } = self;
+    }
+}
+
+impl<'a, X: Drop, K: Keeps<X>> Loan<'a, X, K> {
     ghost use Rattle.uses_bus.specs.Ends.{loaned};
 
     /// The number of the slot.
@@ -37,13 +50,32 @@ impl Loan {
     {
         self.slot
     }
+
+    fn into_parts(self) -> (X, Writing<'a, X, K>)
+        ensures { result.0 ≡ self.entry.value }
+    {
+        let Self {
+            slot: _,
+            value,
+            writing,
+        } = self;
+        (value, writing)
+    }
 }
 
-/// The publisher, of which a bus has one at a time. It knows who holds each slot.
-#[derive(Drop)]
-pub struct Publisher<'a> {
+/// Keeps what lay in a slot, if anything did, to be written again.
+fn keep<X: Drop>(spares: &mut Vec<X>, old: Option<(u64, X)>) {
+    if let Some((_, value)) = old {
+        let _ = spares.push(value);
+    }
+}
+
+/// The publisher, of which a bus has one at a time. It knows who holds each slot, and keeps the records that are not in a slot.
+pub struct Publisher<'a, X: Drop, K: Keeps<X> = Anything> {
     pool: Pool<'a>,
-    records: &'a Records,
+    records: &'a Slots<X, K>,
+    spares: Vec<X>,
+    next: u64,
     outlets: Vec<Outlet<'a>>,
     roll: Roll<'a>,
     ghost sized: { slots_in records.now ≡ pools.slots_of pool },
@@ -51,24 +83,41 @@ pub struct Publisher<'a> {
     ghost shown: { AreShown roll (open_in outlets.items) },
 }
 
-impl<'a> Publisher<'a> {
-    ghost use Rattle.uses_bus.specs.Ends.{lanes_of, loaned, roll_of, set_in, share_in, slots_before, slots_of, table_of, words_before, words_of, IsSame};
+impl<'a, X: Drop, K: Keeps<X>> Drop for Publisher<'a, X, K> {
+    fn drop(self) {
+        let Self {
+            pool: _pool,
+            records: _,
+            spares: _spares,
+            next: _,
+            outlets: _outlets,
+            roll: _roll,
+        } = self;
+    }
+}
+
+impl<'a, X: Drop, K: Keeps<X>> Publisher<'a, X, K> {
+    ghost use Rattle.uses_bus.specs.Ends.{lanes_of, loaned, next_of, roll_of, set_in, share_in, slots_before, slots_of, table_of, IsSame, IsTakenFor};
 
     pub(crate) fn of(
         pool: Pool<'a>,
-        records: &'a Records,
+        records: &'a Slots<X, K>,
+        spares: Vec<X>,
         outlets: Vec<Outlet<'a>>,
         roll: Roll<'a>,
-    ) -> Publisher<'a>
+    ) -> Publisher<'a, X, K>
         requires sized { slots_in records.now ≡ pools.slots_of pool }
         requires placed { HaveTheirPlaces (holders_in outlets.items) }
         requires closed { NobodyTakesPart (open_in outlets.items) }
         ensures pool { result.pool ≡ pool.entry }
         ensures records { result.records ≡ records.entry }
+        ensures next { next_of result ≡ 0 }
     {
         Publisher {
             pool,
             records,
+            spares,
+            next: 0,
             outlets,
             roll,
         }
@@ -76,12 +125,12 @@ impl<'a> Publisher<'a> {
 
     /// A seat for a subscriber, who may take it in another thread. None where no place is free, or no further pass can be
     /// counted.
-    pub fn seat(&mut self) -> Option<Seat<'a>>
+    pub fn seat(&mut self) -> Option<Seat<'a, X, K>>
         ensures slots { IfSome result (λ s. slots_before s ≡ slots_of self.old) }
-        ensures words { IfSome result (λ s. words_before s ≡ words_of self.old) }
         ensures table { table_of self.new ≡ table_of self.old }
         ensures taking { open_in (lanes_of self.new) ≡ open_in (lanes_of self.old) }
         ensures same { IsSame self.old self.new }
+        ensures next { next_of self.new ≡ next_of self.old }
     {
         let member = self.roll.member()?;
         let (inlet, place) = free_inlet(&mut self.outlets)?;
@@ -99,6 +148,7 @@ impl<'a> Publisher<'a> {
         ensures all { KeepsAllOrNone (table_of self.old) (table_of self.new) }
         ensures loans { KeepsLoans (table_of self.old) (table_of self.new) }
         ensures same { IsSame self.old self.new }
+        ensures next { next_of self.new ≡ next_of self.old }
     {
         let has_changed = self.roll.update(rt);
         settle_all(
@@ -119,65 +169,119 @@ impl<'a> Publisher<'a> {
         ensures all { KeepsAllOrNone (table_of self.old) (table_of self.new) }
         ensures loans { KeepsLoans (table_of self.old) (table_of self.new) }
         ensures same { IsSame self.old self.new }
+        ensures next { next_of self.new ≡ next_of self.old }
     {
         self.roll.recover(rt, dead);
         self.update(rt);
     }
 
-    /// A free slot to write a record in, which the publisher alone holds. Refused is it where each slot is out.
-    pub fn loan(&mut self, rt: &impl Wait) -> Result<Loan, UniqueIndexSetAcquireFailure>
+    /// A free slot, which the publisher alone holds, with a record to write. Refused as follows:
+    ///
+    /// - where no record is left to write (`NoRecord`), and then nothing changes. With one record more than there are slots, who
+    ///   has one loan at a time always finds one; each further loan in hand needs one more (by no clause);
+    /// - where each slot is out, or the pool is locked (`NoSlot`), and then nothing changes;
+    /// - where somebody still reads the slot, who has it not: a reading that was forgotten, or a sample that another than its
+    ///   subscriber reads (`StillRead`). The slot stays out, so that the next loan gets another; `reclaim` tries it again.
+    ///
+    /// A load and at most one compare-exchange on the slot, and the steps of `acquire_raw_index`.
+    pub fn loan(&mut self, rt: &impl Wait) -> Result<Loan<'a, X, K>, LoanFailure>
         ensures within { IfOk result (λ l. loaned l < slots_of self.old) }
         ensures free { IfOk result
             (λ l. is_held (holders_at (table_of self.old) (loaned l)) ≡ false) }
         ensures changes { IfOk result
             (λ l. ChangesAt (loaned l) publisher (table_of self.old) (table_of self.new)) }
         ensures loaned { IfOk result (λ l. IsLoaned (table_of self.new) (loaned l)) }
-        ensures refused { OnErr result (table_of self.new ≡ table_of self.old) }
+        ensures refused { IfErr result (IsTakenFor (table_of self.old) (table_of self.new)) }
         ensures taking { open_in (lanes_of self.new) ≡ open_in (lanes_of self.old) }
         ensures same { IsSame self.old self.new }
+        ensures next { next_of self.new ≡ next_of self.old }
     {
-        let slot = self.pool.take(rt, Holder::publisher())?;
-        Ok(Loan { slot })
+        if self.spares.is_empty() {
+            return Err(LoanFailure::NoRecord);
+        }
+        let slot = match self.pool.take(rt, Holder::publisher()) {
+            Ok(slot) => slot,
+            Err(failure) => return Err(LoanFailure::NoSlot(failure)),
+        };
+        let Some(writing) = self.records.take(slot) else {
+            return Err(LoanFailure::StillRead(slot));
+        };
+        let Some(value) = self.spares.pop() else {
+            unreachable!()
+        };
+        Ok(Loan {
+            slot,
+            value,
+            writing,
+        })
     }
 
-    /// Writes a word of a record that is on loan: whether the record has one there.
-    pub fn write(&self, loan: &Loan, at: usize, word: u64) -> bool
-        ensures { loaned loan.now < slots_of self.now → (IsTrue result ↔ (at < words_of self.now)) }
-    {
-        self.records.write(loan.slot, at, word)
-    }
-
-    /// Publishes a record to each who takes part and has it not: how many gained it. Its slot is on loan no more, and nobody
-    /// gains another. The oldest record of one who is too slow comes back.
-    pub fn publish(&mut self, loan: Loan) -> usize
-        ensures served { EachLane (IsServed (loaned loan) (table_of self.old) (table_of self.new))
+    /// Publishes a record, which keeps its rule with the number that comes next, to each who takes part and has it not: how many
+    /// gained it. Its slot is on loan no more, and nobody gains another. The oldest record of one who is too slow comes back. The
+    /// numbers rise by one with each record, up to 2^64 - 1.
+    ///
+    /// One step on the slot, a push for each who takes part, and a release where nobody gained it.
+    pub fn publish(&mut self, loan: Loan<'a, X, K>) -> usize
+        requires fits { K.holds (next_of self.old) loan.value }
+        ensures served { EachLane (IsServed (loaned loan.entry) (table_of self.old) (table_of self.new))
             (lanes_of self.old) (lanes_of self.new) }
         ensures number { result
-            ≡ count_by (has_gained (loaned loan) (table_of self.old) (table_of self.new)) (lanes_of self.old) }
+            ≡ count_by (has_gained (loaned loan.entry) (table_of self.old) (table_of self.new)) (lanes_of self.old) }
         ensures rest { KeepsRest (lanes_of self.old) (table_of self.old) (table_of self.new) }
-        ensures gone { ¬ IsLoaned (table_of self.new) (loaned loan) }
-        ensures gains { GainsOnly (loaned loan) (table_of self.old) (table_of self.new) }
-        ensures loans { KeepsLoansBut (loaned loan) (table_of self.old) (table_of self.new) }
+        ensures gone { ¬ IsLoaned (table_of self.new) (loaned loan.entry) }
+        ensures gains { GainsOnly (loaned loan.entry) (table_of self.old) (table_of self.new) }
+        ensures loans { KeepsLoansBut (loaned loan.entry) (table_of self.old) (table_of self.new) }
         ensures nobody { result ≡ 0
-            → ChangesAt (loaned loan) publisher (table_of self.old) (table_of self.new) }
+            → ChangesAt (loaned loan.entry) publisher (table_of self.old) (table_of self.new) }
         ensures taking { open_in (lanes_of self.new) ≡ open_in (lanes_of self.old) }
         ensures same { IsSame self.old self.new }
+        ensures next { next_of self.old < 2 ^ 64 - 1 → next_of self.new ≡ next_of self.old + 1 }
     {
-        let Loan { slot } = loan;
-        let number = send_to_all(&mut self.outlets, &mut self.pool, slot);
+        let slot = loan.slot;
+        let (value, writing) = loan.into_parts();
+        let number = self.next;
+        keep(&mut self.spares, writing.put(number, value));
+        self.next = number.saturating_add(1);
+        let gained = send_to_all(&mut self.outlets, &mut self.pool, slot);
         self.pool.put_back(slot as u64, Holder::publisher());
-        number
+        gained
     }
 
-    /// Gives a loan up: nobody gets its record.
-    pub fn give_up(&mut self, loan: Loan)
-        ensures gone { ¬ IsLoaned (table_of self.new) (loaned loan) }
-        ensures changes { ChangesAt (loaned loan) publisher (table_of self.old) (table_of self.new) }
+    /// Gives a loan up: nobody gets its record, which is kept to be written again. One step on the slot, and a release.
+    pub fn give_up(&mut self, loan: Loan<'a, X, K>)
+        ensures gone { ¬ IsLoaned (table_of self.new) (loaned loan.entry) }
+        ensures changes { ChangesAt (loaned loan.entry) publisher (table_of self.old) (table_of self.new) }
         ensures taking { open_in (lanes_of self.new) ≡ open_in (lanes_of self.old) }
         ensures same { IsSame self.old self.new }
+        ensures next { next_of self.new ≡ next_of self.old }
     {
-        let Loan { slot } = loan;
+        let slot = loan.slot;
+        let (value, writing) = loan.into_parts();
+        let _ = self.spares.push(value);
+        keep(&mut self.spares, writing.empty());
         self.pool.put_back(slot as u64, Holder::publisher());
+    }
+
+    /// Tries a slot again that stayed out, since it was `StillRead` or its loan was dropped: true, and it is free, where nobody
+    /// reads it any more. False where the publisher does not hold it, where somebody reads it still, or (by no clause) where its
+    /// loan is in hand; then nothing changes. A load, at most one compare-exchange and one further step on the slot, and a release.
+    pub fn reclaim(&mut self, slot: u32) -> bool
+        ensures had { IsTrue result → IsLoaned (table_of self.old) slot }
+        ensures gone { IsTrue result → ¬ IsLoaned (table_of self.new) slot }
+        ensures changes { ChangesAt slot publisher (table_of self.old) (table_of self.new) }
+        ensures refused { IsFalse result → table_of self.new ≡ table_of self.old }
+        ensures taking { open_in (lanes_of self.new) ≡ open_in (lanes_of self.old) }
+        ensures same { IsSame self.old self.new }
+        ensures next { next_of self.new ≡ next_of self.old }
+    {
+        if !self.pool.has(slot, Holder::publisher()) {
+            return false;
+        }
+        let Some(writing) = self.records.take(slot) else {
+            return false;
+        };
+        keep(&mut self.spares, writing.empty());
+        self.pool.put_back(slot as u64, Holder::publisher())
     }
 
     /// Takes back what subscribers have given back: nobody gains a slot, and what is on loan stays so.
@@ -189,6 +293,7 @@ impl<'a> Publisher<'a> {
         ensures loans { KeepsLoans (table_of self.old) (table_of self.new) }
         ensures taking { open_in (lanes_of self.new) ≡ open_in (lanes_of self.old) }
         ensures same { IsSame self.old self.new }
+        ensures next { next_of self.new ≡ next_of self.old }
     {
         take_all_back(&mut self.outlets, &mut self.pool);
     }
@@ -208,21 +313,31 @@ impl<'a> Publisher<'a> {
         ensures most { result ≤ slots_of self.old }
         ensures whole { IsAll (share_in self.old) → result ≡ held_number (table_of self.old) }
         ensures same { IsSame self.old self.new }
+        ensures next { next_of self.new ≡ next_of self.old }
     {
         self.pool.borrowed()
     }
 
-    /// Hands the pass out.
-    pub fn finish(self) -> Pass
-        ensures set { set_of result ≡ set_in self.entry }
-        ensures share { share result ≡ share_in self.entry }
+    /// The number that the next record gets that is published: 0 for the first.
+    pub fn next_number(&self) -> u64
+        ensures { result ≡ next_of self.now }
+    {
+        self.next
+    }
+
+    /// Hands out the pass, and the records that are not in a slot, to be written by a later publisher.
+    pub fn finish(self) -> (Pass, Vec<X>)
+        ensures set { set_of result.0 ≡ set_in self.entry }
+        ensures share { share result.0 ≡ share_in self.entry }
     {
         let Publisher {
             pool,
             records: _,
+            spares,
+            next: _,
             outlets: _,
             roll: _,
         } = self;
-        pool.into_pass()
+        (pool.into_pass(), spares)
     }
 }

@@ -3,35 +3,42 @@ ghost use Rattle.std.specs.Prelude.{◌≡◌, None, IfOk, OnOk};
 ghost use Rattle.lock_free.specs.Shares.{all_shares};
 ghost use Rattle.lock_free.specs.Unique.Held.{HoldsNothing};
 ghost use Rattle.lock_free.specs.UniqueIndexSet.{capacity_of, made, set_refusal, share, IsPassOf};
-ghost use Rattle.uses_bus.specs.Records.{slots_in, words_in};
+ghost use Rattle.uses_slots.specs.Slots.{slots_in};
 
 use crate::error::BusError;
-use crate::records::Records;
 use lock_free::mpmc::unique_index_set::{Pass, UniqueIndexSet};
 use std::alloc::Global;
+use uses_slots::{Anything, Keeps, Slots};
 
-/// A set of free slots, and a record for each slot.
-#[derive(Drop)]
-pub struct Store {
+/// A set of free slots, and a place for a record in each slot.
+pub struct Store<X: Drop, K: Keeps<X> = Anything> {
     set: UniqueIndexSet,
-    records: Records,
+    records: Slots<X, K>,
     ghost sized: { slots_in records ≡ capacity_of set },
 }
 
-impl Store {
-    ghost use Rattle.uses_bus.specs.Stores.{records_in, set_in};
+impl<X: Drop, K: Keeps<X>> Drop for Store<X, K> {
+    fn drop(self) {
+        let Self {
+            set: _set,
+            records: _records,
+        } = self;
+    }
+}
 
-    /// So many slots, each free, with records of so many words; and the first pass of the set.
-    pub fn new(alloc: Global, slots: usize, words: usize) -> Result<(Store, Pass), BusError>
+impl<X: Drop, K: Keeps<X>> Store<X, K> {
+    ghost use Rattle.uses_bus.specs.Stores.{set_in};
+
+    /// So many slots, each free and with no record; and the first pass of the set.
+    pub fn new(alloc: Global, slots: usize) -> Result<(Store<X, K>, Pass), BusError>
         ensures pass { IfOk result (λ r. IsPassOf (set_in r.0) r.1) }
         ensures nothing { IfOk result (λ r. HoldsNothing (made r.1)) }
         ensures share { IfOk result (λ r. share r.1 ≡ all_shares) }
         ensures slots { IfOk result (λ r. capacity_of (set_in r.0) ≡ slots) }
-        ensures words { IfOk result (λ r. words_in (records_in r.0) ≡ words) }
         ensures admitted { OnOk result (set_refusal slots ≡ None) }
     {
         let (set, pass) = UniqueIndexSet::new(alloc, slots)?;
-        match Records::new(alloc, set.capacity(), words) {
+        match Slots::new(alloc, set.capacity()) {
             Ok(records) => Ok((Store { set, records }, pass)),
             Err(_) => Err(BusError::NoMemory),
         }
@@ -44,9 +51,9 @@ impl Store {
         &self.set
     }
 
-    /// The records, of which there are as many as slots.
-    pub fn records(&self) -> &Records
-        ensures records { result.now ≡ records_in self.now }
+    /// The places of the records, of which there are as many as slots.
+    pub fn records(&self) -> &Slots<X, K>
+        ensures records { result.now ≡ self.now.records }
         ensures sized { slots_in result.now ≡ capacity_of (set_in self.now) }
     {
         &self.records

@@ -1,38 +1,47 @@
 //! The end of a bus that receives records and reads them.
-ghost use Rattle.std.specs.Prelude.{◌≡◌, ◌<◌, ◌↔◌, IsTrue, IsFalse, IsSome, IfOk, IfErr, IfSome, IfNone};
+ghost use Rattle.std.specs.Prelude.{◌≡◌, ◌<◌, IsTrue, IsFalse, IfOk, IfErr, IfSome, IfNone};
 ghost use Rattle.lock_free.specs.Container.Told.{WasNotAdded};
 ghost use Rattle.lock_free.specs.Queues.Item.TheVariants.{Index};
 ghost use Rattle.lock_free.specs.Queues.Told.{HasPublished, HasTakenFirst};
-ghost use Rattle.uses_bus.specs.Records.{slots_in, words_in};
+ghost use Rattle.uses_slots.specs.Slots.{slots_in};
 
 use crate::lane::Inlet;
-use crate::records::Records;
 use lock_free::mpmc::container::{
     ContainerAddFailure, ContainerHandle, ContainerRemoveError, Handle, OwnerId,
 };
 use lock_free::mpmc::unique_index_set_enums::ReleaseMode;
 use std::sync::Wait;
+use uses_slots::{Anything, Keeps, Reading, Slots};
 
 /// A place at a bus, which a subscriber takes.
-#[derive(Drop)]
-pub struct Seat<'a> {
+pub struct Seat<'a, X: Drop, K: Keeps<X> = Anything> {
     inlet: Inlet<'a>,
-    records: &'a Records,
+    records: &'a Slots<X, K>,
     members: Handle<'a, u64>,
     place: u64,
 }
 
-impl<'a> Seat<'a> {
-    ghost use Rattle.uses_bus.specs.Ends.{code_before, members_before, place_before, slots_at, slots_before, words_at, words_before, IsLetIn};
+impl<'a, X: Drop, K: Keeps<X>> Drop for Seat<'a, X, K> {
+    fn drop(self) {
+        let Self {
+            inlet: _inlet,
+            records: _,
+            members: _members,
+            place: _,
+        } = self;
+    }
+}
+
+impl<'a, X: Drop, K: Keeps<X>> Seat<'a, X, K> {
+    ghost use Rattle.uses_bus.specs.Ends.{code_before, members_before, place_before, slots_at, slots_before, IsLetIn};
 
     pub(crate) fn of(
         inlet: Inlet<'a>,
-        records: &'a Records,
+        records: &'a Slots<X, K>,
         members: Handle<'a, u64>,
         place: u64,
-    ) -> Seat<'a>
+    ) -> Seat<'a, X, K>
         ensures slots { slots_before result ≡ slots_in records.now }
-        ensures words { words_before result ≡ words_in records.now }
         ensures place { place_before result ≡ place }
     {
         Seat {
@@ -48,12 +57,10 @@ impl<'a> Seat<'a> {
         self,
         rt: &impl Wait,
         owner: OwnerId,
-    ) -> Result<Subscriber<'a>, (ContainerAddFailure, Seat<'a>)>
+    ) -> Result<Subscriber<'a, X, K>, (ContainerAddFailure, Seat<'a, X, K>)>
         ensures joined { IfOk result (IsLetIn owner self.entry) }
         ensures slots { IfOk result (λ s. slots_at s ≡ slots_before self.entry) }
-        ensures words { IfOk result (λ s. words_at s ≡ words_before self.entry) }
-        ensures back { IfErr result (λ e. (slots_before e.1 ≡ slots_before self.entry)
-            × (words_before e.1 ≡ words_before self.entry)) }
+        ensures back { IfErr result (λ e. slots_before e.1 ≡ slots_before self.entry) }
         ensures place { IfErr result (λ e. place_before e.1 ≡ place_before self.entry) }
         ensures refused { IfErr result (λ e. WasNotAdded (code_before self.entry) (place_before self.entry) owner e.0
             (members_before self.entry) (members_before e.1)) }
@@ -84,7 +91,7 @@ impl<'a> Seat<'a> {
     }
 }
 
-/// A slot whose record a subscriber reads, until it gives it back.
+/// A slot whose record a subscriber may read, until it gives it back. It is a number, and may be sent to another thread.
 #[derive(Debug, Drop)]
 pub struct Sample {
     slot: u32,
@@ -102,16 +109,26 @@ impl Sample {
 }
 
 /// A subscriber. Where it is dropped it is dead: what it had stays out until it is recovered.
-#[derive(Drop)]
-pub struct Subscriber<'a> {
+pub struct Subscriber<'a, X: Drop, K: Keeps<X> = Anything> {
     inlet: Inlet<'a>,
-    records: &'a Records,
+    records: &'a Slots<X, K>,
     members: Handle<'a, u64>,
     record: ContainerHandle,
 }
 
-impl<'a> Subscriber<'a> {
-    ghost use Rattle.uses_bus.specs.Ends.{received, receives_view, returns_view, slots_at, words_at, ReceivedNone, TookNoneBack};
+impl<'a, X: Drop, K: Keeps<X>> Drop for Subscriber<'a, X, K> {
+    fn drop(self) {
+        let Self {
+            inlet: _inlet,
+            records: _,
+            members: _members,
+            record: _record,
+        } = self;
+    }
+}
+
+impl<'a, X: Drop, K: Keeps<X>> Subscriber<'a, X, K> {
+    ghost use Rattle.uses_bus.specs.Ends.{received, receives_view, returns_view, slots_at, ReceivedNone, TookNoneBack};
 
     /// The oldest record that waits. None where none does, or where what came is no slot, and is gone.
     pub fn receive(&mut self, rt: &impl Wait) -> Option<Sample>
@@ -119,10 +136,10 @@ impl<'a> Subscriber<'a> {
         ensures oldest { IfSome result
             (λ s. HasTakenFirst (Index (received s)) (receives_view self.old) (receives_view self.new)) }
         ensures none { IfNone result (ReceivedNone self.old self.new) }
-        ensures same { (slots_at self.new ≡ slots_at self.old) × (words_at self.new ≡ words_at self.old) }
+        ensures same { slots_at self.new ≡ slots_at self.old }
     {
         let number = self.inlet.receives.pop(rt)?;
-        if number < self.records.slots() as u64 {
+        if number < self.records.number() as u64 {
             Some(Sample {
                 slot: number as u32,
             })
@@ -131,12 +148,14 @@ impl<'a> Subscriber<'a> {
         }
     }
 
-    /// Reads a word of a record that was received. None where the record has none there.
-    pub fn read(&self, sample: &Sample, at: usize) -> Option<u64>
-        ensures { received sample.now < slots_at self.now
-            → (IsSome result ↔ (at < words_at self.now)) }
-    {
-        self.records.read(sample.slot, at)
+    /// Reads a record that was received, where it lies: its number, and the value that keeps its rule with it. As long as it is
+    /// read, this subscriber receives and gives back nothing and is not dropped, since the reading borrows it. None where the slot
+    /// is empty or written, or 2^30 - 1 read it already, which of a sample in hand here only tests rule out.
+    ///
+    /// A load and a compare-exchange, again for each time that another subscriber comes to the slot or leaves it in between; and
+    /// a subtraction as the reading is dropped. A reading that is forgotten keeps its slot for good (`StillRead`).
+    pub fn read(&self, sample: &Sample) -> Option<Reading<'_, X, K>> {
+        self.records.read(sample.slot)
     }
 
     /// Gives a record back: true, since there is room for each slot (by no clause); false only where the queue is full, or at
@@ -145,7 +164,7 @@ impl<'a> Subscriber<'a> {
         ensures given { IsTrue result
             → HasPublished (Index (received sample)) (returns_view self.old) (returns_view self.new) }
         ensures full { IsFalse result → TookNoneBack (received sample) self.old self.new }
-        ensures same { (slots_at self.new ≡ slots_at self.old) × (words_at self.new ≡ words_at self.old) }
+        ensures same { slots_at self.new ≡ slots_at self.old }
     {
         let Sample { slot } = sample;
         self.inlet.returns.push(slot as u64)

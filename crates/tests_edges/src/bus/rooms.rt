@@ -1,9 +1,11 @@
 //! A bus with places for two, and the steps of a row, each with what it has to come to.
+use crate::bus::words::{Words, spares};
 use lock_free::mpmc::container::OwnerId;
 use std::alloc::Global;
+use std::mem::forget;
 use std::sync::Wait;
 use uses_bus::bus::{Bus, Sizes};
-use uses_bus::error::BusError;
+use uses_bus::error::{BusError, LoanFailure};
 use uses_bus::publisher::{Loan, Publisher};
 use uses_bus::subscriber::{Sample, Seat, Subscriber};
 
@@ -38,13 +40,24 @@ pub enum Step {
     Recovers(u64),
     Collects,
     Updates,
+    /// The loan that was kept is dropped.
+    DropsLoan,
+    /// Whether this slot is free again, which stayed out.
+    Reclaims(u32, bool),
+    /// One receives a record, forgets the reading of it, and gives it back.
+    Forgets(Who),
+    /// A loan is refused, since this slot is still read.
+    IsStillRead(u32),
+    /// The next record has this number.
+    IsNext(u64),
     /// So many slots are out.
     Out(usize),
 }
 
+pub const WORDS: usize = 4;
+
 pub const SIZES: Sizes = Sizes {
     slots: 8,
-    words: 4,
     subscribers: 2,
     queue: 2,
 };
@@ -52,49 +65,48 @@ pub const SIZES: Sizes = Sizes {
 /// Those who take part, and a loan that is kept.
 #[derive(Drop)]
 pub struct Room<'a> {
-    publisher: Publisher<'a>,
-    one: Option<Subscriber<'a>>,
-    other: Option<Subscriber<'a>>,
-    loan: Option<Loan>,
+    publisher: Publisher<'a, Words>,
+    one: Option<Subscriber<'a, Words>>,
+    other: Option<Subscriber<'a, Words>>,
+    loan: Option<Loan<'a, Words>>,
 }
 
 /// The seat that one takes as this owner.
-fn sits<'a>(rt: &impl Wait, seat: Seat<'a>, number: u64) -> Option<Subscriber<'a>> {
+fn sits<'a>(rt: &impl Wait, seat: Seat<'a, Words>, number: u64) -> Option<Subscriber<'a, Words>> {
     let owner = OwnerId::new(number).ok()?;
     seat.join(rt, owner).ok()
 }
 
-/// Writes a record of this number in a slot on loan: whether it has a place for each word.
-fn writes(publisher: &Publisher<'_>, loan: &Loan, number: u64) -> bool {
-    for at in 0..SIZES.words {
-        if !publisher.write(loan, at, number.wrapping_add(at as u64)) {
-            return false;
-        }
+/// Writes a record of this number on loan.
+fn writes(loan: &mut Loan<'_, Words>, number: u64) {
+    for (at, word) in loan.value.all.iter_mut().enumerate() {
+        *word = number.wrapping_add(at as u64);
     }
-    true
 }
 
 /// Publishes a record of this number: to how many.
-fn publishes(rt: &impl Wait, publisher: &mut Publisher<'_>, number: u64) -> Option<usize> {
-    let loan = publisher.loan(rt).ok()?;
-    if !writes(publisher, &loan, number) {
-        return None;
-    }
+fn publishes(rt: &impl Wait, publisher: &mut Publisher<'_, Words>, number: u64) -> Option<usize> {
+    let mut loan = publisher.loan(rt).ok()?;
+    writes(&mut loan, number);
     Some(publisher.publish(loan))
 }
 
 /// Whether a record is of this number, and has no more words.
-fn is_of(subscriber: &Subscriber<'_>, sample: &Sample, number: u64) -> bool {
-    for at in 0..SIZES.words {
-        if subscriber.read(sample, at) != Some(number.wrapping_add(at as u64)) {
+fn is_of(subscriber: &Subscriber<'_, Words>, sample: &Sample, number: u64) -> bool {
+    let Some(reading) = subscriber.read(sample) else {
+        return false;
+    };
+    let words = reading.get();
+    for at in 0..WORDS {
+        if words.all.get(at).copied() != Some(number.wrapping_add(at as u64)) {
             return false;
         }
     }
-    subscriber.read(sample, SIZES.words).is_none()
+    words.all.len() == WORDS
 }
 
 /// Whether the oldest record that waits is of this number. It is given back.
-fn reads(rt: &impl Wait, subscriber: &mut Subscriber<'_>, number: u64) -> bool {
+fn reads(rt: &impl Wait, subscriber: &mut Subscriber<'_, Words>, number: u64) -> bool {
     let Some(sample) = subscriber.receive(rt) else {
         return false;
     };
@@ -102,7 +114,7 @@ fn reads(rt: &impl Wait, subscriber: &mut Subscriber<'_>, number: u64) -> bool {
 }
 
 impl<'a> Room<'a> {
-    fn subscriber(&mut self, who: Who) -> &mut Option<Subscriber<'a>> {
+    fn subscriber(&mut self, who: Who) -> &mut Option<Subscriber<'a, Words>> {
         match who {
             Who::One => &mut self.one,
             Who::Other => &mut self.other,
@@ -133,6 +145,14 @@ impl<'a> Room<'a> {
         }
     }
 
+    /// Whether no slot is loaned, since this one is still read.
+    fn is_still_read(&mut self, rt: &impl Wait, slot: u32) -> bool {
+        match self.publisher.loan(rt) {
+            Err(LoanFailure::StillRead(found)) => found == slot,
+            _ => false,
+        }
+    }
+
     fn gives_up(&mut self) -> bool {
         match self.loan.take() {
             Some(loan) => {
@@ -156,6 +176,21 @@ impl<'a> Room<'a> {
             Some(subscriber) => subscriber.receive(rt).is_some(),
             None => false,
         }
+    }
+
+    /// Whether a record waits, of which the reading is forgotten.
+    fn forgets(&mut self, rt: &impl Wait, who: Who) -> bool {
+        let Some(subscriber) = self.subscriber(who) else {
+            return false;
+        };
+        let Some(sample) = subscriber.receive(rt) else {
+            return false;
+        };
+        let Some(reading) = subscriber.read(&sample) else {
+            return false;
+        };
+        forget(reading);
+        subscriber.give_back(sample)
     }
 
     fn leaves(&mut self, rt: &impl Wait, who: Who) -> bool {
@@ -182,6 +217,7 @@ impl<'a> Room<'a> {
             Step::Reads(who, number) => self.reads(rt, who, number),
             Step::FindsNone(who) => !self.keeps(rt, who),
             Step::Keeps(who) => self.keeps(rt, who),
+            Step::Forgets(who) => self.forgets(rt, who),
             Step::Leaves(who) => self.leaves(rt, who),
             Step::Dies(who) => self.subscriber(who).take().is_some(),
             _ => false,
@@ -196,6 +232,10 @@ impl<'a> Room<'a> {
                 == Some(reached),
             Step::Loans(some) => self.loans(rt) == some,
             Step::GivesUp => self.gives_up(),
+            Step::DropsLoan => self.loan.take().is_some(),
+            Step::Reclaims(slot, free) => self.publisher.reclaim(slot) == free,
+            Step::IsStillRead(slot) => self.is_still_read(rt, slot),
+            Step::IsNext(number) => self.publisher.next_number() == number,
             Step::Recovers(number) => self.recovers(rt, number),
             Step::Collects => {
                 self.publisher.collect();
@@ -237,7 +277,11 @@ pub fn first_wrong(
     rounds: usize,
 ) -> Result<Option<usize>, BusError> {
     let (mut bus, pass) = Bus::new(alloc, SIZES)?;
-    let publisher = bus.publisher(rt, alloc, pass)?;
+    let spares = match spares(alloc, 2 * SIZES.slots, WORDS) {
+        Ok(spares) => spares,
+        Err(_) => return Err(BusError::NoMemory),
+    };
+    let publisher = bus.publisher(rt, alloc, pass, spares)?;
     let mut room = Room {
         publisher,
         one: None,

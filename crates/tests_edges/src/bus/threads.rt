@@ -1,5 +1,8 @@
 //! A publisher and three subscribers side by side: one is slow, one dies with slots in hand, and one joins late.
+ghost use Rattle.std.specs.Prelude.{◌≡◌, IfSome};
+
 use crate::bus::limit::{ENOUGH, Limit, SECONDS};
+use crate::bus::words::{OwnNumber, Words, spares, text_of, writes_text};
 use lock_free::mpmc::container::OwnerId;
 use std::alloc::Global;
 use std::sync::Wait;
@@ -11,6 +14,7 @@ use std::time::Clock;
 use uses_bus::bus::{Bus, Sizes};
 use uses_bus::error::BusError;
 use uses_bus::news::{News, Notifier};
+use uses_bus::numbers::Sequence;
 use uses_bus::publisher::{Loan, Publisher};
 use uses_bus::subscriber::{Sample, Seat, Subscriber};
 
@@ -30,7 +34,6 @@ const WORDS: usize = 16;
 
 const SIZES: Sizes = Sizes {
     slots: 24,
-    words: WORDS,
     subscribers: 3,
     queue: 4,
 };
@@ -60,7 +63,10 @@ fn waits_for(rt: &impl Clock, told: &AtomicU64, least: u64) -> bool {
 }
 
 /// A free slot, as soon as there is one. None at the limit.
-fn next_loan(rt: &(impl Wait + Clock), publisher: &mut Publisher<'_>) -> Option<Loan> {
+fn next_loan<'a>(
+    rt: &(impl Wait + Clock),
+    publisher: &mut Publisher<'a, Words, OwnNumber>,
+) -> Option<Loan<'a, Words, OwnNumber>> {
     let mut limit = Limit::new(rt, SECONDS);
     for _ in 0..u64::MAX {
         if let Ok(loan) = publisher.loan(rt) {
@@ -79,20 +85,31 @@ fn word_of(number: u64, at: usize) -> u64 {
     number.wrapping_mul(WORDS as u64).wrapping_add(at as u64)
 }
 
-/// Writes a record of this number: whether it has a place for each word.
-fn writes(publisher: &Publisher<'_>, loan: &Loan, number: u64) -> bool {
-    for at in 0..WORDS {
-        if !publisher.write(loan, at, word_of(number, at)) {
-            return false;
-        }
+/// Writes the words of the record of this number.
+fn writes(words: &mut [u64], number: u64) {
+    for (at, word) in words.iter_mut().enumerate() {
+        *word = word_of(number, at);
     }
-    true
+}
+
+/// Publishes the record of the next number on a loan: false where that is another, or where there is no memory.
+fn publishes_next<'a>(
+    publisher: &mut Publisher<'a, Words, OwnNumber>,
+    mut loan: Loan<'a, Words, OwnNumber>,
+    number: u64,
+) -> bool {
+    writes(&mut loan.value.all, number);
+    let is_written = writes_text(&mut loan.value.text, number);
+    let next = publisher.next_number();
+    loan.value.number = next;
+    publisher.publish(loan);
+    is_written && next == number
 }
 
 /// Publishes a record of this number, tells of it, and takes back what has been given back.
 fn publish(
     rt: &(impl Wait + Clock),
-    publisher: &mut Publisher<'_>,
+    publisher: &mut Publisher<'_, Words, OwnNumber>,
     notifier: &mut Notifier<'_>,
     number: u64,
 ) -> bool {
@@ -100,10 +117,9 @@ fn publish(
     let Some(loan) = next_loan(rt, publisher) else {
         return false;
     };
-    if !writes(publisher, &loan, number) {
+    if !publishes_next(publisher, loan, number) {
         return false;
     }
-    publisher.publish(loan);
     notifier.notify(rt, 0);
     publisher.collect();
     true
@@ -112,7 +128,7 @@ fn publish(
 /// Publishes these records, or as many as it can until it is enough: how many.
 fn publish_all(
     rt: &(impl Wait + Clock),
-    publisher: &mut Publisher<'_>,
+    publisher: &mut Publisher<'_, Words, OwnNumber>,
     notifier: &mut Notifier<'_>,
     first: u64,
     end: u64,
@@ -143,7 +159,7 @@ struct Published {
 /// Publishes all records, takes out the one who has died, and waits until the others have left.
 fn publishes(
     rt: &(impl Wait + Clock),
-    publisher: &mut Publisher<'_>,
+    publisher: &mut Publisher<'_, Words, OwnNumber>,
     notifier: &mut Notifier<'_>,
     dead: OwnerId,
     shared: &Shared,
@@ -170,21 +186,39 @@ fn publishes(
     })
 }
 
-/// The number of a record, by each of its words. None where they tell of different ones.
-fn number_of(subscriber: &Subscriber<'_>, sample: &Sample) -> Option<u64> {
-    let number = subscriber.read(sample, 0)? / WORDS as u64;
+/// Whether each word of a record, and its text, is that of its number.
+fn is_whole(words: &Words) -> bool {
     for at in 0..WORDS {
-        if subscriber.read(sample, at)? != word_of(number, at) {
-            return None;
+        if words.all.get(at).copied() != Some(word_of(words.number, at)) {
+            return false;
         }
     }
+    words.text.as_str() == text_of(words.number)
+}
+
+/// The number that a record was published with, and the one that stands in it, which is the same by the rule. None where the
+/// record is not whole.
+fn numbers_of(subscriber: &Subscriber<'_, Words, OwnNumber>, sample: &Sample) -> Option<(u64, u64)>
+    ensures { IfSome result (λ r. r.0 ≡ r.1) }
+{
+    let reading = subscriber.read(sample)?;
+    let words = reading.get();
+    if !is_whole(words) {
+        return None;
+    }
+    Some((reading.number(), words.number))
+}
+
+/// The number of a record. None where it is not whole.
+fn number_of(subscriber: &Subscriber<'_, Words, OwnNumber>, sample: &Sample) -> Option<u64> {
+    let (number, _) = numbers_of(subscriber, sample)?;
     Some(number)
 }
 
 /// Receives what comes next. None where it is over and nothing comes any more, and at the limit.
 fn next(
     rt: &(impl Wait + Clock),
-    subscriber: &mut Subscriber<'_>,
+    subscriber: &mut Subscriber<'_, Words, OwnNumber>,
     shared: &Shared,
 ) -> Option<Sample> {
     let mut limit = Limit::new(rt, SECONDS);
@@ -201,7 +235,11 @@ fn next(
 }
 
 /// The number of a record, which is read so often more. None where it was torn, or has changed.
-fn number_still(subscriber: &Subscriber<'_>, sample: &Sample, looks: u64) -> Option<u64> {
+fn number_still(
+    subscriber: &Subscriber<'_, Words, OwnNumber>,
+    sample: &Sample,
+    looks: u64,
+) -> Option<u64> {
     let found = number_of(subscriber, sample)?;
     for _ in 0..looks {
         if number_of(subscriber, sample)? != found {
@@ -215,20 +253,20 @@ fn number_still(subscriber: &Subscriber<'_>, sample: &Sample, looks: u64) -> Opt
 /// did not come in order.
 fn receives(
     rt: &(impl Wait + Clock),
-    subscriber: &mut Subscriber<'_>,
+    subscriber: &mut Subscriber<'_, Words, OwnNumber>,
     looks: u64,
     shared: &Shared,
 ) -> Option<u64> {
-    let (mut number, mut least) = (0u64, 0u64);
+    let (mut number, mut numbers) = (0u64, Sequence::from(0));
     for _ in 0..u64::MAX {
         let Some(sample) = next(rt, subscriber, shared) else {
             return Some(number);
         };
         let found = number_still(subscriber, &sample, looks)?;
-        if found < least || !subscriber.give_back(sample) {
+        numbers.follow(found)?;
+        if !subscriber.give_back(sample) {
             return None;
         }
-        least = found.wrapping_add(1);
         number = number.wrapping_add(1);
     }
     None
@@ -237,7 +275,7 @@ fn receives(
 /// Joins once so many records have been published, receives, and leaves: how many records came.
 fn subscribes(
     rt: &(impl Wait + Clock),
-    seat: Seat<'_>,
+    seat: Seat<'_, Words, OwnNumber>,
     owner: OwnerId,
     joins_at: u64,
     looks: u64,
@@ -255,7 +293,12 @@ fn subscribes(
 }
 
 /// Joins, and dies with so many records in hand.
-fn dies(rt: &(impl Wait + Clock), seat: Seat<'_>, owner: OwnerId, shared: &Shared) -> Option<u64> {
+fn dies(
+    rt: &(impl Wait + Clock),
+    seat: Seat<'_, Words, OwnNumber>,
+    owner: OwnerId,
+    shared: &Shared,
+) -> Option<u64> {
     let mut subscriber = seat.join(rt, owner).ok()?;
     shared.joined.fetch_add(1, Ordering::SeqCst);
     for _ in 0..KEPT {
@@ -277,9 +320,13 @@ struct Came {
 /// Runs the four threads.
 fn run<R: Threads + Wait + Clock + Sync>(
     rt: &R,
-    publisher: &mut Publisher<'_>,
+    publisher: &mut Publisher<'_, Words, OwnNumber>,
     notifier: &mut Notifier<'_>,
-    seats: (Seat<'_>, Seat<'_>, Seat<'_>),
+    seats: (
+        Seat<'_, Words, OwnNumber>,
+        Seat<'_, Words, OwnNumber>,
+        Seat<'_, Words, OwnNumber>,
+    ),
     owners: [OwnerId; 3],
     shared: &Shared,
 ) -> Option<Came> {
@@ -309,7 +356,7 @@ fn run<R: Threads + Wait + Clock + Sync>(
 /// The same with three seats of this publisher.
 fn run_with<R: Threads + Wait + Clock + Sync>(
     rt: &R,
-    publisher: &mut Publisher<'_>,
+    publisher: &mut Publisher<'_, Words, OwnNumber>,
     notifier: &mut Notifier<'_>,
     owners: [OwnerId; 3],
 ) -> Option<Came> {
@@ -327,7 +374,7 @@ fn run_with<R: Threads + Wait + Clock + Sync>(
 /// What came, and whether the topic was told of in the end.
 fn run_and_hear<R: Threads + Wait + Clock + Sync>(
     rt: &R,
-    publisher: &mut Publisher<'_>,
+    publisher: &mut Publisher<'_, Words, OwnNumber>,
     news: &mut News,
     owners: [OwnerId; 3],
 ) -> Option<(Came, bool)> {
@@ -343,7 +390,11 @@ fn run_anew<R: Threads + Wait + Clock + Sync>(
     owners: [OwnerId; 3],
 ) -> Result<Option<(Came, bool)>, BusError> {
     let (mut bus, pass) = Bus::new(alloc, SIZES)?;
-    let mut publisher = bus.publisher(rt, alloc, pass)?;
+    let spares = match spares(alloc, SIZES.slots + 1, WORDS) {
+        Ok(spares) => spares,
+        Err(_) => return Err(BusError::NoMemory),
+    };
+    let mut publisher = bus.publisher(rt, alloc, pass, spares)?;
     let mut news = News::new(alloc, 1)?;
     Ok(run_and_hear(rt, &mut publisher, &mut news, owners))
 }

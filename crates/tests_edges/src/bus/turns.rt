@@ -1,14 +1,16 @@
 //! Turns in one thread.
 use crate::bus::rooms::Step::{
-    Collects, Dies, FindsNone, GivesUp, HasSeat, Joins, Keeps, Leaves, Loans, Out, Publishes,
-    Reads, Recovers, Updates,
+    Collects, Dies, DropsLoan, FindsNone, Forgets, GivesUp, HasSeat, IsNext, IsStillRead, Joins,
+    Keeps, Leaves, Loans, Out, Publishes, Reads, Reclaims, Recovers, Updates,
 };
 use crate::bus::rooms::Who::{One, Other};
 use crate::bus::rooms::{SIZES, Step, first_wrong};
+use crate::bus::words::Words;
 use std::sync::Wait;
 use std::test::Fail;
 use uses_bus::bus::{Bus, Sizes};
 use uses_bus::news::{Listener, News, Notifier};
+use uses_slots::Anything;
 
 /// Both get each record, in order; and none comes back before both have given it back.
 const BOTH: [Step; 9] = [
@@ -124,13 +126,40 @@ const SEATS: [Step; 6] = [
     HasSeat(true),
 ];
 
+/// A reading that is forgotten keeps its slot, of which the next loan is told, and the others go on.
+const FORGOTTEN: [Step; 10] = [
+    Publishes(0, 1),
+    Forgets(One),
+    Collects,
+    Out(0),
+    IsStillRead(0),
+    Reclaims(0, false),
+    Out(1),
+    Publishes(1, 1),
+    Reads(One, 1),
+    IsNext(2),
+];
+
+/// The slot of a loan that was dropped is free once it is reclaimed, and that of a loan in hand is not.
+const DROPPED: [Step; 9] = [
+    Loans(true),
+    Reclaims(0, false),
+    DropsLoan,
+    Out(1),
+    Reclaims(1, false),
+    Reclaims(0, true),
+    Out(0),
+    Publishes(0, 0),
+    IsNext(1),
+];
+
 const JOIN: [Step; 3] = [Joins(One, 1), Joins(Other, 2), HasSeat(false)];
 
 const JOIN_ONE: [Step; 1] = [Joins(One, 1)];
 
 #[test]
 fn rows(rt: HostRuntime) -> Result<(), Fail> {
-    let rows: [(&str, &[Step], &[Step], usize); 7] = [
+    let rows: [(&str, &[Step], &[Step], usize); 9] = [
         ("BOTH", &JOIN, &BOTH, 100),
         ("SLOW", &JOIN_ONE, &SLOW, 3),
         ("LOANS", &[], &LOANS, 1),
@@ -138,6 +167,8 @@ fn rows(rt: HostRuntime) -> Result<(), Fail> {
         ("DEAD", &JOIN, &DEAD, 1),
         ("GIVEN", &JOIN, &GIVEN, 1),
         ("SEATS", &[], &SEATS, 1),
+        ("FORGOTTEN", &JOIN_ONE, &FORGOTTEN, 1),
+        ("DROPPED", &[], &DROPPED, 1),
     ];
     for (name, begin, steps, rounds) in &rows {
         let wrong = first_wrong(&rt, rt.alloc(), begin, steps, *rounds)?;
@@ -146,7 +177,7 @@ fn rows(rt: HostRuntime) -> Result<(), Fail> {
     Ok(())
 }
 
-const REFUSED: [Sizes; 6] = [
+const REFUSED: [Sizes; 5] = [
     Sizes { slots: 0, ..SIZES },
     Sizes {
         slots: 1 << 24,
@@ -164,23 +195,15 @@ const REFUSED: [Sizes; 6] = [
         queue: 1 << 32,
         ..SIZES
     },
-    Sizes {
-        words: usize::MAX,
-        ..SIZES
-    },
 ];
 
 #[test]
 fn a_bus_has_sizes(rt: HostRuntime) -> Result<(), Fail> {
     for sizes in &REFUSED {
-        assert!(rt; Bus::new(rt.alloc(), *sizes).is_err());
+        assert!(rt; Bus::<Words, Anything>::new(rt.alloc(), *sizes).is_err());
     }
-    let least = Sizes {
-        words: 0,
-        queue: 0,
-        ..SIZES
-    };
-    Bus::new(rt.alloc(), least)?;
+    let least = Sizes { queue: 0, ..SIZES };
+    Bus::<Words, Anything>::new(rt.alloc(), least)?;
     Ok(())
 }
 

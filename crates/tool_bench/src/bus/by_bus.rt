@@ -1,41 +1,62 @@
 //! Records that are written and read in the slots of a bus.
 
+use super::by_copy::blank;
 use super::passing::{Ends, LOOKS, Reader, WAITING, Writer, pause, word_of};
 use lock_free::mpmc::container::OwnerId;
+use std::alloc::{AllocError, Global};
 use std::sync::Wait;
 use uses_bus::bus::Sizes;
 use uses_bus::publisher::{Loan, Publisher};
-use uses_bus::subscriber::Subscriber;
+use uses_bus::subscriber::{Sample, Subscriber};
 
-/// The sizes of a bus of one subscriber, for records of so many words. A queue is as long as the slots are many, so that
-/// no record is lost.
-pub fn sizes_of(words: usize) -> Sizes {
+/// The sizes of a bus of so many subscribers. A queue is as long as the slots are many, so that no record is lost.
+pub fn sizes_of(subscribers: usize) -> Sizes {
     Sizes {
         slots: WAITING,
-        words,
-        subscribers: 1,
+        subscribers,
         queue: WAITING,
     }
 }
 
-/// Who publishes records of so many words.
-#[derive(Drop)]
-pub struct Publishes<'a> {
-    publisher: Publisher<'a>,
-    words: usize,
+/// Records to write, each of so many words, one more than there are slots.
+pub fn spares(alloc: Global, words: usize) -> Result<Vec<Vec<u64>>, AllocError> {
+    let mut spares = Vec::with_capacity(alloc, WAITING + 1)?;
+    for _ in 0..WAITING + 1 {
+        spares.push(blank(alloc, words)?)?;
+    }
+    Ok(spares)
 }
 
-/// Who receives them.
-#[derive(Drop)]
+/// Who publishes records.
+pub struct Publishes<'a> {
+    publisher: Publisher<'a, Vec<u64>>,
+}
+
+impl<'a> Drop for Publishes<'a> {
+    fn drop(self) {
+        let Self {
+            publisher: _publisher,
+        } = self;
+    }
+}
+
+/// Those who receive them.
 pub struct Receives<'a> {
-    subscriber: Subscriber<'a>,
-    words: usize,
+    subscribers: Vec<Subscriber<'a, Vec<u64>>>,
+}
+
+impl<'a> Drop for Receives<'a> {
+    fn drop(self) {
+        let Self {
+            subscribers: _subscribers,
+        } = self;
+    }
 }
 
 impl<'a> Publishes<'a> {
     /// A slot, as soon as one is free.
     #[inline(always)]
-    fn next_loan<R: Wait>(&mut self, rt: &R) -> Option<Loan> {
+    fn next_loan<R: Wait>(&mut self, rt: &R) -> Option<Loan<'a, Vec<u64>>> {
         for looks in 0..LOOKS {
             if let Ok(loan) = self.publisher.loan(rt) {
                 return Some(loan);
@@ -53,45 +74,68 @@ impl<'a> Publishes<'a> {
 impl<'a> Writer for Publishes<'a> {
     #[inline(always)]
     fn write<R: Wait>(&mut self, rt: &R, number: u64) -> bool {
-        let Some(loan) = self.next_loan(rt) else {
+        let Some(mut loan) = self.next_loan(rt) else {
             return false;
         };
-        for at in 0..self.words {
-            self.publisher.write(&loan, at, word_of(number, at));
+        for at in 0..loan.value.len() {
+            loan.value[at] = word_of(number, at);
         }
         self.publisher.publish(loan);
         true
     }
 }
 
+/// The sum of the words of the record that one receives next.
+#[inline(always)]
+fn read_next<R: Wait>(rt: &R, subscriber: &mut Subscriber<'_, Vec<u64>>) -> Option<u64> {
+    let sample = subscriber.receive(rt)?;
+    let sum = sum_of(subscriber, &sample)?;
+    subscriber.give_back(sample);
+    Some(sum)
+}
+
+/// The sum of the words of a record.
+#[inline(always)]
+fn sum_of(subscriber: &Subscriber<'_, Vec<u64>>, sample: &Sample) -> Option<u64> {
+    let reading = subscriber.read(sample)?;
+    let mut sum = 0u64;
+    for word in reading.get().iter() {
+        sum = sum.wrapping_add(*word);
+    }
+    Some(sum)
+}
+
 impl<'a> Reader for Receives<'a> {
     #[inline(always)]
     fn read<R: Wait>(&mut self, rt: &R) -> Option<u64> {
-        let sample = self.subscriber.receive(rt)?;
         let mut sum = 0u64;
-        for at in 0..self.words {
-            sum = sum.wrapping_add(self.subscriber.read(&sample, at)?);
+        for subscriber in self.subscribers.iter_mut() {
+            sum = sum.wrapping_add(read_next(rt, subscriber)?);
         }
-        self.subscriber.give_back(sample);
         Some(sum)
     }
 }
 
-/// A publisher with one who subscribes. None where he is not let in.
+/// A publisher with so many who subscribe. None where one is not let in.
 pub fn ends<'a, R: Wait>(
     rt: &R,
-    publisher: Publisher<'a>,
-    words: usize,
+    alloc: Global,
+    publisher: Publisher<'a, Vec<u64>>,
+    readers: usize,
 ) -> Option<Ends<Publishes<'a>, Receives<'a>>> {
     let mut publisher = publisher;
-    let owner = OwnerId::new(1).ok()?;
-    let seat = publisher.seat()?;
-    let Ok(subscriber) = seat.join(rt, owner) else {
-        return None;
-    };
+    let mut subscribers = Vec::with_capacity(alloc, readers).ok()?;
+    for reader in 0..readers {
+        let owner = OwnerId::new(reader as u64 + 1).ok()?;
+        let seat = publisher.seat()?;
+        let Ok(subscriber) = seat.join(rt, owner) else {
+            return None;
+        };
+        subscribers.push(subscriber).ok()?;
+    }
     publisher.update(rt);
     Some(Ends {
-        writer: Publishes { publisher, words },
-        reader: Receives { subscriber, words },
+        writer: Publishes { publisher },
+        reader: Receives { subscribers },
     })
 }

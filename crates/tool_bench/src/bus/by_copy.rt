@@ -13,7 +13,7 @@ pub struct Waiting {
 }
 
 /// A record of so many words.
-fn blank(alloc: Global, words: usize) -> Result<Vec<u64>, AllocError> {
+pub fn blank(alloc: Global, words: usize) -> Result<Vec<u64>, AllocError> {
     vec![in alloc; 0u64; words]
 }
 
@@ -47,9 +47,9 @@ impl Waiting {
         true
     }
 
-    /// Copies the oldest out: whether there was one.
+    /// Copies the oldest out, which is gone where this was the last who reads it: whether there was one.
     #[inline(always)]
-    fn take(&mut self, record: &mut [u64]) -> bool {
+    fn take(&mut self, record: &mut [u64], is_last: bool) -> bool {
         if self.put == self.taken {
             return false;
         }
@@ -59,7 +59,9 @@ impl Waiting {
         if !copies(cell, record) {
             return false;
         }
-        self.taken = self.taken.wrapping_add(1);
+        if is_last {
+            self.taken = self.taken.wrapping_add(1);
+        }
         true
     }
 }
@@ -81,11 +83,12 @@ pub struct Puts<'a> {
     record: Vec<u64>,
 }
 
-/// Who copies them out.
+/// Those who copy them out, each for itself.
 #[derive(Drop)]
 pub struct Takes<'a> {
     waiting: &'a Mutex<Waiting>,
     record: Vec<u64>,
+    readers: usize,
 }
 
 impl<'a> Writer for Puts<'a> {
@@ -107,12 +110,15 @@ impl<'a> Writer for Puts<'a> {
 impl<'a> Reader for Takes<'a> {
     #[inline(always)]
     fn read<R: Wait>(&mut self, rt: &R) -> Option<u64> {
-        if !self.waiting.lock(rt).take(&mut self.record) {
-            return None;
-        }
         let mut sum = 0u64;
-        for word in self.record.iter() {
-            sum = sum.wrapping_add(*word);
+        for reader in 1..self.readers.saturating_add(1) {
+            let is_last = reader == self.readers;
+            if !self.waiting.lock(rt).take(&mut self.record, is_last) {
+                return None;
+            }
+            for word in self.record.iter() {
+                sum = sum.wrapping_add(*word);
+            }
         }
         Some(sum)
     }
@@ -123,6 +129,7 @@ pub fn ends<'a>(
     alloc: Global,
     waiting: &'a Mutex<Waiting>,
     words: usize,
+    readers: usize,
 ) -> Result<Ends<Puts<'a>, Takes<'a>>, AllocError> {
     let made = blank(alloc, words)?;
     let read = blank(alloc, words)?;
@@ -134,6 +141,7 @@ pub fn ends<'a>(
         reader: Takes {
             waiting,
             record: read,
+            readers,
         },
     })
 }

@@ -1,11 +1,10 @@
 //! Why nothing comes of a run.
 use lock_free::mpmc::container::OwnerIdNewError;
-use lock_free::mpmc::unique_index_set_enums::{
-    UniqueIndexCreationError, UniqueIndexSetAcquireFailure,
-};
+use lock_free::mpmc::unique_index_set_enums::UniqueIndexCreationError;
+use std::alloc::AllocError;
 use std::io;
 use thiserror::Error;
-use uses_bus::error::BusError;
+use uses_bus::error::{BusError, LoanFailure};
 
 #[derive(Debug, Drop, Error)]
 pub enum RunError {
@@ -14,9 +13,13 @@ pub enum RunError {
     #[error("no news: {0}")]
     News(#[from] UniqueIndexCreationError),
     #[error("no loan: {0}")]
-    Loan(#[from] UniqueIndexSetAcquireFailure),
+    Loan(#[from] LoanFailure),
     #[error("no owner: {0}")]
     Owner(#[from] OwnerIdNewError),
+    #[error("no memory: {0}")]
+    NoMemory(#[from] AllocError),
+    #[error("the square is too large")]
+    TooLarge,
     #[error("nothing printed: {0}")]
     Print(#[from] io::Error),
     #[error("no place is free")]

@@ -2,7 +2,7 @@
 //! once it is told that the topic has news.
 use super::error::RunError;
 use lock_free::mpmc::container::OwnerId;
-use std::alloc::Global;
+use std::alloc::{AllocError, Global};
 use std::sync::Wait;
 use std::thread::Threads;
 use std::{io, thread};
@@ -19,19 +19,27 @@ const WORDS: usize = 64;
 /// A queue is as long as the slots are many, so that nobody loses one.
 const SIZES: Sizes = Sizes {
     slots: 16,
-    words: WORDS,
     subscribers: 1,
     queue: 16,
 };
 
+/// Records to write, one more than there are slots.
+fn spares(alloc: Global) -> Result<Vec<Vec<u64>>, AllocError> {
+    let mut spares = Vec::new(alloc);
+    for _ in 0..SIZES.slots + 1 {
+        spares.push(vec![in alloc; 0u64; WORDS]?)?;
+    }
+    Ok(spares)
+}
+
 /// Publishes a record whose words are all this number, where a slot is free: whether one was.
-fn publish(rt: &impl Wait, publisher: &mut Publisher<'_>, number: u64) -> bool {
-    let Ok(loan) = publisher.loan(rt) else {
+fn publish(rt: &impl Wait, publisher: &mut Publisher<'_, Vec<u64>>, number: u64) -> bool {
+    let Ok(mut loan) = publisher.loan(rt) else {
         publisher.collect();
         return false;
     };
-    for at in 0..WORDS {
-        publisher.write(&loan, at, number);
+    for word in loan.value.iter_mut() {
+        *word = number;
     }
     publisher.publish(loan);
     true
@@ -40,7 +48,7 @@ fn publish(rt: &impl Wait, publisher: &mut Publisher<'_>, number: u64) -> bool {
 /// Publishes all records of a topic, and tells of each.
 fn publish_all(
     rt: &impl Wait,
-    publisher: &mut Publisher<'_>,
+    publisher: &mut Publisher<'_, Vec<u64>>,
     mut notifier: Notifier<'_>,
     topic: usize,
 ) -> u64 {
@@ -59,18 +67,26 @@ fn publish_all(
     number
 }
 
-/// Whether each word of a record is this number.
-fn is_whole(subscriber: &Subscriber<'_>, sample: &Sample, number: u64) -> bool {
-    for at in 0..WORDS {
-        if subscriber.read(sample, at) != Some(number) {
+/// Whether a record was published with this number, and each of its words is the same.
+fn is_whole(subscriber: &Subscriber<'_, Vec<u64>>, sample: &Sample, number: u64) -> bool {
+    let Some(reading) = subscriber.read(sample) else {
+        return false;
+    };
+    let words = reading.get();
+    for word in words.iter() {
+        if *word != number {
             return false;
         }
     }
-    true
+    words.len() == WORDS && reading.number() == number
 }
 
 /// Reads what waits at a topic: how many records, where each is whole and the next one. None where one is not.
-fn read_waiting(rt: &impl Wait, subscriber: &mut Subscriber<'_>, first: u64) -> Option<u64> {
+fn read_waiting(
+    rt: &impl Wait,
+    subscriber: &mut Subscriber<'_, Vec<u64>>,
+    first: u64,
+) -> Option<u64> {
     let mut number = first;
     for _ in 0..SIZES.queue {
         let Some(sample) = subscriber.receive(rt) else {
@@ -96,8 +112,8 @@ struct Came {
 fn read_both(
     rt: &impl Wait,
     listener: &mut Listener<'_>,
-    one: &mut Subscriber<'_>,
-    other: &mut Subscriber<'_>,
+    one: &mut Subscriber<'_, Vec<u64>>,
+    other: &mut Subscriber<'_, Vec<u64>>,
 ) -> Option<Came> {
     let (mut first, mut second) = (0, 0);
     for _ in rt.forever() {
@@ -117,8 +133,8 @@ fn read_both(
 fn listen(
     rt: &impl Wait,
     mut listener: Listener<'_>,
-    mut one: Subscriber<'_>,
-    mut other: Subscriber<'_>,
+    mut one: Subscriber<'_, Vec<u64>>,
+    mut other: Subscriber<'_, Vec<u64>>,
 ) -> Option<Came> {
     let came = read_both(rt, &mut listener, &mut one, &mut other)?;
     one.leave(rt).ok()?;
@@ -129,9 +145,9 @@ fn listen(
 /// One who takes part in a topic.
 fn subscribe<'a>(
     rt: &impl Wait,
-    publisher: &mut Publisher<'a>,
+    publisher: &mut Publisher<'a, Vec<u64>>,
     owner: OwnerId,
-) -> Result<Subscriber<'a>, RunError> {
+) -> Result<Subscriber<'a, Vec<u64>>, RunError> {
     let Some(seat) = publisher.seat() else {
         return Err(RunError::NoPlace);
     };
@@ -145,10 +161,10 @@ fn subscribe<'a>(
 /// Runs all three threads: what came, or None where a record was torn or out of its order.
 fn side_by_side<R: Threads + Wait + Sync>(
     rt: &R,
-    one: &mut Publisher<'_>,
-    other: &mut Publisher<'_>,
-    first: Subscriber<'_>,
-    second: Subscriber<'_>,
+    one: &mut Publisher<'_, Vec<u64>>,
+    other: &mut Publisher<'_, Vec<u64>>,
+    first: Subscriber<'_, Vec<u64>>,
+    second: Subscriber<'_, Vec<u64>>,
     tells: Notifier<'_>,
     also: Notifier<'_>,
     listener: Listener<'_>,
@@ -168,8 +184,8 @@ fn side_by_side<R: Threads + Wait + Sync>(
 /// Takes part in both, and runs the threads.
 fn talk_with<R: Threads + Wait + Sync>(
     rt: &R,
-    one: &mut Publisher<'_>,
-    other: &mut Publisher<'_>,
+    one: &mut Publisher<'_, Vec<u64>>,
+    other: &mut Publisher<'_, Vec<u64>>,
     tells: Notifier<'_>,
     also: Notifier<'_>,
     listener: Listener<'_>,
@@ -187,8 +203,8 @@ fn talk_with<R: Threads + Wait + Sync>(
 fn talk<R: Threads + Wait + Sync>(
     rt: &R,
     news: &mut News,
-    one: &mut Publisher<'_>,
-    other: &mut Publisher<'_>,
+    one: &mut Publisher<'_, Vec<u64>>,
+    other: &mut Publisher<'_, Vec<u64>>,
 ) -> Result<Came, RunError> {
     let Some((mut tells, listener)) = news.ends() else {
         return Err(RunError::NoPlace);
@@ -202,8 +218,8 @@ fn talk<R: Threads + Wait + Sync>(
 /// Says how many slots are out, once all have left.
 fn tell(
     rt: &(impl Wait + Print),
-    one: &mut Publisher<'_>,
-    other: &mut Publisher<'_>,
+    one: &mut Publisher<'_, Vec<u64>>,
+    other: &mut Publisher<'_, Vec<u64>>,
 ) -> Result<(), RunError> {
     one.update(rt);
     other.update(rt);
@@ -217,8 +233,8 @@ fn tell(
 fn talk_and_tell<R: Threads + Wait + Print + Sync>(
     rt: &R,
     alloc: Global,
-    one: &mut Publisher<'_>,
-    other: &mut Publisher<'_>,
+    one: &mut Publisher<'_, Vec<u64>>,
+    other: &mut Publisher<'_, Vec<u64>>,
 ) -> Result<(), RunError> {
     let mut news = News::new(alloc, 2)?;
     let came = talk(rt, &mut news, one, other)?;
@@ -233,16 +249,16 @@ fn talk_and_tell<R: Threads + Wait + Print + Sync>(
 fn run_beside<R: Threads + Wait + Print + Sync>(
     rt: &R,
     alloc: Global,
-    one: &mut Publisher<'_>,
+    one: &mut Publisher<'_, Vec<u64>>,
 ) -> Result<(), RunError> {
     let (mut bus, pass) = Bus::new(alloc, SIZES)?;
-    let mut other = bus.publisher(rt, alloc, pass)?;
+    let mut other = bus.publisher(rt, alloc, pass, spares(alloc)?)?;
     talk_and_tell(rt, alloc, one, &mut other)
 }
 
 fn run<R: Threads + Wait + Print + Sync>(rt: &R, alloc: Global) -> Result<(), RunError> {
     let (mut bus, pass) = Bus::new(alloc, SIZES)?;
-    let mut one = bus.publisher(rt, alloc, pass)?;
+    let mut one = bus.publisher(rt, alloc, pass, spares(alloc)?)?;
     run_beside(rt, alloc, &mut one)
 }
 

@@ -1,22 +1,52 @@
-//! Every step in one thread: two subscribers of four slots, of whom one dies.
+//! Every step in one thread: two subscribers of four slots, of whom one dies. Each record has a number and its square, which
+//! whoever reads it knows by a clause.
+ghost use Rattle.std.specs.Prelude.{◌≡◌, ◌*◌, IfSome};
+
 use super::error::RunError;
 use lock_free::mpmc::container::OwnerId;
-use std::alloc::Global;
+use std::alloc::{AllocError, Global};
 use std::io;
 use std::sync::Wait;
 use uses_bus::bus::{Bus, Sizes};
 use uses_bus::publisher::Publisher;
 use uses_bus::subscriber::{Sample, Subscriber};
+use uses_slots::Keeps;
 
 const SIZES: Sizes = Sizes {
     slots: 4,
-    words: 2,
     subscribers: 2,
     queue: 2,
 };
 
+/// A record: a number, and what is its square once it is published.
+#[derive(Drop)]
+pub struct Square {
+    root: u64,
+    square: u64,
+}
+
+/// The rule that it is the square.
+pub struct IsSquare;
+
+impl Keeps<Square> for IsSquare {
+    ghost holds = { λ _ s. s.square ≡ s.root * s.root };
+}
+
+/// Records to write, one more than there are slots.
+fn spares(alloc: Global) -> Result<Vec<Square>, AllocError> {
+    let mut spares = Vec::new(alloc);
+    for _ in 0..SIZES.slots + 1 {
+        spares.push(Square { root: 0, square: 0 })?;
+    }
+    Ok(spares)
+}
+
 /// Says how many slots are out.
-fn tell(rt: &impl Print, publisher: &mut Publisher<'_>, what: &str) -> Result<(), RunError> {
+fn tell(
+    rt: &impl Print,
+    publisher: &mut Publisher<'_, Square, IsSquare>,
+    what: &str,
+) -> Result<(), RunError> {
     let out = publisher.borrowed();
     println!(rt; "{what}; slots out: {out}")?;
     Ok(())
@@ -25,9 +55,9 @@ fn tell(rt: &impl Print, publisher: &mut Publisher<'_>, what: &str) -> Result<()
 /// One more takes part, as the owner of this number.
 fn subscribe<'a, R: Wait + Print>(
     rt: &R,
-    publisher: &mut Publisher<'a>,
+    publisher: &mut Publisher<'a, Square, IsSquare>,
     number: u64,
-) -> Result<Subscriber<'a>, RunError> {
+) -> Result<Subscriber<'a, Square, IsSquare>, RunError> {
     let owner = OwnerId::new(number)?;
     let Some(seat) = publisher.seat() else {
         return Err(RunError::NoPlace);
@@ -43,29 +73,40 @@ fn subscribe<'a, R: Wait + Print>(
 /// Writes a record in a free slot, and publishes it.
 fn publish<R: Wait + Print>(
     rt: &R,
-    publisher: &mut Publisher<'_>,
+    publisher: &mut Publisher<'_, Square, IsSquare>,
     number: u64,
 ) -> Result<(), RunError> {
-    let loan = publisher.loan(rt)?;
-    publisher.write(&loan, 0, number);
-    publisher.write(&loan, 1, number.wrapping_mul(number));
+    let Some(square) = number.checked_mul(number) else {
+        return Err(RunError::TooLarge);
+    };
+    let mut loan = publisher.loan(rt)?;
+    loan.value.root = number;
+    loan.value.square = square;
     let slot = loan.slot();
     let reached = publisher.publish(loan);
     println!(rt; "record {number} in slot {slot}, sent to {reached}")?;
     tell(rt, publisher, "  published")
 }
 
-/// Receives a record, and reads it where it lies.
+/// The number of a record and its square, read where it lies.
+fn square_of(subscriber: &Subscriber<'_, Square, IsSquare>, sample: &Sample) -> Option<(u64, u64)>
+    ensures { IfSome result (λ r. r.1 ≡ r.0 * r.0) }
+{
+    let reading = subscriber.read(sample)?;
+    let found = reading.get();
+    Some((found.root, found.square))
+}
+
+/// Receives a record, and reads it.
 fn receive<R: Wait + Print>(
     rt: &R,
-    subscriber: &mut Subscriber<'_>,
+    subscriber: &mut Subscriber<'_, Square, IsSquare>,
     who: u64,
 ) -> Result<Sample, RunError> {
     let Some(sample) = subscriber.receive(rt) else {
         return Err(RunError::NothingWaits);
     };
-    let (Some(number), Some(square)) = (subscriber.read(&sample, 0), subscriber.read(&sample, 1))
-    else {
+    let Some((number, square)) = square_of(subscriber, &sample) else {
         return Err(RunError::Torn);
     };
     println!(rt;
@@ -78,7 +119,7 @@ fn receive<R: Wait + Print>(
 /// Receives a record, reads it and gives it back.
 fn read_next<R: Wait + Print>(
     rt: &R,
-    subscriber: &mut Subscriber<'_>,
+    subscriber: &mut Subscriber<'_, Square, IsSquare>,
     who: u64,
 ) -> Result<(), RunError> {
     let sample = receive(rt, subscriber, who)?;
@@ -89,8 +130,8 @@ fn read_next<R: Wait + Print>(
 /// One record goes to both, of whom the first reads it.
 fn send_to_both<R: Wait + Print>(
     rt: &R,
-    publisher: &mut Publisher<'_>,
-    one: &mut Subscriber<'_>,
+    publisher: &mut Publisher<'_, Square, IsSquare>,
+    one: &mut Subscriber<'_, Square, IsSquare>,
 ) -> Result<(), RunError> {
     publish(rt, publisher, 10)?;
     read_next(rt, one, 1)?;
@@ -101,8 +142,8 @@ fn send_to_both<R: Wait + Print>(
 /// Two more records push the first out of the second's queue, who dies with one of them in hand.
 fn lose_one<R: Wait + Print>(
     rt: &R,
-    publisher: &mut Publisher<'_>,
-    mut other: Subscriber<'_>,
+    publisher: &mut Publisher<'_, Square, IsSquare>,
+    mut other: Subscriber<'_, Square, IsSquare>,
 ) -> Result<(), RunError> {
     publish(rt, publisher, 11)?;
     publish(rt, publisher, 12)?;
@@ -117,8 +158,8 @@ fn lose_one<R: Wait + Print>(
 /// The first reads what waits, and what the second had comes back.
 fn take_out<R: Wait + Print>(
     rt: &R,
-    publisher: &mut Publisher<'_>,
-    one: &mut Subscriber<'_>,
+    publisher: &mut Publisher<'_, Square, IsSquare>,
+    one: &mut Subscriber<'_, Square, IsSquare>,
 ) -> Result<(), RunError> {
     read_next(rt, one, 1)?;
     read_next(rt, one, 1)?;
@@ -131,8 +172,8 @@ fn take_out<R: Wait + Print>(
 /// A third joins in the place of the second, and all leave.
 fn leave_all<'a, R: Wait + Print>(
     rt: &R,
-    publisher: &mut Publisher<'a>,
-    one: Subscriber<'a>,
+    publisher: &mut Publisher<'a, Square, IsSquare>,
+    one: Subscriber<'a, Square, IsSquare>,
 ) -> Result<(), RunError> {
     let late = subscribe(rt, publisher, 3)?;
     publish(rt, publisher, 13)?;
@@ -144,7 +185,10 @@ fn leave_all<'a, R: Wait + Print>(
 }
 
 /// Goes through the steps of a run.
-fn go_through<'a, R: Wait + Print>(rt: &R, publisher: &mut Publisher<'a>) -> Result<(), RunError> {
+fn go_through<'a, R: Wait + Print>(
+    rt: &R,
+    publisher: &mut Publisher<'a, Square, IsSquare>,
+) -> Result<(), RunError> {
     let mut one = subscribe(rt, publisher, 1)?;
     let other = subscribe(rt, publisher, 2)?;
     send_to_both(rt, publisher, &mut one)?;
@@ -155,7 +199,7 @@ fn go_through<'a, R: Wait + Print>(rt: &R, publisher: &mut Publisher<'a>) -> Res
 
 fn run<R: Wait + Print>(rt: &R, alloc: Global) -> Result<(), RunError> {
     let (mut bus, pass) = Bus::new(alloc, SIZES)?;
-    let mut publisher = bus.publisher(rt, alloc, pass)?;
+    let mut publisher = bus.publisher(rt, alloc, pass, spares(alloc)?)?;
     go_through(rt, &mut publisher)
 }
 

@@ -1,0 +1,233 @@
+//! Values of any type in plain memory, which many threads read where they lie while nobody writes: a word beside each value
+//! counts its readers. Nothing is copied, and no code is unsafe. Each value lies there with a number, and whoever reads them has
+//! the fact of the user's rule about both, which whoever laid them there has shown.
+#![tactic(auto)]
+
+ghost use Rattle.std.specs.Prelude.{◌≡◌, ℕ, ◌<◌, ◌-◌, ◌%◌, ◌≤◌, vec_len, IsSome, IsSomeAnd, IfOk, IfSome};
+ghost use Rattle.std.proofs.Props.{props};
+ghost use Rattle.counted_slot.specs.Counting.{readers};
+
+use counted_slot::{Claim, Counted, FREE, Fits, MOST_READERS, ONE_READER, PRESENT, TAKEN};
+use std::alloc::{AllocError, Global};
+use std::marker::PhantomData;
+
+/// A rule of the user's: a fact about each value and the number that it is laid down with. One type may keep different facts at
+/// two places, by two rules.
+pub trait Keeps<X> {
+    ghost holds: { ℕ → X → Type 0 };
+}
+
+/// The rule that says nothing of a value.
+pub struct Anything;
+
+impl<X> Keeps<X> for Anything {
+    ghost holds = { λ _ _. Unit {0} };
+}
+
+/// A value with its number, and the rule that they keep.
+#[derive(Drop)]
+pub struct Kept<X, K: Keeps<X>> {
+    number: u64,
+    value: X,
+    rule: PhantomData<K>,
+}
+
+impl<X, K: Keeps<X>> Fits for Kept<X, K> {
+    type Tag = ();
+
+    ghost fits = { λ _ k. K.holds k.number k.value };
+}
+
+/// Slots, each of which is empty or has a value of X, strings and vectors too. They are shared by reference between threads where
+/// `X: Send + Sync`.
+///
+/// A slot may be read by many at once, or written by one. A value lies in its slot until another is laid there, the slot is
+/// left empty, or all slots are dropped.
+pub struct Slots<X: Drop, K: Keeps<X> = Anything> {
+    cells: Vec<Counted<Option<Kept<X, K>>>>,
+    number: u32,
+    ghost sized: { vec_len cells ≡ number },
+}
+
+impl<X: Drop, K: Keeps<X>> Drop for Slots<X, K> {
+    fn drop(self) {
+        let Self {
+            cells: _cells,
+            number: _,
+        } = self;
+    }
+}
+
+/// A value that is read: nobody writes its slot as long as this lives. It stays in its thread. Dropping it counts one reader
+/// less, by one atomic step.
+///
+/// One that is forgotten (`std::mem::forget`) stays counted: its slot can still be read, and is never written again.
+pub struct Reading<'a, X, K: Keeps<X> = Anything> {
+    claim: Claim<'a, Option<Kept<X, K>>>,
+    ghost reads: { claim.right ≡ 1 },
+    ghost filled: { IsSomeAnd claim.value (λ value. IsSome value) } by { Prim.hlevel props },
+}
+
+/// The right to write a slot, which nobody else writes or reads as long as this lives. It stays in its thread. Dropping it
+/// leaves the slot empty and drops what lay there, by one atomic step.
+///
+/// Where one is forgotten (`std::mem::forget`), its slot is never read or written again.
+pub struct Writing<'a, X: Drop, K: Keeps<X> = Anything> {
+    claim: Claim<'a, Option<Kept<X, K>>>,
+    ghost writes: { claim.right ≡ 2 },
+}
+
+impl<'a, X, K: Keeps<X>> Reading<'a, X, K> {
+    ghost use Rattle.uses_slots.specs.Slots.{number_in};
+
+    /// The number that the value was laid there with. No atomic step.
+    pub fn number(&self) -> u64
+        ensures { result ≡ number_in self.now }
+    {
+        match self.claim.get() {
+            Some(kept) => kept.number,
+            None => unreachable!(),
+        }
+    }
+
+    /// The value, where it lies, which keeps its rule. No atomic step.
+    pub fn get(&self) -> &X
+        ensures fits { K.holds (number_in self.now) result.now }
+    {
+        match self.claim.get() {
+            Some(kept) => &kept.value,
+            None => unreachable!(),
+        }
+    }
+}
+
+impl<'a, X, K: Keeps<X>> Drop for Reading<'a, X, K> {
+    fn drop(self) {
+        let Self { claim } = self;
+        claim.leave();
+    }
+}
+
+impl<'a, X: Drop, K: Keeps<X>> Writing<'a, X, K> {
+    /// Lays a value there with its number, which may be read from now on, and hands out those that lay there, if any did. One
+    /// atomic step.
+    pub fn put(self, number: u64, value: X) -> Option<(u64, X)>
+        requires fits { K.holds number value }
+        ensures fits { IfSome result (λ r. K.holds r.0 r.1) }
+    {
+        let Self { claim } = self;
+        value_of(claim.put(Some(with_rule(number, value)), PRESENT))
+    }
+
+    /// Leaves the slot empty, and hands out what lay there with its number, if anything did. One atomic step.
+    pub fn empty(self) -> Option<(u64, X)>
+        ensures fits { IfSome result (λ r. K.holds r.0 r.1) }
+    {
+        let Self { claim } = self;
+        value_of(claim.put(None, FREE))
+    }
+}
+
+impl<'a, X: Drop, K: Keeps<X>> Drop for Writing<'a, X, K> {
+    fn drop(self) {
+        self.empty();
+    }
+}
+
+fn with_rule<X, K: Keeps<X>>(number: u64, value: X) -> Kept<X, K>
+    ensures number { result.number ≡ number }
+    ensures value { result.value ≡ value }
+{
+    Kept {
+        number,
+        value,
+        rule: PhantomData,
+    }
+}
+
+fn value_of<X: Drop, K: Keeps<X>>(kept: Option<Kept<X, K>>) -> Option<(u64, X)>
+    requires { IfSome kept (λ k. K.holds k.number k.value) }
+    ensures { IfSome result (λ r. K.holds r.0 r.1) }
+{
+    match kept {
+        Some(
+            Kept {
+                number,
+                value,
+                rule: _,
+            },
+        ) => Some((number, value)),
+        None => None,
+    }
+}
+
+fn reader_count(word: u64) -> u64
+    ensures { result ≡ readers word }
+{
+    word % 0x1_0000_0000 / 4
+}
+
+impl<X: Drop, K: Keeps<X>> Slots<X, K> {
+    ghost use Rattle.uses_slots.specs.Slots.{slots_in};
+
+    /// So many slots, each empty. Refused is memory alone. No atomic step.
+    pub fn new(alloc: Global, number: u32) -> Result<Slots<X, K>, AllocError>
+        ensures slots { IfOk result (λ s. slots_in s ≡ number) }
+    {
+        let mut cells = Vec::with_capacity(alloc, number as usize)?;
+        for _ in 0..number {
+            cells.push(Counted::new(None, &()))?;
+        }
+        Ok(Slots { cells, number })
+    }
+
+    /// How many slots there are. No atomic step.
+    pub fn number(&self) -> u32
+        ensures { result ≡ slots_in self.now }
+    {
+        self.number
+    }
+
+    /// Reads a slot's value. None where there is no such slot, where it is empty or somebody writes it, or where 2^30 - 1 read
+    /// it already; then nothing changes. That it is Some otherwise, tests say and no clause does.
+    ///
+    /// A load and a compare-exchange where nobody comes to the slot or leaves it in between, and two more for each time that
+    /// somebody does.
+    pub fn read(&self, slot: u32) -> Option<Reading<'_, X, K>> {
+        let cell: &Counted<Option<Kept<X, K>>> = self.cells.get(slot as usize)?;
+        for _ in 0..u64::MAX {
+            let seen = cell.load();
+            if seen % 4 != PRESENT || reader_count(seen) == MOST_READERS {
+                return None;
+            }
+            let (found, claim) = cell.turn(seen, seen + ONE_READER);
+            if found == seen {
+                if claim.get().is_some() {
+                    return Some(Reading { claim });
+                }
+                claim.leave();
+                return None;
+            }
+            claim.done();
+        }
+        None
+    }
+
+    /// The right to write a slot. None where there is no such slot, or where somebody reads or writes it, or came to it between
+    /// the two steps; then nothing changes. That it is Some otherwise, tests say and no clause does.
+    ///
+    /// A load and at most one compare-exchange.
+    pub fn take(&self, slot: u32) -> Option<Writing<'_, X, K>> {
+        let cell: &Counted<Option<Kept<X, K>>> = self.cells.get(slot as usize)?;
+        let seen = cell.load();
+        if seen % 4 == TAKEN || reader_count(seen) != 0 {
+            return None;
+        }
+        let (found, claim) = cell.turn(seen, seen - seen % 4 + TAKEN);
+        if found != seen {
+            claim.done();
+            return None;
+        }
+        Some(Writing { claim })
+    }
+}
