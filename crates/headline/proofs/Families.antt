@@ -259,6 +259,9 @@ module _ {T : Type 0} where
         no_two_fill = no_two_fill t.world.capacity t.events set.does;
         no_two_hold = λ well. one_grant t.world.capacity t.events set.does (set.well_formed well).holders;
         none_once_locked = λ well. none_granted t.world.capacity t.events set.does (set.well_formed well).holders;
+        acquired = λ p index owner value before at.
+            let w = finished_wrote container_promises.promise t p _ _ before kept at in
+            ap (λ (s : Span T). robust.set_acts (wrote_in s)) w.opens ∙ w.right;
         freed = λ p index owner before at. (
           freed_of t.world.capacity t.events set.does p index owner before at,
           back_by_container p index owner (span_of p before) (kept.spans before at.0 (FreedOf p index owner) at.1),
