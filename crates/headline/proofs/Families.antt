@@ -1,13 +1,9 @@
 -- What each kind's machine does, from what its family promises and from the laws of turns.
-use Rattle.std.proofs.Common.{◌≡◌, ◌≢◌, ◌⊎◌, ℕ, Bool, true, false, Option, Some, None, List, [], ◌∷◌, ◌++◌, refl, sym, ap, subst, ◌∙◌, ⊎_elim}
-use Rattle.steps.specs.declared.indices.enums.ReleaseMode.{ReleaseMode}
-use Rattle.steps.specs.declared.indices.enums.ReleaseMode.TheVariants.{LockIfLastIndex, Default}
-use Rattle.steps.specs.declared.indices.enums.ReleaseState.TheVariants.{Unlocked}
+use Rattle.std.proofs.Common.{◌≡◌, ℕ, true, false, Some, List, [], ◌∷◌, refl, sym, ap, subst, ◌∙◌}
 use Rattle.model.specs.declared.event.Answer.{Answer}
-use Rattle.model.specs.declared.event.Answer.TheVariants as answers
 use Rattle.model.specs.declared.event.Event.{Event}
 use Rattle.model.specs.declared.event.Event.TheVariants.{Published, HandedOut, Claimed, Freed, Filled, Granted}
-use Rattle.model.specs.declared.event.Event.TheVariants.{FreedOf, Locked, Returned, TakenBack, Copied, Finished}
+use Rattle.model.specs.declared.event.Event.TheVariants.{FreedOf, Locked, Returned, TakenBack, Copied}
 use Rattle.model.specs.declared.event.Item.TheVariants as items
 use Rattle.model.specs.declared.event.Start.{Start}
 use Rattle.model.specs.declared.event.Start.TheVariants as starts
@@ -38,7 +34,7 @@ use Rattle.model.specs.Families.Loan.Reading.{Free, Waiting, Returning}
 use Rattle.model.specs.Families.Queues.Promises as queue_promises
 use Rattle.model.specs.Linearizable.{IsLinearizable}
 use Rattle.model.specs.Linearized.{as_list, as_value, is_push_or_pop, is_store_or_load, IsLinearized}
-use Rattle.model.specs.Promises.{IsKeptBy, IsKept}
+use Rattle.model.specs.Promises.{IsKeptBy}
 use Rattle.model.specs.Promises.Families.{promise_of}
 use Rattle.model.specs.Reading.{Each, moments, Span, Never, Open, Ended, span_of}
 use Rattle.model.specs.Turns.{IsReached}
@@ -49,7 +45,7 @@ use Rattle.laws_turns.proofs.Locking as locking
 use Rattle.laws_turns.proofs.Meeting as meeting
 use Rattle.laws_turns.proofs.Queue as submission
 use Rattle.laws_turns.proofs.Waiting as waiting
-use Rattle.headline.specs.Holders.{Hand, Takes, Neither, claims, fills, grants, loans, holders, NoTwoHold, NoneOnceLocked, IsRelease, GivesBack}
+use Rattle.headline.specs.Holders.{Takes, claims, fills, grants, loans, holders, NoTwoHold, NoneOnceLocked, IsRelease, GivesBack}
 use Rattle.headline.specs.Headline.{QueueRuns, ValueRuns, BitsRun, CountsRun, IndicesRun, RobustRuns, ContainerRuns, ChannelRuns, Runs}
 use Rattle.headline.specs.Moments.{Follows, call_in}
 use Rattle.headline.proofs.Acting.{finished_wrote, acted_once}
@@ -263,6 +259,9 @@ module _ {T : Type 0} where
         no_two_fill = no_two_fill t.world.capacity t.events set.does;
         no_two_hold = λ well. one_grant t.world.capacity t.events set.does (set.well_formed well).holders;
         none_once_locked = λ well. none_granted t.world.capacity t.events set.does (set.well_formed well).holders;
+        acquired = λ p index owner value before at.
+            let w = finished_wrote container_promises.promise t p _ _ before kept at in
+            ap (λ (s : Span T). robust.set_acts (wrote_in s)) w.opens ∙ w.right;
         freed = λ p index owner before at. (
           freed_of t.world.capacity t.events set.does p index owner before at,
           back_by_container p index owner (span_of p before) (kept.spans before at.0 (FreedOf p index owner) at.1),

@@ -14,7 +14,7 @@ use Rattle.model.specs.declared.event.Start.TheVariants as starts
 use Rattle.model.specs.declared.families.loan.LoanStart.TheVariants as calls
 use Rattle.model.specs.Families.Indices.Reading as unique
 use Rattle.model.specs.Families.Indices.Robust.Reading as robust
-use Rattle.model.specs.Families.Loan.Reading.{Spot, Free, Passing, With, Waiting, Returning, Move, move_of, moved, spot_after, spot_of}
+use Rattle.model.specs.Families.Loan.Reading.{Spot, Free, Passing, With, Waiting, Returning, spot_after, spot_of}
 use Rattle.headline.specs.Holders.{Hand, Takes, Gives, Neither, held_after, claims, fills, grants, loans, holders, NoTwoHold, NoneOnceLocked}
 use Rattle.headline.specs.Moments.{Follows}
 

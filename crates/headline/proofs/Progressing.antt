@@ -1,5 +1,5 @@
 -- How a party's latest call progresses, whatever its kind.
-use Rattle.std.proofs.Common.{◌≡◌, ◌≤◌, ℕ, Option, Some, None, refl, sym, subst}
+use Rattle.std.proofs.Common.{◌≡◌, ◌≤◌, ℕ, Option, Some, None, subst}
 use Rattle.model.specs.declared.event.Start.{Start}
 use Rattle.model.specs.declared.party.Progress.{Progress}
 use Rattle.model.specs.Progress.{Guarantee, IsWithin, LatestIsWithin}

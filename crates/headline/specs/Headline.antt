@@ -151,6 +151,9 @@ module _ {T : Type 0} where
     pub no_two_fill : NoTwoHold fills t.events
     pub no_two_hold : IsWellFormedRun t → NoTwoHold grants t.events
     pub none_once_locked : IsWellFormedRun t → NoneOnceLocked grants t.events
+    pub acquired : (p index owner : ℕ) (value : T) (before : List (Event T))
+        → Follows (Finished p (Container (containers.Add value owner)) (Index index)) before t.events
+        → set_acts_of p before ≡ Fills index owner ∷ Grants index owner ∷ []
     pub freed : (p index owner : ℕ) (before : List (Event T))
         → Follows (FreedOf p index owner) before t.events
         → (holders fills index before ≡ owner ∷ [])

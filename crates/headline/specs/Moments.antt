@@ -8,7 +8,7 @@ use Rattle.model.specs.declared.event.Start.{Start}
 use Rattle.model.specs.Linearizable.{Specification, IsLinearizable}
 use Rattle.model.specs.Moments.{BeginsNone}
 use Rattle.model.specs.Objects.{IsLegal}
-use Rattle.model.specs.Reading.{moments, Span, Never, Open, Ended, span_of}
+use Rattle.model.specs.Reading.{moments, Span, Never, Open, Ended}
 
 module _ {T : Type 0} where
   -- P holds at each moment of a run: of each beginning of its events
