@@ -135,11 +135,23 @@ module _ {T : Type 0} where
 
   abbrev bits_outline : Outline T
   bits_outline =
-      record { kind = Bits; Kept = Kept; At = λ code c start flight. FlightStands (BitsStand c) start flight; measure = λ code c. measure c }
+      record {
+        kind = Bits;
+        Such = λ start. Unit {0};
+        Kept = Kept;
+        At = λ code c start flight. FlightStands (BitsStand c) start flight;
+        measure = λ code c. measure c;
+      }
 
   abbrev counts_outline : Outline T
   counts_outline =
-      record { kind = Counts; Kept = Kept; At = λ code c start flight. FlightStands (CountsStand c) start flight; measure = λ code c. counts_measure c }
+      record {
+        kind = Counts;
+        Such = λ start. Unit {0};
+        Kept = Kept;
+        At = λ code c start flight. FlightStands (CountsStand c) start flight;
+        measure = λ code c. counts_measure c;
+      }
 
   -- ---- each step falls
 
@@ -333,12 +345,12 @@ module _ {T : Type 0} where
     bits_laws =
         record {
           opens = tt;
-          begins = bits_begin;
+          begins = λ start kept flight any h e. bits_begin start kept flight h e;
           stays = λ words beside p start flight old kept at h. stays words beside p start flight old kept h;
           goes = bits_go;
           told = told (BitsStand c);
           dies = dies;
-          asks = bits_ask;
+          decides = λ words start flight said at due. (let none = bits_ask start flight at in absurd (cc));
           most = bits_most c;
           falls = λ words start flight at. bits_fall c code words c start flight at;
         }
@@ -358,21 +370,21 @@ module _ {T : Type 0} where
     counts_laws =
         record {
           opens = tt;
-          begins = counts_begin;
+          begins = λ start kept flight any h e. counts_begin start kept flight h e;
           stays = λ words beside p start flight old kept at h. stays words beside p start flight old kept h;
           goes = counts_go;
           told = told (CountsStand c);
           dies = dies;
-          asks = counts_ask;
+          decides = λ words start flight said at due. (let none = counts_ask start flight at in absurd (cc));
           most = λ words start flight at. (counts_most c start flight at, omega arith);
           falls = λ words start flight at. counts_fall c code words c start flight at;
         }
 
   pub bits_keep_ending : KeepsEnding T Bits (λ n capacity size. stretch n (max 1 (elements capacity - 1)) (capacity + 2))
   bits_keep_ending =
-      keeps_ending bits_outline (λ code c coded admitted. bits_laws code c)
+      keeps_ending bits_outline (λ code c coded admitted. bits_laws code c) (λ start. tt)
       (λ n capacity size. stretch n (max 1 (elements capacity - 1)) (capacity + 2)) (λ code c n. refl)
 
   pub counts_keep_ending : KeepsEnding T Counts (λ n capacity size. stretch n 0 (capacity - 1))
   counts_keep_ending =
-      keeps_ending counts_outline (λ code c coded admitted. counts_laws code c) (λ n capacity size. stretch n 0 (capacity - 1)) (λ code c n. refl)
+      keeps_ending counts_outline (λ code c coded admitted. counts_laws code c) (λ start. tt) (λ n capacity size. stretch n 0 (capacity - 1)) (λ code c n. refl)

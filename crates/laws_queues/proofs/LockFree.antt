@@ -151,6 +151,7 @@ module _ {T : Type 0} where
   outline kd =
       record {
         kind = machine_kind kd;
+        Such = λ start. Unit {0};
         Kept = Kept;
         At = At kd;
         measure = λ code c. measure code.size (alone_of code.size kd) (changes_of kd);
@@ -418,15 +419,15 @@ module _ {T : Type 0} (kd : QueueKind) where
   laws code c coded admitted =
       record {
         opens = opens code c kd;
-        begins = begins code c;
+        begins = λ start kept flight any h e. begins code c start kept flight h e;
         stays = stays code c;
         goes = goes code c coded.some;
         told = told code c;
         dies = dies code c;
-        asks = asks code c;
+        decides = λ words start flight said at due. (let none = asks code c start flight at in absurd (cc));
         most = most code c coded.some;
         falls = falls code c coded.few (admitted_fits kd c admitted);
       }
 
   pub queue_keeps_ending : KeepsEnding T (machine_kind kd) (λ n capacity size. stretch n (changes_of kd) (alone_of size kd))
-  queue_keeps_ending = keeps_ending (outline kd) laws (λ n capacity size. stretch n (changes_of kd) (alone_of size kd)) (λ code c n. refl)
+  queue_keeps_ending = keeps_ending (outline kd) laws (λ start. tt) (λ n capacity size. stretch n (changes_of kd) (alone_of size kd)) (λ code c n. refl)

@@ -19,8 +19,10 @@ pub mod Justified
 pub mod Kept
 pub mod Knows
 pub mod Living
+pub mod LockFree
 pub mod Locks
 pub mod Looks
+pub mod Measured
 pub mod Opening
 pub mod OpenRuns
 pub mod OpenTurns

@@ -83,7 +83,7 @@ module _ {T : Type 0} where
   Kept kept = ⊥
 
   abbrev outline : Outline T
-  outline = record { kind = kinds.TheVariants.Atomic; Kept = Kept; At = At; measure = λ code c. measure code.size }
+  outline = record { kind = kinds.TheVariants.Atomic; Such = λ start. Unit {0}; Kept = Kept; At = At; measure = λ code c. measure code.size }
 
   abbrev storing : Running (Store T) T (Unit {0}) → stores.StoreStage → AtomicFlight T
   storing run stage = calls.TheVariants.Store (record run { call = record run.call { stage = stage } })
@@ -222,16 +222,16 @@ module _ {T : Type 0} where
   laws code c coded =
       record {
         opens = tt;
-        begins = begins code c;
+        begins = λ start kept flight any h e. begins code c start kept flight h e;
         stays = stays code c;
         goes = goes code c coded;
         told = told code c;
         dies = dies;
-        asks = asks code c;
+        decides = λ words start flight said at due. (let none = asks code c start flight at in absurd (cc));
         most = λ words start flight at. (most code.size coded.some words flight, omega arith);
         falls = falls code coded.few c;
       }
 
   pub value_keeps_ending : KeepsEnding T kinds.TheVariants.Atomic (λ n capacity size. stretch n 0 (2 * size + 1))
   value_keeps_ending =
-      keeps_ending outline (λ code c coded admitted. laws code c coded) (λ n capacity size. stretch n 0 (2 * size + 1)) (λ code c n. refl)
+      keeps_ending outline (λ code c coded admitted. laws code c coded) (λ start. tt) (λ n capacity size. stretch n 0 (2 * size + 1)) (λ code c n. refl)

@@ -2,8 +2,12 @@
 use Rattle.std.specs.Prelude.{◌≡◌, ◌<◌, ◌≤◌, ℕ, ◌+◌, ◌-◌, ◌*◌, max, Option, Some, None, List, [], ◌∷◌}
 use Rattle.std.specs.List.{AllByRecursion, sum_by}
 use Rattle.steps.specs.Bits.Words.{elements}
+use Rattle.steps.specs.declared.indices.enums.ReleaseMode.TheVariants.{LockIfLastIndex}
 use Rattle.model.specs.declared.event.Event.{Event}
 use Rattle.model.specs.declared.event.Event.TheVariants.{Finished}
+use Rattle.model.specs.declared.event.Start.{Start}
+use Rattle.model.specs.declared.event.Start.TheVariants.{Robust}
+use Rattle.model.specs.declared.families.indices.robust.RobustStart.TheVariants.{Release, Recover}
 use Rattle.model.specs.declared.turn.Kind.{Kind}
 use Rattle.model.specs.declared.turn.Kind.TheVariants.{IndexQueue, Overflow, Queue, Atomic, Bits, Counts, Indices}
 use Rattle.model.specs.declared.turn.Turn.{Turn}
@@ -41,6 +45,11 @@ module _ {T : Type 0} where
   IsBelow n (Decide p said) = p < n
   IsBelow n (Die owner) = Unit {0}
 
+  -- it begins no call but such ones
+  abbrev pub BeginsSuch : (Start T → Type 0) → Turn T → Type 0
+  BeginsSuch Such (Begin p start) = Such start
+  BeginsSuch Such turn = Unit {0}
+
   -- none of the turns is refused, where neither turns nor parties have a bound
   abbrev pub AreAllowedOn : Trace T → List (Turn T) → Type 0
   AreAllowedOn t [] = Unit {0}
@@ -75,6 +84,26 @@ KeepsEnding T kind bound =
     → AreWithinEnds (bound n t.world.capacity t.world.coding.size) (steps_in t turns) (ends t.events)
     (ends (after_turns t turns).events)
 
+-- ---- of runs in which no call begins but such ones
+
+abbrev pub IsLockFreeOf : (T : Type 0) → Kind → (Start T → Type 0) → Bound → Type 0
+IsLockFreeOf T kind Such bound =
+    (t : Trace T) → t.world.kind ≡ kind → (r : IsReachedOn t) → AllByRecursion (BeginsSuch Such) r.turns
+    → (n : ℕ) (turns : List (Turn T))
+    → AreAllowedOn t turns → AllByRecursion (IsBelow n) turns → AllByRecursion (BeginsSuch Such) turns
+    → bound n t.world.capacity t.world.coding.size < steps_in t turns
+    → ends t.events < ends (after_turns t turns).events
+
+abbrev pub KeepsEndingOf : (T : Type 0) → Kind → (Start T → Type 0) → Bound → Type 0
+KeepsEndingOf T kind Such bound =
+    (t : Trace T) → t.world.kind ≡ kind → (r : IsReachedOn t) → AllByRecursion (BeginsSuch Such) r.turns
+    → (n : ℕ) (turns : List (Turn T))
+    → AreAllowedOn t turns → AllByRecursion (IsBelow n) turns → AllByRecursion (BeginsSuch Such) turns
+    → AreWithinEnds (bound n t.world.capacity t.world.coding.size) (steps_in t turns) (ends t.events)
+    (ends (after_turns t turns).events)
+
+-- ---- of machines as they run
+
 -- The same of a machine as it runs: in more steps than the bound says for its parties a call ends.
 abbrev pub HasLockFreeRuns : Type 0 → Kind → Bound → Type 0
 HasLockFreeRuns T kind bound =
@@ -99,3 +128,13 @@ lock_free_bound Bits = Some (λ n capacity size. stretch n (max 1 (elements capa
 lock_free_bound Counts = Some (λ n capacity size. stretch n 0 (capacity - 1))
 lock_free_bound Indices = Some (λ n capacity size. stretch n 1 (capacity + 4))
 lock_free_bound kind = None
+
+-- of a robust index set in which no call may lock
+abbrev pub default_bound : Bound
+default_bound n capacity size = stretch n capacity (4 * capacity + 1)
+
+-- a call of a robust index set that does not lock: a release or a recovery in the mode for that is none
+abbrev pub IsDefault : {T : Type 0} → Start T → Type 0
+IsDefault (Robust (Release index owner LockIfLastIndex)) = ⊥
+IsDefault (Robust (Recover LockIfLastIndex)) = ⊥
+IsDefault start = Unit {0}

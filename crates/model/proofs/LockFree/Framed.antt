@@ -1,18 +1,16 @@
 -- The same of a family whose frame holds of every run without a bound of turns: from a measure of its calls it follows that
 -- calls keep ending.
-use Rattle.std.proofs.Common.{◌≡◌, ℕ, ◌≤◌, Bool, true, Option, Some, None, List, refl, sym, subst, ◌∙◌}
-use Rattle.std.specs.List.{AllByRecursion}
+use Rattle.std.proofs.Common.{◌≡◌, ℕ, ◌≤◌, Bool, true, Option, Some, None, refl, sym, subst, ◌∙◌}
 use Rattle.steps.specs.declared.ask.Ask.{Ask}
 use Rattle.model.specs.declared.families.Flight.{Flight}
 use Rattle.model.specs.declared.party.Doing.TheVariants.{Going}
 use Rattle.model.specs.declared.party.Party.{Party}
 use Rattle.model.specs.declared.turn.Kind.{Kind}
-use Rattle.model.specs.declared.turn.Turn.{Turn}
 use Rattle.model.specs.Coding.{Coding}
 use Rattle.model.specs.Families.{want_of, ask_of, goes_of, is_question}
 use Rattle.model.specs.LockFree.{Bound, KeepsEnding, AreWithinEnds, IsBelow, stretch, steps_in, ends}
 use Rattle.model.specs.Parties.{party_of}
-use Rattle.model.specs.Turns.{step_in, old_of, number_of, after_turn, after_turns, IsReachedOn}
+use Rattle.model.specs.Turns.{step_in, old_of, number_of, after_turns, IsReachedOn}
 use Rattle.model.specs.World.{Trace}
 use Rattle.model.proofs.Frame.{Family, Sound}
 use Rattle.model.proofs.LockFree.Measure.{Measure, Owed, FallsBy}

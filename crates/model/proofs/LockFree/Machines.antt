@@ -5,6 +5,7 @@ use Rattle.std.specs.Prelude.{nat_le}
 use Rattle.std.specs.List.{AllByRecursion}
 use Rattle.std.proofs.lemmas.Bool.{cases_lt}
 use Rattle.std.proofs.lemmas.Bool.Decides.{nat_tests}
+use Rattle.model.specs.declared.event.Start.{Start}
 use Rattle.model.specs.declared.turn.Kind.{Kind}
 use Rattle.model.specs.declared.turn.Turn.{Turn}
 use Rattle.model.specs.declared.turn.Turn.TheVariants.{Begin, Next, Decide, Die}
@@ -16,7 +17,8 @@ use Rattle.model.specs.World.{World, Trace}
 use Rattle.model.proofs.Openings.{opened_others}
 use Rattle.model.proofs.Reached.{turn_making, kept_by_runs, reached_on_more, reached_on_opening}
 use Rattle.model.proofs.Rows.{row_passed, passes}
-use Rattle.model.specs.LockFree.{IsBelow, AreAllowedOn, Bound, AreWithinEnds, IsLockFree, KeepsEnding, HasLockFreeRuns, steps_in, ends}
+use Rattle.model.specs.LockFree.{IsBelow, AreAllowedOn, Bound, AreWithinEnds, IsLockFree, KeepsEnding, IsLockFreeOf}
+use Rattle.model.specs.LockFree.{KeepsEndingOf, HasLockFreeRuns, steps_in, ends}
 use Rattle.model.proofs.LockFree.Measure.{worth}
 
 past_none : (parties p : ℕ) → nat_le parties p ≡ false → p < parties
@@ -34,6 +36,11 @@ module _ {T : Type 0} where
   one_call_ends kind bound keeps t is r n turns allowed below many =
       one_ends (bound n t.world.capacity t.world.coding.size) (steps_in t turns) (ends t.events) (ends (after_turns t turns).events)
       (keeps t is r n turns allowed below) many
+
+  pub one_call_ends_of : (kind : Kind) (Such : Start T → Type 0) (bound : Bound) → KeepsEndingOf T kind Such bound → IsLockFreeOf T kind Such bound
+  one_call_ends_of kind Such bound keeps t is r before n turns allowed below such many =
+      one_ends (bound n t.world.capacity t.world.coding.size) (steps_in t turns) (ends t.events) (ends (after_turns t turns).events)
+      (keeps t is r before n turns allowed below such) many
 
   -- ---- machines as they run
 

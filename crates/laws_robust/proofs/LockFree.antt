@@ -1,0 +1,130 @@
+-- A robust index set in which no call may lock is lock-free.
+use Rattle.std.proofs.Common.{◌≡◌, ℕ, ◌+◌, ◌-◌, ◌*◌, ◌≤◌, ◌==◌, Bool, true, false, cond}
+use Rattle.std.proofs.Common.{Option, Some, None, List, get_or, refl, arith}
+use Rattle.steps.specs.declared.indices.robust.acquire.AcquireStage as acquires
+use Rattle.steps.specs.declared.indices.robust.find.FindStage as finds
+use Rattle.steps.specs.declared.indices.robust.parts.Count as counts
+use Rattle.steps.specs.declared.indices.robust.parts.Raise as raises
+use Rattle.steps.specs.declared.indices.robust.recover.RecoverStage as recovers
+use Rattle.steps.specs.declared.indices.robust.release.ReleaseStage as releases
+use Rattle.model.specs.declared.event.Start.{Start}
+use Rattle.model.specs.declared.event.Start.TheVariants as starts
+use Rattle.model.specs.declared.families.Flight.{Flight}
+use Rattle.model.specs.declared.families.Flight as flights
+use Rattle.model.specs.declared.families.Registry.{Registry}
+use Rattle.model.specs.declared.families.indices.robust.calls.RobustFlight.{RobustFlight}
+use Rattle.model.specs.declared.families.indices.robust.calls.RobustFlight as calls
+use Rattle.model.specs.declared.turn.Kind as kinds
+use Rattle.model.specs.Coding.{Coding}
+use Rattle.model.specs.Families.{first_of, want_of, after_of, goes_of, step_of, is_question, kept_after_begin, kept_after_death}
+use Rattle.model.specs.LockFree.{KeepsEndingOf, IsDefault, default_bound}
+use Rattle.model.specs.Turns.{number_of}
+use Rattle.model.specs.World.{capacity_error}
+use Rattle.model.proofs.LockFree.Falls.{FallsIn, StepFalls}
+use Rattle.model.proofs.LockFree.Own.{OwnLaws, OwnAfter, keeps_ending_of}
+use Rattle.laws_robust.proofs.Opening.{admitted_is}
+use Rattle.laws_robust.proofs.Measured.{raise_left, acquire_left, find_left, recover_left, count_left, release_left, recover_pays, left_at, pays, measure}
+use Rattle.laws_robust.proofs.Measured.{At, Kept, outline, call_falls, call_decides}
+
+-- ---- what it owes
+
+one_of : (t : Bool) (a b most : ℕ) → a ≤ most → b ≤ most → cond t a b ≤ most
+one_of true a b most x y = x
+one_of false a b most x y = y
+
+module _ (c : ℕ) (some : 1 ≤ c) where
+  raise_most : (now : ℕ) (raise : raises.Raise) → raise_left now raise ≤ 1
+  raise_most now raises.TheVariants.LoadsCounter = omega arith
+  raise_most now (raises.TheVariants.ExchangesCounter counter) = one_of _ 0 1 1 (omega arith) (omega arith)
+
+  acquire_most : (now : ℕ) (stage : acquires.AcquireStage) → acquire_left c now stage ≤ 4 * c + 1
+  acquire_most now acquires.TheVariants.LoadsCounter = omega arith
+  acquire_most now (acquires.TheVariants.FillsCell counter index) =
+      one_of (now == counter) (c - (index + 1) + 2) (c - (index + 1) + (c - 1) + 4) (4 * c + 1) (omega arith) (omega arith)
+  acquire_most now (acquires.TheVariants.ChecksCounter counter) = one_of _ 0 (c - 1 + 3) (4 * c + 1) (omega arith) (omega arith)
+  acquire_most now (acquires.TheVariants.Raises index raise) = let most = raise_most now raise in omega arith
+
+  recover_most : (now : ℕ) (stage : recovers.RecoverStage) → recover_left c now stage ≤ 4 * c + 1
+  recover_most now recovers.TheVariants.LoadsCounter = omega arith
+  recover_most now (recovers.TheVariants.LoadsCell index) = omega arith
+  recover_most now (recovers.TheVariants.Asks index owner) = omega arith
+  recover_most now (recovers.TheVariants.EmptiesCell index owner) = omega arith
+  recover_most now (recovers.TheVariants.Raises index raise) = let most = raise_most now raise in omega arith
+  recover_most now (recovers.TheVariants.Locks index lock) = omega arith
+  recover_most now recovers.TheVariants.LoadsCounterAgain = omega arith
+
+  count_most : (now : ℕ) (count : counts.Count) → count_left c now count ≤ 4 * c + 1
+  count_most now counts.TheVariants.LoadsCounter = omega arith
+  count_most now (counts.TheVariants.LoadsCell counter index filled) =
+      one_of (now == counter) (c - (index + 1) + 1) (c - (index + 1) + (c - 1) + 4) (4 * c + 1) (omega arith) (omega arith)
+  count_most now (counts.TheVariants.ExchangesCounter counter filled) = one_of _ 0 (c - 1 + 3) (4 * c + 1) (omega arith) (omega arith)
+
+  find_most : (stage : finds.FindStage) → find_left c stage ≤ 4 * c + 1
+  find_most (finds.TheVariants.LoadsCell index found) = omega arith
+  find_most (finds.TheVariants.Asks index found) = omega arith
+
+  release_most : (now : ℕ) (stage : releases.ReleaseStage) → release_left c now stage ≤ 4 * c + 1
+  release_most now releases.TheVariants.EmptiesCell = omega arith
+  release_most now (releases.TheVariants.Raises raise) = let most = raise_most now raise in omega arith
+  release_most now (releases.TheVariants.Locks lock) = omega arith
+
+  pays_most : (stage : recovers.RecoverStage) → recover_pays c stage ≤ c
+  pays_most x0 = grind arith
+
+  most : {T : Type 0} → (now : ℕ) (flight : Flight T) → (left_at c now flight ≤ 4 * c + 1) × (pays c flight ≤ c)
+  most now (flights.TheVariants.Robust (calls.TheVariants.Acquire run)) = (acquire_most now run.call.stage, omega arith)
+  most now (flights.TheVariants.Robust (calls.TheVariants.Release run)) = (release_most now run.call.stage, omega arith)
+  most now (flights.TheVariants.Robust (calls.TheVariants.Find run)) = (find_most run.call.stage, omega arith)
+  most now (flights.TheVariants.Robust (calls.TheVariants.Recover run)) = (recover_most now run.call.stage, pays_most run.call.stage)
+  most now (flights.TheVariants.Robust (calls.TheVariants.BorrowedIndices run)) = (count_most now run.call.count, omega arith)
+  most now (flights.TheVariants.Robust (calls.TheVariants.IsLocked run)) = (omega arith, omega arith)
+  most now flight = (omega arith, omega arith)
+
+module _ {T : Type 0} (code : Coding T) (c : ℕ) where
+  falls : (words : List ℕ) (start : Start T) (flight : Flight T) → At code c start flight → StepFalls (measure c) code words flight
+  falls words (starts.Robust start) (flights.TheVariants.Robust flight) at = call_falls code c words flight at
+  falls words start flight at = absurd at
+
+  decides : (words : List ℕ) (start : Start T) (flight : Flight T) (said : Bool) → At code c start flight → is_question (want_of code flight) ≡ true
+      → FallsIn (measure c) words words 0 flight (after_of code flight (number_of said))
+  decides words (starts.Robust start) (flights.TheVariants.Robust flight) said at due = call_decides code c words flight at said due
+  decides words start flight said at due = absurd at
+
+  goes : (start : Start T) (flight : Flight T) (old : ℕ) → At code c start flight → OwnAfter outline code c start (after_of code flight old)
+  goes x0 x1 x2 x3 = grind arith
+
+  begins : (start : Start T) (kept : Registry T) (flight : Flight T) → IsDefault start → Kept kept
+      → first_of kinds.TheVariants.Robust c start kept ≡ Some flight
+      → At code c start flight × ((p : ℕ) → Kept (kept_after_begin code c start p kept))
+  begins x0 x1 x2 x3 x4 x5 = grind arith
+
+  stays : (words : List ℕ) (beside : Option (ℕ × ℕ)) (p : ℕ) (start : Start T) (flight : Flight T) (old : ℕ) (kept : Registry T)
+      → At code c start flight → Kept kept → Kept (step_of code words beside p start flight old kept).kept
+  stays x0 x1 x2 x3 x4 x5 x6 x7 x8 = grind arith
+
+  told : (words : List ℕ) (beside : Option (ℕ × ℕ)) (p : ℕ) (start : Start T) (flight : Flight T) (old : ℕ) (kept : Registry T)
+      → At code c start flight → Kept kept
+      → ((step_of code words beside p start flight old kept).after ≡ after_of code flight old)
+      × (goes_of code p flight old kept ≡ after_of code flight old)
+  told x0 x1 x2 x3 x4 x5 x6 x7 x8 = grind arith
+
+  dies : (kept : Registry T) (owner : ℕ) → Kept kept → Kept (kept_after_death kept owner)
+  dies x0 x1 x2 = grind arith
+
+  laws : capacity_error kinds.TheVariants.Robust c ≡ None → OwnLaws outline code c
+  laws admitted =
+      record {
+        opens = tt;
+        begins = begins;
+        stays = stays;
+        goes = goes;
+        told = told;
+        dies = dies;
+        decides = decides;
+        most = λ words start flight at. (let may = admitted_is c admitted in most c may.0 (get_or words 0 0) flight);
+        falls = falls;
+      }
+
+-- in runs of calls that do not lock
+pub default_keeps_ending : {T : Type 0} → KeepsEndingOf T kinds.TheVariants.Robust IsDefault default_bound
+default_keeps_ending {T} = keeps_ending_of (outline {T = T}) (λ code c coded admitted. laws code c admitted) default_bound (λ code c n. refl)
