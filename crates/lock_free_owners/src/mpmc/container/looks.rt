@@ -126,8 +126,7 @@ impl<T: Words> Container<T> {
         bring_up::<T, Brand>(&mut pass.token.seated, rt, state, pass.token.capacity)
     }
 
-    /// Whether it is a state of this container: of its `id` and its capacity. No atomic step. After `is_state_of` of the
-    /// Rust crate.
+    /// Whether it is a state of this container: of its `id` and its capacity. No atomic step. This project's own.
     pub fn is_state_of(&self, state: &ContainerState<T>) -> bool
         ensures { IsTrue result ↔ IsStateOf self.now state.now }
     {
