@@ -11,34 +11,34 @@ use Rattle.laws_indices.proofs.LockFree.{indices_keep_ending}
 use Rattle.laws_queues.proofs.LockFree.{queue_keeps_ending}
 use Rattle.laws_value.proofs.LockFree.{value_keeps_ending}
 
-pub keep_ending : {T : Type 0} (kind : Kind) → IfSome (lock_free_bound kind) (KeepsEnding T kind)
-keep_ending IndexQueue = queue_keeps_ending queue_kinds.TheVariants.IndexQueue
-keep_ending Overflow = queue_keeps_ending queue_kinds.TheVariants.Overflow
-keep_ending Queue = queue_keeps_ending queue_kinds.TheVariants.Queue
-keep_ending Atomic = value_keeps_ending
-keep_ending Bits = bits_keep_ending
-keep_ending Counts = counts_keep_ending
-keep_ending Indices = indices_keep_ending
-keep_ending Robust = tt
-keep_ending Container = tt
-keep_ending Loan = tt
+pub keep_ending : (T : Type 0) (kind : Kind) → IfSome (lock_free_bound kind) (KeepsEnding T kind)
+keep_ending T IndexQueue = queue_keeps_ending queue_kinds.TheVariants.IndexQueue
+keep_ending T Overflow = queue_keeps_ending queue_kinds.TheVariants.Overflow
+keep_ending T Queue = queue_keeps_ending queue_kinds.TheVariants.Queue
+keep_ending T Atomic = value_keeps_ending
+keep_ending T Bits = bits_keep_ending
+keep_ending T Counts = counts_keep_ending
+keep_ending T Indices = indices_keep_ending
+keep_ending T Robust = tt
+keep_ending T Container = tt
+keep_ending T Loan = tt
 
 if_some : {A : Type 0} (P Q : A → Type 0) (o : Option A) → ((x : A) → P x → Q x) → IfSome o P → IfSome o Q
 if_some P Q None more h = tt
 if_some P Q (Some x) more h = more x h
 
-pub one_ends : {T : Type 0} (kind : Kind) → IfSome (lock_free_bound kind) (IsLockFree T kind)
-one_ends {T} kind = if_some (KeepsEnding T kind) (IsLockFree T kind) (lock_free_bound kind) (one_call_ends kind) (keep_ending kind)
+pub one_ends : (T : Type 0) (kind : Kind) → IfSome (lock_free_bound kind) (IsLockFree T kind)
+one_ends T kind = if_some (KeepsEnding T kind) (IsLockFree T kind) (lock_free_bound kind) (one_call_ends kind) (keep_ending T kind)
 
 -- the machines as they run
-pub as_run : {T : Type 0} (kind : Kind) → IfSome (lock_free_bound kind) (HasLockFreeRuns T kind)
-as_run IndexQueue = machines IndexQueue refl _ (one_ends IndexQueue)
-as_run Overflow = machines Overflow refl _ (one_ends Overflow)
-as_run Queue = machines Queue refl _ (one_ends Queue)
-as_run Atomic = machines Atomic refl _ (one_ends Atomic)
-as_run Bits = machines Bits refl _ (one_ends Bits)
-as_run Counts = machines Counts refl _ (one_ends Counts)
-as_run Indices = machines Indices refl _ (one_ends Indices)
-as_run Robust = tt
-as_run Container = tt
-as_run Loan = tt
+pub as_run : (T : Type 0) (kind : Kind) → IfSome (lock_free_bound kind) (HasLockFreeRuns T kind)
+as_run T IndexQueue = machines IndexQueue refl _ (one_ends T IndexQueue)
+as_run T Overflow = machines Overflow refl _ (one_ends T Overflow)
+as_run T Queue = machines Queue refl _ (one_ends T Queue)
+as_run T Atomic = machines Atomic refl _ (one_ends T Atomic)
+as_run T Bits = machines Bits refl _ (one_ends T Bits)
+as_run T Counts = machines Counts refl _ (one_ends T Counts)
+as_run T Indices = machines Indices refl _ (one_ends T Indices)
+as_run T Robust = tt
+as_run T Container = tt
+as_run T Loan = tt

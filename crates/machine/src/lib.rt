@@ -23,10 +23,19 @@ use turns::party::{flight_of, progress_of};
 
 /// One structure and its parties, with what they have done so far. `T` is the type of the values of the structures
 /// that keep values; the queues of indices keep numbers of 64 bits, whatever `T` is.
-#[derive(Drop)]
 pub struct Machine<T: Words> {
     parts: Parts<T>,
     unlooked: Unlooked<T>,
+}
+
+// A drop by hand is one call in a caller's proof, on each way out; one that is derived is as many as it has fields below.
+impl<T: Words> Drop for Machine<T> {
+    fn drop(self) {
+        let Self {
+            parts: _parts,
+            unlooked: _unlooked,
+        } = self;
+    }
 }
 
 /// The state of a party of a container before its first look. It has no elements, and takes no memory.

@@ -1,5 +1,6 @@
 //! What follows from the promises of every run, in the field's words. These functions do nothing: the contract of each is a
 //! law, whose proof is a lemma that a client's proof can cite.
+ghost use Rattle.std.specs.Prelude.{ℕ, IfSome, ◌<◌};
 ghost use Rattle.model.specs.declared.families.Flight.{Flight};
 ghost use Rattle.model.specs.declared.turn.Kind.{Kind};
 ghost use Rattle.model.specs.declared.turn.Kind.TheVariants.{IndexQueue, Overflow, Queue, Atomic, Bits, Counts, Robust};

@@ -18,7 +18,6 @@ pub struct Progress {
 }
 
 /// Where a party's latest call stands.
-#[derive(Drop)]
 pub enum Doing<T> {
     /// It goes on. So many changes of words were made before it began, or by itself.
     Going(Flight<T>, u64),
@@ -26,8 +25,16 @@ pub enum Doing<T> {
     Over(u64),
 }
 
+impl<T: Drop> Drop for Doing<T> {
+    fn drop(self) {
+        match self {
+            Doing::Going(_flight, _) => {}
+            Doing::Over(_) => {}
+        }
+    }
+}
+
 /// A party that has begun a call.
-#[derive(Drop)]
 pub struct Party<T> {
     pub start: Start<T>,
     pub steps: u64,
@@ -35,10 +42,26 @@ pub struct Party<T> {
     pub doing: Doing<T>,
 }
 
+impl<T: Drop> Drop for Party<T> {
+    fn drop(self) {
+        let Self {
+            start: _start,
+            steps: _,
+            backs: _,
+            doing: _doing,
+        } = self;
+    }
+}
+
 /// A party in memory of its own: a map of parties keeps, and moves, only where each is.
-#[derive(Drop)]
 pub struct Seat<T> {
     pub party: Box<Party<T>>,
+}
+
+impl<T: Drop> Drop for Seat<T> {
+    fn drop(self) {
+        let Self { party: _party } = self;
+    }
 }
 
 impl<T> Model for Seat<T> {

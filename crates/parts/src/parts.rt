@@ -25,7 +25,6 @@ use turns::{families, words};
 /// As many turns as a machine takes.
 const MOST_TURNS: u64 = u64::MAX - 1;
 
-#[derive(Drop)]
 pub struct Parts<T> {
     pub kind: Kind,
     pub capacity: u32,
@@ -36,6 +35,23 @@ pub struct Parts<T> {
     pub changes: u64,
     pub turns: u64,
     pub events: Vec<Event<T>>,
+}
+
+// A drop by hand is one call in a caller's proof, on each way out; one that is derived is as many as it has fields below.
+impl<T: Drop> Drop for Parts<T> {
+    fn drop(self) {
+        let Self {
+            kind: _,
+            capacity: _,
+            parties: _,
+            words: _words,
+            kept: _kept,
+            latest: _latest,
+            changes: _,
+            turns: _,
+            events: _events,
+        } = self;
+    }
 }
 
 /// The answer that stands for a decision.

@@ -48,7 +48,6 @@ pub struct FixedSize<E: Kind, T: Words, const CAPACITY: usize> {
 
 /// A seat at a queue's table, with no call under way. Its rule is a parameter: only so can its size be told by
 /// `T::WORDS`.
-#[derive(Drop)]
 pub struct Held<E: Kind, T: Words, Q: TableRule<(), View<T>, Origin>> {
     pub of: PhantomData<E>,
     pub seated: Seated<View<T>, Origin, Q>,
@@ -111,6 +110,16 @@ impl<E: Kind, T: Words, const CAPACITY: usize> FixedSize<E, T, CAPACITY> {
 impl<E: Kind, T: Words, const CAPACITY: usize> Drop for FixedSize<E, T, CAPACITY> {
     fn drop(self) {
         let Self { ring: _ring } = self;
+    }
+}
+
+impl<E: Kind, T: Words, Q: TableRule<(), View<T>, Origin>> Drop for Held<E, T, Q> {
+    fn drop(self) {
+        let Self {
+            of: _,
+            seated: _seated,
+            capacity: _,
+        } = self;
     }
 }
 

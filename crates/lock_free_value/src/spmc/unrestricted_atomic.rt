@@ -32,6 +32,7 @@ pub struct UnrestrictedAtomic<T: Words> {
     board: Arc<Board<T>, Global>,
 }
 
+// A drop by hand is one call in a caller's proof, on each way out; one that is derived is as many as it has fields below.
 impl<T: Words> Drop for UnrestrictedAtomic<T> {
     fn drop(self) {
         let Self { board: _board } = self;
@@ -40,7 +41,6 @@ impl<T: Words> Drop for UnrestrictedAtomic<T> {
 
 /// A seat at a value's table, with no call under way. Its rule is a parameter: only so can its size be told by
 /// `T::WORDS`.
-#[derive(Drop)]
 pub struct Held<T: Words, Q: TableRule<(), View<T>, Origin<T>>> {
     pub seated: Seated<View<T>, Origin<T>, Q>,
     ghost sized: { seated.seat.table_id.words ≡ 2 + T.WORDS * 2 + 1 },
@@ -49,6 +49,12 @@ pub struct Held<T: Words, Q: TableRule<(), View<T>, Origin<T>>> {
     ghost alone: { seated.seat.me.0.other ≡ [] },
     ghost some: { (0 < seated.seat.me.0.share.part) × (0 < seated.seat.me.0.share.parts) },
     ghost begun: { 0 < length (stored seated.seat.me.0.seen) },
+}
+
+impl<T: Words, Q: TableRule<(), View<T>, Origin<T>>> Drop for Held<T, Q> {
+    fn drop(self) {
+        let Self { seated: _seated } = self;
+    }
 }
 
 pub type Token<T> = Held<T, ValueRule<T>>;

@@ -39,9 +39,10 @@ module _ {T : Type 0} (M : Measure T) where
   -- it leaves the others no more
   falls_there : (w : World T) (p : ℕ) (new : List ℕ) (steps : ℕ) (was next : Flight T) → FallsThere w.words new steps was next
       → Falls M w p new steps was next
-  falls_there w p new steps was next (inl h) =
-      (subst (λ ws. M.left ws next + steps ≤ M.left w.words was) (sym h.0) h.1,
-      inl (λ q ne other e. subst (λ ws. M.left ws other ≤ M.left w.words other) (sym h.0) (omega arith), h.2))
+  falls_there w p new steps was next (inl h) = (
+    subst (λ ws. M.left ws next + steps ≤ M.left w.words was) (sym h.0) h.1,
+    inl (λ q ne other e. subst (λ ws. M.left ws other ≤ M.left w.words other) (sym h.0) (omega arith), h.2),
+  )
   falls_there w p new steps was next (inr h) = (h.0, ⊎_elim (λ same. inl (λ q ne other e. same.0 other, same.1)) (λ less. inr less) h.1)
 
   pub falls_by : (w : World T) (p : ℕ) (new : List ℕ) (steps : ℕ) (was : Flight T) (after : After (Flight T) (Answer T))

@@ -46,7 +46,11 @@ impl<E: Kind, T: Words> Held<E, T, RingRule<E, T>> {
         ensures history { HasHistory (coding_of T.WORDS T.words_of T.value_of) E.KIND (token_queue self.old).capacity (token_view self.new) }
         ensures all { MissesNothing (token_view self.new) }
     {
-        let Held { seated: other, .. } = other;
+        let Held {
+            of: _,
+            seated: other,
+            capacity: _,
+        } = other;
         let Seated { seat, .. } = other;
         let seated = &mut self.seated;
         seated

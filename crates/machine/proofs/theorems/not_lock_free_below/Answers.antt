@@ -2,22 +2,22 @@ use Rattle.model.proofs.WorkedLockFree as worked
 use Rattle.machine.proofs.theorems.not_lock_free_below.Goals as goal
 
 pub returns-clause-index_queue : goal.returns-clause-index_queue
-returns-clause-index_queue g c bound few free = worked.index_queue bound few free
+returns-clause-index_queue c bound few free = worked.index_queue bound few free
 
 pub returns-clause-overflow : goal.returns-clause-overflow
-returns-clause-overflow g c bound few free = worked.overflow bound few free
+returns-clause-overflow c bound few free = worked.overflow bound few free
 
 pub returns-clause-queue : goal.returns-clause-queue
-returns-clause-queue g c bound few free = worked.queue bound few free
+returns-clause-queue c bound few free = worked.queue bound few free
 
 pub returns-clause-value : goal.returns-clause-value
-returns-clause-value g c bound few free = worked.value bound few free
+returns-clause-value c bound few free = worked.value bound few free
 
 pub returns-clause-bits : goal.returns-clause-bits
-returns-clause-bits g c bound few free = worked.bit_set bound few free
+returns-clause-bits c bound few free = worked.bit_set bound few free
 
 pub returns-clause-counts : goal.returns-clause-counts
-returns-clause-counts g c bound few free = worked.counts bound few free
+returns-clause-counts c bound few free = worked.counts bound few free
 
 pub returns-clause-robust : goal.returns-clause-robust
-returns-clause-robust g c bound few free = worked.robust bound few free
+returns-clause-robust c bound few free = worked.robust bound few free
