@@ -14,6 +14,7 @@ use Rattle.laws_turns.proofs.Waiting as waiting
 use Rattle.laws_turns.specs.Questions.{waits_at}
 use Rattle.headline.specs.Headline.{Holds}
 use Rattle.machine.proofs.Laws.{laws_of}
+use Rattle.machine.proofs.LockFree.{one_ends}
 use Rattle.headline.proofs.Picking.{picked}
 use Rattle.headline.proofs.Reached.{holds}
 use Rattle.headline.proofs.Reaching.{reaches}
@@ -48,3 +49,6 @@ returns-clause-turn g c t turn r e =
       answered = last_word t turn r e;
       is_turn = is_turn;
     }
+
+pub returns-clause-lock_free : goal.returns-clause-lock_free
+returns-clause-lock_free g c kind = one_ends _ kind
