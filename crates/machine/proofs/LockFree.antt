@@ -4,11 +4,12 @@ use Rattle.std.specs.Prelude.{IfSome}
 use Rattle.model.specs.declared.turn.Kind.{Kind}
 use Rattle.model.specs.declared.turn.Kind.TheVariants.{IndexQueue, Overflow, Queue, Atomic, Bits, Counts, Indices, Robust, Container, Loan}
 use Rattle.model.specs.declared.families.queues.QueueKind as queue_kinds
-use Rattle.model.specs.LockFree.{Bound, IsLockFree, KeepsEnding, HasLockFreeRuns, lock_free_bound}
-use Rattle.model.proofs.LockFree.Machines.{one_call_ends, machines}
+use Rattle.model.specs.LockFree.{IsLockFree, KeepsEnding, IsLockFreeOf, KeepsEndingOf, IsDefault, HasLockFreeRuns, lock_free_bound, default_bound}
+use Rattle.model.proofs.LockFree.Machines.{one_call_ends, one_call_ends_of, machines}
 use Rattle.laws_bits.proofs.LockFree.{bits_keep_ending, counts_keep_ending}
 use Rattle.laws_indices.proofs.LockFree.{indices_keep_ending}
 use Rattle.laws_queues.proofs.LockFree.{queue_keeps_ending}
+use Rattle.laws_robust.proofs.LockFree.{default_keeps_ending}
 use Rattle.laws_value.proofs.LockFree.{value_keeps_ending}
 
 pub keep_ending : (T : Type 0) (kind : Kind) → IfSome (lock_free_bound kind) (KeepsEnding T kind)
@@ -42,3 +43,10 @@ as_run T Indices = machines Indices refl _ (one_ends T Indices)
 as_run T Robust = tt
 as_run T Container = tt
 as_run T Loan = tt
+
+-- robust index sets in which no call may lock
+pub robust_keeps_ending : (T : Type 0) → KeepsEndingOf T Robust IsDefault default_bound
+robust_keeps_ending T = default_keeps_ending
+
+pub robust_one_ends : (T : Type 0) → IsLockFreeOf T Robust IsDefault default_bound
+robust_one_ends T = one_call_ends_of Robust IsDefault default_bound default_keeps_ending

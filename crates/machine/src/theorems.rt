@@ -5,7 +5,8 @@ ghost use Rattle.model.specs.declared.families.Flight.{Flight};
 ghost use Rattle.model.specs.declared.turn.Kind.{Kind};
 ghost use Rattle.model.specs.declared.turn.Kind.TheVariants.{IndexQueue, Overflow, Queue, Atomic, Bits, Counts, Robust};
 ghost use Rattle.model.specs.Coding.{Coding};
-ghost use Rattle.model.specs.LockFree.{Bound, IsLockFree, KeepsEnding, HasLockFreeRuns, lock_free_bound};
+ghost use Rattle.model.specs.LockFree.{Bound, IsLockFree, KeepsEnding, IsLockFreeOf, KeepsEndingOf};
+ghost use Rattle.model.specs.LockFree.{HasLockFreeRuns, IsDefault, lock_free_bound, default_bound};
 ghost use Rattle.model.specs.Linearized.{IsLinearizableRun};
 ghost use Rattle.model.specs.Progress.{AreGuaranteed, KeepsGuarantees, Looks, ChangesNothing};
 ghost use Rattle.model.specs.Promises.{IsKept};
@@ -46,6 +47,13 @@ pub fn lock_free<T>()
     ensures one_ends { (kind : Kind) → IfSome (lock_free_bound kind) (IsLockFree T kind) }
     ensures keep_ending { (kind : Kind) → IfSome (lock_free_bound kind) (KeepsEnding T kind) }
     ensures as_run { (kind : Kind) → IfSome (lock_free_bound kind) (HasLockFreeRuns T kind) }
+{}
+
+/// Lock-freedom of robust index sets, in runs in which no release and no recovery is in the mode `LockIfLastIndex`, with the
+/// bound `default_bound`: as `lock_free` says of the kinds there. The second clause says that calls go on ending.
+pub fn lock_free_by_default<T>()
+    ensures one_ends { IsLockFreeOf T Robust IsDefault default_bound }
+    ensures keep_ending { KeepsEndingOf T Robust IsDefault default_bound }
 {}
 
 /// No such bound is less than these, at so many parties, this capacity and values of one word: there is a run of so many steps
