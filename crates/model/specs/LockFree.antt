@@ -71,8 +71,7 @@ IsLockFree T kind bound =
     → bound n t.world.capacity t.world.coding.size < steps_in t turns
     → ends t.events < ends (after_turns t turns).events
 
--- one stretch of more steps than the bound costs one end: so k calls more have ended before the steps are more than
--- k times one more than the bound, and once the bound
+-- where k calls more have ended, at most k + 1 times the bound and k steps were taken
 abbrev pub AreWithinEnds : ℕ → ℕ → ℕ → ℕ → Type 0
 AreWithinEnds bound steps before after = steps + before * (bound + 1) ≤ bound + after * (bound + 1)
 
