@@ -77,8 +77,8 @@ impl<'a> Writer for Publishes<'a> {
         let Some(mut loan) = self.next_loan(rt) else {
             return false;
         };
-        for at in 0..loan.value.len() {
-            loan.value[at] = word_of(number, at);
+        for (at, word) in loan.value.iter_mut().enumerate() {
+            *word = word_of(number, at);
         }
         self.publisher.publish(loan);
         true
