@@ -14,7 +14,7 @@ use Rattle.laws_turns.proofs.Waiting as waiting
 use Rattle.laws_turns.specs.Questions.{waits_at}
 use Rattle.headline.specs.Headline.{Holds}
 use Rattle.machine.proofs.Laws.{laws_of}
-use Rattle.machine.proofs.LockFree.{one_ends}
+use Rattle.machine.proofs.LockFree.{one_ends, robust_one_ends}
 use Rattle.headline.proofs.Picking.{picked}
 use Rattle.headline.proofs.Reached.{holds}
 use Rattle.headline.proofs.Reaching.{reaches}
@@ -52,3 +52,6 @@ returns-clause-turn g c t turn r e =
 
 pub returns-clause-lock_free : goal.returns-clause-lock_free
 returns-clause-lock_free g c kind = one_ends _ kind
+
+pub returns-clause-lock_free_by_default : goal.returns-clause-lock_free_by_default
+returns-clause-lock_free_by_default g c = robust_one_ends _

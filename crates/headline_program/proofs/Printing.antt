@@ -1,0 +1,292 @@
+-- Line by line what is printed is what a machine has written down.
+use Rattle.std.proofs.Common.{◌≡◌, ℕ, zero, suc, ◌+◌, Bool, true, false, Option, Some, None, Result, Ok, Err, List, [], ◌∷◌, ◌++◌, if◌then◌else◌}
+use Rattle.std.proofs.Common.{refl, sym, ap, subst, ◌∙◌, append_assoc, append-nil, arith}
+use Rattle.std.proofs.lemmas.List.Concat.{flat_map-append}
+use Rattle.std.specs.List.{flat_map}
+use Rattle.steps.specs.Words.{words_of_u128, value_of_u128, given_back_u128}
+use Rattle.steps.specs.declared.enums.UniqueIndexCreationError.{UniqueIndexCreationError}
+use Rattle.steps.specs.declared.enums.UniqueIndexCreationError.TheVariants as creation
+use Rattle.model.specs.declared.event.Event.{Event}
+use Rattle.model.specs.declared.turn.Kind.{Kind}
+use Rattle.model.specs.declared.turn.Kind.TheVariants as kinds
+use Rattle.model.specs.declared.turn.Refusal.{Refusal}
+use Rattle.model.specs.declared.turn.Refusal.TheVariants.{NoMemory}
+use Rattle.model.specs.declared.turn.Turn.{Turn}
+use Rattle.model.specs.declared.turn.Turn.TheVariants.{Next}
+use Rattle.model.specs.Coding.{IsCoding}
+use Rattle.model.specs.Families.Loan.Opening.{is_loan}
+use Rattle.model.specs.Refusals.{refusal_of}
+use Rattle.model.specs.Turns.{IsReached, world_after, events_of}
+use Rattle.model.specs.World.{World, Trace, opening, loan_opening, capacity_error, loan_error}
+use Rattle.model.proofs.Reached.{SameMaking, turn_making, reached_more, reached_opening, reached_loan}
+use Rattle.texts.specs.declared.error.Cause.{Cause}
+use Rattle.texts.specs.declared.grammar.Command.{Command}
+use Rattle.texts.specs.declared.grammar.Command.TheVariants.{Once, Times}
+use Rattle.texts.specs.declared.grammar.Setup.{Setup}
+use Rattle.texts.specs.Grammar.{◌>>=◌, setup_of, command_of}
+use Rattle.texts.specs.Text.{lines, words}
+use Rattle.schedule.specs.Output.{two_words, outcome, outcome_as, refusal_where, Outcome, State, is_short, later}
+use Rattle.schedule.specs.Output.{Printed, after_text, printed as printed_now, next_outcome, goes_on, nexts}
+use Rattle.schedule.specs.Output.{commanded, Output, stopped, before as behind, lines_from, capacity_cause, admitted}
+use Rattle.schedule.specs.Output.{setup_error, machine_of, trace_of, opened, output_of_lines, output}
+use Rattle.headline_program.specs.Printing.{Line, Wrote, Refused, text_of, events_in, IsOfMachine}
+
+-- ---- what is printed as a world becomes another, behind these events
+
+abbrev machine_in : World ℕ → List (Event ℕ) → Trace ℕ
+machine_in w events = record { world = w; events = events }
+
+pub record Prints (w : World ℕ) (before : List (Event ℕ)) (text : List ℕ) (new : World ℕ) : Type 0 where
+  pub lines : List Line
+  pub is : text ≡ flat_map text_of lines
+  pub reached : IsReached (machine_in new (before ++ flat_map events_in lines))
+  pub same : SameMaking w new
+
+same_making : (w : World ℕ) → SameMaking w w
+same_making w = record { coding = refl; kind = refl; capacity = refl; parties = refl }
+
+both : (v w x : World ℕ) → SameMaking v w → SameMaking w x → SameMaking v x
+both v w x a b =
+    record {
+      coding = b.coding ∙ a.coding;
+      kind = b.kind ∙ a.kind;
+      capacity = b.capacity ∙ a.capacity;
+      parties = b.parties ∙ a.parties;
+    }
+
+nothing : (w : World ℕ) (before : List (Event ℕ)) → IsReached (machine_in w before) → Prints w before [] w
+nothing w before r =
+    record { lines = []; is = refl; reached = subst (λ es. IsReached (machine_in w es)) (sym (append-nil before)) r; same = same_making w }
+
+after_that : (w mid new : World ℕ) (before : List (Event ℕ)) (first second : List ℕ) (a : Prints w before first mid)
+    → Prints mid (before ++ flat_map events_in a.lines) second new → Prints w before (first ++ second) new
+after_that w mid new before first second a b =
+    record {
+      lines = a.lines ++ b.lines;
+      is = ap (λ (xs : List ℕ). xs ++ second) a.is
+          ∙ (ap (λ (xs : List ℕ). flat_map text_of a.lines ++ xs) b.is ∙ sym (flat_map-append text_of a.lines b.lines));
+      reached = subst (λ es. IsReached (machine_in new es))
+          (append_assoc before (flat_map events_in a.lines) (flat_map events_in b.lines)
+          ∙ ap (λ (es : List (Event ℕ)). before ++ es) (sym (flat_map-append events_in a.lines b.lines)))
+          b.reached;
+      same = both w mid new a.same b.same;
+    }
+
+-- ---- one turn
+
+written : (w : World ℕ) (before : List (Event ℕ)) (turn : Turn ℕ) → refusal_of w turn ≡ None → IsReached (machine_in w before)
+    → Prints w before (outcome_as w turn None).text (outcome_as w turn None).world
+written w before turn e r =
+    record {
+      lines = Wrote (events_of w turn) ∷ [];
+      is = sym (append-nil _);
+      reached = subst (λ es. IsReached (machine_in (world_after w turn) es))
+          (ap (λ (es : List (Event ℕ)). before ++ es) (sym (append-nil (events_of w turn))))
+          (reached_more (machine_in w before) turn e r);
+      same = turn_making w turn;
+    }
+
+refused : (w : World ℕ) (before : List (Event ℕ)) (turn : Turn ℕ) (refusal : Refusal) → IsReached (machine_in w before)
+    → Prints w before (outcome_as w turn (Some refusal)).text (outcome_as w turn (Some refusal)).world
+refused w before turn refusal r =
+    record {
+      lines = Refused refusal ∷ [];
+      is = sym (append-nil _);
+      reached = subst (λ es. IsReached (machine_in w es)) (sym (append-nil before)) r;
+      same = same_making w;
+    }
+
+either : (w : World ℕ) (before : List (Event ℕ)) (turn : Turn ℕ) (short : Bool) (o : Option Refusal) → refusal_of w turn ≡ o
+    → IsReached (machine_in w before)
+    → Prints w before (outcome_as w turn (refusal_where short o)).text (outcome_as w turn (refusal_where short o)).world
+either w before turn short (Some refusal) e r = refused w before turn refusal r
+either w before turn true None e r = refused w before turn NoMemory r
+either w before turn false None e r = written w before turn e r
+
+one_turn : (w : World ℕ) (before : List (Event ℕ)) (turn : Turn ℕ) (short : Bool) → IsReached (machine_in w before)
+    → Prints w before (outcome short w turn).text (outcome short w turn).world
+unfolding outcome
+one_turn w before turn short r = either w before turn short (refusal_of w turn) refl r
+
+-- ---- several turns
+
+abbrev chosen : Bool → Outcome → Printed → List Bool → Printed
+chosen go o more memory = if go then after_text o.text more else printed_now o memory
+
+choose : (go : Bool) (w : World ℕ) (before : List (Event ℕ)) (o : Outcome) (more : Printed) (memory : List Bool)
+    → (first : Prints w before o.text o.world)
+    → Prints o.world (before ++ flat_map events_in first.lines) more.text more.state.world
+    → Prints w before (chosen go o more memory).text (chosen go o more memory).state.world
+choose true w before o more memory first rest = after_that w o.world more.state.world before o.text more.text first rest
+choose false w before o more memory first rest = first
+
+several : (most party : ℕ) (s : State) (before : List (Event ℕ)) → IsReached (machine_in s.world before)
+    → Prints s.world before (nexts most party s).text (nexts most party s).state.world
+unfolding nexts
+several zero party s before r = nothing s.world before r
+several (suc most) party s before r =
+    let o = next_outcome s (Next party) in
+    let on : State = record { world = o.world; memory = later s.memory } in
+    let first = one_turn s.world before (Next party) (is_short s.memory) r in
+    choose (goes_on party o) s.world before o (nexts most party on) (later s.memory) first
+    (several most party on (before ++ flat_map events_in first.lines) first.reached)
+
+command : (c : Command) (s : State) (before : List (Event ℕ)) → IsReached (machine_in s.world before)
+    → Prints s.world before (commanded c s).text (commanded c s).state.world
+command (Once turn) s before r = one_turn s.world before turn (is_short s.memory) r
+command (Times party most) s before r = several most party s before r
+
+-- ---- lines
+
+pub record Ends (w : World ℕ) (before : List (Event ℕ)) (text : List ℕ) : Type 0 where
+  pub new : World ℕ
+  pub prints : Prints w before text new
+
+abbrev line_as : Kind → ℕ → List (List ℕ) → State → Result Command Cause → Output
+line_as kind number lines s read =
+    elim read [
+      | Err cause ↦ stopped number cause
+      | Ok command ↦ behind (commanded command s).text (lines_from kind (number + 1) lines (commanded command s).state)
+    ]
+
+choose_line : (kind : Kind) (number : ℕ) (lines : List (List ℕ)) (s : State) (before : List (Event ℕ)) (read : Result Command Cause)
+    → IsReached (machine_in s.world before)
+    → ((c : Command) (first : Prints s.world before (commanded c s).text (commanded c s).state.world)
+    → Ends (commanded c s).state.world (before ++ flat_map events_in first.lines) (lines_from kind (number + 1) lines (commanded c s).state).text)
+    → Ends s.world before (line_as kind number lines s read).text
+choose_line kind number lines s before (Err cause) r rest = record { new = s.world; prints = nothing s.world before r }
+choose_line kind number lines s before (Ok c) r rest =
+    let first = command c s before r in
+    let more = rest c first in
+    record { new = more.new; prints = after_that s.world (commanded c s).state.world more.new before _ _ first more.prints }
+
+line_by_line : (kind : Kind) (number : ℕ) (lines : List (List ℕ)) (s : State) (before : List (Event ℕ)) → IsReached (machine_in s.world before)
+    → Ends s.world before (lines_from kind number lines s).text
+unfolding lines_from
+line_by_line kind number [] s before r = record { new = s.world; prints = nothing s.world before r }
+line_by_line kind number ([] ∷ lines) s before r = line_by_line kind (number + 1) lines s before r
+line_by_line kind number ((b ∷ bs) ∷ lines) s before r =
+    choose_line kind number lines s before (command_of kind (words (b ∷ bs))) r
+    (λ c first. line_by_line kind (number + 1) lines (commanded c s).state (before ++ flat_map events_in first.lines) first.reached)
+
+-- ---- the first line
+
+coded : IsCoding two_words
+coded = record { some = omega arith; few = omega arith; sized = λ x. refl; given_back = λ x. given_back_u128 x }
+
+no_cause : (o : Option UniqueIndexCreationError) → (o ≡ Some creation.NoMemory → ⊥) → capacity_cause o ≡ None → o ≡ None
+no_cause None never e = refl
+no_cause (Some creation.ProvidedCapacityGreaterThanMaxCapacity) never e = absurd (cc)
+no_cause (Some creation.ProvidedCapacityIsZero) never e = absurd (cc)
+no_cause (Some creation.NoMemory) never e = absurd (never refl)
+
+no_memory_of : (a b : Bool)
+    → (if a then Some creation.ProvidedCapacityGreaterThanMaxCapacity else if b then Some creation.ProvidedCapacityIsZero else None)
+    ≡ Some creation.NoMemory
+    → ⊥
+no_memory_of true b e = cc
+no_memory_of false true e = cc
+no_memory_of false false e = cc
+
+opens : (setup : Setup) (b : Bool) → is_loan setup.kind ≡ b
+    → capacity_cause (if b then loan_error setup.capacity setup.queue else capacity_error setup.kind setup.capacity) ≡ None
+    → IsReached (if b then loan_opening two_words setup.capacity setup.queue setup.parties
+    else opening two_words setup.kind setup.capacity setup.parties)
+opens setup true loan e =
+    reached_loan two_words setup.capacity setup.queue setup.parties coded
+    (no_cause (loan_error setup.capacity setup.queue) (no_memory_of _ _) e)
+opens setup false loan e =
+    reached_opening two_words setup.kind setup.capacity setup.parties coded
+    (no_cause (capacity_error setup.kind setup.capacity) (no_memory_of _ _) e)
+
+pub record Made (setup : Setup) : Type 0 where
+  pub reached : IsReached (machine_in (trace_of setup).world [])
+  pub kind : (trace_of setup).world.kind ≡ setup.kind
+  pub capacity : (trace_of setup).world.capacity ≡ setup.capacity
+  pub parties : (trace_of setup).world.parties ≡ setup.parties
+
+abbrev opening_if : Setup → Bool → Trace ℕ
+opening_if setup b =
+    if b then loan_opening two_words setup.capacity setup.queue setup.parties else opening two_words setup.kind setup.capacity setup.parties
+
+abbrev error_if : Setup → Bool → Option UniqueIndexCreationError
+error_if setup b = if b then loan_error setup.capacity setup.queue else capacity_error setup.kind setup.capacity
+
+loan_kind : (kind : Kind) → is_loan kind ≡ true → kind ≡ kinds.Loan
+loan_kind kinds.Loan t = refl
+loan_kind kinds.IndexQueue t = absurd (cc)
+loan_kind kinds.Overflow t = absurd (cc)
+loan_kind kinds.Queue t = absurd (cc)
+loan_kind kinds.Atomic t = absurd (cc)
+loan_kind kinds.Bits t = absurd (cc)
+loan_kind kinds.Counts t = absurd (cc)
+loan_kind kinds.Indices t = absurd (cc)
+loan_kind kinds.Robust t = absurd (cc)
+loan_kind kinds.Container t = absurd (cc)
+
+made : (setup : Setup) (b : Bool) → is_loan setup.kind ≡ b → capacity_cause (setup_error setup) ≡ None → Made setup
+made setup true loan e =
+    let here : trace_of setup ≡ loan_opening two_words setup.capacity setup.queue setup.parties = ap (opening_if setup) loan in
+    let error : setup_error setup ≡ loan_error setup.capacity setup.queue = ap (error_if setup) loan in
+    record {
+      reached = subst (λ (t : Trace ℕ). IsReached (machine_in t.world [])) (sym here)
+          (opens setup true loan (ap capacity_cause (sym error) ∙ e));
+      kind = ap (λ (t : Trace ℕ). t.world.kind) here ∙ sym (loan_kind setup.kind loan);
+      capacity = ap (λ (t : Trace ℕ). t.world.capacity) here;
+      parties = ap (λ (t : Trace ℕ). t.world.parties) here;
+    }
+made setup false loan e =
+    let here : trace_of setup ≡ opening two_words setup.kind setup.capacity setup.parties = ap (opening_if setup) loan in
+    let error : setup_error setup ≡ capacity_error setup.kind setup.capacity = ap (error_if setup) loan in
+    record {
+      reached = subst (λ (t : Trace ℕ). IsReached (machine_in t.world [])) (sym here)
+          (opens setup false loan (ap capacity_cause (sym error) ∙ e));
+      kind = ap (λ (t : Trace ℕ). t.world.kind) here;
+      capacity = ap (λ (t : Trace ℕ). t.world.capacity) here;
+      parties = ap (λ (t : Trace ℕ). t.world.parties) here;
+    }
+
+after_setup : (read : Result Setup Cause) (setup : Setup)
+    → (read >>= λ setup. admitted setup (capacity_cause (setup_error setup))) ≡ Ok setup → Made setup
+after_setup (Err cause) setup e = absurd (cc)
+after_setup (Ok s) setup e = go (capacity_cause (setup_error s)) refl e
+  where
+    go : (c : Option Cause) → capacity_cause (setup_error s) ≡ c → admitted s c ≡ Ok setup → Made setup
+    go None none is =
+        let same : s ≡ setup = cc in
+        subst Made same (made s (is_loan s.kind) refl none)
+    go (Some cause) some is = absurd (cc)
+
+reads : (first : List ℕ) (setup : Setup) → machine_of (words first) ≡ Ok setup → Made setup
+unfolding machine_of
+reads first setup e = after_setup (setup_of (words first)) setup e
+
+abbrev first_as : List (List ℕ) → List Bool → Result Setup Cause → Output
+first_as rest memory read =
+    elim read [ Err cause ↦ stopped 1 cause | Ok setup ↦ lines_from setup.kind 2 rest (opened setup memory) ]
+
+prints_of : (memory : List Bool) (first : List ℕ) (rest : List (List ℕ)) (setup : Setup) → machine_of (words first) ≡ Ok setup
+    → output_of_lines memory (first ∷ rest) ≡ lines_from setup.kind 2 rest (opened setup memory)
+unfolding output_of_lines
+prints_of memory first rest setup e = ap (first_as rest memory) e
+
+printed : (memory : List Bool) (first : List ℕ) (rest : List (List ℕ)) (setup : Setup) → machine_of (words first) ≡ Ok setup
+    → IsOfMachine setup (output_of_lines memory (first ∷ rest)).text
+printed memory first rest setup e =
+    let m = reads first setup e in
+    let ends = line_by_line setup.kind 2 rest (opened setup memory) [] m.reached in
+    record {
+      trace = machine_in ends.new (flat_map events_in ends.prints.lines);
+      reached = ends.prints.reached;
+      kind = ends.prints.same.kind ∙ m.kind;
+      capacity = ends.prints.same.capacity ∙ m.capacity;
+      parties = ends.prints.same.parties ∙ m.parties;
+      lines = ends.prints.lines;
+      events = refl;
+      text = ap (λ (o : Output). o.text) (prints_of memory first rest setup e) ∙ ends.prints.is;
+    }
+
+pub printed_input : (memory : List Bool) (input first : List ℕ) (rest : List (List ℕ)) (setup : Setup) → lines input ≡ first ∷ rest
+    → machine_of (words first) ≡ Ok setup → IsOfMachine setup (output memory input).text
+printed_input memory input first rest setup split is =
+    subst (λ (ls : List (List ℕ)). IsOfMachine setup (output_of_lines memory ls).text) (sym split) (printed memory first rest setup is)

@@ -1,0 +1,5 @@
+use Rattle.headline_program.proofs.Printing.{printed_input}
+use Rattle.headline_program.proofs.printed.Goals as goal
+
+pub returns : goal.returns
+returns g c memory input first rest setup split is = printed_input memory input first rest setup split is
