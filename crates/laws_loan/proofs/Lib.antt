@@ -6,6 +6,7 @@ pub mod Bounds
 pub mod Carried
 pub mod Channel
 pub mod Completion
+pub mod Costs
 pub mod Cuts
 pub mod Deaths
 pub mod Drains
@@ -29,6 +30,8 @@ pub mod Lives
 pub mod Living
 pub mod LoanStep
 pub mod Loans
+pub mod LockFree
+pub mod Lowers
 pub mod Mine
 mod Names
 pub mod OnQueues
@@ -65,7 +68,10 @@ pub mod Table
 pub mod Tabled
 pub mod TakeBackStep
 pub mod TakeBacks
+pub mod Takes
 pub mod Theirs
 pub mod Told
 pub mod Turns
 pub mod Waits
+pub mod Weighed
+pub mod Weight

@@ -8,6 +8,8 @@ use Rattle.model.specs.LockFree.{IsLockFree, KeepsEnding, IsLockFreeOf, KeepsEnd
 use Rattle.model.proofs.LockFree.Machines.{one_call_ends, one_call_ends_of, machines}
 use Rattle.laws_bits.proofs.LockFree.{bits_keep_ending, counts_keep_ending}
 use Rattle.laws_indices.proofs.LockFree.{indices_keep_ending}
+use Rattle.laws_loan.specs.LockFree.{KeepsEndingRuns, channel_bound}
+use Rattle.laws_loan.proofs.LockFree as loan
 use Rattle.laws_queues.proofs.LockFree.{queue_keeps_ending}
 use Rattle.laws_robust.proofs.LockFree.{default_keeps_ending}
 use Rattle.laws_value.proofs.LockFree.{value_keeps_ending}
@@ -50,3 +52,10 @@ robust_keeps_ending T = default_keeps_ending
 
 pub robust_one_ends : (T : Type 0) → IsLockFreeOf T Robust IsDefault default_bound
 robust_one_ends T = one_call_ends_of Robust IsDefault default_bound default_keeps_ending
+
+-- loan channels, as they run
+pub channel_keeps_ending : (T : Type 0) → KeepsEndingRuns T Loan channel_bound
+channel_keeps_ending T = loan.channel_keeps_ending
+
+pub channel_one_ends : (T : Type 0) → HasLockFreeRuns T Loan channel_bound
+channel_one_ends T = loan.channel_one_ends

@@ -3,7 +3,7 @@
 ghost use Rattle.std.specs.Prelude.{ℕ, IfSome, ◌<◌};
 ghost use Rattle.model.specs.declared.families.Flight.{Flight};
 ghost use Rattle.model.specs.declared.turn.Kind.{Kind};
-ghost use Rattle.model.specs.declared.turn.Kind.TheVariants.{IndexQueue, Overflow, Queue, Atomic, Bits, Counts, Robust};
+ghost use Rattle.model.specs.declared.turn.Kind.TheVariants.{IndexQueue, Overflow, Queue, Atomic, Bits, Counts, Robust, Loan};
 ghost use Rattle.model.specs.Coding.{Coding};
 ghost use Rattle.model.specs.LockFree.{Bound, IsLockFree, KeepsEnding, IsLockFreeOf, KeepsEndingOf};
 ghost use Rattle.model.specs.LockFree.{HasLockFreeRuns, IsDefault, lock_free_bound, default_bound};
@@ -11,6 +11,7 @@ ghost use Rattle.model.specs.Linearized.{IsLinearizableRun};
 ghost use Rattle.model.specs.Progress.{AreGuaranteed, KeepsGuarantees, Looks, ChangesNothing};
 ghost use Rattle.model.specs.Promises.{IsKept};
 ghost use Rattle.model.specs.World.{Trace};
+ghost use Rattle.laws_loan.specs.LockFree.{KeepsEndingRuns, channel_bound};
 
 /// A run that keeps the promises of its kind is linearizable: the pushes and pops of a queue, the stores and loads of the
 /// single value. The lemma is `run_linearizable` of `proofs/Linearizable/Kinds.antt` of `model`.
@@ -54,6 +55,17 @@ pub fn lock_free<T>()
 pub fn lock_free_by_default<T>()
     ensures one_ends { IsLockFreeOf T Robust IsDefault default_bound }
     ensures keep_ending { KeepsEndingOf T Robust IsDefault default_bound }
+{}
+
+/// Lock-freedom of loan channels, of the machines as they run, with the bound `channel_bound`: wherever turns have led, and
+/// whatever turns follow, in more steps than the bound a call ends, and calls go on ending as often as the steps have that
+/// bound. The bound depends on the slots alone. It is the same for any number of parties, since only the sender and one
+/// receiver at a time take steps, and for any capacity of the submission queue. The two clauses say nothing of runs with more
+/// turns than a machine takes. The proof is `proofs/LockFree.antt` of `laws_loan`, by the steps that the sender's call has left
+/// and those that the receiver's has left.
+pub fn lock_free_channel<T>()
+    ensures one_ends { HasLockFreeRuns T Loan channel_bound }
+    ensures keep_ending { KeepsEndingRuns T Loan channel_bound }
 {}
 
 /// No such bound is less than these, at so many parties, this capacity and values of one word: there is a run of so many steps

@@ -1,0 +1,126 @@
+-- A weight of a loan channel's machine: how many steps its sender and its receiver can take before a call of theirs ends.
+use Rattle.laws_loan.proofs.Names.{ℕ, ◌+◌, ◌-◌, ◌*◌, ◌≤◌, ◌==◌, Bool, true, false, Option, Some, None, List, get_or}
+use Rattle.laws_loan.proofs.Names.{submission_word, Flight, Registry, Doing, Party, SendStage}
+use Rattle.laws_loan.proofs.Names.{Send, Receive, GiveBack, has_died, overflow_pop_number}
+use Rattle.std.proofs.Common.{cond, arith}
+use Rattle.steps.specs.Queues.Ring.{word_at}
+use Rattle.steps.specs.declared.loan.send.SendStage as sends
+use Rattle.steps.specs.declared.queues.overflow.PushStage as overflow_pushes
+use Rattle.steps.specs.declared.queues.overflow.PopStage as overflow_pops
+use Rattle.model.specs.declared.families.Flight as flights
+use Rattle.model.specs.declared.families.Registry as registries
+use Rattle.model.specs.declared.party.Doing.TheVariants.{Going, Over}
+use Rattle.model.specs.Parties.{party_of}
+use Rattle.model.specs.World.{World}
+
+-- ---- the sender, of whose calls a reclaim takes the most steps
+
+-- what a send can still cost the receiver, by its move of the read position
+abbrev pub push_costs : overflow_pushes.PushStage → ℕ
+push_costs (overflow_pushes.TheVariants.LoadsCell read) = 0
+push_costs stage = 2
+
+abbrev pub send_costs : SendStage → ℕ
+send_costs (sends.TheVariants.Pushes stage) = push_costs stage
+send_costs (sends.TheVariants.Releases index stage) = 0
+
+abbrev pub most_sending : ℕ → ℕ
+most_sending slots = 13 * slots + 7
+
+-- ---- the receiver
+
+-- a receive that was overtaken loads one cell more
+abbrev pub stale : ℕ → overflow_pops.PopStage → ℕ
+stale read overflow_pops.TheVariants.FindsNone = 0
+stale read overflow_pops.TheVariants.LoadsRead = 0
+stale read (overflow_pops.TheVariants.LoadsWrite r) = cond (read == r) 0 2
+stale read (overflow_pops.TheVariants.LoadsCell r) = cond (read == r) 0 2
+stale read (overflow_pops.TheVariants.MovesRead r) = cond (read == r) 0 2
+
+abbrev pub read_word : ℕ → ℕ
+read_word slots = word_at (submission_word slots) 1
+
+abbrev pub read_at : ℕ → List ℕ → ℕ
+read_at slots words = get_or words (read_word slots) 0
+
+costs_few : (stage : SendStage) → send_costs stage ≤ 2
+costs_few x0 = grind arith
+
+module _ {T : Type 0} where
+  -- a call of this kind takes so many steps at most before its last one, with what it can still cost the receiver
+  abbrev pub allowance : ℕ → Flight T → ℕ
+  allowance slots (flights.TheVariants.Loan (Send run)) = 13 * slots + 5 + send_costs run.call.stage
+  allowance slots flight = most_sending slots
+
+  abbrev pub sender_doing : ℕ → ℕ → Doing T → ℕ
+  sender_doing slots steps (Going flight since) = allowance slots flight - steps
+  sender_doing slots steps (Over others) = most_sending slots
+
+  abbrev pub sender_left : ℕ → Option (Party T) → ℕ
+  sender_left slots None = most_sending slots
+  sender_left slots (Some x) = sender_doing slots x.steps x.doing
+
+  -- where this is the read position
+  abbrev pub receiver_call : ℕ → ℕ → Flight T → ℕ
+  receiver_call read steps (flights.TheVariants.Loan (Receive p run)) = stale read run.call.call.stage + 3 - overflow_pop_number run.call.call.stage
+  receiver_call read steps (flights.TheVariants.Loan (GiveBack p run)) = 3 - steps
+  receiver_call read steps flight = 4
+
+  abbrev pub receiver_doing : ℕ → ℕ → Doing T → ℕ
+  receiver_doing read steps (Going flight since) = receiver_call read steps flight
+  receiver_doing read steps (Over others) = 4
+
+  abbrev pub receiver_left : ℕ → Option (Party T) → ℕ
+  receiver_left read None = 4
+  receiver_left read (Some x) = receiver_doing read x.steps x.doing
+
+  -- ---- both, of whom a dead receiver takes no step
+
+  abbrev pub receiver_in : Registry T → ℕ
+  receiver_in (registries.TheVariants.Loan book) = book.receiver
+  receiver_in kept = 0
+
+  abbrev pub is_lost : Registry T → Bool
+  is_lost (registries.TheVariants.Loan book) = has_died book.receiver book.dead
+  is_lost kept = true
+
+  abbrev pub receivers_left : ℕ → List ℕ → Registry T → List (ℕ × Party T) → ℕ
+  receivers_left slots words kept latest =
+      cond (is_lost kept) 0 (receiver_left (read_at slots words) (party_of (receiver_in kept) latest))
+
+  abbrev pub weight : ℕ → World T → ℕ
+  weight slots w = sender_left slots (party_of 0 w.latest) + receivers_left slots w.words w.kept w.latest
+
+  -- ---- no more than this
+
+  pub allowance_most : (slots : ℕ) (flight : Flight T) → allowance slots flight ≤ most_sending slots
+  allowance_most x0 x1 = grind (arith, costs_few)
+
+  pub sender_most : (slots : ℕ) (o : Option (Party T)) → sender_left slots o ≤ most_sending slots
+  sender_most x0 x1 = grind (arith, allowance_most)
+
+  call_most : (read steps : ℕ) (flight : Flight T) → receiver_call read steps flight ≤ 4
+  call_most x0 x1 x2 = grind arith
+
+  pub receiver_most : (read : ℕ) (o : Option (Party T)) → receiver_left read o ≤ 4
+  receiver_most x0 x1 = grind (arith, call_most)
+
+  -- a read position that moves costs the receiver two steps
+  call_moved : (read read' steps : ℕ) (flight : Flight T) → receiver_call read' steps flight ≤ receiver_call read steps flight + 2
+  call_moved x0 x1 x2 x3 = grind arith
+
+  pub receiver_moved : (read read' : ℕ) (o : Option (Party T)) → receiver_left read' o ≤ receiver_left read o + 2
+  receiver_moved x0 x1 x2 = grind (arith, call_moved)
+
+  pub weight_most : (slots : ℕ) (w : World T) → weight slots w ≤ 13 * slots + 11
+  weight_most slots w =
+      let sender = sender_most slots (party_of 0 w.latest) in
+      let receiver = receiver_most (read_at slots w.words) (party_of (receiver_in w.kept) w.latest) in
+      go (is_lost w.kept) (omega arith) (omega arith)
+    where
+      go : (b : Bool) → sender_left slots (party_of 0 w.latest) ≤ 13 * slots + 7
+          → receiver_left (read_at slots w.words) (party_of (receiver_in w.kept) w.latest) ≤ 4
+          → sender_left slots (party_of 0 w.latest) + cond b 0 (receiver_left (read_at slots w.words) (party_of (receiver_in w.kept) w.latest))
+          ≤ 13 * slots + 11
+      go true a b = omega arith
+      go false a b = omega arith
