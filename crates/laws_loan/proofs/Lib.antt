@@ -75,3 +75,4 @@ pub mod Turns
 pub mod Waits
 pub mod Weighed
 pub mod Weight
+pub mod WorkedLockFree

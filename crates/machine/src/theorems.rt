@@ -71,7 +71,8 @@ pub fn lock_free_channel<T>()
 /// No such bound is less than these, at so many parties, this capacity and values of one word: there is a run of so many steps
 /// in which no call ends. Of the first six kinds they are what `lock_free_bound` says there, so its bounds cannot be less. A
 /// robust index set of two indices has no bound below 200 for two parties: two releases in the mode `LockIfLastIndex` make
-/// each other begin again. The runs are those of `proofs/WorkedLockFree.antt` of `model`.
+/// each other begin again. Of a loan channel with one slot `channel_bound` says 24, and no bound is below 14. The runs are
+/// those of `proofs/WorkedLockFree.antt` of `model`, and the last one that of the file of this name in `laws_loan`.
 pub fn not_lock_free_below()
     ensures index_queue { (bound : Bound) → bound 2 1 1 < 10 → IsLockFree ℕ IndexQueue bound → ⊥ }
     ensures overflow { (bound : Bound) → bound 1 1 1 < 5 → IsLockFree ℕ Overflow bound → ⊥ }
@@ -80,4 +81,5 @@ pub fn not_lock_free_below()
     ensures bits { (bound : Bound) → bound 1 3 1 < 5 → IsLockFree ℕ Bits bound → ⊥ }
     ensures counts { (bound : Bound) → bound 2 3 1 < 4 → IsLockFree ℕ Counts bound → ⊥ }
     ensures robust { (bound : Bound) → bound 2 2 1 < 200 → IsLockFree ℕ Robust bound → ⊥ }
+    ensures loan { (bound : Bound) → bound 2 1 1 < 14 → HasLockFreeRuns ℕ Loan bound → ⊥ }
 {}

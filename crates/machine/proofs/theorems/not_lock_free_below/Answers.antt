@@ -1,3 +1,4 @@
+use Rattle.laws_loan.proofs.WorkedLockFree as worked_loan
 use Rattle.model.proofs.WorkedLockFree as worked
 use Rattle.machine.proofs.theorems.not_lock_free_below.Goals as goal
 
@@ -21,3 +22,6 @@ returns-clause-counts c bound few free = worked.counts bound few free
 
 pub returns-clause-robust : goal.returns-clause-robust
 returns-clause-robust c bound few free = worked.robust bound few free
+
+pub returns-clause-loan : goal.returns-clause-loan
+returns-clause-loan c bound few free = worked_loan.channel bound few free

@@ -1,0 +1,68 @@
+-- A worked run of a loan channel with one slot in which no call ends for 14 steps: a receive up to its last step, whose party
+-- dies then, and a reclaim of the one index up to its last step.
+use Rattle.std.proofs.Common.{◌≡◌, ℕ, ◌<◌, List, [], ◌∷◌, ◌++◌, refl, arith}
+use Rattle.model.specs.declared.event.Start.{Start}
+use Rattle.model.specs.declared.event.Start.TheVariants as starts
+use Rattle.model.specs.declared.families.loan.LoanStart.TheVariants as calls
+use Rattle.model.specs.declared.turn.Kind.TheVariants.{Loan}
+use Rattle.model.specs.declared.turn.Turn.{Turn}
+use Rattle.model.specs.declared.turn.Turn.TheVariants.{Die}
+use Rattle.model.specs.Coding.{one_word, IsCoding}
+use Rattle.model.specs.LockFree.{Bound, HasLockFreeRuns, ends, steps_in}
+use Rattle.model.specs.Turns.{run, after_turns, AreAllowed, IsReached}
+use Rattle.model.specs.World.{Trace, opened}
+use Rattle.model.proofs.Runs.{nexts, begins}
+
+one_word_codes : IsCoding one_word
+one_word_codes = record { some = omega arith; few = omega arith; sized = λ n. refl; given_back = λ n. refl }
+
+-- the one index is sent
+abbrev before : List (Turn ℕ)
+before = begins 0 (starts.Loan calls.Loan) 4 ++ begins 0 (starts.Loan (calls.Send 0)) 4
+
+abbrev turns : List (Turn ℕ)
+turns = begins 1 (starts.Loan calls.Receive) 3 ++ (Die 1 ∷ begins 0 (starts.Loan calls.Reclaim) 11)
+
+abbrev sent : Trace ℕ
+sent = run before (opened one_word Loan 1 1 2)
+
+sent_reached : IsReached sent
+sent_reached = record { coded = one_word_codes; admitted = refl; queue = 1; queued = refl; turns = before; is = refl }
+
+all_allowed : AreAllowed sent turns
+all_allowed =
+    (refl, (refl, (refl, (refl, (refl, (refl, (refl, (refl, (refl, (refl, (refl, (refl, (refl, (refl, (refl, (refl, (refl, tt)))))))))))))))))
+
+many : steps_in sent turns ≡ 14
+many = refl
+
+ended_before : ends sent.events ≡ 2
+ended_before = refl
+
+ended_after : ends (after_turns sent turns).events ≡ 2
+ended_after = refl
+
+parties : sent.world.parties ≡ 2
+parties = refl
+
+slots : sent.world.capacity ≡ 1
+slots = refl
+
+size : sent.world.coding.size ≡ 1
+size = refl
+
+none_more : (before after ended : ℕ) → before ≡ ended → after ≡ ended → before < after → ⊥
+none_more before after ended was is less = absurd (omega arith)
+
+more_steps : (most steps here : ℕ) → steps ≡ here → most < here → most < steps
+more_steps most steps here e h = omega arith
+
+low_there : (bound : Bound) (n c words : ℕ) → n ≡ 2 → c ≡ 1 → words ≡ 1 → bound 2 1 1 < 14 → bound n c words < 14
+low_there bound n c words a b d few = rw (a, b, d) few
+
+pub channel : (bound : Bound) → bound 2 1 1 < 14 → HasLockFreeRuns ℕ Loan bound → ⊥
+channel bound few free =
+    none_more (ends sent.events) (ends (after_turns sent turns).events) 2 ended_before ended_after
+    (free sent refl sent_reached turns all_allowed
+    (more_steps (bound sent.world.parties sent.world.capacity sent.world.coding.size) (steps_in sent turns) 14 many
+    (low_there bound sent.world.parties sent.world.capacity sent.world.coding.size parties slots size few)))
