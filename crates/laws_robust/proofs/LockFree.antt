@@ -28,12 +28,12 @@ use Rattle.laws_robust.proofs.Measured.{At, Kept, outline, call_falls, call_deci
 
 -- ---- what it owes
 
-one_of : (t : Bool) (a b most : ℕ) → a ≤ most → b ≤ most → cond t a b ≤ most
+pub one_of : (t : Bool) (a b most : ℕ) → a ≤ most → b ≤ most → cond t a b ≤ most
 one_of true a b most x y = x
 one_of false a b most x y = y
 
 module _ (c : ℕ) (some : 1 ≤ c) where
-  raise_most : (now : ℕ) (raise : raises.Raise) → raise_left now raise ≤ 1
+  pub raise_most : (now : ℕ) (raise : raises.Raise) → raise_left now raise ≤ 1
   raise_most now raises.TheVariants.LoadsCounter = omega arith
   raise_most now (raises.TheVariants.ExchangesCounter counter) = one_of _ 0 1 1 (omega arith) (omega arith)
 
