@@ -31,8 +31,8 @@ use Rattle.model.specs.LockFree.{KeepsEnding, stretch}
 use Rattle.model.specs.Step.{as_call}
 use Rattle.model.specs.Turns.{words_after}
 use Rattle.model.proofs.LockFree.Falls.{same_is, load_leaves, FallsIn, StepFalls}
-use Rattle.model.proofs.LockFree.Measure.{Measure}
-use Rattle.model.proofs.LockFree.Own.{Outline, OwnLaws, OwnAfter, keeps_ending}
+use Rattle.model.proofs.LockFree.Measure.{WordMeasure}
+use Rattle.model.proofs.LockFree.Own.{Outline, TableLaws, by_table, OwnAfter, keeps_ending}
 use Rattle.laws_bits.proofs.Bits.Knows.{set_at, next_at}
 
 -- ---- how many steps a call takes at most before its last one, while no other changes a word
@@ -117,10 +117,10 @@ module _ {T : Type 0} where
   count_left (flights.TheVariants.Bits flight) = counts_left flight
   count_left flight = 0
 
-  abbrev measure : ℕ → Measure T
+  abbrev measure : ℕ → WordMeasure T
   measure c = record { left = left; pays = pays; alone = c + 2; changes = max 1 (elements c - 1) }
 
-  abbrev counts_measure : ℕ → Measure T
+  abbrev counts_measure : ℕ → WordMeasure T
   counts_measure c = record { left = λ words flight. count_left flight; pays = λ flight. 0; alone = c - 1; changes = 0 }
 
   -- ---- where a call stands
@@ -140,6 +140,7 @@ module _ {T : Type 0} where
         Such = λ start. Unit {0};
         Kept = Kept;
         At = λ code c start flight. FlightStands (BitsStand c) start flight;
+        Known = λ p kept flight. Unit {0};
         measure = λ code c. measure c;
       }
 
@@ -150,13 +151,14 @@ module _ {T : Type 0} where
         Such = λ start. Unit {0};
         Kept = Kept;
         At = λ code c start flight. FlightStands (CountsStand c) start flight;
+        Known = λ p kept flight. Unit {0};
         measure = λ code c. counts_measure c;
       }
 
   -- ---- each step falls
 
   module _ (n : ℕ) (code : Coding T) (words : List ℕ) where
-    abbrev M : Measure T
+    abbrev M : WordMeasure T
     M = measure n
 
     abbrev Shown : BitsFlight → Type 0
@@ -341,10 +343,11 @@ module _ {T : Type 0} where
     bits_ask : (start : Start T) (flight : Flight T) → FlightStands (BitsStand c) start flight → is_question (want_of code flight) ≡ false
     bits_ask x0 x1 x2 = grind arith
 
-    bits_laws : OwnLaws bits_outline code c
+    bits_laws : TableLaws bits_outline code c
     bits_laws =
         record {
           opens = tt;
+          known = λ p kept flight. tt;
           begins = λ start kept flight any h e. bits_begin start kept flight h e;
           stays = λ words beside p start flight old kept at h. stays words beside p start flight old kept h;
           goes = bits_go;
@@ -366,10 +369,11 @@ module _ {T : Type 0} where
     counts_ask : (start : Start T) (flight : Flight T) → FlightStands (CountsStand c) start flight → is_question (want_of code flight) ≡ false
     counts_ask x0 x1 x2 = grind arith
 
-    counts_laws : OwnLaws counts_outline code c
+    counts_laws : TableLaws counts_outline code c
     counts_laws =
         record {
           opens = tt;
+          known = λ p kept flight. tt;
           begins = λ start kept flight any h e. counts_begin start kept flight h e;
           stays = λ words beside p start flight old kept at h. stays words beside p start flight old kept h;
           goes = counts_go;
@@ -382,9 +386,10 @@ module _ {T : Type 0} where
 
   pub bits_keep_ending : KeepsEnding T Bits (λ n capacity size. stretch n (max 1 (elements capacity - 1)) (capacity + 2))
   bits_keep_ending =
-      keeps_ending bits_outline (λ code c coded admitted. bits_laws code c) (λ start. tt)
+      keeps_ending bits_outline (λ code c coded admitted. by_table bits_outline code c (bits_laws code c)) (λ start. tt)
       (λ n capacity size. stretch n (max 1 (elements capacity - 1)) (capacity + 2)) (λ code c n. refl)
 
   pub counts_keep_ending : KeepsEnding T Counts (λ n capacity size. stretch n 0 (capacity - 1))
   counts_keep_ending =
-      keeps_ending counts_outline (λ code c coded admitted. counts_laws code c) (λ start. tt) (λ n capacity size. stretch n 0 (capacity - 1)) (λ code c n. refl)
+      keeps_ending counts_outline (λ code c coded admitted. by_table counts_outline code c (counts_laws code c)) (λ start. tt)
+      (λ n capacity size. stretch n 0 (capacity - 1)) (λ code c n. refl)

@@ -38,10 +38,15 @@ pub mod KeptVisits
 pub mod Knows
 pub mod Left
 pub mod Living
+pub mod LockFree
 pub mod LookWalk
 pub mod Looks
 pub mod LooksEnd
 pub mod LooksTell
+pub mod MeasuredCalls
+pub mod MeasuredFalls
+pub mod MeasuredLooks
+pub mod MeasuredMost
 pub mod Moves
 mod Names
 pub mod Opening

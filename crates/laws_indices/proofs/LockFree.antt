@@ -3,7 +3,7 @@ use Rattle.std.proofs.Common.{◌≡◌, ◌≢◌, ℕ, ◌+◌, ◌-◌, ◌<�
 use Rattle.std.proofs.Common.{Option, Some, List, length, get_or, set, bit_and, bit_or, ◌^◌, refl, sym, subst, ◌∙◌, arith}
 use Rattle.laws_indices.proofs.Names.{nat_tests, cases_eq, flag_word, flag, borrowed, proposed, says_locked}
 use Rattle.laws_indices.proofs.Names.{LockIfLastIndex, Default, AcquireStage, ReleaseStage, Start, Indices, Flight, IndexStart, IndexFlight}
-use Rattle.laws_indices.proofs.Names.{Party, Coding, party_of, Trace}
+use Rattle.laws_indices.proofs.Names.{Party, Going, Coding, party_of, Trace}
 use Rattle.steps.specs.Indices.Head.{next_word}
 use Rattle.steps.specs.Indices.Unique.{acquire_sees, head_taken, Acquired}
 use Rattle.steps.specs.Routine.{went_on}
@@ -22,12 +22,12 @@ use Rattle.model.specs.Families.Queues.Calls.{as_it_is}
 use Rattle.model.specs.LockFree.{KeepsEnding, stretch}
 use Rattle.model.specs.Parties.{doing_of, flight_of}
 use Rattle.model.specs.Step.{as_call}
-use Rattle.model.specs.Turns.{old_of, words_after, step_count}
+use Rattle.model.specs.Turns.{step_in, old_of, words_after, step_count}
 use Rattle.model.proofs.Family.{scene_of}
 use Rattle.model.proofs.Frame.{Sound}
 use Rattle.model.proofs.LockFree.Falls.{same_is, load_leaves, falls_by, FallsIn, LeavesAll, StepFalls}
 use Rattle.model.proofs.LockFree.Framed.{FramedLaws, framed_keep_ending}
-use Rattle.model.proofs.LockFree.Measure.{Measure, FallsBy}
+use Rattle.model.proofs.LockFree.Measure.{WordMeasure, of_words, FallsBy}
 use Rattle.model.proofs.Scenes.{stands_there}
 use Rattle.laws_indices.proofs.Core.{head_of, is_claimed, flag_within, claims_stay, claim_leaves, clear_clears, clear_leaves, head_stays, Good}
 use Rattle.laws_indices.proofs.Invariant.{FlightAt, outline, family}
@@ -94,7 +94,7 @@ module _ {T : Type 0} where
   pays (flights.TheVariants.Indices flight) = call_pays flight
   pays flight = 0
 
-  abbrev measure : ℕ → Measure T
+  abbrev measure : ℕ → WordMeasure T
   measure c = record { left = left c; pays = pays; alone = c + 4; changes = 1 }
 
 -- ---- words in which the head is the same and no flag more stands cost nobody a step
@@ -128,7 +128,7 @@ module _ (c : ℕ) (old new : List ℕ) (same : head_of new ≡ head_of old) (fe
 -- ---- each step falls
 
 module _ {T : Type 0} (code : Coding T) (c : ℕ) (words : List ℕ) where
-  abbrev M : Measure T
+  abbrev M : WordMeasure T
   M = measure c
 
   abbrev Shown : IndexFlight → Type 0
@@ -362,34 +362,37 @@ module _ {T : Type 0} (t : Trace T) (s : Sound (family t.world.coding t.world.ca
       (sym s.fit.1) s.holds.good
 
   flight_falls : (start : Start T) (flight : Flight T) → FlightAt t.world.capacity s.state.holders p start flight
-      → party_of p t.world.latest ≡ Some x → flight_of (doing_of (party_of p t.world.latest)) ≡ Some flight
-      → FallsBy (measure t.world.capacity) t.world p flight (ask_of (want_of t.world.coding flight))
+      → party_of p t.world.latest ≡ Some x → x.doing ≡ Going flight since → flight_of (doing_of (party_of p t.world.latest)) ≡ Some flight
+      → FallsBy (of_words (measure t.world.capacity)) t.world p x flight (ask_of (want_of t.world.coding flight))
       (old_of t.world.words (ask_of (want_of t.world.coding flight)))
-  flight_falls (Indices start) (flights.TheVariants.Indices flight) at found is =
+  flight_falls (Indices start) (flights.TheVariants.Indices flight) at found doing is next e =
       let w = t.world in
       let any : Flight T = flights.TheVariants.Indices flight in
       let heavy =
       busy_here (scene_of outline w.coding w.capacity t s p x.steps x.backs since) flight
       (record { seat = s.holds.bounded p x found; under = is }) in
-      falls_by (measure w.capacity) w p (words_after w.words (ask_of (want_of w.coding any))) (step_count (ask_of (want_of w.coding any))) any
-      (after_of w.coding any (old_of w.words (ask_of (want_of w.coding any))))
-      (call_falls w.coding w.capacity w.words s.state.holders _ p good start flight at heavy)
-  flight_falls start flight at found is = absurd at
+      let ask = ask_of (want_of w.coding any) in
+      let old = old_of w.words ask in
+      let goes = (orders_of w.coding w.capacity).after t p x any since old s found doing in
+      falls_by (measure w.capacity) w p (words_after w.words ask) (step_in w p x any old).kept (step_count ask) any (after_of w.coding any old)
+      (call_falls w.coding w.capacity w.words s.state.holders _ p good start flight at heavy) next (sym goes ∙ e)
+  flight_falls start flight at found doing is next e = absurd at
 
 module _ {T : Type 0} where
   never_asks : (code : Coding T) (c : ℕ) (holders : List (Option ℕ)) (p : ℕ) (start : Start T) (flight : Flight T)
       → FlightAt c holders p start flight → is_question (want_of code flight) ≡ false
   never_asks x0 x1 x2 x3 x4 x5 x6 = grind arith
 
-  laws : FramedLaws kinds.TheVariants.Indices (family {T = T}) measure
+  laws : FramedLaws kinds.TheVariants.Indices (family {T = T}) (λ c. of_words (measure c))
   laws =
       record {
         sound = reached_on_sound;
-        goes = λ t s p x flight since answer found doing. (orders_of t.world.coding t.world.capacity).after t p x flight since answer s found doing;
         most = λ t s p x flight since found doing. (let some = s.holds.good.some in most t.world.capacity some t.world.words flight);
+        begins = λ t s p start e q ne other is. omega arith;
+        dies = λ t s owner e q other is. omega arith;
         step = λ t s p x flight since found doing.
             (let there = stands_there (family t.world.coding t.world.capacity) t s p x since flight found doing in
-            flight_falls t s p x since x.start flight there.at found there.found);
+            flight_falls t s p x since x.start flight there.at found doing there.found);
         decision = λ t s p x flight since said found doing asks.
             (let there = stands_there (family t.world.coding t.world.capacity) t s p x since flight found doing in
             let none = never_asks t.world.coding t.world.capacity s.state.holders p x.start flight there.at in
@@ -398,4 +401,4 @@ module _ {T : Type 0} where
 
   pub indices_keep_ending : KeepsEnding T kinds.TheVariants.Indices (λ n capacity size. stretch n 1 (capacity + 4))
   indices_keep_ending =
-      framed_keep_ending kinds.TheVariants.Indices family measure laws (λ n capacity size. stretch n 1 (capacity + 4)) (λ c n size. refl)
+      framed_keep_ending kinds.TheVariants.Indices family (λ c. of_words (measure c)) laws (λ n capacity size. stretch n 1 (capacity + 4)) (λ c n size. refl)

@@ -39,8 +39,8 @@ use Rattle.model.specs.Families.Queues.Calls.{words_of_index}
 use Rattle.model.specs.LockFree.{KeepsEnding, stretch}
 use Rattle.model.specs.World.{capacity_error}
 use Rattle.model.proofs.LockFree.Falls.{same_is, load_leaves, LeavesAll, StepFalls}
-use Rattle.model.proofs.LockFree.Measure.{Measure}
-use Rattle.model.proofs.LockFree.Own.{Outline, OwnLaws, OwnAfter, keeps_ending}
+use Rattle.model.proofs.LockFree.Measure.{WordMeasure}
+use Rattle.model.proofs.LockFree.Own.{Outline, TableLaws, by_table, OwnAfter, keeps_ending}
 use Rattle.laws_queues.proofs.Queues.Core.{cell_within}
 use Rattle.laws_queues.proofs.Queues.Invariant.{machine_kind}
 use Rattle.laws_queues.proofs.Queues.Sound.{admitted_fits}
@@ -104,7 +104,7 @@ module _ {T : Type 0} where
   pays (flights.TheVariants.Queues flight) = call_pays flight
   pays flight = 0
 
-  abbrev measure : ℕ → ℕ → ℕ → Measure T
+  abbrev measure : ℕ → ℕ → ℕ → WordMeasure T
   measure size alone changes =
       record { left = λ words flight. left_at size (get_or words 0 0) (get_or words 1 0) flight; pays = pays; alone = alone; changes = changes }
 
@@ -154,13 +154,14 @@ module _ {T : Type 0} where
         Such = λ start. Unit {0};
         Kept = Kept;
         At = At kd;
+        Known = λ p kept flight. Unit {0};
         measure = λ code c. measure code.size (alone_of code.size kd) (changes_of kd);
       }
 
 -- ---- each step falls
 
 module _ {T : Type 0} (alone changes : ℕ) (code : Coding T) (words : List ℕ) where
-  abbrev M : Measure T
+  abbrev M : WordMeasure T
   M = measure code.size alone changes
 
   abbrev Shown : QueueFlight T → Type 0
@@ -415,10 +416,11 @@ module _ {T : Type 0} (kd : QueueKind) where
     opens : (kd : QueueKind) → Kept {T = T} ((opening_of (machine_kind kd)).kept c)
     opens x0 = grind arith
 
-  laws : (code : Coding T) (c : ℕ) → IsCoding code → capacity_error (machine_kind kd) c ≡ None → OwnLaws (outline kd) code c
+  laws : (code : Coding T) (c : ℕ) → IsCoding code → capacity_error (machine_kind kd) c ≡ None → TableLaws (outline kd) code c
   laws code c coded admitted =
       record {
         opens = opens code c kd;
+        known = λ p kept flight. tt;
         begins = λ start kept flight any h e. begins code c start kept flight h e;
         stays = stays code c;
         goes = goes code c coded.some;
@@ -430,4 +432,6 @@ module _ {T : Type 0} (kd : QueueKind) where
       }
 
   pub queue_keeps_ending : KeepsEnding T (machine_kind kd) (λ n capacity size. stretch n (changes_of kd) (alone_of size kd))
-  queue_keeps_ending = keeps_ending (outline kd) laws (λ start. tt) (λ n capacity size. stretch n (changes_of kd) (alone_of size kd)) (λ code c n. refl)
+  queue_keeps_ending =
+      keeps_ending (outline kd) (λ code c coded admitted. by_table (outline kd) code c (laws code c coded admitted)) (λ start. tt)
+      (λ n capacity size. stretch n (changes_of kd) (alone_of size kd)) (λ code c n. refl)

@@ -21,19 +21,19 @@ use Rattle.model.specs.LockFree.{KeepsEndingOf, IsDefault, default_bound}
 use Rattle.model.specs.Turns.{number_of}
 use Rattle.model.specs.World.{capacity_error}
 use Rattle.model.proofs.LockFree.Falls.{FallsIn, StepFalls}
-use Rattle.model.proofs.LockFree.Own.{OwnLaws, OwnAfter, keeps_ending_of}
+use Rattle.model.proofs.LockFree.Own.{TableLaws, by_table, OwnAfter, keeps_ending_of}
 use Rattle.laws_robust.proofs.Opening.{admitted_is}
 use Rattle.laws_robust.proofs.Measured.{raise_left, acquire_left, find_left, recover_left, count_left, release_left, recover_pays, left_at, pays, measure}
 use Rattle.laws_robust.proofs.Measured.{At, Kept, outline, call_falls, call_decides}
 
 -- ---- what it owes
 
-one_of : (t : Bool) (a b most : ℕ) → a ≤ most → b ≤ most → cond t a b ≤ most
+pub one_of : (t : Bool) (a b most : ℕ) → a ≤ most → b ≤ most → cond t a b ≤ most
 one_of true a b most x y = x
 one_of false a b most x y = y
 
 module _ (c : ℕ) (some : 1 ≤ c) where
-  raise_most : (now : ℕ) (raise : raises.Raise) → raise_left now raise ≤ 1
+  pub raise_most : (now : ℕ) (raise : raises.Raise) → raise_left now raise ≤ 1
   raise_most now raises.TheVariants.LoadsCounter = omega arith
   raise_most now (raises.TheVariants.ExchangesCounter counter) = one_of _ 0 1 1 (omega arith) (omega arith)
 
@@ -111,10 +111,11 @@ module _ {T : Type 0} (code : Coding T) (c : ℕ) where
   dies : (kept : Registry T) (owner : ℕ) → Kept kept → Kept (kept_after_death kept owner)
   dies x0 x1 x2 = grind arith
 
-  laws : capacity_error kinds.TheVariants.Robust c ≡ None → OwnLaws outline code c
+  laws : capacity_error kinds.TheVariants.Robust c ≡ None → TableLaws outline code c
   laws admitted =
       record {
         opens = tt;
+        known = λ p kept flight. tt;
         begins = begins;
         stays = stays;
         goes = goes;
@@ -127,4 +128,6 @@ module _ {T : Type 0} (code : Coding T) (c : ℕ) where
 
 -- in runs of calls that do not lock
 pub default_keeps_ending : {T : Type 0} → KeepsEndingOf T kinds.TheVariants.Robust IsDefault default_bound
-default_keeps_ending {T} = keeps_ending_of (outline {T = T}) (λ code c coded admitted. laws code c admitted) default_bound (λ code c n. refl)
+default_keeps_ending {T} =
+    keeps_ending_of (outline {T = T}) (λ code c coded admitted. by_table outline code c (laws code c admitted))
+    default_bound (λ code c n. refl)

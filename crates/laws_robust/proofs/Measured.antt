@@ -34,7 +34,7 @@ use Rattle.model.specs.LockFree.{IsDefault}
 use Rattle.model.specs.Step.{as_call}
 use Rattle.model.specs.Turns.{number_of}
 use Rattle.model.proofs.LockFree.Falls.{same_is, load_leaves, LeavesAll, FallsIn, StepFalls}
-use Rattle.model.proofs.LockFree.Measure.{Measure}
+use Rattle.model.proofs.LockFree.Measure.{WordMeasure}
 use Rattle.model.proofs.LockFree.Own.{Outline}
 
 -- ---- how many steps a call takes at most before its last one, while the counter stays
@@ -148,7 +148,7 @@ module _ {T : Type 0} where
   pays c (flights.TheVariants.Robust flight) = call_pays c flight
   pays c flight = 0
 
-  abbrev pub measure : ℕ → Measure T
+  abbrev pub measure : ℕ → WordMeasure T
   measure c = record { left = λ words flight. left_at c (get_or words 0 0) flight; pays = pays c; alone = 4 * c + 1; changes = c }
 
   abbrev pub At : Coding T → ℕ → Start T → Flight T → Type 0
@@ -160,12 +160,20 @@ module _ {T : Type 0} where
   Kept kept = ⊥
 
   abbrev pub outline : Outline T
-  outline = record { kind = kinds.TheVariants.Robust; Such = IsDefault; Kept = Kept; At = At; measure = λ code c. measure c }
+  outline =
+      record {
+        kind = kinds.TheVariants.Robust;
+        Such = IsDefault;
+        Kept = Kept;
+        At = At;
+        Known = λ p kept flight. Unit {0};
+        measure = λ code c. measure c;
+      }
 
 -- ---- each step falls
 
 module _ {T : Type 0} (code : Coding T) (c : ℕ) (words : List ℕ) where
-  abbrev pub M : Measure T
+  abbrev pub M : WordMeasure T
   M = measure c
 
   abbrev pub Shown : RobustFlight → Type 0

@@ -23,8 +23,8 @@ use Rattle.model.specs.Coding.{Coding, IsCoding}
 use Rattle.model.specs.Families.{first_of, want_of, after_of, goes_of, step_of, is_question, kept_after_begin, kept_after_death}
 use Rattle.model.specs.LockFree.{KeepsEnding, stretch}
 use Rattle.model.proofs.LockFree.Falls.{same_is, load_leaves, LeavesAll, StepFalls}
-use Rattle.model.proofs.LockFree.Measure.{Measure}
-use Rattle.model.proofs.LockFree.Own.{Outline, OwnLaws, OwnAfter, keeps_ending}
+use Rattle.model.proofs.LockFree.Measure.{WordMeasure}
+use Rattle.model.proofs.LockFree.Own.{Outline, TableLaws, by_table, OwnAfter, keeps_ending}
 
 -- ---- the measure
 
@@ -65,7 +65,7 @@ module _ {T : Type 0} where
   left_at size now flight = 0
 
   -- the version alone costs a call steps, and it is moved by the last step of a store
-  abbrev measure : ℕ → Measure T
+  abbrev measure : ℕ → WordMeasure T
   measure size = record { left = λ words flight. left_at size (get_or words 0 0) flight; pays = λ flight. 0; alone = 2 * size + 1; changes = 0 }
 
   -- ---- where a call stands
@@ -83,7 +83,15 @@ module _ {T : Type 0} where
   Kept kept = ⊥
 
   abbrev outline : Outline T
-  outline = record { kind = kinds.TheVariants.Atomic; Such = λ start. Unit {0}; Kept = Kept; At = At; measure = λ code c. measure code.size }
+  outline =
+      record {
+        kind = kinds.TheVariants.Atomic;
+        Such = λ start. Unit {0};
+        Kept = Kept;
+        At = At;
+        Known = λ p kept flight. Unit {0};
+        measure = λ code c. measure code.size;
+      }
 
   abbrev storing : Running (Store T) T (Unit {0}) → stores.StoreStage → AtomicFlight T
   storing run stage = calls.TheVariants.Store (record run { call = record run.call { stage = stage } })
@@ -218,10 +226,11 @@ module _ {T : Type 0} where
   most : (size : ℕ) → 1 ≤ size → (words : List ℕ) (flight : Flight T) → (measure size).left words flight ≤ 2 * size + 1
   most x0 x1 x2 x3 = grind arith
 
-  laws : (code : Coding T) (c : ℕ) → IsCoding code → OwnLaws outline code c
+  laws : (code : Coding T) (c : ℕ) → IsCoding code → TableLaws outline code c
   laws code c coded =
       record {
         opens = tt;
+        known = λ p kept flight. tt;
         begins = λ start kept flight any h e. begins code c start kept flight h e;
         stays = stays code c;
         goes = goes code c coded;
@@ -234,4 +243,5 @@ module _ {T : Type 0} where
 
   pub value_keeps_ending : KeepsEnding T kinds.TheVariants.Atomic (λ n capacity size. stretch n 0 (2 * size + 1))
   value_keeps_ending =
-      keeps_ending outline (λ code c coded admitted. laws code c coded) (λ start. tt) (λ n capacity size. stretch n 0 (2 * size + 1)) (λ code c n. refl)
+      keeps_ending outline (λ code c coded admitted. by_table outline code c (laws code c coded)) (λ start. tt)
+      (λ n capacity size. stretch n 0 (2 * size + 1)) (λ code c n. refl)

@@ -5,8 +5,10 @@ use Rattle.model.specs.declared.turn.Kind.{Kind}
 use Rattle.model.specs.declared.turn.Kind.TheVariants.{IndexQueue, Overflow, Queue, Atomic, Bits, Counts, Indices, Robust, Container, Loan}
 use Rattle.model.specs.declared.families.queues.QueueKind as queue_kinds
 use Rattle.model.specs.LockFree.{IsLockFree, KeepsEnding, IsLockFreeOf, KeepsEndingOf, IsDefault, HasLockFreeRuns, lock_free_bound, default_bound}
+use Rattle.model.specs.LockFree.{default_container_bound}
 use Rattle.model.proofs.LockFree.Machines.{one_call_ends, one_call_ends_of, machines}
 use Rattle.laws_bits.proofs.LockFree.{bits_keep_ending, counts_keep_ending}
+use Rattle.laws_container.proofs.LockFree as container
 use Rattle.laws_indices.proofs.LockFree.{indices_keep_ending}
 use Rattle.laws_loan.specs.LockFree.{KeepsEndingRuns, channel_bound}
 use Rattle.laws_loan.proofs.LockFree as loan
@@ -52,6 +54,13 @@ robust_keeps_ending T = default_keeps_ending
 
 pub robust_one_ends : (T : Type 0) → IsLockFreeOf T Robust IsDefault default_bound
 robust_one_ends T = one_call_ends_of Robust IsDefault default_bound default_keeps_ending
+
+-- containers in which none may
+pub container_keeps_ending : (T : Type 0) → KeepsEndingOf T Container IsDefault default_container_bound
+container_keeps_ending T = container.container_keeps_ending
+
+pub container_one_ends : (T : Type 0) → IsLockFreeOf T Container IsDefault default_container_bound
+container_one_ends T = one_call_ends_of Container IsDefault default_container_bound container.container_keeps_ending
 
 -- loan channels, as they run
 pub channel_keeps_ending : (T : Type 0) → KeepsEndingRuns T Loan channel_bound

@@ -3,10 +3,11 @@
 ghost use Rattle.std.specs.Prelude.{ℕ, IfSome, ◌<◌};
 ghost use Rattle.model.specs.declared.families.Flight.{Flight};
 ghost use Rattle.model.specs.declared.turn.Kind.{Kind};
-ghost use Rattle.model.specs.declared.turn.Kind.TheVariants.{IndexQueue, Overflow, Queue, Atomic, Bits, Counts, Robust, Loan};
+ghost use Rattle.model.specs.declared.turn.Kind.TheVariants.{IndexQueue, Overflow, Queue, Atomic, Bits, Counts, Robust};
+ghost use Rattle.model.specs.declared.turn.Kind.TheVariants.{Container, Loan};
 ghost use Rattle.model.specs.Coding.{Coding};
 ghost use Rattle.model.specs.LockFree.{Bound, IsLockFree, KeepsEnding, IsLockFreeOf, KeepsEndingOf};
-ghost use Rattle.model.specs.LockFree.{HasLockFreeRuns, IsDefault, lock_free_bound, default_bound};
+ghost use Rattle.model.specs.LockFree.{HasLockFreeRuns, IsDefault, lock_free_bound, default_bound, default_container_bound};
 ghost use Rattle.model.specs.Linearized.{IsLinearizableRun};
 ghost use Rattle.model.specs.Progress.{AreGuaranteed, KeepsGuarantees, Looks, ChangesNothing};
 ghost use Rattle.model.specs.Promises.{IsKept};
@@ -50,11 +51,14 @@ pub fn lock_free<T>()
     ensures as_run { (kind : Kind) → IfSome (lock_free_bound kind) (HasLockFreeRuns T kind) }
 {}
 
-/// Lock-freedom of robust index sets, in runs in which no release and no recovery is in the mode `LockIfLastIndex`, with the
-/// bound `default_bound`: as `lock_free` says of the kinds there. The second clause says that calls go on ending.
+/// Lock-freedom of robust index sets and of containers, in runs in which no release, no remove and no recovery is in the mode
+/// `LockIfLastIndex`, with the bounds `default_bound` and `default_container_bound`: as `lock_free` says of the kinds there. The
+/// second clause of each says that calls go on ending.
 pub fn lock_free_by_default<T>()
     ensures one_ends { IsLockFreeOf T Robust IsDefault default_bound }
     ensures keep_ending { KeepsEndingOf T Robust IsDefault default_bound }
+    ensures container_ends { IsLockFreeOf T Container IsDefault default_container_bound }
+    ensures container_keeps_ending { KeepsEndingOf T Container IsDefault default_container_bound }
 {}
 
 /// Lock-freedom of loan channels, of the machines as they run, with the bound `channel_bound`: wherever turns have led, and

@@ -6,7 +6,8 @@ use Rattle.steps.specs.declared.indices.enums.ReleaseMode.TheVariants.{LockIfLas
 use Rattle.model.specs.declared.event.Event.{Event}
 use Rattle.model.specs.declared.event.Event.TheVariants.{Finished}
 use Rattle.model.specs.declared.event.Start.{Start}
-use Rattle.model.specs.declared.event.Start.TheVariants.{Robust}
+use Rattle.model.specs.declared.event.Start.TheVariants.{Robust, Container}
+use Rattle.model.specs.declared.families.container.ContainerStart as containers
 use Rattle.model.specs.declared.families.indices.robust.RobustStart.TheVariants.{Release, Recover}
 use Rattle.model.specs.declared.turn.Kind.{Kind}
 use Rattle.model.specs.declared.turn.Kind.TheVariants.{IndexQueue, Overflow, Queue, Atomic, Bits, Counts, Indices}
@@ -132,8 +133,14 @@ lock_free_bound kind = None
 abbrev pub default_bound : Bound
 default_bound n capacity size = stretch n capacity (4 * capacity + 1)
 
--- a call of a robust index set that does not lock: a release or a recovery in the mode for that is none
+-- of a container in which no call may lock
+abbrev pub default_container_bound : Bound
+default_container_bound n capacity size = stretch n (max 2 capacity) (capacity * (size + 7) + max 2 size)
+
+-- a call that does not lock: a release, a remove or a recovery in the mode for that is none
 abbrev pub IsDefault : {T : Type 0} → Start T → Type 0
 IsDefault (Robust (Release index owner LockIfLastIndex)) = ⊥
 IsDefault (Robust (Recover LockIfLastIndex)) = ⊥
+IsDefault (Container (containers.TheVariants.Remove index owner LockIfLastIndex)) = ⊥
+IsDefault (Container (containers.TheVariants.Recover owner LockIfLastIndex)) = ⊥
 IsDefault start = Unit {0}

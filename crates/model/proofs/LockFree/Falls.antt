@@ -1,4 +1,4 @@
--- What a step of a call shows, by what it comes to.
+-- What a step of a call shows, by what it comes to, where the words alone are measured.
 use Rattle.std.proofs.Common.{◌≡◌, ◌⊎◌, inl, inr, ⊎_elim, ℕ, ◌+◌, ◌≤◌, ◌==◌, true, Some, List, sym, subst, arith}
 use Rattle.std.proofs.lemmas.List.{set-get_or}
 use Rattle.std.proofs.lemmas.Bool.Decides.{nat_tests}
@@ -8,10 +8,11 @@ use Rattle.steps.specs.declared.ask.Op.TheVariants.{Load}
 use Rattle.model.specs.declared.event.Answer.{Answer}
 use Rattle.model.specs.declared.families.Flight.{Flight}
 use Rattle.model.specs.Coding.{Coding}
-use Rattle.model.specs.Families.{want_of, ask_of, after_of}
+use Rattle.model.specs.Families.{want_of, ask_of, after_of, goes_of}
 use Rattle.model.specs.Turns.{old_of, words_after, step_count}
+use Rattle.model.specs.declared.families.Registry.{Registry}
 use Rattle.model.specs.World.{World}
-use Rattle.model.proofs.LockFree.Measure.{Measure, Falls}
+use Rattle.model.proofs.LockFree.Measure.{WordMeasure, of_words, Falls}
 
 pub same_is : (n : ℕ) → (n == n) ≡ true
 same_is x0 = grind (arith, nat_tests)
@@ -20,7 +21,7 @@ same_is x0 = grind (arith, nat_tests)
 pub load_leaves : (words : List ℕ) (w : ℕ) → words_after words (Some (record { word = w; op = Load })) ≡ words
 load_leaves words w = set-get_or words w 0
 
-module _ {T : Type 0} (M : Measure T) where
+module _ {T : Type 0} (M : WordMeasure T) where
   -- no call has more steps left in the new words
   abbrev pub LeavesAll : List ℕ → List ℕ → Type 0
   LeavesAll old new = (other : Flight T) → M.left new other ≤ M.left old other
@@ -37,20 +38,27 @@ module _ {T : Type 0} (M : Measure T) where
   FallsIn old new steps was (Done answer) = Unit {0}
 
   -- it leaves the others no more
-  falls_there : (w : World T) (p : ℕ) (new : List ℕ) (steps : ℕ) (was next : Flight T) → FallsThere w.words new steps was next
-      → Falls M w p new steps was next
-  falls_there w p new steps was next (inl h) = (
+  falls_there : (w : World T) (p : ℕ) (new : List ℕ) (now : Registry T) (steps : ℕ) (was next : Flight T)
+      → FallsThere w.words new steps was next → Falls (of_words M) w p new now steps was next
+  falls_there w p new now steps was next (inl h) = (
     subst (λ ws. M.left ws next + steps ≤ M.left w.words was) (sym h.0) h.1,
     inl (λ q ne other e. subst (λ ws. M.left ws other ≤ M.left w.words other) (sym h.0) (omega arith), h.2),
   )
-  falls_there w p new steps was next (inr h) = (h.0, ⊎_elim (λ same. inl (λ q ne other e. same.0 other, same.1)) (λ less. inr less) h.1)
+  falls_there w p new now steps was next (inr h) =
+      (h.0, ⊎_elim (λ same. inl (λ q ne other e. same.0 other, same.1)) (λ less. inr less) h.1)
 
-  pub falls_by : (w : World T) (p : ℕ) (new : List ℕ) (steps : ℕ) (was : Flight T) (after : After (Flight T) (Answer T))
-      → FallsIn w.words new steps was after → (next : Flight T) → after ≡ GoOn next → Falls M w p new steps was next
-  falls_by w p new steps was after h next e = falls_there w p new steps was next (subst (FallsIn w.words new steps was) e h)
+  pub falls_by : (w : World T) (p : ℕ) (new : List ℕ) (now : Registry T) (steps : ℕ) (was : Flight T) (after : After (Flight T) (Answer T))
+      → FallsIn w.words new steps was after → (next : Flight T) → after ≡ GoOn next → Falls (of_words M) w p new now steps was next
+  falls_by w p new now steps was after h next e = falls_there w p new now steps was next (subst (FallsIn w.words new steps was) e h)
 
   -- a step of a call in these words, by its own table
   abbrev pub StepFalls : Coding T → List ℕ → Flight T → Type 0
   StepFalls code words flight =
       FallsIn words (words_after words (ask_of (want_of code flight))) (step_count (ask_of (want_of code flight))) flight
       (after_of code flight (old_of words (ask_of (want_of code flight))))
+
+  -- and by what is kept
+  abbrev pub StepFallsBy : Coding T → List ℕ → ℕ → Registry T → Flight T → Type 0
+  StepFallsBy code words p kept flight =
+      FallsIn words (words_after words (ask_of (want_of code flight))) (step_count (ask_of (want_of code flight))) flight
+      (goes_of code p flight (old_of words (ask_of (want_of code flight))) kept)

@@ -1,19 +1,21 @@
 -- The same of a family whose frame holds of every run without a bound of turns: from a measure of its calls it follows that
 -- calls keep ending.
 use Rattle.std.proofs.Common.{◌≡◌, ℕ, ◌≤◌, Bool, true, Option, Some, None, refl, sym, subst, ◌∙◌}
-use Rattle.steps.specs.declared.ask.Ask.{Ask}
+use Rattle.model.specs.declared.event.Start.{Start}
 use Rattle.model.specs.declared.families.Flight.{Flight}
 use Rattle.model.specs.declared.party.Doing.TheVariants.{Going}
 use Rattle.model.specs.declared.party.Party.{Party}
 use Rattle.model.specs.declared.turn.Kind.{Kind}
+use Rattle.model.specs.declared.turn.Turn.TheVariants.{Begin, Die}
 use Rattle.model.specs.Coding.{Coding}
-use Rattle.model.specs.Families.{want_of, ask_of, goes_of, is_question}
+use Rattle.model.specs.Families.{want_of, is_question, kept_after_begin, kept_after_death}
 use Rattle.model.specs.LockFree.{Bound, KeepsEnding, AreWithinEnds, IsBelow, stretch, steps_in, ends}
 use Rattle.model.specs.Parties.{party_of}
-use Rattle.model.specs.Turns.{step_in, old_of, number_of, after_turns, IsReachedOn}
-use Rattle.model.specs.World.{Trace}
+use Rattle.model.specs.Refusals.{call_refusal}
+use Rattle.model.specs.Turns.{old_of, number_of, after_turns, IsReachedOn}
+use Rattle.model.specs.World.{Trace, flight_in}
 use Rattle.model.proofs.Frame.{Family, Sound}
-use Rattle.model.proofs.LockFree.Measure.{Measure, Owed, FallsBy}
+use Rattle.model.proofs.LockFree.Measure.{Measure, Owed, Leaves, Harmless, FallsBy, asked}
 use Rattle.model.proofs.LockFree.Stays.{under_way}
 use Rattle.model.proofs.LockFree.Walks.{calls_end}
 use Rattle.model.proofs.Reached.{turn_making, reached_on_more}
@@ -22,25 +24,26 @@ module _ {T : Type 0} (kind : Kind) (F : Coding T → ℕ → Family T) (M : ℕ
   abbrev SoundThere : Trace T → Type 0
   SoundThere t = Sound (F t.world.coding t.world.capacity) t
 
-  abbrev asked : Trace T → Flight T → Option Ask
-  asked t flight = ask_of (want_of t.world.coding flight)
+  abbrev there : Trace T → Measure T
+  there t = M t.world.capacity
 
   -- what it owes, of each machine that turns have reached and each call that is under way there
   pub record FramedLaws : Type 0 where
     pub sound : (t : Trace T) → t.world.kind ≡ kind → IsReachedOn t → SoundThere t
-    pub goes : (t : Trace T) → SoundThere t → (p : ℕ) (x : Party T) (flight : Flight T) (since answer : ℕ)
-        → party_of p t.world.latest ≡ Some x → x.doing ≡ Going flight since
-        → (step_in t.world p x flight answer).after ≡ goes_of t.world.coding p flight answer t.world.kept
     pub most : (t : Trace T) → SoundThere t → (p : ℕ) (x : Party T) (flight : Flight T) (since : ℕ)
         → party_of p t.world.latest ≡ Some x → x.doing ≡ Going flight since
-        → ((M t.world.capacity).left t.world.words flight ≤ (M t.world.capacity).alone)
-        × ((M t.world.capacity).pays flight ≤ (M t.world.capacity).changes)
+        → ((there t).left t.world.words t.world.kept flight ≤ (there t).alone) × ((there t).pays flight ≤ (there t).changes)
+    pub begins : (t : Trace T) → SoundThere t → (p : ℕ) (start : Start T) → call_refusal t.world (Begin p start) ≡ None
+        → Harmless (there t) t.world p t.world.words (kept_after_begin t.world.coding t.world.capacity start p t.world.kept)
+    pub dies : (t : Trace T) → SoundThere t → (owner : ℕ) → call_refusal t.world (Die owner) ≡ None
+        → (q : ℕ) (other : Flight T) → flight_in t.world q ≡ Some other
+        → Leaves (there t) t.world t.world.words (kept_after_death t.world.kept owner) other
     pub step : (t : Trace T) → SoundThere t → (p : ℕ) (x : Party T) (flight : Flight T) (since : ℕ)
         → party_of p t.world.latest ≡ Some x → x.doing ≡ Going flight since
-        → FallsBy (M t.world.capacity) t.world p flight (asked t flight) (old_of t.world.words (asked t flight))
+        → FallsBy (there t) t.world p x flight (asked (there t) t.world flight) (old_of t.world.words (asked (there t) t.world flight))
     pub decision : (t : Trace T) → SoundThere t → (p : ℕ) (x : Party T) (flight : Flight T) (since : ℕ) (said : Bool)
         → party_of p t.world.latest ≡ Some x → x.doing ≡ Going flight since → is_question (want_of t.world.coding flight) ≡ true
-        → FallsBy (M t.world.capacity) t.world p flight None (number_of said)
+        → FallsBy (there t) t.world p x flight None (number_of said)
 
   module _ (L : FramedLaws) where
     record IsThere (c : ℕ) (t : Trace T) : Type 0 where
@@ -57,19 +60,22 @@ module _ {T : Type 0} (kind : Kind) (F : Coding T → ℕ → Family T) (M : ℕ
           keeps = λ t turn e may h.
               (let making = turn_making t.world turn in
               record { is = making.kind ∙ h.is; capacity = making.capacity ∙ h.capacity; reached = reached_on_more t turn e h.reached });
-          goes = λ t h p x flight since answer found doing. L.goes t (there_sound c t h) p x flight since answer found doing;
           most = λ t h p flight e.
               (let under = under_way t.world p flight e in
-              subst (λ n. ((M n).left t.world.words flight ≤ (M n).alone) × ((M n).pays flight ≤ (M n).changes)) h.capacity
+              subst (λ n. ((M n).left t.world.words t.world.kept flight ≤ (M n).alone) × ((M n).pays flight ≤ (M n).changes)) h.capacity
               (L.most t (there_sound c t h) p under.party flight under.since under.found under.doing));
-          step = λ t h p flight e.
-              (let under = under_way t.world p flight e in
-              subst (λ n. FallsBy (M n) t.world p flight (asked t flight) (old_of t.world.words (asked t flight))) h.capacity
-              (L.step t (there_sound c t h) p under.party flight under.since under.found under.doing));
-          decision = λ t h p flight said e asks.
-              (let under = under_way t.world p flight e in
-              subst (λ n. FallsBy (M n) t.world p flight None (number_of said)) h.capacity
-              (L.decision t (there_sound c t h) p under.party flight under.since said under.found under.doing asks));
+          begins = λ t h p start e may.
+              subst (λ n. Harmless (M n) t.world p t.world.words (kept_after_begin t.world.coding t.world.capacity start p t.world.kept)) h.capacity
+              (L.begins t (there_sound c t h) p start e);
+          dies = λ t h owner e may q other is.
+              subst (λ n. Leaves (M n) t.world t.world.words (kept_after_death t.world.kept owner) other) h.capacity
+              (L.dies t (there_sound c t h) owner e q other is);
+          step = λ t h p x flight since found doing.
+              subst (λ n. FallsBy (M n) t.world p x flight (asked (M n) t.world flight) (old_of t.world.words (asked (M n) t.world flight))) h.capacity
+              (L.step t (there_sound c t h) p x flight since found doing);
+          decision = λ t h p x flight since said found doing asks.
+              subst (λ n. FallsBy (M n) t.world p x flight None (number_of said)) h.capacity
+              (L.decision t (there_sound c t h) p x flight since said found doing asks);
         }
 
     pub framed_keep_ending : (bound : Bound) → ((c n size : ℕ) → bound n c size ≡ stretch n (M c).changes (M c).alone) → KeepsEnding T kind bound

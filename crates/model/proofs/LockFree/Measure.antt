@@ -8,12 +8,14 @@ use Rattle.steps.specs.declared.ask.After.{After}
 use Rattle.steps.specs.declared.ask.After.TheVariants.{GoOn, Done}
 use Rattle.model.specs.declared.event.Answer.{Answer}
 use Rattle.model.specs.declared.event.Event.{Event}
+use Rattle.model.specs.declared.event.Start.{Start}
 use Rattle.model.specs.declared.families.Flight.{Flight}
 use Rattle.model.specs.declared.families.Registry.{Registry}
 use Rattle.model.specs.declared.party.Doing.TheVariants.{Going}
 use Rattle.model.specs.declared.party.Party.{Party}
 use Rattle.model.specs.declared.turn.Turn.{Turn}
-use Rattle.model.specs.Families.{want_of, ask_of, goes_of, is_question}
+use Rattle.model.specs.declared.turn.Turn.TheVariants.{Begin, Die}
+use Rattle.model.specs.Families.{want_of, ask_of, is_question, kept_after_begin, kept_after_death}
 use Rattle.model.specs.Parties.{party_of, doing_of, flight_of}
 use Rattle.model.specs.Refusals.{call_refusal}
 use Rattle.model.specs.Step.{Step}
@@ -23,7 +25,6 @@ use Rattle.model.specs.Turns.{events_of_step, ending_of}
 use Rattle.model.specs.Turns.{after_turn}
 use Rattle.model.specs.World.{World, Trace, flight_in}
 use Rattle.model.proofs.Parties.{party_put_same, party_put_other}
-use Rattle.model.proofs.Turns.{GoesAsTold}
 use Rattle.model.specs.LockFree.{end_of, ends, stretch}
 use Rattle.model.proofs.LockFree.Sums.{sum_below, sum_le, sum_falls, sum_rises, sum_most}
 
@@ -34,52 +35,75 @@ worth fewer more each le = let rest : more ≡ fewer + (more - fewer) = omega ar
     spread : (a b each : ℕ) → a * each ≤ (a + b) * each
     spread a b each = omega arith
 
--- what is said of each call under way
+-- what is said of each call under way, in these words and by what is kept beside them
 pub record Measure (T : Type 0) : Type 0 where
-  pub left : List ℕ → Flight T → ℕ  -- how many steps it takes at most before its last one, while no other call adds to them
+  pub left : List ℕ → Registry T → Flight T → ℕ  -- how many steps it takes at most before its last one, while no other call adds to them
   pub pays : Flight T → ℕ  -- how many changes it makes at most that can add to the steps of others, before its last step
   pub alone : ℕ  -- no call has more steps left
   pub changes : ℕ  -- and none has more such changes to make
 
+-- one to which nothing counts but the words
+pub record WordMeasure (T : Type 0) : Type 0 where
+  pub left : List ℕ → Flight T → ℕ
+  pub pays : Flight T → ℕ
+  pub alone : ℕ
+  pub changes : ℕ
+
+abbrev pub of_words : {T : Type 0} → WordMeasure T → Measure T
+of_words M = record { left = λ words kept flight. M.left words flight; pays = M.pays; alone = M.alone; changes = M.changes }
+
 module _ {T : Type 0} (M : Measure T) where
-  -- these words leave the calls of the others no more steps
-  abbrev pub Harmless : World T → ℕ → List ℕ → Type 0
-  Harmless w p new = (q : ℕ) → q ≢ p → (other : Flight T) → flight_in w q ≡ Some other → M.left new other ≤ M.left w.words other
+  -- these words, with this beside them, leave the call no more steps
+  abbrev pub Leaves : World T → List ℕ → Registry T → Flight T → Type 0
+  Leaves w new now flight = M.left new now flight ≤ M.left w.words w.kept flight
+
+  -- nor the calls of the others
+  abbrev pub Harmless : World T → ℕ → List ℕ → Registry T → Type 0
+  Harmless w p new now = (q : ℕ) → q ≢ p → (other : Flight T) → flight_in w q ≡ Some other → Leaves w new now other
 
   -- a call that goes on has a step less to take, and leaves the others no more or has a change less to make
-  abbrev pub Falls : World T → ℕ → List ℕ → ℕ → Flight T → Flight T → Type 0
-  Falls w p new steps was next =
-      (M.left new next + steps ≤ M.left w.words was)
-      × ((Harmless w p new × (M.pays next ≤ M.pays was)) ⊎ (M.pays next + 1 ≤ M.pays was))
+  abbrev pub Falls : World T → ℕ → List ℕ → Registry T → ℕ → Flight T → Flight T → Type 0
+  Falls w p new now steps was next =
+      (M.left new now next + steps ≤ M.left w.words w.kept was)
+      × ((Harmless w p new now × (M.pays next ≤ M.pays was)) ⊎ (M.pays next + 1 ≤ M.pays was))
 
-  abbrev pub FallsBy : World T → ℕ → Flight T → Option Ask → ℕ → Type 0
-  FallsBy w p flight ask answer =
-      (next : Flight T) → goes_of w.coding p flight answer w.kept ≡ GoOn next
-      → Falls w p (words_after w.words ask) (step_count ask) flight next
+  abbrev pub FallsBy : World T → ℕ → Party T → Flight T → Option Ask → ℕ → Type 0
+  FallsBy w p x flight ask answer =
+      (next : Flight T) → (step_in w p x flight answer).after ≡ GoOn next
+      → Falls w p (words_after w.words ask) (step_in w p x flight answer).kept (step_count ask) flight next
+
+  abbrev pub asked : World T → Flight T → Option Ask
+  asked w flight = ask_of (want_of w.coding flight)
 
   -- what a family owes of the machines of which it speaks, and of the turns that may be taken
   pub record Owed (P : Trace T → Type 0) (May : Turn T → Type 0) : Type 0 where
     pub keeps : (t : Trace T) (turn : Turn T) → call_refusal t.world turn ≡ None → May turn → P t → P (after_turn t turn)
-    pub goes : (t : Trace T) → P t → GoesAsTold t.world
     pub most : (t : Trace T) → P t → (p : ℕ) (flight : Flight T) → flight_in t.world p ≡ Some flight
-        → (M.left t.world.words flight ≤ M.alone) × (M.pays flight ≤ M.changes)
-    pub step : (t : Trace T) → P t → (p : ℕ) (flight : Flight T) → flight_in t.world p ≡ Some flight
-        → FallsBy t.world p flight (ask_of (want_of t.world.coding flight)) (old_of t.world.words (ask_of (want_of t.world.coding flight)))
-    pub decision : (t : Trace T) → P t → (p : ℕ) (flight : Flight T) (said : Bool) → flight_in t.world p ≡ Some flight
-        → is_question (want_of t.world.coding flight) ≡ true → FallsBy t.world p flight None (number_of said)
+        → (M.left t.world.words t.world.kept flight ≤ M.alone) × (M.pays flight ≤ M.changes)
+    pub begins : (t : Trace T) → P t → (p : ℕ) (start : Start T) → call_refusal t.world (Begin p start) ≡ None → May (Begin p start)
+        → Harmless t.world p t.world.words (kept_after_begin t.world.coding t.world.capacity start p t.world.kept)
+    pub dies : (t : Trace T) → P t → (owner : ℕ) → call_refusal t.world (Die owner) ≡ None → May (Die owner)
+        → (q : ℕ) (other : Flight T) → flight_in t.world q ≡ Some other
+        → Leaves t.world t.world.words (kept_after_death t.world.kept owner) other
+    pub step : (t : Trace T) → P t → (p : ℕ) (x : Party T) (flight : Flight T) (since : ℕ)
+        → party_of p t.world.latest ≡ Some x → x.doing ≡ Going flight since
+        → FallsBy t.world p x flight (asked t.world flight) (old_of t.world.words (asked t.world flight))
+    pub decision : (t : Trace T) → P t → (p : ℕ) (x : Party T) (flight : Flight T) (since : ℕ) (said : Bool)
+        → party_of p t.world.latest ≡ Some x → x.doing ≡ Going flight since
+        → is_question (want_of t.world.coding flight) ≡ true → FallsBy t.world p x flight None (number_of said)
 
   -- ---- what all parties below n have left
 
-  abbrev pub left_of : List ℕ → Option (Flight T) → ℕ
-  left_of words None = M.alone
-  left_of words (Some flight) = M.left words flight
+  abbrev pub left_of : List ℕ → Registry T → Option (Flight T) → ℕ
+  left_of words kept None = M.alone
+  left_of words kept (Some flight) = M.left words kept flight
 
   abbrev pub pays_of : Option (Flight T) → ℕ
   pays_of None = M.changes
   pays_of (Some flight) = M.pays flight
 
   abbrev pub left_at : World T → ℕ → ℕ
-  left_at w p = left_of w.words (flight_in w p)
+  left_at w p = left_of w.words w.kept (flight_in w p)
 
   abbrev pub pays_at : World T → ℕ → ℕ
   pays_at w p = pays_of (flight_in w p)
@@ -138,10 +162,9 @@ module _ {T : Type 0} (M : Measure T) where
     -- a call goes on by an answer
     pub resumes : (w : World T) (p : ℕ) (x : Party T) (flight : Flight T) (since answer : ℕ) (ask : Option Ask) → p < n
         → party_of p w.latest ≡ Some x → x.doing ≡ Going flight since
-        → (step_in w p x flight answer).after ≡ goes_of w.coding p flight answer w.kept
-        → FallsBy w p flight ask answer → IsWithin (after_step w p x since ask (step_in w p x flight answer))
+        → FallsBy w p x flight ask answer → IsWithin (after_step w p x since ask (step_in w p x flight answer))
         → Shows w (after_step w p x since ask (step_in w p x flight answer)) (step_count ask) (ends (events_of_step p x.start (step_in w p x flight answer)))
-    resumes w p x flight since answer ask below found doing told falls within = go s.after refl
+    resumes w p x flight since answer ask below found doing falls within = go s.after refl
       where
         s : Step (Flight T) (Registry T) T
         s = step_in w p x flight answer
@@ -161,8 +184,8 @@ module _ {T : Type 0} (M : Measure T) where
         goes_on : (next : Flight T) → s.after ≡ GoOn next → Shows w new (step_count ask) (ends (events_of_step p x.start s))
         goes_on next e = ⊎_elim by_less by_pay fell.1
           where
-            fell : Falls w p new.words (step_count ask) flight next
-            fell = falls next (sym told ∙ e)
+            fell : Falls w p new.words new.kept (step_count ask) flight next
+            fell = falls next e
 
             now : flight_in new p ≡ Some next
             now = here ∙ ap (λ a. flight_of (Some (doing_after (w.changes + change_of w.words ask) (since + change_of w.words ask) a))) e
@@ -176,14 +199,15 @@ module _ {T : Type 0} (M : Measure T) where
                 theirs : q ≢ p → pays_at new q ≤ pays_at w q
                 theirs ne = rw (others q ne) (omega arith)
 
-            still : (q : ℕ) → q ≢ p → Harmless w p new.words → (o : Option (Flight T)) → flight_in w q ≡ o → left_of new.words o ≤ left_of w.words o
+            still : (q : ℕ) → q ≢ p → Harmless w p new.words new.kept → (o : Option (Flight T)) → flight_in w q ≡ o
+                → left_of new.words new.kept o ≤ left_of w.words w.kept o
             still q ne harmless None e = omega arith
             still q ne harmless (Some other) e = harmless q ne other e
 
             left_here : left_at new p + step_count ask ≤ left_at w p
             left_here = rw (now, was) fell.0
 
-            by_less : (Harmless w p new.words × (M.pays next ≤ M.pays flight))
+            by_less : (Harmless w p new.words new.kept × (M.pays next ≤ M.pays flight))
                 → Shows w new (step_count ask) (ends (events_of_step p x.start s))
             by_less h =
                 let less = by_left w new p (step_count ask) below left_no_less left_here (λ q. no_less q h.1) in

@@ -1,6 +1,6 @@
 -- What holds of the machines of a family of which nothing has to be known but where each call under way may stand: every turn
 -- keeps it, and from a measure of those calls it follows that calls keep ending.
-use Rattle.std.proofs.Common.{◌≡◌, ◌≢◌, ℕ, ◌+◌, ◌≤◌, ⊎_elim, Bool, true, Option, Some, None, List, [], ◌∷◌, refl, sym, subst, ◌∙◌}
+use Rattle.std.proofs.Common.{◌≡◌, ◌≢◌, ℕ, ◌+◌, ◌≤◌, ⊎_elim, Bool, true, Option, Some, None, List, [], ◌∷◌, refl, sym, subst, ◌∙◌, arith}
 use Rattle.std.proofs.lemmas.Bool.{cases_eq}
 use Rattle.std.specs.List.{AllByRecursion}
 use Rattle.steps.specs.declared.ask.Ask.{Ask}
@@ -27,8 +27,8 @@ use Rattle.model.specs.Turns.{doing_after, after_turn, after_begin, after_next, 
 use Rattle.model.specs.Turns.{unless_refused, attempt_on, run_on}
 use Rattle.model.specs.Refusals.{call_refusal}
 use Rattle.model.specs.World.{World, Trace, capacity_error, opening, flight_in}
-use Rattle.model.proofs.LockFree.Falls.{falls_by, FallsIn, StepFalls}
-use Rattle.model.proofs.LockFree.Measure.{Measure, Owed, FallsBy}
+use Rattle.model.proofs.LockFree.Falls.{falls_by, FallsIn, StepFalls, StepFallsBy}
+use Rattle.model.proofs.LockFree.Measure.{Measure, WordMeasure, of_words, Owed, FallsBy}
 use Rattle.model.proofs.LockFree.Stays.{under_way}
 use Rattle.model.proofs.LockFree.Walks.{calls_end}
 use Rattle.model.proofs.Parties.{party_put_same, party_put_other}
@@ -40,16 +40,51 @@ pub record Outline (T : Type 0) : Type 1 where
   pub Such : Start T → Type 0  -- the calls that begin
   pub Kept : Registry T → Type 0  -- what is kept beside the words
   pub At : Coding T → ℕ → Start T → Flight T → Type 0  -- where a call of this name may stand
-  pub measure : Coding T → ℕ → Measure T
+  pub Known : ℕ → Registry T → Flight T → Type 0  -- what is so of a party's call by what is kept
+  pub measure : Coding T → ℕ → WordMeasure T
 
 module _ {T : Type 0} (K : Outline T) where
   abbrev pub OwnAfter : Coding T → ℕ → Start T → After (Flight T) (Answer T) → Type 0
   OwnAfter code c start (GoOn flight) = K.At code c start flight
   OwnAfter code c start (Done answer) = Unit {0}
 
+  abbrev pub KnownAfter : ℕ → Registry T → After (Flight T) (Answer T) → Type 0
+  KnownAfter p kept (GoOn flight) = K.Known p kept flight
+  KnownAfter p kept (Done answer) = Unit {0}
+
+  -- what is known by the one is known by the other
+  abbrev pub Lasts : Registry T → Registry T → Type 0
+  Lasts was now = (p : ℕ) (flight : Flight T) → K.Known p was flight → K.Known p now flight
+
   -- what it owes, where values are written so and this capacity is admitted
   pub record OwnLaws (code : Coding T) (c : ℕ) : Type 0 where
     pub opens : K.Kept ((opening_of K.kind).kept c)
+    pub begins : (start : Start T) (kept : Registry T) (flight : Flight T) → K.Such start → K.Kept kept → first_of K.kind c start kept ≡ Some flight
+        → K.At code c start flight × ((p : ℕ) → K.Kept (kept_after_begin code c start p kept))
+    pub knows : (start : Start T) (kept : Registry T) (flight : Flight T) (p : ℕ) → K.Kept kept → first_of K.kind c start kept ≡ Some flight
+        → K.Known p (kept_after_begin code c start p kept) flight × Lasts kept (kept_after_begin code c start p kept)
+    pub stays : (words : List ℕ) (beside : Option (ℕ × ℕ)) (p : ℕ) (start : Start T) (flight : Flight T) (old : ℕ) (kept : Registry T)
+        → K.At code c start flight → K.Kept kept
+        → K.Kept (step_of code words beside p start flight old kept).kept × Lasts kept (step_of code words beside p start flight old kept).kept
+    pub goes : (p : ℕ) (start : Start T) (flight : Flight T) (old : ℕ) (kept : Registry T)
+        → K.At code c start flight → K.Kept kept → K.Known p kept flight
+        → OwnAfter code c start (goes_of code p flight old kept) × KnownAfter p kept (goes_of code p flight old kept)
+    pub told : (words : List ℕ) (beside : Option (ℕ × ℕ)) (p : ℕ) (start : Start T) (flight : Flight T) (old : ℕ) (kept : Registry T)
+        → K.At code c start flight → K.Kept kept
+        → (step_of code words beside p start flight old kept).after ≡ goes_of code p flight old kept
+    pub dies : (kept : Registry T) (owner : ℕ) → K.Kept kept → K.Kept (kept_after_death kept owner) × Lasts kept (kept_after_death kept owner)
+    pub decides : (words : List ℕ) (p : ℕ) (kept : Registry T) (start : Start T) (flight : Flight T) (said : Bool)
+        → K.At code c start flight → K.Kept kept → is_question (want_of code flight) ≡ true
+        → FallsIn (K.measure code c) words words 0 flight (goes_of code p flight (number_of said) kept)
+    pub most : (words : List ℕ) (start : Start T) (flight : Flight T) → K.At code c start flight
+        → ((K.measure code c).left words flight ≤ (K.measure code c).alone) × ((K.measure code c).pays flight ≤ (K.measure code c).changes)
+    pub falls : (words : List ℕ) (p : ℕ) (kept : Registry T) (start : Start T) (flight : Flight T)
+        → K.At code c start flight → K.Kept kept → K.Known p kept flight → StepFallsBy (K.measure code c) code words p kept flight
+
+  -- the same of a family whose tables see nothing of what is kept
+  pub record TableLaws (code : Coding T) (c : ℕ) : Type 0 where
+    pub opens : K.Kept ((opening_of K.kind).kept c)
+    pub known : (p : ℕ) (kept : Registry T) (flight : Flight T) → K.Known p kept flight
     pub begins : (start : Start T) (kept : Registry T) (flight : Flight T) → K.Such start → K.Kept kept → first_of K.kind c start kept ≡ Some flight
         → K.At code c start flight × ((p : ℕ) → K.Kept (kept_after_begin code c start p kept))
     pub stays : (words : List ℕ) (beside : Option (ℕ × ℕ)) (p : ℕ) (start : Start T) (flight : Flight T) (old : ℕ) (kept : Registry T)
@@ -67,62 +102,110 @@ module _ {T : Type 0} (K : Outline T) where
     pub falls : (words : List ℕ) (start : Start T) (flight : Flight T) → K.At code c start flight
         → StepFalls (K.measure code c) code words flight
 
-  module _ (laws : (code : Coding T) (c : ℕ) → IsCoding code → capacity_error K.kind c ≡ None → OwnLaws code c) where
-    abbrev OwnDoing : World T → Start T → Doing T → Type 0
-    OwnDoing w start (Going flight since) = K.At w.coding w.capacity start flight
-    OwnDoing w start (Over others) = Unit {0}
+  pub by_table : (code : Coding T) (c : ℕ) → TableLaws code c → OwnLaws code c
+  by_table code c L =
+      record {
+        opens = L.opens;
+        begins = L.begins;
+        knows = λ start kept flight p held e. (L.known p (kept_after_begin code c start p kept) flight, lasts kept (kept_after_begin code c start p kept));
+        stays = λ words beside p start flight old kept at held.
+            (L.stays words beside p start flight old kept at held, lasts kept (step_of code words beside p start flight old kept).kept);
+        goes = λ p start flight old kept at held known. (
+          subst (OwnAfter code c start) (sym (L.told [] None p start flight old kept at held).1) (L.goes start flight old at),
+          any_after p kept (goes_of code p flight old kept),
+        );
+        told = λ words beside p start flight old kept at held.
+            (let told = L.told words beside p start flight old kept at held in told.0 ∙ sym told.1);
+        dies = λ kept owner held. (L.dies kept owner held, lasts kept (kept_after_death kept owner));
+        decides = λ words p kept start flight said at held due.
+            subst (FallsIn (K.measure code c) words words 0 flight) (sym (L.told [] None p start flight (number_of said) kept at held).1)
+            (L.decides words start flight said at due);
+        most = L.most;
+        falls = λ words p kept start flight at held known.
+            (let ask = ask_of (want_of code flight) in
+            subst (FallsIn (K.measure code c) words (words_after words ask) (step_count ask) flight)
+            (sym (L.told [] None p start flight (old_of words ask) kept at held).1) (L.falls words start flight at));
+      }
+    where
+      lasts : (was now : Registry T) → Lasts was now
+      lasts was now p flight known = L.known p now flight
 
-    abbrev OwnParty : World T → Option (Party T) → Type 0
-    OwnParty w None = Unit {0}
-    OwnParty w (Some x) = OwnDoing w x.start x.doing
+      any_after : (p : ℕ) (kept : Registry T) (after : After (Flight T) (Answer T)) → KnownAfter p kept after
+      any_after p kept (GoOn flight) = L.known p kept flight
+      any_after p kept (Done answer) = tt
+
+  module _ (laws : (code : Coding T) (c : ℕ) → IsCoding code → capacity_error K.kind c ≡ None → OwnLaws code c) where
+    abbrev OwnDoing : World T → Registry T → ℕ → Start T → Doing T → Type 0
+    OwnDoing w kept p start (Going flight since) = K.At w.coding w.capacity start flight × K.Known p kept flight
+    OwnDoing w kept p start (Over others) = Unit {0}
+
+    abbrev OwnParty : World T → Registry T → ℕ → Option (Party T) → Type 0
+    OwnParty w kept p None = Unit {0}
+    OwnParty w kept p (Some x) = OwnDoing w kept p x.start x.doing
 
     record IsOwn (w : World T) : Type 0 where
       pub kind : w.kind ≡ K.kind
       pub coded : IsCoding w.coding
       pub admitted : capacity_error K.kind w.capacity ≡ None
       pub kept : K.Kept w.kept
-      pub calls : (p : ℕ) → OwnParty w (party_of p w.latest)
+      pub calls : (p : ℕ) → OwnParty w w.kept p (party_of p w.latest)
 
     laws_of : (w : World T) → IsOwn w → OwnLaws w.coding w.capacity
     laws_of w h = laws w.coding w.capacity h.coded h.admitted
 
     -- ---- every turn keeps it
 
-    put_own : (w : World T) (p : ℕ) (y : Party T) (latest : List (ℕ × Party T)) → OwnParty w (Some y)
-        → ((q : ℕ) → OwnParty w (party_of q latest)) → (q : ℕ) → OwnParty w (party_of q (put p y latest))
-    put_own w p y latest mine all q = ⊎_elim here there (cases_eq q p)
+    -- what is kept becomes another
+    party_lasts : (w : World T) (was now : Registry T) → Lasts was now → (p : ℕ) (o : Option (Party T)) → OwnParty w was p o → OwnParty w now p o
+    party_lasts w was now lasts p None own = tt
+    party_lasts w was now lasts p (Some x) own = go x.doing own
       where
-        here : q ≡ p → OwnParty w (party_of q (put p y latest))
-        here e = subst (λ n. OwnParty w (party_of n (put p y latest))) (sym e) (subst (OwnParty w) (sym (party_put_same p y latest)) mine)
+        go : (doing : Doing T) → OwnDoing w was p x.start doing → OwnDoing w now p x.start doing
+        go (Going flight since) own = (own.0, lasts p flight own.1)
+        go (Over others) own = tt
 
-        there : q ≢ p → OwnParty w (party_of q (put p y latest))
-        there ne = subst (OwnParty w) (sym (party_put_other q p y latest ne)) (all q)
+    put_own : (w : World T) (now : Registry T) (p : ℕ) (y : Party T) (latest : List (ℕ × Party T)) → Lasts w.kept now → OwnParty w now p (Some y)
+        → ((q : ℕ) → OwnParty w w.kept q (party_of q latest)) → (q : ℕ) → OwnParty w now q (party_of q (put p y latest))
+    put_own w now p y latest lasts mine all q = ⊎_elim here there (cases_eq q p)
+      where
+        here : q ≡ p → OwnParty w now q (party_of q (put p y latest))
+        here e =
+            subst (λ n. OwnParty w now n (party_of n (put p y latest))) (sym e)
+            (subst (OwnParty w now p) (sym (party_put_same p y latest)) mine)
 
-    doing_own : (w : World T) (start : Start T) (changes since : ℕ) (after : After (Flight T) (Answer T))
-        → OwnAfter w.coding w.capacity start after → OwnDoing w start (doing_after changes since after)
-    doing_own w start changes since (GoOn flight) h = h
-    doing_own w start changes since (Done answer) h = tt
+        there : q ≢ p → OwnParty w now q (party_of q (put p y latest))
+        there ne =
+            subst (OwnParty w now q) (sym (party_put_other q p y latest ne))
+            (party_lasts w w.kept now lasts q (party_of q latest) (all q))
+
+    doing_own : (w : World T) (now : Registry T) (p : ℕ) (start : Start T) (changes since : ℕ) (after : After (Flight T) (Answer T)) → Lasts w.kept now
+        → OwnAfter w.coding w.capacity start after → KnownAfter p w.kept after → OwnDoing w now p start (doing_after changes since after)
+    doing_own w now p start changes since (GoOn flight) lasts at known = (at, lasts p flight known)
+    doing_own w now p start changes since (Done answer) lasts at known = tt
 
     answer_keeps : (w : World T) (p : ℕ) (x : Party T) (ask : Option Ask) (answer : ℕ) (doing : Doing T) → IsOwn w
-        → OwnDoing w x.start doing → IsOwn (after_answer w p x ask answer doing)
+        → OwnDoing w w.kept p x.start doing → IsOwn (after_answer w p x ask answer doing)
     answer_keeps w p x ask answer (Over others) h own = h
     answer_keeps w p x ask answer (Going flight since) h own =
         let beside = beside_of w.words w.kept w.latest p in
         let L = laws_of w h in
-        let told = L.told w.words beside p x.start flight answer w.kept own h.kept in
+        let told = L.told w.words beside p x.start flight answer w.kept own.0 h.kept in
+        let goes = L.goes p x.start flight answer w.kept own.0 h.kept own.1 in
+        let stays = L.stays w.words beside p x.start flight answer w.kept own.0 h.kept in
+        let s = step_in w p x flight answer in
         record {
           kind = h.kind;
           coded = h.coded;
           admitted = h.admitted;
-          kept = L.stays w.words beside p x.start flight answer w.kept own h.kept;
+          kept = stays.0;
           calls =
-              put_own w p (party_after x since w.changes (step_count ask) (change_of w.words ask) (step_in w p x flight answer)) w.latest
-              (doing_own w x.start (w.changes + change_of w.words ask) (since + change_of w.words ask) (step_in w p x flight answer).after
-              (subst (OwnAfter w.coding w.capacity x.start) (sym told.0) (L.goes x.start flight answer own))) h.calls;
+              put_own w s.kept p (party_after x since w.changes (step_count ask) (change_of w.words ask) s) w.latest stays.1
+              (doing_own w s.kept p x.start (w.changes + change_of w.words ask) (since + change_of w.words ask) s.after stays.1
+              (subst (OwnAfter w.coding w.capacity x.start) (sym told) goes.0) (subst (KnownAfter p w.kept) (sym told) goes.1)) h.calls;
         }
 
-    own_there : (w : World T) → IsOwn w → (p : ℕ) (x : Party T) → party_of p w.latest ≡ Some x → OwnDoing w x.start x.doing
-    own_there w h p x found = subst (OwnParty w) found (h.calls p)
+    own_there : (w : World T) → IsOwn w → (p : ℕ) (x : Party T) → party_of p w.latest ≡ Some x → OwnDoing w w.kept p x.start x.doing
+    own_there w h p x found = subst (OwnParty w w.kept p) found (h.calls p)
 
     next_keeps : (w : World T) (p : ℕ) → IsOwn w → (o : Option (Party T)) → party_of p w.latest ≡ o → IsOwn (after_next w p o)
     next_keeps w p h None found = h
@@ -139,13 +222,17 @@ module _ {T : Type 0} (K : Outline T) where
     begun_keeps w p start such h None e = h
     begun_keeps w p start such h (Some flight) e =
         let L = laws_of w h in
-        let own = L.begins start w.kept flight such h.kept (subst (λ kind. first_of kind w.capacity start w.kept ≡ Some flight) h.kind e) in
+        let first : first_of K.kind w.capacity start w.kept ≡ Some flight = subst (λ kind. first_of kind w.capacity start w.kept ≡ Some flight) h.kind e in
+        let own = L.begins start w.kept flight such h.kept first in
+        let knows = L.knows start w.kept flight p h.kept first in
         record {
           kind = h.kind;
           coded = h.coded;
           admitted = h.admitted;
           kept = own.1 p;
-          calls = put_own w p (party_at_begin start flight w.changes) w.latest own.0 h.calls;
+          calls =
+              put_own w (kept_after_begin w.coding w.capacity start p w.kept) p (party_at_begin start flight w.changes) w.latest knows.1
+              (own.0, knows.0) h.calls;
         }
 
     turn_keeps : (w : World T) (turn : Turn T) → BeginsSuch K.Such turn → IsOwn w → IsOwn (world_after w turn)
@@ -154,7 +241,14 @@ module _ {T : Type 0} (K : Outline T) where
     turn_keeps w (Decide p said) such h = decision_keeps w p said h (party_of p w.latest) refl
     turn_keeps w (Die owner) such h =
         let L = laws_of w h in
-        record { kind = h.kind; coded = h.coded; admitted = h.admitted; kept = L.dies w.kept owner h.kept; calls = h.calls }
+        let dies = L.dies w.kept owner h.kept in
+        record {
+          kind = h.kind;
+          coded = h.coded;
+          admitted = h.admitted;
+          kept = dies.0;
+          calls = λ p. party_lasts w w.kept (kept_after_death w.kept owner) dies.1 p (party_of p w.latest) (h.calls p);
+        }
 
     opens : (code : Coding T) (c parties : ℕ) → IsCoding code → capacity_error K.kind c ≡ None → IsOwn (opening code K.kind c parties).world
     opens code c parties coded admitted =
@@ -181,6 +275,10 @@ module _ {T : Type 0} (K : Outline T) where
 
     -- ---- each call under way
 
+    call_there : (w : World T) → IsOwn w → (p : ℕ) (x : Party T) (flight : Flight T) (since : ℕ) → party_of p w.latest ≡ Some x
+        → x.doing ≡ Going flight since → K.At w.coding w.capacity x.start flight × K.Known p w.kept flight
+    call_there w h p x flight since found doing = subst (OwnDoing w w.kept p x.start) doing (own_there w h p x found)
+
     pub record Stands (w : World T) (flight : Flight T) : Type 0 where
       pub start : Start T
       pub at : K.At w.coding w.capacity start flight
@@ -188,31 +286,34 @@ module _ {T : Type 0} (K : Outline T) where
     stands : (w : World T) → IsOwn w → (p : ℕ) (flight : Flight T) → flight_in w p ≡ Some flight → Stands w flight
     stands w h p flight e =
         let under = under_way w p flight e in
-        let x = under.party in
-        record { start = x.start; at = subst (OwnDoing w x.start) under.doing (own_there w h p x under.found) }
+        let there = call_there w h p under.party flight under.since under.found under.doing in
+        record { start = under.party.start; at = there.0 }
 
-    abbrev asked : Coding T → Flight T → Option Ask
-    asked code flight = ask_of (want_of code flight)
-
-    abbrev measure_of : World T → Measure T
+    abbrev measure_of : World T → WordMeasure T
     measure_of w = K.measure w.coding w.capacity
 
-    table_falls : (w : World T) → IsOwn w → (p : ℕ) (start : Start T) (flight : Flight T) → K.At w.coding w.capacity start flight
-        → FallsBy (measure_of w) w p flight (asked w.coding flight) (old_of w.words (asked w.coding flight))
-    table_falls w h p start flight at next e =
-        let L = laws_of w h in
-        let old = old_of w.words (asked w.coding flight) in
-        let told = L.told w.words (beside_of w.words w.kept w.latest p) p start flight old w.kept at h.kept in
-        falls_by (measure_of w) w p (words_after w.words (asked w.coding flight)) (step_count (asked w.coding flight)) flight
-        (after_of w.coding flight old) (L.falls w.words start flight at) next (sym told.1 ∙ e)
+    -- of each machine of this coding and this capacity
+    abbrev measured_in : Coding T → ℕ → Measure T
+    measured_in code c = of_words (K.measure code c)
 
-    decision_falls : (w : World T) → IsOwn w → (p : ℕ) (start : Start T) (flight : Flight T) (said : Bool) → K.At w.coding w.capacity start flight
-        → is_question (want_of w.coding flight) ≡ true → FallsBy (measure_of w) w p flight None (number_of said)
-    decision_falls w h p start flight said at asks next e =
+    table_falls : (w : World T) → IsOwn w → (p : ℕ) (x : Party T) (flight : Flight T)
+        → K.At w.coding w.capacity x.start flight → K.Known p w.kept flight
+        → FallsBy (of_words (measure_of w)) w p x flight (ask_of (want_of w.coding flight)) (old_of w.words (ask_of (want_of w.coding flight)))
+    table_falls w h p x flight at known next e =
         let L = laws_of w h in
-        let told = L.told w.words (beside_of w.words w.kept w.latest p) p start flight (number_of said) w.kept at h.kept in
-        falls_by (measure_of w) w p w.words 0 flight (after_of w.coding flight (number_of said)) (L.decides w.words start flight said at asks) next
-        (sym told.1 ∙ e)
+        let ask = ask_of (want_of w.coding flight) in
+        let old = old_of w.words ask in
+        let told = L.told w.words (beside_of w.words w.kept w.latest p) p x.start flight old w.kept at h.kept in
+        falls_by (measure_of w) w p (words_after w.words ask) (step_in w p x flight old).kept (step_count ask) flight
+        (goes_of w.coding p flight old w.kept) (L.falls w.words p w.kept x.start flight at h.kept known) next (sym told ∙ e)
+
+    decision_falls : (w : World T) → IsOwn w → (p : ℕ) (x : Party T) (flight : Flight T) (said : Bool) → K.At w.coding w.capacity x.start flight
+        → is_question (want_of w.coding flight) ≡ true → FallsBy (of_words (measure_of w)) w p x flight None (number_of said)
+    decision_falls w h p x flight said at asks next e =
+        let L = laws_of w h in
+        let told = L.told w.words (beside_of w.words w.kept w.latest p) p x.start flight (number_of said) w.kept at h.kept in
+        falls_by (measure_of w) w p w.words (step_in w p x flight (number_of said)).kept 0 flight
+        (goes_of w.coding p flight (number_of said) w.kept) (L.decides w.words p w.kept x.start flight said at h.kept asks) next (sym told ∙ e)
 
     abbrev May : ℕ → Turn T → Type 0
     May n turn = IsBelow n turn × BeginsSuch K.Such turn
@@ -225,16 +326,11 @@ module _ {T : Type 0} (K : Outline T) where
     abbrev IsAt : Coding T → ℕ → Trace T → Type 0
     IsAt code c t = IsOwn t.world × (t.world.coding ≡ code) × (t.world.capacity ≡ c)
 
-    owed : (code : Coding T) (c n : ℕ) → Owed (K.measure code c) (IsAt code c) (May n)
+    owed : (code : Coding T) (c n : ℕ) → Owed (measured_in code c) (IsAt code c) (May n)
     owed code c n =
         record {
           keeps = λ t turn e may h.
               (turn_keeps t.world turn may.1 h.0, (turn_making t.world turn).coding ∙ h.1, (turn_making t.world turn).capacity ∙ h.2);
-          goes = λ t h p x flight since answer found doing.
-              (let L = laws_of t.world h.0 in
-              let own : OwnDoing t.world x.start (Going flight since) = subst (OwnDoing t.world x.start) doing (own_there t.world h.0 p x found) in
-              let told = L.told t.world.words (beside_of t.world.words t.world.kept t.world.latest p) p x.start flight answer t.world.kept own h.0.kept in
-              told.0 ∙ sym told.1);
           most = λ t h p flight e.
               (let L = laws_of t.world h.0 in
               let there = stands t.world h.0 p flight e in
@@ -243,17 +339,18 @@ module _ {T : Type 0} (K : Outline T) where
               (λ n. ((K.measure t.world.coding n).left t.world.words flight ≤ (K.measure t.world.coding n).alone)
               × ((K.measure t.world.coding n).pays flight ≤ (K.measure t.world.coding n).changes)) h.2
               (L.most t.world.words there.start flight there.at)));
-          step = λ t h p flight e.
-              (let there = stands t.world h.0 p flight e in
-              let asked = ask_of (want_of t.world.coding flight) in
-              subst (λ z. FallsBy (K.measure z c) t.world p flight asked (old_of t.world.words asked)) h.1
-              (subst (λ n. FallsBy (K.measure t.world.coding n) t.world p flight asked (old_of t.world.words asked)) h.2
-              (table_falls t.world h.0 p there.start flight there.at)));
-          decision = λ t h p flight said e asks.
-              (let there = stands t.world h.0 p flight e in
-              subst (λ z. FallsBy (K.measure z c) t.world p flight None (number_of said)) h.1
-              (subst (λ n. FallsBy (K.measure t.world.coding n) t.world p flight None (number_of said)) h.2
-              (decision_falls t.world h.0 p there.start flight said there.at asks)));
+          begins = λ t h p start e may q ne other is. omega arith;
+          dies = λ t h owner e may q other is. omega arith;
+          step = λ t h p x flight since found doing.
+              (let ask = ask_of (want_of t.world.coding flight) in
+              let there = call_there t.world h.0 p x flight since found doing in
+              subst (λ z. FallsBy (measured_in z c) t.world p x flight ask (old_of t.world.words ask)) h.1
+              (subst (λ n. FallsBy (measured_in t.world.coding n) t.world p x flight ask (old_of t.world.words ask)) h.2
+              (table_falls t.world h.0 p x flight there.0 there.1)));
+          decision = λ t h p x flight since said found doing asks.
+              subst (λ z. FallsBy (measured_in z c) t.world p x flight None (number_of said)) h.1
+              (subst (λ n. FallsBy (measured_in t.world.coding n) t.world p x flight None (number_of said)) h.2
+              (decision_falls t.world h.0 p x flight said (call_there t.world h.0 p x flight since found doing).0 asks));
         }
 
     -- the bound that the measure gives
@@ -265,7 +362,7 @@ module _ {T : Type 0} (K : Outline T) where
     keeps_ending_of bound same t is r such_before n turns allowed below such =
         let w = t.world in
         subst (λ b. AreWithinEnds b (steps_in t turns) (ends t.events) (ends (after_turns t turns).events)) (sym (same w.coding w.capacity n))
-        (calls_end (K.measure w.coding w.capacity) (IsAt w.coding w.capacity) (May n) (owed w.coding w.capacity n) n
+        (calls_end (measured_in w.coding w.capacity) (IsAt w.coding w.capacity) (May n) (owed w.coding w.capacity n) n
         (λ turn may. may.0) t (reached_own t is r such_before, refl, refl) turns allowed (both_may n turns below such))
 
     -- where any call may begin

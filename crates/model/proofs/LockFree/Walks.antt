@@ -10,19 +10,20 @@ use Rattle.model.specs.declared.party.Doing.TheVariants.{Going, Over}
 use Rattle.model.specs.declared.party.Party.{Party}
 use Rattle.model.specs.declared.turn.Turn.{Turn}
 use Rattle.model.specs.declared.turn.Turn.TheVariants.{Begin, Next, Decide, Die}
-use Rattle.model.specs.Families.{first_of, want_of, ask_of}
+use Rattle.model.specs.Families.{first_of, want_of, ask_of, kept_after_begin, kept_after_death}
 use Rattle.model.specs.Parties.{party_of, doing_of, flight_of}
 use Rattle.model.specs.Promises.Turns.{ask_of_flight}
 use Rattle.model.specs.Refusals.{call_refusal, is_due}
 use Rattle.model.specs.Turns.{old_of, step_count, number_of, ask_of_doing, after_begin, after_next, after_decision, after_answer}
-use Rattle.model.specs.Turns.{events_of, events_of_next, events_of_decision, events_of_answer, world_after, after_turn, after_turns}
+use Rattle.model.specs.Turns.{events_of, events_of_next, events_of_decision, events_of_answer, after_death, world_after, after_turn, after_turns}
 use Rattle.model.specs.World.{World, Trace, flight_in}
 use Rattle.model.proofs.Frame.{is_true}
 use Rattle.model.proofs.Rows.{may_begin, may_next, may_decide, must_be_due}
 use Rattle.model.specs.LockFree.{ends, steps_of, steps_in, IsBelow, AreAllowedOn, AreWithinEnds}
-use Rattle.model.proofs.LockFree.Measure.{Measure, Owed, left_of, pays_of, left_at, pays_at, weight, bound}
+use Rattle.model.proofs.LockFree.Measure.{Measure, Harmless, Owed, left_of, pays_of, left_at, pays_at, weight, bound}
 use Rattle.model.proofs.LockFree.Measure.{IsWithin, Shows, at_most, by_left, resumes, ended_more}
 use Rattle.model.proofs.LockFree.Stays.{begun}
+use Rattle.model.proofs.LockFree.Sums.{sum_le}
 
 one_turn_more : (s steps old new last before ended after each : ℕ) → s + new ≤ old + ended * each
     → steps + last + (before + ended) * each ≤ new + after * each
@@ -30,7 +31,8 @@ one_turn_more : (s steps old new last before ended after each : ℕ) → s + new
 one_turn_more s steps old new last before ended after each here rest = omega arith
 
 module _ {T : Type 0} (M : Measure T) (P : Trace T → Type 0) (May : Turn T → Type 0) (O : Owed M P May) where
-  left_within : (t : Trace T) → P t → (q : ℕ) (o : Option (Flight T)) → flight_in t.world q ≡ o → left_of M t.world.words o ≤ M.alone
+  left_within : (t : Trace T) → P t → (q : ℕ) (o : Option (Flight T)) → flight_in t.world q ≡ o
+      → left_of M t.world.words t.world.kept o ≤ M.alone
   left_within t h q None e = omega arith
   left_within t h q (Some flight) e = (O.most t h q flight e).0
 
@@ -47,9 +49,10 @@ module _ {T : Type 0} (M : Measure T) (P : Trace T → Type 0) (May : Turn T →
 
     -- a call begins
     begins : (w : World T) (p : ℕ) (start : Start T) → p < n → (o : Option (Flight T)) → is_none o ≡ false → flight_in w p ≡ None
+        → Harmless M w p w.words (kept_after_begin w.coding w.capacity start p w.kept)
         → IsWithin M n (after_begin w p start o) → 0 + weight M n (after_begin w p start o) ≤ weight M n w
-    begins w p start below None e free within = absurd (cc)
-    begins w p start below (Some flight) e free within = by_left M n w new p 0 below left here pays
+    begins w p start below None e free harmless within = absurd (cc)
+    begins w p start below (Some flight) e free harmless within = by_left M n w new p 0 below left here pays
       where
         new : World T
         new = after_begin w p start (Some flight)
@@ -63,8 +66,12 @@ module _ {T : Type 0} (M : Measure T) (P : Trace T → Type 0) (May : Turn T →
             mine : q ≡ p → left_at M new q ≤ left_at M w q
             mine same = let most = within.left p in rw (same, free) most
 
+            still : (o : Option (Flight T)) → q ≢ p → flight_in w q ≡ o → left_of M w.words new.kept o ≤ left_of M w.words w.kept o
+            still None ne e = omega arith
+            still (Some other) ne e = harmless q ne other e
+
             theirs : q ≢ p → left_at M new q ≤ left_at M w q
-            theirs ne = rw (begun w p start (Some flight) q ne) (omega arith)
+            theirs ne = rw (begun w p start (Some flight) q ne) (still (flight_in w q) ne refl)
 
         pays : (q : ℕ) → pays_at M new q ≤ pays_at M w q
         pays q = ⊎_elim mine theirs (cases_eq q p)
@@ -93,10 +100,8 @@ module _ {T : Type 0} (M : Measure T) (P : Trace T → Type 0) (May : Turn T →
             let none : flight_in t.world p ≡ None = ap (λ o. flight_of (doing_of o)) found ∙ ap (λ d. flight_of (Some d)) e in
             absurd (cc)
         go (Going now since) e there =
-            let here : flight_in t.world p ≡ Some now = ap (λ o. flight_of (doing_of o)) found ∙ ap (λ d. flight_of (Some d)) e in
             let ask = ask_of (want_of t.world.coding now) in
-            resumes M n t.world p x now since (old_of t.world.words ask) ask below found e
-            (O.goes t h p x now since (old_of t.world.words ask) found e) (O.step t h p now here) there
+            resumes M n t.world p x now since (old_of t.world.words ask) ask below found e (O.step t h p x now since found e) there
 
     decides : (t : Trace T) → P t → (p : ℕ) (said : Bool) → p < n → (flight : Flight T) → flight_in t.world p ≡ Some flight
         → is_due t.world.coding (flight_in t.world p) ≡ true → (o : Option (Party T)) → party_of p t.world.latest ≡ o
@@ -114,22 +119,36 @@ module _ {T : Type 0} (M : Measure T) (P : Trace T → Type 0) (May : Turn T →
         go (Going now since) e there =
             let here : flight_in t.world p ≡ Some now = ap (λ o. flight_of (doing_of o)) found ∙ ap (λ d. flight_of (Some d)) e in
             resumes M n t.world p x now since (number_of said) None below found e
-            (O.goes t h p x now since (number_of said) found e) (O.decision t h p now said here (rw here at due)) there
+            (O.decision t h p x now since said found e (rw here at due)) there
 
-    turn_shows : (t : Trace T) → P t → (turn : Turn T) → call_refusal t.world turn ≡ None → IsBelow n turn
-        → IsWithin M n (world_after t.world turn) → Shown t turn
-    turn_shows t h (Begin p start) e below there =
-        let may = may_begin t.world p start e in
-        let shows = begins t.world p start below (first_of t.world.kind t.world.capacity start t.world.kept) may.call may.free there in
+    -- an owner dies
+    dead : (t : Trace T) → P t → (owner : ℕ) → call_refusal t.world (Die owner) ≡ None → May (Die owner)
+        → weight M n (after_death t.world owner) ≤ weight M n t.world
+    dead t h owner e may =
+        let less = sum_le n (left_at M (after_death t.world owner)) (left_at M t.world) (λ q. one q (flight_in t.world q) refl) in
         omega arith
-    turn_shows t h (Next p) e below there =
+      where
+        one : (q : ℕ) (o : Option (Flight T)) → flight_in t.world q ≡ o
+            → left_of M t.world.words (kept_after_death t.world.kept owner) o ≤ left_of M t.world.words t.world.kept o
+        one q None is = omega arith
+        one q (Some other) is = O.dies t h owner e may q other is
+
+    turn_shows : (t : Trace T) → P t → (turn : Turn T) → call_refusal t.world turn ≡ None → May turn → IsBelow n turn
+        → IsWithin M n (world_after t.world turn) → Shown t turn
+    turn_shows t h (Begin p start) e such below there =
+        let may = may_begin t.world p start e in
+        let shows =
+        begins t.world p start below (first_of t.world.kind t.world.capacity start t.world.kept) may.call may.free
+        (O.begins t h p start e such) there in
+        omega arith
+    turn_shows t h (Next p) e such below there =
         let may = may_next t.world p e in
         nexts t h p below may.flight may.is there (party_of p t.world.latest) refl there
-    turn_shows t h (Decide p said) e below there =
+    turn_shows t h (Decide p said) e such below there =
         let may = may_decide t.world p said e in
         decides t h p said below may.flight may.is (is_true (is_due t.world.coding (flight_in t.world p)) (must_be_due t.world p said e))
         (party_of p t.world.latest) refl there
-    turn_shows t h (Die owner) e below there = omega arith
+    turn_shows t h (Die owner) e such below there = let less = dead t h owner e such in omega arith
 
     -- ---- a list of turns
 
@@ -139,7 +158,7 @@ module _ {T : Type 0} (M : Measure T) (P : Trace T → Type 0) (May : Turn T →
     walks t h [] allowed may = omega arith
     walks t h (turn ∷ turns) allowed may =
         let next = O.keeps t turn allowed.0 may.0 h in
-        let here = turn_shows t h turn allowed.0 (below turn may.0) (within (after_turn t turn) next) in
+        let here = turn_shows t h turn allowed.0 may.0 (below turn may.0) (within (after_turn t turn) next) in
         let rest = walks (after_turn t turn) next turns allowed.1 may.1 in
         let more = ended_more M n t.events (events_of t.world turn) in
         one_turn_more (steps_of t.world turn) (steps_in (after_turn t turn) turns) (weight M n t.world)

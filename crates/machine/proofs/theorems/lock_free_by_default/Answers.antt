@@ -6,3 +6,9 @@ returns-clause-one_ends g c = laws.robust_one_ends _
 
 pub returns-clause-keep_ending : goal.returns-clause-keep_ending
 returns-clause-keep_ending g c = laws.robust_keeps_ending _
+
+pub returns-clause-container_ends : goal.returns-clause-container_ends
+returns-clause-container_ends g c = laws.container_one_ends _
+
+pub returns-clause-container_keeps_ending : goal.returns-clause-container_keeps_ending
+returns-clause-container_keeps_ending g c = laws.container_keeps_ending _

@@ -1,0 +1,343 @@
+-- A container in which no call may lock is lock-free.
+use Rattle.std.proofs.Common.{◌≡◌, ◌≢◌, ℕ, inl, ◌≤◌, nat_lt, ⊎_elim, Bool, true, false, cond}
+use Rattle.std.proofs.Common.{Option, Some, None, is_some, List, [], refl, sym, subst, ap, ◌∙◌, arith}
+use Rattle.std.proofs.lemmas.Bool.{cases_eq}
+use Rattle.std.proofs.lemmas.Bool.Decides.{nat_tests}
+use Rattle.steps.specs.declared.ask.After.{After}
+use Rattle.steps.specs.declared.ask.After.TheVariants.{GoOn, Done}
+use Rattle.steps.specs.declared.container.find.FindStage as finds
+use Rattle.steps.specs.declared.container.look.Look.{Look}
+use Rattle.steps.specs.declared.container.recover.RecoverStage as recovers
+use Rattle.steps.specs.declared.container.remove.RemoveStage as removes
+use Rattle.steps.specs.declared.container.replace.ReplaceStage as replaces
+use Rattle.steps.specs.declared.container.state.ContainerState.{ContainerState}
+use Rattle.steps.specs.declared.indices.enums.ReleaseMode.TheVariants.{LockIfLastIndex, Default}
+use Rattle.steps.specs.declared.copied.Buffer as buffers
+use Rattle.steps.specs.declared.indices.robust.parts.Lock as locks
+use Rattle.steps.specs.declared.indices.robust.parts.Raise as raises
+use Rattle.steps.specs.Indices.Robust.Parts.{raise_want, lock_want}
+use Rattle.model.specs.declared.event.Answer.{Answer}
+use Rattle.model.specs.declared.event.Start.{Start}
+use Rattle.model.specs.declared.event.Start.TheVariants as starts
+use Rattle.model.specs.declared.families.Flight.{Flight}
+use Rattle.model.specs.declared.families.Flight as flights
+use Rattle.model.specs.declared.families.Registry.{Registry}
+use Rattle.model.specs.declared.families.Registry as registries
+use Rattle.model.specs.declared.families.container.ContainerStart.{ContainerStart}
+use Rattle.model.specs.declared.families.container.ContainerStart as container_starts
+use Rattle.model.specs.declared.families.container.calls.ContainerFlight.{ContainerFlight}
+use Rattle.model.specs.declared.families.container.calls.ContainerFlight as calls
+use Rattle.model.specs.declared.turn.Kind as kinds
+use Rattle.model.specs.Coding.{Coding, IsCoding}
+use Rattle.model.specs.Families.{first_of, want_of, goes_of, step_of, is_question, kept_after_begin, kept_after_death}
+use Rattle.model.specs.Families.Container.Calls.{first, want, after, states_after, writes_state, place_of}
+use Rattle.model.specs.Families.Container.Opening.{states_at_begin}
+use Rattle.model.specs.Families.Container.States.{state_of, with_state, set_state, fresh}
+use Rattle.model.specs.Families.Indices.Robust.Dead.{dead_with}
+use Rattle.model.specs.LockFree.{KeepsEndingOf, IsDefault, default_container_bound}
+use Rattle.model.specs.Turns.{number_of}
+use Rattle.model.specs.World.{capacity_error}
+use Rattle.model.proofs.LockFree.Falls.{FallsIn, StepFallsBy}
+use Rattle.model.proofs.LockFree.Own.{OwnLaws, OwnAfter, KnownAfter, Lasts, keeps_ending_of}
+use Rattle.model.proofs.Parties.{found_put_same, found_put_other}
+use Rattle.laws_robust.proofs.Opening.{admitted_is}
+use Rattle.laws_container.proofs.MeasuredCalls.{RemoveStands, ReplaceStands, CallStands}
+use Rattle.laws_container.proofs.MeasuredCalls.{measure, At, Kept, Known, outline}
+use Rattle.laws_container.proofs.MeasuredFalls.{M, any_call, ShownBy, add_falls, remove_falls, replace_falls}
+use Rattle.laws_container.proofs.MeasuredLooks.{find_falls, find_comes, recover_falls, recover_comes, look_falls, count_falls}
+use Rattle.laws_container.proofs.Looks.{written_same, written_other}
+use Rattle.laws_container.proofs.MeasuredMost.{most}
+use Rattle.laws_container.proofs.Standing.{add_at, remove_at, replace_at, find_at, recover_at, look_at, count_at}
+
+-- ---- where a call goes on, it stands there
+
+module _ {T : Type 0} (code : Coding T) (c : ℕ) where
+  abbrev StandsAfter : After (ContainerFlight T) (Answer T) → Type 0
+  StandsAfter (GoOn flight) = CallStands c flight
+  StandsAfter (Done answer) = Unit {0}
+
+  place_within : (index : ℕ) → place_of c index ≤ c
+  place_within x0 = grind (arith, nat_tests)
+
+  first_stands : (start : ContainerStart T) → IsDefault (starts.Container start) → CallStands c (first c start)
+  first_stands (container_starts.TheVariants.Add value owner) such = (refl, tt)
+  first_stands (container_starts.TheVariants.Remove index owner LockIfLastIndex) such = absurd such
+  first_stands (container_starts.TheVariants.Remove index owner Default) such = (refl, refl, place_within index, go (nat_lt (place_of c index) c))
+    where
+      go : (t : Bool) → RemoveStands (cond t removes.TheVariants.LoadsCount removes.TheVariants.Refuses)
+      go true = tt
+      go false = tt
+  first_stands (container_starts.TheVariants.Replace index value owner) such = (refl, go (nat_lt (place_of c index) c))
+    where
+      go : (t : Bool) → ReplaceStands (cond t replaces.TheVariants.LoadsCell replaces.TheVariants.Refuses)
+      go true = tt
+      go false = tt
+  first_stands (container_starts.TheVariants.Find owner) such = refl
+  first_stands (container_starts.TheVariants.Recover owner LockIfLastIndex) such = absurd such
+  first_stands (container_starts.TheVariants.Recover owner Default) such = (refl, refl, tt)
+  first_stands container_starts.TheVariants.GetState such = (refl, tt)
+  first_stands container_starts.TheVariants.UpdateState such = (refl, tt)
+  first_stands container_starts.TheVariants.Len such = refl
+  first_stands container_starts.TheVariants.IsEmpty such = refl
+  first_stands container_starts.TheVariants.IsLocked such = tt
+
+  call_goes : (state : Option (ContainerState T)) (flight : ContainerFlight T) (old : ℕ) → CallStands c flight → StandsAfter (after code state flight old)
+  call_goes x0 x1 x2 x3 = grind (arith, nat_tests)
+
+  -- ---- a party that looks has a state
+
+  abbrev has_state : ℕ → List (ℕ × ContainerState T) → Type 0
+  has_state p states = is_some (state_of p states) ≡ true
+
+  put_has : (p q : ℕ) (state : ContainerState T) (states : List (ℕ × ContainerState T)) → has_state q states → has_state q (with_state p state states)
+  put_has p q state states has = ⊎_elim here there (cases_eq q p)
+    where
+      here : q ≡ p → has_state q (with_state p state states)
+      here e = subst (λ n. has_state n (with_state p state states)) (sym e) (ap is_some (found_put_same p state states))
+
+      there : q ≢ p → has_state q (with_state p state states)
+      there ne = ap is_some (found_put_other q p state states ne) ∙ has
+
+  set_has : (p q : ℕ) (state was : ContainerState T) (states : List (ℕ × ContainerState T)) → state_of p states ≡ Some was → has_state q states
+      → has_state q (set_state p state states)
+  set_has p q state was states found has = ⊎_elim here there (cases_eq q p)
+    where
+      here : q ≡ p → has_state q (set_state p state states)
+      here e = subst (λ n. has_state n (set_state p state states)) (sym e) (ap is_some (written_same p state was states found))
+
+      there : q ≢ p → has_state q (set_state p state states)
+      there ne = ap is_some (written_other q p state states ne) ∙ has
+
+  looks_has : (p q : ℕ) (call : Look T) (old : ℕ) (states : List (ℕ × ContainerState T)) (o : Option (ContainerState T)) → state_of p states ≡ o
+      → has_state q states → has_state q (writes_state code p call old o states)
+  looks_has p q call old states None found has = has
+  looks_has p q call old states (Some state) found has = set_has p q _ state states found has
+
+  steps_has : (p q : ℕ) (flight : ContainerFlight T) (old : ℕ) (states : List (ℕ × ContainerState T)) → has_state q states
+      → has_state q (states_after code p flight old states)
+  steps_has p q (calls.TheVariants.Look which call) old states has = looks_has p q call old states (state_of p states) refl has
+  steps_has p q flight old states has = has
+
+  begins_has : (p q : ℕ) (start : ContainerStart T) (states : List (ℕ × ContainerState T)) → has_state q states
+      → has_state q (states_at_begin code c start p states)
+  begins_has p q container_starts.TheVariants.GetState states has = put_has p q (fresh code c) states has
+  begins_has p q container_starts.TheVariants.UpdateState states has = go (is_some (state_of p states))
+    where
+      go : (t : Bool) → has_state q (cond t states (with_state p (fresh code c) states))
+      go true = has
+      go false = put_has p q (fresh code c) states has
+  begins_has p q start states has = has
+
+  -- where a look begins
+  look_has : (p : ℕ) (states : List (ℕ × ContainerState T)) → has_state p (states_at_begin code c container_starts.TheVariants.UpdateState p states)
+  look_has p states = go (is_some (state_of p states)) refl
+    where
+      go : (t : Bool) → is_some (state_of p states) ≡ t → has_state p (cond t states (with_state p (fresh code c) states))
+      go true t = t
+      go false t = ap is_some (found_put_same p (fresh code c) states)
+
+  abbrev in_states : List ℕ → List (ℕ × ContainerState T) → Registry T
+  in_states dead states = registries.TheVariants.Container dead states
+
+  lasts_by : (dead later : List ℕ) (states then : List (ℕ × ContainerState T)) → ((q : ℕ) → has_state q states → has_state q then)
+      → Lasts outline (in_states dead states) (in_states later then)
+  lasts_by dead later states then more q (flights.TheVariants.Container (calls.TheVariants.Look which call)) known = more q known
+  lasts_by dead later states then more q flight known = tt
+
+  first_known : (p : ℕ) (dead : List ℕ) (states : List (ℕ × ContainerState T)) (start : ContainerStart T)
+      → Known p (in_states dead (states_at_begin code c start p states)) (flights.TheVariants.Container (first c start))
+  first_known p dead states container_starts.TheVariants.GetState = ap is_some (found_put_same p (fresh code c) states)
+  first_known p dead states container_starts.TheVariants.UpdateState = look_has p states
+  first_known p dead states start = tt
+
+  -- a call stays of its kind
+  call_known : (p : ℕ) (dead : List ℕ) (states : List (ℕ × ContainerState T)) (o : Option (ContainerState T)) (flight : ContainerFlight T) (old : ℕ)
+      → Known p (in_states dead states) (flights.TheVariants.Container flight)
+      → KnownAfter outline p (in_states dead states) (any_call code c [] (after code o flight old))
+  call_known x0 x1 x2 x3 x4 x5 x6 = grind arith
+
+  -- ---- each step of a call falls
+
+  call_falls : (words : List ℕ) (p : ℕ) (dead : List ℕ) (states : List (ℕ × ContainerState T)) (flight : ContainerFlight T) → CallStands c flight
+      → Known p (in_states dead states) (flights.TheVariants.Container flight) → ShownBy code c words (state_of p states) flight
+  call_falls words p dead states (calls.TheVariants.Add run) at known =
+      subst (λ n. ShownBy code c words (state_of p states) (add_at n run.given.value run.given.owner run.call.stage)) (sym at.0)
+      (add_falls code c words (state_of p states) run.given.value run.given.owner run.call.stage at.1)
+  call_falls words p dead states (calls.TheVariants.Remove run) at known =
+      subst (λ m. ShownBy code c words (state_of p states) (remove_at run.call.capacity run.given.index run.given.owner m run.call.stage)) (sym at.1)
+      (subst (λ n. ShownBy code c words (state_of p states) (remove_at n run.given.index run.given.owner Default run.call.stage)) (sym at.0)
+      (remove_falls code c words (state_of p states) run.given.index run.given.owner run.call.stage at.2 at.3))
+  call_falls words p dead states (calls.TheVariants.Replace run) at known =
+      subst (λ n. ShownBy code c words (state_of p states) (replace_at n run.given.index run.given.value run.given.owner run.call.stage)) (sym at.0)
+      (replace_falls code c words (state_of p states) run.given.index run.given.value run.given.owner run.call.stage at.1)
+  call_falls words p dead states (calls.TheVariants.Find run) at known =
+      subst (λ n. ShownBy code c words (state_of p states) (find_at n run.given run.room run.call.stage)) (sym at)
+      (find_falls code c words run.given run.room run.call.stage)
+  call_falls words p dead states (calls.TheVariants.Recover run) at known =
+      subst (λ m. ShownBy code c words (state_of p states) (recover_at run.call.capacity run.given.owner m run.room run.call.stage)) (sym at.1)
+      (subst (λ n. ShownBy code c words (state_of p states) (recover_at n run.given.owner Default run.room run.call.stage)) (sym at.0)
+      (recover_falls code c words run.given.owner run.room run.call.stage at.2))
+  call_falls words p dead states (calls.TheVariants.Look which call) at known = go (state_of p states) known
+    where
+      go : (o : Option (ContainerState T)) → is_some o ≡ true → ShownBy code c words o (calls.TheVariants.Look which call)
+      go None none = absurd (cc)
+      go (Some state) some =
+          subst (λ n. ShownBy code c words (Some state) (look_at which n call.stage)) (sym at.0) (look_falls code c words which state call.stage at.1)
+  call_falls words p dead states (calls.TheVariants.Count which run) at known =
+      subst (λ n. ShownBy code c words (state_of p states) (count_at which n run.call.count)) (sym at) (count_falls code c words which run.call.count)
+  call_falls words p dead states (calls.TheVariants.IsLocked run) at known = tt
+
+  falls : (words : List ℕ) (p : ℕ) (kept : Registry T) (start : Start T) (flight : Flight T) → At code c start flight → Kept kept → Known p kept flight
+      → StepFallsBy (measure code.size c) code words p kept flight
+  falls words p (registries.TheVariants.Container dead states) (starts.Container start) (flights.TheVariants.Container flight) at held known =
+      call_falls words p dead states flight at known
+  falls words p kept (starts.Container start) (flights.TheVariants.Container flight) at held known = absurd held
+  falls words p kept start flight at held known = absurd at
+
+  -- ---- a decision
+
+  abbrev Decided : List ℕ → Option (ContainerState T) → ContainerFlight T → Type 0
+  Decided words state flight =
+      (said : Bool) → is_question (want code flight) ≡ true
+      → FallsIn (M code c words) words words 0 (flights.TheVariants.Container flight) (any_call code c words (after code state flight (number_of said)))
+
+  find_decides : (words : List ℕ) (owner : ℕ) (room : buffers.Buffer 128) (stage : finds.FindStage) → Decided words None (find_at c owner room stage)
+  find_decides words owner room (finds.TheVariants.LoadsCell index found) said due = absurd (cc)
+  find_decides words owner room (finds.TheVariants.LoadsCount index found) said due = absurd (cc)
+  find_decides words owner room (finds.TheVariants.LoadsWord index found count at) said due = absurd (cc)
+  find_decides words owner room (finds.TheVariants.ChecksCount index found count) said due = absurd (cc)
+  find_decides words owner room (finds.TheVariants.Asks index found) true due =
+      find_comes code c words words 0 index found owner room room (finds.TheVariants.Asks index found) refl (omega arith)
+  find_decides words owner room (finds.TheVariants.Asks index found) false due = tt
+
+  recover_decides : (words : List ℕ) (owner : ℕ) (room : buffers.Buffer 128) (stage : recovers.RecoverStage)
+      → Decided words None (recover_at c owner Default room stage)
+  recover_decides words owner room (recovers.TheVariants.Asks index count) true due = inl (refl, omega arith, omega arith)
+  recover_decides words owner room (recovers.TheVariants.Asks index count) false due =
+      recover_comes code c words words 0 index owner room room (recovers.TheVariants.Asks index count) refl (omega arith) (omega arith)
+  recover_decides words owner room recovers.TheVariants.LoadsCounter said due = absurd (cc)
+  recover_decides words owner room (recovers.TheVariants.LoadsCell index) said due = absurd (cc)
+  recover_decides words owner room (recovers.TheVariants.LoadsCount index) said due = absurd (cc)
+  recover_decides words owner room (recovers.TheVariants.LoadsWord index count at) said due = absurd (cc)
+  recover_decides words owner room (recovers.TheVariants.ChecksCount index count) said due = absurd (cc)
+  recover_decides words owner room (recovers.TheVariants.EmptiesCell index count) said due = absurd (cc)
+  recover_decides words owner room (recovers.TheVariants.Hides index count) said due = absurd (cc)
+  recover_decides words owner room (recovers.TheVariants.Raises index raise) said due = let none = no_raise raise in absurd (cc)
+    where
+      no_raise : (raise : raises.Raise) → is_question (raise_want raise) ≡ false
+      no_raise x0 = grind arith
+  recover_decides words owner room (recovers.TheVariants.Locks index lock) said due = let none = no_lock lock in absurd (cc)
+    where
+      no_lock : (lock : locks.Lock) → is_question (lock_want lock) ≡ false
+      no_lock x0 = grind arith
+  recover_decides words owner room recovers.TheVariants.LoadsCounterAgain said due = absurd (cc)
+  recover_decides words owner room (recovers.TheVariants.AddsChange end) said due = absurd (cc)
+
+  -- a find or a recovery, which alone ask
+  abbrev may_ask : ContainerFlight T → Bool
+  may_ask (calls.TheVariants.Find run) = true
+  may_ask (calls.TheVariants.Recover run) = true
+  may_ask flight = false
+
+  never_asks : (flight : ContainerFlight T) → is_question (want code flight) ≡ true → may_ask flight ≡ true
+  never_asks x0 x1 = grind arith
+
+  call_decides : (words : List ℕ) (state : Option (ContainerState T)) (flight : ContainerFlight T) → CallStands c flight → Decided words state flight
+  call_decides words state (calls.TheVariants.Find run) at said due =
+      subst (λ n. Decided words state (find_at n run.given run.room run.call.stage)) (sym at)
+      (λ s d. find_decides words run.given run.room run.call.stage s d) said due
+  call_decides words state (calls.TheVariants.Recover run) at said due =
+      subst (λ m. Decided words state (recover_at run.call.capacity run.given.owner m run.room run.call.stage)) (sym at.1)
+      (subst (λ n. Decided words state (recover_at n run.given.owner Default run.room run.call.stage)) (sym at.0)
+      (λ s d. recover_decides words run.given.owner run.room run.call.stage s d)) said due
+  call_decides words state (calls.TheVariants.Add run) at said due = let asks = never_asks (calls.TheVariants.Add run) due in absurd (cc)
+  call_decides words state (calls.TheVariants.Remove run) at said due = let asks = never_asks (calls.TheVariants.Remove run) due in absurd (cc)
+  call_decides words state (calls.TheVariants.Replace run) at said due = let asks = never_asks (calls.TheVariants.Replace run) due in absurd (cc)
+  call_decides words state (calls.TheVariants.Look which call) at said due = let asks = never_asks (calls.TheVariants.Look which call) due in absurd (cc)
+  call_decides words state (calls.TheVariants.Count which run) at said due = let asks = never_asks (calls.TheVariants.Count which run) due in absurd (cc)
+  call_decides words state (calls.TheVariants.IsLocked run) at said due = let asks = never_asks (calls.TheVariants.IsLocked run) due in absurd (cc)
+
+  -- ---- what it owes
+
+  decides : (words : List ℕ) (p : ℕ) (kept : Registry T) (start : Start T) (flight : Flight T) (said : Bool) → At code c start flight → Kept kept
+      → is_question (want_of code flight) ≡ true
+      → FallsIn (measure code.size c) words words 0 flight (goes_of code p flight (number_of said) kept)
+  decides words p (registries.TheVariants.Container dead states) (starts.Container start) (flights.TheVariants.Container flight) said at held due =
+      call_decides words (state_of p states) flight at said due
+  decides words p kept (starts.Container start) (flights.TheVariants.Container flight) said at held due = absurd held
+  decides words p kept start flight said at held due = absurd at
+
+  told : (words : List ℕ) (beside : Option (ℕ × ℕ)) (p : ℕ) (start : Start T) (flight : Flight T) (old : ℕ) (kept : Registry T)
+      → At code c start flight → Kept kept → (step_of code words beside p start flight old kept).after ≡ goes_of code p flight old kept
+  told x0 x1 x2 x3 x4 x5 x6 x7 x8 = grind arith
+
+  stays : (words : List ℕ) (beside : Option (ℕ × ℕ)) (p : ℕ) (start : Start T) (flight : Flight T) (old : ℕ) (kept : Registry T)
+      → At code c start flight → Kept kept
+      → Kept (step_of code words beside p start flight old kept).kept × Lasts outline kept (step_of code words beside p start flight old kept).kept
+  stays words beside p (starts.Container start) (flights.TheVariants.Container flight) old (registries.TheVariants.Container dead states) at held =
+      (tt, lasts_by dead dead states (states_after code p flight old states) (λ q has. steps_has p q flight old states has))
+  stays words beside p (starts.Container start) (flights.TheVariants.Container flight) old kept at held = absurd held
+  stays words beside p start flight old kept at held = absurd at
+
+  own_after : (start : ContainerStart T) (after : After (ContainerFlight T) (Answer T)) → StandsAfter after
+      → OwnAfter outline code c (starts.Container start) (any_call code c [] after)
+  own_after start (GoOn flight) h = h
+  own_after start (Done answer) h = tt
+
+  goes : (p : ℕ) (start : Start T) (flight : Flight T) (old : ℕ) (kept : Registry T) → At code c start flight → Kept kept → Known p kept flight
+      → OwnAfter outline code c start (goes_of code p flight old kept) × KnownAfter outline p kept (goes_of code p flight old kept)
+  goes p (starts.Container start) (flights.TheVariants.Container flight) old (registries.TheVariants.Container dead states) at held known = (
+    own_after start (after code (state_of p states) flight old) (call_goes (state_of p states) flight old at),
+    call_known p dead states (state_of p states) flight old known,
+  )
+  goes p (starts.Container start) (flights.TheVariants.Container flight) old kept at held known = absurd held
+  goes p start flight old kept at held known = absurd at
+
+  begins : (start : Start T) (kept : Registry T) (flight : Flight T) → IsDefault start → Kept kept
+      → first_of kinds.TheVariants.Container c start kept ≡ Some flight
+      → At code c start flight × ((p : ℕ) → Kept (kept_after_begin code c start p kept))
+  begins x0 x1 x2 x3 x4 x5 = grind (arith, first_stands)
+
+  is_first : (start : Start T) (kept : Registry T) (flight : Flight T) → first_of kinds.TheVariants.Container c start kept ≡ Some flight
+      → (begun : ContainerStart T) × (start ≡ starts.Container begun) × (flight ≡ flights.TheVariants.Container (first c begun))
+  is_first (starts.Container start) kept flight e = (start, refl, grind arith)
+  is_first start kept flight e = absurd (grind arith)
+
+  knows : (start : Start T) (kept : Registry T) (flight : Flight T) (p : ℕ) → Kept kept
+      → first_of kinds.TheVariants.Container c start kept ≡ Some flight
+      → Known p (kept_after_begin code c start p kept) flight × Lasts outline kept (kept_after_begin code c start p kept)
+  knows start (registries.TheVariants.Container dead states) flight p held e =
+      let first = is_first start (in_states dead states) flight e in
+      let begun = first.0 in
+      subst (λ f. Known p (kept_after_begin code c start p (in_states dead states)) f
+      × Lasts outline (in_states dead states) (kept_after_begin code c start p (in_states dead states))) (sym first.2)
+      (subst (λ a. Known p (kept_after_begin code c a p (in_states dead states)) (flights.TheVariants.Container (first_call begun))
+      × Lasts outline (in_states dead states) (kept_after_begin code c a p (in_states dead states))) (sym first.1)
+      (first_known p dead states begun, lasts_by dead dead states (states_at_begin code c begun p states) (λ q has. begins_has p q begun states has)))
+    where
+      first_call : ContainerStart T → ContainerFlight T
+      first_call begun = first c begun
+  knows start kept flight p held e = absurd held
+
+  dies : (kept : Registry T) (owner : ℕ) → Kept kept → Kept (kept_after_death kept owner) × Lasts outline kept (kept_after_death kept owner)
+  dies (registries.TheVariants.Container dead states) owner held = (tt, lasts_by dead (dead_with owner dead) states states (λ q has. has))
+  dies kept owner held = absurd held
+
+  laws : IsCoding code → capacity_error kinds.TheVariants.Container c ≡ None → OwnLaws outline code c
+  laws coded admitted =
+      record {
+        opens = tt;
+        begins = begins;
+        knows = knows;
+        stays = stays;
+        goes = goes;
+        told = told;
+        dies = dies;
+        decides = decides;
+        most = λ words start flight at. (let may = admitted_is c admitted in most c code.size may.0 coded.some words flight);
+        falls = falls;
+      }
+
+-- in runs of calls that do not lock
+pub container_keeps_ending : {T : Type 0} → KeepsEndingOf T kinds.TheVariants.Container IsDefault default_container_bound
+container_keeps_ending {T} = keeps_ending_of (outline {T = T}) (λ code c coded admitted. laws code c coded admitted) default_container_bound (λ code c n. refl)

@@ -1,0 +1,340 @@
+-- A measure of the calls of a container that do not lock, and what costs them no step.
+use Rattle.std.proofs.Common.{◌≡◌, ◌≢◌, ℕ, ◌+◌, ◌-◌, ◌*◌, ◌%◌, ◌^◌, ◌<◌, ◌≤◌, ◌==◌, nat_lt, max, ⊎_elim, Bool, true, false, cond}
+use Rattle.std.proofs.Common.{is_some, List, length, get_or, set, get_or-set_same, get_or-set_other, refl, sym, subst, arith}
+use Rattle.std.proofs.lemmas.Bool.{cases_eq, cases_lt}
+use Rattle.std.proofs.lemmas.List.{get_or_past}
+use Rattle.std.proofs.lemmas.Bool.Decides.{nat_tests}
+use Rattle.steps.specs.Container.Layout.{count_word, is_even}
+use Rattle.steps.specs.Indices.Robust.Parts.{cell_word, one_more}
+use Rattle.steps.specs.declared.container.add.AddStage as adds
+use Rattle.steps.specs.declared.container.find.FindStage as finds
+use Rattle.steps.specs.declared.container.look.LookStage as looks
+use Rattle.steps.specs.declared.container.recover.RecoverStage as recovers
+use Rattle.steps.specs.declared.container.remove.RemoveStage as removes
+use Rattle.steps.specs.declared.container.replace.ReplaceStage as replaces
+use Rattle.steps.specs.declared.indices.enums.ReleaseMode.TheVariants.{Default}
+use Rattle.steps.specs.declared.indices.robust.acquire.AcquireStage as acquires
+use Rattle.model.specs.declared.event.Start.{Start}
+use Rattle.model.specs.declared.event.Start.TheVariants as starts
+use Rattle.model.specs.declared.families.Flight.{Flight}
+use Rattle.model.specs.declared.families.Flight as flights
+use Rattle.model.specs.declared.families.Registry.{Registry}
+use Rattle.model.specs.declared.families.Registry as registries
+use Rattle.model.specs.declared.families.container.calls.ContainerFlight.{ContainerFlight}
+use Rattle.model.specs.declared.families.container.calls.ContainerFlight as calls
+use Rattle.model.specs.declared.turn.Kind as kinds
+use Rattle.model.specs.Coding.{Coding}
+use Rattle.model.specs.Families.Container.States.{state_of}
+use Rattle.model.specs.LockFree.{IsDefault}
+use Rattle.model.proofs.LockFree.Falls.{load_leaves, LeavesAll}
+use Rattle.model.proofs.LockFree.Measure.{WordMeasure}
+use Rattle.model.proofs.LockFree.Own.{Outline}
+use Rattle.laws_robust.proofs.Measured.{raise_left, acquire_left, count_left, release_left, ReleaseStands}
+
+-- ---- how many steps a call takes at most before its last one, while the counter stays and no element is placed
+
+-- those of a copy again, where another element stands there by now
+abbrev pub again : ℕ → ℕ → ℕ → ℕ
+again size stands count = cond (stands == count) 0 (cond (is_even stands) 0 (size - 1 + 2))
+
+module _ (size c : ℕ) where
+  abbrev pub again_at : List ℕ → ℕ → ℕ → ℕ
+  again_at words index count = cond (nat_lt index c) (again size (get_or words (count_word c index) 0) count) 0
+
+  -- those of the indices behind this one, where each takes so many
+  abbrev pub behind : ℕ → ℕ → ℕ
+  behind each index = (c - (index + 1)) * each
+
+  abbrev pub add_left : ℕ → adds.AddStage → ℕ
+  add_left now (adds.TheVariants.Acquires stage) = acquire_left c now stage + (size - 1 + 5)
+  add_left now (adds.TheVariants.LoadsCount index) = size - 1 + 4
+  add_left now (adds.TheVariants.Hides index count) = size - 1 + 3
+  add_left now (adds.TheVariants.Stores index at) = size - (at + 1) + 2
+  add_left now (adds.TheVariants.AddsCount index) = 1
+  add_left now (adds.TheVariants.AddsChange index) = 0
+
+  abbrev pub remove_left : ℕ → removes.RemoveStage → ℕ
+  remove_left now removes.TheVariants.Refuses = 0
+  remove_left now removes.TheVariants.LoadsCount = 5
+  remove_left now (removes.TheVariants.Releases count stage) = release_left c now stage + 2
+  remove_left now (removes.TheVariants.Hides count state) = 1
+  remove_left now (removes.TheVariants.AddsChange state) = 0
+
+  abbrev pub replace_left : replaces.ReplaceStage → ℕ
+  replace_left replaces.TheVariants.Refuses = 0
+  replace_left replaces.TheVariants.LoadsCell = size - 1 + 5
+  replace_left replaces.TheVariants.LoadsCount = size - 1 + 4
+  replace_left (replaces.TheVariants.Hides count) = size - 1 + 3
+  replace_left (replaces.TheVariants.Stores at) = size - (at + 1) + 2
+  replace_left replaces.TheVariants.AddsCount = 1
+  replace_left replaces.TheVariants.AddsChange = 0
+
+  abbrev pub find_left : finds.FindStage → ℕ
+  find_left (finds.TheVariants.LoadsCell index found) = behind (size - 1 + 4) index + (size - 1 + 4)
+  find_left (finds.TheVariants.LoadsCount index found) = behind (size - 1 + 4) index + (size - 1 + 3)
+  find_left (finds.TheVariants.LoadsWord index found count at) = behind (size - 1 + 4) index + (size - (at + 1) + 2)
+  find_left (finds.TheVariants.ChecksCount index found count) = behind (size - 1 + 4) index + 1
+  find_left (finds.TheVariants.Asks index found) = behind (size - 1 + 4) index
+
+  abbrev pub recover_left : List ℕ → recovers.RecoverStage → ℕ
+  recover_left words recovers.TheVariants.LoadsCounter = behind (size - 1 + 8) 0 + (size - 1 + 10)
+  recover_left words (recovers.TheVariants.LoadsCell index) = behind (size - 1 + 8) index + (size - 1 + 9)
+  recover_left words (recovers.TheVariants.LoadsCount index) = behind (size - 1 + 8) index + (size - 1 + 8)
+  recover_left words (recovers.TheVariants.LoadsWord index count at) =
+      behind (size - 1 + 8) index + (size - (at + 1) + 7 + again_at words index count)
+  recover_left words (recovers.TheVariants.ChecksCount index count) = behind (size - 1 + 8) index + (6 + again_at words index count)
+  recover_left words (recovers.TheVariants.Asks index count) = behind (size - 1 + 8) index + 5
+  recover_left words (recovers.TheVariants.EmptiesCell index count) = behind (size - 1 + 8) index + 5
+  recover_left words (recovers.TheVariants.Hides index count) = behind (size - 1 + 8) index + 4
+  recover_left words (recovers.TheVariants.Raises index raise) = behind (size - 1 + 8) index + (2 + raise_left (get_or words 0 0) raise)
+  recover_left words (recovers.TheVariants.Locks index lock) = 0
+  recover_left words recovers.TheVariants.LoadsCounterAgain = 1
+  recover_left words (recovers.TheVariants.AddsChange state) = 0
+
+  abbrev pub look_left : List ℕ → looks.LookStage → ℕ
+  look_left words looks.TheVariants.LoadsChange = behind (size - 1 + 3) 0 + (size - 1 + 3)
+  look_left words (looks.TheVariants.LoadsCount index) = behind (size - 1 + 3) index + (size - 1 + 2)
+  look_left words (looks.TheVariants.LoadsWord index count at) =
+      behind (size - 1 + 3) index + (size - (at + 1) + 1 + again_at words index count)
+  look_left words (looks.TheVariants.ChecksCount index count) = behind (size - 1 + 3) index + again_at words index count
+
+  abbrev pub call_left : {T : Type 0} → List ℕ → ContainerFlight T → ℕ
+  call_left words (calls.TheVariants.Add run) = add_left (get_or words 0 0) run.call.stage
+  call_left words (calls.TheVariants.Remove run) = remove_left (get_or words 0 0) run.call.stage
+  call_left words (calls.TheVariants.Replace run) = replace_left run.call.stage
+  call_left words (calls.TheVariants.Find run) = find_left run.call.stage
+  call_left words (calls.TheVariants.Recover run) = recover_left words run.call.stage
+  call_left words (calls.TheVariants.Look which call) = look_left words call.stage
+  call_left words (calls.TheVariants.Count which run) = count_left c (get_or words 0 0) run.call.count
+  call_left words (calls.TheVariants.IsLocked run) = 0
+
+-- ---- how many changes it makes at most before its last step that can add to the steps of others
+
+-- an add raises the counter, and places an element
+abbrev pub add_pays : adds.AddStage → ℕ
+add_pays (adds.TheVariants.Acquires stage) = 2
+add_pays (adds.TheVariants.AddsChange index) = 0
+add_pays stage = 1
+
+abbrev pub remove_pays : removes.RemoveStage → ℕ
+remove_pays removes.TheVariants.LoadsCount = 1
+remove_pays (removes.TheVariants.Releases count stage) = 1
+remove_pays stage = 0
+
+abbrev pub replace_pays : replaces.ReplaceStage → ℕ
+replace_pays replaces.TheVariants.AddsChange = 0
+replace_pays stage = 1
+
+-- a recovery raises the counter once for each index
+abbrev pub recover_pays : ℕ → recovers.RecoverStage → ℕ
+recover_pays c recovers.TheVariants.LoadsCounter = c - 1 + 1
+recover_pays c (recovers.TheVariants.LoadsCell index) = c - (index + 1) + 1
+recover_pays c (recovers.TheVariants.LoadsCount index) = c - (index + 1) + 1
+recover_pays c (recovers.TheVariants.LoadsWord index count at) = c - (index + 1) + 1
+recover_pays c (recovers.TheVariants.ChecksCount index count) = c - (index + 1) + 1
+recover_pays c (recovers.TheVariants.Asks index count) = c - (index + 1) + 1
+recover_pays c (recovers.TheVariants.EmptiesCell index count) = c - (index + 1) + 1
+recover_pays c (recovers.TheVariants.Hides index count) = c - (index + 1) + 1
+recover_pays c (recovers.TheVariants.Raises index raise) = c - (index + 1) + 1
+recover_pays c (recovers.TheVariants.Locks index lock) = 0
+recover_pays c recovers.TheVariants.LoadsCounterAgain = 0
+recover_pays c (recovers.TheVariants.AddsChange state) = 0
+
+abbrev pub call_pays : {T : Type 0} → ℕ → ContainerFlight T → ℕ
+call_pays c (calls.TheVariants.Add run) = add_pays run.call.stage
+call_pays c (calls.TheVariants.Remove run) = remove_pays run.call.stage
+call_pays c (calls.TheVariants.Replace run) = replace_pays run.call.stage
+call_pays c (calls.TheVariants.Recover run) = recover_pays c run.call.stage
+call_pays c flight = 0
+
+-- ---- where a call stands that does not lock
+
+abbrev pub AcquireStands : ℕ → acquires.AcquireStage → Type 0
+AcquireStands c (acquires.TheVariants.FillsCell counter index) = index < c
+AcquireStands c stage = Unit {0}
+
+abbrev pub AddStands : ℕ → adds.AddStage → Type 0
+AddStands c (adds.TheVariants.Acquires stage) = AcquireStands c stage
+AddStands c (adds.TheVariants.Hides index count) = is_even count ≡ false
+AddStands c stage = Unit {0}
+
+abbrev pub RemoveStands : removes.RemoveStage → Type 0
+RemoveStands (removes.TheVariants.Releases count stage) = ReleaseStands stage
+RemoveStands (removes.TheVariants.Hides count state) = is_even count ≡ false
+RemoveStands stage = Unit {0}
+
+abbrev pub ReplaceStands : replaces.ReplaceStage → Type 0
+ReplaceStands (replaces.TheVariants.Hides count) = is_even count ≡ false
+ReplaceStands stage = Unit {0}
+
+abbrev pub RecoverStands : ℕ → recovers.RecoverStage → Type 0
+RecoverStands c (recovers.TheVariants.LoadsCell index) = index < c
+RecoverStands c (recovers.TheVariants.LoadsCount index) = index < c
+RecoverStands c (recovers.TheVariants.LoadsWord index count at) = index < c
+RecoverStands c (recovers.TheVariants.ChecksCount index count) = index < c
+RecoverStands c (recovers.TheVariants.Asks index count) = index < c
+RecoverStands c (recovers.TheVariants.EmptiesCell index count) = index < c
+RecoverStands c (recovers.TheVariants.Hides index count) = is_even count ≡ false
+RecoverStands c (recovers.TheVariants.Locks index lock) = ⊥
+RecoverStands c stage = Unit {0}
+
+abbrev pub LookStands : ℕ → looks.LookStage → Type 0
+LookStands c looks.TheVariants.LoadsChange = Unit {0}
+LookStands c (looks.TheVariants.LoadsCount index) = index < c
+LookStands c (looks.TheVariants.LoadsWord index count at) = index < c
+LookStands c (looks.TheVariants.ChecksCount index count) = index < c
+
+abbrev pub CallStands : {T : Type 0} → ℕ → ContainerFlight T → Type 0
+CallStands c (calls.TheVariants.Add run) = (run.call.capacity ≡ c) × AddStands c run.call.stage
+CallStands c (calls.TheVariants.Remove run) =
+    (run.call.capacity ≡ c) × (run.given.mode ≡ Default) × (run.given.index ≤ c) × RemoveStands run.call.stage
+CallStands c (calls.TheVariants.Replace run) = (run.call.capacity ≡ c) × ReplaceStands run.call.stage
+CallStands c (calls.TheVariants.Find run) = run.call.capacity ≡ c
+CallStands c (calls.TheVariants.Recover run) = (run.call.capacity ≡ c) × (run.given.mode ≡ Default) × RecoverStands c run.call.stage
+CallStands c (calls.TheVariants.Look which call) = (call.capacity ≡ c) × LookStands c call.stage
+CallStands c (calls.TheVariants.Count which run) = run.call.capacity ≡ c
+CallStands c (calls.TheVariants.IsLocked run) = Unit {0}
+
+module _ {T : Type 0} where
+  abbrev pub left : ℕ → ℕ → List ℕ → Flight T → ℕ
+  left size c words (flights.TheVariants.Container flight) = call_left size c words flight
+  left size c words flight = 0
+
+  abbrev pub pays : ℕ → Flight T → ℕ
+  pays c (flights.TheVariants.Container flight) = call_pays c flight
+  pays c flight = 0
+
+  abbrev pub measure : ℕ → ℕ → WordMeasure T
+  measure size c = record { left = left size c; pays = pays c; alone = c * (size + 7) + max 2 size; changes = max 2 c }
+
+  abbrev pub At : Coding T → ℕ → Start T → Flight T → Type 0
+  At code c (starts.Container start) (flights.TheVariants.Container flight) = CallStands c flight
+  At code c start flight = ⊥
+
+  abbrev pub Kept : Registry T → Type 0
+  Kept (registries.TheVariants.Container dead states) = Unit {0}
+  Kept kept = ⊥
+
+  -- a party that looks has a state
+  abbrev pub Known : ℕ → Registry T → Flight T → Type 0
+  Known p (registries.TheVariants.Container dead states) (flights.TheVariants.Container (calls.TheVariants.Look which call)) =
+      is_some (state_of p states) ≡ true
+  Known p kept flight = Unit {0}
+
+  abbrev pub outline : Outline T
+  outline =
+      record {
+        kind = kinds.TheVariants.Container;
+        Such = IsDefault;
+        Kept = Kept;
+        At = At;
+        Known = Known;
+        measure = λ code c. measure code.size c;
+      }
+
+-- ---- what costs nobody a step
+
+module _ (size c : ℕ) (old new : List ℕ) (same : get_or new 0 0 ≡ get_or old 0 0)
+    (fewer : (index count : ℕ) → again_at size c new index count ≤ again_at size c old index count) where
+  recover_fewer : (stage : recovers.RecoverStage) → recover_left size c new stage ≤ recover_left size c old stage
+  recover_fewer (recovers.TheVariants.LoadsWord index count at) = let here = fewer index count in omega arith
+  recover_fewer (recovers.TheVariants.ChecksCount index count) = let here = fewer index count in omega arith
+  recover_fewer (recovers.TheVariants.Raises index raise) = rw same (omega arith)
+  recover_fewer stage = omega arith
+
+  look_fewer : (stage : looks.LookStage) → look_left size c new stage ≤ look_left size c old stage
+  look_fewer looks.TheVariants.LoadsChange = omega arith
+  look_fewer (looks.TheVariants.LoadsCount index) = omega arith
+  look_fewer (looks.TheVariants.LoadsWord index count at) = let here = fewer index count in omega arith
+  look_fewer (looks.TheVariants.ChecksCount index count) = let here = fewer index count in omega arith
+
+  pub leaves : {T : Type 0} → LeavesAll (measure {T = T} size c) old new
+  leaves (flights.TheVariants.Container (calls.TheVariants.Add run)) = rw same (omega arith)
+  leaves (flights.TheVariants.Container (calls.TheVariants.Remove run)) = rw same (omega arith)
+  leaves (flights.TheVariants.Container (calls.TheVariants.Recover run)) = recover_fewer run.call.stage
+  leaves (flights.TheVariants.Container (calls.TheVariants.Look which call)) = look_fewer call.stage
+  leaves (flights.TheVariants.Container (calls.TheVariants.Count which run)) = rw same (omega arith)
+  leaves flight = omega arith
+
+-- the number behind an odd one is even
+next_even : (count : ℕ) → is_even count ≡ false → is_even (one_more count) ≡ true
+next_even count odd =
+    let one : count % 2 ≡ 1 = grind (arith, nat_tests) in
+    let none : ((count + 1) % 2 ^ 64) % 2 ≡ 0 = omega arith in
+    rw none refl
+
+-- nothing is copied there
+again_none : (size stands n : ℕ) → is_even stands ≡ true → again size stands n ≡ 0
+again_none size stands n even = go (stands == n)
+  where
+    go : (t : Bool) → cond t 0 (cond (is_even stands) 0 (size - 1 + 2)) ≡ 0
+    go true = refl
+    go false = rw even refl
+
+none_at : (t : Bool) → {n : ℕ} → cond t 0 0 ≤ n
+none_at true = omega arith
+none_at false = omega arith
+
+module _ (size c : ℕ) (words : List ℕ) where
+  -- a word that is neither the counter nor a number of an element
+  pub apart_leaves : {T : Type 0} → (word new : ℕ) → 1 ≤ word → ((index : ℕ) → index < c → word ≢ count_word c index)
+      → LeavesAll (measure {T = T} size c) words (set words word new)
+  apart_leaves word new some apart =
+      leaves size c words (set words word new) (get_or-set_other words word 0 new 0 (λ e. absurd (omega arith))) fewer
+    where
+      fewer : (index count : ℕ) → again_at size c (set words word new) index count ≤ again_at size c words index count
+      fewer index count = go (nat_lt index c) refl
+        where
+          go : (t : Bool) → nat_lt index c ≡ t → again_at size c (set words word new) index count ≤ again_at size c words index count
+          go true t =
+              let less : index < c = grind (arith, nat_tests) in
+              let stays = get_or-set_other words word (count_word c index) new 0 (λ e. apart index less (sym e)) in
+              rw (t, stays) (omega arith)
+          go false t = rw t (omega arith)
+
+  pub cell_leaves : {T : Type 0} → (index new : ℕ) → index ≤ c → LeavesAll (measure {T = T} size c) words (set words (cell_word index) new)
+  cell_leaves index new within = apart_leaves (cell_word index) new (omega arith) (λ other less e. absurd (omega arith))
+
+  -- an element that goes
+  module _ (index count : ℕ) (odd : is_even count ≡ false) where
+    abbrev stood : ℕ
+    stood = get_or words (count_word c index) 0
+
+    abbrev hidden : List ℕ
+    hidden = set words (count_word c index) (one_more count)
+
+    -- the word is there, since it is odd
+    inside : (stood == count) ≡ true → count_word c index < length words
+    inside found = ⊎_elim (λ less. less) past (cases_lt (count_word c index) (length words))
+      where
+        past : length words ≤ count_word c index → count_word c index < length words
+        past far =
+            let none : get_or words (count_word c index) 0 ≡ 0 = get_or_past words (count_word c index) 0 far in
+            let zero : count ≡ 0 = grind (arith, nat_tests) in
+            let even : is_even count ≡ true = rw zero refl in
+            absurd (cc)
+
+    hidden_fewer : (stood == count) ≡ true → (i n : ℕ) → again_at size c hidden i n ≤ again_at size c words i n
+    hidden_fewer found i n = ⊎_elim here there (cases_eq i index)
+      where
+        here : i ≡ index → again_at size c hidden i n ≤ again_at size c words i n
+        here e =
+            let stands : get_or hidden (count_word c index) 0 ≡ one_more count =
+            get_or-set_same words (count_word c index) (one_more count) 0 (inside found) in
+            let none = again_none size (one_more count) n (next_even count odd) in
+            rw (e, stands, none) (none_at (nat_lt index c))
+
+        there : i ≢ index → again_at size c hidden i n ≤ again_at size c words i n
+        there ne =
+            let stays = get_or-set_other words (count_word c index) (count_word c i) (one_more count) 0 (λ e. ne (omega arith)) in
+            rw stays (omega arith)
+
+    pub hide_leaves : {T : Type 0} → LeavesAll (measure {T = T} size c) words (set words (count_word c index) (cond (stood == count) (one_more count) stood))
+    hide_leaves {T} = go (stood == count) refl
+      where
+        go : (t : Bool) → (stood == count) ≡ t
+            → LeavesAll (measure {T = T} size c) words (set words (count_word c index) (cond t (one_more count) stood))
+        go true t =
+            leaves size c words hidden
+            (get_or-set_other words (count_word c index) 0 (one_more count) 0 (λ e. absurd (omega arith))) (hidden_fewer t)
+        go false t = λ other. subst (λ ws. left size c ws other ≤ left size c words other) (sym (load_leaves words (count_word c index))) (omega arith)

@@ -1,0 +1,230 @@
+-- Each step of a call of a container that does not lock falls.
+use Rattle.std.proofs.Common.{◌≡◌, ℕ, ◌+◌, ◌-◌, ◌*◌, ◌<◌, ◌≤◌, ◌==◌, inl, inr, nat_lt, Bool, true, false, cond}
+use Rattle.std.proofs.Common.{Option, List, get_or, set, refl, sym, subst, arith}
+use Rattle.std.proofs.lemmas.Bool.Decides.{nat_tests}
+use Rattle.steps.specs.Container.Add.{inner_acquire, add_acquired}
+use Rattle.steps.specs.Container.Layout.{count_word, is_even}
+use Rattle.steps.specs.Indices.Robust.Acquire.{acquire_sees}
+use Rattle.steps.specs.Indices.Robust.Parts.{cell_word, empty, locked, greatest}
+use Rattle.steps.specs.Routine.{went_on}
+use Rattle.steps.specs.declared.ask.After.{After}
+use Rattle.steps.specs.declared.container.add.AddStage as adds
+use Rattle.steps.specs.declared.container.remove.RemoveStage as removes
+use Rattle.steps.specs.declared.container.replace.ReplaceStage as replaces
+use Rattle.steps.specs.declared.container.state.ContainerState.{ContainerState}
+use Rattle.steps.specs.declared.indices.enums.ReleaseMode.TheVariants.{Default}
+use Rattle.steps.specs.declared.indices.robust.acquire.AcquireStage as acquires
+use Rattle.steps.specs.declared.indices.robust.parts.Raise as raises
+use Rattle.steps.specs.declared.indices.robust.release.ReleaseStage as releases
+use Rattle.model.specs.declared.event.Answer.{Answer}
+use Rattle.model.specs.declared.families.Flight.{Flight}
+use Rattle.model.specs.declared.families.Flight as flights
+use Rattle.model.specs.declared.families.container.calls.ContainerFlight.{ContainerFlight}
+use Rattle.model.specs.declared.families.container.calls.ContainerFlight as calls
+use Rattle.model.specs.Coding.{Coding}
+use Rattle.model.specs.Families.{ask_of}
+use Rattle.model.specs.Families.Container.Calls.{want, after, added}
+use Rattle.model.specs.Families.Queues.Calls.{as_it_is}
+use Rattle.model.specs.Step.{as_call}
+use Rattle.model.specs.Turns.{old_of, words_after, step_count}
+use Rattle.model.proofs.LockFree.Falls.{same_is, load_leaves, FallsIn}
+use Rattle.model.proofs.LockFree.Measure.{WordMeasure}
+use Rattle.laws_robust.proofs.Measured.{acquire_left}
+use Rattle.laws_container.proofs.MeasuredCalls.{measure, cell_leaves, hide_leaves, apart_leaves}
+use Rattle.laws_container.proofs.MeasuredCalls.{AcquireStands, AddStands, RemoveStands, ReplaceStands}
+use Rattle.laws_container.proofs.Standing.{add_at, remove_at, replace_at}
+
+-- the next index has so many less behind it
+pub behind_next : (c each index : ℕ) → index + 1 < c → (c - (index + 1)) * each ≡ (c - (index + 1 + 1)) * each + each
+behind_next c each index less =
+    let one : c - (index + 1) ≡ c - (index + 1 + 1) + 1 = omega arith in
+    rw one (omega arith)
+
+-- the last index has none behind it
+behind_last : (c each index : ℕ) → c ≤ index + 1 → (c - (index + 1)) * each ≡ 0
+behind_last c each index last =
+    let none : c - (index + 1) ≡ 0 = omega arith in
+    rw none (omega arith)
+
+-- an exchange for the same number leaves the words
+pub check_leaves : (words : List ℕ) (word count : ℕ)
+    → set words word (cond (get_or words word 0 == count) count (get_or words word 0)) ≡ words
+check_leaves words word count = go (get_or words word 0 == count) refl
+  where
+    go : (t : Bool) → (get_or words word 0 == count) ≡ t → set words word (cond t count (get_or words word 0)) ≡ words
+    go true t =
+        let same : count ≡ get_or words word 0 = grind (arith, nat_tests) in
+        subst (λ n. set words word n ≡ words) (sym same) (load_leaves words word)
+    go false t = load_leaves words word
+
+module _ {T : Type 0} (code : Coding T) (c : ℕ) (words : List ℕ) where
+  abbrev pub M : WordMeasure T
+  M = measure code.size c
+
+  abbrev pub any_call : After (ContainerFlight T) (Answer T) → After (Flight T) (Answer T)
+  any_call after = as_call flights.TheVariants.Container (λ answer. answer) after
+
+  abbrev pub ShownBy : Option (ContainerState T) → ContainerFlight T → Type 0
+  ShownBy state flight =
+      FallsIn M words (words_after words (ask_of (want code flight))) (step_count (ask_of (want code flight))) (flights.TheVariants.Container flight)
+      (any_call (after code state flight (old_of words (ask_of (want code flight)))))
+
+  abbrev now : ℕ
+  now = get_or words 0 0
+
+  module _ (state : Option (ContainerState T)) where
+    abbrev Shown : ContainerFlight T → Type 0
+    Shown flight = ShownBy state flight
+
+    -- ---- an add
+
+    acquire_sees_falls : (new : List ℕ) (value : T) (owner : ℕ) (stage : acquires.AcquireStage) → new ≡ words
+        → c - 1 + 3 ≤ acquire_left c now stage
+        → FallsIn M words new 1 (flights.TheVariants.Container (add_at c value owner (adds.TheVariants.Acquires stage)))
+        (any_call (as_call calls.TheVariants.Add added (went_on as_it_is (record { value = value; owner = owner }) tt
+        (add_acquired (record { capacity = c; stage = adds.TheVariants.Acquires stage; of = record {} }) (acquire_sees (inner_acquire c stage) now)))))
+    acquire_sees_falls new value owner stage same enough = go (now == locked) refl (now == greatest) refl (nat_lt 0 c) refl
+      where
+        go : (t : Bool) → (now == locked) ≡ t → (u : Bool) → (now == greatest) ≡ u → (v : Bool) → nat_lt 0 c ≡ v
+            → FallsIn M words new 1 (flights.TheVariants.Container (add_at c value owner (adds.TheVariants.Acquires stage)))
+            (any_call (as_call calls.TheVariants.Add added (went_on as_it_is (record { value = value; owner = owner }) tt
+            (add_acquired (record { capacity = c; stage = adds.TheVariants.Acquires stage; of = record {} }) (acquire_sees (inner_acquire c stage) now)))))
+        go true t u e v f = rw t tt
+        go false t true u v f = rw (t, u) tt
+        go false t false u true v = let self = same_is now in rw (t, u, v) (inl (same, rw self (omega arith), omega arith))
+        go false t false u false v = let self = same_is now in rw (t, u, v) (inl (same, rw self (omega arith), omega arith))
+
+    acquire_falls : (value : T) (owner : ℕ) (stage : acquires.AcquireStage) → AcquireStands c stage
+        → Shown (add_at c value owner (adds.TheVariants.Acquires stage))
+    acquire_falls value owner acquires.TheVariants.LoadsCounter at =
+        acquire_sees_falls _ value owner acquires.TheVariants.LoadsCounter (load_leaves words 0) (omega arith)
+    acquire_falls value owner (acquires.TheVariants.FillsCell counter index) at =
+        go (get_or words (cell_word index) 0 == empty) refl (nat_lt (index + 1) c) refl (now == counter) refl
+      where
+        call : ContainerFlight T
+        call = add_at c value owner (adds.TheVariants.Acquires (acquires.TheVariants.FillsCell counter index))
+
+        go : (t : Bool) → (get_or words (cell_word index) 0 == empty) ≡ t → (u : Bool) → nat_lt (index + 1) c ≡ u
+            → (v : Bool) → (now == counter) ≡ v → Shown call
+        go true t u e true v = rw t (inr (rw v (omega arith), inl (cell_leaves code.size c words index owner (omega arith), omega arith)))
+        go true t u e false v = rw t (inr (rw v (omega arith), inl (cell_leaves code.size c words index owner (omega arith), omega arith)))
+        go false t true u true v =
+            let less : index + 2 ≤ c = grind (arith, nat_tests) in
+            rw (t, u) (inl (load_leaves words (cell_word index), rw v (omega arith), omega arith))
+        go false t true u false v =
+            let less : index + 2 ≤ c = grind (arith, nat_tests) in
+            rw (t, u) (inl (load_leaves words (cell_word index), rw v (omega arith), omega arith))
+        go false t false u true v = rw (t, u) (inl (load_leaves words (cell_word index), rw v (omega arith), omega arith))
+        go false t false u false v = rw (t, u) (inl (load_leaves words (cell_word index), rw v (omega arith), omega arith))
+    acquire_falls value owner (acquires.TheVariants.ChecksCounter counter) at = go (now == counter) refl
+      where
+        go : (t : Bool) → (now == counter) ≡ t → Shown (add_at c value owner (adds.TheVariants.Acquires (acquires.TheVariants.ChecksCounter counter)))
+        go true t = rw t tt
+        go false t =
+            rw t (acquire_sees_falls _ value owner (acquires.TheVariants.ChecksCounter counter) (load_leaves words 0) (rw t (omega arith)))
+    acquire_falls value owner (acquires.TheVariants.Raises index raises.TheVariants.LoadsCounter) at = go (now == locked) refl (now == greatest) refl
+      where
+        go : (t : Bool) → (now == locked) ≡ t → (u : Bool) → (now == greatest) ≡ u
+            → Shown (add_at c value owner (adds.TheVariants.Acquires (acquires.TheVariants.Raises index raises.TheVariants.LoadsCounter)))
+        go true t u e = rw t tt
+        go false t true u = rw (t, u) (inl (load_leaves words 0, omega arith, omega arith))
+        go false t false u = let self = same_is now in rw (t, u) (inl (load_leaves words 0, rw self (omega arith), omega arith))
+    acquire_falls value owner (acquires.TheVariants.Raises index (raises.TheVariants.ExchangesCounter counter)) at =
+        go (now == counter) refl (now == locked) refl (now == greatest) refl
+      where
+        go : (s : Bool) → (now == counter) ≡ s → (t : Bool) → (now == locked) ≡ t → (u : Bool) → (now == greatest) ≡ u
+            → Shown (add_at c value owner (adds.TheVariants.Acquires (acquires.TheVariants.Raises index (raises.TheVariants.ExchangesCounter counter))))
+        go true s t e u f = rw s (inr (rw s (omega arith), inr (omega arith)))
+        go false s true t u e = rw (s, t) tt
+        go false s false t true u = rw (s, t, u) (inl (load_leaves words 0, rw s (omega arith), omega arith))
+        go false s false t false u = let self = same_is now in rw (s, t, u) (inl (load_leaves words 0, rw (self, s) (omega arith), omega arith))
+
+    pub add_falls : (value : T) (owner : ℕ) (stage : adds.AddStage) → AddStands c stage → Shown (add_at c value owner stage)
+    add_falls value owner (adds.TheVariants.Acquires stage) at = acquire_falls value owner stage at
+    add_falls value owner (adds.TheVariants.LoadsCount index) at = go (is_even (get_or words (count_word c index) 0)) refl
+      where
+        go : (t : Bool) → is_even (get_or words (count_word c index) 0) ≡ t → Shown (add_at c value owner (adds.TheVariants.LoadsCount index))
+        go true t = rw t (inl (load_leaves words (count_word c index), omega arith, omega arith))
+        go false t = rw t (inl (load_leaves words (count_word c index), omega arith, omega arith))
+    add_falls value owner (adds.TheVariants.Hides index count) at =
+        inr (omega arith, inl (hide_leaves code.size c words index count at, omega arith))
+    add_falls value owner (adds.TheVariants.Stores index at) stands = go (nat_lt (at + 1) code.size) refl
+      where
+        go : (t : Bool) → nat_lt (at + 1) code.size ≡ t → Shown (add_at c value owner (adds.TheVariants.Stores index at))
+        go true t =
+            let less : at + 1 < code.size = grind (arith, nat_tests) in
+            rw t (inr (omega arith, inl (apart_leaves code.size c words _ _ (omega arith) (λ i few e. absurd (omega arith)), omega arith)))
+        go false t =
+            rw t (inr (omega arith, inl (apart_leaves code.size c words _ _ (omega arith) (λ i few e. absurd (omega arith)), omega arith)))
+    add_falls value owner (adds.TheVariants.AddsCount index) at = inr (omega arith, inr (omega arith))
+    add_falls value owner (adds.TheVariants.AddsChange index) at = tt
+
+    -- ---- a remove
+
+    release_falls : (index owner count : ℕ) (stage : releases.ReleaseStage) → index ≤ c → RemoveStands (removes.TheVariants.Releases count stage)
+        → Shown (remove_at c index owner Default (removes.TheVariants.Releases count stage))
+    release_falls index owner count releases.TheVariants.EmptiesCell within at = go (get_or words (cell_word index) 0 == owner) refl
+      where
+        go : (t : Bool) → (get_or words (cell_word index) 0 == owner) ≡ t
+            → Shown (remove_at c index owner Default (removes.TheVariants.Releases count releases.TheVariants.EmptiesCell))
+        go true t = rw t (inr (omega arith, inl (cell_leaves code.size c words index empty within, omega arith)))
+        go false t = rw t tt
+    release_falls index owner count (releases.TheVariants.Raises raises.TheVariants.LoadsCounter) within at =
+        go (now == locked) refl (now == greatest) refl (is_even count) refl
+      where
+        go : (t : Bool) → (now == locked) ≡ t → (u : Bool) → (now == greatest) ≡ u → (v : Bool) → is_even count ≡ v
+            → Shown (remove_at c index owner Default (removes.TheVariants.Releases count (releases.TheVariants.Raises raises.TheVariants.LoadsCounter)))
+        go true t u e true v = rw (t, v) (inl (load_leaves words 0, omega arith, omega arith))
+        go true t u e false v = rw (t, v) (inl (load_leaves words 0, omega arith, omega arith))
+        go false t true u true v = rw (t, u, v) (inl (load_leaves words 0, omega arith, omega arith))
+        go false t true u false v = rw (t, u, v) (inl (load_leaves words 0, omega arith, omega arith))
+        go false t false u v e = let self = same_is now in rw (t, u) (inl (load_leaves words 0, rw self (omega arith), omega arith))
+    release_falls index owner count (releases.TheVariants.Raises (raises.TheVariants.ExchangesCounter counter)) within at =
+        go (now == counter) refl (now == locked) refl (now == greatest) refl (is_even count) refl
+      where
+        go : (s : Bool) → (now == counter) ≡ s → (t : Bool) → (now == locked) ≡ t → (u : Bool) → (now == greatest) ≡ u → (v : Bool) → is_even count ≡ v
+            → Shown (remove_at c index owner Default
+            (removes.TheVariants.Releases count (releases.TheVariants.Raises (raises.TheVariants.ExchangesCounter counter))))
+        go true s t e u f true v = rw (s, v) (inr (rw s (omega arith), inr (omega arith)))
+        go true s t e u f false v = rw (s, v) (inr (rw s (omega arith), inr (omega arith)))
+        go false s true t u e true v = rw (s, t, v) (inl (load_leaves words 0, rw s (omega arith), omega arith))
+        go false s true t u e false v = rw (s, t, v) (inl (load_leaves words 0, rw s (omega arith), omega arith))
+        go false s false t true u true v = rw (s, t, u, v) (inl (load_leaves words 0, rw s (omega arith), omega arith))
+        go false s false t true u false v = rw (s, t, u, v) (inl (load_leaves words 0, rw s (omega arith), omega arith))
+        go false s false t false u v e = let self = same_is now in rw (s, t, u) (inl (load_leaves words 0, rw (self, s) (omega arith), omega arith))
+    release_falls index owner count (releases.TheVariants.Locks lock) within at = absurd at
+
+    pub remove_falls : (index owner : ℕ) (stage : removes.RemoveStage) → index ≤ c → RemoveStands stage → Shown (remove_at c index owner Default stage)
+    remove_falls index owner removes.TheVariants.Refuses within at = tt
+    remove_falls index owner removes.TheVariants.LoadsCount within at = inl (load_leaves words (count_word c index), omega arith, omega arith)
+    remove_falls index owner (removes.TheVariants.Releases count stage) within at = release_falls index owner count stage within at
+    remove_falls index owner (removes.TheVariants.Hides count end) within at =
+        inr (omega arith, inl (hide_leaves code.size c words index count at, omega arith))
+    remove_falls index owner (removes.TheVariants.AddsChange end) within at = tt
+
+    -- ---- a replace
+
+    pub replace_falls : (index : ℕ) (value : T) (owner : ℕ) (stage : replaces.ReplaceStage) → ReplaceStands stage → Shown (replace_at c index value owner stage)
+    replace_falls index value owner replaces.TheVariants.Refuses at = tt
+    replace_falls index value owner replaces.TheVariants.LoadsCell at = go (get_or words (cell_word index) 0 == owner) refl
+      where
+        go : (t : Bool) → (get_or words (cell_word index) 0 == owner) ≡ t → Shown (replace_at c index value owner replaces.TheVariants.LoadsCell)
+        go true t = rw t (inl (load_leaves words (cell_word index), omega arith, omega arith))
+        go false t = rw t tt
+    replace_falls index value owner replaces.TheVariants.LoadsCount at = go (is_even (get_or words (count_word c index) 0)) refl
+      where
+        go : (t : Bool) → is_even (get_or words (count_word c index) 0) ≡ t → Shown (replace_at c index value owner replaces.TheVariants.LoadsCount)
+        go true t = rw t (inl (load_leaves words (count_word c index), omega arith, omega arith))
+        go false t = rw t (inl (load_leaves words (count_word c index), omega arith, omega arith))
+    replace_falls index value owner (replaces.TheVariants.Hides count) at =
+        inr (omega arith, inl (hide_leaves code.size c words index count at, omega arith))
+    replace_falls index value owner (replaces.TheVariants.Stores at) stands = go (nat_lt (at + 1) code.size) refl
+      where
+        go : (t : Bool) → nat_lt (at + 1) code.size ≡ t → Shown (replace_at c index value owner (replaces.TheVariants.Stores at))
+        go true t =
+            let less : at + 1 < code.size = grind (arith, nat_tests) in
+            rw t (inr (omega arith, inl (apart_leaves code.size c words _ _ (omega arith) (λ i few e. absurd (omega arith)), omega arith)))
+        go false t =
+            rw t (inr (omega arith, inl (apart_leaves code.size c words _ _ (omega arith) (λ i few e. absurd (omega arith)), omega arith)))
+    replace_falls index value owner replaces.TheVariants.AddsCount at = inr (omega arith, inr (omega arith))
+    replace_falls index value owner replaces.TheVariants.AddsChange at = tt

@@ -1,0 +1,311 @@
+-- The same of the calls that read one element after another: finds, recoveries and looks.
+use Rattle.std.proofs.Common.{◌≡◌, ℕ, ◌+◌, ◌-◌, ◌<◌, ◌≤◌, ◌==◌, inl, inr, nat_lt, Bool, true, false}
+use Rattle.std.proofs.Common.{Some, None, List, get_or, slice_index_or, refl, arith}
+use Rattle.std.proofs.lemmas.Bool.Decides.{nat_tests}
+use Rattle.steps.specs.Container.Find.{find_comes_to}
+use Rattle.steps.specs.Container.Layout.{count_word, is_even}
+use Rattle.steps.specs.Container.Look.{look_comes_to}
+use Rattle.steps.specs.Container.Recover.{recover_comes_to}
+use Rattle.steps.specs.Indices.Robust.Parts.{cell_word, empty, locked, greatest}
+use Rattle.steps.specs.Routine.{went_on}
+use Rattle.steps.specs.declared.container.find.FindStage as finds
+use Rattle.steps.specs.declared.container.look.LookStage as looks
+use Rattle.steps.specs.declared.container.recover.RecoverStage as recovers
+use Rattle.steps.specs.declared.container.state.ContainerState.{ContainerState}
+use Rattle.steps.specs.declared.copied.Buffer as buffers
+use Rattle.steps.specs.declared.indices.enums.ReleaseMode.TheVariants.{Default}
+use Rattle.steps.specs.declared.indices.robust.parts.Count as counts
+use Rattle.steps.specs.declared.indices.robust.parts.Raise as raises
+use Rattle.model.specs.declared.event.Answer as answers
+use Rattle.model.specs.declared.families.Flight as flights
+use Rattle.model.specs.declared.families.container.calls.ContainerFlight.{ContainerFlight}
+use Rattle.model.specs.declared.families.container.calls.ContainerFlight as calls
+use Rattle.model.specs.declared.families.container.calls.CountOf.{CountOf}
+use Rattle.model.specs.declared.families.container.calls.LookOf.{LookOf}
+use Rattle.model.specs.Coding.{Coding}
+use Rattle.model.specs.Families.Container.Calls.{look_came}
+use Rattle.model.specs.Families.Queues.Calls.{as_it_is}
+use Rattle.model.specs.Step.{as_call}
+use Rattle.model.proofs.LockFree.Falls.{same_is, load_leaves, FallsIn}
+use Rattle.laws_container.proofs.MeasuredCalls.{behind, cell_leaves, hide_leaves, RecoverStands, LookStands}
+use Rattle.laws_container.proofs.MeasuredCalls.{recover_left, find_left, look_left, recover_pays}
+use Rattle.laws_container.proofs.MeasuredFalls.{behind_next, check_leaves, M, any_call, ShownBy}
+use Rattle.laws_container.proofs.Standing.{find_at, recover_at, look_at, count_at}
+
+module _ {T : Type 0} (code : Coding T) (c : ℕ) (words : List ℕ) where
+  abbrev There : ContainerFlight T → Type 0
+  There flight = ShownBy code c words None flight
+
+  abbrev now : ℕ
+  now = get_or words 0 0
+
+  abbrev stands_at : ℕ → ℕ
+  stands_at index = get_or words (count_word c index) 0
+
+  -- ---- a find
+
+  -- it comes to the next index, or to its end
+  pub find_comes : (new : List ℕ) (steps index found owner : ℕ) (was room : buffers.Buffer 128) (stage : finds.FindStage) → new ≡ words
+      → behind code.size c (code.size - 1 + 4) index + steps ≤ find_left code.size c stage
+      → FallsIn (M code c words) words new steps (flights.TheVariants.Container (find_at c owner was stage))
+      (any_call code c words (as_call calls.TheVariants.Find answers.TheVariants.Number (went_on as_it_is owner room
+      (find_comes_to (record { capacity = c; stage = stage; of = record {} }) (index + 1) found))))
+  find_comes new steps index found owner was room stage same enough = go (nat_lt (index + 1) c) refl
+    where
+      go : (u : Bool) → nat_lt (index + 1) c ≡ u
+          → FallsIn (M code c words) words new steps (flights.TheVariants.Container (find_at c owner was stage))
+          (any_call code c words (as_call calls.TheVariants.Find answers.TheVariants.Number (went_on as_it_is owner room
+          (find_comes_to (record { capacity = c; stage = stage; of = record {} }) (index + 1) found))))
+      go true u =
+          let less : index + 1 < c = grind (arith, nat_tests) in
+          let on = behind_next c (code.size - 1 + 4) index less in
+          rw u (inl (same, omega arith, omega arith))
+      go false u = rw u tt
+
+  pub find_falls : (owner : ℕ) (room : buffers.Buffer 128) (stage : finds.FindStage) → There (find_at c owner room stage)
+  find_falls owner room (finds.TheVariants.LoadsCell index found) = go (get_or words (cell_word index) 0 == owner) refl
+    where
+      go : (t : Bool) → (get_or words (cell_word index) 0 == owner) ≡ t → There (find_at c owner room (finds.TheVariants.LoadsCell index found))
+      go true t = rw t (inl (load_leaves words (cell_word index), omega arith, omega arith))
+      go false t =
+          rw t (find_comes _ 1 index found owner room room (finds.TheVariants.LoadsCell index found) (load_leaves words (cell_word index)) (omega arith))
+  find_falls owner room (finds.TheVariants.LoadsCount index found) = go (is_even (stands_at index)) refl
+    where
+      go : (t : Bool) → is_even (stands_at index) ≡ t → There (find_at c owner room (finds.TheVariants.LoadsCount index found))
+      go true t =
+          rw t (find_comes _ 1 index found owner room room (finds.TheVariants.LoadsCount index found) (load_leaves words (count_word c index)) (omega arith))
+      go false t = rw t (inl (load_leaves words (count_word c index), omega arith, omega arith))
+  find_falls owner room (finds.TheVariants.LoadsWord index found count at) = go (nat_lt (at + 1) code.size) refl
+    where
+      go : (t : Bool) → nat_lt (at + 1) code.size ≡ t → There (find_at c owner room (finds.TheVariants.LoadsWord index found count at))
+      go true t =
+          let less : at + 1 < code.size = grind (arith, nat_tests) in
+          rw t (inl (load_leaves words _, omega arith, omega arith))
+      go false t = rw t (inl (load_leaves words _, omega arith, omega arith))
+  find_falls owner room (finds.TheVariants.ChecksCount index found count) = go (stands_at index == count) refl
+    where
+      go : (t : Bool) → (stands_at index == count) ≡ t → There (find_at c owner room (finds.TheVariants.ChecksCount index found count))
+      go true t =
+          let same = check_leaves words (count_word c index) count in
+          rw t (inl (rw t at same, omega arith, omega arith))
+      go false t =
+          rw t (find_comes _ 1 index found owner room room (finds.TheVariants.ChecksCount index found count) (load_leaves words (count_word c index))
+          (omega arith))
+  find_falls owner room (finds.TheVariants.Asks index found) = tt
+
+  -- ---- a recovery
+
+  abbrev recovering : ℕ → buffers.Buffer 128 → recovers.RecoverStage → ContainerFlight T
+  recovering owner room stage = recover_at c owner Default room stage
+
+  -- it comes to the next index, or to its last steps
+  pub recover_comes : (new : List ℕ) (steps index owner : ℕ) (was room : buffers.Buffer 128) (stage : recovers.RecoverStage) → new ≡ words
+      → behind code.size c (code.size - 1 + 8) index + 1 + steps ≤ recover_left code.size c words stage → c - (index + 1) ≤ recover_pays c stage
+      → FallsIn (M code c words) words new steps (flights.TheVariants.Container (recovering owner was stage))
+      (any_call code c words (as_call calls.TheVariants.Recover answers.TheVariants.State
+      (went_on as_it_is (record { owner = owner; mode = Default }) room
+      (recover_comes_to (record { capacity = c; stage = stage; of = record {} }) (index + 1)))))
+  recover_comes new steps index owner was room stage same enough pays = go (nat_lt (index + 1) c) refl
+    where
+      go : (u : Bool) → nat_lt (index + 1) c ≡ u
+          → FallsIn (M code c words) words new steps (flights.TheVariants.Container (recovering owner was stage))
+          (any_call code c words (as_call calls.TheVariants.Recover answers.TheVariants.State
+          (went_on as_it_is (record { owner = owner; mode = Default }) room
+          (recover_comes_to (record { capacity = c; stage = stage; of = record {} }) (index + 1)))))
+      go true u =
+          let less : index + 1 < c = grind (arith, nat_tests) in
+          let on = behind_next c (code.size - 1 + 8) index less in
+          rw u (inl (same, omega arith, omega arith))
+      go false u = rw u (inl (same, omega arith, omega arith))
+
+  pub recover_falls : (owner : ℕ) (room : buffers.Buffer 128) (stage : recovers.RecoverStage) → RecoverStands c stage → There (recovering owner room stage)
+  recover_falls owner room recovers.TheVariants.LoadsCounter at = go (now == locked) refl (nat_lt 0 c) refl
+    where
+      go : (t : Bool) → (now == locked) ≡ t → (u : Bool) → nat_lt 0 c ≡ u → There (recovering owner room recovers.TheVariants.LoadsCounter)
+      go true t u e = rw t (inl (load_leaves words 0, omega arith, omega arith))
+      go false t true u = rw (t, u) (inl (load_leaves words 0, omega arith, omega arith))
+      go false t false u = rw (t, u) (inl (load_leaves words 0, omega arith, omega arith))
+  recover_falls owner room (recovers.TheVariants.LoadsCell index) at = go (get_or words (cell_word index) 0 == owner) refl
+    where
+      go : (t : Bool) → (get_or words (cell_word index) 0 == owner) ≡ t → There (recovering owner room (recovers.TheVariants.LoadsCell index))
+      go true t = rw t (inl (load_leaves words (cell_word index), omega arith, omega arith))
+      go false t =
+          rw t (recover_comes _ 1 index owner room room (recovers.TheVariants.LoadsCell index) (load_leaves words (cell_word index))
+          (omega arith) (omega arith))
+  recover_falls owner room (recovers.TheVariants.LoadsCount index) at = go (is_even (stands_at index)) refl (nat_lt index c) refl
+    where
+      go : (t : Bool) → is_even (stands_at index) ≡ t → (u : Bool) → nat_lt index c ≡ u → There (recovering owner room (recovers.TheVariants.LoadsCount index))
+      go true t u e = rw t (inl (load_leaves words (count_word c index), omega arith, omega arith))
+      go false t true u =
+          let self = same_is (stands_at index) in
+          rw t (inl (load_leaves words (count_word c index), rw (u, self) (omega arith), omega arith))
+      go false t false u = rw t (inl (load_leaves words (count_word c index), rw u (omega arith), omega arith))
+  recover_falls owner room (recovers.TheVariants.LoadsWord index count at) stands = go (nat_lt (at + 1) code.size) refl
+    where
+      go : (t : Bool) → nat_lt (at + 1) code.size ≡ t → There (recovering owner room (recovers.TheVariants.LoadsWord index count at))
+      go true t =
+          let less : at + 1 < code.size = grind (arith, nat_tests) in
+          rw t (inl (load_leaves words _, omega arith, omega arith))
+      go false t = rw t (inl (load_leaves words _, omega arith, omega arith))
+  recover_falls owner room (recovers.TheVariants.ChecksCount index count) stands =
+      go (stands_at index == count) refl (is_even (stands_at index)) refl
+    where
+      stage : recovers.RecoverStage
+      stage = recovers.TheVariants.ChecksCount index count
+
+      inside : nat_lt index c ≡ true
+      inside = grind (arith, nat_tests)
+
+      go : (t : Bool) → (stands_at index == count) ≡ t → (u : Bool) → is_even (stands_at index) ≡ u → There (recovering owner room stage)
+      go true t u e =
+          let same = check_leaves words (count_word c index) count in
+          rw t (inl (rw t at same, omega arith, omega arith))
+      go false t true u = rw (t, u) (inl (load_leaves words (count_word c index), omega arith, omega arith))
+      go false t false u =
+          let self = same_is (stands_at index) in
+          rw (t, u) (inl (load_leaves words (count_word c index), rw (inside, t, u, self) (omega arith), omega arith))
+  recover_falls owner room (recovers.TheVariants.Asks index count) at =
+      recover_comes _ 0 index owner room room (recovers.TheVariants.Asks index count) refl (omega arith) (omega arith)
+  recover_falls owner room (recovers.TheVariants.EmptiesCell index count) at =
+      go (get_or words (cell_word index) 0 == owner) refl (is_even count) refl
+    where
+      go : (t : Bool) → (get_or words (cell_word index) 0 == owner) ≡ t → (u : Bool) → is_even count ≡ u
+          → There (recovering owner room (recovers.TheVariants.EmptiesCell index count))
+      go true t true u = rw (t, u) (inr (omega arith, inl (cell_leaves code.size c words index empty (omega arith), omega arith)))
+      go true t false u = rw (t, u) (inr (omega arith, inl (cell_leaves code.size c words index empty (omega arith), omega arith)))
+      go false t u e =
+          rw t (recover_comes _ 1 index owner room room (recovers.TheVariants.EmptiesCell index count) (load_leaves words (cell_word index))
+          (omega arith) (omega arith))
+  recover_falls owner room (recovers.TheVariants.Hides index count) at =
+      inr (omega arith, inl (hide_leaves code.size c words index count at, omega arith))
+  recover_falls owner room (recovers.TheVariants.Raises index raises.TheVariants.LoadsCounter) at = go (now == locked) refl (now == greatest) refl
+    where
+      stage : recovers.RecoverStage
+      stage = recovers.TheVariants.Raises index raises.TheVariants.LoadsCounter
+
+      go : (t : Bool) → (now == locked) ≡ t → (u : Bool) → (now == greatest) ≡ u → There (recovering owner room stage)
+      go true t u e = rw t (inl (load_leaves words 0, omega arith, omega arith))
+      go false t true u = rw (t, u) (recover_comes _ 1 index owner room room stage (load_leaves words 0) (omega arith) (omega arith))
+      go false t false u = let self = same_is now in rw (t, u) (inl (load_leaves words 0, rw self (omega arith), omega arith))
+  recover_falls owner room (recovers.TheVariants.Raises index (raises.TheVariants.ExchangesCounter counter)) at =
+      go (now == counter) refl (now == locked) refl (now == greatest) refl (nat_lt (index + 1) c) refl
+    where
+      stage : recovers.RecoverStage
+      stage = recovers.TheVariants.Raises index (raises.TheVariants.ExchangesCounter counter)
+
+      go : (s : Bool) → (now == counter) ≡ s → (t : Bool) → (now == locked) ≡ t → (u : Bool) → (now == greatest) ≡ u
+          → (v : Bool) → nat_lt (index + 1) c ≡ v → There (recovering owner room stage)
+      go true s t e u f true v =
+          let less : index + 1 < c = grind (arith, nat_tests) in
+          let on = behind_next c (code.size - 1 + 8) index less in
+          rw (s, v) (inr (rw s (omega arith), inr (omega arith)))
+      go true s t e u f false v = rw (s, v) (inr (rw s (omega arith), inr (omega arith)))
+      go false s true t u e v f = rw (s, t) (inl (load_leaves words 0, rw s (omega arith), omega arith))
+      go false s false t true u v e =
+          rw (s, t, u) (recover_comes _ 1 index owner room room stage (load_leaves words 0) (rw s (omega arith)) (omega arith))
+      go false s false t false u v e = let self = same_is now in rw (s, t, u) (inl (load_leaves words 0, rw (self, s) (omega arith), omega arith))
+  recover_falls owner room (recovers.TheVariants.Locks index lock) at = absurd at
+  recover_falls owner room recovers.TheVariants.LoadsCounterAgain at = go (now == locked)
+    where
+      go : (t : Bool) → There (recovering owner room recovers.TheVariants.LoadsCounterAgain)
+      go t = inl (load_leaves words 0, omega arith, omega arith)
+  recover_falls owner room (recovers.TheVariants.AddsChange end) at = tt
+
+  -- ---- a look
+
+  module _ (which : LookOf) (state : ContainerState T) where
+    abbrev Sees : looks.LookStage → Type 0
+    Sees stage = ShownBy code c words (Some state) (look_at which c stage)
+
+    -- it comes to the next index, or to its end
+    look_comes : (new : List ℕ) (steps index : ℕ) (shown : ContainerState T) (stage : looks.LookStage) → new ≡ words
+        → behind code.size c (code.size - 1 + 3) index + steps ≤ look_left code.size c words stage + 1
+        → FallsIn (M code c words) words new steps (flights.TheVariants.Container (look_at which c stage))
+        (any_call code c words (look_came which shown (look_comes_to (record { capacity = c; stage = stage; of = record {} }) (index + 1))))
+    look_comes new steps index shown stage same enough = go (nat_lt (index + 1) c) refl
+      where
+        go : (u : Bool) → nat_lt (index + 1) c ≡ u
+            → FallsIn (M code c words) words new steps (flights.TheVariants.Container (look_at which c stage))
+            (any_call code c words (look_came which shown (look_comes_to (record { capacity = c; stage = stage; of = record {} }) (index + 1))))
+        go true u =
+            let less : index + 1 < c = grind (arith, nat_tests) in
+            let on = behind_next c (code.size - 1 + 3) index less in
+            rw u (inl (same, omega arith, omega arith))
+        go false u = rw u tt
+
+    pub look_falls : (stage : looks.LookStage) → LookStands c stage → Sees stage
+    look_falls looks.TheVariants.LoadsChange at = go (get_or words (1 + c) 0 == state.seen.change) refl (nat_lt 0 c) refl
+      where
+        go : (t : Bool) → (get_or words (1 + c) 0 == state.seen.change) ≡ t → (u : Bool) → nat_lt 0 c ≡ u → Sees looks.TheVariants.LoadsChange
+        go true t u e = rw t tt
+        go false t true u = rw (t, u) (inl (load_leaves words (1 + c), omega arith, omega arith))
+        go false t false u = rw (t, u) tt
+    look_falls (looks.TheVariants.LoadsCount index) at =
+        go (stands_at index == slice_index_or state.seen.counts index 0) refl (is_even (stands_at index)) refl
+      where
+        stage : looks.LookStage
+        stage = looks.TheVariants.LoadsCount index
+
+        inside : nat_lt index c ≡ true
+        inside = grind (arith, nat_tests)
+
+        go : (t : Bool) → (stands_at index == slice_index_or state.seen.counts index 0) ≡ t → (u : Bool) → is_even (stands_at index) ≡ u → Sees stage
+        go true t u e = rw t (look_comes _ 1 index _ stage (load_leaves words (count_word c index)) (omega arith))
+        go false t true u = rw (t, u) (look_comes _ 1 index _ stage (load_leaves words (count_word c index)) (omega arith))
+        go false t false u =
+            let self = same_is (stands_at index) in
+            rw (t, u) (inl (load_leaves words (count_word c index), rw (inside, self) (omega arith), omega arith))
+    look_falls (looks.TheVariants.LoadsWord index count at) stands = go (nat_lt (at + 1) code.size) refl
+      where
+        go : (t : Bool) → nat_lt (at + 1) code.size ≡ t → Sees (looks.TheVariants.LoadsWord index count at)
+        go true t =
+            let less : at + 1 < code.size = grind (arith, nat_tests) in
+            rw t (inl (load_leaves words _, omega arith, omega arith))
+        go false t = rw t (inl (load_leaves words _, omega arith, omega arith))
+    look_falls (looks.TheVariants.ChecksCount index count) at = go (stands_at index == count) refl (is_even (stands_at index)) refl
+      where
+        stage : looks.LookStage
+        stage = looks.TheVariants.ChecksCount index count
+
+        inside : nat_lt index c ≡ true
+        inside = grind (arith, nat_tests)
+
+        go : (t : Bool) → (stands_at index == count) ≡ t → (u : Bool) → is_even (stands_at index) ≡ u → Sees stage
+        go true t u e =
+            let same = check_leaves words (count_word c index) count in
+            rw t (look_comes _ 1 index _ stage (rw t at same) (omega arith))
+        go false t true u = rw (t, u) (look_comes _ 1 index _ stage (load_leaves words (count_word c index)) (omega arith))
+        go false t false u =
+            let self = same_is (stands_at index) in
+            rw (t, u) (inl (load_leaves words (count_word c index), rw (inside, t, u, self) (omega arith), omega arith))
+
+  -- ---- a number of elements
+
+  pub count_falls : (which : CountOf) (count : counts.Count) → There (count_at which c count)
+  count_falls which counts.TheVariants.LoadsCounter = go (now == locked) refl (nat_lt 0 c) refl (now == greatest) refl
+    where
+      go : (t : Bool) → (now == locked) ≡ t → (u : Bool) → nat_lt 0 c ≡ u → (v : Bool) → (now == greatest) ≡ v
+          → There (count_at which c counts.TheVariants.LoadsCounter)
+      go true t u e v f = rw t tt
+      go false t true u v e = let self = same_is now in rw (t, u) (inl (load_leaves words 0, rw self (omega arith), omega arith))
+      go false t false u true v = rw (t, u, v) tt
+      go false t false u false v = let self = same_is now in rw (t, u, v) (inl (load_leaves words 0, rw self (omega arith), omega arith))
+  count_falls which (counts.TheVariants.LoadsCell counter index filled) =
+      go (nat_lt (index + 1) c) refl (counter == greatest) refl (now == counter) refl
+    where
+      go : (u : Bool) → nat_lt (index + 1) c ≡ u → (v : Bool) → (counter == greatest) ≡ v → (t : Bool) → (now == counter) ≡ t
+          → There (count_at which c (counts.TheVariants.LoadsCell counter index filled))
+      go true u v e true t =
+          let less : index + 2 ≤ c = grind (arith, nat_tests) in
+          rw u (inl (load_leaves words (cell_word index), rw t (omega arith), omega arith))
+      go true u v e false t =
+          let less : index + 2 ≤ c = grind (arith, nat_tests) in
+          rw u (inl (load_leaves words (cell_word index), rw t (omega arith), omega arith))
+      go false u true v t e = rw (u, v) tt
+      go false u false v true t = rw (u, v) (inl (load_leaves words (cell_word index), rw t (omega arith), omega arith))
+      go false u false v false t = rw (u, v) (inl (load_leaves words (cell_word index), rw t (omega arith), omega arith))
+  count_falls which (counts.TheVariants.ExchangesCounter counter filled) = go (now == counter) refl
+    where
+      go : (t : Bool) → (now == counter) ≡ t → There (count_at which c (counts.TheVariants.ExchangesCounter counter filled))
+      go true t = rw t tt
+      go false t = rw t (inl (load_leaves words 0, rw t (omega arith), omega arith))

@@ -1,0 +1,189 @@
+-- No call of a container has more steps left, and none more changes to make, than the measure says.
+use Rattle.std.proofs.Common.{◌≡◌, ℕ, ◌+◌, ◌-◌, ◌*◌, ◌≤◌, ◌==◌, nat_lt, max}
+use Rattle.std.proofs.Common.{List, get_or, sym, subst, arith}
+use Rattle.steps.specs.declared.container.add.AddStage as adds
+use Rattle.steps.specs.declared.container.find.FindStage as finds
+use Rattle.steps.specs.declared.container.look.LookStage as looks
+use Rattle.steps.specs.declared.container.recover.RecoverStage as recovers
+use Rattle.steps.specs.declared.container.remove.RemoveStage as removes
+use Rattle.steps.specs.declared.container.replace.ReplaceStage as replaces
+use Rattle.steps.specs.declared.indices.robust.acquire.AcquireStage as acquires
+use Rattle.steps.specs.declared.indices.robust.parts.Count as counts
+use Rattle.steps.specs.declared.indices.robust.release.ReleaseStage as releases
+use Rattle.model.specs.declared.families.Flight.{Flight}
+use Rattle.model.specs.declared.families.Flight as flights
+use Rattle.model.specs.declared.families.container.calls.ContainerFlight.{ContainerFlight}
+use Rattle.model.specs.declared.families.container.calls.ContainerFlight as calls
+use Rattle.model.proofs.LockFree.Measure.{worth}
+use Rattle.laws_robust.proofs.Measured.{raise_left, acquire_left, count_left, release_left}
+use Rattle.laws_robust.proofs.LockFree.{one_of, raise_most}
+use Rattle.laws_container.proofs.MeasuredCalls.{again_at, behind, add_left, remove_left, replace_left, find_left, recover_left, look_left}
+use Rattle.laws_container.proofs.MeasuredCalls.{add_pays, remove_pays, replace_pays, recover_pays}
+use Rattle.laws_container.proofs.MeasuredCalls.{left, pays}
+
+-- ---- no call has more left
+
+-- the index and those behind it, where each takes so many
+all_behind : (c z : ℕ) → 1 ≤ c → (c - 1) * (z + 8) + (z + 8) ≡ c * (z + 8)
+all_behind c z some = let one : c ≡ c - 1 + 1 = omega arith in subst (λ n. (c - 1) * (z + 8) + (z + 8) ≡ n * (z + 8)) (sym one) (omega arith)
+
+fewer_each : (k z less : ℕ) → k * (z + less) ≤ k * (z + (less + 4))
+fewer_each k z less = omega arith
+
+module _ (c size : ℕ) (some : 1 ≤ c) (wide : 1 ≤ size) (words : List ℕ) where
+  abbrev z : ℕ
+  z = size - 1
+
+  abbrev alone : ℕ
+  alone = c * (size + 7) + max 2 size
+
+  alone_is : alone ≡ (c - 1) * (z + 8) + (z + 8) + max 2 size
+  alone_is = let same : size + 7 ≡ z + 8 = omega arith in let all = all_behind c z some in rw same (omega arith)
+
+  two : (2 ≤ max 2 size) × (size ≤ max 2 size)
+  two = (grind arith, grind arith)
+
+  recovers_behind : (index : ℕ) → behind size c (z + 8) index ≤ (c - 1) * (z + 8)
+  recovers_behind index = worth (c - (index + 1)) (c - 1) (z + 8) (omega arith)
+
+  finds_behind : (index : ℕ) → behind size c (z + 4) index ≤ (c - 1) * (z + 8)
+  finds_behind index =
+      let few = worth (c - (index + 1)) (c - 1) (z + 4) (omega arith) in
+      let each = fewer_each (c - 1) z 4 in
+      omega arith
+
+  looks_behind : (index : ℕ) → behind size c (z + 3) index ≤ (c - 1) * (z + 8)
+  looks_behind index =
+      let few = worth (c - (index + 1)) (c - 1) (z + 3) (omega arith) in
+      let each = fewer_each (c - 1) z 3 in
+      let more = fewer_each (c - 1) z 4 in
+      omega arith
+
+  again_most : (index count : ℕ) → again_at size c words index count ≤ z + 2
+  again_most index count =
+      one_of (nat_lt index c) _ 0 (z + 2)
+      (one_of (get_or words _ 0 == count) 0 _ (z + 2) (omega arith) (one_of _ 0 (z + 2) (z + 2) (omega arith) (omega arith))) (omega arith)
+
+  ends_most : (k : ℕ) → (n : ℕ) → n ≤ (c - 1) * (z + 8) → k ≤ z + 8 + max 2 size → n + k ≤ alone
+  ends_most k n less end = let all = alone_is in omega arith
+
+  -- with no index behind it: so many fit twice the capacity and what a copy takes
+  few_most : (n : ℕ) → n ≤ 2 * c + size + 6 → n ≤ alone
+  few_most n less =
+      let all = alone_is in
+      let max = two in
+      let each = worth_each in
+      omega arith
+    where
+      worth_each : (c - 1) * 8 ≤ (c - 1) * (z + 8)
+      worth_each = omega arith
+
+  find_most : (stage : finds.FindStage) → find_left size c stage ≤ alone
+  find_most (finds.TheVariants.LoadsCell index found) = ends_most (z + 4) _ (finds_behind index) (omega arith)
+  find_most (finds.TheVariants.LoadsCount index found) = ends_most (z + 3) _ (finds_behind index) (omega arith)
+  find_most (finds.TheVariants.LoadsWord index found count at) = ends_most (size - (at + 1) + 2) _ (finds_behind index) (omega arith)
+  find_most (finds.TheVariants.ChecksCount index found count) = ends_most 1 _ (finds_behind index) (omega arith)
+  find_most (finds.TheVariants.Asks index found) = let most = ends_most 0 _ (finds_behind index) (omega arith) in omega arith
+
+  recover_most : (stage : recovers.RecoverStage) → recover_left size c words stage ≤ alone
+  recover_most recovers.TheVariants.LoadsCounter = let max = two in ends_most (z + 10) _ (recovers_behind 0) (omega arith)
+  recover_most (recovers.TheVariants.LoadsCell index) = let max = two in ends_most (z + 9) _ (recovers_behind index) (omega arith)
+  recover_most (recovers.TheVariants.LoadsCount index) = ends_most (z + 8) _ (recovers_behind index) (omega arith)
+  recover_most (recovers.TheVariants.LoadsWord index count at) =
+      let max = two in let most = again_most index count in
+      ends_most (size - (at + 1) + 7 + again_at size c words index count) _ (recovers_behind index) (omega arith)
+  recover_most (recovers.TheVariants.ChecksCount index count) =
+      let max = two in let most = again_most index count in
+      ends_most (6 + again_at size c words index count) _ (recovers_behind index) (omega arith)
+  recover_most (recovers.TheVariants.Asks index count) = ends_most 5 _ (recovers_behind index) (omega arith)
+  recover_most (recovers.TheVariants.EmptiesCell index count) = ends_most 5 _ (recovers_behind index) (omega arith)
+  recover_most (recovers.TheVariants.Hides index count) = ends_most 4 _ (recovers_behind index) (omega arith)
+  recover_most (recovers.TheVariants.Raises index raise) =
+      let most = raise_most c some (get_or words 0 0) raise in
+      ends_most (2 + raise_left (get_or words 0 0) raise) _ (recovers_behind index) (omega arith)
+  recover_most (recovers.TheVariants.Locks index lock) = omega arith
+  recover_most recovers.TheVariants.LoadsCounterAgain = few_most 1 (omega arith)
+  recover_most (recovers.TheVariants.AddsChange end) = omega arith
+
+  look_most : (stage : looks.LookStage) → look_left size c words stage ≤ alone
+  look_most looks.TheVariants.LoadsChange = ends_most (z + 3) _ (looks_behind 0) (omega arith)
+  look_most (looks.TheVariants.LoadsCount index) = ends_most (z + 2) _ (looks_behind index) (omega arith)
+  look_most (looks.TheVariants.LoadsWord index count at) =
+      let max = two in let most = again_most index count in
+      ends_most (size - (at + 1) + 1 + again_at size c words index count) _ (looks_behind index) (omega arith)
+  look_most (looks.TheVariants.ChecksCount index count) =
+      let most = again_most index count in
+      ends_most (again_at size c words index count) _ (looks_behind index) (omega arith)
+
+  -- an acquire and a count alone
+  acquire_few : (now : ℕ) (stage : acquires.AcquireStage) → acquire_left c now stage ≤ 2 * c + 2
+  acquire_few now acquires.TheVariants.LoadsCounter = omega arith
+  acquire_few now (acquires.TheVariants.FillsCell counter index) =
+      one_of (now == counter) (c - (index + 1) + 2) (c - (index + 1) + (c - 1) + 4) (2 * c + 2) (omega arith) (omega arith)
+  acquire_few now (acquires.TheVariants.ChecksCounter counter) = one_of _ 0 (c - 1 + 3) (2 * c + 2) (omega arith) (omega arith)
+  acquire_few now (acquires.TheVariants.Raises index raise) = let most = raise_most c some now raise in omega arith
+
+  count_few : (now : ℕ) (count : counts.Count) → count_left c now count ≤ 2 * c + 2
+  count_few now counts.TheVariants.LoadsCounter = omega arith
+  count_few now (counts.TheVariants.LoadsCell counter index filled) =
+      one_of (now == counter) (c - (index + 1) + 1) (c - (index + 1) + (c - 1) + 4) (2 * c + 2) (omega arith) (omega arith)
+  count_few now (counts.TheVariants.ExchangesCounter counter filled) = one_of _ 0 (c - 1 + 3) (2 * c + 2) (omega arith) (omega arith)
+
+  release_few : (now : ℕ) (stage : releases.ReleaseStage) → release_left c now stage ≤ 2
+  release_few now releases.TheVariants.EmptiesCell = omega arith
+  release_few now (releases.TheVariants.Raises raise) = let most = raise_most c some now raise in omega arith
+  release_few now (releases.TheVariants.Locks lock) = omega arith
+
+  add_most : (now : ℕ) (stage : adds.AddStage) → add_left size c now stage ≤ 2 * c + size + 6
+  add_most now (adds.TheVariants.Acquires stage) = let most = acquire_few now stage in omega arith
+  add_most now (adds.TheVariants.LoadsCount index) = omega arith
+  add_most now (adds.TheVariants.Hides index count) = omega arith
+  add_most now (adds.TheVariants.Stores index at) = omega arith
+  add_most now (adds.TheVariants.AddsCount index) = omega arith
+  add_most now (adds.TheVariants.AddsChange index) = omega arith
+
+  remove_most : (now : ℕ) (stage : removes.RemoveStage) → remove_left size c now stage ≤ 2 * c + size + 6
+  remove_most now (removes.TheVariants.Releases count stage) = let most = release_few now stage in omega arith
+  remove_most now removes.TheVariants.Refuses = omega arith
+  remove_most now removes.TheVariants.LoadsCount = omega arith
+  remove_most now (removes.TheVariants.Hides count end) = omega arith
+  remove_most now (removes.TheVariants.AddsChange end) = omega arith
+
+  replace_most : (stage : replaces.ReplaceStage) → replace_left size c stage ≤ 2 * c + size + 6
+  replace_most x0 = grind arith
+
+  two_of : (2 ≤ max 2 c) × (c ≤ max 2 c)
+  two_of = (grind arith, grind arith)
+
+  adds_pay : (stage : adds.AddStage) → add_pays stage ≤ 2
+  adds_pay x0 = grind arith
+
+  removes_pay : (stage : removes.RemoveStage) → remove_pays stage ≤ 2
+  removes_pay x0 = grind arith
+
+  replaces_pay : (stage : replaces.ReplaceStage) → replace_pays stage ≤ 2
+  replaces_pay x0 = grind arith
+
+  recovers_pay : (stage : recovers.RecoverStage) → recover_pays c stage ≤ c
+  recovers_pay x0 = grind arith
+
+  pub most : {T : Type 0} → (flight : Flight T) → (left size c words flight ≤ alone) × (pays c flight ≤ max 2 c)
+  most (flights.TheVariants.Container (calls.TheVariants.Add run)) =
+      let few = two_of in let pays = adds_pay run.call.stage in
+      (few_most _ (add_most (get_or words 0 0) run.call.stage), omega arith)
+  most (flights.TheVariants.Container (calls.TheVariants.Remove run)) =
+      let few = two_of in let pays = removes_pay run.call.stage in
+      (few_most _ (remove_most (get_or words 0 0) run.call.stage), omega arith)
+  most (flights.TheVariants.Container (calls.TheVariants.Replace run)) =
+      let few = two_of in let pays = replaces_pay run.call.stage in
+      (few_most _ (replace_most run.call.stage), omega arith)
+  most (flights.TheVariants.Container (calls.TheVariants.Find run)) = (find_most run.call.stage, omega arith)
+  most (flights.TheVariants.Container (calls.TheVariants.Recover run)) =
+      let few = two_of in let pays = recovers_pay run.call.stage in
+      (recover_most run.call.stage, omega arith)
+  most (flights.TheVariants.Container (calls.TheVariants.Look which call)) = (look_most call.stage, omega arith)
+  most (flights.TheVariants.Container (calls.TheVariants.Count which run)) =
+      let less = count_few (get_or words 0 0) run.call.count in
+      (few_most _ (omega arith), omega arith)
+  most (flights.TheVariants.Container (calls.TheVariants.IsLocked run)) = (omega arith, omega arith)
+  most flight = (omega arith, omega arith)
