@@ -1,9 +1,9 @@
 -- The index that a call is answered is one of the structure's, since each event that the call has written says so of its own.
-use Rattle.std.proofs.Common.{◌≡◌, ◌<◌, ℕ, Bool, true, false, List, [], ◌∷◌, ◌++◌, fold, if◌then◌else◌, refl, sym, subst, ◌∙◌, append_assoc}
+use Rattle.std.proofs.Common.{◌≡◌, ◌<◌, ℕ, Bool, true, false, List, [], ◌∷◌, ◌++◌, fold, if◌then◌else◌, sym, subst, ◌∙◌, append_assoc}
 use Rattle.std.specs.List.{AllByRecursion}
 use Rattle.model.specs.declared.event.Answer.{Answer}
 use Rattle.model.specs.declared.event.Event.{Event}
-use Rattle.model.specs.declared.event.Event.TheVariants.{Begun, HandedOut, Claimed, Freed, Locked, Filled, Granted, FreedOf, Asked, Told, Finished}
+use Rattle.model.specs.declared.event.Event.TheVariants.{Begun, HandedOut, Claimed, Locked, Filled, Granted, FreedOf, Asked, Told, Finished}
 use Rattle.model.specs.declared.event.Item.{Item}
 use Rattle.model.specs.declared.event.Item.TheVariants.{Index}
 use Rattle.model.specs.Families.Indices.Robust.Reading as robust

@@ -28,7 +28,7 @@ use Rattle.model.specs.Families.Indices.Promises as index_promises
 use Rattle.model.specs.Families.Indices.Reading as unique
 use Rattle.model.specs.Families.Indices.Robust.Promises as robust_promises
 use Rattle.model.specs.Families.Indices.Robust.Reading as robust
-use Rattle.model.specs.Families.Indices.Robust.Reading.{Fills, Grants, SetAct, wrote_in}
+use Rattle.model.specs.Families.Indices.Robust.Reading.{Fills, Grants, wrote_in}
 use Rattle.model.specs.Families.Indices.Spans.{SetActs, set_acts, claimed}
 use Rattle.model.specs.Families.Loan.Promises as loan_promises
 use Rattle.model.specs.Families.Loan.Reading.{Spot, Free, Passing, With, Waiting, Returning, spot_of, receiver_of}
