@@ -49,7 +49,8 @@ use Rattle.laws_turns.proofs.Meeting as meeting
 use Rattle.laws_turns.proofs.Queue as submission
 use Rattle.laws_turns.proofs.Waiting as waiting
 use Rattle.headline.specs.Holders.{Takes, claims, fills, grants, loans, holders, NoTwoHold, NoneOnceLocked, IsRelease, GivesBack}
-use Rattle.headline.specs.Headline.{QueueRuns, ValueRuns, BitsRun, CountsRun, IndicesRun, RobustRuns, ContainerRuns, IsLeftOver, is_send_or_receive, ChannelRuns, Runs}
+use Rattle.headline.specs.Headline.{QueueRuns, ValueRuns, BitsRun, CountsRun, IndicesRun, RobustRuns, ContainerRuns}
+use Rattle.headline.specs.Headline.{IsLeftOver, is_send_or_receive, ChannelRuns, Runs}
 use Rattle.headline.specs.Moments.{Follows, call_in}
 use Rattle.headline.proofs.Acting.{finished_wrote, acted_once}
 use Rattle.headline.proofs.Holding.{no_two_hold, none_once_locked, none_latest, one_latest, claims_read, fills_read, grants_read, TakesFree}

@@ -3,8 +3,11 @@ use Rattle.std.proofs.Common.{◌≡◌, ⊎_elim, ℕ, List, [], ◌∷◌, ◌
 use Rattle.std.specs.List.{flat_map}
 use Rattle.model.specs.declared.event.Answer.TheVariants.{Index, PoppedIndex, PoppedNone}
 use Rattle.model.specs.declared.event.Event.{Event}
-use Rattle.model.specs.declared.event.Event.TheVariants.{Begun, Published, HandedOut, Claimed, Freed, Returned, Acted, Finished}
+use Rattle.model.specs.declared.event.Event.TheVariants.{Begun, Published, HandedOut, Claimed, Freed, Returned, Died, Acted, Finished}
 use Rattle.model.specs.declared.event.Item.TheVariants as items
+use Rattle.model.specs.declared.event.Start.{Start}
+use Rattle.model.specs.declared.event.Start.TheVariants.{Loan}
+use Rattle.model.specs.declared.families.loan.LoanStart.TheVariants.{Reclaim}
 use Rattle.model.proofs.Readings.{no_more}
 use Rattle.headline.specs.Headline.{ChannelRuns, IsLeftOver}
 use Rattle.headline.specs.Moments.{act_of}
@@ -44,6 +47,16 @@ received_past k = let e = (k.received 1 5 past ([], refl)).1 in absurd (omega ar
 -- an index is freed that nobody has, and in no reclaim
 not_reclaimed : IsLeftOver {T = ℕ} 0 0 [] → ⊥
 not_reclaimed left = let e = left.reclaims in cc
+
+-- or in a reclaim, while the receiver lives, or where he did not have it
+abbrev reclaim : Start ℕ
+reclaim = Loan Reclaim
+
+left_by_the_living : IsLeftOver {T = ℕ} 0 0 (Claimed 1 0 ∷ Begun 0 reclaim ∷ []) → ⊥
+left_by_the_living left = let e = left.dead in cc
+
+left_by_another : IsLeftOver {T = ℕ} 0 0 (Claimed 0 0 ∷ Died 1 ∷ Begun 0 reclaim ∷ []) → ⊥
+left_by_another left = let e = left.held in cc
 
 freed_unheld : runs (Freed 0 0 ∷ []) → ⊥
 freed_unheld k = ⊎_elim (λ held. cc) not_reclaimed (k.freed 0 0 [] ([], refl))
