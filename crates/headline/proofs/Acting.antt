@@ -16,9 +16,7 @@ use Rattle.model.specs.Shape.{IsOpenFor}
 use Rattle.model.specs.World.{Trace}
 use Rattle.model.proofs.Moments.{begins_none_more}
 use Rattle.headline.specs.Moments.{Follows, act_of, ActedOnce}
-
-is_it : (q p : ℕ) → (q == p) ≡ true → q ≡ p
-is_it q p t = grind (arith, nat_tests)
+use Rattle.headline.proofs.Holding.{is_it}
 
 is_another : (q p : ℕ) → (q == p) ≡ false → q ≢ p
 is_another q p t = grind (arith, nat_tests)

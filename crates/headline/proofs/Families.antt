@@ -1,5 +1,5 @@
 -- What each kind's machine does, from what its family promises and from the laws of turns.
-use Rattle.std.proofs.Common.{◌≡◌, ℕ, true, false, Some, List, [], ◌∷◌, refl, sym, ap, subst, ◌∙◌}
+use Rattle.std.proofs.Common.{◌≡◌, ◌⊎◌, ⊎_elim, inl, inr, ◌<◌, ℕ, true, false, Some, List, [], ◌∷◌, refl, sym, ap, subst, ◌∙◌}
 use Rattle.model.specs.declared.event.Answer.{Answer}
 use Rattle.model.specs.declared.event.Event.{Event}
 use Rattle.model.specs.declared.event.Event.TheVariants.{Published, HandedOut, Claimed, Freed, Filled, Granted}
@@ -10,6 +10,7 @@ use Rattle.model.specs.declared.event.Start.TheVariants as starts
 use Rattle.model.specs.declared.families.Registry.{Registry}
 use Rattle.model.specs.declared.families.Registry.TheVariants as registries
 use Rattle.model.specs.declared.families.loan.Book.{Book}
+use Rattle.model.specs.declared.families.loan.LoanStart.TheVariants as calls
 use Rattle.model.specs.declared.families.atomic.AtomicStart.TheVariants as atomics
 use Rattle.model.specs.declared.families.container.ContainerStart.TheVariants as container_starts
 use Rattle.model.specs.declared.families.indices.IndexStart.TheVariants as index_starts
@@ -27,11 +28,13 @@ use Rattle.model.specs.Families.Indices.Promises as index_promises
 use Rattle.model.specs.Families.Indices.Reading as unique
 use Rattle.model.specs.Families.Indices.Robust.Promises as robust_promises
 use Rattle.model.specs.Families.Indices.Robust.Reading as robust
-use Rattle.model.specs.Families.Indices.Robust.Reading.{wrote_in}
+use Rattle.model.specs.Families.Indices.Robust.Reading.{Fills, Grants, wrote_in}
 use Rattle.model.specs.Families.Indices.Spans.{SetActs, set_acts, claimed}
 use Rattle.model.specs.Families.Loan.Promises as loan_promises
-use Rattle.model.specs.Families.Loan.Reading.{Free, Waiting, Returning}
+use Rattle.model.specs.Families.Loan.Reading.{Spot, Free, Passing, With, Waiting, Returning, spot_of, receiver_of}
+use Rattle.model.specs.Families.Loan.Reading as moves
 use Rattle.model.specs.Families.Queues.Promises as queue_promises
+use Rattle.model.specs.Families.Queues.Reading.{handed_out}
 use Rattle.model.specs.Linearizable.{IsLinearizable}
 use Rattle.model.specs.Linearized.{as_list, as_value, is_push_or_pop, is_store_or_load, IsLinearized}
 use Rattle.model.specs.Promises.{IsKeptBy}
@@ -46,10 +49,14 @@ use Rattle.laws_turns.proofs.Meeting as meeting
 use Rattle.laws_turns.proofs.Queue as submission
 use Rattle.laws_turns.proofs.Waiting as waiting
 use Rattle.headline.specs.Holders.{Takes, claims, fills, grants, loans, holders, NoTwoHold, NoneOnceLocked, IsRelease, GivesBack}
-use Rattle.headline.specs.Headline.{QueueRuns, ValueRuns, BitsRun, CountsRun, IndicesRun, RobustRuns, ContainerRuns, ChannelRuns, Runs}
+use Rattle.headline.specs.Headline.{QueueRuns, ValueRuns, BitsRun, CountsRun, IndicesRun, RobustRuns, ContainerRuns}
+use Rattle.headline.specs.Headline.{IsLeftOver, is_send_or_receive, ChannelRuns, Runs}
 use Rattle.headline.specs.Moments.{Follows, call_in}
 use Rattle.headline.proofs.Acting.{finished_wrote, acted_once}
-use Rattle.headline.proofs.Holding.{no_two_hold, none_once_locked, none_latest, one_latest, claims_read, fills_read, grants_read, loaned_free, TakesFree}
+use Rattle.headline.proofs.Holding.{no_two_hold, none_once_locked, none_latest, one_latest, claims_read, fills_read, grants_read, TakesFree}
+use Rattle.headline.proofs.Below.{ClaimsBelow, FillsBelow, HandsOutBelow, claimed_below, loaned_below, filled_below, received_below}
+use Rattle.headline.proofs.Loans.{IsWith, loaned_at}
+use Rattle.headline.proofs.Once.{at_most_once}
 
 module _ {T : Type 0} where
   -- ---- the queues and the value
@@ -71,6 +78,7 @@ module _ {T : Type 0} where
               inside = λ p start answer before is_call at.
                   let w = finished_wrote (queue_promises.promise kind) t p start answer before kept at in
                   acted_once p start answer before w.wrote w.opens (queue_moments kind t.world.capacity start answer w.wrote is_call w.right);
+              once = at_most_once (queue_promises.promise kind) t kept;
               answers = kept.promised.moments;
               linearizable = linearizable;
             };
@@ -92,6 +100,7 @@ module _ {T : Type 0} where
               inside = λ p start answer before is_call at.
                   let w = finished_wrote value_promises.promise t p start answer before kept at in
                   acted_once p start answer before w.wrote w.opens (value_moments t.world.capacity start answer w.wrote is_call w.right);
+              once = at_most_once value_promises.promise t kept;
               answers = kept.promised.moments;
               linearizable = linearizable;
             };
@@ -137,6 +146,10 @@ module _ {T : Type 0} where
     one_claim : NoTwoHold claims t.events
     one_claim = no_two_hold claims t.events claims_free
 
+    claims_within : Each (λ before e. ClaimsBelow t.world.capacity e) t.events
+    claims_within before after (Claimed p i) at = (kept.promised.holds before after (Claimed p i) at).0
+    claims_within before after e at = tt
+
     index_claimed : (index : ℕ) (all : SetActs) → Some (claimed index) ≡ Some all → all ≡ claimed index
     index_claimed index all e = cc
 
@@ -159,7 +172,8 @@ module _ {T : Type 0} where
               });
           acquired = λ p index before at.
               let w = finished_wrote index_promises.promise t p _ _ before kept at in
-              ap (λ (s : Span T). set_acts (wrote_in s)) w.opens ∙ index_claimed index (set_acts w.wrote) w.right;
+              let did = ap (λ (s : Span T). set_acts (wrote_in s)) w.opens ∙ index_claimed index (set_acts w.wrote) w.right in
+              (did, claimed_below t.world.capacity p index t.events before _ claims_within at.1 (ap (λ (d : SetActs). d.claimed) did));
           freed = λ p index before at. (
             one_latest (holders claims index before) p (claims_read index before ∙ kept.promised.holds before at.0 (Freed p index) at.1)
                 (one_claim before (Freed p index ∷ at.0) at.1 index),
@@ -180,6 +194,16 @@ module _ {T : Type 0} where
 
     no_two_fill : NoTwoHold fills events
     no_two_fill = no_two_hold fills events fills_free
+
+    fills_within : Each (λ before e. FillsBelow capacity e) events
+    fills_within before after (Filled p i o) at = (does before after (Filled p i o) at).0
+    fills_within before after e at = tt
+
+    acquired_of : (p index owner : ℕ) (e : Event T) (before : List (Event T)) → Follows e before events
+        → robust.set_acts_of p before ≡ Fills index owner ∷ Grants index owner ∷ []
+        → (robust.set_acts_of p before ≡ Fills index owner ∷ Grants index owner ∷ []) × (index < capacity)
+    acquired_of p index owner e before at did =
+        (did, filled_below capacity p index owner (Grants index owner ∷ []) events before (e ∷ at.0) fills_within at.1 did)
 
     freed_of : (p index owner : ℕ) (before : List (Event T)) → Follows (FreedOf p index owner) before events
         → holders fills index before ≡ owner ∷ []
@@ -242,12 +266,14 @@ module _ {T : Type 0} where
         none_once_locked = λ well. none_granted t.world.capacity t.events set.does (set.holds well);
         acquired = λ p index owner before at.
             let w = finished_wrote robust_promises.promise t p _ _ before kept at in
-            ap (λ (s : Span T). robust.set_acts (wrote_in s)) w.opens ∙ w.right;
+            acquired_of t.world.capacity t.events set.does p index owner _ before at
+            (ap (λ (s : Span T). robust.set_acts (wrote_in s)) w.opens ∙ w.right);
         freed = λ p index owner before at. (
           freed_of t.world.capacity t.events set.does p index owner before at,
           back_by_robust p index owner (span_of p before) (kept.spans before at.0 (FreedOf p index owner) at.1),
         );
         recovered = λ p index owner mode before at. (set.answers before at.0 _ at.1).1.gone index owner;
+        asked_each = λ p index owner mode before at. (set.answers before at.0 _ at.1).1.asked index owner;
         locks = λ p index owner before at one.
             let late = locking.locks t is r before at.0 _ at.1 index owner one in (late.other, late.once);
       }
@@ -261,7 +287,8 @@ module _ {T : Type 0} where
         none_once_locked = λ well. none_granted t.world.capacity t.events set.does (set.well_formed well).holders;
         acquired = λ p index owner value before at.
             let w = finished_wrote container_promises.promise t p _ _ before kept at in
-            ap (λ (s : Span T). robust.set_acts (wrote_in s)) w.opens ∙ w.right;
+            acquired_of t.world.capacity t.events set.does p index owner _ before at
+            (ap (λ (s : Span T). robust.set_acts (wrote_in s)) w.opens ∙ w.right);
         freed = λ p index owner before at. (
           freed_of t.world.capacity t.events set.does p index owner before at,
           back_by_container p index owner (span_of p before) (kept.spans before at.0 (FreedOf p index owner) at.1),
@@ -273,6 +300,7 @@ module _ {T : Type 0} where
         shown = λ p index state value rests has shows.
             let was = set.states p index state value rests has shows in record { before = was.before; after = was.after; is = was.is };
         recovered = λ p index owner mode before at. (set.answers before at.0 _ at.1).1.gone index;
+        asked_each = λ p index owner mode before at. (set.answers before at.0 _ at.1).1.asked index;
         locks = λ p index owner before at one.
             let late = (set.answers before at.0 _ at.1).2 index one in (late.other, late.once);
         waits = waiting.waits t is r;
@@ -283,40 +311,101 @@ module _ {T : Type 0} where
 
   -- ---- the loan channel
 
+  moved_by : (start : Start T) (answer : Answer T) (wrote : List (Event T)) → is_send_or_receive start ≡ true
+      → loan_promises.wrote 0 start answer wrote → moments wrote ≡ (start, answer) ∷ []
+  moved_by (starts.Loan (calls.Send index)) answer wrote t h = h.moments
+  moved_by (starts.Loan calls.Receive) answer wrote t h = h.moments
+  moved_by (starts.Loan other) answer wrote t h = absurd (cc)
+  moved_by other answer wrote t h = absurd (cc)
+
+  reclaiming : (span : Span T) → loan_promises.IsReclaiming span → call_in span ≡ Some (starts.Loan calls.Reclaim)
+  reclaiming Never h = absurd h
+  reclaiming (Open call wrote) h = ap (λ (c : Start T). Some c) h.0
+  reclaiming (Ended call answer wrote) h = absurd h
+
   module _ (book : Book) (t : Trace T) (channel : loan_promises.IsChannelOf book t) where
+    with_at : (i : ℕ) (e : Event T) (before : List (Event T)) → Follows e before t.events → (spot : Spot) → spot_of i before ≡ spot
+        → IsWith spot (holders loans i before)
+    with_at i e before at spot is = loaned_at t.world.capacity t.events channel.moves i e before at spot is
+
     loans_free : TakesFree loans t.events
     loans_free (Claimed p i) before index holder at takes =
         let is : i ≡ index = cc in
-        subst (λ n. holders loans n before ≡ []) is (loaned_free i before Free (channel.moves before at.0 (Claimed p i) at.1).1 tt)
+        subst (λ n. holders loans n before ≡ []) is (with_at i (Claimed p i) before at Free (channel.moves before at.0 (Claimed p i) at.1).1)
     loans_free (HandedOut p (items.Index i)) before index holder at takes =
         let is : i ≡ index = cc in
         subst (λ n. holders loans n before ≡ []) is
-        (loaned_free i before Waiting (channel.moves before at.0 (HandedOut p (items.Index i)) at.1).1 tt)
+        (with_at i (HandedOut p (items.Index i)) before at Waiting (channel.moves before at.0 (HandedOut p (items.Index i)) at.1).1)
     loans_free (TakenBack p i) before index holder at takes =
         let is : i ≡ index = cc in
-        subst (λ n. holders loans n before ≡ []) is (loaned_free i before Returning (channel.moves before at.0 (TakenBack p i) at.1).1 tt)
+        subst (λ n. holders loans n before ≡ []) is
+        (with_at i (TakenBack p i) before at Returning (channel.moves before at.0 (TakenBack p i) at.1).1)
     loans_free (Published p (items.Index i)) before index holder at takes = absurd (cc)
     loans_free (Returned p i) before index holder at takes = absurd (cc)
     loans_free (Freed p i) before index holder at takes = absurd (cc)
     loans_free e before index holder at takes = absurd (cc)
 
-    channel_of : queue_in t.world.kept ≡ Some book.queue → ChannelRuns book.queue t
-    channel_of length =
+    one_has : NoTwoHold loans t.events
+    one_has = no_two_hold loans t.events loans_free
+
+    loans_within : Each (λ before e. ClaimsBelow t.world.capacity e) t.events
+    loans_within before after (Claimed p i) at = (channel.moves before after (Claimed p i) at).0
+    loans_within before after e at = tt
+
+    receives_within : Each (λ before e. HandsOutBelow t.world.capacity e) t.events
+    receives_within before after (HandedOut p (items.Index i)) at = (channel.moves before after (HandedOut p (items.Index i)) at).0
+    receives_within before after (HandedOut p (items.Value value)) at = tt
+    receives_within before after e at = tt
+
+    is_with : (index x : ℕ) (e : Event T) (before : List (Event T)) → Follows e before t.events
+        → (spot_of index before ≡ With x) ⊎ (spot_of index before ≡ Passing x) → holders loans index before ≡ x ∷ []
+    is_with index x e before at is =
+        one_latest (holders loans index before) x (⊎_elim (with_at index e before at (With x)) (with_at index e before at (Passing x)) is)
+        (one_has before (e ∷ at.0) at.1 index)
+
+    freed_by : (p index : ℕ) (before : List (Event T)) → Follows (Freed p index) before t.events
+        → (holders loans index before ≡ p ∷ []) ⊎ IsLeftOver p index before
+    freed_by p index before at =
+        ⊎_elim (λ passes. inl (is_with index p (Freed p index) before at (inr passes)))
+        (λ left.
+        inr
+        (record {
+          reclaims = reclaiming (span_of p before) left.0;
+          dead = left.1.0;
+          held = is_with index (receiver_of before) (Freed p index) before at left.1.1;
+        }))
+        (channel.moves before at.0 (Freed p index) at.1).1
+
+    channel_of : IsKeptBy loan_promises.promise t → queue_in t.world.kept ≡ Some book.queue → ChannelRuns book.queue t
+    channel_of kept length =
         record {
           length = length;
-          no_two_hold = no_two_hold loans t.events loans_free;
+          no_two_hold = one_has;
+          acquired = λ p index before at.
+              let w = finished_wrote loan_promises.promise t p _ _ before kept at in
+              let did = ap (λ (s : Span T). moves.claimed (wrote_in s)) w.opens ∙ w.right.done.claimed in
+              (did, loaned_below t.world.capacity p index t.events before _ loans_within at.1 did);
+          received = λ p index before at.
+              let w = finished_wrote loan_promises.promise t p _ _ before kept at in
+              let did = ap (λ (s : Span T). handed_out (wrote_in s)) w.opens ∙ w.right.done.handed_out in
+              (did, received_below t.world.capacity p index t.events before _ receives_within at.1 did);
+          freed = freed_by;
+          inside = λ p start answer before is_call at.
+              let w = finished_wrote loan_promises.promise t p start answer before kept at in
+              acted_once p start answer before w.wrote w.opens (moved_by start answer w.wrote is_call w.right);
+          once = at_most_once loan_promises.promise t kept;
           list = channel.legal;
           sent = channel.sent;
           returned = channel.returned;
         }
 
-  channel_runs : (queue : ℕ) (t : Trace T) (kept : Registry T) → t.world.kept ≡ kept → loan_promises.IsChannelBy kept t
-      → queue_in t.world.kept ≡ Some queue → ChannelRuns queue t
-  channel_runs queue t (registries.Loan book) is channel length =
+  channel_runs : (queue : ℕ) (t : Trace T) (kept : Registry T) → IsKeptBy loan_promises.promise t → t.world.kept ≡ kept
+      → loan_promises.IsChannelBy kept t → queue_in t.world.kept ≡ Some queue → ChannelRuns queue t
+  channel_runs queue t (registries.Loan book) all is channel length =
       let same : Some book.queue ≡ Some queue = sym (ap queue_in is) ∙ length in
       let one : book.queue ≡ queue = cc in
-      subst (λ n. ChannelRuns n t) one (channel_of book t channel (length ∙ sym same))
-  channel_runs queue t kept is channel length = absurd channel
+      subst (λ n. ChannelRuns n t) one (channel_of book t channel all (length ∙ sym same))
+  channel_runs queue t kept all is channel length = absurd channel
 
   -- ---- every kind
 
@@ -332,4 +421,4 @@ module _ {T : Type 0} where
   by_kind kinds.Robust queue t is r same kept linearizable = robust_runs t is r kept
   by_kind kinds.Container queue t is r same kept linearizable = container_runs t is r kept
   by_kind kinds.Loan queue t is r same kept linearizable =
-      channel_runs queue t t.world.kept refl kept.promised (submission.queue_is t is r ∙ ap (λ (n : ℕ). Some n) same)
+      channel_runs queue t t.world.kept kept refl kept.promised (submission.queue_is t is r ∙ ap (λ (n : ℕ). Some n) same)

@@ -3,22 +3,14 @@ use Rattle.std.proofs.Common.{◌≡◌, ◌≤◌, ℕ, ◌==◌, Bool, true, f
 use Rattle.std.proofs.Common.{fold, if◌then◌else◌, refl, sym, ap, subst, ◌∙◌, append_assoc, append-nil, arith}
 use Rattle.std.proofs.lemmas.Bool.Decides.{nat_tests}
 use Rattle.std.proofs.lemmas.List.Sums.{fold-append}
-use Rattle.model.specs.declared.event.Answer.{Answer}
-use Rattle.model.specs.declared.event.Answer.TheVariants as answers
 use Rattle.model.specs.declared.event.Event.{Event}
-use Rattle.model.specs.declared.event.Event.TheVariants.{Begun, Published, HandedOut, Claimed, Freed, Locked, Filled}
-use Rattle.model.specs.declared.event.Event.TheVariants.{Granted, FreedOf, Returned, TakenBack, Finished}
-use Rattle.model.specs.declared.event.Item.TheVariants as items
-use Rattle.model.specs.declared.event.Start.{Start}
-use Rattle.model.specs.declared.event.Start.TheVariants as starts
-use Rattle.model.specs.declared.families.loan.LoanStart.TheVariants as calls
+use Rattle.model.specs.declared.event.Event.TheVariants.{Claimed, Freed, Locked, Filled, Granted, FreedOf}
 use Rattle.model.specs.Families.Indices.Reading as unique
 use Rattle.model.specs.Families.Indices.Robust.Reading as robust
-use Rattle.model.specs.Families.Loan.Reading.{Spot, Free, Passing, With, Waiting, Returning, spot_after, spot_of}
-use Rattle.headline.specs.Holders.{Hand, Takes, Gives, Neither, held_after, claims, fills, grants, loans, holders, NoTwoHold, NoneOnceLocked}
+use Rattle.headline.specs.Holders.{Hand, Takes, Gives, Neither, held_after, claims, fills, grants, holders, NoTwoHold, NoneOnceLocked}
 use Rattle.headline.specs.Moments.{Follows}
 
-is_it : (index i : ℕ) → (index == i) ≡ true → index ≡ i
+pub is_it : (index i : ℕ) → (index == i) ≡ true → index ≡ i
 is_it index i t = grind (arith, nat_tests)
 
 either : (b : Bool) (held : List ℕ) → (if b then held else held) ≡ held
@@ -34,10 +26,10 @@ true_false : (b : Bool) → b ≡ true → b ≡ false → ⊥
 true_false b t f = cc
 
 module _ {T : Type 0} (hand : Event T → Hand) where
-  abbrev after : ℕ → List ℕ → Event T → List ℕ
+  abbrev pub after : ℕ → List ℕ → Event T → List ℕ
   after i held e = held_after i held (hand e)
 
-  one_after : (i : ℕ) (before : List (Event T)) (e : Event T) → holders hand i (before ++ e ∷ []) ≡ after i (holders hand i before) e
+  pub one_after : (i : ℕ) (before : List (Event T)) (e : Event T) → holders hand i (before ++ e ∷ []) ≡ after i (holders hand i before) e
   one_after i before e = fold-append (after i) [] before (e ∷ [])
 
   -- ---- what stands at each moment of a run
@@ -120,7 +112,7 @@ module _ {T : Type 0} (hand : Event T → Hand) where
 
 -- ---- the holder that a family reads is the latest one
 
-abbrev latest : List ℕ → Option ℕ
+abbrev pub latest : List ℕ → Option ℕ
 latest [] = None
 latest (x ∷ xs) = Some x
 
@@ -140,29 +132,6 @@ if_takes false x held = refl
 if_gives : (b : Bool) (held : List ℕ) → latest (if b then [] else held) ≡ (if b then None else latest held)
 if_gives true held = refl
 if_gives false held = refl
-
-abbrev IsNobodys : Spot → Type 0
-IsNobodys Free = Unit {0}
-IsNobodys (Passing p) = ⊥
-IsNobodys (With p) = ⊥
-IsNobodys Waiting = Unit {0}
-IsNobodys Returning = Unit {0}
-
-abbrev Fits : Spot → List ℕ → Type 0
-Fits spot held = IsNobodys spot → held ≡ []
-
-goes_to : (b : Bool) (spot to : Spot) (x : ℕ) (held : List ℕ) → (IsNobodys to → ⊥) → Fits spot held
-    → Fits (if b then to else spot) (if b then x ∷ held else held)
-goes_to true spot to x held never fits nobody = absurd (never nobody)
-goes_to false spot to x held never fits nobody = fits nobody
-
-stays_with : (b : Bool) (spot to : Spot) (held : List ℕ) → (IsNobodys to → ⊥) → Fits spot held → Fits (if b then to else spot) held
-stays_with true spot to held never fits nobody = absurd (never nobody)
-stays_with false spot to held never fits nobody = fits nobody
-
-comes_back : (b : Bool) (spot to : Spot) (held : List ℕ) → Fits spot held → Fits (if b then to else spot) (if b then [] else held)
-comes_back true spot to held fits nobody = refl
-comes_back false spot to held fits nobody = fits nobody
 
 module _ {T : Type 0} where
   reads : (hand : Event T → Hand) (i : ℕ) (read : Option ℕ → Event T → Option ℕ)
@@ -196,38 +165,3 @@ module _ {T : Type 0} where
 
   pub grants_read : (i : ℕ) (events : List (Event T)) → latest (holders grants i events) ≡ robust.holder_of i events
   grants_read i events = reads grants i (robust.holder_after i) (one_grant i) events []
-
-  -- ---- a loan channel: an index that is free or in a queue is with nobody
-
-  one_loan : (i : ℕ) (spot : Spot) (held : List ℕ) (e : Event T) → Fits spot held → Fits (spot_after i spot e) (held_after i held (loans e))
-  one_loan i spot held (Claimed p index) fits = goes_to (index == i) spot (Passing p) p held (λ no. no) fits
-  one_loan i spot held (HandedOut p (items.Index index)) fits = goes_to (index == i) spot (Passing p) p held (λ no. no) fits
-  one_loan i spot held (TakenBack p index) fits = goes_to (index == i) spot (Passing p) p held (λ no. no) fits
-  one_loan i spot held (Published p (items.Index index)) fits = comes_back (index == i) spot Waiting held fits
-  one_loan i spot held (Returned p index) fits = comes_back (index == i) spot Returning held fits
-  one_loan i spot held (Freed p index) fits = comes_back (index == i) spot Free held fits
-  one_loan i spot held (Begun p start) fits = begun start
-    where
-      begun : (start : Start T) → Fits (spot_after i spot (Begun p start)) held
-      begun (starts.Loan (calls.Send index)) = stays_with (index == i) spot (Passing p) held (λ no. no) fits
-      begun (starts.Loan (calls.GiveUp index)) = stays_with (index == i) spot (Passing p) held (λ no. no) fits
-      begun (starts.Loan (calls.GiveBack index)) = stays_with (index == i) spot (Passing p) held (λ no. no) fits
-      begun start = fits
-  one_loan i spot held (Finished p start answer) fits = finished start answer
-    where
-      finished : (start : Start T) (answer : Answer T) → Fits (spot_after i spot (Finished p start answer)) held
-      finished (starts.Loan calls.Loan) (answers.Index index) = stays_with (index == i) spot (With p) held (λ no. no) fits
-      finished (starts.Loan calls.Receive) (answers.PoppedIndex index) = stays_with (index == i) spot (With p) held (λ no. no) fits
-      finished start answer = fits
-  one_loan i spot held e fits = fits
-
-  all_loans : (i : ℕ) (es : List (Event T)) (spot : Spot) (held : List ℕ) → Fits spot held
-      → Fits (fold (spot_after i) spot es) (fold (λ held e. held_after i held (loans e)) held es)
-  all_loans i [] spot held fits = fits
-  all_loans i (e ∷ es) spot held fits = all_loans i es (spot_after i spot e) (held_after i held (loans e)) (one_loan i spot held e fits)
-
-  nobodys : (i : ℕ) (events : List (Event T)) → IsNobodys (spot_of i events) → holders loans i events ≡ []
-  nobodys i events = all_loans i events Free [] (λ nobody. refl)
-
-  pub loaned_free : (i : ℕ) (events : List (Event T)) (spot : Spot) → spot_of i events ≡ spot → IsNobodys spot → holders loans i events ≡ []
-  loaned_free i events spot is nobody = nobodys i events (subst IsNobodys (sym is) nobody)

@@ -1,6 +1,9 @@
 pub mod Acting
+pub mod Below
 pub mod Families
 pub mod Holding
+pub mod Loans
+pub mod Once
 pub mod Picking
 pub mod Progressing
 pub mod Reached

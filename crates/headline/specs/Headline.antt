@@ -6,16 +6,18 @@ use Rattle.steps.specs.declared.container.state.ContainerState.{ContainerState}
 use Rattle.steps.specs.declared.indices.enums.ReleaseMode.{ReleaseMode}
 use Rattle.steps.specs.declared.indices.enums.ReleaseMode.TheVariants.{LockIfLastIndex}
 use Rattle.steps.specs.declared.indices.enums.ReleaseState.TheVariants.{Unlocked}
-use Rattle.model.specs.declared.event.Answer.TheVariants.{Done, Index, State, Truth, Number, Reset}
+use Rattle.model.specs.declared.event.Answer.{Answer}
+use Rattle.model.specs.declared.event.Answer.TheVariants.{Done, Index, PoppedIndex, State, Truth, Number, Reset}
 use Rattle.model.specs.declared.event.Event.TheVariants.{Freed, FreedOf, Asked, Copied, Finished}
 use Rattle.model.specs.declared.event.Event.{Event}
 use Rattle.model.specs.declared.event.Item.TheVariants as items
 use Rattle.model.specs.declared.event.Start.{Start}
-use Rattle.model.specs.declared.event.Start.TheVariants.{Bits, Indices, Robust, Container}
+use Rattle.model.specs.declared.event.Start.TheVariants.{Bits, Indices, Robust, Container, Loan}
 use Rattle.model.specs.declared.families.bits.BitsStart.TheVariants as bits
 use Rattle.model.specs.declared.families.container.ContainerStart.TheVariants as containers
 use Rattle.model.specs.declared.families.indices.IndexStart.TheVariants as indices
 use Rattle.model.specs.declared.families.indices.robust.RobustStart.TheVariants.{Acquire, Find, Recover}
+use Rattle.model.specs.declared.families.loan.LoanStart.TheVariants as channels
 use Rattle.model.specs.declared.families.queues.QueueKind.{QueueKind}
 use Rattle.model.specs.declared.families.queues.QueueKind.TheVariants as queues
 use Rattle.model.specs.declared.party.Progress.{Progress}
@@ -28,11 +30,12 @@ use Rattle.model.specs.Families.Container.Looks.{state_in, shows, is_looking}
 use Rattle.model.specs.Families.Container.Promises.{IsWellFormedRun}
 use Rattle.model.specs.Families.Container.Questions.{question_at}
 use Rattle.model.specs.Families.Container.Reading.{contents_of, Copies, Sees, acts_of, places}
-use Rattle.model.specs.Families.Indices.Robust.Promises.{IsWellFormed, IsFilled, IsIn, asked_of, owned_of}
-use Rattle.model.specs.Families.Indices.Robust.Reading.{filled_of, Fills, Grants, Frees, Yes, set_acts_of, wrote_in, IsOneOf, IsLatest}
+use Rattle.model.specs.Families.Indices.Robust.Promises.{IsWellFormed, IsFilled, HeldThroughout, IsIn, asked_of, owned_of}
+use Rattle.model.specs.Families.Indices.Robust.Reading.{filled_of, Fills, Grants, Frees, Asks, Yes, set_acts_of, wrote_in, IsOneOf, IsLatest}
 use Rattle.model.specs.Families.Indices.Spans.{set_acts, claimed}
 use Rattle.model.specs.Families.Loan.Promises.{sent_in, given_back_in}
-use Rattle.model.specs.Families.Loan.Reading.{given_back, taken_back, queue_moments}
+use Rattle.model.specs.Families.Loan.Reading.{given_back, taken_back, receiver_of, has_died_by, queue_moments}
+use Rattle.model.specs.Families.Loan.Reading as channel
 use Rattle.model.specs.Families.Queues.Book.{waiting_in}
 use Rattle.model.specs.Families.Queues.Objects.{overflowing_list}
 use Rattle.model.specs.Families.Queues.Reading.{published, handed_out}
@@ -50,7 +53,7 @@ use Rattle.laws_turns.specs.Changes.{changes_of, seen_by}
 use Rattle.laws_turns.specs.Others.{queue_in}
 use Rattle.laws_turns.specs.Questions.{waits_at, index_if, loads_cell}
 use Rattle.headline.specs.Holders.{holders, claims, fills, grants, loans, NoTwoHold, NoneOnceLocked, IsRelease, GivesBack}
-use Rattle.headline.specs.Moments.{Follows, call_in, ActAs}
+use Rattle.headline.specs.Moments.{Follows, call_in, ActedOnce, AtMostOnce, ActAs}
 
 module _ {T : Type 0} where
   -- ---- the queues and the value
@@ -88,14 +91,14 @@ module _ {T : Type 0} where
 
   -- ---- unique indices
 
-  -- No index has two holders, and none has one once the set is locked. Who is answered an index has claimed it in that call,
-  -- and holds it until a release of his frees it.
+  -- No index has two holders, and none has one once the set is locked. Who is answered an index of the set has claimed it in
+  -- that call, and holds it until a release of his frees it.
   pub record IndicesRun (t : Trace T) : Type 0 where
     pub no_two_hold : NoTwoHold claims t.events
     pub none_once_locked : NoneOnceLocked claims t.events
     pub acquired : (p index : ℕ) (before : List (Event T))
         → Follows (Finished p (Indices indices.Acquire) (Index index)) before t.events
-        → set_acts (wrote_in (span_of p before)) ≡ claimed index
+        → (set_acts (wrote_in (span_of p before)) ≡ claimed index) × (index < t.world.capacity)
     pub freed : (p index : ℕ) (before : List (Event T))
         → Follows (Freed p index) before t.events
         → (holders claims index before ≡ p ∷ []) × IsRelease index (call_in (span_of p before))
@@ -110,19 +113,25 @@ module _ {T : Type 0} where
       (λ part. IsOneOf (Frees index owner) (set_acts_of p part) × IsFilled other part)
       before
 
+  -- the index was filled with this owner, or the party's latest call had freed it of him
+  abbrev pub FilledOrFreed : ℕ → ℕ → ℕ → List (Event T) → Type 0
+  FilledOrFreed p index owner part =
+      (filled_of index part ≡ Some owner) ⊎ IsOneOf (Frees index owner) (set_acts_of p part)
+
   -- No index is filled for two owners. In a well-formed run no index has two holders, and none has one once the set is locked.
-  -- Who is answered an index was granted it in that call, and it is freed of the owner that fills it, by a release for him or
-  -- by a recovery that was told so.
+  -- Who is answered an index of the set was granted it in that call, and it is freed of the owner that fills it, by a release
+  -- for him or by a recovery that was told so.
   --
-  -- A recovery that answers Unlocked has left no owner an index of his that it was told to free; in the mode that locks, some
-  -- index was filled after each that it freed.
+  -- A recovery that answers Unlocked has left no owner an index of his that it was told to free. It has asked about each index
+  -- that was filled with one owner during the whole call, or until the call itself freed it. In the mode that locks, some index
+  -- was filled after each that it freed.
   pub record RobustRuns (t : Trace T) : Type 0 where
     pub no_two_fill : NoTwoHold fills t.events
     pub no_two_hold : IsWellFormed t.events → NoTwoHold grants t.events
     pub none_once_locked : IsWellFormed t.events → NoneOnceLocked grants t.events
     pub acquired : (p index owner : ℕ) (before : List (Event T))
         → Follows (Finished p (Robust (Acquire owner)) (Index index)) before t.events
-        → set_acts_of p before ≡ Fills index owner ∷ Grants index owner ∷ []
+        → (set_acts_of p before ≡ Fills index owner ∷ Grants index owner ∷ []) × (index < t.world.capacity)
     pub freed : (p index owner : ℕ) (before : List (Event T))
         → Follows (FreedOf p index owner) before t.events
         → (holders fills index before ≡ owner ∷ [])
@@ -131,6 +140,10 @@ module _ {T : Type 0} where
         → Follows (Finished p (Robust (Recover mode)) (State Unlocked)) before t.events
         → IsOneOf (Yes index owner) (set_acts_of p before)
         → filled_of index before ≢ Some owner
+    pub asked_each : (p index owner : ℕ) (mode : ReleaseMode) (before : List (Event T))
+        → Follows (Finished p (Robust (Recover mode)) (State Unlocked)) before t.events
+        → HeldThroughout p (FilledOrFreed p index owner) before
+        → IsOneOf (Asks index owner) (set_acts_of p before)
     pub locks : (p index owner : ℕ) (before : List (Event T))
         → Follows (Finished p (Robust (Recover LockIfLastIndex)) (State Unlocked)) before t.events
         → IsOneOf (Frees index owner) (set_acts_of p before)
@@ -141,8 +154,9 @@ module _ {T : Type 0} where
   -- The same of its indices. In a well-formed run what is copied is the element that stands, whole, and an add or a replace that
   -- succeeded has placed its argument. What a party is asked about, and what its state shows, it has copied.
   --
-  -- A recovery that answers Unlocked has left its owner no index that it was told to free, or was shown empty. A call waits for
-  -- a decision just where it asks about a value.
+  -- A recovery that answers Unlocked has left its owner no index that it was told to free, or was shown empty. Each index that
+  -- was filled with its owner during the whole call, or until the call itself freed it, it has asked about or was shown empty. A
+  -- call waits for a decision just where it asks about a value.
   --
   -- The number of changes is that of the adds, removes and replaces that succeeded, and of the recoveries. An update of a state
   -- that answers true has met a change since the look began that last brought it up to date, and one that answers false has
@@ -153,7 +167,7 @@ module _ {T : Type 0} where
     pub none_once_locked : IsWellFormedRun t → NoneOnceLocked grants t.events
     pub acquired : (p index owner : ℕ) (value : T) (before : List (Event T))
         → Follows (Finished p (Container (containers.Add value owner)) (Index index)) before t.events
-        → set_acts_of p before ≡ Fills index owner ∷ Grants index owner ∷ []
+        → (set_acts_of p before ≡ Fills index owner ∷ Grants index owner ∷ []) × (index < t.world.capacity)
     pub freed : (p index owner : ℕ) (before : List (Event T))
         → Follows (FreedOf p index owner) before t.events
         → (holders fills index before ≡ owner ∷ [])
@@ -178,6 +192,10 @@ module _ {T : Type 0} where
         → Follows (Finished p (Container (containers.Recover owner mode)) (State Unlocked)) before t.events
         → IsOneOf (Yes index owner) (set_acts_of p before) ⊎ IsOneOf (Sees index) (acts_of p before)
         → filled_of index before ≢ Some owner
+    pub asked_each : (p index owner : ℕ) (mode : ReleaseMode) (before : List (Event T))
+        → Follows (Finished p (Container (containers.Recover owner mode)) (State Unlocked)) before t.events
+        → HeldThroughout p (FilledOrFreed p index owner) before
+        → IsOneOf (Asks index owner) (set_acts_of p before) ⊎ IsOneOf (Sees index) (acts_of p before)
     pub locks : (p index owner : ℕ) (before : List (Event T))
         → Follows (Finished p (Container (containers.Recover owner LockIfLastIndex)) (State Unlocked)) before t.events
         → IsOneOf (Frees index owner) (set_acts_of p before)
@@ -193,11 +211,40 @@ module _ {T : Type 0} where
 
   -- ---- the loan channel, with a submission queue of this capacity
 
-  -- No index is with two parties. Sends and receives act, in one order, on one list that overflows; what waits in a queue is
-  -- what was put there and not yet taken out.
+  -- The party is in a reclaim, the receiver has died, and the index was with him.
+  pub record IsLeftOver (p index : ℕ) (before : List (Event T)) : Type 0 where
+    pub reclaims : call_in (span_of p before) ≡ Some (Loan channels.Reclaim)
+    pub dead : has_died_by (receiver_of before) before ≡ true
+    pub held : holders loans index before ≡ receiver_of before ∷ []
+
+  abbrev pub is_send_or_receive : Start T → Bool
+  is_send_or_receive (Loan (channels.Send index)) = true
+  is_send_or_receive (Loan channels.Receive) = true
+  is_send_or_receive start = false
+
+  -- No index is with two parties. A loan has claimed the index of the channel that it answers, and a receive has taken the index
+  -- that it answers out of the submission queue. An index is freed by a call of the party that has it, or, where a receiver
+  -- that has died had it, by a reclaim.
+  --
+  -- Each finished send and receive acts at one moment inside it, and no call acts more than once. They act, in the order of
+  -- these moments, on one list that overflows. What waits in a queue is what was put there and not yet taken out.
   pub record ChannelRuns (queue : ℕ) (t : Trace T) : Type 0 where
     pub length : queue_in t.world.kept ≡ Some queue
     pub no_two_hold : NoTwoHold loans t.events
+    pub acquired : (p index : ℕ) (before : List (Event T))
+        → Follows (Finished p (Loan channels.Loan) (Index index)) before t.events
+        → (channel.claimed (wrote_in (span_of p before)) ≡ index ∷ []) × (index < t.world.capacity)
+    pub received : (p index : ℕ) (before : List (Event T))
+        → Follows (Finished p (Loan channels.Receive) (PoppedIndex index)) before t.events
+        → (handed_out (wrote_in (span_of p before)) ≡ items.Index index ∷ []) × (index < t.world.capacity)
+    pub freed : (p index : ℕ) (before : List (Event T))
+        → Follows (Freed p index) before t.events
+        → (holders loans index before ≡ p ∷ []) ⊎ IsLeftOver p index before
+    pub inside : (p : ℕ) (start : Start T) (answer : Answer T) (before : List (Event T))
+        → is_send_or_receive start ≡ true
+        → Follows (Finished p start answer) before t.events
+        → ActedOnce p start answer before
+    pub once : AtMostOnce t.events
     pub list : IsLegal (overflowing_list queue) (queue_moments t.events)
     pub sent : published t.events
         ≡ handed_out t.events ++ sent_in t.world.coding t.world.capacity queue t.world.words

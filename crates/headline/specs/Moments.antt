@@ -1,5 +1,5 @@
 -- When something holds in a run, and when a call acts.
-use Rattle.std.specs.Prelude.{◌≡◌, ℕ, ◌==◌, true, Option, Some, None, List, [], ◌∷◌, ◌++◌, if◌then◌else◌}
+use Rattle.std.specs.Prelude.{◌≡◌, ◌⊎◌, ℕ, ◌==◌, true, Option, Some, None, List, [], ◌∷◌, ◌++◌, if◌then◌else◌}
 use Rattle.std.specs.List.{flat_map}
 use Rattle.model.specs.declared.event.Answer.{Answer}
 use Rattle.model.specs.declared.event.Event.{Event}
@@ -41,12 +41,23 @@ module _ {T : Type 0} where
     pub within : BeginsNone p since
     pub once : flat_map (act_of p) since ≡ (start, answer) ∷ []
 
-  -- The calls are those of one object: each that has finished acted at one moment inside it, in the order of these moments the
-  -- object gives these answers, and the history is linearizable.
+  -- Since a call began, and before its party begins another one, it acts at most once, and as this call, whether it finishes or
+  -- not.
+  abbrev pub AtMostOnce : List (Event T) → Type 0
+  AtMostOnce events =
+      (p : ℕ) (start : Start T) (before since after : List (Event T))
+      → events ≡ before ++ Begun p start ∷ (since ++ after)
+      → BeginsNone p since
+      → (flat_map (act_of p) since ≡ [])
+      ⊎ ((answer : Answer T) × (flat_map (act_of p) since ≡ (start, answer) ∷ []))
+
+  -- The calls are those of one object: each that has finished acted at one moment inside it, and no call acts more than once. In
+  -- the order of these moments the object gives these answers, and the history is linearizable.
   pub record ActAs {State : Type 0} (spec : Specification T State) (events : List (Event T)) : Type 0 where
     pub inside : (p : ℕ) (start : Start T) (answer : Answer T) (before : List (Event T))
         → spec.is_call start ≡ true
         → Follows (Finished p start answer) before events
         → ActedOnce p start answer before
+    pub once : AtMostOnce events
     pub answers : IsLegal spec.object (moments events)
     pub linearizable : IsLinearizable spec events

@@ -6,11 +6,13 @@ ghost use Rattle.std.specs.Prelude.{◌≡◌, ℕ, List, None, IfSome};
 ghost use Rattle.model.specs.declared.turn.Kind.{Kind};
 ghost use Rattle.model.specs.declared.turn.Turn.{Turn};
 ghost use Rattle.model.specs.Coding.{Coding, IsCoding};
-ghost use Rattle.model.specs.declared.turn.Kind.TheVariants.{Robust};
-ghost use Rattle.model.specs.LockFree.{IsLockFree, IsLockFreeOf, IsDefault, lock_free_bound, default_bound};
+ghost use Rattle.model.specs.declared.turn.Kind.TheVariants.{Robust, Container, Loan};
+ghost use Rattle.model.specs.LockFree.{IsLockFree, IsLockFreeOf, HasLockFreeRuns, IsDefault};
+ghost use Rattle.model.specs.LockFree.{lock_free_bound, default_bound, default_container_bound};
 ghost use Rattle.model.specs.Refusals.{refusal_of};
 ghost use Rattle.model.specs.Turns.{IsReached, after_turn, run};
 ghost use Rattle.model.specs.World.{Trace, opened, capacity_error, queue_error, trace_in};
+ghost use Rattle.laws_loan.specs.LockFree.{channel_bound};
 ghost use Rattle.headline.specs.Headline.{Holds, Takes};
 
 use machine::Machine;
@@ -19,8 +21,8 @@ use steps::words::Words;
 
 /// Of every kind, at every admitted capacity, after every list of turns, of which those that are refused change nothing; and of
 /// each further turn that is not refused. Of the kinds that have a bound in `lock_free_bound`: whatever turns so many parties
-/// take from there, in more steps than the bound one of their calls ends. The same of a robust index set in which no call may
-/// lock.
+/// take from there, in more steps than the bound one of their calls ends. The same of a robust index set and of a container in
+/// which no call may lock, and of a loan channel as its machines run.
 pub fn headline<T>()
     ensures runs { (code : Coding T) (kind : Kind) (capacity queue parties : ℕ) (turns : List (Turn T))
         → IsCoding code → capacity_error kind capacity ≡ None → queue_error kind queue ≡ None
@@ -30,6 +32,8 @@ pub fn headline<T>()
         → Takes t turn (after_turn t turn) }
     ensures lock_free { (kind : Kind) → IfSome (lock_free_bound kind) (IsLockFree T kind) }
     ensures lock_free_by_default { IsLockFreeOf T Robust IsDefault default_bound }
+    ensures lock_free_container { IsLockFreeOf T Container IsDefault default_container_bound }
+    ensures lock_free_channel { HasLockFreeRuns T Loan channel_bound }
 {}
 
 /// The same of a machine that somebody has.

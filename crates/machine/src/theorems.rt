@@ -1,6 +1,6 @@
 //! What follows from the promises of every run, in the field's words. These functions do nothing: the contract of each is a
 //! law, whose proof is a lemma that a client's proof can cite.
-ghost use Rattle.std.specs.Prelude.{ℕ, IfSome, ◌<◌};
+ghost use Rattle.std.specs.Prelude.{ℕ, IfSome, ◌<◌, ◌*◌, ◌-◌, ◌^◌};
 ghost use Rattle.model.specs.declared.families.Flight.{Flight};
 ghost use Rattle.model.specs.declared.turn.Kind.{Kind};
 ghost use Rattle.model.specs.declared.turn.Kind.TheVariants.{IndexQueue, Overflow, Queue, Atomic, Bits, Counts, Robust};
@@ -73,10 +73,11 @@ pub fn lock_free_channel<T>()
 {}
 
 /// No such bound is less than these, at so many parties, this capacity and values of one word: there is a run of so many steps
-/// in which no call ends. Of the first six kinds they are what `lock_free_bound` says there, so its bounds cannot be less. A
-/// robust index set of two indices has no bound below 200 for two parties: two releases in the mode `LockIfLastIndex` make
-/// each other begin again. Of a loan channel with one slot `channel_bound` says 24, and no bound is below 14. The runs are
-/// those of `proofs/WorkedLockFree.antt` of `model`, and the last one that of the file of this name in `laws_loan`.
+/// in which no call ends. Of the first six kinds they are what `lock_free_bound` says there, so its bounds cannot be less. In a
+/// robust index set of two indices two releases in the mode `LockIfLastIndex` make each other begin again, in ten steps a round,
+/// until the counter is at its end: there are as many rounds as it has room for (`proofs/Rounds.antt`). Of a loan channel with
+/// one slot `channel_bound` says 24, and no bound is below 14. The other runs are those of `proofs/WorkedLockFree.antt` of
+/// `model`, and that of the channel of the file of this name in `laws_loan`.
 pub fn not_lock_free_below()
     ensures index_queue { (bound : Bound) → bound 2 1 1 < 10 → IsLockFree ℕ IndexQueue bound → ⊥ }
     ensures overflow { (bound : Bound) → bound 1 1 1 < 5 → IsLockFree ℕ Overflow bound → ⊥ }
@@ -84,6 +85,6 @@ pub fn not_lock_free_below()
     ensures value { (bound : Bound) → bound 2 1 1 < 6 → IsLockFree ℕ Atomic bound → ⊥ }
     ensures bits { (bound : Bound) → bound 1 3 1 < 5 → IsLockFree ℕ Bits bound → ⊥ }
     ensures counts { (bound : Bound) → bound 2 3 1 < 4 → IsLockFree ℕ Counts bound → ⊥ }
-    ensures robust { (bound : Bound) → bound 2 2 1 < 200 → IsLockFree ℕ Robust bound → ⊥ }
+    ensures robust { (bound : Bound) → bound 2 2 1 < 10 * (2 ^ 63 - 5) → IsLockFree ℕ Robust bound → ⊥ }
     ensures loan { (bound : Bound) → bound 2 1 1 < 14 → HasLockFreeRuns ℕ Loan bound → ⊥ }
 {}

@@ -13,7 +13,7 @@ use Rattle.model.specs.World.{Trace}
 use Rattle.wrong_runs.proofs.Machines.{machine, at_no_moment}
 
 -- words: the reset position and one word of bits
-abbrev bits : List ℕ → List (Event ℕ) → Trace ℕ
+abbrev pub bits : List ℕ → List (Event ℕ) → Trace ℕ
 bits words events = machine kinds.Bits words registries.Nothing events
 
 -- a bit stands that nobody has set
@@ -34,7 +34,7 @@ refused_set k =
     (k.answers (Begun 0 (Bits (Set 1)) ∷ []) [] (Finished 0 (Bits (Set 1)) (Truth false)) refl)
 
 -- words: the count of each place
-abbrev counts : List ℕ → List (Event ℕ) → Trace ℕ
+abbrev pub counts : List ℕ → List (Event ℕ) → Trace ℕ
 counts words events = machine kinds.Counts words registries.Nothing events
 
 -- a place counts that nobody has counted

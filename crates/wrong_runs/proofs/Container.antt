@@ -32,7 +32,7 @@ still = 0 ∷ empty ∷ empty ∷ 0 ∷ 0 ∷ 0 ∷ 0 ∷ 0 ∷ []
 abbrev pub container : List ℕ → List (Event ℕ) → Trace ℕ
 container words events = machine kinds.Container words (registries.Container [] []) events
 
-abbrev recover : ℕ → Start ℕ
+abbrev pub recover : ℕ → Start ℕ
 recover owner = Container (Recover owner Default)
 
 -- an index is filled for two owners
@@ -83,7 +83,7 @@ shows_uncopied k = let e = k.states 1 0 _ 5 refl refl refl in no_more e.before (
 
 -- ---- a well-formed run
 
-well_formed : (events : List (Event ℕ)) (words : List ℕ) → Each FreesRight events → Each ReplacesRight events
+pub well_formed : (events : List (Event ℕ)) (words : List ℕ) → Each FreesRight events → Each ReplacesRight events
     → IsWellFormedRun (container words events)
 well_formed events words frees replaced = record { frees = frees; replaced = replaced; replaces = λ p. tt }
 
@@ -107,7 +107,7 @@ granted_twice : IsContained (container still (Filled 0 0 7 ∷ Granted 0 0 7 ∷
 granted_twice k = let e = k.holders (Filled 0 0 7 ∷ Granted 0 0 7 ∷ []) [] (Granted 1 0 9) refl in cc
 
 -- an add ends, and has placed nothing
-abbrev unplaced : List (Event ℕ)
+abbrev pub unplaced : List (Event ℕ)
 unplaced = Begun 0 (Container (Add 5 7)) ∷ Finished 0 (Container (Add 5 7)) (Index 0) ∷ []
 
 places_nothing : IsContained (container still unplaced) → ⊥

@@ -15,7 +15,7 @@ use Rattle.model.specs.World.{Trace}
 use Rattle.wrong_runs.proofs.Machines.{machine}
 
 -- words: the head, the next index of each index, and the claim flags
-abbrev set : List ℕ → List (Event ℕ) → Trace ℕ
+abbrev pub set : List ℕ → List (Event ℕ) → Trace ℕ
 set words events = machine kinds.Indices words (registries.Indices []) events
 
 -- an index is claimed by two

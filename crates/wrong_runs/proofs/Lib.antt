@@ -1,5 +1,11 @@
 pub mod Bits
 pub mod Container
+pub mod HeadlineChannel
+pub mod HeadlineContainer
+pub mod HeadlineQueues
+pub mod HeadlineRobust
+pub mod HeadlineSets
+pub mod HeadlineTurns
 pub mod Indices
 pub mod Loan
 pub mod Machines

@@ -17,20 +17,20 @@ use Rattle.model.specs.World.{Trace}
 use Rattle.wrong_runs.proofs.Machines.{machine}
 
 -- a channel of two slots with a submission queue of two, in which nothing was sent yet
-abbrev fresh : Book
+abbrev pub fresh : Book
 fresh = record { queue = 2; places = []; holders = []; receiver = 1; dead = [] }
 
 -- words: the head, two next indices and the flags; then of each queue its positions, its roles and its cells
-abbrev still : List ℕ
+abbrev pub still : List ℕ
 still = 0 ∷ 1 ∷ 2 ∷ 0 ∷ 0 ∷ 0 ∷ 1 ∷ 1 ∷ 0 ∷ 0 ∷ 0 ∷ 0 ∷ 0 ∷ 1 ∷ 1 ∷ 0 ∷ 0 ∷ []
 
-abbrev channel : List ℕ → List (Event ℕ) → Trace ℕ
+abbrev pub channel : List ℕ → List (Event ℕ) → Trace ℕ
 channel words events = machine kinds.Loan words (registries.Loan fresh) events
 
-abbrev loan : Start ℕ
+abbrev pub loan : Start ℕ
 loan = starts.Loan Loan
 
-abbrev receive : Start ℕ
+abbrev pub receive : Start ℕ
 receive = starts.Loan Receive
 
 -- an index is claimed that somebody has

@@ -15,14 +15,14 @@ use Rattle.model.specs.World.{Trace}
 use Rattle.wrong_runs.proofs.Machines.{machine, at_no_moment}
 
 -- words: the write position, the read position, the two roles, which are free, and two cells
-abbrev queue : List ℕ → List (Event ℕ) → Trace ℕ
+abbrev pub queue : List ℕ → List (Event ℕ) → Trace ℕ
 queue words events =
     machine kinds.IndexQueue words (registries.Queues (record { producer = None; consumer = None })) events
 
-abbrev push : ℕ → Start ℕ
+abbrev pub push : ℕ → Start ℕ
 push index = starts.Queues (PushIndex index)
 
-abbrev pop : Start ℕ
+abbrev pub pop : Start ℕ
 pop = starts.Queues Pop
 
 -- a value is published, and no push has acted
@@ -62,7 +62,10 @@ no_length k =
     (k.lengths (Begun 0 (starts.Queues Len) ∷ []) [] (Finished 0 (starts.Queues Len) (Number 1)) refl)
 
 -- a role is refused that nobody holds
-refused_role : IsQueue queues.IndexQueue (queue (0 ∷ 0 ∷ 1 ∷ 1 ∷ 0 ∷ 0 ∷ []) (Finished 0 (starts.Queues AcquireProducer) (Truth false) ∷ [])) → ⊥
+abbrev pub refused : List (Event ℕ)
+refused = Finished 0 (starts.Queues AcquireProducer) (Truth false) ∷ []
+
+pub refused_role : IsQueue queues.IndexQueue (queue (0 ∷ 0 ∷ 1 ∷ 1 ∷ 0 ∷ 0 ∷ []) refused) → ⊥
 refused_role k = let e = k.roles [] [] (Finished 0 (starts.Queues AcquireProducer) (Truth false)) refl in cc
 
 -- the machine lets a party push that was not granted the role

@@ -18,7 +18,7 @@ abbrev empty : ℕ
 empty = 2 ^ 64 - 1
 
 -- words: the counter, and a cell for each index
-abbrev set : List ℕ → List (Event ℕ) → Trace ℕ
+abbrev pub set : List ℕ → List (Event ℕ) → Trace ℕ
 set words events = machine kinds.Robust words (registries.Owners []) events
 
 -- an index is filled for two owners
@@ -30,7 +30,7 @@ told_of_the_living : IsRobustSet (set (0 ∷ 7 ∷ empty ∷ []) (Filled 0 0 7 �
 told_of_the_living k = let e = k.asks (Filled 0 0 7 ∷ []) [] (Told 1 0 7) refl in cc
 
 -- an index is granted to two owners
-well_formed : IsWellFormed two_grants
+pub well_formed : IsWellFormed two_grants
 well_formed = Each-append FreesRight [] two_grants (Each-nil FreesRight) (tt, (tt, (tt, tt)))
 
 pub granted_twice : IsRobustSet wrong.granted_twice → ⊥

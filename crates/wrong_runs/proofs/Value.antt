@@ -12,7 +12,7 @@ use Rattle.model.specs.World.{Trace}
 use Rattle.wrong_runs.proofs.Machines.{machine}
 
 -- words: the version, the role, which is free, and two cells of one word
-abbrev value : List ℕ → List (Event ℕ) → Trace ℕ
+abbrev pub value : List ℕ → List (Event ℕ) → Trace ℕ
 value words events = machine kinds.Atomic words (registries.Atomic None) events
 
 -- a load answers what nobody has stored

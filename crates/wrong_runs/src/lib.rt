@@ -1,4 +1,5 @@
-//! Wrong runs, of which each field of a promise refuses one, so that none of the fields can go out of its record unnoticed.
+//! Wrong runs, of which each field of a promise, and of the records of `headline`, refuses one, so that none of the fields can
+//! go out of its record unnoticed.
 #![tactic(auto)]
 
 ghost use Rattle.model.specs.Families.Indices.Robust.Promises.{IsRobustSet};

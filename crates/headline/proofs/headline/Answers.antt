@@ -14,7 +14,7 @@ use Rattle.laws_turns.proofs.Waiting as waiting
 use Rattle.laws_turns.specs.Questions.{waits_at}
 use Rattle.headline.specs.Headline.{Holds}
 use Rattle.machine.proofs.Laws.{laws_of}
-use Rattle.machine.proofs.LockFree.{one_ends, robust_one_ends}
+use Rattle.machine.proofs.LockFree.{one_ends, robust_one_ends, container_one_ends, channel_one_ends}
 use Rattle.headline.proofs.Picking.{picked}
 use Rattle.headline.proofs.Reached.{holds}
 use Rattle.headline.proofs.Reaching.{reaches}
@@ -55,3 +55,9 @@ returns-clause-lock_free g c kind = one_ends _ kind
 
 pub returns-clause-lock_free_by_default : goal.returns-clause-lock_free_by_default
 returns-clause-lock_free_by_default g c = robust_one_ends _
+
+pub returns-clause-lock_free_container : goal.returns-clause-lock_free_container
+returns-clause-lock_free_container g c = container_one_ends _
+
+pub returns-clause-lock_free_channel : goal.returns-clause-lock_free_channel
+returns-clause-lock_free_channel g c = channel_one_ends _

@@ -1,5 +1,6 @@
 use Rattle.laws_loan.proofs.WorkedLockFree as worked_loan
 use Rattle.model.proofs.WorkedLockFree as worked
+use Rattle.machine.proofs.Rounds as rounds
 use Rattle.machine.proofs.theorems.not_lock_free_below.Goals as goal
 
 pub returns-clause-index_queue : goal.returns-clause-index_queue
@@ -21,7 +22,7 @@ pub returns-clause-counts : goal.returns-clause-counts
 returns-clause-counts c bound few free = worked.counts bound few free
 
 pub returns-clause-robust : goal.returns-clause-robust
-returns-clause-robust c bound few free = worked.robust bound few free
+returns-clause-robust c bound few free = rounds.robust bound few free
 
 pub returns-clause-loan : goal.returns-clause-loan
 returns-clause-loan c bound few free = worked_loan.channel bound few free

@@ -1,0 +1,189 @@
+-- For each field of what `headline` says of the container a run that this field refuses here.
+use Rattle.std.proofs.Common.{⊎_elim, inl, inr, ℕ, ◌==◌, true, false, List, [], ◌∷◌, ◌++◌, refl, arith}
+use Rattle.steps.specs.declared.indices.enums.ReleaseMode.{ReleaseMode}
+use Rattle.steps.specs.declared.indices.enums.ReleaseMode.TheVariants.{Default, LockIfLastIndex}
+use Rattle.steps.specs.declared.indices.enums.ReleaseState.TheVariants.{Unlocked}
+use Rattle.model.specs.declared.event.Answer.TheVariants.{Done, Index, State, Truth}
+use Rattle.model.specs.declared.event.Event.{Event}
+use Rattle.model.specs.declared.event.Event.TheVariants.{Begun, Filled, Granted, FreedOf, Copied, Shown, Finished}
+use Rattle.model.specs.declared.event.Start.{Start}
+use Rattle.model.specs.declared.event.Start.TheVariants.{Container, Robust}
+use Rattle.model.specs.declared.families.container.ContainerStart.TheVariants.{Add, Replace, Find, Recover, GetState, UpdateState}
+use Rattle.model.specs.declared.families.indices.robust.RobustStart.TheVariants as robust
+use Rattle.model.specs.declared.turn.Kind.TheVariants as kinds
+use Rattle.model.specs.declared.turn.Turn.{Turn}
+use Rattle.model.specs.Coding.{one_word}
+use Rattle.model.specs.Families.Container.Promises.{IsWellFormedRun, ReplacesRight}
+use Rattle.model.specs.Families.Container.Reading.{Copies, Sees, MayReplace}
+use Rattle.model.specs.Families.Indices.Robust.Promises.{FreesRight, IsFilled}
+use Rattle.model.specs.Families.Indices.Robust.Reading.{Asks, Frees, set_acts_of, IsOneOf}
+use Rattle.model.proofs.Readings.{Each-append, Each-nil, no_more}
+use Rattle.model.proofs.Runs.{begins, ran}
+use Rattle.headline.specs.Headline.{ContainerRuns, FilledOrFreed}
+use Rattle.wrong_runs.specs.Wrong.{two_grants}
+use Rattle.wrong_runs.proofs.Container.{container, still, well_formed, forgotten, no_copy, copied, copied_well_formed, unplaced}
+use Rattle.wrong_runs.proofs.HeadlineRobust.{over, held_since, none_stays}
+use Rattle.wrong_runs.proofs.HeadlineSets.{two}
+use Rattle.wrong_runs.proofs.Machines.{at_no_moment}
+
+abbrev runs : List (Event ℕ) → Type 0
+runs events = ContainerRuns (container still events)
+
+abbrev add : Start ℕ
+add = Container (Add 5 7)
+
+abbrev replace : Start ℕ
+replace = Container (Replace 0 5 7)
+
+abbrev recover : ReleaseMode → Start ℕ
+recover mode = Container (Recover 7 mode)
+
+-- ---- indices
+
+-- an index is filled for two owners
+filled_twice : runs (Filled 0 0 7 ∷ Filled 1 0 9 ∷ []) → ⊥
+filled_twice k = two (9 ∷ 7 ∷ []) (k.no_two_fill (Filled 0 0 7 ∷ Filled 1 0 9 ∷ []) [] refl 0) refl
+
+-- an index is granted to two owners
+grants_well_formed : IsWellFormedRun (container still two_grants)
+grants_well_formed =
+    well_formed two_grants still (Each-append FreesRight [] two_grants (Each-nil FreesRight) (tt, (tt, (tt, tt))))
+    (Each-append ReplacesRight [] two_grants (Each-nil ReplacesRight) (tt, (tt, (tt, tt))))
+
+granted_twice : runs two_grants → ⊥
+granted_twice k = two (9 ∷ 7 ∷ []) (k.no_two_hold grants_well_formed two_grants [] refl 0) refl
+
+-- it is locked while an owner holds an index
+over_well_formed : IsWellFormedRun (container still over)
+over_well_formed =
+    well_formed over still (Each-append FreesRight [] over (Each-nil FreesRight) (tt, (tt, tt)))
+    (Each-append ReplacesRight [] over (Each-nil ReplacesRight) (tt, (tt, tt)))
+
+locked_over : runs over → ⊥
+locked_over k = let none = k.none_once_locked over_well_formed over [] refl refl 0 in cc
+
+-- an add is answered an index that it was not granted, or one that the container does not have
+answered_ungranted : runs unplaced → ⊥
+answered_ungranted k = let e = (k.acquired 0 0 7 5 (Begun 0 add ∷ []) ([], refl)).0 in cc
+
+abbrev past : List (Event ℕ)
+past = Begun 0 add ∷ Filled 0 5 7 ∷ Granted 0 5 7 ∷ []
+
+answered_past : runs (past ++ Finished 0 add (Index 5) ∷ []) → ⊥
+answered_past k = let e = (k.acquired 0 5 7 5 past ([], refl)).1 in absurd (omega arith)
+
+-- an index is freed of an owner who has not filled it, or by an add
+freed_unfilled : runs (FreedOf 0 0 7 ∷ []) → ⊥
+freed_unfilled k = let e = (k.freed 0 0 7 [] ([], refl)).0 in cc
+
+freed_by_add : runs (Begun 0 add ∷ Filled 0 0 7 ∷ FreedOf 0 0 7 ∷ []) → ⊥
+freed_by_add k = (k.freed 0 0 7 (Begun 0 add ∷ Filled 0 0 7 ∷ []) ([], refl)).1
+
+-- ---- elements, in a well-formed run
+
+-- a value is copied that does not stand there
+copies_nothing : runs copied → ⊥
+copies_nothing k = let e = k.copied copied_well_formed 0 0 5 [] ([], refl) in cc
+
+-- an add ends, and has placed nothing
+unplaced_well_formed : IsWellFormedRun (container still unplaced)
+unplaced_well_formed =
+    well_formed unplaced still (Each-append FreesRight [] unplaced (Each-nil FreesRight) (tt, (tt, tt)))
+    (Each-append ReplacesRight [] unplaced (Each-nil ReplacesRight) (tt, (tt, tt)))
+
+adds_nothing : runs unplaced → ⊥
+adds_nothing k = let e = k.added unplaced_well_formed 0 0 7 5 (Begun 0 add ∷ []) ([], refl) in cc
+
+-- a replace ends, and has placed nothing
+abbrev replacing : List (Event ℕ)
+replacing = Finished 0 (Container (Add 4 7)) (Index 0) ∷ Begun 0 replace ∷ []
+
+abbrev unreplaced : List (Event ℕ)
+unreplaced = replacing ++ Finished 0 replace Done ∷ []
+
+may_replace : MayReplace 0 0 7 replacing
+may_replace =
+    record {
+      before = Finished 0 (Container (Add 4 7)) (Index 0) ∷ [];
+      start = replace;
+      since = [];
+      is = refl;
+      within = tt;
+      holds = (refl, tt);
+    }
+
+unreplaced_well_formed : IsWellFormedRun (container still unreplaced)
+unreplaced_well_formed =
+    well_formed unreplaced still (Each-append FreesRight [] unreplaced (Each-nil FreesRight) (tt, (tt, (tt, tt))))
+    (Each-append ReplacesRight [] unreplaced (Each-nil ReplacesRight) (tt, (tt, (may_replace, tt))))
+
+replaces_nothing : runs unreplaced → ⊥
+replaces_nothing k = let e = k.replaced unreplaced_well_formed 0 0 7 5 replacing ([], refl) in cc
+
+-- ---- what is copied
+
+-- a find asks about a value that it has not copied
+asks_uncopied : ContainerRuns (forgotten (begins 1 (Container (Find 1)) 4)) → ⊥
+asks_uncopied k = let e = k.asked 1 0 5 refl in no_copy e.before (Copies 0 5) e.is
+
+-- a state shows a value that was not copied
+shows_uncopied : ContainerRuns (forgotten (begins 1 (Container GetState) 4)) → ⊥
+shows_uncopied k = let e = k.shown 1 0 _ 5 refl refl refl in no_more e.before (Copied 1 0 5) e.after e.is
+
+-- ---- recovery
+
+-- a recovery that answers Unlocked leaves an index that it was shown empty
+abbrev shown : List (Event ℕ)
+shown = Filled 0 0 7 ∷ Begun 1 (recover Default) ∷ Shown 1 0 ∷ []
+
+leaves_shown : runs (shown ++ Finished 1 (recover Default) (State Unlocked) ∷ []) → ⊥
+leaves_shown k = k.recovered 1 0 7 Default shown ([], refl) (inr (record { before = []; after = []; is = refl })) refl
+
+-- it has neither asked about its owner's index, nor was it shown it
+abbrev unasked : List (Event ℕ)
+unasked = Filled 0 0 7 ∷ Begun 1 (recover Default) ∷ []
+
+asks_nothing : runs (unasked ++ Finished 1 (recover Default) (State Unlocked) ∷ []) → ⊥
+asks_nothing k =
+    ⊎_elim (λ one. no_more one.before (Asks 0 7) one.after one.is) (λ one. no_more one.before (Sees 0) one.after one.is)
+    (k.asked_each 1 0 7 Default unasked ([], refl) (held_since (FilledOrFreed 1 0 7) 7 (recover Default) (inl refl)))
+
+-- one that might lock ends unlocked, and after it has freed an index none is filled
+abbrev emptied : List (Event ℕ)
+emptied = Filled 0 0 7 ∷ Begun 1 (recover LockIfLastIndex) ∷ FreedOf 1 0 7 ∷ []
+
+unlocked_empty : runs (emptied ++ Finished 1 (recover LockIfLastIndex) (State Unlocked) ∷ []) → ⊥
+unlocked_empty k =
+    let late = k.locks 1 0 7 emptied ([], refl) (record { before = []; after = []; is = refl }) in
+    at_no_moment 1 (λ part. IsOneOf (Frees 0 7) (set_acts_of 1 part) × IsFilled late.0 part) emptied (
+      (λ h. no_more h.0.before (Frees 0 7) h.0.after h.0.is),
+      (
+        (λ h. no_more h.0.before (Frees 0 7) h.0.after h.0.is),
+        ((λ h. no_more h.0.before (Frees 0 7) h.0.after h.0.is), (λ h. none_stays (0 == late.0) h.1)),
+      ),
+    )
+    late.1
+
+-- ---- questions and changes
+
+-- a call waits for a decision, and asks about no value
+abbrev waiting : List (Turn ℕ)
+waiting = begins 0 (Robust (robust.Acquire 1)) 8 ++ begins 1 (Robust (robust.Find 1)) 1
+
+waits_for_nothing : ContainerRuns (ran one_word kinds.Robust 1 2 waiting) → ⊥
+waits_for_nothing k = let e = k.waits 1 in cc
+
+-- the number of changes has gone on, and nothing has changed
+changed_by_nobody : ContainerRuns (container (0 ∷ 7 ∷ 7 ∷ 1 ∷ 0 ∷ 0 ∷ 0 ∷ 0 ∷ []) []) → ⊥
+changed_by_nobody k = let e = k.changes in cc
+
+-- an update says that something has changed, and nothing has
+update_of_nothing : runs (Finished 0 (Container UpdateState) (Truth true) ∷ []) → ⊥
+update_of_nothing k = let e = k.met 0 [] ([], refl) in absurd (omega arith)
+
+-- an update says that nothing has changed, and an add has ended
+abbrev added : List (Event ℕ)
+added = Finished 1 add (Index 0) ∷ []
+
+misses_an_add : runs (added ++ Finished 0 (Container UpdateState) (Truth false) ∷ []) → ⊥
+misses_an_add k = let e = k.met_none 0 added ([], refl) in cc

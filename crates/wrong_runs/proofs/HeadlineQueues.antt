@@ -1,0 +1,87 @@
+-- For each field of what `headline` says of queues and of the single value a run that this field refuses here.
+use Rattle.std.proofs.Common.{◌≡◌, ⊎_elim, ℕ, true, false, List, [], ◌∷◌, ◌++◌, refl, sym, subst}
+use Rattle.std.specs.List.{flat_map}
+use Rattle.model.specs.declared.event.Answer.TheVariants.{Truth, PoppedNone, Loaded}
+use Rattle.model.specs.declared.event.Event.{Event}
+use Rattle.model.specs.declared.event.Event.TheVariants.{Begun, Published, Acted, Finished}
+use Rattle.model.specs.declared.event.Item.TheVariants.{Index}
+use Rattle.model.specs.declared.event.Start.TheVariants.{Atomic}
+use Rattle.model.specs.declared.families.atomic.AtomicStart.TheVariants.{Load}
+use Rattle.model.specs.declared.families.queues.QueueKind.TheVariants as queues
+use Rattle.model.specs.Linearized.{as_list}
+use Rattle.model.specs.Moments.{BeginsNone}
+use Rattle.model.proofs.Readings.{no_more}
+use Rattle.model.proofs.WorkedLinearizable.{no_lost_value}
+use Rattle.headline.specs.Headline.{QueueRuns, ValueRuns}
+use Rattle.headline.specs.Moments.{act_of, ActedOnce, ActAs}
+use Rattle.wrong_runs.proofs.Queues.{queue, push, pop}
+use Rattle.wrong_runs.proofs.Value.{value}
+
+-- ---- the calls of one list
+
+abbrev IsList : List (Event ℕ) → Type 0
+IsList events = ActAs (as_list queues.IndexQueue 2) events
+
+abbrev unacted : List (Event ℕ)
+unacted = Begun 0 (push 7) ∷ Finished 0 (push 7) (Truth true) ∷ []
+
+acts_nowhere : (before since : List (Event ℕ)) → Begun 0 (push 7) ∷ [] ≡ before ++ Begun 0 (push 7) ∷ since
+    → flat_map (act_of 0) since ≡ (push 7, Truth true) ∷ [] → ⊥
+acts_nowhere [] since is once =
+    let none : since ≡ [] = cc in
+    let e = subst (λ (xs : List (Event ℕ)). flat_map (act_of 0) xs ≡ (push 7, Truth true) ∷ []) none once in cc
+acts_nowhere (e ∷ before) since is once = let more : [] ≡ before ++ Begun 0 (push 7) ∷ since = cc in no_more before (Begun 0 (push 7)) since more
+
+-- a push ends, and has not acted
+ends_unacted : IsList unacted → ⊥
+ends_unacted k =
+    let act = k.inside 0 (push 7) (Truth true) (Begun 0 (push 7) ∷ []) refl ([], refl) in acts_nowhere act.before act.since act.is act.once
+
+-- a push acts after its party has begun another one
+abbrev begun_again : List (Event ℕ)
+begun_again = Begun 0 (push 7) ∷ Begun 0 (push 8) ∷ Acted 0 (push 7) (Truth true) ∷ []
+
+begins_again : (before since : List (Event ℕ)) → begun_again ≡ before ++ Begun 0 (push 7) ∷ since → BeginsNone 0 since → ⊥
+begins_again [] since is none =
+    let rest : Begun 0 (push 8) ∷ Acted 0 (push 7) (Truth true) ∷ [] ≡ since = cc in (subst (BeginsNone 0) (sym rest) none).0 refl
+begins_again (a ∷ []) since is none = absurd (cc)
+begins_again (a ∷ b ∷ []) since is none = absurd (cc)
+begins_again (a ∷ b ∷ c ∷ before) since is none =
+    let more : [] ≡ before ++ Begun 0 (push 7) ∷ since = cc in no_more before (Begun 0 (push 7)) since more
+
+acts_late : ActedOnce 0 (push 7) (Truth true) begun_again → ⊥
+acts_late act = begins_again act.before act.since act.is act.within
+
+-- a push acts twice, and then stops
+abbrev twice : List (Event ℕ)
+twice = Acted 0 (push 7) (Truth true) ∷ Acted 0 (push 7) (Truth true) ∷ []
+
+acts_twice : IsList (Begun 0 (push 7) ∷ twice) → ⊥
+acts_twice k = ⊎_elim (λ none. cc) (λ one. let e = one.1 in cc) (k.once 0 (push 7) [] twice [] refl tt)
+
+-- a push says that an empty list is full
+pub full_at_once : IsList (Acted 0 (push 7) (Truth false) ∷ []) → ⊥
+full_at_once k = let e = k.answers in cc
+
+-- a pop that begins after the end of a push does not find its value
+abbrev too_late : List (Event ℕ)
+too_late = Begun 0 (push 5) ∷ Finished 0 (push 5) (Truth true) ∷ Begun 1 pop ∷ Finished 1 pop PoppedNone ∷ []
+
+lost : ActAs (as_list queues.IndexQueue 1) too_late → ⊥
+lost k = no_lost_value k.linearizable
+
+-- ---- a queue
+
+-- a push says that an empty queue is full
+queue_full_at_once : QueueRuns queues.IndexQueue (queue (0 ∷ 0 ∷ 1 ∷ 1 ∷ 0 ∷ 0 ∷ []) (Acted 0 (push 7) (Truth false) ∷ [])) → ⊥
+queue_full_at_once k = full_at_once k.list
+
+-- another value stands in the cell than was published
+other_cell : QueueRuns queues.IndexQueue (queue (1 ∷ 0 ∷ 1 ∷ 1 ∷ 8 ∷ 0 ∷ []) (Published 0 (Index 7) ∷ [])) → ⊥
+other_cell k = let e = k.conserved in cc
+
+-- ---- the single value
+
+-- a load answers what nobody has stored
+invents : ValueRuns (value (1 ∷ 1 ∷ 0 ∷ 0 ∷ []) (Acted 0 (Atomic Load) (Loaded 5) ∷ [])) → ⊥
+invents k = let e = k.value.answers in cc

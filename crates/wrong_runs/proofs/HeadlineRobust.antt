@@ -1,0 +1,111 @@
+-- For each field of what `headline` says of the robust index set a run that this field refuses here.
+use Rattle.std.proofs.Common.{◌≡◌, ℕ, ◌==◌, Bool, true, false, Some, None, is_some, List, [], ◌∷◌, ◌++◌, if◌then◌else◌, refl, sym, subst, inl, arith}
+use Rattle.steps.specs.declared.indices.enums.ReleaseMode.{ReleaseMode}
+use Rattle.steps.specs.declared.indices.enums.ReleaseMode.TheVariants.{Default, LockIfLastIndex}
+use Rattle.steps.specs.declared.indices.enums.ReleaseState.TheVariants.{Unlocked}
+use Rattle.model.specs.declared.event.Answer.TheVariants.{Index, State}
+use Rattle.model.specs.declared.event.Event.{Event}
+use Rattle.model.specs.declared.event.Event.TheVariants.{Begun, Filled, Granted, FreedOf, Asked, Told, Locked, Finished}
+use Rattle.model.specs.declared.event.Start.{Start}
+use Rattle.model.specs.declared.event.Start.TheVariants as starts
+use Rattle.model.specs.declared.families.indices.robust.RobustStart.TheVariants.{Acquire, Recover}
+use Rattle.model.specs.Families.Indices.Robust.Promises.{FreesRight, IsFilled, HeldThroughout}
+use Rattle.model.specs.Families.Indices.Robust.Reading.{Asks, Frees, set_acts_of, IsOneOf}
+use Rattle.model.specs.Moments.{BeginsNone}
+use Rattle.model.proofs.Readings.{Each-append, Each-nil, no_more}
+use Rattle.headline.specs.Headline.{RobustRuns, FilledOrFreed}
+use Rattle.wrong_runs.specs.Wrong.{two_grants}
+use Rattle.wrong_runs.proofs.HeadlineSets.{two}
+use Rattle.wrong_runs.proofs.Machines.{at_no_moment}
+use Rattle.wrong_runs.proofs.Robust.{set, well_formed}
+
+abbrev robust : List (Event ℕ) → Type 0
+robust events = RobustRuns (set (0 ∷ 7 ∷ 7 ∷ []) events)
+
+abbrev acquire : Start ℕ
+acquire = starts.Robust (Acquire 7)
+
+abbrev recover : ReleaseMode → Start ℕ
+recover mode = starts.Robust (Recover mode)
+
+-- an index is filled for two owners
+filled_twice : robust (Filled 0 0 7 ∷ Filled 1 0 9 ∷ []) → ⊥
+filled_twice k = two (9 ∷ 7 ∷ []) (k.no_two_fill (Filled 0 0 7 ∷ Filled 1 0 9 ∷ []) [] refl 0) refl
+
+-- an index is granted to two owners
+granted_twice : robust two_grants → ⊥
+granted_twice k = two (9 ∷ 7 ∷ []) (k.no_two_hold well_formed two_grants [] refl 0) refl
+
+-- it is locked while an owner holds an index
+abbrev pub over : List (Event ℕ)
+over = Granted 0 0 7 ∷ Locked 1 ∷ []
+
+locked_over : robust over → ⊥
+locked_over k = let none = k.none_once_locked (Each-append FreesRight [] over (Each-nil FreesRight) (tt, (tt, tt))) over [] refl refl 0 in cc
+
+-- an acquire is answered an index that it was not granted, or one that the set does not have
+answered_ungranted : robust (Begun 0 acquire ∷ Finished 0 acquire (Index 0) ∷ []) → ⊥
+answered_ungranted k = let e = (k.acquired 0 0 7 (Begun 0 acquire ∷ []) ([], refl)).0 in cc
+
+abbrev past : List (Event ℕ)
+past = Begun 0 acquire ∷ Filled 0 5 7 ∷ Granted 0 5 7 ∷ []
+
+answered_past : robust (past ++ Finished 0 acquire (Index 5) ∷ []) → ⊥
+answered_past k = let e = (k.acquired 0 5 7 past ([], refl)).1 in absurd (omega arith)
+
+-- an index is freed of an owner who has not filled it, or by an acquire
+freed_unfilled : robust (FreedOf 0 0 7 ∷ []) → ⊥
+freed_unfilled k = let e = (k.freed 0 0 7 [] ([], refl)).0 in cc
+
+freed_by_acquire : robust (Begun 0 acquire ∷ Filled 0 0 7 ∷ FreedOf 0 0 7 ∷ []) → ⊥
+freed_by_acquire k = (k.freed 0 0 7 (Begun 0 acquire ∷ Filled 0 0 7 ∷ []) ([], refl)).1
+
+-- a recovery that answers Unlocked leaves an index that it was told to free
+abbrev told : List (Event ℕ)
+told = Filled 0 0 7 ∷ Begun 1 (recover Default) ∷ Asked 1 0 7 ∷ Told 1 0 7 ∷ []
+
+leaves_told : robust (told ++ Finished 1 (recover Default) (State Unlocked) ∷ []) → ⊥
+leaves_told k = k.recovered 1 0 7 Default told ([], refl) (record { before = Asks 0 7 ∷ []; after = []; is = refl }) refl
+
+-- ---- a recovery that has asked about nothing
+
+-- where a call has just begun after one event, what holds now holds throughout the call
+pub held_since : (P : List (Event ℕ) → Type 0) (owner : ℕ) (start : Start ℕ) → P (Filled 0 0 owner ∷ Begun 1 start ∷ [])
+    → HeldThroughout 1 P (Filled 0 0 owner ∷ Begun 1 start ∷ [])
+held_since P owner start h [] rest is none = absurd ((subst (BeginsNone 1) (sym is) none).0 refl)
+held_since P owner start h (a ∷ []) rest is none =
+    let begins : rest ≡ Begun 1 start ∷ [] = cc in absurd ((subst (BeginsNone 1) begins none).0 refl)
+held_since P owner start h (a ∷ b ∷ []) rest is none =
+    let first : Filled 0 0 owner ≡ a = cc in
+    let next : Begun 1 start ≡ b = cc in
+    subst (λ (x : Event ℕ). P (a ∷ x ∷ [])) next (subst (λ (x : Event ℕ). P (x ∷ Begun 1 start ∷ [])) first h)
+held_since P owner start h (a ∷ b ∷ c ∷ part) rest is none = absurd (cc)
+
+abbrev unasked : List (Event ℕ)
+unasked = Filled 0 0 7 ∷ Begun 1 (recover Default) ∷ []
+
+asks_nothing : robust (unasked ++ Finished 1 (recover Default) (State Unlocked) ∷ []) → ⊥
+asks_nothing k =
+    let one = k.asked_each 1 0 7 Default unasked ([], refl) (held_since (FilledOrFreed 1 0 7) 7 (recover Default) (inl refl)) in
+    no_more one.before (Asks 0 7) one.after one.is
+
+-- ---- a recovery that might lock ends unlocked, and after it has freed an index none is filled
+
+pub none_stays : (b : Bool) → is_some {T = ℕ} (if b then None else (if b then Some 7 else None)) ≡ true → ⊥
+none_stays true e = cc
+none_stays false e = cc
+
+abbrev emptied : List (Event ℕ)
+emptied = Filled 0 0 7 ∷ Begun 1 (recover LockIfLastIndex) ∷ FreedOf 1 0 7 ∷ []
+
+unlocked_empty : robust (emptied ++ Finished 1 (recover LockIfLastIndex) (State Unlocked) ∷ []) → ⊥
+unlocked_empty k =
+    let late = k.locks 1 0 7 emptied ([], refl) (record { before = []; after = []; is = refl }) in
+    at_no_moment 1 (λ part. IsOneOf (Frees 0 7) (set_acts_of 1 part) × IsFilled late.0 part) emptied (
+      (λ h. no_more h.0.before (Frees 0 7) h.0.after h.0.is),
+      (
+        (λ h. no_more h.0.before (Frees 0 7) h.0.after h.0.is),
+        ((λ h. no_more h.0.before (Frees 0 7) h.0.after h.0.is), (λ h. none_stays (0 == late.0) h.1)),
+      ),
+    )
+    late.1

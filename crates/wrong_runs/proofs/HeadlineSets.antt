@@ -1,0 +1,69 @@
+-- For each field of what `headline` says of bit sets, counting bit sets and the unique index set a run that this field
+-- refuses here.
+use Rattle.std.proofs.Common.{◌≡◌, ◌≤◌, ℕ, true, List, [], ◌∷◌, length, refl, ap, arith}
+use Rattle.model.specs.declared.event.Answer.TheVariants.{Index, Truth, Number, Reset}
+use Rattle.model.specs.declared.event.Event.{Event}
+use Rattle.model.specs.declared.event.Event.TheVariants.{Begun, Claimed, Freed, Locked, Finished}
+use Rattle.model.specs.declared.event.Start.{Start}
+use Rattle.model.specs.declared.event.Start.TheVariants.{Bits, Indices}
+use Rattle.model.specs.declared.families.bits.BitsStart.TheVariants.{Set, ResetNext}
+use Rattle.model.specs.declared.families.indices.IndexStart.TheVariants.{Acquire}
+use Rattle.model.specs.Families.Indices.Spans.{SetActs}
+use Rattle.headline.specs.Headline.{BitsRun, CountsRun, IndicesRun}
+use Rattle.wrong_runs.proofs.Bits.{bits, counts}
+use Rattle.wrong_runs.proofs.Indices.{set}
+
+-- ---- bits and counts
+
+-- a bit stands that nobody has set
+stands_unset : BitsRun (bits (0 ∷ 1 ∷ []) []) → ⊥
+stands_unset k = let e = k.conserved 0 in cc
+
+-- a set answers true, and has set nothing
+sets_nothing : BitsRun (bits (0 ∷ 0 ∷ []) (Begun 0 (Bits (Set 1)) ∷ Finished 0 (Bits (Set 1)) (Truth true) ∷ [])) → ⊥
+sets_nothing k = let e = k.set 0 1 (Begun 0 (Bits (Set 1)) ∷ []) ([], refl) in cc
+
+-- a reset answers a bit, and has cleared nothing
+clears_nothing : BitsRun (bits (0 ∷ 0 ∷ []) (Begun 0 (Bits ResetNext) ∷ Finished 0 (Bits ResetNext) (Reset 1) ∷ [])) → ⊥
+clears_nothing k = let e = k.reset 0 1 (Begun 0 (Bits ResetNext) ∷ []) ([], refl) in cc
+
+-- a place counts that nobody has counted
+counts_uncounted : CountsRun (counts (1 ∷ 0 ∷ []) []) → ⊥
+counts_uncounted k = let e = k.conserved 0 in cc
+
+-- a set answers a count, and has counted nothing
+counts_nothing : CountsRun (counts (0 ∷ 0 ∷ []) (Begun 0 (Bits (Set 1)) ∷ Finished 0 (Bits (Set 1)) (Number 0) ∷ [])) → ⊥
+counts_nothing k = let e = k.counted 0 1 0 (Begun 0 (Bits (Set 1)) ∷ []) ([], refl) in cc
+
+-- ---- unique indices
+
+abbrev indices : List (Event ℕ) → Type 0
+indices events = IndicesRun (set (0 ∷ 1 ∷ 2 ∷ 0 ∷ []) events)
+
+abbrev acquire : Start ℕ
+acquire = Indices Acquire
+
+pub two : (holders : List ℕ) → length holders ≤ 1 → length holders ≡ 2 → ⊥
+two holders few are = absurd (omega arith)
+
+-- an index is claimed by two
+claimed_twice : indices (Claimed 0 0 ∷ Claimed 1 0 ∷ []) → ⊥
+claimed_twice k = two (1 ∷ 0 ∷ []) (k.no_two_hold (Claimed 0 0 ∷ Claimed 1 0 ∷ []) [] refl 0) refl
+
+-- it is locked while somebody holds an index
+locked_over : indices (Claimed 0 0 ∷ Locked 1 ∷ []) → ⊥
+locked_over k = let none = k.none_once_locked (Claimed 0 0 ∷ Locked 1 ∷ []) [] refl refl 0 in cc
+
+-- an acquire is answered an index that it has not claimed, or one that the set does not have
+answered_unclaimed : indices (Begun 0 acquire ∷ Finished 0 acquire (Index 0) ∷ []) → ⊥
+answered_unclaimed k = let e = ap (λ (d : SetActs). d.claimed) (k.acquired 0 0 (Begun 0 acquire ∷ []) ([], refl)).0 in cc
+
+answered_past : indices (Begun 0 acquire ∷ Claimed 0 5 ∷ Finished 0 acquire (Index 5) ∷ []) → ⊥
+answered_past k = let e = (k.acquired 0 5 (Begun 0 acquire ∷ Claimed 0 5 ∷ []) ([], refl)).1 in absurd (omega arith)
+
+-- an index is freed that nobody holds, or by another call than a release of it
+freed_unheld : indices (Freed 0 0 ∷ []) → ⊥
+freed_unheld k = let e = (k.freed 0 0 [] ([], refl)).0 in cc
+
+freed_by_acquire : indices (Begun 0 acquire ∷ Claimed 0 0 ∷ Freed 0 0 ∷ []) → ⊥
+freed_by_acquire k = (k.freed 0 0 (Begun 0 acquire ∷ Claimed 0 0 ∷ []) ([], refl)).1

@@ -1,0 +1,105 @@
+-- For each field of what `headline` says of every kind, of the progress of calls and of one turn, what this field refuses.
+use Rattle.std.proofs.Common.{◌≡◌, inl, ℕ, true, false, List, [], ◌∷◌, ◌++◌, refl, arith}
+use Rattle.model.specs.declared.event.Event.{Event}
+use Rattle.model.specs.declared.event.Event.TheVariants.{Begun, Acted, Asked, Died}
+use Rattle.model.specs.declared.event.Answer.TheVariants.{Truth}
+use Rattle.model.specs.declared.event.Start.TheVariants.{Queues, Robust}
+use Rattle.model.specs.declared.families.Registry.TheVariants as registries
+use Rattle.model.specs.declared.families.indices.robust.RobustStart.TheVariants.{Acquire, Find}
+use Rattle.model.specs.declared.families.queues.QueueStart.TheVariants.{Len}
+use Rattle.model.specs.declared.party.Doing.TheVariants.{Over}
+use Rattle.model.specs.declared.turn.Kind.TheVariants as kinds
+use Rattle.model.specs.declared.turn.Turn.TheVariants.{Begin, Next, Decide}
+use Rattle.model.specs.Coding.{one_word}
+use Rattle.model.specs.World.{Trace}
+use Rattle.model.proofs.Runs.{begins, ran}
+use Rattle.headline.specs.Headline.{Progresses, Holds, Takes}
+use Rattle.wrong_runs.proofs.HeadlineQueues.{full_at_once}
+use Rattle.wrong_runs.proofs.Loan.{fresh, still, channel}
+use Rattle.wrong_runs.proofs.Machines.{machine}
+use Rattle.wrong_runs.proofs.Queues as queues
+use Rattle.wrong_runs.proofs.Queues.{queue, push}
+
+-- ---- the progress of calls
+
+-- an index queue in which party 0 has begun a push that has come so far
+abbrev went : ℕ → ℕ → Trace ℕ
+went steps backs =
+    record {
+      world =
+          record (queue (0 ∷ 0 ∷ 1 ∷ 1 ∷ 0 ∷ 0 ∷ []) []).world {
+            latest = (0, record { start = push 7; steps = steps; backs = backs; doing = Over 0 }) ∷ [];
+          };
+      events = Begun 0 (push 7) ∷ [];
+    }
+
+-- a call has turned back, and nobody has changed a word
+turns_back : Progresses (went 0 1) → ⊥
+turns_back k = let e = k.paid 0 _ refl in absurd (omega arith)
+
+-- a push has taken 9 steps
+steps_on : Progresses (went 9 0) → ⊥
+steps_on k = let e = k.bounded 0 (push 7) _ refl refl in absurd (omega arith)
+
+waits_on : Progresses (went 9 0) → ⊥
+waits_on k = let e = k.guaranteed 0 (push 7) _ refl refl in absurd (omega arith)
+
+-- ---- any kind
+
+-- a push says that an empty queue is full
+says_full : Holds 0 (queue (0 ∷ 0 ∷ 1 ∷ 1 ∷ 0 ∷ 0 ∷ []) (Acted 0 (push 7) (Truth false) ∷ [])) → ⊥
+says_full k = full_at_once k.runs.list
+
+not_progressing : Holds 0 (went 0 1) → ⊥
+not_progressing k = turns_back k.progress
+
+-- a role is refused that nobody holds
+not_kept : Holds 0 (queue (0 ∷ 0 ∷ 1 ∷ 1 ∷ 0 ∷ 0 ∷ []) queues.refused) → ⊥
+not_kept k = queues.refused_role k.kept.promised
+
+-- ---- one turn
+
+abbrev opened : Trace ℕ
+opened = ran one_word kinds.IndexQueue 2 2 []
+
+-- a party with no call changes a word
+writes_unasked : Takes opened (Next 0) (queue (1 ∷ 0 ∷ 1 ∷ 1 ∷ 0 ∷ 0 ∷ []) []) → ⊥
+writes_unasked k = let e = k.one_word in cc
+
+-- another party's call has begun
+other : ◌≡◌ {A = ℕ} 1 0 → ⊥
+other e = cc
+
+moves_another : Takes opened (Next 0) (ran one_word kinds.IndexQueue 2 2 (Begin 1 (Queues Len) ∷ [])) → ⊥
+moves_another k = let e = k.others_stay 1 other in cc
+
+-- an event is gone
+forgets : Takes (queue (0 ∷ 0 ∷ 1 ∷ 1 ∷ 0 ∷ 0 ∷ []) (Died 0 ∷ [])) (Next 0) opened → ⊥
+forgets k = let e = k.grows.1 in cc
+
+-- the submission queue has another capacity
+grows_longer : Takes (channel still []) (Next 0) (machine kinds.Loan still (registries.Loan (record fresh { queue = 3 })) []) → ⊥
+grows_longer k = let e = k.keeps_queue in cc
+
+-- a robust set of one index, which owner 1 has, and for which party 1 has begun a find that has taken so many steps
+abbrev finding : ℕ → Trace ℕ
+finding steps = ran one_word kinds.Robust 1 2 (begins 0 (Robust (Acquire 1)) 8 ++ begins 1 (Robust (Find 1)) steps)
+
+abbrev set : List (Event ℕ) → Trace ℕ
+set events = machine kinds.Robust (0 ∷ 7 ∷ []) (registries.Owners []) events
+
+-- it writes that a recovery asks which asks nothing
+asks_nothing : Takes (set []) (Next 0) (set (Asked 0 0 7 ∷ [])) → ⊥
+asks_nothing k = let e = k.asks refl 0 0 7 (Asked 0 0 7 ∷ []) refl (record { before = []; after = []; is = refl }) in cc
+
+-- a find comes to an index of its owner, and asks nothing
+finds_nothing : Takes (finding 0) (Next 1) (set []) → ⊥
+finds_nothing k = let e = k.finds refl 1 0 1 refl (refl, tt) refl in cc
+
+-- a find still waits after a decision
+waits_still : Takes (finding 1) (Decide 1 true) (finding 1) → ⊥
+waits_still k = let e = k.answered (inl refl) 1 true refl in cc
+
+-- a turn is taken, and none is counted
+not_counted : Takes opened (Next 0) opened → ⊥
+not_counted k = let e = k.is_turn.later.turns in cc
