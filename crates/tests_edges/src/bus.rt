@@ -1,7 +1,7 @@
 //! A bus of `uses_bus` by turns in one thread, and between four.
 
-mod limit;
+pub mod limit;
 mod rooms;
 mod threads;
 mod turns;
-mod words;
+pub mod words;

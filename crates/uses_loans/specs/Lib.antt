@@ -1,0 +1,3 @@
+pub mod Channels
+pub mod Ends
+pub mod Pools

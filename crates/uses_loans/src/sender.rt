@@ -1,0 +1,266 @@
+//! The end of the channel that loans and sends.
+ghost use Rattle.std.specs.Prelude.{◌≡◌, ◌⊎◌, ◌+◌, ◌-◌, ◌^◌, ◌<◌, ◌↔◌, Some, IsTrue, IsFalse, IfOk, IfErr, IfSome, IfNone};
+ghost use Rattle.std.specs.Prelude.{count_by, map, slice_set, vec_len};
+ghost use Rattle.lock_free.specs.Loan.Places.{is_sent, place_at, reclaimed, returned};
+ghost use Rattle.lock_free.specs.Loan.Sender.{completion_view, pass_view, set_of_sender, submission_of, submission_view, IsLoaned, IsSame};
+ghost use Rattle.lock_free.specs.declared.spsc.loan.places.Place.TheVariants.{Free, Loaned, Sent};
+ghost use Rattle.lock_free.specs.Queues.Item.TheVariants.{Index};
+ghost use Rattle.lock_free.specs.Queues.Overflowing.{consumer_queue, TookNone};
+ghost use Rattle.lock_free.specs.Queues.Told.{HasPublished, HasTakenFirst, HasTakenOut, WasEmpty};
+ghost use Rattle.lock_free.specs.UniqueIndexSet.{set_of, view};
+
+use crate::error::LoanFailure;
+use lock_free::mpmc::unique_index_set::Pass;
+use lock_free::spsc::loan::LoanSender;
+use lock_free::spsc::safely_overflowing_index_queue as overflow;
+use std::sync::Wait;
+use uses_slots::{Anything, Keeps, Slots, Writing};
+
+/// A place that is Loaned, and a value for it that is written in plain memory, until it is sent or given up. It stays in its
+/// thread. Where it is dropped, its value is dropped too, and its place stays Loaned until it is regained.
+pub struct Loan<'a, X: Drop, K: Keeps<X> = Anything> {
+    place: u32,
+    /// The value, where it is written. It is one that was sent before, or a spare as the sender was given it.
+    pub value: X,
+    writing: Writing<'a, X, K>,
+}
+
+impl<'a, X: Drop, K: Keeps<X>> Drop for Loan<'a, X, K> {
+    fn drop(self) {
+        let Self {
+            place: _,
+            value: _value,
+            writing: _writing,
+        } = self;
+    }
+}
+
+impl<'a, X: Drop, K: Keeps<X>> Loan<'a, X, K> {
+    ghost use Rattle.uses_loans.specs.Ends.{loaned};
+
+    /// The number of the place. No atomic step.
+    pub fn place(&self) -> u32
+        ensures { result ≡ loaned self.now }
+    {
+        self.place
+    }
+
+    fn into_parts(self) -> (X, Writing<'a, X, K>)
+        ensures { result.0 ≡ self.entry.value }
+    {
+        let Self {
+            place: _,
+            value,
+            writing,
+        } = self;
+        (value, writing)
+    }
+}
+
+/// Keeps what lay in a place, if anything did, to be written again.
+fn keep<X: Drop>(spares: &mut Vec<X>, old: Option<(u64, X)>) {
+    if let Some((_, value)) = old {
+        let _ = spares.push(value);
+    }
+}
+
+/// A sender of values: a `LoanSender`, whose table says where each place is, with a slot for each place.
+pub struct Sender<'a, X: Drop, K: Keeps<X> = Anything> {
+    loans: LoanSender<'a>,
+    slots: &'a Slots<X, K>,
+    spares: Vec<X>,
+    next: u64,
+}
+
+impl<'a, X: Drop, K: Keeps<X>> Drop for Sender<'a, X, K> {
+    fn drop(self) {
+        let Self {
+            loans: _loans,
+            slots: _,
+            spares: _spares,
+            next: _,
+        } = self;
+    }
+}
+
+impl<'a, X: Drop, K: Keeps<X>> Sender<'a, X, K> {
+    ghost use Rattle.uses_loans.specs.Ends.{loaned, next_of, places_of, sender_of, spares_in, IsRefused};
+
+    /// A sender of values, over slots that are meant to be as many as the set of the `LoanSender` has indices, and with values to
+    /// write, which need not keep the rule yet: one more than there are slots, and one more for each further loan that is in hand
+    /// at a time. No atomic step.
+    pub fn new(loans: LoanSender<'a>, slots: &'a Slots<X, K>, spares: Vec<X>) -> Sender<'a, X, K>
+        ensures loans { sender_of result ≡ loans.entry }
+        ensures spares { spares_in result ≡ vec_len spares }
+        ensures next { next_of result ≡ 0 }
+    {
+        Sender {
+            loans,
+            slots,
+            spares,
+            next: 0,
+        }
+    }
+
+    /// A place that was Free, and a value to write there: the place is Loaned. Refused as follows:
+    ///
+    /// - where no value is left to write (`NoValue`), and then nothing changes;
+    /// - where no index is left, or the set is locked (`NoPlace`), and then the table stays;
+    /// - where somebody still reads the place, who has it not, or where it has no slot (`StillRead`). The place stays Loaned, so
+    ///   that the next loan gets another; `regain` tries it again.
+    ///
+    /// The steps of `LoanSender::loan`, and on the slot a load and at most one compare-exchange.
+    pub fn loan(&mut self, rt: &impl Wait) -> Result<Loan<'a, X, K>, LoanFailure>
+        ensures loaned { IfOk result (λ l. (place_at (places_of self.old) (loaned l) ≡ Free)
+            × (places_of self.new ≡ slice_set (places_of self.old) (loaned l) Loaned)) }
+        ensures is { IfOk result (λ l. IsLoaned (loaned l) (sender_of self.new)) }
+        ensures refused { IfErr result (IsRefused self.old self.new) }
+        ensures next { next_of self.new ≡ next_of self.old }
+        ensures same { IsSame (sender_of self.old) (sender_of self.new) }
+    {
+        if self.spares.is_empty() {
+            return Err(LoanFailure::NoValue);
+        }
+        let place = match self.loans.loan(rt) {
+            Ok(place) => place,
+            Err(failure) => return Err(LoanFailure::NoPlace(failure)),
+        };
+        let Some(writing) = self.slots.take(place) else {
+            return Err(LoanFailure::StillRead(place));
+        };
+        let Some(value) = self.spares.pop() else {
+            unreachable!()
+        };
+        Ok(Loan {
+            place,
+            value,
+            writing,
+        })
+    }
+
+    /// Whether a loan is of a place that is Loaned here, which `send` and `give_up` ask for. No atomic step.
+    pub fn is_loaned(&self, loan: &Loan<'a, X, K>) -> bool
+        ensures { IsTrue result ↔ IsLoaned (loaned loan.now) (sender_of self.now) }
+    {
+        self.loans.is_loaned(loan.place)
+    }
+
+    /// Sends a value, which keeps its rule with the number that comes next: its place is Sent. Where the queue is full, the
+    /// answer is the oldest number that waited, and where it takes none (it has no capacity, or is at its last position) the
+    /// place itself: Free again where it is a place that is Sent, while any other number changes nothing. The numbers of values
+    /// rise by one with each, up to 2^64 - 1.
+    ///
+    /// One step on the slot, and those of `LoanSender::send`.
+    pub fn send(&mut self, loan: Loan<'a, X, K>) -> Option<u64>
+        requires fits { K.holds (next_of self.old) loan.value }
+        requires loaned { IsLoaned (loaned loan) (sender_of self.old) }
+        ensures sent { IfNone result
+            (places_of self.new ≡ slice_set (places_of self.old) (loaned loan.entry) Sent) }
+        ensures back { IfSome result (λ y. places_of self.new
+            ≡ returned y (slice_set (places_of self.old) (loaned loan.entry) Sent)) }
+        ensures published { IfNone result
+            (HasPublished (Index (loaned loan.entry)) (submission_view (sender_of self.old)) (submission_view (sender_of self.new))) }
+        ensures handed_back { IfSome result
+            (λ y. HasPublished (Index (loaned loan.entry)) (submission_view (sender_of self.old)) (submission_view (sender_of self.new))
+            × HasTakenFirst (Index y) (submission_view (sender_of self.old)) (submission_view (sender_of self.new))
+            ⊎ (y ≡ loaned loan.entry)
+            × TookNone (submission_of (sender_of self.old)).capacity
+            (submission_view (sender_of self.old)) (submission_view (sender_of self.new))) }
+        ensures next { next_of self.old < 2 ^ 64 - 1 → next_of self.new ≡ next_of self.old + 1 }
+        ensures same { IsSame (sender_of self.old) (sender_of self.new) }
+    {
+        let place = loan.place;
+        let (value, writing) = loan.into_parts();
+        let number = self.next;
+        keep(&mut self.spares, writing.put(number, value));
+        self.next = number.saturating_add(1);
+        self.loans.send(place)
+    }
+
+    /// Gives a loan up: its place is Free, and its value is kept to be written again. One step on the slot, and those of
+    /// `LoanSender::give_up`.
+    pub fn give_up(&mut self, loan: Loan<'a, X, K>)
+        requires loaned { IsLoaned (loaned loan) (sender_of self.old) }
+        ensures places { places_of self.new ≡ slice_set (places_of self.old) (loaned loan.entry) Free }
+        ensures next { next_of self.new ≡ next_of self.old }
+        ensures same { IsSame (sender_of self.old) (sender_of self.new) }
+    {
+        let place = loan.place;
+        let (value, writing) = loan.into_parts();
+        let _ = self.spares.push(value);
+        keep(&mut self.spares, writing.empty());
+        self.loans.give_up(place);
+    }
+
+    /// Tries a place again that is Loaned without a loan, since it was `StillRead` or its loan was dropped: true, and it is Free,
+    /// where nobody reads it any more. False where it is not Loaned, where somebody reads it still, or (by no clause) where its
+    /// loan is in hand; then nothing changes. A load, at most one compare-exchange and one further step on the slot, and those of
+    /// `LoanSender::give_up`.
+    pub fn regain(&mut self, place: u32) -> bool
+        ensures had { IsTrue result → IsLoaned place (sender_of self.old) }
+        ensures free { IsTrue result → places_of self.new ≡ slice_set (places_of self.old) place Free }
+        ensures refused { IsFalse result → places_of self.new ≡ places_of self.old }
+        ensures next { next_of self.new ≡ next_of self.old }
+        ensures same { IsSame (sender_of self.old) (sender_of self.new) }
+    {
+        if !self.loans.is_loaned(place) {
+            return false;
+        }
+        let Some(writing) = self.slots.take(place) else {
+            return false;
+        };
+        keep(&mut self.spares, writing.empty());
+        self.loans.give_up(place);
+        true
+    }
+
+    /// Takes the oldest number that the receiver gave back: it is Free again where it is a place that is Sent, and else changes
+    /// nothing. None where nothing waits, and then nothing changes. The steps of `LoanSender::take_back`.
+    pub fn take_back(&mut self) -> Option<u64>
+        ensures back { IfSome result (λ y. places_of self.new ≡ returned y (places_of self.old)) }
+        ensures popped { IfSome result
+            (λ y. HasTakenOut (Index y) (completion_view (sender_of self.old)) (completion_view (sender_of self.new))) }
+        ensures none { IfNone result (places_of self.new ≡ places_of self.old) }
+        ensures empty { IfNone result
+            (WasEmpty (completion_view (sender_of self.old)) (completion_view (sender_of self.new))) }
+        ensures next { next_of self.new ≡ next_of self.old }
+        ensures same { IsSame (sender_of self.old) (sender_of self.new) }
+    {
+        self.loans.take_back()
+    }
+
+    /// Empties both queues, and frees each place that is Sent: how many. For a sender whose receiver is gone, with the receiver's
+    /// guard of the queue. The steps of `LoanSender::reclaim`.
+    pub fn reclaim(&mut self, rt: &impl Wait, receiver: &mut overflow::Consumer<'_>) -> usize
+        requires { consumer_queue receiver.old ≡ submission_of (sender_of self.old) }
+        ensures places { places_of self.new ≡ map reclaimed (places_of self.old) }
+        ensures number { result ≡ count_by is_sent (places_of self.old) }
+        ensures receiver { consumer_queue receiver.new ≡ consumer_queue receiver.old }
+        ensures next { next_of self.new ≡ next_of self.old }
+        ensures same { IsSame (sender_of self.old) (sender_of self.new) }
+    {
+        self.loans.reclaim(rt, receiver)
+    }
+
+    /// The number that the next value gets that is sent: 0 for the first. No atomic step.
+    pub fn next_number(&self) -> u64
+        ensures { result ≡ next_of self.now }
+    {
+        self.next
+    }
+
+    /// Hands out the pass, which holds what is Loaned or Sent, and the values that are not in a slot; both roles are free. Two
+    /// atomic steps.
+    pub fn finish(self) -> (Pass, Vec<X>)
+        ensures view { view result.0 ≡ pass_view (sender_of self.entry) }
+        ensures set { set_of result.0 ≡ set_of_sender (sender_of self.entry) }
+    {
+        let Sender {
+            loans,
+            slots: _,
+            spares,
+            next: _,
+        } = self;
+        (loans.finish(), spares)
+    }
+}
