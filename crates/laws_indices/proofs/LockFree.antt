@@ -3,7 +3,8 @@ use Rattle.std.proofs.Common.{◌≡◌, ◌≢◌, ℕ, ◌+◌, ◌-◌, ◌<�
 use Rattle.std.proofs.Common.{Option, Some, List, length, get_or, set, bit_and, bit_or, ◌^◌, refl, sym, subst, ◌∙◌, arith}
 use Rattle.laws_indices.proofs.Names.{nat_tests, cases_eq, flag_word, flag, borrowed, proposed, says_locked}
 use Rattle.laws_indices.proofs.Names.{LockIfLastIndex, Default, AcquireStage, ReleaseStage, Start, Indices, Flight, IndexStart, IndexFlight}
-use Rattle.laws_indices.proofs.Names.{Party, Going, Coding, party_of, Trace}
+use Rattle.laws_indices.proofs.Names.{Party, Coding, party_of, Trace}
+use Rattle.model.specs.declared.party.Doing.TheVariants.{Going}
 use Rattle.steps.specs.Indices.Head.{next_word}
 use Rattle.steps.specs.Indices.Unique.{acquire_sees, head_taken, Acquired}
 use Rattle.steps.specs.Routine.{went_on}
