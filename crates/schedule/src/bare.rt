@@ -17,6 +17,48 @@ use texts::error::{Cause, ScheduleError};
 use texts::grammar::{Command, Setup, command_of, setup_of};
 use texts::line::Line;
 
+/// What takes turns: a machine, for those who name none. A function over a type parameter with this bound is proved
+/// without the types of which a machine is made.
+pub trait TakesTurns<T: Words> {
+    fn step(&mut self, turn: Turn<T>) -> Result<(), Refusal>;
+
+    fn words(&self) -> &[u64];
+
+    fn events(&self) -> &[Event<T>];
+
+    fn under_way(&self, party: u32) -> Option<Progress>;
+
+    fn is_going(&self, party: u32) -> bool;
+
+    fn state(&self, party: u32) -> Option<&ContainerState<T>>;
+}
+
+impl<T: Words> TakesTurns<T> for Machine<T> {
+    fn step(&mut self, turn: Turn<T>) -> Result<(), Refusal> {
+        step(self, turn)
+    }
+
+    fn words(&self) -> &[u64] {
+        Machine::words(self)
+    }
+
+    fn events(&self) -> &[Event<T>] {
+        Machine::events(self)
+    }
+
+    fn under_way(&self, party: u32) -> Option<Progress> {
+        under_way(self, party)
+    }
+
+    fn is_going(&self, party: u32) -> bool {
+        is_going(self, party)
+    }
+
+    fn state(&self, party: u32) -> Option<&ContainerState<T>> {
+        state(self, party)
+    }
+}
+
 /// A new machine.
 pub fn made_of<T: Words>(
     alloc: Global,

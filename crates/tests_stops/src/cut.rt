@@ -8,15 +8,15 @@ use crate::told::told_of;
 use machine::Machine;
 use machine::party::Progress;
 use machine::turn::{Kind, Refusal, Turn};
-use schedule::bare;
+use schedule::bare::{self, TakesTurns};
 use schedule::grammar::{Command, Setup};
 use std::alloc::Global;
 
 /// One turn, made once more where memory is refused to it: had it changed something, a judge would tell.
-pub fn step(machine: &mut Machine<u128>, turn: Turn<u128>) -> bool {
+pub fn step<M: TakesTurns<u128>>(machine: &mut M, turn: Turn<u128>) -> bool {
     let again = turn;
-    match bare::step(machine, turn) {
-        Err(Refusal::NoMemory) => bare::step(machine, again).is_ok(),
+    match machine.step(turn) {
+        Err(Refusal::NoMemory) => machine.step(again).is_ok(),
         ended => ended.is_ok(),
     }
 }
@@ -30,8 +30,8 @@ fn made(alloc: Global, setup: Setup) -> Option<Machine<u128>> {
 }
 
 /// How far the party's latest call has come: as one that has ended where it has begun none.
-pub fn under_way(machine: &Machine<u128>, party: u32) -> Progress {
-    match bare::under_way(machine, party) {
+pub fn under_way<M: TakesTurns<u128>>(machine: &M, party: u32) -> Progress {
+    match machine.under_way(party) {
         Some(progress) => progress,
         None => Progress {
             steps: 0,
@@ -96,7 +96,7 @@ fn row_of(text: &str) -> Option<Row<'_>> {
 }
 
 /// The call of this line begins, or an owner dies: whether that is taken.
-fn begins(machine: &mut Machine<u128>, kind: Kind, line: &str) -> bool {
+fn begins<M: TakesTurns<u128>>(machine: &mut M, kind: Kind, line: &str) -> bool {
     match bare::read_command(kind, line.as_bytes()) {
         Ok(Command::Once(turn)) => step(machine, turn),
         _ => false,
@@ -104,8 +104,8 @@ fn begins(machine: &mut Machine<u128>, kind: Kind, line: &str) -> bool {
 }
 
 /// The next turn of the party's call: a question is answered by yes.
-fn goes(machine: &mut Machine<u128>, party: u32) -> bool {
-    let turn = if bare::is_going(machine, party) {
+fn goes<M: TakesTurns<u128>>(machine: &mut M, party: u32) -> bool {
+    let turn = if machine.is_going(party) {
         Turn::Next(party)
     } else {
         Turn::Decide(party, true)
@@ -114,7 +114,7 @@ fn goes(machine: &mut Machine<u128>, party: u32) -> bool {
 }
 
 /// At most so many turns of the party's call, up to its end: whether each is taken.
-fn goes_on(machine: &mut Machine<u128>, party: u32, turns: u64) -> bool {
+fn goes_on<M: TakesTurns<u128>>(machine: &mut M, party: u32, turns: u64) -> bool {
     let mut are_taken = true;
     for _ in 0..turns {
         if !under_way(machine, party).finished {
@@ -128,12 +128,12 @@ fn goes_on(machine: &mut Machine<u128>, party: u32, turns: u64) -> bool {
 const MANY: u64 = 100;
 
 /// All turns of the party's call: whether it ends.
-fn ends(machine: &mut Machine<u128>, party: u32) -> bool {
+fn ends<M: TakesTurns<u128>>(machine: &mut M, party: u32) -> bool {
     goes_on(machine, party, MANY) && under_way(machine, party).finished
 }
 
 /// The calls that are made first: each is one of party 0 or 1.
-fn opens(machine: &mut Machine<u128>, row: &Row<'_>) -> bool {
+fn opens<M: TakesTurns<u128>>(machine: &mut M, row: &Row<'_>) -> bool {
     let mut are_whole = true;
     for line in row.calls.lines() {
         if !line.starts_with("cut ") {
@@ -145,14 +145,14 @@ fn opens(machine: &mut Machine<u128>, row: &Row<'_>) -> bool {
 }
 
 /// So many turns of one call: whether it ends where its row says.
-fn is_cut(machine: &mut Machine<u128>, kind: Kind, one: &Cut<'_>, turns: u64) -> bool {
+fn is_cut<M: TakesTurns<u128>>(machine: &mut M, kind: Kind, one: &Cut<'_>, turns: u64) -> bool {
     let is_begun = begins(machine, kind, one.line) && goes_on(machine, one.party, turns);
     is_begun && under_way(machine, one.party).finished == (turns >= one.turns)
 }
 
 /// All of the other, and all of the first unless it stops.
-fn is_ended(
-    machine: &mut Machine<u128>,
+fn is_ended<M: TakesTurns<u128>>(
+    machine: &mut M,
     kind: Kind,
     one: &Cut<'_>,
     other: &Cut<'_>,
@@ -163,7 +163,7 @@ fn is_ended(
 }
 
 /// Whether the party's call keeps within its bounds, and is under way where the events leave it so.
-fn is_bounded(machine: &Machine<u128>, replay: &Replay, cut: &Cut<'_>) -> Right {
+fn is_bounded<M: TakesTurns<u128>>(machine: &M, replay: &Replay, cut: &Cut<'_>) -> Right {
     let progress = under_way(machine, cut.party);
     let span = replay.span(cut.party as u64);
     let most = cut
@@ -181,14 +181,19 @@ fn is_bounded(machine: &Machine<u128>, replay: &Replay, cut: &Cut<'_>) -> Right 
 }
 
 /// What has come of it, as the events tell it.
-fn replayed(machine: &Machine<u128>, replay: &mut Replay) -> Right {
+fn replayed<M: TakesTurns<u128>>(machine: &M, replay: &mut Replay) -> Right {
     for event in machine.events() {
         replay.take(&told_of(event))?;
     }
     replay.words_right(machine.words())
 }
 
-fn judged(machine: &Machine<u128>, row: &Row<'_>, one: &Cut<'_>, other: &Cut<'_>) -> Right {
+fn judged<M: TakesTurns<u128>>(
+    machine: &M,
+    row: &Row<'_>,
+    one: &Cut<'_>,
+    other: &Cut<'_>,
+) -> Right {
     let mut replay = Replay::new(row.setup.kind, row.setup.capacity);
     replayed(machine, &mut replay)?;
     is_bounded(machine, &replay, one)?;
@@ -196,8 +201,8 @@ fn judged(machine: &Machine<u128>, row: &Row<'_>, one: &Cut<'_>, other: &Cut<'_>
 }
 
 /// The run on this machine.
-fn plays(
-    machine: &mut Machine<u128>,
+fn plays<M: TakesTurns<u128>>(
+    machine: &mut M,
     row: &Row<'_>,
     one: &Cut<'_>,
     other: &Cut<'_>,

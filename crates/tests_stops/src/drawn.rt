@@ -7,7 +7,7 @@ use crate::replay::{Right, want};
 use crate::told::{self, ANY, Call, Name, Said, container_turn};
 use machine::Machine;
 use machine::turn::{Kind, Turn};
-use schedule::bare;
+use schedule::bare::{self, TakesTurns};
 use std::alloc::Global;
 use steps::enums::UniqueIndexCreationError;
 
@@ -66,8 +66,8 @@ impl Draws {
 
 /// A schedule that is being drawn.
 #[derive(Drop)]
-struct Run {
-    machine: Machine<u128>,
+struct Run<M> {
+    machine: M,
     book: Book,
     draws: Draws,
     parties: u32,
@@ -148,7 +148,7 @@ fn drawn_call(draws: &mut Draws, book: &Book, name: Name) -> Call {
     }
 }
 
-impl Run {
+impl<M: TakesTurns<u128>> Run<M> {
     /// One turn, and what it has left.
     fn turn(&mut self, party: u32, turn: Turn<u128>, is_allowed: bool, said: Said) -> Right {
         self.turns = self.turns.wrapping_add(1);
@@ -258,25 +258,13 @@ fn made(
     bare::made_of(alloc, Kind::Container, capacity as usize, parties)
 }
 
-/// A run before its first turn, made once more where memory is refused to it.
-fn opened(alloc: Global, capacity: u64, seed: u64) -> Option<Run> {
-    let mut draws = Draws { state: seed };
-    let parties = match draws.below(3) {
+/// How many parties a schedule has.
+fn drawn_parties(draws: &mut Draws) -> u32 {
+    match draws.below(3) {
         0 => 2u32,
         1 => 3,
         _ => 4,
-    };
-    let machine = made(alloc, capacity, parties)
-        .or_else(|_| made(alloc, capacity, parties))
-        .ok()?;
-    Some(Run {
-        machine,
-        book: Book::new(alloc, capacity),
-        draws,
-        parties,
-        stopped: [0; 4],
-        turns: 0,
-    })
+    }
 }
 
 /// How often each ending came, and how many runs were well-formed, and ended locked.
@@ -306,7 +294,31 @@ impl Tally {
     }
 }
 
-/// The schedule of this seed.
+/// All of a schedule, on a new machine.
+fn ran<M: TakesTurns<u128> + Drop>(
+    machine: M,
+    book: Book,
+    draws: Draws,
+    parties: u32,
+    tally: &mut Tally,
+    judged: &mut Judged,
+) -> Right {
+    let mut run = Run {
+        machine,
+        book,
+        draws,
+        parties,
+        stopped: [0; 4],
+        turns: 0,
+    };
+    run.rows()?;
+    tally.take(&run.book);
+    judged.schedules = judged.schedules.wrapping_add(1);
+    judged.turns = judged.turns.wrapping_add(run.turns);
+    Ok(())
+}
+
+/// The schedule of this seed. Its machine is made once more where memory is refused to it.
 fn schedule(
     alloc: Global,
     capacity: u64,
@@ -314,15 +326,15 @@ fn schedule(
     tally: &mut Tally,
     judged: &mut Judged,
 ) -> Right {
-    match opened(alloc, capacity, seed) {
-        Some(mut run) => {
-            run.rows()?;
-            tally.take(&run.book);
-            judged.schedules = judged.schedules.wrapping_add(1);
-            judged.turns = judged.turns.wrapping_add(run.turns);
-            Ok(())
+    let mut draws = Draws { state: seed };
+    let parties = drawn_parties(&mut draws);
+    let machine = made(alloc, capacity, parties).or_else(|_| made(alloc, capacity, parties));
+    match machine {
+        Ok(machine) => {
+            let book = Book::new(alloc, capacity);
+            ran(machine, book, draws, parties, tally, judged)
         }
-        None => Err("a machine is made where there is memory"),
+        Err(_) => Err("a machine is made where there is memory"),
     }
 }
 

@@ -9,7 +9,7 @@ use crate::replay::{Right, want};
 use crate::told::{self, ANY, Call, Name, Said, loan_turn};
 use machine::Machine;
 use machine::turn::{Refusal, Turn};
-use schedule::bare;
+use schedule::bare::{self, TakesTurns};
 use std::alloc::Global;
 
 /// How many schedules are drawn for each of five channels.
@@ -17,8 +17,8 @@ const SCHEDULES: u64 = 2_000;
 
 /// A schedule that is being drawn.
 #[derive(Drop)]
-struct Run {
-    machine: Machine<u128>,
+struct Run<M> {
+    machine: M,
     channel: Channel,
     draws: Draws,
     /// How often each refusal came.
@@ -80,10 +80,10 @@ static REFUSALS: [Refusal; 8] = [
 const LEAVES: [Name; 3] = [Name::TakeBack, Name::Receive, Name::Dies];
 
 /// One turn, made once more where memory is refused to it, and why it is refused.
-fn refusal(machine: &mut Machine<u128>, turn: Turn<u128>) -> Option<Refusal> {
+fn refusal<M: TakesTurns<u128>>(machine: &mut M, turn: Turn<u128>) -> Option<Refusal> {
     let again = turn;
-    match bare::step(machine, turn) {
-        Err(Refusal::NoMemory) => bare::step(machine, again).err(),
+    match machine.step(turn) {
+        Err(Refusal::NoMemory) => machine.step(again).err(),
         ended => ended.err(),
     }
 }
@@ -100,7 +100,7 @@ fn one_of(draws: &mut Draws, names: &[Name]) -> Name {
     }
 }
 
-impl Run {
+impl<M: TakesTurns<u128>> Run<M> {
     fn count(&mut self, refusal: Refusal) {
         for number in 0..8usize {
             if REFUSALS[number] == refusal {
@@ -240,25 +240,8 @@ fn made(alloc: Global, slots: u64, queue: u64, parties: u32) -> Option<Machine<u
     }
 }
 
-fn opened(alloc: Global, slots: u64, queue: u64, seed: u64) -> Option<Run> {
-    let mut draws = Draws { state: seed };
-    let parties = draws.below(4).wrapping_add(2);
-    let leaves = one_of(&mut draws, &LEAVES);
-    match made(alloc, slots, queue, party_of(parties)) {
-        Some(machine) => Some(Run {
-            machine,
-            channel: Channel::new(slots, queue, parties),
-            draws,
-            refused: [0; 8],
-            leaves,
-            turns: 0,
-        }),
-        None => None,
-    }
-}
-
 impl Tally {
-    fn take(&mut self, run: &Run) {
+    fn take<M>(&mut self, run: &Run<M>) {
         for number in 0..8usize {
             self.refused[number] = self.refused[number].wrapping_add(run.refused[number]);
         }
@@ -293,6 +276,30 @@ impl Tally {
     }
 }
 
+/// All of a schedule, on a new channel.
+fn ran<M: TakesTurns<u128> + Drop>(
+    machine: M,
+    channel: Channel,
+    draws: Draws,
+    leaves: Name,
+    tally: &mut Tally,
+    judged: &mut Judged,
+) -> Right {
+    let mut run = Run {
+        machine,
+        channel,
+        draws,
+        refused: [0; 8],
+        leaves,
+        turns: 0,
+    };
+    run.rows()?;
+    tally.take(&run);
+    judged.schedules = judged.schedules.wrapping_add(1);
+    judged.turns = judged.turns.wrapping_add(run.turns);
+    Ok(())
+}
+
 /// The schedule of this seed.
 fn schedule(
     alloc: Global,
@@ -302,13 +309,13 @@ fn schedule(
     tally: &mut Tally,
     judged: &mut Judged,
 ) -> Right {
-    match opened(alloc, slots, queue, seed) {
-        Some(mut run) => {
-            run.rows()?;
-            tally.take(&run);
-            judged.schedules = judged.schedules.wrapping_add(1);
-            judged.turns = judged.turns.wrapping_add(run.turns);
-            Ok(())
+    let mut draws = Draws { state: seed };
+    let parties = draws.below(4).wrapping_add(2);
+    let leaves = one_of(&mut draws, &LEAVES);
+    match made(alloc, slots, queue, party_of(parties)) {
+        Some(machine) => {
+            let channel = Channel::new(slots, queue, parties);
+            ran(machine, channel, draws, leaves, tally, judged)
         }
         None => Err("a channel is made where there is memory"),
     }

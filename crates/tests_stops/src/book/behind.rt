@@ -3,15 +3,14 @@ use super::{Book, SHOWS_NOTHING, Shown, at, is_look, value_at};
 use crate::cut::under_way;
 use crate::replay::{Right, bit, want};
 use crate::told::{Call, Name, Said, What, told_of};
-use machine::Machine;
 use machine::party::Progress;
-use schedule::bare;
+use schedule::bare::TakesTurns;
 use steps::words::Words;
 
 /// What the state of the party shows.
-fn shown_by(machine: &Machine<u128>, party: u32) -> Shown {
+fn shown_by<M: TakesTurns<u128>>(machine: &M, party: u32) -> Shown {
     let mut shown = SHOWS_NOTHING;
-    if let Some(state) = bare::state(machine, party) {
+    if let Some(state) = machine.state(party) {
         for index in 0..4usize {
             if let Some(value) = state.get(index) {
                 shown.stands |= 1 << index;
@@ -115,7 +114,7 @@ impl Book {
     }
 
     /// The events of a turn of this party, which are few.
-    pub fn read(&mut self, machine: &Machine<u128>, party: u32) -> Right {
+    pub fn read<M: TakesTurns<u128>>(&mut self, machine: &M, party: u32) -> Right {
         for _ in 0..4 {
             match machine.events().get(self.now as usize) {
                 Some(event) => {
@@ -132,8 +131,8 @@ impl Book {
     }
 
     /// Whether the state of the party shows what it did behind its latest look.
-    fn is_state_kept(&self, machine: &Machine<u128>, party: u32) -> bool {
-        let Some(state) = bare::state(machine, party) else {
+    fn is_state_kept<M: TakesTurns<u128>>(&self, machine: &M, party: u32) -> bool {
+        let Some(state) = machine.state(party) else {
             return true;
         };
         let kept = &self.states[party as usize % 4];
@@ -150,12 +149,12 @@ impl Book {
 
     /// Whether the party is as the book has it: a state changes by looks of its party alone. A replace that has found its
     /// owner, where it was not to replace, makes the run ill-formed.
-    fn is_party_right(&mut self, machine: &Machine<u128>, party: u32) -> bool {
+    fn is_party_right<M: TakesTurns<u128>>(&mut self, machine: &M, party: u32) -> bool {
         let progress = under_way(machine, party);
         let span = &self.spans[party as usize % 4];
         let is_under_way = progress.finished != span.is_open;
         let goes = span.is_open && !span.asks;
-        let is_asking_right = bare::is_going(machine, party) == goes;
+        let is_asking_right = machine.is_going(party) == goes;
         let is_in_bounds = is_bounded(&span.call, self.capacity, &progress);
         let is_looking = span.is_open && is_look(span.call.name);
         let is_replacing = span.is_open && span.call.name == Name::Replace;
@@ -165,7 +164,7 @@ impl Book {
     }
 
     /// Whether all parties are as the book has them.
-    pub fn parties_right(&mut self, machine: &Machine<u128>, parties: u32) -> bool {
+    pub fn parties_right<M: TakesTurns<u128>>(&mut self, machine: &M, parties: u32) -> bool {
         let mut are_right = true;
         for party in 0..parties {
             are_right &= self.is_party_right(machine, party);

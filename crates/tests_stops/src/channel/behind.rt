@@ -4,8 +4,8 @@ use super::{Channel, Line, at};
 use crate::cut::under_way;
 use crate::replay::{Right, bit, want};
 use crate::told::{Call, Name, told_of};
-use machine::Machine;
 use machine::turn::Refusal;
+use schedule::bare::TakesTurns;
 
 /// A call, the most steps that it takes, how many more for each slot, and for each turn back.
 type Bound = (Name, u64, u64, u64);
@@ -174,7 +174,7 @@ impl Channel {
     }
 
     /// Whether the call of the party is under way where the events leave it so, and within its bounds.
-    fn progress_right(&self, machine: &Machine<u128>, party: u32) -> Right {
+    fn progress_right<M: TakesTurns<u128>>(&self, machine: &M, party: u32) -> Right {
         let span = self.span(party as u64);
         let progress = under_way(machine, party);
         want(
@@ -222,7 +222,7 @@ impl Channel {
     }
 
     /// The events of a turn of this party, which are few.
-    fn read(&mut self, machine: &Machine<u128>, party: u64) -> Right {
+    fn read<M: TakesTurns<u128>>(&mut self, machine: &M, party: u64) -> Right {
         for _ in 0..6 {
             match machine.events().get(self.now as usize) {
                 Some(event) => self.take(&told_of(event), party)?,
@@ -233,7 +233,7 @@ impl Channel {
     }
 
     /// All that holds behind a turn of this party.
-    pub fn right(&mut self, machine: &Machine<u128>, party: u32) -> Right {
+    pub fn right<M: TakesTurns<u128>>(&mut self, machine: &M, party: u32) -> Right {
         self.look(machine.words(), party as u64);
         self.read(machine, party as u64)?;
         self.words_right()?;
@@ -243,7 +243,7 @@ impl Channel {
     }
 
     /// What holds of the calls of all parties behind the last turn.
-    pub fn ended_right(&self, machine: &Machine<u128>) -> Right {
+    pub fn ended_right<M: TakesTurns<u128>>(&self, machine: &M) -> Right {
         for party in 0..8u32 {
             self.progress_right(machine, party)?;
         }
