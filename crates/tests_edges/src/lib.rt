@@ -1,6 +1,5 @@
 //! What of the threaded types no text of calls can say: what crosses threads, memory that is refused, closures that
-//! capture, a state that outlives its container; what README.md and CALLING.md show; the slots of `uses_slots`, the channel of `uses_loans`, and the bus of
-//! `uses_bus`.
+//! capture, a state that outlives its container; what README.md and CALLING.md show; and the bus of `uses_bus`.
 #![tactic(auto)]
 
 #[cfg(test)]
@@ -18,8 +17,4 @@ mod openings;
 #[cfg(test)]
 mod plain_containers;
 #[cfg(test)]
-mod slots;
-#[cfg(test)]
 mod states;
-#[cfg(test)]
-mod typed_loans;
