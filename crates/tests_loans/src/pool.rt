@@ -57,6 +57,23 @@ fn a_buffer_keeps_its_value(rt: HostRuntime) -> Result<(), Fail> {
     Ok(())
 }
 
+/// Each place keeps its own value.
+#[test]
+fn places_keep_their_own(rt: HostRuntime) -> Result<(), Fail> {
+    let mut pool: Pool<String> = Pool::new(rt.alloc(), 2)?;
+    let mut lender = pool.lender().ok_or("no lender")?;
+    let one = fills(&rt, rt.alloc(), &mut lender, 3).ok_or("no buffer")?;
+    let other = fills(&rt, rt.alloc(), &mut lender, 4).ok_or("no buffer")?;
+    let place = one.place();
+    assert!(rt; one.give_back().is_none() && other.give_back().is_none());
+    let one = lender.acquire(&rt).map_err(|_| "no buffer")?;
+    let other = lender.acquire(&rt).map_err(|_| "no buffer")?;
+    let is_first = one.place() == place;
+    let (first, second) = if is_first { (one, other) } else { (other, one) };
+    assert!(rt; has(&first, 3) && has(&second, 4));
+    Ok(())
+}
+
 /// Two threads fill a buffer each, and each gives back what the other filled.
 fn swap<R: Threads + Wait + Sync>(
     rt: &R,

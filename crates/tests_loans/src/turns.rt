@@ -102,6 +102,26 @@ fn loans_are_refused(rt: HostRuntime) -> Result<(), Fail> {
     Ok(())
 }
 
+/// What is given up, or lay where a loan was given up, is written again; what was dropped with its loan is gone.
+#[test]
+fn values_are_kept(rt: HostRuntime) -> Result<(), Fail> {
+    let mut channel: Channel<String> = Channel::new(rt.alloc(), 1, QUEUE)?;
+    let spares = texts(rt.alloc(), 2)?;
+    let (mut sender, mut receiver) = channel.ends(rt.alloc(), spares).ok_or("no ends")?;
+    for number in 0..100 {
+        assert_eq!(rt; sends(&rt, &mut sender, "one"), Some(None));
+        assert!(rt; reads(&rt, &mut receiver, number, "one"));
+        assert_eq!(rt; sender.take_back(), Some(0));
+        let loan = sender.loan(&rt).map_err(|_| "no loan")?;
+        sender.give_up(loan);
+    }
+    drop(sender.loan(&rt).map_err(|_| "no loan")?);
+    assert!(rt; sender.regain(0));
+    let (_, left) = sender.finish();
+    assert_eq!(rt; left.len(), 1);
+    Ok(())
+}
+
 /// A place that is read while it is loaned again stays loaned, and can be regained once the reading ends. A reading that is
 /// forgotten keeps its place for good.
 #[test]

@@ -45,9 +45,9 @@ module _ {X K : Type 0} {rule : Ghosts K X} where
   abbrev pub next_of : Sender X K rule → ℕ
   next_of s = s.next
 
-  -- no value was left; or the set refused; or a place that was free is loaned, and there is no loan of it
+  -- no value was left, and nothing changed; or the set refused; or a place that was free is loaned, and there is no loan of it
   abbrev pub IsRefused : Sender X K rule → Sender X K rule → LoanFailure → Type 0
-  IsRefused old new NoValue = (spares_in old ≡ 0) × (places_of new ≡ places_of old)
+  IsRefused old new NoValue = (spares_in old ≡ 0) × (sender_of new ≡ sender_of old)
   IsRefused old new (NoPlace e) =
       WasRefused e (loans.pass_view (sender_of old)) (loans.pass_view (sender_of new)) × (places_of new ≡ places_of old)
   IsRefused old new (StillRead i) =

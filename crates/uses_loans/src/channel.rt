@@ -5,8 +5,9 @@ ghost use Rattle.lock_free.specs.Loan.Sender.{completion_of, submission_of};
 ghost use Rattle.lock_free.specs.declared.spsc.loan.places.Place.TheVariants.{Free};
 ghost use Rattle.lock_free.specs.Queues.Rings as queues;
 ghost use Rattle.lock_free.specs.Unique.Held.{HoldsNothing};
-ghost use Rattle.lock_free.specs.UniqueIndexSet.{made, set_refusal, IsPassOf};
+ghost use Rattle.lock_free.specs.UniqueIndexSet.{capacity_of, made, set_refusal, IsPassOf};
 ghost use Rattle.uses_loans.specs.Ends as ends;
+ghost use Rattle.uses_slots.specs.Slots.{slots_in};
 
 use crate::receiver::Receiver;
 use crate::sender::Sender;
@@ -20,11 +21,12 @@ use std::alloc::Global;
 use uses_slots::{Anything, Keeps, Slots};
 
 /// A channel of places, each with a slot, and of two queues: one by which they are sent, and one, with room for all of them, by
-/// which they come back. A value lies in its slot until the slot is used again or the channel is dropped.
+/// which they come back. A value lies in its slot until a loan of the place is sent, given up or dropped, the place is regained,
+/// or the channel is dropped.
 ///
-/// What a receiver had that is dropped stays Sent for as long as the sender lives, since the channel keeps its queues to itself.
-/// Whose sender is to outlive its receivers makes the parts, and the ends over them (`Sender::new`, `Receiver::new`), so that
-/// `reclaim` frees what was Sent.
+/// The channel keeps its queues to itself, so its sender cannot `reclaim`. What is Loaned or Sent when the sender ends is out for
+/// good, and what waits then comes to the next receiver with its old number. If a sender is to outlive its receivers, its user
+/// makes the parts, and the ends over them (`Sender::new`, `Receiver::new`), so that `reclaim` frees what was Sent.
 pub struct Channel<X: Drop, K: Keeps<X> = Anything> {
     set: UniqueIndexSet,
     pass: Pass,
@@ -36,6 +38,7 @@ pub struct Channel<X: Drop, K: Keeps<X> = Anything> {
     ghost of: { IsPassOf set pass },
     ghost submits: { queues.IsPassOf submission sending },
     ghost completes: { queues.IsPassOf completion returning },
+    ghost sized: { slots_in slots ≡ capacity_of set },
 }
 
 impl<X: Drop, K: Keeps<X>> Drop for Channel<X, K> {
@@ -55,14 +58,16 @@ impl<X: Drop, K: Keeps<X>> Drop for Channel<X, K> {
 impl<X: Drop, K: Keeps<X>> Channel<X, K> {
     ghost use Rattle.uses_loans.specs.Channels.{completion_in, places_of, set_in, submission_in};
 
-    /// A channel of so many places, from 1 to 2^24 - 2, of which so many wait at most, up to 2^32 - 1. Refused as
-    /// `UniqueIndexSet::new` of the places, then as the queues are, and memory. No atomic step.
+    /// Makes `places` places, from 1 to 2^24 - 2, of which at most `queue` wait, up to 2^32 - 1. Refused as
+    /// `UniqueIndexSet::new` of the places, then as the queues are, and where there is no memory. No atomic step.
     pub fn new(
         alloc: Global,
         places: usize,
         queue: usize,
     ) -> Result<Channel<X, K>, UniqueIndexCreationError>
         ensures places { IfOk result (λ c. places_of c ≡ places) }
+        ensures rooms { IfOk result
+            (λ c. ((submission_in c).capacity ≡ queue) × ((completion_in c).capacity ≡ places)) }
         ensures admitted { OnOk result (set_refusal places ≡ None) }
         ensures queue { OnOk result (capacity_refusal 0 (2 ^ 32 - 1) queue ≡ None) }
     {
@@ -85,7 +90,8 @@ impl<X: Drop, K: Keeps<X>> Channel<X, K> {
 
     /// The two ends, with the values that are to be written, which need not keep the rule yet: one more than there are places,
     /// and one more for each further loan that is in hand at a time. None where an earlier end was forgotten, where no further
-    /// pass can be counted, or where there is no memory. Two atomic steps for each end, and those of the splits.
+    /// pass can be counted, or where there is no memory, and then the values are dropped. Numbers begin at 0 again. Two atomic
+    /// steps for each end, and those of the splits.
     pub fn ends(
         &mut self,
         alloc: Global,
@@ -93,6 +99,7 @@ impl<X: Drop, K: Keeps<X>> Channel<X, K> {
     ) -> Option<(Sender<'_, X, K>, Receiver<'_, X, K>)>
         ensures free { IfSome result (λ e. ends.places_of e.0 ≡ replicate (places_of self.old) Free) }
         ensures next { IfSome result (λ e. ends.next_of e.0 ≡ 0) }
+        ensures places { IfSome result (λ e. ends.places_in e.1 ≡ places_of self.old) }
         ensures submission { IfSome result
             (λ e. ends.receives_queue e.1 ≡ submission_of (ends.sender_of e.0)) }
         ensures completion { IfSome result
@@ -123,6 +130,7 @@ impl<X: Drop, K: Keeps<X>> Channel<X, K> {
             × (queues.queue_of completion.1 ≡ completion_in self.now) }
         ensures free { IfSome result (λ e. ends.places_of e.0 ≡ replicate (places_of self.now) Free) }
         ensures next { IfSome result (λ e. ends.next_of e.0 ≡ 0) }
+        ensures places { IfSome result (λ e. ends.places_in e.1 ≡ places_of self.now) }
         ensures submission { IfSome result
             (λ e. ends.receives_queue e.1 ≡ submission_of (ends.sender_of e.0)) }
         ensures completion { IfSome result

@@ -10,7 +10,8 @@ use std::sync::Wait;
 use uses_slots::{Anything, Keeps, Reading, Slots};
 
 /// A place whose value may be read, until it is given back. It is a number, and may be sent to another thread. One that is
-/// dropped or forgotten leaves its place Sent, until the sender reclaims all that is Sent.
+/// dropped or forgotten leaves its place Sent until its receiver is gone and the sender reclaims, which that of a `Channel`
+/// cannot.
 #[derive(Debug, Drop)]
 pub struct Sample {
     place: u32,
@@ -27,7 +28,7 @@ impl Sample {
     }
 }
 
-/// A receiver. Where it is dropped, what it had stays Sent until the sender reclaims it.
+/// A receiver. Where it is dropped, what it had stays Sent until the sender reclaims it, which that of a `Channel` cannot.
 pub struct Receiver<'a, X: Drop, K: Keeps<X> = Anything> {
     receives: overflow::Consumer<'a>,
     returns: index_queue::Producer<'a>,
@@ -86,17 +87,19 @@ impl<'a, X: Drop, K: Keeps<X>> Receiver<'a, X, K> {
     }
 
     /// Reads a value that was received, where it lies: its number, and the value that keeps its rule with it. As long as it is
-    /// read, this receiver receives and gives back nothing and is not dropped, since the reading borrows it. None where the place
-    /// is empty or written, or 2^30 - 1 read it already, which of a sample in hand here only tests rule out.
+    /// read, this receiver receives and gives back nothing and is not dropped, since the reading borrows it. None where there is
+    /// no such place, or it is empty or written, or 2^30 - 1 read it already, which of a sample in hand here only tests rule out.
     ///
-    /// A load and a compare-exchange, and a subtraction as the reading is dropped. A reading that is forgotten keeps its place for
+    /// A load and a compare-exchange, again for each time that another reader comes or leaves, and a subtraction as the reading is
+    /// dropped. A reading that is forgotten keeps its place for
     /// good (`StillRead`).
     pub fn read(&self, sample: &Sample) -> Option<Reading<'_, X, K>> {
         self.slots.read(sample.place)
     }
 
     /// Gives a place back: true where the queue has room for each place (by no clause); false only where the queue is full, or at
-    /// its last position, and then the place stays Sent. The steps of `push`.
+    /// its last position, and then the place stays Sent. A sample of another receiver may free a place that is in hand. The steps
+    /// of `push`.
     pub fn give_back(&mut self, sample: Sample) -> bool
         ensures given { IsTrue result
             → HasPublished (Index (received sample)) (returns_view self.old) (returns_view self.new) }

@@ -17,10 +17,11 @@ use std::sync::Wait;
 use uses_slots::{Anything, Keeps, Slots, Writing};
 
 /// A place that is Loaned, and a value for it that is written in plain memory, until it is sent or given up. It stays in its
-/// thread. Where it is dropped, its value is dropped too, and its place stays Loaned until it is regained.
+/// thread. Where it is dropped, its value and what lay in its slot are dropped for good, and its place stays Loaned until it is
+/// regained. Where it is forgotten, its place stays Loaned for good.
 pub struct Loan<'a, X: Drop, K: Keeps<X> = Anything> {
     place: u32,
-    /// The value, where it is written. It is one that was sent before, or a spare as the sender was given it.
+    /// The value, where it is written. It was sent or given up before, or is a spare as the sender was given it.
     pub value: X,
     writing: Writing<'a, X, K>,
 }
@@ -88,7 +89,7 @@ impl<'a, X: Drop, K: Keeps<X>> Sender<'a, X, K> {
 
     /// A sender of values, over slots that are meant to be as many as the set of the `LoanSender` has indices, and with values to
     /// write, which need not keep the rule yet: one more than there are slots, and one more for each further loan that is in hand
-    /// at a time. No atomic step.
+    /// at a time. A loan that is dropped takes up to two of them away. Nobody else may write the slots. No atomic step.
     pub fn new(loans: LoanSender<'a>, slots: &'a Slots<X, K>, spares: Vec<X>) -> Sender<'a, X, K>
         ensures loans { sender_of result ≡ loans.entry }
         ensures spares { spares_in result ≡ vec_len spares }
@@ -114,6 +115,7 @@ impl<'a, X: Drop, K: Keeps<X>> Sender<'a, X, K> {
         ensures loaned { IfOk result (λ l. (place_at (places_of self.old) (loaned l) ≡ Free)
             × (places_of self.new ≡ slice_set (places_of self.old) (loaned l) Loaned)) }
         ensures is { IfOk result (λ l. IsLoaned (loaned l) (sender_of self.new)) }
+        ensures spares { IfOk result (λ l. spares_in self.new + 1 ≡ spares_in self.old) }
         ensures refused { IfErr result (IsRefused self.old self.new) }
         ensures next { next_of self.new ≡ next_of self.old }
         ensures same { IsSame (sender_of self.old) (sender_of self.new) }
@@ -138,7 +140,8 @@ impl<'a, X: Drop, K: Keeps<X>> Sender<'a, X, K> {
         })
     }
 
-    /// Whether a loan is of a place that is Loaned here, which `send` and `give_up` ask for. No atomic step.
+    /// Whether the number of the loan's place is Loaned here, which `send` and `give_up` ask for. A loan of another channel is not
+    /// told apart. No atomic step.
     pub fn is_loaned(&self, loan: &Loan<'a, X, K>) -> bool
         ensures { IsTrue result ↔ IsLoaned (loaned loan.now) (sender_of self.now) }
     {
@@ -177,8 +180,8 @@ impl<'a, X: Drop, K: Keeps<X>> Sender<'a, X, K> {
         self.loans.send(place)
     }
 
-    /// Gives a loan up: its place is Free, and its value is kept to be written again. One step on the slot, and those of
-    /// `LoanSender::give_up`.
+    /// Gives a loan up: its place is Free, and its value and what lay in its slot are kept to be written again (by no clause). One
+    /// step on the slot, and those of `LoanSender::give_up`.
     pub fn give_up(&mut self, loan: Loan<'a, X, K>)
         requires loaned { IsLoaned (loaned loan) (sender_of self.old) }
         ensures places { places_of self.new ≡ slice_set (places_of self.old) (loaned loan.entry) Free }
@@ -230,7 +233,7 @@ impl<'a, X: Drop, K: Keeps<X>> Sender<'a, X, K> {
     }
 
     /// Empties both queues, and frees each place that is Sent: how many. For a sender whose receiver is gone, with the receiver's
-    /// guard of the queue. The steps of `LoanSender::reclaim`.
+    /// guard of the queue. No sample of the former receiver may be used afterwards. The steps of `LoanSender::reclaim`.
     pub fn reclaim(&mut self, rt: &impl Wait, receiver: &mut overflow::Consumer<'_>) -> usize
         requires { consumer_queue receiver.old ≡ submission_of (sender_of self.old) }
         ensures places { places_of self.new ≡ map reclaimed (places_of self.old) }
@@ -254,6 +257,7 @@ impl<'a, X: Drop, K: Keeps<X>> Sender<'a, X, K> {
     pub fn finish(self) -> (Pass, Vec<X>)
         ensures view { view result.0 ≡ pass_view (sender_of self.entry) }
         ensures set { set_of result.0 ≡ set_of_sender (sender_of self.entry) }
+        ensures spares { vec_len result.1 ≡ spares_in self.entry }
     {
         let Sender {
             loans,
