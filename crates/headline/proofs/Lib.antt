@@ -9,3 +9,4 @@ pub mod Progressing
 pub mod Reached
 pub mod Reaching
 pub mod Worked
+pub mod WorkedLockFree

@@ -82,7 +82,7 @@ module _ {T : Type 0} where
         → Follows (Finished p (Bits bits.ResetNext) (Reset b)) before t.events
         → clears b (wrote_in (span_of p before)) ≡ 1
 
-  -- Each place was counted as often as was taken out of it in all, and as it counts now. A set has counted its place once.
+  -- What was counted at a place is what was taken out of it plus what it counts now. A set has counted its place once.
   pub record CountsRun (t : Trace T) : Type 0 where
     pub conserved : (b : ℕ) → counts b t.events ≡ takes b t.events + slice_index t.world.words b
     pub counted : (p b number : ℕ) (before : List (Event T))
@@ -105,7 +105,7 @@ module _ {T : Type 0} where
 
   -- ---- indices of owners
 
-  -- some index was filled at a moment of the party's latest call after that call had freed its own
+  -- at a moment of the party's latest call, after it had freed this index, some index stood filled
   abbrev pub FilledAfter : ℕ → ℕ → ℕ → List (Event T) → Type 0
   FilledAfter p index owner before =
       (other : ℕ)
@@ -123,8 +123,8 @@ module _ {T : Type 0} where
   -- for him or by a recovery that was told so.
   --
   -- A recovery that answers Unlocked has left no owner an index of his that it was told to free. It has asked about each index
-  -- that was filled with one owner during the whole call, or until the call itself freed it. In the mode that locks, some index
-  -- was filled after each that it freed.
+  -- that was filled with one owner during the whole call, or until the call itself freed it. In the mode that locks, for each
+  -- index that it freed there is a moment of the call, after it had freed this index, at which some index stood filled.
   pub record RobustRuns (t : Trace T) : Type 0 where
     pub no_two_fill : NoTwoHold fills t.events
     pub no_two_hold : IsWellFormed t.events → NoTwoHold grants t.events
@@ -151,8 +151,9 @@ module _ {T : Type 0} where
 
   -- ---- the container
 
-  -- The same of its indices. In a well-formed run what is copied is the element that stands, whole, and an add or a replace that
-  -- succeeded has placed its argument. What a party is asked about, and what its state shows, it has copied.
+  -- The same is true of its indices, but a recovery frees only its owner's. In a well-formed run what is copied is the element
+  -- that stands, whole, and an add or a replace that succeeded has placed its argument. What a party's call asks about is what
+  -- it has copied last. What a party's state shows, while no look of that party is under way, the party has copied.
   --
   -- A recovery that answers Unlocked has left its owner no index that it was told to free, or was shown empty. Each index that
   -- was filled with its owner during the whole call, or until the call itself freed it, it has asked about or was shown empty. A
@@ -292,8 +293,9 @@ module _ {T : Type 0} where
   -- A turn that was taken changes one word at most, as its operation says, leaves the calls of all other parties where they
   -- stood, and writes behind what was written.
   --
-  -- What a recovery of the robust set writes that it asks, it asks. A find there that has loaded a cell asks about its index just
-  -- where that is filled with its owner. A decision is the last word.
+  -- If a turn of a robust set writes that a call asks about an index of an owner, the call then asks about that index of that
+  -- owner. A find there that loads a cell then asks about its index if it is filled with the owner of the find, and else about
+  -- no index. In a robust set and in a container a call does not wait right after a decision.
   pub record Takes (old : Trace T) (turn : Turn T) (new : Trace T) : Type 0 where
     pub one_word : new.world.words ≡ words_after old.world.words (ask_in old.world turn)
     pub others_stay : (q : ℕ) → ¬ IsParty turn q → flight_in new.world q ≡ flight_in old.world q

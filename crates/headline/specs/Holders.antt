@@ -76,8 +76,8 @@ module _ {T : Type 0} where
   IsRelease index (Some (Indices (indices.Release i mode))) = i ≡ index
   IsRelease index call = ⊥
 
-  -- the call, which has done this to the set, gives it back for its owner, or is a recovery that was told so, of a container
-  -- one of that owner
+  -- The call, which has done this to the set, may free the index: it is a release or a remove of it for this owner, a recovery
+  -- of a robust set that heard yes of it, or a container's recovery of this owner.
   abbrev pub GivesBack : ℕ → ℕ → Option (Start T) → List SetAct → Type 0
   GivesBack index owner (Some (Robust (robust.Release i o mode))) all = (i ≡ index) × (o ≡ owner)
   GivesBack index owner (Some (Robust (robust.Recover mode))) all = IsOneOf (Yes index owner) all

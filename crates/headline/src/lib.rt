@@ -1,5 +1,5 @@
-//! What is proved of every machine, in one place: the statement to read first. The functions do nothing; the contract of each
-//! is a law, and what its words mean stands in `specs`.
+//! The main theorem about every machine, in one place: the statement to read first. The functions do nothing: the contract of
+//! each is a law, and what its words mean stands in `specs`.
 #![tactic(auto)]
 
 ghost use Rattle.std.specs.Prelude.{◌≡◌, ℕ, List, None, IfSome};
@@ -19,10 +19,13 @@ use machine::Machine;
 use model::coding::Coded;
 use steps::words::Words;
 
-/// Of every kind, at every admitted capacity, after every list of turns, of which those that are refused change nothing; and of
-/// each further turn that is not refused. Of the kinds that have a bound in `lock_free_bound`: whatever turns so many parties
-/// take from there, in more steps than the bound one of their calls ends. The same of a robust index set and of a container in
-/// which no call may lock, and of a loan channel as its machines run.
+/// `Holds` is true of a machine of every kind, at every admitted capacity, after every list of turns, of which those that are
+/// refused change nothing. `Takes` is true of each further turn that is not refused.
+///
+/// The kinds that have a bound in `lock_free_bound` are lock-free: whatever turns n parties take, of which none is refused, from
+/// any state that turns reach without a bound on turns and parties, in more steps than the bound says for n parties one of
+/// their calls ends. A robust index set and a container are lock-free in runs in which no call may lock. A loan channel is
+/// lock-free in the runs of machines, which have a bound on turns and parties.
 pub fn headline<T>()
     ensures runs { (code : Coding T) (kind : Kind) (capacity queue parties : ℕ) (turns : List (Turn T))
         → IsCoding code → capacity_error kind capacity ≡ None → queue_error kind queue ≡ None
@@ -36,7 +39,7 @@ pub fn headline<T>()
     ensures lock_free_channel { HasLockFreeRuns T Loan channel_bound }
 {}
 
-/// The same of a machine that somebody has.
+/// Of a machine that a caller has `Holds` is true, for some capacity of a submission queue.
 pub fn of_machine<T: Words>(machine: &Machine<T>)
     ensures { (queue : ℕ) × Holds queue (trace_in ⟦<T as Coded>⟧.coding machine.now) }
 {

@@ -8,7 +8,7 @@ use Rattle.model.specs.declared.event.Event.{Event}
 use Rattle.model.specs.declared.event.Event.TheVariants.{Begun, Filled, Granted, FreedOf, Copied, Shown, Finished}
 use Rattle.model.specs.declared.event.Start.{Start}
 use Rattle.model.specs.declared.event.Start.TheVariants.{Container, Robust}
-use Rattle.model.specs.declared.families.container.ContainerStart.TheVariants.{Add, Replace, Find, Recover, GetState, UpdateState}
+use Rattle.model.specs.declared.families.container.ContainerStart.TheVariants.{Add, Remove, Replace, Find, Recover, GetState, UpdateState}
 use Rattle.model.specs.declared.families.indices.robust.RobustStart.TheVariants as robust
 use Rattle.model.specs.declared.turn.Kind.TheVariants as kinds
 use Rattle.model.specs.declared.turn.Turn.{Turn}
@@ -31,6 +31,9 @@ runs events = ContainerRuns (container still events)
 
 abbrev add : Start ℕ
 add = Container (Add 5 7)
+
+abbrev remove : ℕ → ℕ → Start ℕ
+remove index owner = Container (Remove index owner Default)
 
 abbrev replace : Start ℕ
 replace = Container (Replace 0 5 7)
@@ -72,12 +75,37 @@ past = Begun 0 add ∷ Filled 0 5 7 ∷ Granted 0 5 7 ∷ []
 answered_past : runs (past ++ Finished 0 add (Index 5) ∷ []) → ⊥
 answered_past k = let e = (k.acquired 0 5 7 5 past ([], refl)).1 in absurd (omega arith)
 
--- an index is freed of an owner who has not filled it, or by an add
+-- an index is freed that is not filled, or that is filled with another owner
 freed_unfilled : runs (FreedOf 0 0 7 ∷ []) → ⊥
 freed_unfilled k = let e = (k.freed 0 0 7 [] ([], refl)).0 in cc
 
+abbrev of_another : List (Event ℕ)
+of_another = Filled 1 0 9 ∷ Begun 0 (remove 0 7) ∷ []
+
+freed_of_another : runs (of_another ++ FreedOf 0 0 7 ∷ []) → ⊥
+freed_of_another k = let e = (k.freed 0 0 7 of_another ([], refl)).0 in cc
+
+-- it is freed by an add, by a remove of another index or for another owner, or by a recovery of another owner
 freed_by_add : runs (Begun 0 add ∷ Filled 0 0 7 ∷ FreedOf 0 0 7 ∷ []) → ⊥
 freed_by_add k = (k.freed 0 0 7 (Begun 0 add ∷ Filled 0 0 7 ∷ []) ([], refl)).1
+
+abbrev wrong_index : List (Event ℕ)
+wrong_index = Filled 0 0 7 ∷ Filled 0 1 7 ∷ Begun 0 (remove 1 7) ∷ []
+
+freed_by_wrong_index : runs (wrong_index ++ FreedOf 0 0 7 ∷ []) → ⊥
+freed_by_wrong_index k = let e = (k.freed 0 0 7 wrong_index ([], refl)).1.0 in cc
+
+abbrev wrong_owner : List (Event ℕ)
+wrong_owner = Filled 0 0 7 ∷ Begun 0 (remove 0 9) ∷ []
+
+freed_by_wrong_owner : runs (wrong_owner ++ FreedOf 0 0 7 ∷ []) → ⊥
+freed_by_wrong_owner k = let e = (k.freed 0 0 7 wrong_owner ([], refl)).1.1 in cc
+
+abbrev wrong_recovery : List (Event ℕ)
+wrong_recovery = Filled 0 0 9 ∷ Begun 1 (recover Default) ∷ []
+
+freed_by_wrong_recovery : runs (wrong_recovery ++ FreedOf 1 0 9 ∷ []) → ⊥
+freed_by_wrong_recovery k = let e = (k.freed 1 0 9 wrong_recovery ([], refl)).1 in cc
 
 -- ---- elements, in a well-formed run
 

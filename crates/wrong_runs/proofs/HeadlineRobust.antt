@@ -8,9 +8,9 @@ use Rattle.model.specs.declared.event.Event.{Event}
 use Rattle.model.specs.declared.event.Event.TheVariants.{Begun, Filled, Granted, FreedOf, Asked, Told, Locked, Finished}
 use Rattle.model.specs.declared.event.Start.{Start}
 use Rattle.model.specs.declared.event.Start.TheVariants as starts
-use Rattle.model.specs.declared.families.indices.robust.RobustStart.TheVariants.{Acquire, Recover}
+use Rattle.model.specs.declared.families.indices.robust.RobustStart.TheVariants.{Acquire, Release, Recover}
 use Rattle.model.specs.Families.Indices.Robust.Promises.{FreesRight, IsFilled, HeldThroughout}
-use Rattle.model.specs.Families.Indices.Robust.Reading.{Asks, Frees, set_acts_of, IsOneOf}
+use Rattle.model.specs.Families.Indices.Robust.Reading.{SetAct, Asks, Frees, Yes, set_acts_of, IsOneOf}
 use Rattle.model.specs.Moments.{BeginsNone}
 use Rattle.model.proofs.Readings.{Each-append, Each-nil, no_more}
 use Rattle.headline.specs.Headline.{RobustRuns, FilledOrFreed}
@@ -24,6 +24,9 @@ robust events = RobustRuns (set (0 ∷ 7 ∷ 7 ∷ []) events)
 
 abbrev acquire : Start ℕ
 acquire = starts.Robust (Acquire 7)
+
+abbrev release : ℕ → ℕ → Start ℕ
+release index owner = starts.Robust (Release index owner Default)
 
 abbrev recover : ReleaseMode → Start ℕ
 recover mode = starts.Robust (Recover mode)
@@ -53,12 +56,41 @@ past = Begun 0 acquire ∷ Filled 0 5 7 ∷ Granted 0 5 7 ∷ []
 answered_past : robust (past ++ Finished 0 acquire (Index 5) ∷ []) → ⊥
 answered_past k = let e = (k.acquired 0 5 7 past ([], refl)).1 in absurd (omega arith)
 
--- an index is freed of an owner who has not filled it, or by an acquire
+-- an index is freed that is not filled, or that is filled with another owner
 freed_unfilled : robust (FreedOf 0 0 7 ∷ []) → ⊥
 freed_unfilled k = let e = (k.freed 0 0 7 [] ([], refl)).0 in cc
 
+abbrev of_another : List (Event ℕ)
+of_another = Filled 1 0 9 ∷ Begun 0 (release 0 7) ∷ []
+
+freed_of_another : robust (of_another ++ FreedOf 0 0 7 ∷ []) → ⊥
+freed_of_another k = let e = (k.freed 0 0 7 of_another ([], refl)).0 in cc
+
+-- it is freed by an acquire, by a release of another index or for another owner, or by a recovery that was told nothing
 freed_by_acquire : robust (Begun 0 acquire ∷ Filled 0 0 7 ∷ FreedOf 0 0 7 ∷ []) → ⊥
 freed_by_acquire k = (k.freed 0 0 7 (Begun 0 acquire ∷ Filled 0 0 7 ∷ []) ([], refl)).1
+
+abbrev wrong_index : List (Event ℕ)
+wrong_index = Filled 0 0 7 ∷ Filled 0 1 7 ∷ Begun 0 (release 1 7) ∷ []
+
+freed_by_wrong_index : robust (wrong_index ++ FreedOf 0 0 7 ∷ []) → ⊥
+freed_by_wrong_index k = let e = (k.freed 0 0 7 wrong_index ([], refl)).1.0 in cc
+
+abbrev wrong_owner : List (Event ℕ)
+wrong_owner = Filled 0 0 7 ∷ Begun 0 (release 0 9) ∷ []
+
+freed_by_wrong_owner : robust (wrong_owner ++ FreedOf 0 0 7 ∷ []) → ⊥
+freed_by_wrong_owner k = let e = (k.freed 0 0 7 wrong_owner ([], refl)).1.1 in cc
+
+abbrev untold : List (Event ℕ)
+untold = Filled 0 0 7 ∷ Begun 1 (recover Default) ∷ Asked 1 0 7 ∷ []
+
+no_yes : (before after : List SetAct) → Asks 0 7 ∷ [] ≡ before ++ Yes 0 7 ∷ after → ⊥
+no_yes [] after e = cc
+no_yes (a ∷ before) after e = let rest : [] ≡ before ++ Yes 0 7 ∷ after = cc in no_more before (Yes 0 7) after rest
+
+freed_untold : robust (untold ++ FreedOf 1 0 7 ∷ []) → ⊥
+freed_untold k = let yes = (k.freed 1 0 7 untold ([], refl)).1 in no_yes yes.before yes.after yes.is
 
 -- a recovery that answers Unlocked leaves an index that it was told to free
 abbrev told : List (Event ℕ)

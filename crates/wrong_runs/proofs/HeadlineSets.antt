@@ -1,13 +1,14 @@
 -- For each field of what `headline` says of bit sets, counting bit sets and the unique index set a run that this field
 -- refuses here.
-use Rattle.std.proofs.Common.{◌≡◌, ◌≤◌, ℕ, true, List, [], ◌∷◌, length, refl, ap, arith}
+use Rattle.std.proofs.Common.{◌≡◌, ◌≤◌, ℕ, true, List, [], ◌∷◌, ◌++◌, length, refl, ap, arith}
+use Rattle.steps.specs.declared.indices.enums.ReleaseMode.TheVariants.{Default}
 use Rattle.model.specs.declared.event.Answer.TheVariants.{Index, Truth, Number, Reset}
 use Rattle.model.specs.declared.event.Event.{Event}
 use Rattle.model.specs.declared.event.Event.TheVariants.{Begun, Claimed, Freed, Locked, Finished}
 use Rattle.model.specs.declared.event.Start.{Start}
 use Rattle.model.specs.declared.event.Start.TheVariants.{Bits, Indices}
 use Rattle.model.specs.declared.families.bits.BitsStart.TheVariants.{Set, ResetNext}
-use Rattle.model.specs.declared.families.indices.IndexStart.TheVariants.{Acquire}
+use Rattle.model.specs.declared.families.indices.IndexStart.TheVariants.{Acquire, Release}
 use Rattle.model.specs.Families.Indices.Spans.{SetActs}
 use Rattle.headline.specs.Headline.{BitsRun, CountsRun, IndicesRun}
 use Rattle.wrong_runs.proofs.Bits.{bits, counts}
@@ -43,6 +44,9 @@ indices events = IndicesRun (set (0 ∷ 1 ∷ 2 ∷ 0 ∷ []) events)
 abbrev acquire : Start ℕ
 acquire = Indices Acquire
 
+abbrev release : ℕ → Start ℕ
+release index = Indices (Release index Default)
+
 pub two : (holders : List ℕ) → length holders ≤ 1 → length holders ≡ 2 → ⊥
 two holders few are = absurd (omega arith)
 
@@ -61,9 +65,22 @@ answered_unclaimed k = let e = ap (λ (d : SetActs). d.claimed) (k.acquired 0 0 
 answered_past : indices (Begun 0 acquire ∷ Claimed 0 5 ∷ Finished 0 acquire (Index 5) ∷ []) → ⊥
 answered_past k = let e = (k.acquired 0 5 (Begun 0 acquire ∷ Claimed 0 5 ∷ []) ([], refl)).1 in absurd (omega arith)
 
--- an index is freed that nobody holds, or by another call than a release of it
+-- an index is freed that nobody holds, or that another party holds
 freed_unheld : indices (Freed 0 0 ∷ []) → ⊥
 freed_unheld k = let e = (k.freed 0 0 [] ([], refl)).0 in cc
 
+abbrev of_another : List (Event ℕ)
+of_another = Claimed 1 0 ∷ Begun 0 (release 0) ∷ []
+
+freed_of_another : indices (of_another ++ Freed 0 0 ∷ []) → ⊥
+freed_of_another k = let e = (k.freed 0 0 of_another ([], refl)).0 in cc
+
+-- it is freed by an acquire, or by a release of another index
 freed_by_acquire : indices (Begun 0 acquire ∷ Claimed 0 0 ∷ Freed 0 0 ∷ []) → ⊥
 freed_by_acquire k = (k.freed 0 0 (Begun 0 acquire ∷ Claimed 0 0 ∷ []) ([], refl)).1
+
+abbrev wrong_release : List (Event ℕ)
+wrong_release = Claimed 0 0 ∷ Claimed 0 1 ∷ Begun 0 (release 1) ∷ []
+
+freed_by_wrong_release : indices (wrong_release ++ Freed 0 0 ∷ []) → ⊥
+freed_by_wrong_release k = let e = (k.freed 0 0 wrong_release ([], refl)).1 in cc
