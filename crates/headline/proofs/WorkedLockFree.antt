@@ -161,6 +161,10 @@ record IsEndless (t : Trace ℕ) (kind : Kind) (turns : List (Turn ℕ)) (steps 
   pub ended_before : ends t.events ≡ 1
   pub ended_after : ends (after_turns t turns).events ≡ 1
 
+-- party 0 is the only one below 1
+low : 0 < 1
+low = omega arith
+
 none_more : (before after ended : ℕ) → before ≡ ended → after ≡ ended → before < after → ⊥
 none_more before after ended was is less = absurd (omega arith)
 
@@ -192,7 +196,7 @@ robust =
       capacity = refl;
       size = refl;
       allowed = (refl, (refl, (refl, (refl, (refl, (refl, (refl, tt)))))));
-      below = (omega arith, (omega arith, (omega arith, (omega arith, (omega arith, (omega arith, (omega arith, tt)))))));
+      below = (low, (low, (low, (low, (low, (low, (low, tt)))))));
       such = (tt, (tt, (tt, (tt, (tt, (tt, (tt, tt)))))));
       many = refl;
       ended_before = refl;
@@ -217,31 +221,7 @@ container =
       capacity = refl;
       size = refl;
       allowed = (refl, (refl, (refl, (refl, (refl, (refl, (refl, (refl, (refl, (refl, (refl, (refl, tt))))))))))));
-      below = (
-        omega arith,
-        (
-          omega arith,
-          (
-            omega arith,
-            (
-              omega arith,
-              (
-                omega arith,
-                (
-                  omega arith,
-                  (
-                    omega arith,
-                    (
-                      omega arith,
-                      (omega arith, (omega arith, (omega arith, (omega arith, tt)))),
-                    ),
-                  ),
-                ),
-              ),
-            ),
-          ),
-        ),
-      );
+      below = (low, (low, (low, (low, (low, (low, (low, (low, (low, (low, (low, (low, tt))))))))))));
       such = (tt, (tt, (tt, (tt, (tt, (tt, (tt, (tt, (tt, (tt, (tt, (tt, tt))))))))))));
       many = refl;
       ended_before = refl;
