@@ -1,20 +1,26 @@
-//! The table of the bus of `uses_bus`, beside records that are copied.
+//! The table of records that go through the bus of `uses_bus`, through the channel of `uses_loans` and by `Arc` through a ring,
+//! beside records that are copied; and the table of one who is stopped in its call.
 
+mod by_arcs;
 mod by_bus;
 mod by_copy;
+mod by_loans;
 mod passing;
+mod stopped;
 
 use crate::timing::{ROUNDS, median, quotient};
 use by_bus::{sizes_of, spares};
 use by_copy::Waiting;
-use passing::{Ends, Reader, Writer};
+use passing::{Ends, Reader, WAITING, Writer};
 use std::alloc::Global;
 use std::io;
 use std::sync::{Mutex, Wait};
 use std::thread::Threads;
 use std::time::{Clock, CpuClock, Instant};
+use stopped::{STOPPED_FOR, beside_lock, beside_pool};
 use uses_bus::bus::Bus;
 use uses_bus::error::BusError;
+use uses_loans::channel::Channel;
 
 /// What a row is about: records of so many words, each of which so many read, how many of them a round passes, and whether a
 /// thread writes them while another reads.
@@ -104,11 +110,11 @@ fn time<W: Writer + Send, D: Reader + Send, R: Wait + Threads + Clock + CpuClock
     }
 }
 
-/// What the rounds of a row came to: records a second by either way, and how many times as many the bus passes, in
-/// hundredths; and whether the same was read of both.
+/// What the rounds of a row came to: records a second by the way that it is about and by copies, how many times as many the
+/// former passes, in hundredths, and whether the same was read of both.
 #[derive(Clone, Copy)]
 struct Came {
-    bus: u64,
+    ours: u64,
     copies: u64,
     ratio: u64,
     same: bool,
@@ -121,42 +127,42 @@ fn rounds<
     X: Writer + Send,
     Y: Reader + Send,
     R: Wait + Threads + Clock + CpuClock + Sync,
->(rt: &R, passed: &Passed, bus: &mut Ends<W, D>, copies: &mut Ends<X, Y>) -> Option<Came> {
-    let mut of_bus = [0u64; ROUNDS];
+>(rt: &R, passed: &Passed, ours: &mut Ends<W, D>, copies: &mut Ends<X, Y>) -> Option<Came> {
+    let mut of_ours = [0u64; ROUNDS];
     let mut of_copies = [0u64; ROUNDS];
     let mut ratios = [0u64; ROUNDS];
     let mut same = true;
     for round in 0..ROUNDS {
-        let (first, sum) = time(rt, bus, passed)?;
+        let (first, sum) = time(rt, ours, passed)?;
         let (second, other) = time(rt, copies, passed)?;
         same = same && sum == other;
-        of_bus[round] = quotient(passed.records, first, 1_000_000_000);
+        of_ours[round] = quotient(passed.records, first, 1_000_000_000);
         of_copies[round] = quotient(passed.records, second, 1_000_000_000);
         ratios[round] = quotient(second, first, 100);
     }
     Some(Came {
-        bus: median(&of_bus),
+        ours: median(&of_ours),
         copies: median(&of_copies),
         ratio: median(&ratios),
         same,
     })
 }
 
-/// The same of an end of a bus, beside a buffer under a lock.
+/// The same of one way, beside a buffer under a lock.
 fn rounds_beside<W: Writer + Send, D: Reader + Send, R: Wait + Threads + Clock + CpuClock + Sync>(
     rt: &R,
     alloc: Global,
     passed: &Passed,
-    bus: &mut Ends<W, D>,
+    ours: &mut Ends<W, D>,
 ) -> Option<Came> {
     let waiting = Waiting::new(alloc, passed.words).ok()?;
     let shared = Mutex::new(waiting);
     let mut copies = by_copy::ends(alloc, &shared, passed.words, passed.readers).ok()?;
-    rounds(rt, passed, bus, &mut copies)
+    rounds(rt, passed, ours, &mut copies)
 }
 
-/// What comes of a row.
-fn run<R: Wait + Threads + Clock + CpuClock + Sync>(
+/// What comes of a row of the bus.
+fn run_bus<R: Wait + Threads + Clock + CpuClock + Sync>(
     rt: &R,
     alloc: Global,
     passed: &Passed,
@@ -172,19 +178,44 @@ fn run<R: Wait + Threads + Clock + CpuClock + Sync>(
     Ok(rounds_beside(rt, alloc, passed, &mut ends))
 }
 
-/// Prints a row.
-fn print_row(rt: &impl Print, passed: &Passed, came: Came) -> io::Result<()> {
+/// The same of a typed loan channel, which has one who reads.
+fn run_loans<R: Wait + Threads + Clock + CpuClock + Sync>(
+    rt: &R,
+    alloc: Global,
+    passed: &Passed,
+) -> Option<Came> {
+    let spares = spares(alloc, passed.words).ok()?;
+    let mut channel = Channel::new(alloc, WAITING, WAITING).ok()?;
+    let mut ends = by_loans::ends(alloc, &mut channel, spares)?;
+    rounds_beside(rt, alloc, passed, &mut ends)
+}
+
+/// The same of records in an `Arc`, which go through a ring that has one who reads.
+fn run_arcs<R: Wait + Threads + Clock + CpuClock + Sync>(
+    rt: &R,
+    alloc: Global,
+    passed: &Passed,
+) -> Option<Came> {
+    let mut ends = by_arcs::ends(alloc, passed.words).ok()?;
+    rounds_beside(rt, alloc, passed, &mut ends)
+}
+
+/// Prints a row, of what came of it.
+fn print_row(rt: &impl Print, way: &str, passed: &Passed, came: Option<Came>) -> io::Result<()> {
+    let Some(came) = came else {
+        return println!(rt; "{way}, {}: no memory, no clock, or no record", passed.name);
+    };
     let said = if came.same {
         ""
     } else {
         " not the same answers"
     };
     println!(rt;
-        "| {} | {} | {} | {} | {} | {}.{}{} |{said}",
+        "| {way} | {} | {} | {} | {} | {} | {}.{}{} |{said}",
         passed.name,
         passed.words.saturating_mul(8),
         passed.readers,
-        came.bus,
+        came.ours,
         came.copies,
         came.ratio / 100,
         came.ratio / 10 % 10,
@@ -192,20 +223,55 @@ fn print_row(rt: &impl Print, passed: &Passed, came: Came) -> io::Result<()> {
     )
 }
 
-/// Prints the table.
-pub fn print_table<R: Wait + Threads + Clock + CpuClock + Print + Sync>(
+/// Prints the table of records that go from a writer to readers.
+fn print_ways<R: Wait + Threads + Clock + CpuClock + Print + Sync>(
     rt: &R,
     alloc: Global,
 ) -> io::Result<()> {
     println!(rt;
-        "| records | bytes | subscribers | by the bus, a second | copied through a Mutex and a Vec, a second | ratio |"
+        "| by | records | bytes | subscribers | this way, a second | copied through a Mutex and a Vec, a second | ratio |"
     )?;
-    println!(rt; "|---|---|---|---|---|---|")?;
+    println!(rt; "|---|---|---|---|---|---|---|")?;
     for passed in rows().iter() {
-        match run(rt, alloc, passed) {
-            Ok(Some(came)) => print_row(rt, passed, came)?,
-            _ => println!(rt; "{}: no memory, no clock, or no record", passed.name)?,
+        let by_bus = run_bus(rt, alloc, passed).unwrap_or(None);
+        print_row(rt, "the bus", passed, by_bus)?;
+        if passed.readers == 1 {
+            print_row(rt, "the loan channel", passed, run_loans(rt, alloc, passed))?;
+            print_row(rt, "Arc and rtrb", passed, run_arcs(rt, alloc, passed))?;
         }
     }
     Ok(())
+}
+
+/// Prints the table of three who write records while a fourth is stopped.
+fn print_stopped<R: Wait + Threads + Clock + Print + Sync>(
+    rt: &R,
+    alloc: Global,
+) -> io::Result<()> {
+    println!(rt;
+        "| one of four threads is stopped for | bytes | records of the three meanwhile, of a pool | under a Mutex |"
+    )?;
+    println!(rt; "|---|---|---|---|")?;
+    for words in [8usize, 512, 8192].iter() {
+        let of_pool = beside_pool(rt, alloc, *words);
+        let of_lock = beside_lock(rt, alloc, *words);
+        match (of_pool, of_lock) {
+            (Some(of_pool), Some(of_lock)) => println!(rt;
+                "| {STOPPED_FOR} ms | {} | {of_pool} | {of_lock} |",
+                words.saturating_mul(8)
+            )?,
+            _ => println!(rt; "stopped: no memory, or no place")?,
+        }
+    }
+    Ok(())
+}
+
+/// Prints both tables.
+pub fn print_tables<R: Wait + Threads + Clock + CpuClock + Print + Sync>(
+    rt: &R,
+    alloc: Global,
+) -> io::Result<()> {
+    print_ways(rt, alloc)?;
+    println!(rt)?;
+    print_stopped(rt, alloc)
 }

@@ -1,7 +1,7 @@
 //! Times each threaded call against the same steps written by hand, and prints a table. The first argument is what the
 //! name of a row begins with, or `all`; without one it times nothing. With a second one, `together`, these are the rows in
-//! which several threads make the calls at once. `bus` prints a table of its own, of records that go through a bus.
-//! `bin/bench` builds it and runs it.
+//! which several threads make the calls at once. `bus` prints two tables of its own, of records that go from thread to
+//! thread. `bin/bench` builds it and runs it.
 #![tactic(auto)]
 
 mod bits;
@@ -90,7 +90,7 @@ fn main(rt: HostRuntime) -> io::Result<()> {
         );
     };
     if wanted.as_str() == "bus" {
-        return bus::print_table(&rt, rt.alloc());
+        return bus::print_tables(&rt, rt.alloc());
     }
     println!(rt; "| call | capacity | steps | driven, ns | by hand, ns | ratio |")?;
     println!(rt; "|---|---|---|---|---|---|")?;

@@ -1,0 +1,83 @@
+//! Records that a writer and a reader share by `Arc`, which go through a ring of `rtrb`.
+
+use super::by_copy::blank;
+use super::passing::{Ends, LOOKS, Reader, WAITING, Writer, pause, word_of};
+use rtrb::{Consumer, Producer, RingBuffer};
+use std::alloc::{AllocError, Global};
+use std::sync::{Arc, Wait};
+
+/// A record that is shared.
+type Shared = Arc<Vec<u64>, Global>;
+
+/// Who writes records where they lie, as soon as nobody else has them, and passes them on.
+#[derive(Drop)]
+pub struct Shares {
+    ring: Producer<Shared>,
+    records: Vec<Shared>,
+}
+
+/// Who reads them there.
+#[derive(Drop)]
+pub struct Looks {
+    ring: Consumer<Shared>,
+}
+
+/// Writes a record of this number where nobody else has it: whether nobody has.
+#[inline(always)]
+fn is_written(record: &mut Shared, number: u64) -> bool {
+    let Some(words) = Arc::get_mut(record) else {
+        return false;
+    };
+    for (at, word) in words.iter_mut().enumerate() {
+        *word = word_of(number, at);
+    }
+    true
+}
+
+impl Writer for Shares {
+    #[inline(always)]
+    fn write<R: Wait>(&mut self, _rt: &R, number: u64) -> bool {
+        let at = (number % WAITING as u64) as usize;
+        for looks in 0..LOOKS {
+            let Some(record) = self.records.get_mut(at) else {
+                return false;
+            };
+            if is_written(record, number) {
+                return match Arc::try_clone(record) {
+                    Ok(record) => self.ring.push(record).is_ok(),
+                    Err(_) => false,
+                };
+            }
+            pause(looks);
+        }
+        false
+    }
+}
+
+impl Reader for Looks {
+    #[inline(always)]
+    fn read<R: Wait>(&mut self, _rt: &R) -> Option<u64> {
+        let record = self.ring.pop().ok()?;
+        let mut sum = 0u64;
+        for word in record.iter() {
+            sum = sum.wrapping_add(*word);
+        }
+        Some(sum)
+    }
+}
+
+/// The two ends, with as many records as may wait, each of so many words.
+pub fn ends(alloc: Global, words: usize) -> Result<Ends<Shares, Looks>, AllocError> {
+    let mut records = Vec::with_capacity(alloc, WAITING)?;
+    for _ in 0..WAITING {
+        records.push(Arc::new(alloc, blank(alloc, words)?)?)?;
+    }
+    let (producer, consumer) = RingBuffer::new(alloc, WAITING)?;
+    Ok(Ends {
+        writer: Shares {
+            ring: producer,
+            records,
+        },
+        reader: Looks { ring: consumer },
+    })
+}

@@ -1,0 +1,94 @@
+//! Records that are written and read in the slots of a typed loan channel.
+
+use super::passing::{Ends, LOOKS, Reader, Writer, pause, word_of};
+use std::alloc::Global;
+use std::sync::Wait;
+use uses_loans::channel::Channel;
+use uses_loans::receiver::{Receiver, Sample};
+use uses_loans::sender::{Loan, Sender};
+
+/// Who writes records into places that it loans, and sends them.
+pub struct Sends<'a> {
+    sender: Sender<'a, Vec<u64>>,
+}
+
+impl<'a> Drop for Sends<'a> {
+    fn drop(self) {
+        let Self { sender: _sender } = self;
+    }
+}
+
+/// Who reads them there, and gives the places back.
+pub struct Gets<'a> {
+    receiver: Receiver<'a, Vec<u64>>,
+}
+
+impl<'a> Drop for Gets<'a> {
+    fn drop(self) {
+        let Self {
+            receiver: _receiver,
+        } = self;
+    }
+}
+
+impl<'a> Sends<'a> {
+    /// A place, as soon as one is free.
+    #[inline(always)]
+    fn next_loan<R: Wait>(&mut self, rt: &R) -> Option<Loan<'a, Vec<u64>>> {
+        for looks in 0..LOOKS {
+            self.sender.take_back();
+            if let Ok(loan) = self.sender.loan(rt) {
+                return Some(loan);
+            }
+            pause(looks);
+        }
+        None
+    }
+}
+
+impl<'a> Writer for Sends<'a> {
+    #[inline(always)]
+    fn write<R: Wait>(&mut self, rt: &R, number: u64) -> bool {
+        let Some(mut loan) = self.next_loan(rt) else {
+            return false;
+        };
+        for (at, word) in loan.value.iter_mut().enumerate() {
+            *word = word_of(number, at);
+        }
+        self.sender.is_loaned(&loan) && self.sender.send(loan).is_none()
+    }
+}
+
+/// The sum of the words of a record.
+#[inline(always)]
+fn sum_of(receiver: &Receiver<'_, Vec<u64>>, sample: &Sample) -> Option<u64> {
+    let reading = receiver.read(sample)?;
+    let mut sum = 0u64;
+    for word in reading.get().iter() {
+        sum = sum.wrapping_add(*word);
+    }
+    Some(sum)
+}
+
+impl<'a> Reader for Gets<'a> {
+    #[inline(always)]
+    fn read<R: Wait>(&mut self, rt: &R) -> Option<u64> {
+        let sample = self.receiver.receive(rt)?;
+        let sum = sum_of(&self.receiver, &sample)?;
+        self.receiver.give_back(sample);
+        Some(sum)
+    }
+}
+
+/// The two ends of a channel. None where they are refused.
+pub fn ends(
+    alloc: Global,
+    channel: &mut Channel<Vec<u64>>,
+    spares: Vec<Vec<u64>>,
+) -> Option<Ends<Sends<'_>, Gets<'_>>> {
+    let (sender, receiver) = channel.ends(alloc, spares)?;
+    Some(Ends {
+        writer: Sends { sender },
+        reader: Gets { receiver },
+    })
+}
