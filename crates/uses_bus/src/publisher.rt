@@ -177,8 +177,9 @@ impl<'a, X: Drop, K: Keeps<X>> Publisher<'a, X, K> {
 
     /// A free slot, which the publisher alone holds, with a record to write. Refused as follows:
     ///
-    /// - where no record is left to write (`NoRecord`), and then nothing changes. With one record more than there are slots, who
-    ///   has one loan at a time always finds one; each further loan in hand needs one more (by no clause);
+    /// - where no record is left to write (`NoRecord`), and then nothing changes. One record more than there are slots is enough
+    ///   for one loan at a time, and one more for each further loan in hand, as long as no loan is dropped: a dropped loan drops
+    ///   its record and what lay in its slot (by no clause);
     /// - where each slot is out, or the pool is locked (`NoSlot`), and then nothing changes;
     /// - where somebody still reads the slot, who has it not: a reading that was forgotten, or a sample that another than its
     ///   subscriber reads (`StillRead`). The slot stays out, so that the next loan gets another; `reclaim` tries it again.

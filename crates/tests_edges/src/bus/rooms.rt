@@ -293,3 +293,18 @@ pub fn first_wrong(
     }
     Ok(first_wrong_in(rt, &mut room, steps, rounds))
 }
+
+/// How many of so many records a publisher hands out in the end who gave up a loan. None where there is no loan.
+pub fn left_of(rt: &impl Wait, alloc: Global, number: usize) -> Result<Option<usize>, BusError> {
+    let (mut bus, pass): (Bus<Words>, _) = Bus::new(alloc, SIZES)?;
+    let Ok(spares) = spares(alloc, number, WORDS) else {
+        return Err(BusError::NoMemory);
+    };
+    let mut publisher = bus.publisher(rt, alloc, pass, spares)?;
+    let Ok(loan) = publisher.loan(rt) else {
+        return Ok(None);
+    };
+    publisher.give_up(loan);
+    let (_, left) = publisher.finish();
+    Ok(Some(left.len()))
+}

@@ -4,7 +4,7 @@ use crate::bus::rooms::Step::{
     Keeps, Leaves, Loans, Out, Publishes, Reads, Reclaims, Recovers, Updates,
 };
 use crate::bus::rooms::Who::{One, Other};
-use crate::bus::rooms::{SIZES, Step, first_wrong};
+use crate::bus::rooms::{SIZES, Step, first_wrong, left_of};
 use crate::bus::words::Words;
 use std::sync::Wait;
 use std::test::Fail;
@@ -75,7 +75,7 @@ const LEFT: [Step; 14] = [
 ];
 
 /// What one who died had comes back once he is recovered, and not before; nor is his place free.
-const DEAD: [Step; 16] = [
+const DEAD: [Step; 17] = [
     Publishes(0, 2),
     Keeps(Other),
     Publishes(1, 2),
@@ -91,6 +91,7 @@ const DEAD: [Step; 16] = [
     Joins(Other, 3),
     Publishes(2, 2),
     Reads(Other, 2),
+    FindsNone(Other),
     Reads(One, 2),
 ];
 
@@ -153,13 +154,16 @@ const DROPPED: [Step; 9] = [
     IsNext(1),
 ];
 
+/// The record of a loan that is given up is written again, and so is what lay in its slot.
+const GIVEN_UP: [Step; 3] = [Publishes(0, 0), Loans(true), GivesUp];
+
 const JOIN: [Step; 3] = [Joins(One, 1), Joins(Other, 2), HasSeat(false)];
 
 const JOIN_ONE: [Step; 1] = [Joins(One, 1)];
 
 #[test]
 fn rows(rt: HostRuntime) -> Result<(), Fail> {
-    let rows: [(&str, &[Step], &[Step], usize); 9] = [
+    let rows: [(&str, &[Step], &[Step], usize); 10] = [
         ("BOTH", &JOIN, &BOTH, 100),
         ("SLOW", &JOIN_ONE, &SLOW, 3),
         ("LOANS", &[], &LOANS, 1),
@@ -169,11 +173,19 @@ fn rows(rt: HostRuntime) -> Result<(), Fail> {
         ("SEATS", &[], &SEATS, 1),
         ("FORGOTTEN", &JOIN_ONE, &FORGOTTEN, 1),
         ("DROPPED", &[], &DROPPED, 1),
+        ("GIVEN_UP", &[], &GIVEN_UP, 100),
     ];
     for (name, begin, steps, rounds) in &rows {
         let wrong = first_wrong(&rt, rt.alloc(), begin, steps, *rounds)?;
         assert_eq!(rt; wrong, None, "{name}");
     }
+    Ok(())
+}
+
+/// All records come back from a publisher who has none in a slot.
+#[test]
+fn a_publisher_hands_its_records_out(rt: HostRuntime) -> Result<(), Fail> {
+    assert_eq!(rt; left_of(&rt, rt.alloc(), 5)?, Some(5));
     Ok(())
 }
 

@@ -1,0 +1,13 @@
+//! The slots of `uses_slots`, and the typed loan channel and the pool of `uses_loans`, by turns in one thread and between two.
+#![tactic(auto)]
+
+#[cfg(test)]
+mod parts;
+#[cfg(test)]
+mod pool;
+#[cfg(test)]
+mod slots;
+#[cfg(test)]
+mod threads;
+#[cfg(test)]
+mod turns;
