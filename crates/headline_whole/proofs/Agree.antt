@@ -1,0 +1,120 @@
+-- A call of one family, named as one of it, where that family's registry is kept: what its step comes to.
+use Rattle.std.proofs.Common.{◌≡◌, ℕ, ◌==◌, Bool, true, false, Option, Some, None, List, [], ◌∷◌, ◌++◌, refl, subst, if◌then◌else◌}
+use Rattle.std.specs.List.{flat_map}
+use Rattle.steps.specs.declared.ask.After.{After}
+use Rattle.steps.specs.declared.ask.After.TheVariants.{GoOn, Done}
+use Rattle.steps.specs.declared.indices.enums.ReleaseState.TheVariants.{Locked}
+use Rattle.model.specs.declared.event.Answer.{Answer}
+use Rattle.model.specs.declared.event.Answer.TheVariants as answers
+use Rattle.model.specs.declared.event.Event.{Event}
+use Rattle.model.specs.declared.event.Start.{Start}
+use Rattle.model.specs.declared.event.Start.TheVariants as starts
+use Rattle.model.specs.declared.families.Flight.{Flight}
+use Rattle.model.specs.declared.families.Flight.TheVariants as flights
+use Rattle.model.specs.declared.families.Registry.{Registry}
+use Rattle.model.specs.declared.families.Registry.TheVariants as registries
+use Rattle.model.specs.declared.families.atomic.AtomicStart.{AtomicStart}
+use Rattle.model.specs.declared.families.atomic.AtomicStart.TheVariants as values
+use Rattle.model.specs.declared.families.queues.QueueStart.{QueueStart}
+use Rattle.model.specs.declared.families.queues.effects.Effect.{Effect}
+use Rattle.model.specs.declared.families.queues.effects.Effect.TheVariants.{Quiet, Acts, Publishes, PublishesAndActs, HandsOut, TakesOut, MakesRoom}
+use Rattle.model.specs.Coding.{Coding}
+use Rattle.model.specs.Families.{after_of, step_of, kept_after_death}
+use Rattle.model.specs.Families.Atomic.Calls as value_calls
+use Rattle.model.specs.Families.Atomic.Steps as value_steps
+use Rattle.model.specs.Families.Indices.Calls as index_calls
+use Rattle.model.specs.Families.Indices.Steps as index_steps
+use Rattle.model.specs.Families.Queues.Calls as queue_calls
+use Rattle.model.specs.Families.Queues.Steps as queue_steps
+use Rattle.model.specs.Step.{as_call, answer_in}
+use Rattle.headline_whole.specs.Whole as whole
+
+module _ {T : Type 0} where
+  abbrev pub Agree : Start T → Flight T → Registry T → Type 0
+  Agree (starts.Queues start) (flights.Queues flight) (registries.Queues roles) = Unit {0}
+  Agree (starts.Atomic start) (flights.Atomic flight) (registries.Atomic producer) = Unit {0}
+  Agree (starts.Indices start) (flights.Indices flight) (registries.Indices holders) = Unit {0}
+  Agree start flight kept = ⊥
+
+  -- ---- it goes on as its table says
+
+  pub goes_so : (code : Coding T) (words : List ℕ) (beside : Option (ℕ × ℕ)) (p : ℕ) (start : Start T) (flight : Flight T) (old : ℕ)
+      (kept : Registry T) → Agree start flight kept
+      → (step_of code words beside p start flight old kept).after ≡ after_of code flight old
+  goes_so code words beside p (starts.Queues start) (flights.Queues flight) old (registries.Queues roles) h = refl
+  goes_so code words beside p (starts.Atomic start) (flights.Atomic flight) old (registries.Atomic producer) h = refl
+  goes_so code words beside p (starts.Indices start) (flights.Indices flight) old (registries.Indices holders) h = refl
+  goes_so code words beside p start flight old kept h = absurd h
+
+  -- ---- and then stays one of its family
+
+  same_flight : (f d : Flight T) → ◌≡◌ {A = After (Flight T) (Answer T)} (GoOn f) (GoOn d) → f ≡ d
+  same_flight f d e = cc
+
+  stays : {R : Type 0} (start : Start T) (kept : Registry T) (outer : R → Flight T) → ((r : R) → Agree start (outer r) kept)
+      → (d : Flight T) (a : After R (Answer T)) → as_call outer (λ (answer : Answer T). answer) a ≡ GoOn d → Agree start d kept
+  stays start kept outer all d (GoOn r) e = subst (λ f. Agree start f kept) (same_flight (outer r) d e) (all r)
+  stays start kept outer all d (Done answer) e = absurd (cc)
+
+  pub agrees_then : (code : Coding T) (words : List ℕ) (beside : Option (ℕ × ℕ)) (p : ℕ) (start : Start T) (flight : Flight T) (old : ℕ)
+      (kept : Registry T) (d : Flight T) → Agree start flight kept → after_of code flight old ≡ GoOn d
+      → Agree start d (step_of code words beside p start flight old kept).kept
+  agrees_then code words beside p (starts.Queues start) (flights.Queues flight) old (registries.Queues roles) d h e =
+      stays (starts.Queues start)
+      (step_of code words beside p (starts.Queues start) (flights.Queues flight) old (registries.Queues roles)).kept
+      flights.Queues (λ r. tt) d (queue_calls.after code flight old) e
+  agrees_then code words beside p (starts.Atomic start) (flights.Atomic flight) old (registries.Atomic producer) d h e =
+      stays (starts.Atomic start)
+      (step_of code words beside p (starts.Atomic start) (flights.Atomic flight) old (registries.Atomic producer)).kept
+      flights.Atomic (λ r. tt) d (value_calls.after code flight old) e
+  agrees_then code words beside p (starts.Indices start) (flights.Indices flight) old (registries.Indices holders) d h e =
+      stays (starts.Indices start)
+      (step_of code words beside p (starts.Indices start) (flights.Indices flight) old (registries.Indices holders)).kept
+      flights.Indices (λ r. tt) d (index_calls.after flight old) e
+  agrees_then code words beside p start flight old kept d h e = absurd h
+
+  pub agrees_still : (start : Start T) (flight : Flight T) (kept : Registry T) (owner : ℕ) → Agree start flight kept
+      → Agree start flight (kept_after_death kept owner)
+  agrees_still (starts.Queues start) (flights.Queues flight) (registries.Queues roles) owner h = tt
+  agrees_still (starts.Atomic start) (flights.Atomic flight) (registries.Atomic producer) owner h = tt
+  agrees_still (starts.Indices start) (flights.Indices flight) (registries.Indices holders) owner h = tt
+  agrees_still start flight kept owner h = absurd h
+
+  -- ---- and writes no end of a call but its own
+
+  module _ (is_call : Start T → Bool) where
+    queue_writes : (p : ℕ) (start : QueueStart T) (effect : Effect T) (outcome : Option (Answer T))
+        → flat_map (whole.answer_in is_call) (queue_steps.effects_of p start effect outcome) ≡ []
+    queue_writes p start Quiet outcome = refl
+    queue_writes p start Acts None = refl
+    queue_writes p start Acts (Some answer) = refl
+    queue_writes p start (Publishes item) None = refl
+    queue_writes p start (Publishes item) (Some answer) = refl
+    queue_writes p start (PublishesAndActs item) outcome = refl
+    queue_writes p start (HandsOut item) None = refl
+    queue_writes p start (HandsOut item) (Some answer) = refl
+    queue_writes p start (TakesOut index) outcome = refl
+    queue_writes p start (MakesRoom item q pushed) None = refl
+    queue_writes p start (MakesRoom item q pushed) (Some answer) = refl
+
+    value_writes : (p : ℕ) (start : AtomicStart T) (outcome : Option (Answer T)) → flat_map (whole.answer_in is_call) (value_steps.acted p start outcome) ≡ []
+    value_writes p (values.Store value) (Some (answers.Truth true)) = refl
+    value_writes p values.Load (Some answer) = refl
+    value_writes p start outcome = refl
+
+    index_writes : (p : ℕ) (freed : Option ℕ) (outcome : Option (Answer T)) → flat_map (whole.answer_in is_call) (index_steps.effects p freed outcome) ≡ []
+    index_writes p (Some index) outcome = refl
+    index_writes p None (Some (answers.Index index)) = refl
+    index_writes p None (Some (answers.State Locked)) = refl
+    index_writes p None outcome = refl
+
+    pub writes_none : (code : Coding T) (words : List ℕ) (beside : Option (ℕ × ℕ)) (p : ℕ) (start : Start T) (flight : Flight T) (old : ℕ)
+        (kept : Registry T) → Agree start flight kept
+        → flat_map (whole.answer_in is_call) (step_of code words beside p start flight old kept).wrote ≡ []
+    writes_none code words beside p (starts.Queues start) (flights.Queues flight) old (registries.Queues roles) h =
+        queue_writes p start (queue_steps.effect_of code words beside flight old) (answer_in (queue_calls.after code flight old))
+    writes_none code words beside p (starts.Atomic start) (flights.Atomic flight) old (registries.Atomic producer) h =
+        value_writes p start (answer_in (value_calls.after code flight old))
+    writes_none code words beside p (starts.Indices start) (flights.Indices flight) old (registries.Indices holders) h =
+        index_writes p (index_steps.frees flight) (answer_in (index_calls.after {T = T} flight old))
+    writes_none code words beside p start flight old kept h = absurd h

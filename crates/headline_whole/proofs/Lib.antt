@@ -1,0 +1,10 @@
+pub mod Agree
+pub mod AnyQueue
+pub mod ByKind
+pub mod Flights
+pub mod Indices
+pub mod Law
+pub mod Queues
+pub mod Rings
+pub mod Runs
+pub mod Turns

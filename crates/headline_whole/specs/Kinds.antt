@@ -1,0 +1,14 @@
+-- As which object the calls of each kind answer that run whole.
+use Rattle.model.specs.declared.families.queues.QueueKind.TheVariants as queues
+use Rattle.model.specs.declared.turn.Kind.{Kind}
+use Rattle.model.specs.declared.turn.Kind.TheVariants as kinds
+use Rattle.model.specs.World.{Trace}
+use Rattle.headline_whole.specs.Objects.{whole_list, whole_stack}
+use Rattle.headline_whole.specs.Whole.{AnswersAs}
+
+module _ {T : Type 0} where
+  abbrev pub AnswersWhole : Kind → Trace T → Type 0
+  AnswersWhole kinds.IndexQueue t = AnswersAs (whole_list queues.IndexQueue t.world.capacity) t.events
+  AnswersWhole kinds.Queue t = AnswersAs (whole_list queues.Queue t.world.capacity) t.events
+  AnswersWhole kinds.Indices t = AnswersAs (whole_stack t.world.capacity) t.events
+  AnswersWhole kind t = Unit {0}
