@@ -1,12 +1,20 @@
 -- A call of one family, named as one of it, where that family's registry is kept: what its step comes to.
-use Rattle.std.proofs.Common.{◌≡◌, ℕ, ◌==◌, Bool, true, false, Option, Some, None, List, [], ◌∷◌, ◌++◌, refl, subst, if◌then◌else◌}
-use Rattle.std.specs.List.{flat_map}
+use Rattle.std.proofs.Common.{◌≡◌, ℕ, ◌==◌, Bool, true, false, Option, Some, None, List, [], ◌∷◌, ◌++◌, refl, ap, subst, ◌∙◌, if◌then◌else◌}
+use Rattle.std.specs.List.{AllByRecursion, flat_map}
+use Rattle.steps.specs.Container.Add.{add_after}
+use Rattle.steps.specs.Container.Find.{find_after, find_kept}
+use Rattle.steps.specs.Container.Recover.{recover_after, recover_kept}
+use Rattle.steps.specs.Container.Remove.{remove_after}
+use Rattle.steps.specs.Container.Replace.{replace_after}
+use Rattle.steps.specs.Indices.Robust.Looks.{borrowed_after, locked_after}
+use Rattle.steps.specs.Routine.{went_on}
 use Rattle.steps.specs.declared.ask.After.{After}
 use Rattle.steps.specs.declared.ask.After.TheVariants.{GoOn, Done}
 use Rattle.steps.specs.declared.indices.enums.ReleaseState.TheVariants.{Locked}
 use Rattle.model.specs.declared.event.Answer.{Answer}
 use Rattle.model.specs.declared.event.Answer.TheVariants as answers
 use Rattle.model.specs.declared.event.Event.{Event}
+use Rattle.model.specs.declared.event.Event.TheVariants.{Finished}
 use Rattle.model.specs.declared.event.Start.{Start}
 use Rattle.model.specs.declared.event.Start.TheVariants as starts
 use Rattle.model.specs.declared.families.Flight.{Flight}
@@ -15,25 +23,46 @@ use Rattle.model.specs.declared.families.Registry.{Registry}
 use Rattle.model.specs.declared.families.Registry.TheVariants as registries
 use Rattle.model.specs.declared.families.atomic.AtomicStart.{AtomicStart}
 use Rattle.model.specs.declared.families.atomic.AtomicStart.TheVariants as values
+use Rattle.model.specs.declared.families.container.ContainerStart.{ContainerStart}
+use Rattle.model.specs.declared.families.container.calls.ContainerFlight.{ContainerFlight}
+use Rattle.model.specs.declared.families.container.calls.ContainerFlight.TheVariants as containers
 use Rattle.model.specs.declared.families.queues.QueueStart.{QueueStart}
 use Rattle.model.specs.declared.families.queues.effects.Effect.{Effect}
 use Rattle.model.specs.declared.families.queues.effects.Effect.TheVariants.{Quiet, Acts, Publishes, PublishesAndActs, HandsOut, TakesOut, MakesRoom}
+use Rattle.model.specs.declared.turn.Turn.{Turn}
+use Rattle.model.specs.declared.turn.Turn.TheVariants.{Next}
 use Rattle.model.specs.Coding.{Coding}
 use Rattle.model.specs.Families.{after_of, step_of, kept_after_death}
 use Rattle.model.specs.Families.Atomic.Calls as value_calls
 use Rattle.model.specs.Families.Atomic.Steps as value_steps
+use Rattle.model.specs.Families.Container.Calls as container_calls
+use Rattle.model.specs.Families.Container.States.{state_of}
+use Rattle.model.specs.Families.Container.Steps as container_steps
 use Rattle.model.specs.Families.Indices.Calls as index_calls
+use Rattle.model.specs.Families.Indices.Robust.Calls as robust_calls
+use Rattle.model.specs.Families.Indices.Robust.Steps as robust_steps
 use Rattle.model.specs.Families.Indices.Steps as index_steps
 use Rattle.model.specs.Families.Queues.Calls as queue_calls
+use Rattle.model.specs.Families.Queues.Calls.{as_it_is, kept_at}
 use Rattle.model.specs.Families.Queues.Steps as queue_steps
+use Rattle.model.specs.Promises.Turns.{IsEffectOf}
 use Rattle.model.specs.Step.{as_call, answer_in}
+use Rattle.laws_container.proofs.Written as container
+use Rattle.laws_robust.proofs.Written as robust
 use Rattle.headline_whole.specs.Whole as whole
 
 module _ {T : Type 0} where
+  -- a look goes on from what its party's state has seen, and any other call from its word alone
+  abbrev pub IsNoLook : ContainerFlight T → Type 0
+  IsNoLook (containers.Look which call) = ⊥
+  IsNoLook flight = Unit {0}
+
   abbrev pub Agree : Start T → Flight T → Registry T → Type 0
   Agree (starts.Queues start) (flights.Queues flight) (registries.Queues roles) = Unit {0}
   Agree (starts.Atomic start) (flights.Atomic flight) (registries.Atomic producer) = Unit {0}
   Agree (starts.Indices start) (flights.Indices flight) (registries.Indices holders) = Unit {0}
+  Agree (starts.Robust start) (flights.Robust flight) (registries.Owners dead) = Unit {0}
+  Agree (starts.Container start) (flights.Container flight) (registries.Container dead states) = IsNoLook flight
   Agree start flight kept = ⊥
 
   -- ---- it goes on as its table says
@@ -44,6 +73,9 @@ module _ {T : Type 0} where
   goes_so code words beside p (starts.Queues start) (flights.Queues flight) old (registries.Queues roles) h = refl
   goes_so code words beside p (starts.Atomic start) (flights.Atomic flight) old (registries.Atomic producer) h = refl
   goes_so code words beside p (starts.Indices start) (flights.Indices flight) old (registries.Indices holders) h = refl
+  goes_so code words beside p (starts.Robust start) (flights.Robust flight) old (registries.Owners dead) h = refl
+  goes_so code words beside p (starts.Container start) (flights.Container (containers.Look which call)) old (registries.Container dead states) h = absurd h
+  goes_so code words beside p (starts.Container start) (flights.Container flight) old (registries.Container dead states) h = refl
   goes_so code words beside p start flight old kept h = absurd h
 
   -- ---- and then stays one of its family
@@ -55,6 +87,14 @@ module _ {T : Type 0} where
       → (d : Flight T) (a : After R (Answer T)) → as_call outer (λ (answer : Answer T). answer) a ≡ GoOn d → Agree start d kept
   stays start kept outer all d (GoOn r) e = subst (λ f. Agree start f kept) (same_flight (outer r) d e) (all r)
   stays start kept outer all d (Done answer) e = absurd (cc)
+
+  -- the same of a call of the container, which is no look
+  still_none : {R A : Type 0} (start : ContainerStart T) (kept : Registry T) (wrap : R → ContainerFlight T) (say : A → Answer T)
+      → ((r : R) → Agree (starts.Container start) (flights.Container (wrap r)) kept) → (d : Flight T) (a : After R A)
+      → as_call flights.Container (λ (answer : Answer T). answer) (as_call wrap say a) ≡ GoOn d → Agree (starts.Container start) d kept
+  still_none start kept wrap say all d (GoOn r) e =
+      subst (λ f. Agree (starts.Container start) f kept) (same_flight (flights.Container (wrap r)) d e) (all r)
+  still_none start kept wrap say all d (Done answer) e = absurd (cc)
 
   pub agrees_then : (code : Coding T) (words : List ℕ) (beside : Option (ℕ × ℕ)) (p : ℕ) (start : Start T) (flight : Flight T) (old : ℕ)
       (kept : Registry T) (d : Flight T) → Agree start flight kept → after_of code flight old ≡ GoOn d
@@ -71,6 +111,33 @@ module _ {T : Type 0} where
       stays (starts.Indices start)
       (step_of code words beside p (starts.Indices start) (flights.Indices flight) old (registries.Indices holders)).kept
       flights.Indices (λ r. tt) d (index_calls.after flight old) e
+  agrees_then code words beside p (starts.Robust start) (flights.Robust flight) old (registries.Owners dead) d h e =
+      stays (starts.Robust start)
+      (step_of code words beside p (starts.Robust start) (flights.Robust flight) old (registries.Owners dead)).kept
+      flights.Robust (λ r. tt) d (robust_calls.after flight old) e
+  agrees_then code words beside p (starts.Container start) (flights.Container (containers.Add run)) old (registries.Container dead states) d h e =
+      still_none start (registries.Container dead states) containers.Add container_calls.added (λ r. tt) d
+      (went_on as_it_is run.given run.room (add_after code.size run.call old)) e
+  agrees_then code words beside p (starts.Container start) (flights.Container (containers.Remove run)) old (registries.Container dead states) d h e =
+      still_none start (registries.Container dead states) containers.Remove container_calls.removed (λ r. tt) d
+      (went_on as_it_is run.given run.room (remove_after run.call run.given old)) e
+  agrees_then code words beside p (starts.Container start) (flights.Container (containers.Replace run)) old (registries.Container dead states) d h e =
+      still_none start (registries.Container dead states) containers.Replace container_calls.replaced (λ r. tt) d
+      (went_on as_it_is run.given run.room (replace_after code.size run.call run.given old)) e
+  agrees_then code words beside p (starts.Container start) (flights.Container (containers.Find run)) old (registries.Container dead states) d h e =
+      still_none start (registries.Container dead states) containers.Find answers.Number (λ r. tt) d
+      (went_on as_it_is run.given (find_kept kept_at run.call run.room old) (find_after code.size run.call run.given old)) e
+  agrees_then code words beside p (starts.Container start) (flights.Container (containers.Recover run)) old (registries.Container dead states) d h e =
+      still_none start (registries.Container dead states) containers.Recover answers.State (λ r. tt) d
+      (went_on as_it_is run.given (recover_kept kept_at run.call run.room old) (recover_after code.size run.call run.given old)) e
+  agrees_then code words beside p (starts.Container start) (flights.Container (containers.Look which call)) old (registries.Container dead states) d h e =
+      absurd h
+  agrees_then code words beside p (starts.Container start) (flights.Container (containers.Count which run)) old (registries.Container dead states) d h e =
+      still_none start (registries.Container dead states) (λ r. containers.Count which r) (container_calls.counted which) (λ r. tt) d
+      (went_on as_it_is run.given run.room (borrowed_after run.call old)) e
+  agrees_then code words beside p (starts.Container start) (flights.Container (containers.IsLocked run)) old (registries.Container dead states) d h e =
+      still_none start (registries.Container dead states) containers.IsLocked answers.Truth (λ r. tt) d
+      (went_on as_it_is run.given run.room (locked_after run.call old)) e
   agrees_then code words beside p start flight old kept d h e = absurd h
 
   pub agrees_still : (start : Start T) (flight : Flight T) (kept : Registry T) (owner : ℕ) → Agree start flight kept
@@ -78,6 +145,8 @@ module _ {T : Type 0} where
   agrees_still (starts.Queues start) (flights.Queues flight) (registries.Queues roles) owner h = tt
   agrees_still (starts.Atomic start) (flights.Atomic flight) (registries.Atomic producer) owner h = tt
   agrees_still (starts.Indices start) (flights.Indices flight) (registries.Indices holders) owner h = tt
+  agrees_still (starts.Robust start) (flights.Robust flight) (registries.Owners dead) owner h = tt
+  agrees_still (starts.Container start) (flights.Container flight) (registries.Container dead states) owner h = h
   agrees_still start flight kept owner h = absurd h
 
   -- ---- and writes no end of a call but its own
@@ -108,6 +177,15 @@ module _ {T : Type 0} where
     index_writes p None (Some (answers.State Locked)) = refl
     index_writes p None outcome = refl
 
+    effect_none : (turn : Turn T) (e : Event T) → IsEffectOf turn e → whole.answer_in is_call e ≡ []
+    effect_none turn (Finished q start answer) h = absurd h
+    effect_none turn e h = refl
+
+    effects_none : (turn : Turn T) (es : List (Event T)) → AllByRecursion (IsEffectOf turn) es → flat_map (whole.answer_in is_call) es ≡ []
+    effects_none turn [] all = refl
+    effects_none turn (e ∷ es) all =
+        ap (λ (xs : List (Start T × Answer T)). xs ++ flat_map (whole.answer_in is_call) es) (effect_none turn e all.0) ∙ effects_none turn es all.1
+
     pub writes_none : (code : Coding T) (words : List ℕ) (beside : Option (ℕ × ℕ)) (p : ℕ) (start : Start T) (flight : Flight T) (old : ℕ)
         (kept : Registry T) → Agree start flight kept
         → flat_map (whole.answer_in is_call) (step_of code words beside p start flight old kept).wrote ≡ []
@@ -117,4 +195,9 @@ module _ {T : Type 0} where
         value_writes p start (answer_in (value_calls.after code flight old))
     writes_none code words beside p (starts.Indices start) (flights.Indices flight) old (registries.Indices holders) h =
         index_writes p (index_steps.frees flight) (answer_in (index_calls.after {T = T} flight old))
+    writes_none code words beside p (starts.Robust start) (flights.Robust flight) old (registries.Owners dead) h =
+        effects_none (Next p) (robust_steps.effects p flight old) (robust.all_effects (Next p) p refl flight old)
+    writes_none code words beside p (starts.Container start) (flights.Container flight) old (registries.Container dead states) h =
+        effects_none (Next p) (container_steps.effects code p (state_of p states) flight old ++ container_steps.questions p flight old)
+        (container.all_effects (Next p) p refl code (state_of p states) flight old)
     writes_none code words beside p start flight old kept h = absurd h

@@ -8,11 +8,12 @@ use Rattle.model.specs.World.{Trace, capacity_error}
 use Rattle.headline_whole.specs.Kinds.{AnswersWhole}
 use Rattle.headline_whole.specs.Objects.{every_call}
 use Rattle.headline_whole.specs.Whole.{RunsWhole, BeginsOnly, AnswersAs}
-use Rattle.headline_whole.proofs.AnyQueue as queues
 use Rattle.headline_whole.proofs.Indices as indices
 use Rattle.headline_whole.proofs.Law.{IsMadeSo, Reading, Law}
+use Rattle.headline_whole.proofs.Overflows.{over_law}
 use Rattle.headline_whole.proofs.Queues.{index_law, value_law}
 use Rattle.headline_whole.proofs.Turns.{answers_whole}
+use Rattle.headline_whole.proofs.Values as values
 
 module _ {T : Type 0} (t : Trace T) (r : IsReached t) (runs : RunsWhole t.events) where
   by_law : (R : Reading T) (kind : Kind) → t.world.kind ≡ kind
@@ -27,6 +28,9 @@ module _ {T : Type 0} (t : Trace T) (r : IsReached t) (runs : RunsWhole t.events
 
   pub by_kind : (kind : Kind) → t.world.kind ≡ kind → AnswersWhole kind t
   by_kind kinds.IndexQueue is = by_law _ kinds.IndexQueue is (index_law t.world.coding t.world.capacity) any
+  by_kind kinds.Overflow is = by_law _ kinds.Overflow is (over_law t.world.capacity t.world.coding) any
   by_kind kinds.Queue is = by_law _ kinds.Queue is (value_law t.world.coding r.coded t.world.capacity) any
+  by_kind kinds.Atomic is =
+      by_law (values.reading t.world.coding) kinds.Atomic is (λ may. values.law t.world.coding r.coded t.world.capacity) any
   by_kind kinds.Indices is = by_law (indices.reading t.world.capacity) kinds.Indices is (indices.law t.world.coding t.world.capacity) any
   by_kind kind is = tt

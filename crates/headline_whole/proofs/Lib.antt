@@ -4,7 +4,9 @@ pub mod ByKind
 pub mod Flights
 pub mod Indices
 pub mod Law
+pub mod Overflows
 pub mod Queues
 pub mod Rings
 pub mod Runs
 pub mod Turns
+pub mod Values

@@ -42,51 +42,31 @@ longer_if false xs x = omega arith
 
 -- ---- the words
 
-module _ {V : Type 0} (value_of : List ℕ → V) (size capacity : ℕ) where
-  -- a word of a role is none of the list's
-  module _ (words : List ℕ) (fits : Represents size capacity words) (at new : ℕ) (low : 2 ≤ at) (high : at < 4) where
-    other_word : (j : ℕ) → j ≢ at → slice_index (slice_set words at new) j ≡ slice_index words j
-    other_word j ne = get_or-set_other words at j new 0 ne
+-- a word of a role is none of the list's
+module _ (words : List ℕ) (at new : ℕ) (low : 2 ≤ at) (high : at < 4) where
+  other_word : (j : ℕ) → j ≢ at → slice_index (slice_set words at new) j ≡ slice_index words j
+  other_word j ne = get_or-set_other words at j new 0 ne
 
-    write_kept : slice_index (slice_set words at new) 0 ≡ slice_index words 0
-    write_kept = other_word 0 (λ e. absurd (omega arith))
+  pub write_kept : slice_index (slice_set words at new) 0 ≡ slice_index words 0
+  write_kept = other_word 0 (λ e. absurd (omega arith))
 
-    read_kept : slice_index (slice_set words at new) 1 ≡ slice_index words 1
-    read_kept = other_word 1 (λ e. absurd (omega arith))
+  pub read_kept : slice_index (slice_set words at new) 1 ≡ slice_index words 1
+  read_kept = other_word 1 (λ e. absurd (omega arith))
 
-    pub role_fits : Represents size capacity (slice_set words at new)
-    role_fits =
-        let w = write_kept in
-        let r = read_kept in
-        let behind = fits.behind in
-        let near = fits.near in
-        let few = fits.fits in
-        record {
-          long = length-set words at new ∙ fits.long;
-          small = fits.small;
-          behind = omega arith;
-          near = omega arith;
-          fits = omega arith;
-        }
-
+  module _ {V : Type 0} (value_of : List ℕ → V) (size capacity : ℕ) where
     value_kept : (q : ℕ) → value_at value_of size capacity (slice_set words at new) q ≡ value_at value_of size capacity words q
     value_kept q =
         ap value_of (words_same (slice_set words at new) words (4 + size * (q % capacity)) size
         (λ i from below. other_word i (λ e. absurd (omega arith))))
 
-    pub role_list : list_in value_of size capacity (slice_set words at new) ≡ list_in value_of size capacity words
-    role_list =
-        (λ i. record {
-          capacity = capacity;
-          first = read_kept i;
-          values = values_from value_of size capacity (slice_set words at new) (read_kept i) (write_kept i - read_kept i);
-        })
-        ∙ (λ i. record {
-          capacity = capacity;
-          first = slice_index words 1;
-          values = values_same value_of size capacity (slice_set words at new) words (slice_index words 1)
-              (slice_index words 0 - slice_index words 1) (λ q from below. value_kept q) i;
-        })
+    -- as many values, from the same position on
+    pub values_kept : values_from value_of size capacity (slice_set words at new) (slice_index (slice_set words at new) 1)
+        (slice_index (slice_set words at new) 0 - slice_index (slice_set words at new) 1)
+        ≡ values_from value_of size capacity words (slice_index words 1) (slice_index words 0 - slice_index words 1)
+    values_kept =
+        (λ i. values_from value_of size capacity (slice_set words at new) (read_kept i) (write_kept i - read_kept i))
+        ∙ values_same value_of size capacity (slice_set words at new) words (slice_index words 1) (slice_index words 0 - slice_index words 1)
+        (λ q from below. value_kept q)
 
 -- ---- the list
 
@@ -187,10 +167,23 @@ module _ {T V : Type 0} (value_of : List ℕ → V) (size capacity : ℕ) (item 
 
     pub role_so : (at new : ℕ) → 2 ≤ at → at < 4 → Holds (turns + 1) (slice_set words at new) × (items_in (slice_set words at new) ≡ items_in words)
     role_so at new low high =
-        let few = h.1 in
-        let same : slice_index (slice_set words at new) 0 ≡ slice_index words 0 = get_or-set_other words at 0 new 0 (λ e. absurd (omega arith)) in (
-          (role_fits value_of size capacity words h.0 at new low high, omega arith),
-          ap (λ (q : Bounded V). map item q.values) (role_list value_of size capacity words h.0 at new low high),
+        let turned = h.1 in
+        let w = write_kept words at new low high in
+        let r = read_kept words at new low high in
+        let behind = h.0.behind in
+        let near = h.0.near in
+        let few = h.0.fits in (
+          (
+            record {
+              long = length-set words at new ∙ h.0.long;
+              small = h.0.small;
+              behind = omega arith;
+              near = omega arith;
+              fits = omega arith;
+            },
+            omega arith,
+          ),
+          ap (λ (xs : List V). map item xs) (values_kept words at new low high value_of size capacity),
         )
 
     -- ---- the number of values

@@ -2,6 +2,7 @@
 use Rattle.model.specs.declared.families.queues.QueueKind.TheVariants as queues
 use Rattle.model.specs.declared.turn.Kind.{Kind}
 use Rattle.model.specs.declared.turn.Kind.TheVariants as kinds
+use Rattle.model.specs.Linearized.{as_value}
 use Rattle.model.specs.World.{Trace}
 use Rattle.headline_whole.specs.Objects.{whole_list, whole_stack}
 use Rattle.headline_whole.specs.Whole.{AnswersAs}
@@ -9,6 +10,8 @@ use Rattle.headline_whole.specs.Whole.{AnswersAs}
 module _ {T : Type 0} where
   abbrev pub AnswersWhole : Kind → Trace T → Type 0
   AnswersWhole kinds.IndexQueue t = AnswersAs (whole_list queues.IndexQueue t.world.capacity) t.events
+  AnswersWhole kinds.Overflow t = AnswersAs (whole_list queues.Overflow t.world.capacity) t.events
   AnswersWhole kinds.Queue t = AnswersAs (whole_list queues.Queue t.world.capacity) t.events
+  AnswersWhole kinds.Atomic t = AnswersAs (as_value t.world.coding) t.events
   AnswersWhole kinds.Indices t = AnswersAs (whole_stack t.world.capacity) t.events
   AnswersWhole kind t = Unit {0}
