@@ -10,7 +10,9 @@ use Rattle.headline_whole.specs.Objects.{every_call}
 use Rattle.headline_whole.specs.Whole.{RunsWhole, BeginsOnly, AnswersAs}
 use Rattle.headline_whole.proofs.Indices as indices
 use Rattle.headline_whole.proofs.Law.{IsMadeSo, Reading, Law}
+use Rattle.headline_whole.proofs.Maps as maps
 use Rattle.headline_whole.proofs.Overflows.{over_law}
+use Rattle.headline_whole.proofs.Owners as owners
 use Rattle.headline_whole.proofs.Queues.{index_law, value_law}
 use Rattle.headline_whole.proofs.Turns.{answers_whole}
 use Rattle.headline_whole.proofs.Values as values
@@ -28,9 +30,12 @@ module _ {T : Type 0} (t : Trace T) (r : IsReached t) (runs : RunsWhole t.events
 
   pub by_kind : (kind : Kind) → t.world.kind ≡ kind → AnswersWhole kind t
   by_kind kinds.IndexQueue is = by_law _ kinds.IndexQueue is (index_law t.world.coding t.world.capacity) any
-  by_kind kinds.Overflow is = by_law _ kinds.Overflow is (over_law t.world.capacity t.world.coding) any
+  by_kind kinds.Overflow is = by_law _ kinds.Overflow is (over_law T t.world.capacity t.world.coding) any
   by_kind kinds.Queue is = by_law _ kinds.Queue is (value_law t.world.coding r.coded t.world.capacity) any
   by_kind kinds.Atomic is =
       by_law (values.reading t.world.coding) kinds.Atomic is (λ may. values.law t.world.coding r.coded t.world.capacity) any
   by_kind kinds.Indices is = by_law (indices.reading t.world.capacity) kinds.Indices is (indices.law t.world.coding t.world.capacity) any
+  by_kind kinds.Robust is = λ only. by_law (owners.reading t.world.capacity) kinds.Robust is (owners.law t.world.coding t.world.capacity) only
+  by_kind kinds.Container is = λ only.
+      by_law (maps.reading t.world.coding t.world.capacity) kinds.Container is (maps.law t.world.coding r.coded t.world.capacity) only
   by_kind kind is = tt

@@ -94,6 +94,14 @@ admitted x0 x1 = grind arith
 linked : (c : ℕ) → Linked c c (opening_words c)
 linked c = record { long = opening_long c; head = refl; next = after_index c; flags = past_indices c }
 
+some_held : (o : Option ℕ) (p : ℕ) → holds o p ≡ true → is_some o ≡ true
+some_held None p e = absurd (cc)
+some_held (Some q) p e = refl
+
+not_free : (b : Bool) → true ≡ not b → b ≡ false
+not_free true e = absurd (cc)
+not_free false e = refl
+
 module _ {T : Type 0} where
   pub reading : ℕ → Reading T
   reading capacity =
@@ -106,14 +114,6 @@ module _ {T : Type 0} where
       }
 
   -- ---- the holder of an index alone releases it, and his index is out
-
-  some_held : (o : Option ℕ) (p : ℕ) → holds o p ≡ true → is_some o ≡ true
-  some_held None p e = absurd (cc)
-  some_held (Some q) p e = refl
-
-  not_free : (b : Bool) → true ≡ not b → b ≡ false
-  not_free true e = absurd (cc)
-  not_free false e = refl
 
   -- the rows of a release
   record MayRelease (capacity : ℕ) (kept : Registry T) (p index : ℕ) : Type 0 where

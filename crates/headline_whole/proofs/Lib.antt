@@ -4,7 +4,9 @@ pub mod ByKind
 pub mod Flights
 pub mod Indices
 pub mod Law
+pub mod Maps
 pub mod Overflows
+pub mod Owners
 pub mod Queues
 pub mod Rings
 pub mod Runs

@@ -97,7 +97,7 @@ pushes_over (suc c) first values value position few =
 
 -- ---- the words
 
-module _ {T : Type 0} (capacity : ℕ) where
+module _ (T : Type 0) (capacity : ℕ) where
   -- the machine has taken so many turns, which raised the write position so far at most
   abbrev pub Holds : ℕ → List ℕ → Type 0
   Holds turns words = Represents capacity words × (slice_index words 0 ≤ turns)

@@ -37,6 +37,9 @@ use Rattle.headline_whole.proofs.Rings.{Holds, items_in, push_so, pop_so, still,
 pub admitted_queue : (c : ℕ) → capacity_error kinds.Queue c ≡ None → c < 2 ^ 32
 admitted_queue x0 x1 = grind arith
 
+later : (size capacity m n : ℕ) (words : List ℕ) → m ≤ n → Holds size capacity m words → Holds size capacity n words
+later size capacity m n words less h = let low = h.1 in (h.0, omega arith)
+
 module _ {T : Type 0} where
   pub say_index : (o : Option ℕ) → popped {T = T} o ≡ answer_of_item (option_map items.Index o)
   say_index None = refl
@@ -46,24 +49,17 @@ module _ {T : Type 0} where
   say_value None = refl
   say_value (Some value) = refl
 
-  pub later : {V : Type 0} (value_of : List ℕ → V) (size capacity : ℕ) (item : V → Item T) (m n : ℕ) (words : List ℕ) → m ≤ n
-      → Holds value_of size capacity item m words → Holds value_of size capacity item n words
-  later value_of size capacity item m n words less h = let low = h.1 in (h.0, omega arith)
-
   same_flight : (a b : Flight T) → ◌≡◌ {A = Option (Flight T)} (Some a) (Some b) → a ≡ b
   same_flight a b e = cc
 
   -- ---- the queue of indices
 
-  abbrev pub IndexHolds : ℕ → ℕ → List ℕ → Type 0
-  IndexHolds capacity = Holds {T = T} one_word.value_of 1 capacity items.Index
-
   abbrev pub index_items : ℕ → List ℕ → List (Item T)
   index_items capacity = items_in one_word.value_of 1 capacity items.Index
 
-  module _ (code : Coding T) (capacity turns : ℕ) (words : List ℕ) (early : turns < 2 ^ 64 - 2) (h : IndexHolds capacity turns words) where
+  module _ (code : Coding T) (capacity turns : ℕ) (words : List ℕ) (early : turns < 2 ^ 64 - 2) (h : Holds 1 capacity turns words) where
     abbrev IndexWhole : QueueStart T → Flight T → Type 0
-    IndexWhole start flight = Whole code queues.IndexQueue capacity (IndexHolds capacity) (index_items capacity) turns words start flight
+    IndexWhole start flight = Whole code queues.IndexQueue capacity (Holds 1 capacity) (index_items capacity) turns words start flight
 
     pushes_index : (index : ℕ) → IndexWhole (calls.PushIndex index)
         (flights.Queues (under_way.Indices (rings.Push (record { call = first_push capacity; given = index; room = tt }))))
@@ -78,7 +74,7 @@ module _ {T : Type 0} where
           stays = λ c old low. any_low (push_after 1 c old);
         })
         (Pushed one_word.words_of one_word.value_of 1 (λ x. refl) (λ x. refl) (omega arith) (omega arith) capacity index words)
-        (Answers (list_reading queues.IndexQueue capacity (IndexHolds capacity) (index_items capacity)) turns words (starts.Queues (calls.PushIndex index)))
+        (Answers (list_reading queues.IndexQueue capacity (Holds 1 capacity) (index_items capacity)) turns words (starts.Queues (calls.PushIndex index)))
         (λ e room last p.
         let so = push_so one_word.value_of 1 capacity items.Index words turns h early index e room last p in
         record { said = λ is. ap answers.Truth so.0; holds = so.1; object = so.2 })
@@ -99,7 +95,7 @@ module _ {T : Type 0} where
           stays = λ c old low. any_low (pop_after 1 c old);
         })
         (Popped one_word.value_of 1 (omega arith) (omega arith) (λ (x : OneWord). x.0 ∷ []) kept_in_one one_put_in capacity words)
-        (Answers (list_reading queues.IndexQueue capacity (IndexHolds capacity) (index_items capacity)) turns words (starts.Queues calls.Pop))
+        (Answers (list_reading queues.IndexQueue capacity (Holds 1 capacity) (index_items capacity)) turns words (starts.Queues calls.Pop))
         (λ e room last p.
         let so = pop_so one_word.value_of 1 capacity items.Index words turns h (pop_answer room.0 e) last p in
         record { said = λ is. say_index (pop_answer room.0 e) ∙ ap answer_of_item so.0; holds = so.1; object = so.2 })
@@ -107,7 +103,7 @@ module _ {T : Type 0} where
         (pop_runs one_word.value_of 1 (omega arith) (omega arith) (λ (x : OneWord). x.0 ∷ []) kept_in_one one_put_in capacity (first_pop capacity) refl
         fresh (omega arith) words h.0)
 
-    index_own : Own code queues.IndexQueue capacity (IndexHolds capacity) (index_items capacity) turns words
+    index_own : Own code queues.IndexQueue capacity (Holds 1 capacity) (index_items capacity) turns words
     index_own =
         record {
           pushes_index = λ index flight named.
@@ -126,27 +122,24 @@ module _ {T : Type 0} where
   index_has capacity start flight kept e = absurd (cc)
 
   pub index_law : (code : Coding T) (capacity : ℕ) → capacity_error kinds.IndexQueue capacity ≡ None
-      → Law (list_reading queues.IndexQueue capacity (IndexHolds capacity) (index_items capacity)) code kinds.IndexQueue capacity
+      → Law (list_reading queues.IndexQueue capacity (Holds 1 capacity) (index_items capacity)) code kinds.IndexQueue capacity
   index_law code capacity may =
-      queue_law code queues.IndexQueue kinds.IndexQueue capacity (IndexHolds capacity) (index_items capacity) (index_has capacity)
+      queue_law code queues.IndexQueue kinds.IndexQueue capacity (Holds 1 capacity) (index_items capacity) (index_has capacity)
       (λ turns words early h. index_own code capacity turns words early h)
-      (later one_word.value_of 1 capacity items.Index)
+      (later 1 capacity)
       (λ queue. opens_so one_word.value_of 1 capacity items.Index (admitted_queue capacity may))
       refl
 
   -- ---- the queue of values
 
   module _ (code : Coding T) (coded : IsCoding code) (capacity : ℕ) where
-    abbrev pub ValueHolds : ℕ → List ℕ → Type 0
-    ValueHolds = Holds code.value_of code.size capacity items.Value
-
     abbrev pub value_items : List ℕ → List (Item T)
     value_items = items_in code.value_of code.size capacity items.Value
 
-    module _ (turns : ℕ) (words : List ℕ) (early : turns < 2 ^ 64 - 2) (h : Holds code.value_of code.size capacity items.Value turns words) where
+    module _ (turns : ℕ) (words : List ℕ) (early : turns < 2 ^ 64 - 2) (h : Holds code.size capacity turns words) where
       abbrev ValueWhole : QueueStart T → Flight T → Type 0
       ValueWhole start flight =
-          Whole code queues.Queue capacity (Holds code.value_of code.size capacity items.Value) (items_in code.value_of code.size capacity items.Value)
+          Whole code queues.Queue capacity (Holds code.size capacity) (items_in code.value_of code.size capacity items.Value)
           turns words start flight
 
       pushes_value : (value : T) → ValueWhole (calls.Push value)
@@ -162,7 +155,7 @@ module _ {T : Type 0} where
             stays = λ c old low. any_low (push_after code.size c old);
           })
           (Pushed code.words_of code.value_of code.size coded.sized coded.given_back coded.some coded.few capacity value words)
-          (Answers (list_reading queues.Queue capacity ValueHolds value_items) turns words (starts.Queues (calls.Push value)))
+          (Answers (list_reading queues.Queue capacity (Holds code.size capacity) value_items) turns words (starts.Queues (calls.Push value)))
           (λ e room last p.
           let so = push_so code.value_of code.size capacity items.Value words turns h early value e room last p in
           record { said = λ is. ap answers.Truth so.0; holds = so.1; object = so.2 })
@@ -187,7 +180,7 @@ module _ {T : Type 0} where
             stays = λ c old low. any_low (pop_after code.size c old);
           })
           (Popped code.value_of code.size coded.some coded.few (λ (x : Buffer 128). x.words) kept_at (λ x at word. refl) capacity words)
-          (Answers (list_reading queues.Queue capacity ValueHolds value_items) turns words (starts.Queues calls.Pop))
+          (Answers (list_reading queues.Queue capacity (Holds code.size capacity) value_items) turns words (starts.Queues calls.Pop))
           (λ e room last p.
           let so = pop_so code.value_of code.size capacity items.Value words turns h (pop_answer (read_in code room) e) last p in
           record { said = λ is. say_value (pop_answer (read_in code room) e) ∙ ap answer_of_item so.0; holds = so.1; object = so.2 })
@@ -195,7 +188,7 @@ module _ {T : Type 0} where
           (pop_runs code.value_of code.size coded.some coded.few (λ (x : Buffer 128). x.words) kept_at (λ x at word. refl) capacity (first_pop capacity) refl
           fresh_cell (omega arith) words h.0)
 
-      value_own : Own code queues.Queue capacity ValueHolds value_items turns words
+      value_own : Own code queues.Queue capacity (Holds code.size capacity) value_items turns words
       value_own =
           record {
             pushes_index = λ index flight named. absurd (cc);
@@ -213,10 +206,10 @@ module _ {T : Type 0} where
     value_has (starts.Queues s) flight kept e = (s, refl, e)
     value_has start flight kept e = absurd (cc)
 
-    pub value_law : capacity_error kinds.Queue capacity ≡ None → Law (list_reading queues.Queue capacity ValueHolds value_items) code kinds.Queue capacity
+    pub value_law : capacity_error kinds.Queue capacity ≡ None → Law (list_reading queues.Queue capacity (Holds code.size capacity) value_items) code kinds.Queue capacity
     value_law may =
-        queue_law code queues.Queue kinds.Queue capacity ValueHolds value_items value_has
+        queue_law code queues.Queue kinds.Queue capacity (Holds code.size capacity) value_items value_has
         (λ turns words early h. value_own turns words early h)
-        (later code.value_of code.size capacity items.Value)
+        (later code.size capacity)
         (λ queue. opens_so code.value_of code.size capacity items.Value (admitted_queue capacity may))
         refl

@@ -70,15 +70,15 @@ module _ (words : List ℕ) (at new : ℕ) (low : 2 ≤ at) (high : at < 4) wher
 
 -- ---- the list
 
-module _ {T V : Type 0} (value_of : List ℕ → V) (size capacity : ℕ) (item : V → Item T) where
-  -- the machine has taken so many turns, which raised the write position so far at most
-  abbrev pub Holds : ℕ → List ℕ → Type 0
-  Holds turns words = Represents size capacity words × (slice_index words 0 ≤ turns)
+-- the machine has taken so many turns, which raised the write position so far at most
+abbrev pub Holds : ℕ → ℕ → ℕ → List ℕ → Type 0
+Holds size capacity turns words = Represents size capacity words × (slice_index words 0 ≤ turns)
 
+module _ {T V : Type 0} (value_of : List ℕ → V) (size capacity : ℕ) (item : V → Item T) where
   abbrev pub items_in : List ℕ → List (Item T)
   items_in words = map item (list_in value_of size capacity words).values
 
-  module _ (words : List ℕ) (turns : ℕ) (h : Represents size capacity words × (slice_index words 0 ≤ turns)) where
+  module _ (words : List ℕ) (turns : ℕ) (h : Holds size capacity turns words) where
     length_is : length (list_in value_of size capacity words).values ≡ slice_index words 0 - slice_index words 1
     length_is = values_length value_of size capacity words (slice_index words 1) (slice_index words 0 - slice_index words 1)
 
@@ -112,7 +112,7 @@ module _ {T V : Type 0} (value_of : List ℕ → V) (size capacity : ℕ) (item 
 
         pub push_so : (end : Bool) (room : Unit {0}) (last : List ℕ)
             → BehavesAs (Represents size capacity) (list_in value_of size capacity) takes_more (λ q. pushed q value) words end last
-            → (end ≡ nat_lt (length (items_in words)) capacity) × Holds (turns + 1) last
+            → (end ≡ nat_lt (length (items_in words)) capacity) × Holds size capacity (turns + 1) last
             × (items_in last ≡ appended capacity (items_in words) (item value))
         push_so end room last p =
             let behind = p.0.behind in
@@ -140,7 +140,7 @@ module _ {T V : Type 0} (value_of : List ℕ → V) (size capacity : ℕ) (item 
 
     pub pop_so : (taken : Option V) (last : List ℕ)
         → BehavesAs (Represents size capacity) (list_in value_of size capacity) front popped words taken last
-        → (option_map item taken ≡ slice_get (items_in words) 0) × Holds (turns + 1) last × (items_in last ≡ drop 1 (items_in words))
+        → (option_map item taken ≡ slice_get (items_in words) 0) × Holds size capacity (turns + 1) last × (items_in last ≡ drop 1 (items_in words))
     pop_so taken last p =
         let behind = p.0.behind in
         let was_behind = h.0.behind in
@@ -162,10 +162,10 @@ module _ {T V : Type 0} (value_of : List ℕ → V) (size capacity : ℕ) (item 
 
     -- ---- what leaves the words, and what changes the word of a role
 
-    pub still : Holds (turns + 1) words
+    pub still : Holds size capacity (turns + 1) words
     still = let low = h.1 in (h.0, omega arith)
 
-    pub role_so : (at new : ℕ) → 2 ≤ at → at < 4 → Holds (turns + 1) (slice_set words at new) × (items_in (slice_set words at new) ≡ items_in words)
+    pub role_so : (at new : ℕ) → 2 ≤ at → at < 4 → Holds size capacity (turns + 1) (slice_set words at new) × (items_in (slice_set words at new) ≡ items_in words)
     role_so at new low high =
         let turned = h.1 in
         let w = write_kept words at new low high in
@@ -204,7 +204,7 @@ module _ {T V : Type 0} (value_of : List ℕ → V) (size capacity : ℕ) (item 
   -- ---- the opening: write and read position 0, the roles free, and the cells
 
   pub opens_so : capacity < 2 ^ 32
-      → Holds 0 (0 ∷ 0 ∷ 1 ∷ 1 ∷ replicate {A = ℕ} (size * capacity) 0) × (items_in (0 ∷ 0 ∷ 1 ∷ 1 ∷ replicate {A = ℕ} (size * capacity) 0) ≡ [])
+      → Holds size capacity 0 (0 ∷ 0 ∷ 1 ∷ 1 ∷ replicate {A = ℕ} (size * capacity) 0) × (items_in (0 ∷ 0 ∷ 1 ∷ 1 ∷ replicate {A = ℕ} (size * capacity) 0) ≡ [])
   opens_so few =
       let long = length-replicate {A = ℕ} (size * capacity) 0 in
       ((record { long = omega arith; small = few; behind = omega arith; near = omega arith; fits = omega arith }, omega arith), refl)

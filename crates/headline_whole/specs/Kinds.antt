@@ -4,8 +4,8 @@ use Rattle.model.specs.declared.turn.Kind.{Kind}
 use Rattle.model.specs.declared.turn.Kind.TheVariants as kinds
 use Rattle.model.specs.Linearized.{as_value}
 use Rattle.model.specs.World.{Trace}
-use Rattle.headline_whole.specs.Objects.{whole_list, whole_stack}
-use Rattle.headline_whole.specs.Whole.{AnswersAs}
+use Rattle.headline_whole.specs.Objects.{whole_list, whole_stack, is_owners_call, whole_owners, is_map_call, whole_map}
+use Rattle.headline_whole.specs.Whole.{BeginsOnly, AnswersAs}
 
 module _ {T : Type 0} where
   abbrev pub AnswersWhole : Kind → Trace T → Type 0
@@ -14,4 +14,8 @@ module _ {T : Type 0} where
   AnswersWhole kinds.Queue t = AnswersAs (whole_list queues.Queue t.world.capacity) t.events
   AnswersWhole kinds.Atomic t = AnswersAs (as_value t.world.coding) t.events
   AnswersWhole kinds.Indices t = AnswersAs (whole_stack t.world.capacity) t.events
+  AnswersWhole kinds.Robust t =
+      BeginsOnly is_owners_call t.events → AnswersAs (whole_owners t.world.capacity) t.events
+  AnswersWhole kinds.Container t =
+      BeginsOnly is_map_call t.events → AnswersAs (whole_map t.world.capacity) t.events
   AnswersWhole kind t = Unit {0}

@@ -1,22 +1,35 @@
 -- The objects as which calls answer that run whole: lists, one value, a stack of free indices, and maps from index to owner.
-use Rattle.std.specs.Prelude.{ℕ, ◌==◌, Bool, true, false, List, length}
+use Rattle.std.specs.Prelude.{ℕ, ◌==◌, Bool, true, false, Result, Ok, Err, List, length}
 use Rattle.steps.specs.Objects.Owners as owners
 use Rattle.steps.specs.Objects.Owners.{Owners}
 use Rattle.steps.specs.Objects.Stacks as stacks
 use Rattle.steps.specs.Objects.Stacks.{Stack}
+use Rattle.steps.specs.declared.container.enums.ContainerAddFailure.{ContainerAddFailure}
+use Rattle.steps.specs.declared.container.handle.ContainerHandle.{ContainerHandle}
 use Rattle.steps.specs.declared.indices.enums.ReleaseMode.TheVariants.{Default, LockIfLastIndex}
 use Rattle.steps.specs.declared.indices.enums.ReleaseState.TheVariants.{Unlocked}
 use Rattle.model.specs.declared.event.Answer.{Answer}
-use Rattle.model.specs.declared.event.Answer.TheVariants.{Done, Truth, Number, State}
+use Rattle.model.specs.declared.event.Answer.TheVariants.{Done, Truth, Number, Index, NoPlace, State}
 use Rattle.model.specs.declared.event.Item.{Item}
 use Rattle.model.specs.declared.event.Start.{Start}
-use Rattle.model.specs.declared.event.Start.TheVariants.{Queues, Indices}
+use Rattle.model.specs.declared.event.Start.TheVariants.{Queues, Indices, Robust, Container}
+use Rattle.model.specs.declared.families.container.ContainerStart.TheVariants as containers
+use Rattle.model.specs.declared.families.indices.robust.RobustStart.TheVariants as robust
 use Rattle.model.specs.declared.families.indices.IndexStart.TheVariants.{Acquire, Release, BorrowedIndices, IsLocked}
 use Rattle.model.specs.declared.families.queues.QueueKind.{QueueKind}
 use Rattle.model.specs.declared.families.queues.QueueStart.TheVariants.{PushIndex, Push, Pop, Len, IsEmpty, IsFull}
+use Rattle.model.specs.Families.Container.Calls.{place_of, removed, replaced}
 use Rattle.model.specs.Families.Indices.Calls.{acquire_answer}
+use Rattle.model.specs.Families.Indices.Robust.Calls.{release_answer}
 use Rattle.model.specs.Families.Queues.Objects.{list_of}
 use Rattle.model.specs.Linearizable.{Specification}
+use Rattle.plain.specs.Contents as contents
+use Rattle.plain.specs.Contents.{Contents}
+
+-- a handle of a container: all indices past the capacity are one, which has no owner
+abbrev pub handle_to : ℕ → ℕ → ℕ → ContainerHandle
+handle_to capacity index owner =
+    record { index = place_of capacity index; owner = owner; container = 0 }
 
 module _ {T : Type 0} where
   abbrev pub every_call : Start T → Bool
@@ -77,4 +90,83 @@ module _ {T : Type 0} where
         is_call = is_stack_call;
         object =
             record { opening = stacks.opened capacity; after = stack_after; answer = stack_answer };
+      }
+
+  -- ---- a map from index to owner: an acquire takes the lowest index that has none
+
+  -- the calls of it that put no question
+  abbrev pub is_owners_call : Start T → Bool
+  is_owners_call (Robust (robust.Acquire owner)) = true
+  is_owners_call (Robust (robust.Release index owner mode)) = true
+  is_owners_call (Robust robust.BorrowedIndices) = true
+  is_owners_call (Robust robust.IsLocked) = true
+  is_owners_call start = false
+
+  abbrev pub owners_after : Owners → Start T → Owners
+  owners_after s (Robust (robust.Acquire owner)) = owners.after_acquire s owner
+  owners_after s (Robust (robust.Release index owner mode)) =
+      owners.after_release s index owner mode
+  owners_after s (Robust robust.BorrowedIndices) = owners.raised s
+  owners_after s start = s
+
+  abbrev pub owners_answer : Owners → Start T → Answer T
+  owners_answer s (Robust (robust.Acquire owner)) = acquire_answer (owners.acquired s)
+  owners_answer s (Robust (robust.Release index owner mode)) =
+      release_answer (owners.released s index owner mode)
+  owners_answer s (Robust robust.BorrowedIndices) = Number (owners.borrowed s)
+  owners_answer s (Robust robust.IsLocked) = Truth (owners.is_locked s)
+  owners_answer s start = Done
+
+  abbrev pub whole_owners : ℕ → Specification T Owners
+  whole_owners capacity =
+      record {
+        is_call = is_owners_call;
+        object =
+            record { opening = owners.opened_at capacity 0; after = owners_after; answer = owners_answer };
+      }
+
+  -- ---- a map from index to owner and value
+
+  -- the calls of it that put no question, and need no state
+  abbrev pub is_map_call : Start T → Bool
+  is_map_call (Container (containers.Add value owner)) = true
+  is_map_call (Container (containers.Remove index owner mode)) = true
+  is_map_call (Container (containers.Replace index value owner)) = true
+  is_map_call (Container containers.Len) = true
+  is_map_call (Container containers.IsEmpty) = true
+  is_map_call (Container containers.IsLocked) = true
+  is_map_call start = false
+
+  abbrev pub map_after : ℕ → Contents T → Start T → Contents T
+  map_after capacity s (Container (containers.Add value owner)) = contents.after_add s owner value
+  map_after capacity s (Container (containers.Remove index owner mode)) =
+      contents.after_remove s (handle_to capacity index owner) mode
+  map_after capacity s (Container (containers.Replace index value owner)) =
+      contents.after_replace s (handle_to capacity index owner) value
+  map_after capacity s (Container containers.Len) = contents.counted s
+  map_after capacity s (Container containers.IsEmpty) = contents.counted s
+  map_after capacity s start = s
+
+  abbrev pub add_answer : Result ContainerHandle ContainerAddFailure → Answer T
+  add_answer (Ok handle) = Index handle.index
+  add_answer (Err failure) = NoPlace failure
+
+  abbrev pub map_answer : ℕ → Contents T → Start T → Answer T
+  map_answer capacity s (Container (containers.Add value owner)) =
+      add_answer (contents.added s owner)
+  map_answer capacity s (Container (containers.Remove index owner mode)) =
+      removed (contents.removed s (handle_to capacity index owner) mode)
+  map_answer capacity s (Container (containers.Replace index value owner)) =
+      replaced (contents.replaced s (handle_to capacity index owner))
+  map_answer capacity s (Container containers.Len) = Number (contents.number s)
+  map_answer capacity s (Container containers.IsEmpty) = Truth (contents.number s == 0)
+  map_answer capacity s (Container containers.IsLocked) = Truth (contents.is_locked s)
+  map_answer capacity s start = Done
+
+  abbrev pub whole_map : ℕ → Specification T (Contents T)
+  whole_map capacity =
+      record {
+        is_call = is_map_call;
+        object =
+            record { opening = contents.opened capacity 0; after = map_after capacity; answer = map_answer capacity };
       }
