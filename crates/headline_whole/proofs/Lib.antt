@@ -12,3 +12,4 @@ pub mod Rings
 pub mod Runs
 pub mod Turns
 pub mod Values
+pub mod Worked
