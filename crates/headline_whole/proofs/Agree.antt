@@ -1,6 +1,8 @@
 -- A call of one family, named as one of it, where that family's registry is kept: what its step comes to.
-use Rattle.std.proofs.Common.{◌≡◌, ℕ, ◌==◌, Bool, true, false, Option, Some, None, List, [], ◌∷◌, ◌++◌, refl, ap, subst, ◌∙◌, if◌then◌else◌}
+use Rattle.std.proofs.Common.{◌≡◌, ℕ, ◌==◌, Bool, true, false, Option, Some, None, List, [], ◌∷◌, ◌++◌, map, refl, ap, subst, ◌∙◌, if◌then◌else◌}
 use Rattle.std.specs.List.{AllByRecursion, flat_map}
+use Rattle.steps.specs.Bits.BitSet.{place_after}
+use Rattle.steps.specs.Bits.Places.{places_in}
 use Rattle.steps.specs.Container.Add.{add_after}
 use Rattle.steps.specs.Container.Find.{find_after, find_kept}
 use Rattle.steps.specs.Container.Recover.{recover_after, recover_kept}
@@ -10,10 +12,15 @@ use Rattle.steps.specs.Indices.Robust.Looks.{borrowed_after, locked_after}
 use Rattle.steps.specs.Routine.{went_on}
 use Rattle.steps.specs.declared.ask.After.{After}
 use Rattle.steps.specs.declared.ask.After.TheVariants.{GoOn, Done}
+use Rattle.steps.specs.declared.bits.bit_set.ResetNextStage.{ResetNextStage}
+use Rattle.steps.specs.declared.bits.bit_set.ResetNextStage.TheVariants as resets
+use Rattle.steps.specs.declared.bits.bit_set.SetStage.{SetStage}
+use Rattle.steps.specs.declared.bits.bit_set.SetStage.TheVariants as sets
 use Rattle.steps.specs.declared.indices.enums.ReleaseState.TheVariants.{Locked}
 use Rattle.model.specs.declared.event.Answer.{Answer}
 use Rattle.model.specs.declared.event.Answer.TheVariants as answers
 use Rattle.model.specs.declared.event.Event.{Event}
+use Rattle.model.specs.declared.event.Event.TheVariants as events
 use Rattle.model.specs.declared.event.Event.TheVariants.{Finished}
 use Rattle.model.specs.declared.event.Start.{Start}
 use Rattle.model.specs.declared.event.Start.TheVariants as starts
@@ -23,6 +30,8 @@ use Rattle.model.specs.declared.families.Registry.{Registry}
 use Rattle.model.specs.declared.families.Registry.TheVariants as registries
 use Rattle.model.specs.declared.families.atomic.AtomicStart.{AtomicStart}
 use Rattle.model.specs.declared.families.atomic.AtomicStart.TheVariants as values
+use Rattle.model.specs.declared.families.bits.calls.BitsFlight.{BitsFlight}
+use Rattle.model.specs.declared.families.bits.calls.BitsFlight.TheVariants as bit_flights
 use Rattle.model.specs.declared.families.container.ContainerStart.{ContainerStart}
 use Rattle.model.specs.declared.families.container.calls.ContainerFlight.{ContainerFlight}
 use Rattle.model.specs.declared.families.container.calls.ContainerFlight.TheVariants as containers
@@ -35,6 +44,8 @@ use Rattle.model.specs.Coding.{Coding}
 use Rattle.model.specs.Families.{after_of, step_of, kept_after_death}
 use Rattle.model.specs.Families.Atomic.Calls as value_calls
 use Rattle.model.specs.Families.Atomic.Steps as value_steps
+use Rattle.model.specs.Families.Bits.Calls as bits_calls
+use Rattle.model.specs.Families.Bits.Steps as bits_steps
 use Rattle.model.specs.Families.Container.Calls as container_calls
 use Rattle.model.specs.Families.Container.States.{state_of}
 use Rattle.model.specs.Families.Container.Steps as container_steps
@@ -60,6 +71,7 @@ module _ {T : Type 0} where
   abbrev pub Agree : Start T → Flight T → Registry T → Type 0
   Agree (starts.Queues start) (flights.Queues flight) (registries.Queues roles) = Unit {0}
   Agree (starts.Atomic start) (flights.Atomic flight) (registries.Atomic producer) = Unit {0}
+  Agree (starts.Bits start) (flights.Bits flight) registries.Nothing = Unit {0}
   Agree (starts.Indices start) (flights.Indices flight) (registries.Indices holders) = Unit {0}
   Agree (starts.Robust start) (flights.Robust flight) (registries.Owners dead) = Unit {0}
   Agree (starts.Container start) (flights.Container flight) (registries.Container dead states) = IsNoLook flight
@@ -72,6 +84,7 @@ module _ {T : Type 0} where
       → (step_of code words beside p start flight old kept).after ≡ after_of code flight old
   goes_so code words beside p (starts.Queues start) (flights.Queues flight) old (registries.Queues roles) h = refl
   goes_so code words beside p (starts.Atomic start) (flights.Atomic flight) old (registries.Atomic producer) h = refl
+  goes_so code words beside p (starts.Bits start) (flights.Bits flight) old registries.Nothing h = refl
   goes_so code words beside p (starts.Indices start) (flights.Indices flight) old (registries.Indices holders) h = refl
   goes_so code words beside p (starts.Robust start) (flights.Robust flight) old (registries.Owners dead) h = refl
   goes_so code words beside p (starts.Container start) (flights.Container (containers.Look which call)) old (registries.Container dead states) h = absurd h
@@ -107,6 +120,8 @@ module _ {T : Type 0} where
       stays (starts.Atomic start)
       (step_of code words beside p (starts.Atomic start) (flights.Atomic flight) old (registries.Atomic producer)).kept
       flights.Atomic (λ r. tt) d (value_calls.after code flight old) e
+  agrees_then code words beside p (starts.Bits start) (flights.Bits flight) old registries.Nothing d h e =
+      stays (starts.Bits start) registries.Nothing flights.Bits (λ r. tt) d (bits_calls.after flight old) e
   agrees_then code words beside p (starts.Indices start) (flights.Indices flight) old (registries.Indices holders) d h e =
       stays (starts.Indices start)
       (step_of code words beside p (starts.Indices start) (flights.Indices flight) old (registries.Indices holders)).kept
@@ -144,6 +159,7 @@ module _ {T : Type 0} where
       → Agree start flight (kept_after_death kept owner)
   agrees_still (starts.Queues start) (flights.Queues flight) (registries.Queues roles) owner h = tt
   agrees_still (starts.Atomic start) (flights.Atomic flight) (registries.Atomic producer) owner h = tt
+  agrees_still (starts.Bits start) (flights.Bits flight) registries.Nothing owner h = tt
   agrees_still (starts.Indices start) (flights.Indices flight) (registries.Indices holders) owner h = tt
   agrees_still (starts.Robust start) (flights.Robust flight) (registries.Owners dead) owner h = tt
   agrees_still (starts.Container start) (flights.Container flight) (registries.Container dead states) owner h = h
@@ -177,6 +193,34 @@ module _ {T : Type 0} where
     index_writes p None (Some (answers.State Locked)) = refl
     index_writes p None outcome = refl
 
+    if_writes : (b : Bool) (e : Event T) → whole.answer_in is_call e ≡ [] → flat_map (whole.answer_in is_call) (if b then e ∷ [] else []) ≡ []
+    if_writes true e none = ap (λ (xs : List (Start T × Answer T)). xs ++ []) none
+    if_writes false e none = refl
+
+    unless_writes : (b : Bool) (e : Event T) → whole.answer_in is_call e ≡ [] → flat_map (whole.answer_in is_call) (if b then [] else e ∷ []) ≡ []
+    unless_writes true e none = refl
+    unless_writes false e none = ap (λ (xs : List (Start T × Answer T)). xs ++ []) none
+
+    clears_none : (p : ℕ) (bits : List ℕ) → flat_map (whole.answer_in is_call) (map (λ bit. events.Cleared p bit) bits) ≡ []
+    clears_none p [] = refl
+    clears_none p (bit ∷ bits) = clears_none p bits
+
+    bit_writes : (p : ℕ) (flight : BitsFlight) (old : ℕ) → flat_map (whole.answer_in is_call) (bits_steps.effects_of {T = T} p flight old) ≡ []
+    bit_writes p (bit_flights.Set run) old = set_writes run.call.stage
+      where
+        set_writes : (stage : SetStage) → flat_map (whole.answer_in is_call) (bits_steps.set_events {T = T} p run.given stage old) ≡ []
+        set_writes sets.LoadsElement = refl
+        set_writes (sets.ExchangesElement found) = if_writes (old == found) (events.Set p run.given) refl
+    bit_writes p (bit_flights.ResetNext run) old = reset_writes run.call.stage
+      where
+        reset_writes : (stage : ResetNextStage) → flat_map (whole.answer_in is_call) (bits_steps.reset_events {T = T} p run.call.capacity stage old) ≡ []
+        reset_writes (resets.ExchangesElement start passed found) =
+            if_writes (old == found) (events.Cleared p (place_after run.call.capacity start passed)) refl
+        reset_writes stage = refl
+    bit_writes p (bit_flights.ResetAll run) old = clears_none p (places_in run.call.word old)
+    bit_writes p (bit_flights.Count run) old = refl
+    bit_writes p (bit_flights.TakeAll run) old = unless_writes (old == 0) (events.TakenOut p run.call.word old) refl
+
     effect_none : (turn : Turn T) (e : Event T) → IsEffectOf turn e → whole.answer_in is_call e ≡ []
     effect_none turn (Finished q start answer) h = absurd h
     effect_none turn e h = refl
@@ -193,6 +237,7 @@ module _ {T : Type 0} where
         queue_writes p start (queue_steps.effect_of code words beside flight old) (answer_in (queue_calls.after code flight old))
     writes_none code words beside p (starts.Atomic start) (flights.Atomic flight) old (registries.Atomic producer) h =
         value_writes p start (answer_in (value_calls.after code flight old))
+    writes_none code words beside p (starts.Bits start) (flights.Bits flight) old registries.Nothing h = bit_writes p flight old
     writes_none code words beside p (starts.Indices start) (flights.Indices flight) old (registries.Indices holders) h =
         index_writes p (index_steps.frees flight) (answer_in (index_calls.after {T = T} flight old))
     writes_none code words beside p (starts.Robust start) (flights.Robust flight) old (registries.Owners dead) h =

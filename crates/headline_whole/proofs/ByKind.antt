@@ -8,6 +8,7 @@ use Rattle.model.specs.World.{Trace, capacity_error}
 use Rattle.headline_whole.specs.Kinds.{AnswersWhole}
 use Rattle.headline_whole.specs.Objects.{every_call}
 use Rattle.headline_whole.specs.Whole.{RunsWhole, BeginsOnly, AnswersAs}
+use Rattle.headline_whole.proofs.BitSets as bit_sets
 use Rattle.headline_whole.proofs.Indices as indices
 use Rattle.headline_whole.proofs.Law.{IsMadeSo, Reading, Law}
 use Rattle.headline_whole.proofs.Maps as maps
@@ -34,6 +35,8 @@ module _ {T : Type 0} (t : Trace T) (r : IsReached t) (runs : RunsWhole t.events
   by_kind kinds.Queue is = by_law _ kinds.Queue is (value_law t.world.coding r.coded t.world.capacity) any
   by_kind kinds.Atomic is =
       by_law (values.reading t.world.coding) kinds.Atomic is (λ may. values.law t.world.coding r.coded t.world.capacity) any
+  by_kind kinds.Bits is = by_law (bit_sets.places_reading t.world.capacity) kinds.Bits is (bit_sets.places_law t.world.coding t.world.capacity) any
+  by_kind kinds.Counts is = by_law (bit_sets.counts_reading t.world.capacity) kinds.Counts is (bit_sets.counts_law t.world.coding t.world.capacity) any
   by_kind kinds.Indices is = by_law (indices.reading t.world.capacity) kinds.Indices is (indices.law t.world.coding t.world.capacity) any
   by_kind kinds.Robust is = λ only. by_law (owners.reading t.world.capacity) kinds.Robust is (owners.law t.world.coding t.world.capacity) only
   by_kind kinds.Container is = λ only.

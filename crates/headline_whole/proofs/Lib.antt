@@ -1,5 +1,6 @@
 pub mod Agree
 pub mod AnyQueue
+pub mod BitSets
 pub mod ByKind
 pub mod Flights
 pub mod Indices
@@ -10,6 +11,7 @@ pub mod Owners
 pub mod Queues
 pub mod Rings
 pub mod Runs
+pub mod Sweeps
 pub mod Turns
 pub mod Values
 pub mod Worked

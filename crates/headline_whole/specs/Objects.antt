@@ -1,7 +1,11 @@
--- The objects as which calls answer that run whole: lists, one value, a stack of free indices, and maps from index to owner.
-use Rattle.std.specs.Prelude.{ℕ, ◌==◌, Bool, true, false, Result, Ok, Err, List, length}
+-- The objects as which calls answer that run whole: lists, sets of places, counts, a stack of free indices, and maps from index
+-- to owner and value.
+use Rattle.std.specs.Prelude.{ℕ, ◌==◌, Bool, true, false, not, Result, Ok, Err, List, length, slice_index}
+use Rattle.steps.specs.Objects.Counts as counts
 use Rattle.steps.specs.Objects.Owners as owners
 use Rattle.steps.specs.Objects.Owners.{Owners}
+use Rattle.steps.specs.Objects.Places as places
+use Rattle.steps.specs.Objects.Places.{Places}
 use Rattle.steps.specs.Objects.Stacks as stacks
 use Rattle.steps.specs.Objects.Stacks.{Stack}
 use Rattle.steps.specs.declared.container.enums.ContainerAddFailure.{ContainerAddFailure}
@@ -12,12 +16,14 @@ use Rattle.model.specs.declared.event.Answer.{Answer}
 use Rattle.model.specs.declared.event.Answer.TheVariants.{Done, Truth, Number, Index, NoPlace, State}
 use Rattle.model.specs.declared.event.Item.{Item}
 use Rattle.model.specs.declared.event.Start.{Start}
-use Rattle.model.specs.declared.event.Start.TheVariants.{Queues, Indices, Robust, Container}
+use Rattle.model.specs.declared.event.Start.TheVariants.{Queues, Bits, Indices, Robust, Container}
+use Rattle.model.specs.declared.families.bits.BitsStart.TheVariants as bits
 use Rattle.model.specs.declared.families.container.ContainerStart.TheVariants as containers
 use Rattle.model.specs.declared.families.indices.robust.RobustStart.TheVariants as robust
 use Rattle.model.specs.declared.families.indices.IndexStart.TheVariants.{Acquire, Release, BorrowedIndices, IsLocked}
 use Rattle.model.specs.declared.families.queues.QueueKind.{QueueKind}
 use Rattle.model.specs.declared.families.queues.QueueStart.TheVariants.{PushIndex, Push, Pop, Len, IsEmpty, IsFull}
+use Rattle.model.specs.Families.Bits.Calls.{reset_answer}
 use Rattle.model.specs.Families.Container.Calls.{place_of, removed, replaced}
 use Rattle.model.specs.Families.Indices.Calls.{acquire_answer}
 use Rattle.model.specs.Families.Indices.Robust.Calls.{release_answer}
@@ -62,6 +68,48 @@ module _ {T : Type 0} where
               after = (list_of kind capacity).after;
               answer = whole_list_answer kind capacity;
             };
+      }
+
+  -- ---- a set of places, and counts of places
+
+  abbrev pub is_places_call : Start T → Bool
+  is_places_call (Bits start) = true
+  is_places_call start = false
+
+  abbrev pub places_after : Places → Start T → Places
+  places_after s (Bits (bits.Set place)) = places.with_place s place
+  places_after s (Bits bits.ResetNext) = places.after_next s
+  places_after s (Bits bits.ResetAll) = places.emptied s
+  places_after s start = s
+
+  abbrev pub places_answer : Places → Start T → Answer T
+  places_answer s (Bits (bits.Set place)) = Truth (not (places.has s place))
+  places_answer s (Bits bits.ResetNext) = reset_answer (places.next_place s)
+  places_answer s start = Done
+
+  abbrev pub whole_places : ℕ → Specification T Places
+  whole_places capacity =
+      record {
+        is_call = is_places_call;
+        object =
+            record { opening = places.unset capacity; after = places_after; answer = places_answer };
+      }
+
+  abbrev pub counts_after : ℕ → List ℕ → Start T → List ℕ
+  counts_after capacity s (Bits (bits.Set place)) = counts.counted s place
+  counts_after capacity s (Bits bits.ResetAll) = counts.uncounted capacity
+  counts_after capacity s start = s
+
+  abbrev pub counts_answer : List ℕ → Start T → Answer T
+  counts_answer s (Bits (bits.Set place)) = Number (slice_index s place)
+  counts_answer s start = Done
+
+  abbrev pub whole_counts : ℕ → Specification T (List ℕ)
+  whole_counts capacity =
+      record {
+        is_call = is_places_call;
+        object =
+            record { opening = counts.uncounted capacity; after = counts_after capacity; answer = counts_answer };
       }
 
   -- ---- a stack of free indices: an acquire takes the top, and a release puts an index there
