@@ -62,6 +62,12 @@ len_stays capacity c (LoadsReadAgain write read) old is = go (old == read)
     go true = tt
     go false = is
 
+-- a machine of this kind has the calls of this queue
+abbrev pub HasCalls : Type 0 → QueueKind → Kind → ℕ → Type 0
+HasCalls T kind machine capacity =
+    (start : Start T) (flight : Flight T) (kept : Registry T) → first_of machine capacity start kept ≡ Some flight
+    → (s : QueueStart T) × (start ≡ starts.Queues s) × (option_map flights.Queues (first kind capacity s) ≡ Some flight)
+
 module _ {T : Type 0} where
   -- how words hold a list
   pub list_reading : QueueKind → ℕ → (ℕ → List ℕ → Type 0) → (List ℕ → List (Item T)) → Reading T
@@ -231,14 +237,8 @@ module _ {T : Type 0} where
 
   -- ---- the law
 
-  -- a machine of this kind has the calls of this queue
-  abbrev pub HasCalls : QueueKind → Kind → ℕ → Type 0
-  HasCalls kind machine capacity =
-      (start : Start T) (flight : Flight T) (kept : Registry T) → first_of machine capacity start kept ≡ Some flight
-      → (s : QueueStart T) × (start ≡ starts.Queues s) × (option_map flights.Queues (first kind capacity s) ≡ Some flight)
-
   module _ (code : Coding T) (kind : QueueKind) (machine : Kind) (capacity : ℕ) (Holds : ℕ → List ℕ → Type 0) (read : List ℕ → List (Item T))
-      (has : HasCalls kind machine capacity)
+      (has : HasCalls T kind machine capacity)
       (own : (turns : ℕ) (words : List ℕ) → turns < 2 ^ 64 - 2 → Holds turns words → Own code kind capacity Holds read turns words) where
     begins_queue : (t : Trace T) (p : ℕ) (start : QueueStart T) (flight : Flight T) → refusal_of t.world (Begin p (starts.Queues start)) ≡ None
         → Holds t.world.turns t.world.words → option_map flights.Queues (first kind capacity start) ≡ Some flight

@@ -14,20 +14,20 @@ use Rattle.model.specs.World.{Trace, words_opened}
 use Rattle.headline_whole.proofs.Agree.{Agree}
 use Rattle.headline_whole.proofs.Flights.{FlightRuns}
 
+-- how words hold an object, where the machine has taken so many turns
+pub record Reading (T : Type 0) : Type 1 where
+  pub State : Type 0
+  pub spec : Specification T State
+  pub such : Start T → Bool  -- the calls that may begin
+  pub Holds : ℕ → List ℕ → Type 0
+  pub read : List ℕ → State
+
 module _ {T : Type 0} where
   -- the trace is one of such a machine
   pub record IsMadeSo (code : Coding T) (kind : Kind) (capacity : ℕ) (t : Trace T) : Type 0 where
     pub coding : t.world.coding ≡ code
     pub kind : t.world.kind ≡ kind
     pub capacity : t.world.capacity ≡ capacity
-
-  -- how words hold an object, where the machine has taken so many turns
-  pub record Reading (T : Type 0) : Type 1 where
-    pub State : Type 0
-    pub spec : Specification T State
-    pub such : Start T → Bool  -- the calls that may begin
-    pub Holds : ℕ → List ℕ → Type 0
-    pub read : List ℕ → State
 
   module _ (R : Reading T) where
     -- a call that has begun on these words answers so and leaves these

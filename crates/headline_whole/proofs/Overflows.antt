@@ -260,7 +260,7 @@ module _ (T : Type 0) (capacity : ℕ) where
             counts = counts_so;
           }
 
-  over_has : HasCalls {T = T} queues.Overflow kinds.Overflow capacity
+  over_has : HasCalls T queues.Overflow kinds.Overflow capacity
   over_has (starts.Queues s) flight kept e = (s, refl, e)
   over_has start flight kept e = absurd (cc)
 

@@ -117,7 +117,7 @@ module _ {T : Type 0} where
           counts = counts_so one_word.value_of 1 capacity items.Index words turns h;
         }
 
-  index_has : (capacity : ℕ) → HasCalls {T = T} queues.IndexQueue kinds.IndexQueue capacity
+  index_has : (capacity : ℕ) → HasCalls T queues.IndexQueue kinds.IndexQueue capacity
   index_has capacity (starts.Queues s) flight kept e = (s, refl, e)
   index_has capacity start flight kept e = absurd (cc)
 
@@ -202,7 +202,7 @@ module _ {T : Type 0} where
             counts = counts_so code.value_of code.size capacity items.Value words turns h;
           }
 
-    value_has : HasCalls {T = T} queues.Queue kinds.Queue capacity
+    value_has : HasCalls T queues.Queue kinds.Queue capacity
     value_has (starts.Queues s) flight kept e = (s, refl, e)
     value_has start flight kept e = absurd (cc)
 
