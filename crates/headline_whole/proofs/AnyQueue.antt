@@ -70,7 +70,7 @@ HasCalls T kind machine capacity =
 
 module _ {T : Type 0} where
   -- how words hold a list
-  pub list_reading : QueueKind → ℕ → (ℕ → List ℕ → Type 0) → (List ℕ → List (Item T)) → Reading T
+  abbrev pub list_reading : QueueKind → ℕ → (ℕ → List ℕ → Type 0) → (List ℕ → List (Item T)) → Reading T
   list_reading kind capacity Holds read =
       record { State = List (Item T); spec = whole_list kind capacity; such = every_call; Holds = Holds; read = read }
 

@@ -89,7 +89,7 @@ empties capacity (start ∷ words) fits =
     }
 
 module _ {T : Type 0} where
-  pub places_reading : ℕ → Reading T
+  abbrev pub places_reading : ℕ → Reading T
   places_reading capacity =
       record {
         State = Places;
@@ -99,7 +99,7 @@ module _ {T : Type 0} where
         read = places_in capacity;
       }
 
-  pub counts_reading : ℕ → Reading T
+  abbrev pub counts_reading : ℕ → Reading T
   counts_reading capacity =
       record {
         State = List ℕ;

@@ -103,7 +103,7 @@ not_free true e = absurd (cc)
 not_free false e = refl
 
 module _ {T : Type 0} where
-  pub reading : ℕ → Reading T
+  abbrev pub reading : ℕ → Reading T
   reading capacity =
       record {
         State = Stack;

@@ -62,7 +62,7 @@ module _ {T : Type 0} (code : Coding T) (capacity : ℕ) where
   abbrev pub map_in : List ℕ → Contents T
   map_in words = contents_in code.value_of code.size capacity 0 words
 
-  pub reading : Reading T
+  abbrev pub reading : Reading T
   reading =
       record {
         State = Contents T;

@@ -83,15 +83,15 @@ pushes_over : (capacity first : ℕ) (values : List ℕ) (value : ℕ)
 pushes_over zero first [] value position few = record { back = refl; values = refl; end = omega arith }
 pushes_over zero first (x ∷ xs) value position few = absurd (omega arith)
 pushes_over (suc c) first values value position few =
-    let then : pushed_over (record { capacity = suc c; first = first; values = values }) value
+    let made : pushed_over (record { capacity = suc c; first = first; values = values }) value
     ≡ record { capacity = suc c; first = first + (length values + 1 - suc c); values = cut (suc c) (values ++ value ∷ []) } =
     ap (λ b. if nat_lt 0 (suc c) && b
     then record { capacity = suc c; first = first + (length values + 1 - suc c); values = cut (suc c) (values ++ value ∷ []) }
     else record { capacity = suc c; first = first; values = values }) position in
     record {
       back = ap (λ b. if nat_lt 0 (suc c) && b then cut_off (suc c) (values ++ value ∷ []) else Some value) position;
-      values = ap (λ (q : Bounded ℕ). q.values) then;
-      end = subst (λ (q : Bounded ℕ). q.first + length q.values ≤ first + length values + 1) (sym then)
+      values = ap (λ (q : Bounded ℕ). q.values) made;
+      end = subst (λ (q : Bounded ℕ). q.first + length q.values ≤ first + length values + 1) (sym made)
           (longest (suc c) first values value few (nat_lt (suc c) (length (values ++ value ∷ []))) refl);
     }
 

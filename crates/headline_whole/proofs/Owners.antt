@@ -68,7 +68,7 @@ named_if outer call flight true e = (refl, cc)
 named_if outer call flight false e = absurd (cc)
 
 module _ {T : Type 0} where
-  pub reading : ℕ → Reading T
+  abbrev pub reading : ℕ → Reading T
   reading capacity =
       record {
         State = Owners;

@@ -217,7 +217,7 @@ module _ {T : Type 0} (R : Reading T) where
         → Then t.world.coding (Answers R h.turns h.words h.call.start) a (words_after t.world.words (ask_of (want_of t.world.coding h.flight)))
         → ((m n : ℕ) (words : List ℕ) → m ≤ n → R.Holds m words → R.Holds n words)
         → Stands now
-    comes_to (GoOn d) is then later =
+    comes_to (GoOn d) is left later =
         inr (record {
           party = h.party;
           call = call_now;
@@ -235,7 +235,7 @@ module _ {T : Type 0} (R : Reading T) where
               (old_of t.world.words (ask_of (want_of t.world.coding h.flight))) t.world.kept d h.agrees (sym goes_as ∙ is);
           others = still_none;
           later = let l = h.later in omega arith;
-          runs = then;
+          runs = left;
           answers =
               still_answered (R.read h.words) t.events _
               (flat_map-append (whole.answer_in R.spec.is_call) step.wrote (ending_of h.party h.call.start (answer_in step.after))
@@ -245,17 +245,17 @@ module _ {T : Type 0} (R : Reading T) where
               ∙ ap (λ (xs : List (Start T × Answer T)). xs ++ []) quiet))
               h.answers;
         })
-    comes_to (Done answer) is then later =
+    comes_to (Done answer) is left later =
         inl (record {
           none = λ q. ⊎_elim (mine q) (still_none q) (cases_eq q h.party);
           holds = later (h.turns + 1) (t.world.turns + 1) (words_after t.world.words (ask_of (want_of t.world.coding h.flight)))
-              (let l = h.later in omega arith) then.holds;
+              (let l = h.later in omega arith) left.holds;
           answers =
-              subst (λ (object : R.State). HasAnswered object now.events) (sym then.object)
+              subst (λ (object : R.State). HasAnswered object now.events) (sym left.object)
               (subst (λ (a : After (Flight T) (Answer T)).
               HasAnswered (if R.spec.is_call h.call.start then R.spec.object.after (R.read h.words) h.call.start else R.read h.words)
               (t.events ++ (step.wrote ++ ending_of h.party h.call.start (answer_in a))))
-              (sym is) (once_more (R.read h.words) t.events step.wrote h.party h.call.start answer quiet then.said h.answers));
+              (sym is) (once_more (R.read h.words) t.events step.wrote h.party h.call.start answer quiet left.said h.answers));
         })
       where
         mine : (q : ℕ) → q ≡ h.party → flight_in now.world q ≡ None

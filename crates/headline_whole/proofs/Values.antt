@@ -141,13 +141,13 @@ module _ {T : Type 0} (code : Coding T) where
           let few = h.1 in
           let takes : has_version (value_in code.value_of code.size words) ≡ true =
           let ne : (slice_index words 0 == 2 ^ 64 - 1) ≡ false = ne_eqb _ _ (λ e. absurd (omega arith)) in ap not ne in
-          let then : stored (value_in code.value_of code.size words) value ≡ record { value = value; version = slice_index words 0 + 1 } =
+          let made : stored (value_in code.value_of code.size words) value ≡ record { value = value; version = slice_index words 0 + 1 } =
           ap (λ b. if b then record { value = value; version = slice_index words 0 + 1 } else value_in code.value_of code.size words) takes in
-          let version : slice_index last 0 ≡ slice_index words 0 + 1 = ap (λ (s : Versioned T). s.version) (p.2 ∙ then) in
+          let version : slice_index last 0 ≡ slice_index words 0 + 1 = ap (λ (s : Versioned T). s.version) (p.2 ∙ made) in
           record {
             said = λ is. ap answers.Truth (p.1 ∙ takes);
             holds = (p.0, omega arith);
-            object = ap (λ (s : Versioned T). s.value) (p.2 ∙ then);
+            object = ap (λ (s : Versioned T). s.value) (p.2 ∙ made);
           })
           first_store tt words tt
           (store_runs code.words_of code.value_of code.size coded.sized coded.given_back coded.some coded.few value first_store refl words h.0)

@@ -63,7 +63,7 @@ module _ {T : Type 0} where
   no_events p start before at = absurd (no_more before (Begun p start) at.0 at.1)
 
   -- one event more: a begin where no call is under way, or no begin
-  Continues : List (Event T) → Event T → Type 0
+  abbrev Continues : List (Event T) → Event T → Type 0
   Continues events (Begun p start) = (q : ℕ) → IsShut (span_of q events)
   Continues events e = Unit {0}
 
