@@ -1,7 +1,6 @@
 -- The calls of the unique index set, run whole, are those of a stack of free indices.
 use Rattle.std.proofs.Common.{◌≡◌, ℕ, zero, suc, ◌+◌, ◌-◌, ◌/◌, ◌^◌, ◌<◌, ◌≤◌, Bool, true, false, not, Option, Some, None, is_some, List, [], ◌∷◌, ◌++◌, length}
-use Rattle.std.proofs.Common.{get_or, replicate, slice_index, slice_index_or, refl, sym, ap, subst, ◌∙◌, arith, length-append}
-use Rattle.std.proofs.lemmas.Bool.Decides.{nat_tests}
+use Rattle.std.proofs.Common.{get_or, nat_le, replicate, slice_index, slice_index_or, refl, sym, ap, subst, ◌∙◌, arith, length-append}
 use Rattle.std.proofs.lemmas.List.{length-replicate}
 use Rattle.std.proofs.lemmas.List.FromFn.{length-range_with_len}
 use Rattle.std.specs.List.{range_with_len}
@@ -30,6 +29,7 @@ use Rattle.model.specs.declared.families.indices.IndexStart.{IndexStart}
 use Rattle.model.specs.declared.families.indices.IndexStart.TheVariants as calls
 use Rattle.model.specs.declared.families.indices.calls.IndexFlight.TheVariants as under_way
 use Rattle.model.specs.declared.turn.Kind as kinds
+use Rattle.model.specs.declared.turn.Refusal.TheVariants.{NotHeld, BadIndex}
 use Rattle.model.specs.declared.turn.Turn.TheVariants.{Begin}
 use Rattle.model.specs.Coding.{Coding}
 use Rattle.model.specs.Families.{first_of}
@@ -58,6 +58,7 @@ use Rattle.headline_whole.specs.Objects.{every_call, whole_stack}
 use Rattle.headline_whole.proofs.Agree.{Agree}
 use Rattle.headline_whole.proofs.Flights.{FlightRuns, runs_as, twice}
 use Rattle.headline_whole.proofs.Law.{IsMadeSo, Reading, Answers, BeginsSo, Law}
+use Rattle.headline_whole.proofs.Owners.{not_past}
 
 -- ---- the opening
 
@@ -125,13 +126,15 @@ module _ {T : Type 0} where
   may_release : (capacity : ℕ) (kept : Registry T) (p index : ℕ) (mode : ReleaseMode)
       → first_row (kept_rows capacity (calls.Release index mode) kept p) ≡ None → MayRelease capacity kept p index
   may_release capacity (registries.Indices holders) p index mode e =
-      let low = row_passed _ _ _ e in
-      let own = row_passed _ _ _ low.1 in
-      let test = low.0 in
+      let held : Bool = not (holds (slice_index_or holders index None) p) in
+      let low : (nat_le capacity index ≡ false) × (first_row ((held, NotHeld) ∷ []) ≡ None) =
+      row_passed (nat_le capacity index) BadIndex (first_row ((held, NotHeld) ∷ [])) e in
+      let own : (not (holds (slice_index_or holders index None) p) ≡ false) × (first_row [] ≡ None) =
+      row_passed (not (holds (slice_index_or holders index None) p)) NotHeld None low.1 in
       record {
         holders = holders;
         is = refl;
-        below = grind (arith, nat_tests, test);
+        below = not_past capacity index low.0;
         mine = some_held (slice_index_or holders index None) p (is_true (holds (slice_index_or holders index None) p) own.0);
       }
   may_release capacity kept p index mode e = absurd (cc)

@@ -24,10 +24,10 @@ pub record Reading (T : Type 0) : Type 1 where
 
 module _ {T : Type 0} where
   -- the trace is one of such a machine
-  pub record IsMadeSo (code : Coding T) (kind : Kind) (capacity : ℕ) (t : Trace T) : Type 0 where
-    pub coding : t.world.coding ≡ code
-    pub kind : t.world.kind ≡ kind
-    pub capacity : t.world.capacity ≡ capacity
+  pub record IsMadeSo (z : Coding T) (k : Kind) (c : ℕ) (t : Trace T) : Type 0 where
+    pub coding : t.world.coding ≡ z
+    pub kind : t.world.kind ≡ k
+    pub capacity : t.world.capacity ≡ c
 
   module _ (R : Reading T) where
     -- a call that has begun on these words answers so and leaves these

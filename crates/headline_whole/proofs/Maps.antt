@@ -83,7 +83,7 @@ module _ {T : Type 0} (code : Coding T) (capacity : ℕ) where
       given = record { value = value; owner = owner }
 
       say_added : (e : Added)
-          → added e ≡ add_answer (adds.handle_of code.words_of code.value_of code.size coded.sized coded.given_back coded.some coded.few capacity 0
+          → added {T = T} e ≡ add_answer (adds.handle_of code.words_of code.value_of code.size coded.sized coded.given_back coded.some coded.few capacity 0
           (record { value = value; owner = owner }) e)
       say_added (Ok index) = refl
       say_added (Err failure) = refl

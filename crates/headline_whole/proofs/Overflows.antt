@@ -44,14 +44,14 @@ use Rattle.headline_whole.proofs.Rings.{front_map, drop_map, write_kept, read_ke
 -- ---- lists
 
 map_cut : {A B : Type 0} (f : A → B) (c : ℕ) (xs : List A) → map f (cut c xs) ≡ cut c (map f xs)
-map_cut f c xs = go (nat_lt c (length xs)) ∙ ap (λ n. if nat_lt c n then drop 1 (map f xs) else map f xs) (sym (length-map f xs))
+map_cut f c xs = go (nat_lt c (length xs)) ∙ ap (λ n. if nat_lt c n then drop 1 (map f xs) else map f xs) (sym (length-map xs f))
   where
     go : (b : Bool) → map f (if b then drop 1 xs else xs) ≡ (if b then drop 1 (map f xs) else map f xs)
     go true = drop_map f xs
     go false = refl
 
 map_cut_off : {A B : Type 0} (f : A → B) (c : ℕ) (xs : List A) → option_map f (cut_off c xs) ≡ cut_off c (map f xs)
-map_cut_off f c xs = go (nat_lt c (length xs)) ∙ ap (λ n. if nat_lt c n then slice_get (map f xs) 0 else None) (sym (length-map f xs))
+map_cut_off f c xs = go (nat_lt c (length xs)) ∙ ap (λ n. if nat_lt c n then slice_get (map f xs) 0 else None) (sym (length-map xs f))
   where
     go : (b : Bool) → option_map f (if b then slice_get xs 0 else None) ≡ (if b then slice_get (map f xs) 0 else None)
     go true = front_map f xs
@@ -83,13 +83,17 @@ pushes_over : (capacity first : ℕ) (values : List ℕ) (value : ℕ)
 pushes_over zero first [] value position few = record { back = refl; values = refl; end = omega arith }
 pushes_over zero first (x ∷ xs) value position few = absurd (omega arith)
 pushes_over (suc c) first values value position few =
+    let low : 0 < suc c = omega arith in
+    let some : nat_lt 0 (suc c) ≡ true = grind (arith, nat_tests, low) in
+    let takes : takes_in {V = ℕ} (record { capacity = suc c; first = first; values = values }) ≡ true = λ i. some i && position i in
+    let before : Bounded ℕ = record { capacity = suc c; first = first; values = values } in
+    let longer : Bounded ℕ =
+    record { capacity = suc c; first = first + (length values + 1 - suc c); values = cut (suc c) (values ++ value ∷ []) } in
     let made : pushed_over (record { capacity = suc c; first = first; values = values }) value
     ≡ record { capacity = suc c; first = first + (length values + 1 - suc c); values = cut (suc c) (values ++ value ∷ []) } =
-    ap (λ b. if nat_lt 0 (suc c) && b
-    then record { capacity = suc c; first = first + (length values + 1 - suc c); values = cut (suc c) (values ++ value ∷ []) }
-    else record { capacity = suc c; first = first; values = values }) position in
+    ap (λ (b : Bool). if b then longer else before) takes in
     record {
-      back = ap (λ b. if nat_lt 0 (suc c) && b then cut_off (suc c) (values ++ value ∷ []) else Some value) position;
+      back = ap (λ (b : Bool). if b then cut_off (suc c) (values ++ value ∷ []) else Some value) takes;
       values = ap (λ (q : Bounded ℕ). q.values) made;
       end = subst (λ (q : Bounded ℕ). q.first + length q.values ≤ first + length values + 1) (sym made)
           (longest (suc c) first values value few (nat_lt (suc c) (length (values ++ value ∷ []))) refl);
@@ -102,8 +106,11 @@ module _ (T : Type 0) (capacity : ℕ) where
   abbrev pub Holds : ℕ → List ℕ → Type 0
   Holds turns words = Represents capacity words × (slice_index words 0 ≤ turns)
 
+  abbrev as_item : ℕ → Item T
+  as_item index = items.Index index
+
   abbrev pub items_in : List ℕ → List (Item T)
-  items_in words = map items.Index (list_in capacity words).values
+  items_in words = map as_item (list_in capacity words).values
 
   module _ (turns : ℕ) (words : List ℕ) (h : Represents capacity words × (slice_index words 0 ≤ turns)) where
     length_is : length (list_in capacity words).values ≡ slice_index words 0 - slice_index words 1
@@ -111,8 +118,8 @@ module _ (T : Type 0) (capacity : ℕ) where
 
     push_so : turns < 2 ^ 64 - 2 → (index : ℕ) (back : Option ℕ) (last : List ℕ)
         → BehavesAs (Represents capacity) (list_in capacity) (λ q. handed_back q index) (λ q. pushed_over q index) words back last
-        → (option_map items.Index back ≡ cut_off capacity (items_in words ++ items.Index {T = T} index ∷ [])) × Holds (turns + 1) last
-        × (items_in last ≡ cut capacity (items_in words ++ items.Index index ∷ []))
+        → (option_map as_item back ≡ cut_off capacity (items_in words ++ as_item index ∷ [])) × Holds (turns + 1) last
+        × (items_in last ≡ cut capacity (items_in words ++ as_item index ∷ []))
     push_so early index back last p =
         let behind = p.0.behind in
         let was_behind = h.0.behind in
@@ -127,21 +134,21 @@ module _ (T : Type 0) (capacity : ℕ) where
         values_length number_of 1 (capacity + 1) last (slice_index last 1) (slice_index last 0 - slice_index last 1) in
         let end : slice_index last 1 + length (list_in capacity last).values ≤ slice_index words 1 + length (list_in capacity words).values + 1 =
         subst (λ (q : Bounded ℕ). q.first + length q.values ≤ slice_index words 1 + length (list_in capacity words).values + 1) (sym p.2) so.end in
-        let grown : map (items.Index {T = T}) ((list_in capacity words).values ++ index ∷ []) ≡ items_in words ++ items.Index index ∷ [] =
-        map-append (items.Index {T = T}) (list_in capacity words).values (index ∷ []) in (
-          ap (λ (o : Option ℕ). option_map (items.Index {T = T}) o) (p.1 ∙ so.back)
-              ∙ (map_cut_off (items.Index {T = T}) capacity ((list_in capacity words).values ++ index ∷ [])
+        let grown : map as_item ((list_in capacity words).values ++ index ∷ []) ≡ items_in words ++ as_item index ∷ [] =
+        map-append as_item (list_in capacity words).values (index ∷ []) in (
+          ap (λ (o : Option ℕ). option_map as_item o) (p.1 ∙ so.back)
+              ∙ (map_cut_off as_item capacity ((list_in capacity words).values ++ index ∷ [])
               ∙ ap (λ (xs : List (Item T)). cut_off capacity xs) grown),
           (p.0, omega arith),
-          ap (λ (q : Bounded ℕ). map (items.Index {T = T}) q.values) p.2
-              ∙ (ap (λ (xs : List ℕ). map (items.Index {T = T}) xs) so.values
-              ∙ (map_cut (items.Index {T = T}) capacity ((list_in capacity words).values ++ index ∷ [])
+          ap (λ (q : Bounded ℕ). map as_item q.values) p.2
+              ∙ (ap (λ (xs : List ℕ). map as_item xs) so.values
+              ∙ (map_cut as_item capacity ((list_in capacity words).values ++ index ∷ [])
               ∙ ap (λ (xs : List (Item T)). cut capacity xs) grown)),
         )
 
     pop_so : (taken : Option ℕ) (last : List ℕ)
         → BehavesAs (Represents capacity) (list_in capacity) front popped words taken last
-        → (option_map items.Index taken ≡ slice_get (items_in words) 0) × Holds (turns + 1) last × (items_in last ≡ drop 1 (items_in words))
+        → (option_map as_item taken ≡ slice_get (items_in words) 0) × Holds (turns + 1) last × (items_in last ≡ drop 1 (items_in words))
     pop_so taken last p =
         let behind = p.0.behind in
         let was_behind = h.0.behind in
@@ -154,9 +161,9 @@ module _ (T : Type 0) (capacity : ℕ) where
         let same : length (list_in capacity last).values ≡ length (drop 1 (list_in capacity words).values) =
         ap (λ (xs : List ℕ). length xs) values in
         let less = length-drop 1 (list_in capacity words).values in (
-          ap (λ (o : Option ℕ). option_map (items.Index {T = T}) o) p.1 ∙ front_map (items.Index {T = T}) (list_in capacity words).values,
+          ap (λ (o : Option ℕ). option_map as_item o) p.1 ∙ front_map as_item (list_in capacity words).values,
           (p.0, omega arith),
-          ap (λ (xs : List ℕ). map (items.Index {T = T}) xs) values ∙ drop_map (items.Index {T = T}) (list_in capacity words).values,
+          ap (λ (xs : List ℕ). map as_item xs) values ∙ drop_map as_item (list_in capacity words).values,
         )
 
     still : Holds (turns + 1) words
@@ -180,7 +187,7 @@ module _ (T : Type 0) (capacity : ℕ) where
             },
             omega arith,
           ),
-          ap (λ (xs : List ℕ). map (items.Index {T = T}) xs) (values_kept words at new low high number_of 1 (capacity + 1)),
+          ap (λ (xs : List ℕ). map as_item xs) (values_kept words at new low high number_of 1 (capacity + 1)),
         )
 
     counts_so : CountsTo capacity words (λ end. end ≡ length (items_in words)) (first_len capacity)
@@ -193,7 +200,7 @@ module _ (T : Type 0) (capacity : ℕ) where
           last_room = c.last_room;
           last_words = c.last_words;
           ends = c.ends;
-          holds = (c.holds.0 ∙ sym (length-map (items.Index {T = T}) (list_in capacity words).values), c.holds.1);
+          holds = (c.holds.0 ∙ sym (length-map (list_in capacity words).values as_item), c.holds.1);
         }
 
     -- ---- each call

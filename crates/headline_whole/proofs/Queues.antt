@@ -112,9 +112,9 @@ module _ {T : Type 0} where
               (pushes_index index);
           pushes_value = λ value flight named. absurd (cc);
           pops = pops_index;
-          still = still one_word.value_of 1 capacity items.Index words turns h;
-          role = role_so one_word.value_of 1 capacity items.Index words turns h;
-          counts = counts_so one_word.value_of 1 capacity items.Index words turns h;
+          still = still {T = T} one_word.value_of 1 capacity items.Index words turns h;
+          role = role_so {T = T} one_word.value_of 1 capacity items.Index words turns h;
+          counts = counts_so {T = T} one_word.value_of 1 capacity items.Index words turns h;
         }
 
   index_has : (capacity : ℕ) → HasCalls T queues.IndexQueue kinds.IndexQueue capacity

@@ -34,7 +34,7 @@ module _ {A B : Type 0} (f : A → B) where
   pub map_appended : (c : ℕ) (xs : List A) (x : A) → map f (appended c xs x) ≡ appended c (map f xs) (f x)
   map_appended c xs x =
       map_if (nat_lt (length xs) c) xs x
-      ∙ ap (λ n. if nat_lt n c then map f xs ++ f x ∷ [] else map f xs) (sym (length-map f xs))
+      ∙ ap (λ n. if nat_lt n c then map f xs ++ f x ∷ [] else map f xs) (sym (length-map xs f))
 
 longer_if : {A : Type 0} (b : Bool) (xs : List A) (x : A) → length (if b then xs ++ x ∷ [] else xs) ≤ length xs + 1
 longer_if true xs x = let l = length-append xs (x ∷ []) in omega arith
@@ -83,7 +83,7 @@ module _ {T V : Type 0} (value_of : List ℕ → V) (size capacity : ℕ) (item 
     length_is = values_length value_of size capacity words (slice_index words 1) (slice_index words 0 - slice_index words 1)
 
     number_is : length (map item (list_in value_of size capacity words).values) ≡ length (list_in value_of size capacity words).values
-    number_is = length-map item (list_in value_of size capacity words).values
+    number_is = length-map (list_in value_of size capacity words).values item
 
     -- ---- push
 

@@ -1,8 +1,9 @@
 -- The definitions at worked runs: calls that run whole, the answers that they give, and runs and answers that are refused.
-use Rattle.std.proofs.Common.{◌≡◌, ℕ, zero, suc, Bool, true, false, List, [], ◌∷◌, ◌++◌, refl, ap, subst, append-nil}
+use Rattle.std.proofs.Common.{◌≡◌, ◌==◌, ℕ, Bool, true, false, List, [], ◌∷◌, ◌++◌, if◌then◌else◌, refl, sym, subst}
 use Rattle.steps.specs.declared.indices.enums.ReleaseMode.TheVariants.{Default}
 use Rattle.steps.specs.declared.indices.enums.ReleaseState.TheVariants.{Unlocked}
-use Rattle.model.specs.declared.event.Answer.TheVariants.{Truth, Number, PoppedNone, PoppedIndex, Index, State}
+use Rattle.model.specs.declared.event.Answer.{Answer}
+use Rattle.model.specs.declared.event.Answer.TheVariants.{Truth, Number, PoppedIndex, Index, State}
 use Rattle.model.specs.declared.event.Event.{Event}
 use Rattle.model.specs.declared.event.Event.TheVariants.{Begun, Finished}
 use Rattle.model.specs.declared.event.Start.{Start}
@@ -13,7 +14,8 @@ use Rattle.model.specs.declared.families.queues.QueueStart.TheVariants.{AcquireP
 use Rattle.model.specs.declared.turn.Kind.TheVariants as kinds
 use Rattle.model.specs.declared.turn.Turn.{Turn}
 use Rattle.model.specs.Coding.{one_word}
-use Rattle.model.specs.Reading.{span_of}
+use Rattle.model.specs.Objects.{IsLegal}
+use Rattle.model.specs.Reading.{Never, Open, ended, span_of}
 use Rattle.model.specs.Shape.{IsShut}
 use Rattle.model.proofs.Readings.{SplitAt, Last, Earlier, split_last, no_more}
 use Rattle.model.proofs.Runs.{begins, roles, ran}
@@ -30,7 +32,7 @@ pushed_and_popped : answered is_list_call (ran one_word kinds.IndexQueue 2 2 pus
 pushed_and_popped = refl
 
 as_a_list : AnswersAs (whole_list queues.IndexQueue 2) (ran one_word kinds.IndexQueue 2 2 push_and_pop).events
-as_a_list = refl
+as_a_list = subst (λ (xs : List (Start ℕ × Answer ℕ)). IsLegal (whole_list queues.IndexQueue 2).object xs) (sym pushed_and_popped) refl
 
 -- ---- an index of two is acquired, given back and acquired again
 
@@ -43,7 +45,7 @@ handed_out_again : answered is_stack_call (ran one_word kinds.Indices 2 2 back_a
 handed_out_again = refl
 
 as_a_stack : AnswersAs (whole_stack 2) (ran one_word kinds.Indices 2 2 back_and_forth).events
-as_a_stack = refl
+as_a_stack = subst (λ (xs : List (Start ℕ × Answer ℕ)). IsLegal (whole_stack 2).object xs) (sym handed_out_again) refl
 
 -- ---- wrong answers
 
@@ -84,11 +86,12 @@ one_after_another : RunsWhole (Begun 0 acquire ∷ Finished 0 acquire (Truth tru
 one_after_another =
     one_more (Begun 0 acquire ∷ Finished 0 acquire (Truth true) ∷ []) (Begun 0 push)
     (one_more (Begun 0 acquire ∷ []) (Finished 0 acquire (Truth true)) (one_more [] (Begun 0 acquire) no_events (λ q. tt)) tt)
-    shut
+    (λ q. shut (0 == q))
   where
-    shut : (q : ℕ) → IsShut (span_of q (Begun 0 acquire ∷ Finished 0 acquire (Truth true) ∷ []))
-    shut zero = tt
-    shut (suc q) = tt
+    shut : (b : Bool)
+        → IsShut (if b then ended (if b then Open acquire [] else Never) (Truth true) else (if b then Open acquire [] else Never))
+    shut true = tt
+    shut false = tt
 
 side_by_side : RunsWhole (Begun 0 acquire ∷ Begun 1 (Queues Len) ∷ []) → ⊥
 side_by_side runs = runs 1 (Queues Len) (Begun 0 acquire ∷ []) ([], refl) 0
