@@ -40,5 +40,5 @@ module _ {T : Type 0} (t : Trace T) (r : IsReached t) (runs : RunsWhole t.events
   by_kind kinds.Indices is = by_law (indices.reading t.world.capacity) kinds.Indices is (indices.law t.world.coding t.world.capacity) any
   by_kind kinds.Robust is = λ only. by_law (owners.reading t.world.capacity) kinds.Robust is (owners.law t.world.coding t.world.capacity) only
   by_kind kinds.Container is = λ only.
-      by_law (maps.reading t.world.coding t.world.capacity) kinds.Container is (maps.law t.world.coding r.coded t.world.capacity) only
+      by_law (maps.reading t.world.coding t.world.capacity) kinds.Container is (maps.law t.world.coding t.world.capacity r.coded) only
   by_kind kind is = tt
