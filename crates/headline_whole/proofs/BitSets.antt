@@ -1,17 +1,14 @@
 -- The calls of the two bit sets, run whole, are those of a set of places and of counts.
-use Rattle.std.proofs.Common.{◌≡◌, ℕ, zero, suc, ◌+◌, ◌-◌, ◌/◌, ◌%◌, ◌^◌, ◌<◌, ◌≤◌, Bool, true, false, not, nat_le, Option, Some, None, List, [], ◌∷◌, length}
-use Rattle.std.proofs.Common.{replicate, slice_index, slice_set, refl, sym, ap, subst, ◌∙◌, arith, length-set}
+use Rattle.std.proofs.Common.{◌≡◌, ℕ, suc, ◌+◌, ◌/◌, ◌%◌, ◌^◌, ◌<◌, ◌≤◌, true, false, not, Option, Some, None, List, [], ◌∷◌, length}
+use Rattle.std.proofs.Common.{replicate, slice_index, refl, sym, ap, subst, ◌∙◌, arith, length-set}
 use Rattle.std.proofs.lemmas.List.{length-replicate}
 use Rattle.steps.specs.Bits.BitSet.{first_set, set_want, set_after, first_reset, reset_want, reset_after}
-use Rattle.steps.specs.Bits.Counts as counting
 use Rattle.steps.specs.Bits.ResetAll.{all_bits, all_counts, reset_all_want, reset_all_after, reset_all_kept}
 use Rattle.steps.specs.Bits.Words.{elements, element_of}
-use Rattle.steps.specs.Objects.Counts.{counted, uncounted}
-use Rattle.steps.specs.Objects.Places.{Places, unset, has, with_place, next_place, after_next, emptied}
+use Rattle.steps.specs.Objects.Counts.{counted}
+use Rattle.steps.specs.Objects.Places.{Places, has, with_place, next_place, after_next, emptied}
 use Rattle.steps.specs.declared.bits.bit_set.ResetNext.{ResetNext}
 use Rattle.steps.specs.declared.bits.reset_all.ResetAll.{ResetAll}
-use Rattle.steps.specs.declared.copied.OneWord.{OneWord}
-use Rattle.model.specs.declared.event.Answer.{Answer}
 use Rattle.model.specs.declared.event.Answer.TheVariants as answers
 use Rattle.model.specs.declared.event.Start.{Start}
 use Rattle.model.specs.declared.event.Start.TheVariants as starts
@@ -23,13 +20,12 @@ use Rattle.model.specs.declared.families.bits.BitsStart.{BitsStart}
 use Rattle.model.specs.declared.families.bits.BitsStart.TheVariants as calls
 use Rattle.model.specs.declared.families.bits.calls.BitsFlight.{BitsFlight}
 use Rattle.model.specs.declared.families.bits.calls.BitsFlight.TheVariants as under_way
-use Rattle.model.specs.declared.turn.Kind.{Kind}
 use Rattle.model.specs.declared.turn.Kind.TheVariants as kinds
 use Rattle.model.specs.declared.turn.Turn.TheVariants.{Begin}
 use Rattle.model.specs.Coding.{Coding}
 use Rattle.model.specs.Families.{first_of}
 use Rattle.model.specs.Families.Bits.Calls.{add_one, reset_answer}
-use Rattle.model.specs.Families.Bits.Opening.{kept_rows, bits_words, counts_words}
+use Rattle.model.specs.Families.Bits.Opening.{kept_rows, bits_words}
 use Rattle.model.specs.Families.Queues.Calls.{as_it_is, fresh}
 use Rattle.model.specs.Refusals.{refusal_of}
 use Rattle.model.specs.Rows.{first_row}

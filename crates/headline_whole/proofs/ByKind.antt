@@ -1,6 +1,5 @@
 -- What calls that run whole answer, by the kind of the machine.
-use Rattle.std.proofs.Common.{◌≡◌, ℕ, true, None, refl, subst}
-use Rattle.model.specs.declared.event.Start.{Start}
+use Rattle.std.proofs.Common.{◌≡◌, None, refl, subst}
 use Rattle.model.specs.declared.turn.Kind.{Kind}
 use Rattle.model.specs.declared.turn.Kind.TheVariants as kinds
 use Rattle.model.specs.Turns.{IsReached}
@@ -10,7 +9,7 @@ use Rattle.headline_whole.specs.Objects.{every_call}
 use Rattle.headline_whole.specs.Whole.{RunsWhole, BeginsOnly, AnswersAs}
 use Rattle.headline_whole.proofs.BitSets as bit_sets
 use Rattle.headline_whole.proofs.Indices as indices
-use Rattle.headline_whole.proofs.Law.{IsMadeSo, Reading, Law}
+use Rattle.headline_whole.proofs.Law.{Reading, Law}
 use Rattle.headline_whole.proofs.Maps as maps
 use Rattle.headline_whole.proofs.Overflows.{over_law}
 use Rattle.headline_whole.proofs.Owners as owners

@@ -4,20 +4,16 @@ use Rattle.std.proofs.Common.{get_or, nat_le, replicate, slice_index, slice_inde
 use Rattle.std.proofs.lemmas.List.{length-replicate}
 use Rattle.std.proofs.lemmas.List.FromFn.{length-range_with_len}
 use Rattle.std.specs.List.{range_with_len}
-use Rattle.steps.specs.Indices.Head.{flag_word, has_flag}
-use Rattle.steps.specs.Indices.Unique.{Acquired, first_acquire, acquire_want, acquire_after, first_release, release_want, release_after, borrowed_after, locked_after}
+use Rattle.steps.specs.Indices.Unique.{first_acquire, acquire_want, acquire_after, first_release, release_want, release_after, borrowed_after, locked_after}
 use Rattle.steps.specs.Objects.Stacks.{Stack, IsOut, is_free}
 use Rattle.steps.specs.Queues.Ring.{load}
 use Rattle.steps.specs.declared.indices.enums.ReleaseMode.{ReleaseMode}
 use Rattle.steps.specs.declared.indices.enums.ReleaseMode.TheVariants.{Default, LockIfLastIndex}
-use Rattle.steps.specs.declared.indices.enums.ReleaseState.{ReleaseState}
 use Rattle.steps.specs.declared.indices.looks.BorrowedIndices.{BorrowedIndices}
 use Rattle.steps.specs.declared.indices.looks.IsLocked.{IsLocked}
 use Rattle.steps.specs.declared.indices.unique.Acquire.{Acquire}
 use Rattle.steps.specs.declared.indices.unique.DefaultMode.{DefaultMode}
 use Rattle.steps.specs.declared.indices.unique.LockMode.{LockMode}
-use Rattle.steps.specs.declared.indices.unique.Release.{Release}
-use Rattle.model.specs.declared.event.Answer.{Answer}
 use Rattle.model.specs.declared.event.Answer.TheVariants as answers
 use Rattle.model.specs.declared.event.Start.{Start}
 use Rattle.model.specs.declared.event.Start.TheVariants as starts
@@ -36,7 +32,6 @@ use Rattle.model.specs.Families.{first_of}
 use Rattle.model.specs.Families.Indices.Calls.{first, acquire_answer}
 use Rattle.model.specs.Families.Indices.Opening.{opening_words, flag_words, kept_rows}
 use Rattle.model.specs.Families.Indices.Promises.{IsIndexSet, KeepsHolders}
-use Rattle.model.specs.Families.Indices.Reading.{holder_of}
 use Rattle.model.specs.Families.Queues.Calls.{as_it_is}
 use Rattle.model.specs.Families.Queues.Opening.{holds}
 use Rattle.model.specs.Promises.Families.{promise_of}

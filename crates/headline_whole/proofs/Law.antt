@@ -1,5 +1,5 @@
 -- What is to be shown of the calls of a kind: over words that hold an object each runs alone as the object says.
-use Rattle.std.proofs.Common.{◌≡◌, ℕ, ◌+◌, ◌≤◌, Bool, true, Option, Some, None, List, if◌then◌else◌}
+use Rattle.std.proofs.Common.{◌≡◌, ℕ, ◌+◌, ◌≤◌, Bool, true, Some, None, List, if◌then◌else◌}
 use Rattle.model.specs.declared.event.Answer.{Answer}
 use Rattle.model.specs.declared.event.Start.{Start}
 use Rattle.model.specs.declared.families.Flight.{Flight}

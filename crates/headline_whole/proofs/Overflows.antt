@@ -1,7 +1,7 @@
 -- The calls of the overflowing queue, run whole, are those of the overflowing list.
-use Rattle.std.proofs.Common.{◌≡◌, ◌≢◌, ℕ, zero, suc, ◌+◌, ◌-◌, ◌*◌, ◌%◌, ◌^◌, ◌<◌, ◌≤◌, ◌==◌, ◌&&◌, Bool, true, false, not, nat_lt, min, Option, Some, None, option_map}
+use Rattle.std.proofs.Common.{◌≡◌, ℕ, zero, suc, ◌+◌, ◌-◌, ◌*◌, ◌^◌, ◌<◌, ◌≤◌, ◌==◌, ◌&&◌, Bool, true, false, not, nat_lt, min, Option, Some, None, option_map}
 use Rattle.std.proofs.Common.{List, [], ◌∷◌, ◌++◌, length, map, drop, slice_get, slice_index, slice_set, replicate, refl, sym, ap, subst, ◌∙◌, arith, if◌then◌else◌}
-use Rattle.std.proofs.Common.{get_or-set_other, length-set, ne_eqb, length-append, length-drop}
+use Rattle.std.proofs.Common.{length-set, ne_eqb, length-append, length-drop}
 use Rattle.std.proofs.lemmas.Bool.Decides.{nat_tests}
 use Rattle.std.proofs.lemmas.List.{length-map, length-replicate, map-append}
 use Rattle.steps.specs.Objects.Lists.{Bounded, has_position, takes_in, cut, cut_off, handed_back, pushed_over, front, popped}
@@ -9,8 +9,6 @@ use Rattle.steps.specs.Queues.Lengths.{first_len}
 use Rattle.steps.specs.Queues.Overflow.{first_push, push_want, push_after, push_kept, push_answer, first_pop, pop_want, pop_after, pop_kept, pop_answer}
 use Rattle.steps.specs.declared.copied.OneWord.{OneWord}
 use Rattle.steps.specs.declared.queues.overflow.Pop.{Pop}
-use Rattle.model.specs.declared.event.Answer.{Answer}
-use Rattle.model.specs.declared.event.Answer.TheVariants as answers
 use Rattle.model.specs.declared.event.Item.{Item}
 use Rattle.model.specs.declared.event.Item.TheVariants as items
 use Rattle.model.specs.declared.event.Start.TheVariants as starts
@@ -28,13 +26,11 @@ use Rattle.model.specs.Families.Queues.Calls as queue_calls
 use Rattle.model.specs.Families.Queues.Objects.{answer_of_item}
 use Rattle.model.specs.World.{capacity_error}
 use Rattle.plain.specs.Alone.{BehavesAs}
-use Rattle.plain.specs.Queues.{value_at, values_from}
 use Rattle.plain.specs.Overflowing.{number_of, list_in, Represents}
-use Rattle.plain.proofs.Lists.Cells.{values_same, values_length}
+use Rattle.plain.proofs.Lists.Cells.{values_length}
 use Rattle.plain.proofs.Lists.Counts.{CountsTo, over_count_runs}
 use Rattle.plain.proofs.Lists.Overflows.{Pushed, push_runs, Popped, pop_runs}
 use Rattle.plain.proofs.Walks.{any_low}
-use Rattle.plain.proofs.Words.{words_same}
 use Rattle.headline_whole.proofs.AnyQueue.{list_reading, Whole, Own, HasCalls, queue_law}
 use Rattle.headline_whole.proofs.Flights.{runs_as, twice}
 use Rattle.headline_whole.proofs.Law.{Answers, Law}

@@ -1,6 +1,6 @@
 -- The calls of the robust index set that put no question, run whole, are those of a map from index to owner.
-use Rattle.std.proofs.Common.{◌≡◌, ℕ, zero, suc, ◌+◌, ◌^◌, ◌<◌, ◌≤◌, ◌&&◌, Bool, true, false, Option, Some, None, option_map, List, [], ◌∷◌, length}
-use Rattle.std.proofs.Common.{map, nat_le, nat_lt, replicate, refl, sym, ap, subst, ◌∙◌, arith, if◌then◌else◌}
+use Rattle.std.proofs.Common.{◌≡◌, ℕ, zero, suc, ◌^◌, ◌<◌, ◌≤◌, Bool, true, false, Some, None, option_map, List, ◌∷◌}
+use Rattle.std.proofs.Common.{map, nat_le, nat_lt, replicate, refl, ap, subst, arith, if◌then◌else◌}
 use Rattle.std.proofs.lemmas.Bool.Decides.{nat_tests}
 use Rattle.std.proofs.lemmas.List.{length-replicate}
 use Rattle.steps.specs.Indices.Robust.Acquire.{first_acquire, acquire_want, acquire_after}
@@ -13,7 +13,6 @@ use Rattle.steps.specs.Queues.Ring.{load}
 use Rattle.steps.specs.declared.indices.enums.ReleaseMode.{ReleaseMode}
 use Rattle.steps.specs.declared.indices.robust.looks.BorrowedIndices.{BorrowedIndices}
 use Rattle.steps.specs.declared.indices.robust.looks.IsLocked.{IsLocked}
-use Rattle.model.specs.declared.event.Answer.{Answer}
 use Rattle.model.specs.declared.event.Answer.TheVariants as answers
 use Rattle.model.specs.declared.event.Start.{Start}
 use Rattle.model.specs.declared.event.Start.TheVariants as starts
@@ -23,14 +22,13 @@ use Rattle.model.specs.declared.families.Registry.{Registry}
 use Rattle.model.specs.declared.families.Registry.TheVariants as registries
 use Rattle.model.specs.declared.families.indices.robust.RobustStart.{RobustStart}
 use Rattle.model.specs.declared.families.indices.robust.RobustStart.TheVariants as calls
-use Rattle.model.specs.declared.families.indices.robust.calls.RobustFlight.{RobustFlight}
 use Rattle.model.specs.declared.families.indices.robust.calls.RobustFlight.TheVariants as under_way
 use Rattle.model.specs.declared.turn.Kind.TheVariants as kinds
 use Rattle.model.specs.declared.turn.Turn.TheVariants.{Begin}
 use Rattle.model.specs.Coding.{Coding}
 use Rattle.model.specs.Families.{first_of}
 use Rattle.model.specs.Families.Indices.Robust.Calls.{first, acquire_answer, release_answer}
-use Rattle.model.specs.Families.Indices.Robust.Opening.{opening_words, names_owner, kept_rows}
+use Rattle.model.specs.Families.Indices.Robust.Opening.{names_owner, kept_rows}
 use Rattle.model.specs.Families.Queues.Calls.{as_it_is}
 use Rattle.model.specs.Refusals.{refusal_of}
 use Rattle.model.specs.Rows.{first_row}

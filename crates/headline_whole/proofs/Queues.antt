@@ -1,21 +1,18 @@
 -- The calls of the two bounded queues, run whole, are those of the bounded list.
-use Rattle.std.proofs.Common.{◌≡◌, ℕ, ◌+◌, ◌-◌, ◌*◌, ◌^◌, ◌<◌, ◌≤◌, Bool, true, false, Option, Some, None, option_map, List, [], ◌∷◌, length}
-use Rattle.std.proofs.Common.{replicate, refl, sym, ap, subst, ◌∙◌, arith}
+use Rattle.std.proofs.Common.{◌≡◌, ℕ, ◌-◌, ◌^◌, ◌<◌, ◌≤◌, Option, Some, None, option_map, List, [], ◌∷◌, length}
+use Rattle.std.proofs.Common.{replicate, refl, ap, subst, ◌∙◌, arith}
 use Rattle.std.proofs.lemmas.List.{length-replicate}
-use Rattle.steps.specs.Copied.{kept_in_one, one_put_in, value_in}
+use Rattle.steps.specs.Copied.{kept_in_one, one_put_in}
 use Rattle.steps.specs.Queues.Ring.{first_push, push_want, push_after, first_pop, pop_want, pop_after, pop_kept, pop_answer}
 use Rattle.steps.specs.declared.copied.Buffer.{Buffer}
 use Rattle.steps.specs.declared.copied.OneWord.{OneWord}
 use Rattle.steps.specs.declared.queues.ring.Pop.{Pop}
-use Rattle.model.specs.declared.event.Answer.{Answer}
 use Rattle.model.specs.declared.event.Answer.TheVariants as answers
 use Rattle.model.specs.declared.event.Item.{Item}
 use Rattle.model.specs.declared.event.Item.TheVariants as items
-use Rattle.model.specs.declared.event.Start.{Start}
 use Rattle.model.specs.declared.event.Start.TheVariants as starts
 use Rattle.model.specs.declared.families.Flight.{Flight}
 use Rattle.model.specs.declared.families.Flight.TheVariants as flights
-use Rattle.model.specs.declared.families.Registry.{Registry}
 use Rattle.model.specs.declared.families.queues.QueueKind.TheVariants as queues
 use Rattle.model.specs.declared.families.queues.QueueStart.{QueueStart}
 use Rattle.model.specs.declared.families.queues.QueueStart.TheVariants as calls
@@ -31,7 +28,7 @@ use Rattle.plain.proofs.Lists.Pushes.{Pushed, push_runs}
 use Rattle.plain.proofs.Walks.{any_low}
 use Rattle.headline_whole.proofs.AnyQueue.{list_reading, Whole, Own, HasCalls, queue_law}
 use Rattle.headline_whole.proofs.Flights.{runs_as, twice}
-use Rattle.headline_whole.proofs.Law.{Reading, Answers, Law}
+use Rattle.headline_whole.proofs.Law.{Answers, Law}
 use Rattle.headline_whole.proofs.Rings.{Holds, items_in, push_so, pop_so, still, role_so, counts_so, opens_so}
 
 pub admitted_queue : (c : ℕ) → capacity_error kinds.Queue c ≡ None → c < 2 ^ 32

@@ -1,13 +1,13 @@
 -- What a call of a bounded queue, run whole, makes of the list that its words hold.
-use Rattle.std.proofs.Common.{◌≡◌, ◌≢◌, ℕ, ◌+◌, ◌-◌, ◌*◌, ◌%◌, ◌^◌, ◌<◌, ◌≤◌, ◌==◌, ◌&&◌, Bool, true, false, not, nat_lt, min, Option, Some, None, option_map}
-use Rattle.std.proofs.Common.{List, [], ◌∷◌, ◌++◌, length, map, drop, replicate, slice_get, slice_index, slice_set, refl, sym, ap, subst, ◌∙◌, arith, if◌then◌else◌}
+use Rattle.std.proofs.Common.{◌≡◌, ◌≢◌, ℕ, ◌+◌, ◌-◌, ◌*◌, ◌%◌, ◌^◌, ◌<◌, ◌≤◌, ◌==◌, ◌&&◌, Bool, true, false, not, nat_lt, min, Option, option_map}
+use Rattle.std.proofs.Common.{List, [], ◌∷◌, ◌++◌, length, map, drop, replicate, slice_get, slice_index, slice_set, refl, sym, ap, ◌∙◌, arith, if◌then◌else◌}
 use Rattle.std.proofs.Common.{get_or-set_other, length-set, ne_eqb, length-append, length-drop}
 use Rattle.std.proofs.lemmas.List.{length-map, length-replicate, map-append}
 use Rattle.steps.specs.Objects.Lists.{Bounded, has_position, takes_more, appended, pushed, front, popped}
 use Rattle.steps.specs.Queues.Lengths.{first_len}
 use Rattle.model.specs.declared.event.Item.{Item}
 use Rattle.plain.specs.Alone.{BehavesAs}
-use Rattle.plain.specs.Queues.{words_from, value_at, values_from, list_in, Represents}
+use Rattle.plain.specs.Queues.{value_at, values_from, list_in, Represents}
 use Rattle.plain.proofs.Lists.Cells.{values_same, values_length}
 use Rattle.plain.proofs.Lists.Counts.{CountsTo, count_runs}
 use Rattle.plain.proofs.Words.{words_same}

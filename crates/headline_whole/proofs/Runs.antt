@@ -1,7 +1,7 @@
 -- In a run whose calls run whole, between two turns either no call is under way and the words hold the object, or one call is
 -- under way, and alone from here it ends as the object says.
-use Rattle.std.proofs.Common.{◌≡◌, ◌≢◌, ◌⊎◌, inl, inr, ⊎_elim, ℕ, ◌+◌, ◌-◌, ◌≤◌, Bool, true, false, not, Option, Some, None, is_none, List, [], ◌∷◌, ◌++◌}
-use Rattle.std.proofs.Common.{fold, refl, sym, ap, subst, ◌∙◌, append_assoc, append-nil, arith, if◌then◌else◌}
+use Rattle.std.proofs.Common.{◌≡◌, ◌≢◌, ◌⊎◌, inl, inr, ⊎_elim, ℕ, ◌+◌, ◌≤◌, Bool, true, false, Option, Some, None, List, [], ◌∷◌, ◌++◌}
+use Rattle.std.proofs.Common.{refl, sym, ap, subst, ◌∙◌, append_assoc, append-nil, arith, if◌then◌else◌}
 use Rattle.std.proofs.lemmas.Bool.{cases_eq}
 use Rattle.std.proofs.lemmas.List.Concat.{flat_map-append}
 use Rattle.std.specs.List.{flat_map}
@@ -10,43 +10,33 @@ use Rattle.steps.specs.declared.ask.After.TheVariants.{GoOn, Done}
 use Rattle.steps.specs.declared.ask.Ask.{Ask}
 use Rattle.model.specs.declared.event.Answer.{Answer}
 use Rattle.model.specs.declared.event.Event.{Event}
-use Rattle.model.specs.declared.event.Event.TheVariants.{Begun, Died, Finished}
+use Rattle.model.specs.declared.event.Event.TheVariants.{Begun, Finished}
 use Rattle.model.specs.declared.event.Start.{Start}
 use Rattle.model.specs.declared.families.Flight.{Flight}
 use Rattle.model.specs.declared.families.Registry.{Registry}
 use Rattle.model.specs.declared.party.Doing.{Doing}
-use Rattle.model.specs.declared.party.Doing.TheVariants.{Going, Over}
+use Rattle.model.specs.declared.party.Doing.TheVariants.{Going}
 use Rattle.model.specs.declared.party.Party.{Party}
 use Rattle.model.specs.declared.party.Progress.{Progress}
-use Rattle.model.specs.declared.turn.Kind.{Kind}
-use Rattle.model.specs.declared.turn.Turn.{Turn}
-use Rattle.model.specs.declared.turn.Turn.TheVariants.{Begin, Next, Decide, Die}
-use Rattle.model.specs.Coding.{Coding}
-use Rattle.model.specs.Families.{first_of, want_of, ask_of, after_of, is_question, beside_of, step_of, kept_after_begin, kept_after_death}
+use Rattle.model.specs.declared.turn.Turn.TheVariants.{Next}
+use Rattle.model.specs.Families.{want_of, ask_of, after_of, beside_of}
 use Rattle.model.specs.Objects.{IsLegal, standing}
-use Rattle.model.specs.Parties.{party_of, put, doing_of, flight_of}
+use Rattle.model.specs.Parties.{party_of, doing_of, flight_of}
 use Rattle.model.specs.Promise.{Promise}
 use Rattle.model.specs.Promises.Bounds.{Progresses}
-use Rattle.model.specs.Promises.Families.{promise_of}
-use Rattle.model.specs.Reading.{Span, Never, Open, Ended, span_of}
-use Rattle.model.specs.Refusals.{refusal_of, is_due}
+use Rattle.model.specs.Reading.{Span, Never, Open, Ended}
 use Rattle.model.specs.Shape.{IsShut}
 use Rattle.model.specs.Step.{Step, answer_in}
-use Rattle.model.specs.Turns.{IsReached, old_of, words_after, change_of, step_count, doing_after, party_after, after_step, after_answer}
+use Rattle.model.specs.Turns.{old_of, words_after, change_of, step_count, doing_after, party_after, after_step, after_answer}
 use Rattle.model.specs.Turns.{after_next, events_of_answer, events_of_next, ask_of_doing, step_in, ending_of, events_of, events_of_step, after_turn, world_after}
-use Rattle.model.specs.World.{World, Trace, opened, queue_error, flight_in, progress_in}
-use Rattle.model.proofs.Frame.{is_true}
-use Rattle.model.proofs.Orders.{reached_kept}
+use Rattle.model.specs.World.{World, Trace, flight_in}
 use Rattle.model.proofs.Parties.{party_put_same, party_put_other}
-use Rattle.model.proofs.Reached.{kept_by_runs, reached_more, turn_making}
 use Rattle.model.proofs.Replays.{legal_more, standing_more}
-use Rattle.model.proofs.Rows.{passes, may_begin, may_next, may_decide, must_be_due, not_none}
-use Rattle.machine.proofs.Laws.{laws_of}
 use Rattle.headline_whole.specs.Whole as whole
 use Rattle.headline_whole.specs.Whole.{RunsWhole, BeginsOnly, answered, AnswersAs}
-use Rattle.headline_whole.proofs.Agree.{Agree, goes_so, agrees_then, agrees_still, writes_none}
+use Rattle.headline_whole.proofs.Agree.{Agree, goes_so, agrees_then, writes_none}
 use Rattle.headline_whole.proofs.Flights.{FlightRuns, Then, one_step}
-use Rattle.headline_whole.proofs.Law.{IsMadeSo, Reading, Answers, Law}
+use Rattle.headline_whole.proofs.Law.{Reading, Answers}
 
 module _ {T : Type 0} where
   -- ---- what events say

@@ -1,7 +1,6 @@
 -- Each turn keeps what stands between two turns of a run whose calls run whole; so it stands in every such run.
-use Rattle.std.proofs.Common.{◌≡◌, ◌≢◌, inl, inr, ⊎_elim, ℕ, ◌+◌, ◌-◌, ◌≤◌, Bool, true, false, Option, Some, None, List, [], ◌∷◌, ◌++◌, refl, sym, ap, subst, ◌∙◌, arith}
+use Rattle.std.proofs.Common.{◌≡◌, inl, inr, ⊎_elim, ℕ, ◌+◌, Bool, true, false, Option, Some, None, [], ◌∷◌, ◌++◌, refl, sym, ap, subst, ◌∙◌, arith}
 use Rattle.std.proofs.lemmas.Bool.{cases_eq}
-use Rattle.model.specs.declared.event.Event.{Event}
 use Rattle.model.specs.declared.event.Event.TheVariants.{Begun, Died}
 use Rattle.model.specs.declared.event.Start.{Start}
 use Rattle.model.specs.declared.families.Flight.{Flight}
@@ -13,7 +12,7 @@ use Rattle.model.specs.declared.turn.Turn.{Turn}
 use Rattle.model.specs.declared.turn.Turn.TheVariants.{Begin, Next, Decide, Die}
 use Rattle.model.specs.Coding.{Coding}
 use Rattle.model.specs.Families.{first_of, want_of, is_question}
-use Rattle.model.specs.Parties.{party_of, doing_of, flight_of, others_of, is_over, progress_after}
+use Rattle.model.specs.Parties.{doing_of, flight_of, others_of, is_over, progress_after}
 use Rattle.model.specs.Promises.Bounds.{Progresses}
 use Rattle.model.specs.Promises.Families.{promise_of}
 use Rattle.model.specs.Reading.{span_of}

@@ -1,12 +1,11 @@
 -- The calls of the single value, run whole, are those of one value.
-use Rattle.std.proofs.Common.{◌≡◌, ◌≢◌, ℕ, zero, suc, ◌+◌, ◌-◌, ◌*◌, ◌%◌, ◌^◌, ◌<◌, ◌≤◌, ◌==◌, Bool, true, false, not, Option, Some, None, List, [], ◌∷◌, length}
-use Rattle.std.proofs.Common.{get_or, get_or-set_other, length-set, ne_eqb, replicate, slice_index, slice_set, refl, sym, ap, subst, ◌∙◌, arith, if◌then◌else◌}
+use Rattle.std.proofs.Common.{◌≡◌, ℕ, zero, suc, ◌+◌, ◌-◌, ◌*◌, ◌^◌, ◌<◌, ◌≤◌, ◌==◌, Bool, true, false, not, Option, Some, None, List, ◌∷◌, length}
+use Rattle.std.proofs.Common.{get_or, get_or-set_other, length-set, ne_eqb, replicate, slice_index, slice_set, refl, ap, subst, ◌∙◌, arith, if◌then◌else◌}
 use Rattle.std.proofs.lemmas.List.{length-replicate}
 use Rattle.steps.specs.Atomic.{before_version, cell_word, first_store, store_want, store_after, first_load, load_want, load_after, load_kept}
 use Rattle.steps.specs.Objects.Values.{Versioned, has_version, stored}
 use Rattle.steps.specs.declared.atomic.Load.{Load}
 use Rattle.steps.specs.declared.copied.Buffer.{Buffer}
-use Rattle.model.specs.declared.event.Answer.{Answer}
 use Rattle.model.specs.declared.event.Answer.TheVariants as answers
 use Rattle.model.specs.declared.event.Start.{Start}
 use Rattle.model.specs.declared.event.Start.TheVariants as starts
@@ -24,7 +23,7 @@ use Rattle.model.specs.Families.{first_of}
 use Rattle.model.specs.Families.Atomic.Calls.{first, fresh}
 use Rattle.model.specs.Families.Atomic.Opening.{opening_words, kept_rows}
 use Rattle.model.specs.Families.Queues.Calls.{as_it_is, kept_at, read_in}
-use Rattle.model.specs.Linearized.{as_value, is_store_or_load}
+use Rattle.model.specs.Linearized.{as_value}
 use Rattle.model.specs.Refusals.{refusal_of}
 use Rattle.model.specs.Rows.{first_row}
 use Rattle.model.specs.Turns.{IsReached}
