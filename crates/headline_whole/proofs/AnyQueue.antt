@@ -40,7 +40,7 @@ use Rattle.plain.proofs.Lists.Counts.{CountsTo}
 use Rattle.plain.proofs.Walks.{LowThen}
 use Rattle.headline_whole.specs.Objects.{every_call, is_list_call, whole_list}
 use Rattle.headline_whole.proofs.Agree.{Agree}
-use Rattle.headline_whole.proofs.Flights.{FlightRuns, runs_as, twice}
+use Rattle.headline_whole.proofs.Flights.{FlightRuns, runs_as, twice, same_flight}
 use Rattle.headline_whole.proofs.Law.{IsMadeSo, Reading, Answers, BeginsSo, Law}
 
 -- the capacity of a call that counts stays
@@ -205,9 +205,6 @@ module _ {T : Type 0} where
           → Holds (turns + 1) (if b then slice_set words at new else words) × (read (if b then slice_set words at new else words) ≡ read words)
       either at new low high true = own.role at new low high
       either at new low high false = (own.still, refl)
-
-      same_flight : (a b : Flight T) → ◌≡◌ {A = Option (Flight T)} (Some a) (Some b) → a ≡ b
-      same_flight a b e = cc
 
       pub every : (start : QueueStart T) (flight : Flight T) → option_map flights.Queues (first kind capacity start) ≡ Some flight → Whole start flight
       every calls.AcquireProducer flight named =

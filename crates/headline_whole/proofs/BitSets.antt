@@ -1,5 +1,5 @@
 -- The calls of the two bit sets, run whole, are those of a set of places and of counts.
-use Rattle.std.proofs.Common.{◌≡◌, ℕ, suc, ◌+◌, ◌/◌, ◌%◌, ◌^◌, ◌<◌, ◌≤◌, true, false, not, Option, Some, None, List, [], ◌∷◌, length}
+use Rattle.std.proofs.Common.{◌≡◌, ℕ, suc, ◌+◌, ◌/◌, ◌%◌, ◌^◌, ◌<◌, ◌≤◌, true, false, not, Some, None, List, [], ◌∷◌, length}
 use Rattle.std.proofs.Common.{replicate, slice_index, refl, sym, ap, subst, ◌∙◌, arith, length-set}
 use Rattle.std.proofs.lemmas.List.{length-replicate}
 use Rattle.steps.specs.Bits.BitSet.{first_set, set_want, set_after, first_reset, reset_want, reset_after}
@@ -42,7 +42,7 @@ use Rattle.plain.proofs.Places.Sets.{set_runs}
 use Rattle.plain.proofs.Walks.{any_low}
 use Rattle.headline_whole.specs.Objects.{every_call, whole_places, whole_counts}
 use Rattle.headline_whole.proofs.Agree.{Agree}
-use Rattle.headline_whole.proofs.Flights.{FlightRuns, runs_as, twice}
+use Rattle.headline_whole.proofs.Flights.{FlightRuns, runs_as, twice, same_flight}
 use Rattle.headline_whole.proofs.Law.{IsMadeSo, Reading, Answers, BeginsSo, Law}
 use Rattle.headline_whole.proofs.Owners.{not_past}
 use Rattle.headline_whole.proofs.Sweeps.{cleared, all_cleared, all_but_first, sweep_runs}
@@ -210,9 +210,6 @@ module _ {T : Type 0} where
   low_place capacity p place registries.Nothing e = let row = row_passed _ _ _ e in not_past capacity place row.0
   low_place capacity p place kept e = absurd (cc)
 
-  some_flight : (a b : Flight T) → ◌≡◌ {A = Option (Flight T)} (Some a) (Some b) → a ≡ b
-  some_flight a b e = cc
-
   module _ (code : Coding T) (capacity : ℕ) where
     places_begin : (t : Trace T) (p : ℕ) (start : Start T) (flight : Flight T) → IsReached t → IsMadeSo code kinds.Bits capacity t
         → refusal_of t.world (Begin p start) ≡ None → every_call start ≡ true → Represents capacity t.world.words
@@ -233,13 +230,13 @@ module _ {T : Type 0} where
         go : (s : BitsStart) → first_of kinds.Bits capacity (starts.Bits s) t.world.kept ≡ Some flight
             → first_row (kept_rows capacity s t.world.kept p) ≡ None → BeginsSo (places_reading capacity) code t p (starts.Bits s) flight
         go (calls.Set place) e rows =
-            so (calls.Set place) (under_way.Set (record { call = first_set; given = place; room = tt })) (some_flight _ flight e) rows
+            so (calls.Set place) (under_way.Set (record { call = first_set; given = place; room = tt })) (same_flight _ flight e) rows
             (sets code capacity t.world.turns t.world.words fits place (low_place capacity p place t.world.kept rows))
         go calls.ResetNext e rows =
-            so calls.ResetNext (under_way.ResetNext (record { call = first_reset capacity; given = tt; room = tt })) (some_flight _ flight e) rows
+            so calls.ResetNext (under_way.ResetNext (record { call = first_reset capacity; given = tt; room = tt })) (same_flight _ flight e) rows
             (resets code capacity t.world.turns t.world.words fits)
         go calls.ResetAll e rows =
-            so calls.ResetAll (under_way.ResetAll (record { call = all_bits capacity; given = tt; room = fresh })) (some_flight _ flight e) rows
+            so calls.ResetAll (under_way.ResetAll (record { call = all_bits capacity; given = tt; room = fresh })) (same_flight _ flight e) rows
             (empties_all code capacity t.world.turns t.world.words fits)
     places_begin t p start flight r made free such fits named = absurd (cc)
 
@@ -279,11 +276,11 @@ module _ {T : Type 0} where
           go : (s : BitsStart) → first_of kinds.Counts capacity (starts.Bits s) t.world.kept ≡ Some flight
               → first_row (kept_rows capacity s t.world.kept p) ≡ None → BeginsSo (counts_reading capacity) code t p (starts.Bits s) flight
           go (calls.Set place) e rows =
-              so (calls.Set place) (under_way.Count (record { call = add_one; given = place; room = tt })) (some_flight _ flight e) rows
+              so (calls.Set place) (under_way.Count (record { call = add_one; given = place; room = tt })) (same_flight _ flight e) rows
               (counts code capacity t.world.turns t.world.words long place)
           go calls.ResetNext e rows = absurd (cc)
           go calls.ResetAll e rows =
-              so calls.ResetAll (under_way.TakeAll (record { call = all_counts capacity; given = tt; room = fresh })) (some_flight _ flight e) rows
+              so calls.ResetAll (under_way.TakeAll (record { call = all_counts capacity; given = tt; room = fresh })) (same_flight _ flight e) rows
               (takes_all code capacity t.world.turns t.world.words long few)
       counts_begin t p start flight r made free such long named = absurd (cc)
 

@@ -1,5 +1,5 @@
 -- A call of a machine that runs alone, step by step, and how a call of the crate `steps` becomes one.
-use Rattle.std.proofs.Common.{◌≡◌, ℕ, zero, suc, ◌-◌, ◌^◌, ◌≤◌, ◌==◌, Bool, true, false, List, refl, sym, subst, arith, slice_index, slice_set, if◌then◌else◌}
+use Rattle.std.proofs.Common.{◌≡◌, ℕ, zero, suc, ◌-◌, ◌^◌, ◌≤◌, ◌==◌, Bool, true, false, Option, Some, List, refl, sym, subst, arith, slice_index, slice_set, if◌then◌else◌}
 use Rattle.std.proofs.lemmas.List.{set-get_or}
 use Rattle.steps.specs.Ask.{written}
 use Rattle.steps.specs.Routine.{went_on}
@@ -46,6 +46,9 @@ same_old words wants.TheVariants.Nothing = refl
 
 same_end : {C E : Type 0} (a b : E) → ◌≡◌ {A = Stop C E} (Ended a) (Ended b) → a ≡ b
 same_end a b e = cc
+
+pub same_flight : {T : Type 0} (a b : Flight T) → ◌≡◌ {A = Option (Flight T)} (Some a) (Some b) → a ≡ b
+same_flight a b e = cc
 
 module _ {T : Type 0} (code : Coding T) where
   -- alone from here it ends, and this holds of its answer and of the words then

@@ -51,13 +51,13 @@ use Rattle.plain.proofs.Stacks.Releases.{Gave, give_runs, GaveOrLocked, lock_run
 use Rattle.plain.proofs.Walks.{any_low}
 use Rattle.headline_whole.specs.Objects.{every_call, whole_stack}
 use Rattle.headline_whole.proofs.Agree.{Agree}
-use Rattle.headline_whole.proofs.Flights.{FlightRuns, runs_as, twice}
+use Rattle.headline_whole.proofs.Flights.{FlightRuns, runs_as, twice, same_flight}
 use Rattle.headline_whole.proofs.Law.{IsMadeSo, Reading, Answers, BeginsSo, Law}
 use Rattle.headline_whole.proofs.Owners.{not_past}
 
 -- ---- the opening
 
-zeros_at : (n i : ℕ) → get_or (replicate {A = ℕ} n 0) i 0 ≡ 0
+pub zeros_at : (n i : ℕ) → get_or (replicate {A = ℕ} n 0) i 0 ≡ 0
 zeros_at zero i = refl
 zeros_at (suc n) zero = refl
 zeros_at (suc n) (suc i) = zeros_at n i
@@ -227,15 +227,12 @@ module _ {T : Type 0} where
       subst (λ f. Agree (starts.Indices start) f (registries.Indices holders)) is tt
   has_registry capacity p start flight kept is e = absurd (cc)
 
-  some_flight : (a b : Flight T) → ◌≡◌ {A = Option (Flight T)} (Some a) (Some b) → a ≡ b
-  some_flight a b e = cc
-
   module _ (code : Coding T) (capacity : ℕ) where
     begins : (t : Trace T) (p : ℕ) (start : Start T) (flight : Flight T) → IsReached t → IsMadeSo code kinds.TheVariants.Indices capacity t
         → refusal_of t.world (Begin p start) ≡ None → every_call start ≡ true → Represents capacity t.world.words
         → first_of kinds.TheVariants.Indices capacity start t.world.kept ≡ Some flight → BeginsSo (reading capacity) code t p start flight
     begins t p (starts.Indices start) flight r made free such fits named =
-        let is = some_flight (flights.Indices (first capacity start)) flight named in
+        let is = same_flight (flights.Indices (first capacity start)) flight named in
         let rows = (may_begin t.world p (starts.Indices start) (passes t.world (Begin p (starts.Indices start)) free).on).rows in
         record {
           agrees = has_registry capacity p start flight t.world.kept is

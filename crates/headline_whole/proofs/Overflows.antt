@@ -32,7 +32,7 @@ use Rattle.plain.proofs.Lists.Counts.{CountsTo, over_count_runs}
 use Rattle.plain.proofs.Lists.Overflows.{Pushed, push_runs, Popped, pop_runs}
 use Rattle.plain.proofs.Walks.{any_low}
 use Rattle.headline_whole.proofs.AnyQueue.{list_reading, Whole, Own, HasCalls, queue_law}
-use Rattle.headline_whole.proofs.Flights.{runs_as, twice}
+use Rattle.headline_whole.proofs.Flights.{runs_as, twice, same_flight}
 use Rattle.headline_whole.proofs.Law.{Answers, Law}
 use Rattle.headline_whole.proofs.Queues.{say_index}
 use Rattle.headline_whole.proofs.Rings.{front_map, drop_map, write_kept, read_kept, values_kept}
@@ -245,9 +245,6 @@ module _ (T : Type 0) (capacity : ℕ) where
           record { said = λ is. say_index (pop_answer room.0 e) ∙ ap answer_of_item so.0; holds = so.1; object = so.2 })
           (first_pop capacity) fresh words tt
           (pop_runs capacity fresh words (first_pop capacity) refl h.0)
-
-      same_flight : (a b : Flight T) → ◌≡◌ {A = Option (Flight T)} (Some a) (Some b) → a ≡ b
-      same_flight a b e = cc
 
       over_own : Own code queues.Overflow capacity (λ n ws. Holds n ws) (λ ws. items_in ws) turns words
       over_own =

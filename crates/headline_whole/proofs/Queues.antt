@@ -27,7 +27,7 @@ use Rattle.plain.proofs.Lists.Pops.{Popped, pop_runs}
 use Rattle.plain.proofs.Lists.Pushes.{Pushed, push_runs}
 use Rattle.plain.proofs.Walks.{any_low}
 use Rattle.headline_whole.proofs.AnyQueue.{list_reading, Whole, Own, HasCalls, queue_law}
-use Rattle.headline_whole.proofs.Flights.{runs_as, twice}
+use Rattle.headline_whole.proofs.Flights.{runs_as, twice, same_flight}
 use Rattle.headline_whole.proofs.Law.{Answers, Law}
 use Rattle.headline_whole.proofs.Rings.{Holds, items_in, push_so, pop_so, still, role_so, counts_so, opens_so}
 
@@ -45,9 +45,6 @@ module _ {T : Type 0} where
   say_value : (o : Option T) → popped_value o ≡ answer_of_item (option_map items.Value o)
   say_value None = refl
   say_value (Some value) = refl
-
-  same_flight : (a b : Flight T) → ◌≡◌ {A = Option (Flight T)} (Some a) (Some b) → a ≡ b
-  same_flight a b e = cc
 
   -- ---- the queue of indices
 

@@ -77,9 +77,6 @@ module _ {T : Type 0} where
       ap (events_of_next w p) found
       ∙ ap (λ (d : Doing T). events_of_answer w p x (old_of w.words (ask_of_doing w.coding d)) d) doing
 
-  some_flight : (a b : Flight T) → ◌≡◌ {A = Option (Flight T)} (Some a) (Some b) → a ≡ b
-  some_flight a b e = cc
-
   pub no_flight : {A : Type 0} (o : Option (Flight T)) (f : Flight T) → o ≡ None → o ≡ Some f → A
   no_flight o f e g = let h : ◌≡◌ {A = Option (Flight T)} None (Some f) = sym e ∙ g in absurd (cc)
 

@@ -1,6 +1,6 @@
 -- The calls of the single value, run whole, are those of one value.
-use Rattle.std.proofs.Common.{◌≡◌, ℕ, zero, suc, ◌+◌, ◌-◌, ◌*◌, ◌^◌, ◌<◌, ◌≤◌, ◌==◌, Bool, true, false, not, Option, Some, None, List, ◌∷◌, length}
-use Rattle.std.proofs.Common.{get_or, get_or-set_other, length-set, ne_eqb, replicate, slice_index, slice_set, refl, ap, subst, ◌∙◌, arith, if◌then◌else◌}
+use Rattle.std.proofs.Common.{◌≡◌, ℕ, zero, suc, ◌+◌, ◌-◌, ◌*◌, ◌^◌, ◌<◌, ◌≤◌, ◌==◌, Bool, true, false, not, Some, None, List, ◌∷◌, length}
+use Rattle.std.proofs.Common.{get_or-set_other, length-set, ne_eqb, replicate, slice_index, slice_set, refl, ap, subst, ◌∙◌, arith, if◌then◌else◌}
 use Rattle.std.proofs.lemmas.List.{length-replicate}
 use Rattle.steps.specs.Atomic.{before_version, cell_word, first_store, store_want, store_after, first_load, load_want, load_after, load_kept}
 use Rattle.steps.specs.Objects.Values.{Versioned, has_version, stored}
@@ -36,7 +36,8 @@ use Rattle.plain.proofs.Walks.{any_low}
 use Rattle.plain.proofs.Words.{words_same}
 use Rattle.headline_whole.specs.Objects.{every_call}
 use Rattle.headline_whole.proofs.Agree.{Agree}
-use Rattle.headline_whole.proofs.Flights.{FlightRuns, runs_as, twice}
+use Rattle.headline_whole.proofs.Flights.{FlightRuns, runs_as, twice, same_flight}
+use Rattle.headline_whole.proofs.Indices.{zeros_at}
 use Rattle.headline_whole.proofs.Law.{IsMadeSo, Reading, Answers, BeginsSo, Law}
 
 -- words of zeros
@@ -46,11 +47,6 @@ zero_words words k (suc n) all =
     let head = all k (omega arith) in
     let tail = zero_words words (suc k) n (λ i from. all i (omega arith)) in
     λ i. head i ∷ tail i
-
-zeros_at : (n i : ℕ) → get_or (replicate {A = ℕ} n 0) i 0 ≡ 0
-zeros_at zero i = refl
-zeros_at (suc n) zero = refl
-zeros_at (suc n) (suc i) = zeros_at n i
 
 opening_zero : (size i : ℕ) → 2 ≤ i → slice_index (opening_words size) i ≡ 0
 opening_zero size zero low = absurd (omega arith)
@@ -187,9 +183,6 @@ module _ {T : Type 0} (code : Coding T) where
       subst (λ f. Agree (starts.Atomic start) f (registries.Atomic producer)) is tt
   has_registry p start flight kept is e = absurd (cc)
 
-  some_flight : (a b : Flight T) → ◌≡◌ {A = Option (Flight T)} (Some a) (Some b) → a ≡ b
-  some_flight a b e = cc
-
   module _ (coded : IsCoding code) (capacity : ℕ) where
     every : (turns : ℕ) (words : List ℕ) (h : Holds turns words) → turns < 2 ^ 64 - 2 → (start : AtomicStart T) → Whole turns words h start
     every turns words h early calls.AcquireProducer = acquires turns words h
@@ -201,7 +194,7 @@ module _ {T : Type 0} (code : Coding T) where
         → refusal_of t.world (Begin p start) ≡ None → every_call start ≡ true → Holds t.world.turns t.world.words
         → first_of kinds.Atomic capacity start t.world.kept ≡ Some flight → BeginsSo reading code t p start flight
     begins t p (starts.Atomic start) flight r made free such h named =
-        let is = some_flight (flights.Atomic (first start)) flight named in
+        let is = same_flight (flights.Atomic (first start)) flight named in
         let allowed = passes t.world (Begin p (starts.Atomic start)) free in
         record {
           agrees = has_registry p start flight t.world.kept is (may_begin t.world p (starts.Atomic start) allowed.on).rows;
