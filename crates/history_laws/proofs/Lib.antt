@@ -1,0 +1,11 @@
+pub mod OwnersParts
+pub mod OwnersWords
+pub mod RobustPays
+pub mod RobustCalls
+pub mod ContainerPays
+pub mod ContainerCalls
+pub mod OwnersBounded
+pub mod OwnersTurns
+pub mod RobustWorn
+pub mod ContainerWorn
+pub mod OwnersLaws
