@@ -1,0 +1,4 @@
+-- What the laws speak of.
+pub mod Indices
+pub mod Bits
+pub mod Counts
