@@ -1,3 +1,9 @@
+-- The proofs of the laws.
+pub mod BitsSums
+pub mod CountsSums
+pub mod IndicesHeld
+pub mod IndicesSpans
+pub mod IndicesLaws
 pub mod OwnersParts
 pub mod OwnersWords
 pub mod RobustPays
