@@ -36,7 +36,7 @@ use Rattle.model.specs.Families.Queues.Calls.{kept_at, read_in}
 use Rattle.model.specs.Turns.{old_of, words_after}
 use Rattle.laws_container.proofs.Standing.{At}
 use Rattle.history_laws.specs.Owners.{changes, may_lock}
-use Rattle.history_laws.proofs.OwnersParts.{moved_none, count_old, count_moves, locks_in, counts_move}
+use Rattle.history_laws.proofs.OwnersParts.{moved_none, count_old, count_moves, counts_move}
 use Rattle.history_laws.proofs.OwnersWords.{counter_of, count_finds, lock_finds, acquire_finds, release_finds, raise_finds}
 use Rattle.history_laws.proofs.OwnersWords.{first_then, other_then, count_leaves, lock_leaves, acquire_leaves, release_leaves, raise_leaves}
 use Rattle.history_laws.proofs.RobustPays.{late_in, release_late_in}

@@ -1,15 +1,14 @@
 -- What a call of a container under way can still add to the counter of its set, and that each of its steps keeps to it.
-use Rattle.std.proofs.Common.{◌≡◌, ◌≢◌, ℕ, ◌+◌, ◌*◌, ◌<◌, ◌≤◌, ◌==◌, nat_lt, Bool, true, false, Option, Some, None, Ok, Err, List, ◌++◌, length, refl, arith}
+use Rattle.std.proofs.Common.{◌≡◌, ◌≢◌, ℕ, ◌+◌, ◌*◌, ◌≤◌, ◌==◌, nat_lt, Bool, true, false, Option, Some, None, Ok, Err, refl, arith}
 use Rattle.steps.specs.Container.Add.{Added, inner_acquire, add_acquired, add_takes}
-use Rattle.steps.specs.Container.Find.{find_after}
 use Rattle.steps.specs.Container.Layout.{is_even}
 use Rattle.steps.specs.Container.Look.{look_after}
 use Rattle.steps.specs.Container.Recover.{recover_comes_to, recover_raised, recover_locked, recover_sees, recover_takes}
 use Rattle.steps.specs.Container.Remove.{Removed, inner_release, remove_released, remove_takes}
-use Rattle.steps.specs.Container.Replace.{Replaced, replace_after}
+use Rattle.steps.specs.Container.Replace.{Replaced}
 use Rattle.steps.specs.Indices.Robust.Acquire.{Acquired, acquire_takes}
 use Rattle.steps.specs.Indices.Robust.Looks.{borrowed_counted}
-use Rattle.steps.specs.Indices.Robust.Parts.{locked, count_after, lock_after, raise_after}
+use Rattle.steps.specs.Indices.Robust.Parts.{locked, lock_after, raise_after}
 use Rattle.steps.specs.Indices.Robust.Release.{Released, release_takes}
 use Rattle.steps.specs.Routine.{went_on}
 use Rattle.steps.specs.declared.ask.After.{After}
@@ -43,21 +42,21 @@ use Rattle.steps.specs.declared.indices.robust.release.Release as releasing
 use Rattle.model.specs.declared.event.Answer.{Answer}
 use Rattle.model.specs.declared.event.Answer as answers
 use Rattle.model.specs.declared.families.container.calls.ContainerFlight.{ContainerFlight}
-use Rattle.model.specs.declared.families.container.calls.ContainerFlight.TheVariants.{Add, Remove, Replace, Find, Recover, Look, Count, IsLocked}
+use Rattle.model.specs.declared.families.container.calls.ContainerFlight.TheVariants.{Add, Remove, Replace, Find, Recover, Count}
 use Rattle.model.specs.declared.families.container.calls.CountOf.{CountOf}
 use Rattle.model.specs.declared.families.container.calls.LookOf.{LookOf}
 use Rattle.model.specs.Coding.{Coding}
-use Rattle.model.specs.Families.Container.Calls.{after, added, removed, replaced, counted, look_came, look_goes, look_shows}
-use Rattle.model.specs.Families.Container.Steps.{add_effects, remove_effects, recover_effects, effects}
-use Rattle.model.specs.Families.Queues.Calls.{as_it_is, kept_at}
+use Rattle.model.specs.Families.Container.Calls.{added, removed, replaced, counted, look_came, look_goes, look_shows}
+use Rattle.model.specs.Families.Container.Steps.{add_effects, remove_effects, recover_effects}
+use Rattle.model.specs.Families.Queues.Calls.{as_it_is}
 use Rattle.model.specs.Step.{as_call}
 use Rattle.history_laws.specs.Owners.{changes}
-use Rattle.history_laws.proofs.OwnersParts.{moved_none, moved_most, RaiseMoves, raise_then, raise_moves, count_then, count_old, CountMoves, count_moves, count_ends}
+use Rattle.history_laws.proofs.OwnersParts.{moved_none, moved_most, RaiseMoves, raise_then, raise_moves, count_then, count_old, CountMoves, count_ends}
 use Rattle.history_laws.proofs.OwnersParts.{lock_credit, lock_late, lock_then, lock_old, LockPays, lock_pays}
 use Rattle.history_laws.proofs.OwnersParts.{acquire_credit, acquire_then, acquire_old, acquire_left, acquire_pays}
 use Rattle.history_laws.proofs.OwnersParts.{for_mode, for_mode_most, locks_in, release_credit, release_late, release_then, release_old}
 use Rattle.history_laws.proofs.OwnersParts.{release_left, counts_move, counts_none, StandsIn, release_pays}
-use Rattle.history_laws.proofs.RobustPays.{late_in, late_in_most, release_late_in}
+use Rattle.history_laws.proofs.RobustPays.{late_in, late_in_most}
 
 -- ---- the stages
 

@@ -1,6 +1,6 @@
 -- The counter of a container's set is at its end only after so many changes.
-use Rattle.std.proofs.Common.{◌≡◌, ◌≢◌, ℕ, ◌+◌, ◌-◌, ◌*◌, ◌^◌, ◌<◌, ◌≤◌, ◌==◌, ◌&&◌, Bool, true, false, Option, Some, None, option_map, if◌then◌else◌, nat_lt, List, length, refl, sym, ap, subst, ◌∙◌, arith}
-use Rattle.steps.specs.Indices.Robust.Parts.{locked, greatest}
+use Rattle.std.proofs.Common.{◌≡◌, ℕ, ◌<◌, ◌==◌, Bool, true, false, Option, Some, None, option_map, if◌then◌else◌, nat_lt, List, length, refl, sym, ap, subst, ◌∙◌, arith}
+use Rattle.steps.specs.Indices.Robust.Parts.{locked}
 use Rattle.steps.specs.declared.ask.After.{After}
 use Rattle.steps.specs.declared.ask.After.TheVariants.{GoOn, Done}
 use Rattle.steps.specs.declared.ask.Ask.{Ask}
@@ -9,8 +9,6 @@ use Rattle.steps.specs.Container.Remove.{first_remove}
 use Rattle.steps.specs.declared.indices.enums.ReleaseMode.{ReleaseMode}
 use Rattle.steps.specs.declared.indices.enums.ReleaseMode.TheVariants.{Default, LockIfLastIndex}
 use Rattle.model.specs.declared.event.Answer.{Answer}
-use Rattle.model.specs.declared.event.Event.{Event}
-use Rattle.model.specs.declared.event.Event.TheVariants.{Begun}
 use Rattle.model.specs.declared.event.Start.{Start}
 use Rattle.model.specs.declared.event.Start.TheVariants.{Container}
 use Rattle.model.specs.declared.families.Flight.{Flight}
@@ -39,7 +37,7 @@ use Rattle.model.specs.Parties.{party_of, doing_of, flight_of}
 use Rattle.model.specs.Reading.{span_of}
 use Rattle.model.specs.Step.{Step, as_step, as_call}
 use Rattle.model.specs.Turns.{old_of, words_after, number_of, after_turn}
-use Rattle.model.specs.World.{Trace, opening, capacity_error, flight_in}
+use Rattle.model.specs.World.{Trace, opening, capacity_error}
 use Rattle.model.proofs.Frame as frame
 use Rattle.model.proofs.Scenes.{stands_there}
 use Rattle.laws_robust.specs.Gone.{Word}
@@ -50,11 +48,11 @@ use Rattle.laws_container.proofs.Invariant.{family_by, FlightAt}
 use Rattle.laws_container.proofs.OpenRuns.{open_turn_sound}
 use Rattle.laws_container.proofs.Sound.{kept_is, opening_sound}
 use Rattle.laws_container.proofs.Terms.{Terms}
-use Rattle.history_laws.specs.Owners.{change, changes, may_lock, is_locking, LocksApart}
+use Rattle.history_laws.specs.Owners.{may_lock, is_locking, LocksApart}
 use Rattle.history_laws.proofs.OwnersWords.{counter_of}
 use Rattle.history_laws.proofs.ContainerPays.{remove_credit, remove_late, container_left, container_locks, container_then, container_old, ContainerStands, SameMode}
 use Rattle.history_laws.proofs.ContainerCalls.{container_mode, container_pays, container_finds, container_leaves, container_asks, container_stands, container_may}
-use Rattle.history_laws.proofs.OwnersBounded.{Bounded, locks_of, locks_at, counter, changes_more}
+use Rattle.history_laws.proofs.OwnersBounded.{Bounded, locks_of, counter, changes_more}
 use Rattle.history_laws.proofs.OwnersTurns.{left, SameLocks, PaysBy, BeginPays, Facts, run_bounded, opening_bounded}
 
 some_same : {A : Type 0} (x y : A) → Some x ≡ Some y → x ≡ y
@@ -99,7 +97,6 @@ module _ {T : Type 0} (code : Coding T) where
 
     paid_there : (cell : ℕ) → Paid (container_old flight (counter_of words) cell)
     paid_there cell =
-        let old : ℕ = container_old flight (counter_of words) cell in
         record {
           pays = λ open_now.
               (let keeps =

@@ -1,12 +1,10 @@
 -- The counter of a robust index set, or of a container, is bounded by the changes of its history, where no two calls that
 -- may lock overlap: what holds between two turns, and what a turn owes that keeps it.
-use Rattle.std.proofs.Common.{◌≡◌, ◌≢◌, ◌⊎◌, inl, inr, ⊎_elim, ℕ, ◌+◌, ◌*◌, ◌<◌, ◌≤◌, ◌==◌, Bool, true, false, true≢false, Option, Some, None, List, [], ◌++◌, length}
+use Rattle.std.proofs.Common.{◌≡◌, ◌≢◌, ◌⊎◌, ⊎_elim, ℕ, ◌+◌, ◌*◌, ◌<◌, ◌≤◌, ◌==◌, Bool, true, false, true≢false, Option, Some, None, List, [], ◌++◌, length}
 use Rattle.std.proofs.Common.{refl, sym, ap, subst, ◌∙◌, append-nil, arith}
 use Rattle.std.proofs.lemmas.Bool.{cases_eq}
 use Rattle.std.proofs.lemmas.List.Sums.{sum_by-append}
 use Rattle.steps.specs.Indices.Robust.Parts.{locked}
-use Rattle.steps.specs.declared.ask.After.{After}
-use Rattle.steps.specs.declared.ask.After.TheVariants.{GoOn, Done}
 use Rattle.steps.specs.declared.indices.enums.ReleaseMode.{ReleaseMode}
 use Rattle.steps.specs.declared.indices.enums.ReleaseMode.TheVariants.{Default, LockIfLastIndex}
 use Rattle.steps.specs.declared.container.recover.RecoverStage as container_recovers
@@ -22,9 +20,9 @@ use Rattle.model.specs.declared.families.container.calls.ContainerFlight as cont
 use Rattle.model.specs.declared.families.indices.robust.calls.RobustFlight as robust_calls
 use Rattle.model.specs.Turns.{ending_of}
 use Rattle.model.specs.World.{Trace, flight_in}
-use Rattle.laws_indices.proofs.Sums.{sum_below, sum_same, sum_moved, sum_longer}
+use Rattle.laws_indices.proofs.Sums.{sum_below, sum_moved, sum_longer}
 use Rattle.history_laws.specs.Owners.{change, changes}
-use Rattle.history_laws.proofs.OwnersParts.{moved, tested, locks_in, lock_late_most, release_late, counts_move}
+use Rattle.history_laws.proofs.OwnersParts.{tested, locks_in, lock_late_most, release_late, counts_move}
 use Rattle.history_laws.proofs.OwnersWords.{counter_of}
 use Rattle.history_laws.proofs.RobustPays.{late_in, late_in_most, recover_late, robust_credit, robust_late, robust_locks}
 use Rattle.history_laws.proofs.ContainerPays.{remove_late, container_credit, container_late, container_locks}

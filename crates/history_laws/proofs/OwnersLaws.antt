@@ -1,15 +1,12 @@
 -- The laws of the counter, of every history.
-use Rattle.std.proofs.Common.{◌≡◌, ℕ, ◌+◌, ◌-◌, ◌*◌, ◌^◌, ◌≤◌, true, List, ◌∷◌, ◌++◌, refl, sym, ap, subst, ◌∙◌, arith}
+use Rattle.std.proofs.Common.{◌≡◌, ℕ, ◌-◌, ◌*◌, ◌^◌, ◌≤◌, List, ◌∷◌, ◌++◌, refl, sym, ap, subst, ◌∙◌, arith}
 use Rattle.std.proofs.lemmas.List.Sums.{sum_by-append, sum_by-cons}
 use Rattle.model.specs.declared.event.Event.{Event}
 use Rattle.model.specs.declared.event.Event.TheVariants.{Begun}
-use Rattle.model.specs.declared.turn.Kind.TheVariants as kinds
-use Rattle.model.specs.Coding.{Coding, one_word}
-use Rattle.model.specs.World.{Trace}
-use Rattle.laws_robust.specs.Open.{IsReachedOpen}
+use Rattle.model.specs.Coding.{Coding}
 use Rattle.lock_free_owners.specs.Robust.Told.{IsWorn}
 use Rattle.lock_free_owners.specs.Container.Told as containers
-use Rattle.history_laws.specs.Owners.{changes, may_lock, LocksApart, lock_call, lock_calls}
+use Rattle.history_laws.specs.Owners.{changes, LocksApart, lock_call, lock_calls}
 use Rattle.history_laws.proofs.RobustWorn as robust
 use Rattle.history_laws.proofs.RobustWorn.{worn_after}
 use Rattle.history_laws.proofs.ContainerWorn as container

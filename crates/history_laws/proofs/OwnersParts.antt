@@ -1,7 +1,7 @@
 -- What a part of a call can still add to the counter, and that its steps keep to it: a raise, a count, a lock, an acquire
 -- and a release. Each change of the history is good for three: a raise of the counter, a raise more that a lock may have
 -- to make because of it, and a first raise of a lock.
-use Rattle.std.proofs.Common.{◌≡◌, ◌≢◌, ◌⊎◌, inl, inr, ℕ, ◌+◌, ◌*◌, ◌≤◌, ◌==◌, ◌&&◌, not, nat_lt, if◌then◌else◌}
+use Rattle.std.proofs.Common.{◌≡◌, ◌≢◌, ◌⊎◌, inl, inr, ℕ, ◌+◌, ◌*◌, ◌≤◌, ◌==◌, nat_lt, if◌then◌else◌}
 use Rattle.std.proofs.Common.{Bool, true, false, refl, arith, eq-eqb}
 use Rattle.std.proofs.lemmas.Bool.Decides.{nat_tests}
 use Rattle.steps.specs.Indices.Robust.Acquire.{Acquired, acquire_sees, acquire_tries, acquire_raised, acquire_takes}
@@ -23,7 +23,6 @@ use Rattle.steps.specs.declared.indices.robust.parts.Raise as raises
 use Rattle.steps.specs.declared.indices.robust.release.GiveBack.{GiveBack}
 use Rattle.steps.specs.declared.indices.robust.release.Release.{Release}
 use Rattle.steps.specs.declared.indices.robust.release.ReleaseStage as releases
-use Rattle.model.specs.declared.event.Event.{Event}
 use Rattle.model.specs.Families.Indices.Robust.Steps.{acquire_effects, release_effects}
 use Rattle.history_laws.specs.Owners.{changes}
 

@@ -1,6 +1,6 @@
 -- What each turn of a robust index set, or of a container, owes so that its counter stays bounded, and so every open run.
-use Rattle.std.proofs.Common.{◌≡◌, ◌≢◌, ◌⊎◌, inl, inr, ℕ, ◌+◌, ◌*◌, ◌<◌, ◌≤◌, ◌==◌, not, Bool, true, false, true≢false, Option, Some, None, is_some, is_none, List, [], ◌∷◌, ◌++◌}
-use Rattle.std.proofs.Common.{fold, length, length-set, get_or, refl, sym, ap, subst, ◌∙◌, append_assoc, arith, eq-eqb}
+use Rattle.std.proofs.Common.{◌≡◌, ◌≢◌, inl, inr, ℕ, ◌+◌, ◌*◌, ◌<◌, ◌≤◌, ◌==◌, not, Bool, true, false, true≢false, Option, Some, None, is_some, is_none, List, [], ◌∷◌, ◌++◌}
+use Rattle.std.proofs.Common.{fold, length, length-set, refl, sym, ap, subst, ◌∙◌, append_assoc, arith, eq-eqb}
 use Rattle.std.proofs.lemmas.List.Sums.{fold-append}
 use Rattle.steps.specs.Indices.Robust.Parts.{locked}
 use Rattle.steps.specs.declared.ask.After.{After}
@@ -22,7 +22,7 @@ use Rattle.model.specs.declared.turn.Turn.{Turn}
 use Rattle.model.specs.declared.turn.Turn.TheVariants.{Begin, Next, Decide, Die}
 use Rattle.model.specs.Families.{first_of, want_of, ask_of, is_question}
 use Rattle.model.specs.Families.Indices.Reading.{is_locked, locked_after}
-use Rattle.model.specs.Parties.{party_of, put, doing_of, flight_of}
+use Rattle.model.specs.Parties.{party_of, doing_of, flight_of}
 use Rattle.model.specs.Reading.{Each, span_of}
 use Rattle.model.specs.Refusals.{is_due, call_refusal}
 use Rattle.model.specs.Step.{Step, answer_in}
@@ -37,7 +37,7 @@ use Rattle.laws_robust.proofs.OpenTurns.{reached_keeps}
 use Rattle.history_laws.specs.Owners.{change, changes, may_lock, is_locking, BeginsAlone, LocksApart}
 use Rattle.history_laws.proofs.OwnersParts.{tested, moved_none, counts_move}
 use Rattle.history_laws.proofs.OwnersWords.{counter_of}
-use Rattle.history_laws.proofs.OwnersBounded.{credit, late, locks, credit_of, late_of, locks_of, credit_at, locks_at, counter}
+use Rattle.history_laws.proofs.OwnersBounded.{credit, late, locks, credit_of, late_of, locks_of, locks_at, counter}
 use Rattle.history_laws.proofs.OwnersBounded.{Bounded, Owes, changes_more, ends_none, bounded_on, bounded_same}
 
 wide_after : (words : List ℕ) (ask : Option Ask) → length (words_after words ask) ≡ length words
@@ -292,7 +292,7 @@ module _ {T : Type 0} where
         let after = facts (after_turn t turn) next in (
           next,
           λ apart. turn_bounded t known (h.1 (each_less BeginsAlone t.events (events_of t.world turn) apart)) turn e apart
-          (opens_by t (after_turn t turn) (events_of t.world turn) refl known.lock after.lock),
+              (opens_by t (after_turn t turn) (events_of t.world turn) refl known.lock after.lock),
         )
 
     pub run_bounded : (t : Trace T) (r : IsReachedOpen t) → Sound (opening t.world.coding t.world.kind t.world.capacity t.world.parties)

@@ -1,5 +1,5 @@
 -- What an operation of a part of a call does to the counter, which is the first word, and what it finds.
-use Rattle.std.proofs.Common.{◌≡◌, ℕ, ◌<◌, ◌≤◌, ◌==◌, if◌then◌else◌, Some, List, length, get_or, refl, arith}
+use Rattle.std.proofs.Common.{◌≡◌, ℕ, ◌<◌, ◌≤◌, Some, List, length, get_or, refl, arith}
 use Rattle.std.proofs.Common.{get_or-set_same, get_or-set_other}
 use Rattle.steps.specs.Ask.{written}
 use Rattle.steps.specs.Indices.Robust.Acquire.{acquire_asks}

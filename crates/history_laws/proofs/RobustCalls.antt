@@ -1,5 +1,5 @@
 -- What the word of a call of a robust index set tells it and becomes, and where the call stands.
-use Rattle.std.proofs.Common.{◌≡◌, ℕ, ◌<◌, ◌≤◌, true, List, length, refl, arith}
+use Rattle.std.proofs.Common.{◌≡◌, ℕ, ◌<◌, true, List, length, refl, arith}
 use Rattle.steps.specs.Indices.Robust.Find.{find_asks}
 use Rattle.steps.specs.Indices.Robust.Parts.{empty, cell_word}
 use Rattle.steps.specs.Indices.Robust.Recover.{recover_asks}

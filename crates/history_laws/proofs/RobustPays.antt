@@ -1,22 +1,20 @@
 -- What a call of a robust index set under way can still add to the counter, and that each of its steps keeps to it.
-use Rattle.std.proofs.Common.{◌≡◌, ◌≢◌, ℕ, ◌+◌, ◌*◌, ◌<◌, ◌≤◌, ◌==◌, nat_lt, Bool, true, false, List, length, refl, sym, subst, ap, arith}
+use Rattle.std.proofs.Common.{◌≡◌, ◌≢◌, ℕ, ◌+◌, ◌*◌, ◌≤◌, ◌==◌, nat_lt, Bool, true, false, refl, arith}
 use Rattle.steps.specs.Indices.Robust.Acquire.{Acquired, acquire_takes}
-use Rattle.steps.specs.Indices.Robust.Find.{find_asks, find_after}
-use Rattle.steps.specs.Indices.Robust.Looks.{borrowed_counted, locked_after}
-use Rattle.steps.specs.Indices.Robust.Parts.{empty, locked, cell_word, count_after, lock_after, raise_after}
-use Rattle.steps.specs.Indices.Robust.Recover.{recover_asks, recover_comes_to, recover_raised, recover_locked, recover_takes}
+use Rattle.steps.specs.Indices.Robust.Find.{find_after}
+use Rattle.steps.specs.Indices.Robust.Looks.{borrowed_counted}
+use Rattle.steps.specs.Indices.Robust.Parts.{empty, locked, count_after, lock_after, raise_after}
+use Rattle.steps.specs.Indices.Robust.Recover.{recover_comes_to, recover_raised, recover_locked, recover_takes}
 use Rattle.steps.specs.Indices.Robust.Release.{Released, release_takes}
 use Rattle.steps.specs.Routine.{went_on}
 use Rattle.steps.specs.declared.ask.After.{After}
 use Rattle.steps.specs.declared.ask.After.TheVariants.{GoOn, Done}
-use Rattle.steps.specs.declared.ask.Op.TheVariants.{Load, Exchange}
 use Rattle.steps.specs.declared.indices.enums.ReleaseMode.{ReleaseMode}
 use Rattle.steps.specs.declared.indices.enums.ReleaseMode.TheVariants.{Default, LockIfLastIndex}
 use Rattle.steps.specs.declared.indices.enums.ReleaseState.{ReleaseState}
 use Rattle.steps.specs.declared.indices.enums.ReleaseState as states
 use Rattle.steps.specs.declared.indices.robust.acquire.Acquire as acquiring
 use Rattle.steps.specs.declared.indices.robust.find.Find as finding
-use Rattle.steps.specs.declared.indices.robust.find.FindStage as finds
 use Rattle.steps.specs.declared.indices.robust.looks.BorrowedIndices as counting
 use Rattle.steps.specs.declared.indices.robust.parts.Count as counts
 use Rattle.steps.specs.declared.indices.robust.parts.Counted as ends
@@ -29,27 +27,18 @@ use Rattle.steps.specs.declared.indices.robust.release.Release as releasing
 use Rattle.steps.specs.declared.indices.robust.release.ReleaseStage as releases
 use Rattle.model.specs.declared.event.Answer.{Answer}
 use Rattle.model.specs.declared.event.Answer as answers
-use Rattle.model.specs.declared.event.Event.{Event}
-use Rattle.model.specs.declared.event.Start.TheVariants.{Robust}
-use Rattle.model.specs.declared.families.indices.robust.RobustStart.{RobustStart}
 use Rattle.model.specs.declared.families.indices.robust.calls.RobustFlight.{RobustFlight}
 use Rattle.model.specs.declared.families.indices.robust.calls.RobustFlight.TheVariants.{Acquire, Release, Find, Recover, BorrowedIndices, IsLocked}
-use Rattle.model.specs.Families.{ask_of, is_question}
-use Rattle.model.specs.Families.Indices.Robust.Calls.{want, after, acquire_answer, release_answer}
-use Rattle.model.specs.Families.Indices.Robust.Reading.{SetAct}
+use Rattle.model.specs.Families.Indices.Robust.Calls.{after, acquire_answer, release_answer}
 use Rattle.model.specs.Families.Indices.Robust.Steps.{recover_effects, effects}
 use Rattle.model.specs.Families.Queues.Calls.{as_it_is}
 use Rattle.model.specs.Step.{as_call}
-use Rattle.model.specs.Turns.{old_of, words_after}
-use Rattle.laws_robust.proofs.Standing.{At}
-use Rattle.history_laws.specs.Owners.{changes, may_lock}
+use Rattle.history_laws.specs.Owners.{changes}
 use Rattle.history_laws.proofs.OwnersParts.{moved_none, moved_most, RaiseMoves, raise_then, raise_moves, count_then, count_old, CountMoves, count_moves, count_ends}
-use Rattle.history_laws.proofs.OwnersParts.{lock_credit, lock_late, lock_late_most, lock_then, lock_old, LockPays, lock_pays}
+use Rattle.history_laws.proofs.OwnersParts.{lock_credit, lock_late, lock_then, lock_old, LockPays, lock_pays}
 use Rattle.history_laws.proofs.OwnersParts.{acquire_credit, acquire_then, acquire_old, acquire_left, acquire_pays}
 use Rattle.history_laws.proofs.OwnersParts.{for_mode, for_mode_most, locks_in, release_credit, release_late, release_then, release_old}
-use Rattle.history_laws.proofs.OwnersParts.{release_left, counts_move, counts_none, counts_most, StandsIn, release_pays}
-use Rattle.history_laws.proofs.OwnersWords.{counter_of, raise_finds, count_finds, lock_finds, acquire_finds, release_finds}
-use Rattle.history_laws.proofs.OwnersWords.{other_then, first_then, raise_leaves, count_leaves, lock_leaves, acquire_leaves, release_leaves}
+use Rattle.history_laws.proofs.OwnersParts.{release_left, counts_move, counts_none, StandsIn, release_pays}
 
 -- only a call in the mode that locks is late
 abbrev pub late_in : ReleaseMode → ℕ → ℕ

@@ -1,13 +1,11 @@
 -- The counter of a robust index set is at its end only after so many changes.
-use Rattle.std.proofs.Common.{◌≡◌, ◌≢◌, ℕ, ◌+◌, ◌-◌, ◌*◌, ◌^◌, ◌<◌, ◌≤◌, ◌==◌, ◌&&◌, Bool, true, false, Option, Some, None, option_map, if◌then◌else◌, List, length, refl, sym, ap, subst, ◌∙◌, arith}
+use Rattle.std.proofs.Common.{◌≡◌, ◌≢◌, ℕ, ◌-◌, ◌*◌, ◌^◌, ◌<◌, ◌≤◌, ◌==◌, Bool, true, false, Option, Some, None, option_map, if◌then◌else◌, List, length, refl, sym, ap, subst, ◌∙◌, arith}
 use Rattle.steps.specs.Indices.Robust.Parts.{locked, greatest}
 use Rattle.steps.specs.declared.ask.After.{After}
 use Rattle.steps.specs.declared.ask.After.TheVariants.{GoOn, Done}
 use Rattle.steps.specs.declared.ask.Ask.{Ask}
 use Rattle.steps.specs.declared.indices.enums.ReleaseMode.TheVariants.{Default, LockIfLastIndex}
 use Rattle.model.specs.declared.event.Answer.{Answer}
-use Rattle.model.specs.declared.event.Event.{Event}
-use Rattle.model.specs.declared.event.Event.TheVariants.{Begun}
 use Rattle.model.specs.declared.event.Start.{Start}
 use Rattle.model.specs.declared.event.Start.TheVariants.{Robust}
 use Rattle.model.specs.declared.families.Flight.{Flight}
@@ -17,7 +15,6 @@ use Rattle.model.specs.declared.families.Registry as registries
 use Rattle.model.specs.declared.families.indices.robust.RobustStart.{RobustStart}
 use Rattle.model.specs.declared.families.indices.robust.RobustStart as starts
 use Rattle.model.specs.declared.families.indices.robust.calls.RobustFlight.{RobustFlight}
-use Rattle.model.specs.declared.families.indices.robust.calls.RobustFlight as calls
 use Rattle.model.specs.declared.party.Doing.{Doing}
 use Rattle.model.specs.declared.party.Doing.TheVariants.{Going, Over}
 use Rattle.model.specs.declared.party.Party.{Party}
@@ -33,8 +30,8 @@ use Rattle.model.specs.Families.Indices.Robust.Steps as set
 use Rattle.model.specs.Parties.{party_of, doing_of, flight_of}
 use Rattle.model.specs.Reading.{span_of}
 use Rattle.model.specs.Step.{Step, as_step, as_call}
-use Rattle.model.specs.Turns.{old_of, words_after, number_of, after_turn}
-use Rattle.model.specs.World.{Trace, opening, capacity_error, flight_in}
+use Rattle.model.specs.Turns.{old_of, words_after, number_of}
+use Rattle.model.specs.World.{Trace, opening, capacity_error}
 use Rattle.model.proofs.Frame as frame
 use Rattle.model.proofs.Scenes.{stands_there}
 use Rattle.laws_robust.specs.Gone.{Word}
@@ -43,12 +40,11 @@ use Rattle.laws_robust.proofs.Invariant.{family_by, FlightAt}
 use Rattle.laws_robust.proofs.OpenRuns.{open_turn_sound}
 use Rattle.laws_robust.proofs.Opening.{admitted_is}
 use Rattle.laws_robust.proofs.Sound.{kept_is, opening_sound}
-use Rattle.laws_robust.proofs.Standing.{At}
-use Rattle.history_laws.specs.Owners.{change, changes, may_lock, is_locking, LocksApart}
+use Rattle.history_laws.specs.Owners.{changes, may_lock, is_locking, LocksApart}
 use Rattle.history_laws.proofs.OwnersWords.{counter_of}
 use Rattle.history_laws.proofs.RobustPays.{robust_left, robust_locks, robust_then, robust_old, RobustStands, SameMode, robust_mode, robust_pays}
 use Rattle.history_laws.proofs.RobustCalls.{robust_finds, robust_leaves, robust_asks, robust_stands, robust_may}
-use Rattle.history_laws.proofs.OwnersBounded.{Bounded, locks_of, locks_at, counter}
+use Rattle.history_laws.proofs.OwnersBounded.{Bounded, locks_of, counter}
 use Rattle.history_laws.proofs.OwnersTurns.{left, SameLocks, PaysBy, BeginPays, Facts, run_bounded, opening_bounded}
 
 some_same : {A : Type 0} (x y : A) → Some x ≡ Some y → x ≡ y

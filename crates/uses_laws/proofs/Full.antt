@@ -1,5 +1,5 @@
 -- In a young history who was refused for want of an index met a full pool.
-use Rattle.std.proofs.Common.{◌≡◌, ⊎_elim, ℕ, ◌+◌, ◌-◌, ◌*◌, ◌^◌, ◌<◌, ◌≤◌, Err, List, sum_by, refl, sym, ap, subst, ◌∙◌, arith}
+use Rattle.std.proofs.Common.{◌≡◌, ⊎_elim, ℕ, ◌-◌, ◌*◌, ◌^◌, ◌≤◌, Err, List, sum_by, refl, sym, ap, subst, arith}
 use Rattle.steps.specs.declared.indices.enums.UniqueIndexSetAcquireFailure.TheVariants.{OutOfIndices}
 use Rattle.model.specs.declared.event.Answer.TheVariants.{NoIndex}
 use Rattle.model.specs.declared.event.Start.TheVariants.{Robust}
