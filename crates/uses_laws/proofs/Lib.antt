@@ -1,0 +1,6 @@
+-- The proofs of the clients.
+pub mod Linear
+pub mod Added
+pub mod Again
+pub mod Shared
+pub mod Drained

@@ -1,0 +1,3 @@
+-- What the contracts of this crate speak of.
+pub mod Acts
+pub mod Order
