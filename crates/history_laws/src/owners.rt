@@ -8,8 +8,9 @@ ghost use Rattle.lock_free_owners.specs.Robust.Told.{IsWorn};
 ghost use Rattle.lock_free_owners.specs.Container.Told as containers;
 ghost use Rattle.history_laws.specs.Owners.{changes, lock_calls, LocksApart};
 
-/// Where no two calls that may lock overlap, the counter is at its end only after 2^64 - 2 changes, a third of them at
-/// least: indices filled or freed, and counts begun. The lemma is `worn_set` of `proofs/OwnersLaws.antt`.
+/// Where no two calls that may lock overlap, the counter is at its end only after a third of 2^64 - 2 changes: indices
+/// filled or freed, and counts begun. Of two that overlap each can make the other count again, and raise the counter, any
+/// number of times. The lemma is `worn_set` of `proofs/OwnersLaws.antt`.
 pub fn worn_sets_have_changed()
     ensures { (capacity : ℕ) (events : List (Event ℕ)) → IsWorn capacity events → LocksApart events
         → 2 ^ 64 - 2 ≤ 3 * changes events }

@@ -4,3 +4,4 @@ pub mod Added
 pub mod Again
 pub mod Shared
 pub mod Drained
+pub mod Full

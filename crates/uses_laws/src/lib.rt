@@ -3,6 +3,7 @@
 
 pub mod acts;
 pub mod drain;
+pub mod leases;
 pub mod order;
 pub mod sole;
 pub mod totals;
