@@ -57,7 +57,7 @@ struct Round {
     clock: AtomicU64,
     /// Where all meet before the first call.
     meeting: Meeting,
-    /// Whether each lets others run at some of its calls. Else most calls overlap where there are enough processors.
+    /// Whether each lets others run at some of its calls, so that fewer overlap: in the second round.
     rests: bool,
 }
 
@@ -177,7 +177,7 @@ pub fn runs<
     length: L,
     rounds: &mut Rounds,
 ) -> Result<(), Fail> {
-    let round = Round::new(rounds.number % 2 == 1);
+    let round = Round::new(rounds.number == 1);
     let mut pushes = Log::new(alloc, CALLS)?;
     let mut pops = Log::new(alloc, CALLS)?;
     let mut lengths = Log::new(alloc, CALLS)?;

@@ -23,12 +23,12 @@ struct IndexUser<'a> {
 }
 
 impl<'a> IndexUser<'a> {
-    /// Takes an index and gives it back; it rests each eighth time.
+    /// Takes an index and gives it back; it rests each sixteenth time.
     fn raw_turn(&mut self, rt: &impl Wait, at: u64) -> Option<bool> {
         let Ok(index) = self.set.acquire_raw_index(rt, &mut self.pass) else {
             return None;
         };
-        let alone = self.holders.stay(index as usize, at % 8 == 0);
+        let alone = self.holders.stay(index as usize, at % 16 == 0);
         self.set.release_raw_index(index, &mut self.pass);
         Some(alone)
     }

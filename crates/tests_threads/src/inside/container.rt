@@ -108,7 +108,7 @@ fn goes_on<R: Wait + Threads + Clock + Sync>(
     place: Place,
 ) -> Result<bool, Fail> {
     let (one, owner) = (OwnerId::new(1)?, OwnerId::new(2)?);
-    let (container, pass) = Container::new(alloc, 5, 1)?;
+    let (container, pass) = Container::<Slow>::new(alloc, 5, 1)?;
     let mut handle = container.handle(pass);
     let other = handle.split().ok_or("no further handle")?;
     let state = handle.get_state(rt)?;
