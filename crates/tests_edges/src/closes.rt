@@ -29,7 +29,8 @@ fn index_queue(alloc: Global) -> Right {
         return Ok(false);
     };
     let pushed = producer.push(7);
-    let closed = queue.close(producer.release());
+    let pass = producer.release();
+    let closed = queue.close(pass);
     left.look();
     let Some(further) = left.split() else {
         return Ok(false);
@@ -49,7 +50,8 @@ fn value_queue(alloc: Global) -> Right {
         return Ok(false);
     };
     let pushed = producer.push(&Three(7, 8, 9));
-    let closed = queue.close(producer.release());
+    let pass = producer.release();
+    let closed = queue.close(pass);
     left.look();
     let Some(further) = left.split() else {
         return Ok(false);
@@ -69,7 +71,8 @@ fn overflowing_queue(alloc: Global) -> Right {
         return Ok(false);
     };
     let pushed = producer.push(6).is_none() && producer.push(7) == Some(6);
-    let closed = queue.close(producer.release());
+    let pass = producer.release();
+    let closed = queue.close(pass);
     left.look();
     let Some(further) = left.split() else {
         return Ok(false);
