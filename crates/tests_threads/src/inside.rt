@@ -14,7 +14,7 @@ mod robust;
 mod value;
 
 /// How many calls of each kind are made meanwhile.
-const CALLS: u64 = 1000;
+const CALLS: u64 = 100;
 
 /// In how many rounds one is to have made them in time, at most. It is too late where it did not run meanwhile.
 pub const ROUNDS: u64 = 20;
