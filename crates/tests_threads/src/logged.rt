@@ -163,12 +163,7 @@ impl<'s, L: Length> Task for LogsLengths<'s, L> {
 
 /// Logs the calls of three threads on a new queue of this capacity, who begin at once: whether they can have come one after
 /// another, and how many overlapped.
-pub fn runs<
-    R: Wait + Threads + Clock + Sync,
-    G: Gives + Send,
-    T: Takes + Send,
-    L: Length + Send,
->(
+pub fn runs<R: Wait + Threads + Clock + Sync, G: Gives + Send, T: Takes + Send, L: Length + Send>(
     rt: &R,
     alloc: Global,
     capacity: u64,

@@ -122,7 +122,10 @@ fn calls_as_if_one_after_another(rt: HostRuntime) -> Result<(), Fail> {
     }
     assert!(rt; rounds.are_in_turn);
     let overlaps = rounds.overlaps;
-    assert!(rt; overlaps >= OVERLAPS, "only {overlaps} pairs of calls overlapped");
+    assert!(rt;
+        overlaps >= OVERLAPS,
+        "only {overlaps} pairs of calls overlapped"
+    );
     Ok(())
 }
 

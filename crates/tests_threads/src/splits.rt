@@ -90,7 +90,10 @@ fn of_bits_and_counts(rt: HostRuntime) -> Result<(), Fail> {
 #[test]
 fn of_indices_and_containers(rt: HostRuntime) -> Result<(), Fail> {
     for capacity in CAPACITIES {
-        assert!(rt; indices(rt.alloc(), capacity)?, "unique indices, {capacity}");
+        assert!(rt;
+            indices(rt.alloc(), capacity)?,
+            "unique indices, {capacity}"
+        );
         assert!(rt; robust(rt.alloc(), capacity)?, "robust indices, {capacity}");
         assert!(rt; container(rt.alloc(), capacity)?, "container, {capacity}");
     }
@@ -100,8 +103,14 @@ fn of_indices_and_containers(rt: HostRuntime) -> Result<(), Fail> {
 #[test]
 fn of_queues_and_a_value(rt: HostRuntime) -> Result<(), Fail> {
     for capacity in CAPACITIES {
-        assert!(rt; index_queue(rt.alloc(), capacity)?, "index queue, {capacity}");
-        assert!(rt; overflowing(rt.alloc(), capacity)?, "overflowing, {capacity}");
+        assert!(rt;
+            index_queue(rt.alloc(), capacity)?,
+            "index queue, {capacity}"
+        );
+        assert!(rt;
+            overflowing(rt.alloc(), capacity)?,
+            "overflowing, {capacity}"
+        );
     }
     assert!(rt; queues(rt.alloc())? && values(rt.alloc())?);
     Ok(())
