@@ -1,5 +1,7 @@
 //! The main theorem about every machine, in one place: the statement to read first. The functions do nothing: the contract of
 //! each is a law, and what its words mean stands in `specs`.
+//!
+//! Its last part, what calls answer that run whole, one after another, stands in the crate `headline_whole`.
 #![tactic(auto)]
 
 ghost use Rattle.std.specs.Prelude.{◌≡◌, ℕ, List, None, IfSome};

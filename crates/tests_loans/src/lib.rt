@@ -2,8 +2,6 @@
 #![tactic(auto)]
 
 #[cfg(test)]
-mod parts;
-#[cfg(test)]
 mod pool;
 #[cfg(test)]
 mod slots;

@@ -1,7 +1,4 @@
 //! By turns in one thread.
-ghost use Rattle.lock_free.specs.Loan.Sender.{IsSame};
-ghost use Rattle.uses_loans.specs.Ends.{sender_of};
-
 use std::alloc::{AllocError, Global};
 use std::mem::forget;
 use std::sync::Wait;
@@ -9,7 +6,7 @@ use std::test::Fail;
 use uses_loans::channel::Channel;
 use uses_loans::error::LoanFailure;
 use uses_loans::receiver::{Receiver, Sample};
-use uses_loans::sender::Sender;
+use uses_loans::sender::{Loan, Sender};
 
 /// How many places there are.
 const PLACES: usize = 4;
@@ -27,9 +24,7 @@ pub fn texts(alloc: Global, number: usize) -> Result<Vec<String>, AllocError> {
 }
 
 /// Sends a text: the answer of the channel. None where there is no place, or no memory.
-pub fn sends(rt: &impl Wait, sender: &mut Sender<'_, String>, text: &str) -> Option<Option<u64>>
-    ensures { IsSame (sender_of sender.old) (sender_of sender.new) }
-{
+pub fn sends(rt: &impl Wait, sender: &mut Sender<'_, String>, text: &str) -> Option<Option<u64>> {
     let mut loan = sender.loan(rt).ok()?;
     loan.value.clear();
     loan.value.push_str(text).ok()?;
@@ -84,6 +79,15 @@ fn texts_go_through_a_channel(rt: HostRuntime) -> Result<(), Fail> {
     Ok(())
 }
 
+/// Whether a loan is of this sender, which is given up then.
+fn gives_up<'a>(sender: &mut Sender<'a, String>, loan: Loan<'a, String>) -> bool {
+    if !sender.is_loaned(&loan) {
+        return false;
+    }
+    sender.give_up(loan);
+    true
+}
+
 /// A place is loaned until no value is left, and then until no place is left; what was dropped can be regained, and what is in
 /// hand cannot.
 #[test]
@@ -95,8 +99,7 @@ fn loans_are_refused(rt: HostRuntime) -> Result<(), Fail> {
     let other = sender.loan(&rt).map_err(|_| "no loan")?;
     assert!(rt; matches!(&sender.loan(&rt), Err(LoanFailure::NoPlace(_))));
     assert!(rt; !sender.regain(one.place()));
-    assert!(rt; sender.is_loaned(&other));
-    sender.give_up(one);
+    assert!(rt; gives_up(&mut sender, one));
     let place = other.place();
     drop(other);
     assert!(rt; sender.regain(place) && !sender.regain(place) && !sender.regain(9));
@@ -118,7 +121,7 @@ fn values_are_kept(rt: HostRuntime) -> Result<(), Fail> {
         assert!(rt; reads(&rt, &mut receiver, number, "one"));
         assert_eq!(rt; sender.take_back(), Some(0));
         let loan = sender.loan(&rt).map_err(|_| "no loan")?;
-        sender.give_up(loan);
+        assert!(rt; gives_up(&mut sender, loan));
     }
     drop(sender.loan(&rt).map_err(|_| "no loan")?);
     assert!(rt; sender.regain(0));

@@ -1,0 +1,248 @@
+-- A call of one family, named as one of it, where that family's registry is kept: what its step comes to.
+use Rattle.std.proofs.Common.{◌≡◌, ℕ, ◌==◌, Bool, true, false, Option, Some, None, List, [], ◌∷◌, ◌++◌, map, refl, ap, subst, ◌∙◌, if◌then◌else◌}
+use Rattle.std.specs.List.{AllByRecursion, flat_map}
+use Rattle.steps.specs.Bits.BitSet.{place_after}
+use Rattle.steps.specs.Bits.Places.{places_in}
+use Rattle.steps.specs.Container.Add.{add_after}
+use Rattle.steps.specs.Container.Find.{find_after, find_kept}
+use Rattle.steps.specs.Container.Recover.{recover_after, recover_kept}
+use Rattle.steps.specs.Container.Remove.{remove_after}
+use Rattle.steps.specs.Container.Replace.{replace_after}
+use Rattle.steps.specs.Indices.Robust.Looks.{borrowed_after, locked_after}
+use Rattle.steps.specs.Routine.{went_on}
+use Rattle.steps.specs.declared.ask.After.{After}
+use Rattle.steps.specs.declared.ask.After.TheVariants.{GoOn, Done}
+use Rattle.steps.specs.declared.bits.bit_set.ResetNextStage.{ResetNextStage}
+use Rattle.steps.specs.declared.bits.bit_set.ResetNextStage.TheVariants as resets
+use Rattle.steps.specs.declared.bits.bit_set.SetStage.{SetStage}
+use Rattle.steps.specs.declared.bits.bit_set.SetStage.TheVariants as sets
+use Rattle.steps.specs.declared.indices.enums.ReleaseState.TheVariants.{Locked}
+use Rattle.model.specs.declared.event.Answer.{Answer}
+use Rattle.model.specs.declared.event.Answer.TheVariants as answers
+use Rattle.model.specs.declared.event.Event.{Event}
+use Rattle.model.specs.declared.event.Event.TheVariants as events
+use Rattle.model.specs.declared.event.Event.TheVariants.{Finished}
+use Rattle.model.specs.declared.event.Start.{Start}
+use Rattle.model.specs.declared.event.Start.TheVariants as starts
+use Rattle.model.specs.declared.families.Flight.{Flight}
+use Rattle.model.specs.declared.families.Flight.TheVariants as flights
+use Rattle.model.specs.declared.families.Registry.{Registry}
+use Rattle.model.specs.declared.families.Registry.TheVariants as registries
+use Rattle.model.specs.declared.families.atomic.AtomicStart.{AtomicStart}
+use Rattle.model.specs.declared.families.atomic.AtomicStart.TheVariants as values
+use Rattle.model.specs.declared.families.bits.calls.BitsFlight.{BitsFlight}
+use Rattle.model.specs.declared.families.bits.calls.BitsFlight.TheVariants as bit_flights
+use Rattle.model.specs.declared.families.container.ContainerStart.{ContainerStart}
+use Rattle.model.specs.declared.families.container.calls.ContainerFlight.{ContainerFlight}
+use Rattle.model.specs.declared.families.container.calls.ContainerFlight.TheVariants as containers
+use Rattle.model.specs.declared.families.queues.QueueStart.{QueueStart}
+use Rattle.model.specs.declared.families.queues.effects.Effect.{Effect}
+use Rattle.model.specs.declared.families.queues.effects.Effect.TheVariants.{Quiet, Acts, Publishes, PublishesAndActs, HandsOut, TakesOut, MakesRoom}
+use Rattle.model.specs.declared.turn.Turn.{Turn}
+use Rattle.model.specs.declared.turn.Turn.TheVariants.{Next}
+use Rattle.model.specs.Coding.{Coding}
+use Rattle.model.specs.Families.{after_of, step_of, kept_after_death}
+use Rattle.model.specs.Families.Atomic.Calls as value_calls
+use Rattle.model.specs.Families.Atomic.Steps as value_steps
+use Rattle.model.specs.Families.Bits.Calls as bits_calls
+use Rattle.model.specs.Families.Bits.Steps as bits_steps
+use Rattle.model.specs.Families.Container.Calls as container_calls
+use Rattle.model.specs.Families.Container.States.{state_of}
+use Rattle.model.specs.Families.Container.Steps as container_steps
+use Rattle.model.specs.Families.Indices.Calls as index_calls
+use Rattle.model.specs.Families.Indices.Robust.Calls as robust_calls
+use Rattle.model.specs.Families.Indices.Robust.Steps as robust_steps
+use Rattle.model.specs.Families.Indices.Steps as index_steps
+use Rattle.model.specs.Families.Queues.Calls as queue_calls
+use Rattle.model.specs.Families.Queues.Calls.{as_it_is, kept_at}
+use Rattle.model.specs.Families.Queues.Steps as queue_steps
+use Rattle.model.specs.Promises.Turns.{IsEffectOf}
+use Rattle.model.specs.Step.{as_call, answer_in}
+use Rattle.laws_container.proofs.Written as container
+use Rattle.laws_robust.proofs.Written as robust
+use Rattle.headline_whole.specs.Whole as whole
+
+module _ {T : Type 0} where
+  -- a look goes on from what its party's state has seen, and any other call from its word alone
+  abbrev pub IsNoLook : ContainerFlight T → Type 0
+  IsNoLook (containers.Look which call) = ⊥
+  IsNoLook flight = Unit {0}
+
+  abbrev pub Agree : Start T → Flight T → Registry T → Type 0
+  Agree (starts.Queues start) (flights.Queues flight) (registries.Queues roles) = Unit {0}
+  Agree (starts.Atomic start) (flights.Atomic flight) (registries.Atomic producer) = Unit {0}
+  Agree (starts.Bits start) (flights.Bits flight) registries.Nothing = Unit {0}
+  Agree (starts.Indices start) (flights.Indices flight) (registries.Indices holders) = Unit {0}
+  Agree (starts.Robust start) (flights.Robust flight) (registries.Owners dead) = Unit {0}
+  Agree (starts.Container start) (flights.Container flight) (registries.Container dead states) = IsNoLook flight
+  Agree start flight kept = ⊥
+
+  -- ---- it goes on as its table says
+
+  pub goes_so : (code : Coding T) (words : List ℕ) (beside : Option (ℕ × ℕ)) (p : ℕ) (start : Start T) (flight : Flight T) (old : ℕ)
+      (kept : Registry T) → Agree start flight kept
+      → (step_of code words beside p start flight old kept).after ≡ after_of code flight old
+  goes_so code words beside p (starts.Queues start) (flights.Queues flight) old (registries.Queues roles) h = refl
+  goes_so code words beside p (starts.Atomic start) (flights.Atomic flight) old (registries.Atomic producer) h = refl
+  goes_so code words beside p (starts.Bits start) (flights.Bits flight) old registries.Nothing h = refl
+  goes_so code words beside p (starts.Indices start) (flights.Indices flight) old (registries.Indices holders) h = refl
+  goes_so code words beside p (starts.Robust start) (flights.Robust flight) old (registries.Owners dead) h = refl
+  goes_so code words beside p (starts.Container start) (flights.Container (containers.Look which call)) old (registries.Container dead states) h = absurd h
+  goes_so code words beside p (starts.Container start) (flights.Container flight) old (registries.Container dead states) h = refl
+  goes_so code words beside p start flight old kept h = absurd h
+
+  -- ---- and then stays one of its family
+
+  same_flight : (f d : Flight T) → ◌≡◌ {A = After (Flight T) (Answer T)} (GoOn f) (GoOn d) → f ≡ d
+  same_flight f d e = cc
+
+  stays : {R : Type 0} (start : Start T) (kept : Registry T) (outer : R → Flight T) → ((r : R) → Agree start (outer r) kept)
+      → (d : Flight T) (a : After R (Answer T)) → as_call outer (λ (answer : Answer T). answer) a ≡ GoOn d → Agree start d kept
+  stays start kept outer all d (GoOn r) e = subst (λ f. Agree start f kept) (same_flight (outer r) d e) (all r)
+  stays start kept outer all d (Done answer) e = absurd (cc)
+
+  -- the same of a call of the container, which is no look
+  still_none : {R A : Type 0} (start : ContainerStart T) (kept : Registry T) (wrap : R → ContainerFlight T) (say : A → Answer T)
+      → ((r : R) → Agree (starts.Container start) (flights.Container (wrap r)) kept) → (d : Flight T) (a : After R A)
+      → as_call flights.Container (λ (answer : Answer T). answer) (as_call wrap say a) ≡ GoOn d → Agree (starts.Container start) d kept
+  still_none start kept wrap say all d (GoOn r) e =
+      subst (λ f. Agree (starts.Container start) f kept) (same_flight (flights.Container (wrap r)) d e) (all r)
+  still_none start kept wrap say all d (Done answer) e = absurd (cc)
+
+  pub agrees_then : (code : Coding T) (words : List ℕ) (beside : Option (ℕ × ℕ)) (p : ℕ) (start : Start T) (flight : Flight T) (old : ℕ)
+      (kept : Registry T) (d : Flight T) → Agree start flight kept → after_of code flight old ≡ GoOn d
+      → Agree start d (step_of code words beside p start flight old kept).kept
+  agrees_then code words beside p (starts.Queues start) (flights.Queues flight) old (registries.Queues roles) d h e =
+      stays (starts.Queues start)
+      (step_of code words beside p (starts.Queues start) (flights.Queues flight) old (registries.Queues roles)).kept
+      flights.Queues (λ r. tt) d (queue_calls.after code flight old) e
+  agrees_then code words beside p (starts.Atomic start) (flights.Atomic flight) old (registries.Atomic producer) d h e =
+      stays (starts.Atomic start)
+      (step_of code words beside p (starts.Atomic start) (flights.Atomic flight) old (registries.Atomic producer)).kept
+      flights.Atomic (λ r. tt) d (value_calls.after code flight old) e
+  agrees_then code words beside p (starts.Bits start) (flights.Bits flight) old registries.Nothing d h e =
+      stays (starts.Bits start) registries.Nothing flights.Bits (λ r. tt) d (bits_calls.after flight old) e
+  agrees_then code words beside p (starts.Indices start) (flights.Indices flight) old (registries.Indices holders) d h e =
+      stays (starts.Indices start)
+      (step_of code words beside p (starts.Indices start) (flights.Indices flight) old (registries.Indices holders)).kept
+      flights.Indices (λ r. tt) d (index_calls.after flight old) e
+  agrees_then code words beside p (starts.Robust start) (flights.Robust flight) old (registries.Owners dead) d h e =
+      stays (starts.Robust start)
+      (step_of code words beside p (starts.Robust start) (flights.Robust flight) old (registries.Owners dead)).kept
+      flights.Robust (λ r. tt) d (robust_calls.after flight old) e
+  agrees_then code words beside p (starts.Container start) (flights.Container (containers.Add run)) old (registries.Container dead states) d h e =
+      still_none start (registries.Container dead states) containers.Add container_calls.added (λ r. tt) d
+      (went_on as_it_is run.given run.room (add_after code.size run.call old)) e
+  agrees_then code words beside p (starts.Container start) (flights.Container (containers.Remove run)) old (registries.Container dead states) d h e =
+      still_none start (registries.Container dead states) containers.Remove container_calls.removed (λ r. tt) d
+      (went_on as_it_is run.given run.room (remove_after run.call run.given old)) e
+  agrees_then code words beside p (starts.Container start) (flights.Container (containers.Replace run)) old (registries.Container dead states) d h e =
+      still_none start (registries.Container dead states) containers.Replace container_calls.replaced (λ r. tt) d
+      (went_on as_it_is run.given run.room (replace_after code.size run.call run.given old)) e
+  agrees_then code words beside p (starts.Container start) (flights.Container (containers.Find run)) old (registries.Container dead states) d h e =
+      still_none start (registries.Container dead states) containers.Find answers.Number (λ r. tt) d
+      (went_on as_it_is run.given (find_kept kept_at run.call run.room old) (find_after code.size run.call run.given old)) e
+  agrees_then code words beside p (starts.Container start) (flights.Container (containers.Recover run)) old (registries.Container dead states) d h e =
+      still_none start (registries.Container dead states) containers.Recover answers.State (λ r. tt) d
+      (went_on as_it_is run.given (recover_kept kept_at run.call run.room old) (recover_after code.size run.call run.given old)) e
+  agrees_then code words beside p (starts.Container start) (flights.Container (containers.Look which call)) old (registries.Container dead states) d h e =
+      absurd h
+  agrees_then code words beside p (starts.Container start) (flights.Container (containers.Count which run)) old (registries.Container dead states) d h e =
+      still_none start (registries.Container dead states) (λ r. containers.Count which r) (container_calls.counted which) (λ r. tt) d
+      (went_on as_it_is run.given run.room (borrowed_after run.call old)) e
+  agrees_then code words beside p (starts.Container start) (flights.Container (containers.IsLocked run)) old (registries.Container dead states) d h e =
+      still_none start (registries.Container dead states) containers.IsLocked answers.Truth (λ r. tt) d
+      (went_on as_it_is run.given run.room (locked_after run.call old)) e
+  agrees_then code words beside p start flight old kept d h e = absurd h
+
+  pub agrees_still : (start : Start T) (flight : Flight T) (kept : Registry T) (owner : ℕ) → Agree start flight kept
+      → Agree start flight (kept_after_death kept owner)
+  agrees_still (starts.Queues start) (flights.Queues flight) (registries.Queues roles) owner h = tt
+  agrees_still (starts.Atomic start) (flights.Atomic flight) (registries.Atomic producer) owner h = tt
+  agrees_still (starts.Bits start) (flights.Bits flight) registries.Nothing owner h = tt
+  agrees_still (starts.Indices start) (flights.Indices flight) (registries.Indices holders) owner h = tt
+  agrees_still (starts.Robust start) (flights.Robust flight) (registries.Owners dead) owner h = tt
+  agrees_still (starts.Container start) (flights.Container flight) (registries.Container dead states) owner h = h
+  agrees_still start flight kept owner h = absurd h
+
+  -- ---- and writes no end of a call but its own
+
+  module _ (is_call : Start T → Bool) where
+    queue_writes : (p : ℕ) (start : QueueStart T) (effect : Effect T) (outcome : Option (Answer T))
+        → flat_map (whole.answer_in is_call) (queue_steps.effects_of p start effect outcome) ≡ []
+    queue_writes p start Quiet outcome = refl
+    queue_writes p start Acts None = refl
+    queue_writes p start Acts (Some answer) = refl
+    queue_writes p start (Publishes item) None = refl
+    queue_writes p start (Publishes item) (Some answer) = refl
+    queue_writes p start (PublishesAndActs item) outcome = refl
+    queue_writes p start (HandsOut item) None = refl
+    queue_writes p start (HandsOut item) (Some answer) = refl
+    queue_writes p start (TakesOut index) outcome = refl
+    queue_writes p start (MakesRoom item q pushed) None = refl
+    queue_writes p start (MakesRoom item q pushed) (Some answer) = refl
+
+    value_writes : (p : ℕ) (start : AtomicStart T) (outcome : Option (Answer T)) → flat_map (whole.answer_in is_call) (value_steps.acted p start outcome) ≡ []
+    value_writes p (values.Store value) (Some (answers.Truth true)) = refl
+    value_writes p values.Load (Some answer) = refl
+    value_writes p start outcome = refl
+
+    index_writes : (p : ℕ) (freed : Option ℕ) (outcome : Option (Answer T)) → flat_map (whole.answer_in is_call) (index_steps.effects p freed outcome) ≡ []
+    index_writes p (Some index) outcome = refl
+    index_writes p None (Some (answers.Index index)) = refl
+    index_writes p None (Some (answers.State Locked)) = refl
+    index_writes p None outcome = refl
+
+    if_writes : (b : Bool) (e : Event T) → whole.answer_in is_call e ≡ [] → flat_map (whole.answer_in is_call) (if b then e ∷ [] else []) ≡ []
+    if_writes true e none = ap (λ (xs : List (Start T × Answer T)). xs ++ []) none
+    if_writes false e none = refl
+
+    unless_writes : (b : Bool) (e : Event T) → whole.answer_in is_call e ≡ [] → flat_map (whole.answer_in is_call) (if b then [] else e ∷ []) ≡ []
+    unless_writes true e none = refl
+    unless_writes false e none = ap (λ (xs : List (Start T × Answer T)). xs ++ []) none
+
+    clears_none : (p : ℕ) (bits : List ℕ) → flat_map (whole.answer_in is_call) (map (λ bit. events.Cleared p bit) bits) ≡ []
+    clears_none p [] = refl
+    clears_none p (bit ∷ bits) = clears_none p bits
+
+    bit_writes : (p : ℕ) (flight : BitsFlight) (old : ℕ) → flat_map (whole.answer_in is_call) (bits_steps.effects_of {T = T} p flight old) ≡ []
+    bit_writes p (bit_flights.Set run) old = set_writes run.call.stage
+      where
+        set_writes : (stage : SetStage) → flat_map (whole.answer_in is_call) (bits_steps.set_events {T = T} p run.given stage old) ≡ []
+        set_writes sets.LoadsElement = refl
+        set_writes (sets.ExchangesElement found) = if_writes (old == found) (events.Set p run.given) refl
+    bit_writes p (bit_flights.ResetNext run) old = reset_writes run.call.stage
+      where
+        reset_writes : (stage : ResetNextStage) → flat_map (whole.answer_in is_call) (bits_steps.reset_events {T = T} p run.call.capacity stage old) ≡ []
+        reset_writes (resets.ExchangesElement start passed found) =
+            if_writes (old == found) (events.Cleared p (place_after run.call.capacity start passed)) refl
+        reset_writes stage = refl
+    bit_writes p (bit_flights.ResetAll run) old = clears_none p (places_in run.call.word old)
+    bit_writes p (bit_flights.Count run) old = refl
+    bit_writes p (bit_flights.TakeAll run) old = unless_writes (old == 0) (events.TakenOut p run.call.word old) refl
+
+    effect_none : (turn : Turn T) (e : Event T) → IsEffectOf turn e → whole.answer_in is_call e ≡ []
+    effect_none turn (Finished q start answer) h = absurd h
+    effect_none turn e h = refl
+
+    effects_none : (turn : Turn T) (es : List (Event T)) → AllByRecursion (IsEffectOf turn) es → flat_map (whole.answer_in is_call) es ≡ []
+    effects_none turn [] all = refl
+    effects_none turn (e ∷ es) all =
+        ap (λ (xs : List (Start T × Answer T)). xs ++ flat_map (whole.answer_in is_call) es) (effect_none turn e all.0) ∙ effects_none turn es all.1
+
+    pub writes_none : (code : Coding T) (words : List ℕ) (beside : Option (ℕ × ℕ)) (p : ℕ) (start : Start T) (flight : Flight T) (old : ℕ)
+        (kept : Registry T) → Agree start flight kept
+        → flat_map (whole.answer_in is_call) (step_of code words beside p start flight old kept).wrote ≡ []
+    writes_none code words beside p (starts.Queues start) (flights.Queues flight) old (registries.Queues roles) h =
+        queue_writes p start (queue_steps.effect_of code words beside flight old) (answer_in (queue_calls.after code flight old))
+    writes_none code words beside p (starts.Atomic start) (flights.Atomic flight) old (registries.Atomic producer) h =
+        value_writes p start (answer_in (value_calls.after code flight old))
+    writes_none code words beside p (starts.Bits start) (flights.Bits flight) old registries.Nothing h = bit_writes p flight old
+    writes_none code words beside p (starts.Indices start) (flights.Indices flight) old (registries.Indices holders) h =
+        index_writes p (index_steps.frees flight) (answer_in (index_calls.after {T = T} flight old))
+    writes_none code words beside p (starts.Robust start) (flights.Robust flight) old (registries.Owners dead) h =
+        effects_none (Next p) (robust_steps.effects p flight old) (robust.all_effects (Next p) p refl flight old)
+    writes_none code words beside p (starts.Container start) (flights.Container flight) old (registries.Container dead states) h =
+        effects_none (Next p) (container_steps.effects code p (state_of p states) flight old ++ container_steps.questions p flight old)
+        (container.all_effects (Next p) p refl code (state_of p states) flight old)
+    writes_none code words beside p start flight old kept h = absurd h

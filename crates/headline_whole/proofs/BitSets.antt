@@ -1,0 +1,293 @@
+-- The calls of the two bit sets, run whole, are those of a set of places and of counts.
+use Rattle.std.proofs.Common.{◌≡◌, ℕ, suc, ◌+◌, ◌/◌, ◌%◌, ◌^◌, ◌<◌, ◌≤◌, true, false, not, Some, None, List, [], ◌∷◌, length}
+use Rattle.std.proofs.Common.{replicate, slice_index, refl, sym, ap, subst, ◌∙◌, arith, length-set}
+use Rattle.std.proofs.lemmas.List.{length-replicate}
+use Rattle.steps.specs.Bits.BitSet.{first_set, set_want, set_after, first_reset, reset_want, reset_after}
+use Rattle.steps.specs.Bits.ResetAll.{all_bits, all_counts, reset_all_want, reset_all_after, reset_all_kept}
+use Rattle.steps.specs.Bits.Words.{elements, element_of}
+use Rattle.steps.specs.Objects.Counts.{counted}
+use Rattle.steps.specs.Objects.Places.{Places, has, with_place, next_place, after_next, emptied}
+use Rattle.steps.specs.declared.bits.bit_set.ResetNext.{ResetNext}
+use Rattle.steps.specs.declared.bits.reset_all.ResetAll.{ResetAll}
+use Rattle.model.specs.declared.event.Answer.TheVariants as answers
+use Rattle.model.specs.declared.event.Start.{Start}
+use Rattle.model.specs.declared.event.Start.TheVariants as starts
+use Rattle.model.specs.declared.families.Flight.{Flight}
+use Rattle.model.specs.declared.families.Flight.TheVariants as flights
+use Rattle.model.specs.declared.families.Registry.{Registry}
+use Rattle.model.specs.declared.families.Registry.TheVariants as registries
+use Rattle.model.specs.declared.families.bits.BitsStart.{BitsStart}
+use Rattle.model.specs.declared.families.bits.BitsStart.TheVariants as calls
+use Rattle.model.specs.declared.families.bits.calls.BitsFlight.{BitsFlight}
+use Rattle.model.specs.declared.families.bits.calls.BitsFlight.TheVariants as under_way
+use Rattle.model.specs.declared.turn.Kind.TheVariants as kinds
+use Rattle.model.specs.declared.turn.Turn.TheVariants.{Begin}
+use Rattle.model.specs.Coding.{Coding}
+use Rattle.model.specs.Families.{first_of}
+use Rattle.model.specs.Families.Bits.Calls.{add_one, reset_answer}
+use Rattle.model.specs.Families.Bits.Opening.{kept_rows, bits_words}
+use Rattle.model.specs.Families.Queues.Calls.{as_it_is, fresh}
+use Rattle.model.specs.Refusals.{refusal_of}
+use Rattle.model.specs.Rows.{first_row}
+use Rattle.model.specs.Turns.{IsReached}
+use Rattle.model.specs.World.{Trace, capacity_error}
+use Rattle.model.proofs.Rows.{passes, may_begin, row_passed}
+use Rattle.plain.specs.Alone.{BehavesAs}
+use Rattle.plain.specs.Bits.{flags_in, places_in, Represents}
+use Rattle.plain.proofs.Alone.{Runs}
+use Rattle.plain.proofs.Places.Empties.{opened}
+use Rattle.plain.proofs.Places.Flags.{flags_length, same_flags}
+use Rattle.plain.proofs.Places.Resets.{reset_runs}
+use Rattle.plain.proofs.Places.Sets.{set_runs}
+use Rattle.plain.proofs.Walks.{any_low}
+use Rattle.headline_whole.specs.Objects.{every_call, whole_places, whole_counts}
+use Rattle.headline_whole.proofs.Agree.{Agree}
+use Rattle.headline_whole.proofs.Flights.{FlightRuns, runs_as, twice, same_flight}
+use Rattle.headline_whole.proofs.Law.{IsMadeSo, Reading, Answers, BeginsSo, Law}
+use Rattle.headline_whole.proofs.Owners.{not_past}
+use Rattle.headline_whole.proofs.Sweeps.{cleared, all_cleared, all_but_first, sweep_runs}
+
+admitted_bits : (c : ℕ) → capacity_error kinds.Bits c ≡ None → c < 2 ^ 32
+admitted_bits x0 x1 = grind arith
+
+admitted_counts : (c : ℕ) → capacity_error kinds.Counts c ≡ None → c < 2 ^ 32
+admitted_counts x0 x1 = grind arith
+
+-- all elements are 0, and the start is as it was
+record Emptied (capacity : ℕ) (words : List ℕ) : Type 0 where
+  pub fits : Represents capacity (cleared words 1 (elements capacity))
+  pub places : places_in capacity (cleared words 1 (elements capacity)) ≡ emptied (places_in capacity words)
+
+none_stands : (capacity start m : ℕ) → flags_in capacity (start ∷ replicate {A = ℕ} m 0) ≡ replicate capacity false
+none_stands capacity start m =
+    same_flags capacity (0 ∷ replicate {A = ℕ} m 0) (start ∷ replicate {A = ℕ} m 0)
+    (λ p. let place : element_of p ≡ suc (p / 64) = omega arith in
+    ap (slice_index (start ∷ replicate {A = ℕ} m 0)) place ∙ sym (ap (slice_index (0 ∷ replicate {A = ℕ} m 0)) place))
+    ∙ ap (λ (s : Places). s.flags) (opened capacity (suc m) (0 ∷ replicate {A = ℕ} m 0) refl)
+
+empties : (capacity : ℕ) (words : List ℕ) → Represents capacity words → Emptied capacity words
+empties capacity [] fits = let long : 0 ≡ 1 + elements capacity = fits.long in absurd (omega arith)
+empties capacity (start ∷ words) fits =
+    let n : length words ≡ elements capacity =
+    let long : suc (length words) ≡ 1 + elements capacity = fits.long in omega arith in
+    let same : cleared (start ∷ words) 1 (elements capacity) ≡ start ∷ replicate (elements capacity) 0 =
+    subst (λ m. cleared (start ∷ words) 1 m ≡ start ∷ replicate m 0) n (all_but_first start words) in
+    let long = length-replicate {A = ℕ} (elements capacity) 0 in
+    record {
+      fits = subst (Represents capacity) (sym same)
+          (record { long = omega arith; small = fits.small; start = fits.start });
+      places = ap (places_in capacity) same
+          ∙ (λ i. record {
+            flags = (none_stands capacity start (elements capacity)
+                ∙ sym (ap (λ k. replicate k false) (flags_length capacity (start ∷ words)))) i;
+            start = start;
+          });
+    }
+
+module _ {T : Type 0} where
+  abbrev pub places_reading : ℕ → Reading T
+  places_reading capacity =
+      record {
+        State = Places;
+        spec = whole_places capacity;
+        such = every_call;
+        Holds = λ turns words. Represents capacity words;
+        read = places_in capacity;
+      }
+
+  abbrev pub counts_reading : ℕ → Reading T
+  counts_reading capacity =
+      record {
+        State = List ℕ;
+        spec = whole_counts capacity;
+        such = every_call;
+        Holds = λ turns words. length words ≡ capacity;
+        read = λ words. words;
+      }
+
+  -- ---- a set of places
+
+  module _ (code : Coding T) (capacity turns : ℕ) (words : List ℕ) (fits : Represents capacity words) where
+    abbrev PlacesWhole : BitsStart → BitsFlight → Type 0
+    PlacesWhole start flight = FlightRuns code (Answers (places_reading capacity) turns words (starts.Bits start)) (flights.Bits flight) words
+
+    sets : (place : ℕ) → place < capacity → PlacesWhole (calls.Set place) (under_way.Set (record { call = first_set; given = place; room = tt }))
+    sets place low =
+        runs_as code set_want set_after (λ c (room : Unit {0}) old. room) place
+        (λ c. Unit {0}) (λ c room. flights.Bits (under_way.Set (record { call = c; given = place; room = room }))) (λ e room. answers.Truth e)
+        (record {
+          wants = λ c room low. refl;
+          goes = λ c room old low. twice flights.Bits under_way.Set answers.Truth as_it_is place room (set_after c place old);
+          stays = λ c old low. any_low (set_after c place old);
+        })
+        (λ end room last. BehavesAs (Represents capacity) (places_in capacity) (λ (s : Places). not (has s place)) (λ s. with_place s place) words end last)
+        (Answers (places_reading capacity) turns words (starts.Bits (calls.Set place)))
+        (λ e room last h. record { said = λ is. ap answers.Truth h.1; holds = h.0; object = h.2 })
+        first_set tt words tt (set_runs capacity place low words fits first_set refl)
+
+    resets : PlacesWhole calls.ResetNext (under_way.ResetNext (record { call = first_reset capacity; given = tt; room = tt }))
+    resets =
+        runs_as code (λ (c : ResetNext) (given : Unit {0}). reset_want c) (λ c given old. reset_after c old) (λ c (room : Unit {0}) old. room) tt
+        (λ c. Unit {0}) (λ c room. flights.Bits (under_way.ResetNext (record { call = c; given = tt; room = room }))) (λ e room. reset_answer e)
+        (record {
+          wants = λ c room low. refl;
+          goes = λ c room old low. twice flights.Bits under_way.ResetNext reset_answer as_it_is tt room (reset_after c old);
+          stays = λ c old low. any_low (reset_after c old);
+        })
+        (λ end room last. BehavesAs (Represents capacity) (places_in capacity) next_place after_next words end last)
+        (Answers (places_reading capacity) turns words (starts.Bits calls.ResetNext))
+        (λ e room last h. record { said = λ is. ap reset_answer h.1; holds = h.0; object = h.2 })
+        (first_reset capacity) tt words tt (reset_runs capacity words fits (first_reset capacity) refl)
+
+    empties_all : PlacesWhole calls.ResetAll (under_way.ResetAll (record { call = all_bits capacity; given = tt; room = fresh }))
+    empties_all =
+        let small = fits.small in
+        runs_as code (λ (c : ResetAll) (given : Unit {0}). reset_all_want c) (λ c given old. reset_all_after c old) (λ c room old. reset_all_kept room old) tt
+        (λ c. Unit {0}) (λ c room. flights.Bits (under_way.ResetAll (record { call = c; given = tt; room = room }))) (λ e room. answers.Done)
+        (record {
+          wants = λ c room low. refl;
+          goes = λ c room old low.
+              twice flights.Bits under_way.ResetAll (λ (end : Unit {0}). answers.Done) as_it_is tt (reset_all_kept room old) (reset_all_after c old);
+          stays = λ c old low. any_low (reset_all_after c old);
+        })
+        (λ end room last. last ≡ cleared words 1 (elements capacity))
+        (Answers (places_reading capacity) turns words (starts.Bits calls.ResetAll))
+        (λ e room last h.
+        let so = empties capacity words fits in
+        record { said = λ is. refl; holds = subst (Represents capacity) (sym h) so.fits; object = ap (places_in capacity) h ∙ so.places })
+        (all_bits capacity) fresh words tt (sweep_runs 1 (elements capacity) (omega arith) fresh words)
+
+  -- ---- counts of places
+
+  module _ (code : Coding T) (capacity turns : ℕ) (words : List ℕ) (long : length words ≡ capacity) where
+    abbrev CountsWhole : BitsStart → BitsFlight → Type 0
+    CountsWhole start flight = FlightRuns code (Answers (counts_reading capacity) turns words (starts.Bits start)) (flights.Bits flight) words
+
+    counts : (place : ℕ) → CountsWhole (calls.Set place) (under_way.Count (record { call = add_one; given = place; room = tt }))
+    counts place =
+        record {
+          steps = 1;
+          few = omega arith;
+          end = answers.Number (slice_index words place);
+          last_room = tt;
+          last_words = counted words place;
+          ends = (refl, refl, refl);
+          holds = record { said = λ is. refl; holds = length-set words place ((slice_index words place + 1) % 2 ^ 64) ∙ long; object = refl };
+        }
+
+    takes_all : capacity < 2 ^ 32 → CountsWhole calls.ResetAll (under_way.TakeAll (record { call = all_counts capacity; given = tt; room = fresh }))
+    takes_all few =
+        let same : cleared words 0 capacity ≡ replicate capacity 0 = subst (λ n. cleared words 0 n ≡ replicate n 0) long (all_cleared words) in
+        let end : 0 + capacity ≡ capacity = omega arith in
+        runs_as code (λ (c : ResetAll) (given : Unit {0}). reset_all_want c) (λ c given old. reset_all_after c old) (λ c room old. reset_all_kept room old) tt
+        (λ c. Unit {0}) (λ c room. flights.Bits (under_way.TakeAll (record { call = c; given = tt; room = room }))) (λ e room. answers.Done)
+        (record {
+          wants = λ c room low. refl;
+          goes = λ c room old low.
+              twice flights.Bits under_way.TakeAll (λ (end : Unit {0}). answers.Done) as_it_is tt (reset_all_kept room old) (reset_all_after c old);
+          stays = λ c old low. any_low (reset_all_after c old);
+        })
+        (λ end room last. last ≡ cleared words 0 capacity)
+        (Answers (counts_reading capacity) turns words (starts.Bits calls.ResetAll))
+        (λ e room last h. record {
+          said = λ is. refl;
+          holds = ap length (h ∙ same) ∙ length-replicate {A = ℕ} capacity 0;
+          object = h ∙ same;
+        })
+        (all_counts capacity) fresh words tt
+        (subst (λ e. Runs (λ (c : ResetAll) (given : Unit {0}). reset_all_want c) (λ c given old. reset_all_after c old)
+        (λ c room old. reset_all_kept room old) tt (λ end room last. last ≡ cleared words 0 capacity) (record { word = 0; end = e }) fresh words) end
+        (sweep_runs 0 capacity (omega arith) fresh words))
+
+  -- ---- the laws
+
+  has_registry : (capacity p : ℕ) (start : BitsStart) (flight : Flight T) (f : BitsFlight) (kept : Registry T) → flights.Bits f ≡ flight
+      → first_row (kept_rows capacity start kept p) ≡ None → Agree (starts.Bits start) flight kept
+  has_registry capacity p start flight f registries.Nothing is e = subst (λ x. Agree (starts.Bits start) x registries.Nothing) is tt
+  has_registry capacity p start flight f kept is e = absurd (cc)
+
+  low_place : (capacity p place : ℕ) (kept : Registry T) → first_row (kept_rows capacity (calls.Set place) kept p) ≡ None → place < capacity
+  low_place capacity p place registries.Nothing e = let row = row_passed _ _ _ e in not_past capacity place row.0
+  low_place capacity p place kept e = absurd (cc)
+
+  module _ (code : Coding T) (capacity : ℕ) where
+    places_begin : (t : Trace T) (p : ℕ) (start : Start T) (flight : Flight T) → IsReached t → IsMadeSo code kinds.Bits capacity t
+        → refusal_of t.world (Begin p start) ≡ None → every_call start ≡ true → Represents capacity t.world.words
+        → first_of kinds.Bits capacity start t.world.kept ≡ Some flight → BeginsSo (places_reading capacity) code t p start flight
+    places_begin t p (starts.Bits start) flight r made free such fits named =
+        go start named
+        (subst (λ n. first_row (kept_rows n start t.world.kept p) ≡ None) made.capacity
+        (may_begin t.world p (starts.Bits start) (passes t.world (Begin p (starts.Bits start)) free).on).rows)
+      where
+        so : (s : BitsStart) (f : BitsFlight) → flights.Bits f ≡ flight → first_row (kept_rows capacity s t.world.kept p) ≡ None
+            → PlacesWhole code capacity t.world.turns t.world.words fits s f → BeginsSo (places_reading capacity) code t p (starts.Bits s) flight
+        so s f is rows runs =
+            record {
+              agrees = has_registry capacity p s flight f t.world.kept is rows;
+              runs = subst (λ x. FlightRuns code (Answers (places_reading capacity) t.world.turns t.world.words (starts.Bits s)) x t.world.words) is runs;
+            }
+
+        go : (s : BitsStart) → first_of kinds.Bits capacity (starts.Bits s) t.world.kept ≡ Some flight
+            → first_row (kept_rows capacity s t.world.kept p) ≡ None → BeginsSo (places_reading capacity) code t p (starts.Bits s) flight
+        go (calls.Set place) e rows =
+            so (calls.Set place) (under_way.Set (record { call = first_set; given = place; room = tt })) (same_flight _ flight e) rows
+            (sets code capacity t.world.turns t.world.words fits place (low_place capacity p place t.world.kept rows))
+        go calls.ResetNext e rows =
+            so calls.ResetNext (under_way.ResetNext (record { call = first_reset capacity; given = tt; room = tt })) (same_flight _ flight e) rows
+            (resets code capacity t.world.turns t.world.words fits)
+        go calls.ResetAll e rows =
+            so calls.ResetAll (under_way.ResetAll (record { call = all_bits capacity; given = tt; room = fresh })) (same_flight _ flight e) rows
+            (empties_all code capacity t.world.turns t.world.words fits)
+    places_begin t p start flight r made free such fits named = absurd (cc)
+
+    pub places_law : capacity_error kinds.Bits capacity ≡ None → Law (places_reading capacity) code kinds.Bits capacity
+    places_law may =
+        let one : 1 + elements capacity ≡ suc (elements capacity) = omega arith in
+        record {
+          later = λ m n words less h. h;
+          opens = λ queue. (
+            record {
+              long = length-replicate {A = ℕ} (1 + elements capacity) 0;
+              small = admitted_bits capacity may;
+              start = subst (λ n. slice_index (replicate {A = ℕ} n 0) 0 ≤ capacity) (sym one) (omega arith);
+            },
+            opened capacity (1 + elements capacity) (bits_words capacity) refl,
+          );
+          begins = places_begin;
+        }
+
+    module _ (few : capacity < 2 ^ 32) where
+      counts_begin : (t : Trace T) (p : ℕ) (start : Start T) (flight : Flight T) → IsReached t → IsMadeSo code kinds.Counts capacity t
+          → refusal_of t.world (Begin p start) ≡ None → every_call start ≡ true → length t.world.words ≡ capacity
+          → first_of kinds.Counts capacity start t.world.kept ≡ Some flight → BeginsSo (counts_reading capacity) code t p start flight
+      counts_begin t p (starts.Bits start) flight r made free such long named =
+          go start named
+          (subst (λ n. first_row (kept_rows n start t.world.kept p) ≡ None) made.capacity
+          (may_begin t.world p (starts.Bits start) (passes t.world (Begin p (starts.Bits start)) free).on).rows)
+        where
+          so : (s : BitsStart) (f : BitsFlight) → flights.Bits f ≡ flight → first_row (kept_rows capacity s t.world.kept p) ≡ None
+              → CountsWhole code capacity t.world.turns t.world.words long s f → BeginsSo (counts_reading capacity) code t p (starts.Bits s) flight
+          so s f is rows runs =
+              record {
+                agrees = has_registry capacity p s flight f t.world.kept is rows;
+                runs = subst (λ x. FlightRuns code (Answers (counts_reading capacity) t.world.turns t.world.words (starts.Bits s)) x t.world.words) is runs;
+              }
+
+          go : (s : BitsStart) → first_of kinds.Counts capacity (starts.Bits s) t.world.kept ≡ Some flight
+              → first_row (kept_rows capacity s t.world.kept p) ≡ None → BeginsSo (counts_reading capacity) code t p (starts.Bits s) flight
+          go (calls.Set place) e rows =
+              so (calls.Set place) (under_way.Count (record { call = add_one; given = place; room = tt })) (same_flight _ flight e) rows
+              (counts code capacity t.world.turns t.world.words long place)
+          go calls.ResetNext e rows = absurd (cc)
+          go calls.ResetAll e rows =
+              so calls.ResetAll (under_way.TakeAll (record { call = all_counts capacity; given = tt; room = fresh })) (same_flight _ flight e) rows
+              (takes_all code capacity t.world.turns t.world.words long few)
+      counts_begin t p start flight r made free such long named = absurd (cc)
+
+    pub counts_law : capacity_error kinds.Counts capacity ≡ None → Law (counts_reading capacity) code kinds.Counts capacity
+    counts_law may =
+        record {
+          later = λ m n words less h. h;
+          opens = λ queue. (length-replicate {A = ℕ} capacity 0, refl);
+          begins = counts_begin (admitted_counts capacity may);
+        }

@@ -1,0 +1,268 @@
+-- The calls of the unique index set, run whole, are those of a stack of free indices.
+use Rattle.std.proofs.Common.{◌≡◌, ℕ, zero, suc, ◌+◌, ◌-◌, ◌/◌, ◌^◌, ◌<◌, ◌≤◌, Bool, true, false, not, Option, Some, None, is_some, List, [], ◌∷◌, ◌++◌, length}
+use Rattle.std.proofs.Common.{get_or, nat_le, replicate, slice_index, slice_index_or, refl, sym, ap, subst, ◌∙◌, arith, length-append}
+use Rattle.std.proofs.lemmas.List.{length-replicate}
+use Rattle.std.proofs.lemmas.List.FromFn.{length-range_with_len}
+use Rattle.std.specs.List.{range_with_len}
+use Rattle.steps.specs.Indices.Unique.{first_acquire, acquire_want, acquire_after, first_release, release_want, release_after, borrowed_after, locked_after}
+use Rattle.steps.specs.Objects.Stacks.{Stack, IsOut, is_free}
+use Rattle.steps.specs.Queues.Ring.{load}
+use Rattle.steps.specs.declared.indices.enums.ReleaseMode.{ReleaseMode}
+use Rattle.steps.specs.declared.indices.enums.ReleaseMode.TheVariants.{Default, LockIfLastIndex}
+use Rattle.steps.specs.declared.indices.looks.BorrowedIndices.{BorrowedIndices}
+use Rattle.steps.specs.declared.indices.looks.IsLocked.{IsLocked}
+use Rattle.steps.specs.declared.indices.unique.Acquire.{Acquire}
+use Rattle.steps.specs.declared.indices.unique.DefaultMode.{DefaultMode}
+use Rattle.steps.specs.declared.indices.unique.LockMode.{LockMode}
+use Rattle.model.specs.declared.event.Answer.TheVariants as answers
+use Rattle.model.specs.declared.event.Start.{Start}
+use Rattle.model.specs.declared.event.Start.TheVariants as starts
+use Rattle.model.specs.declared.families.Flight.{Flight}
+use Rattle.model.specs.declared.families.Flight.TheVariants as flights
+use Rattle.model.specs.declared.families.Registry.{Registry}
+use Rattle.model.specs.declared.families.Registry.TheVariants as registries
+use Rattle.model.specs.declared.families.indices.IndexStart.{IndexStart}
+use Rattle.model.specs.declared.families.indices.IndexStart.TheVariants as calls
+use Rattle.model.specs.declared.families.indices.calls.IndexFlight.TheVariants as under_way
+use Rattle.model.specs.declared.turn.Kind as kinds
+use Rattle.model.specs.declared.turn.Refusal.TheVariants.{NotHeld, BadIndex}
+use Rattle.model.specs.declared.turn.Turn.TheVariants.{Begin}
+use Rattle.model.specs.Coding.{Coding}
+use Rattle.model.specs.Families.{first_of}
+use Rattle.model.specs.Families.Indices.Calls.{first, acquire_answer}
+use Rattle.model.specs.Families.Indices.Opening.{opening_words, flag_words, kept_rows}
+use Rattle.model.specs.Families.Indices.Promises.{IsIndexSet, KeepsHolders}
+use Rattle.model.specs.Families.Queues.Calls.{as_it_is}
+use Rattle.model.specs.Families.Queues.Opening.{holds}
+use Rattle.model.specs.Promises.Families.{promise_of}
+use Rattle.model.specs.Refusals.{refusal_of}
+use Rattle.model.specs.Rows.{first_row}
+use Rattle.model.specs.Turns.{IsReached}
+use Rattle.model.specs.World.{Trace, capacity_error}
+use Rattle.model.proofs.Frame.{is_true}
+use Rattle.model.proofs.Orders.{reached_kept}
+use Rattle.model.proofs.Rows.{passes, may_begin, row_passed}
+use Rattle.machine.proofs.Laws.{laws_of}
+use Rattle.plain.specs.Unique.{stack_in, claimed, Represents}
+use Rattle.plain.proofs.Stacks.Acquires.{Took, take_runs}
+use Rattle.plain.proofs.Stacks.Looks.{count_runs, look_runs}
+use Rattle.plain.proofs.Stacks.Opened.{Linked, all_free}
+use Rattle.plain.proofs.Stacks.Releases.{Gave, give_runs, GaveOrLocked, lock_runs}
+use Rattle.plain.proofs.Walks.{any_low}
+use Rattle.headline_whole.specs.Objects.{every_call, whole_stack}
+use Rattle.headline_whole.proofs.Agree.{Agree}
+use Rattle.headline_whole.proofs.Flights.{FlightRuns, runs_as, twice, same_flight}
+use Rattle.headline_whole.proofs.Law.{IsMadeSo, Reading, Answers, BeginsSo, Law}
+use Rattle.headline_whole.proofs.Owners.{not_past}
+
+-- ---- the opening
+
+pub zeros_at : (n i : ℕ) → get_or (replicate {A = ℕ} n 0) i 0 ≡ 0
+zeros_at zero i = refl
+zeros_at (suc n) zero = refl
+zeros_at (suc n) (suc i) = zeros_at n i
+
+counted_at : (a n i : ℕ) (ys : List ℕ) → i < n → get_or (range_with_len a n ++ ys) i 0 ≡ a + i
+counted_at a zero i ys below = absurd (omega arith)
+counted_at a (suc n) zero ys below = omega arith
+counted_at a (suc n) (suc i) ys below = counted_at (a + 1) n i ys (omega arith) ∙ omega arith
+
+behind_at : (a n j k : ℕ) → n ≤ j → get_or (range_with_len a n ++ replicate {A = ℕ} k 0) j 0 ≡ 0
+behind_at a zero j k past = zeros_at k j
+behind_at a (suc n) zero k past = absurd (omega arith)
+behind_at a (suc n) (suc j) k past = behind_at (a + 1) n j k (omega arith)
+
+opening_long : (c : ℕ) → length (opening_words c) ≡ 1 + c + (c + 63) / 64
+opening_long x0 = grind (arith, length-append, length-range_with_len, length-replicate)
+
+after_index : (c i : ℕ) → i < c → slice_index (opening_words c) (1 + i) ≡ i + 1
+after_index c i below =
+    let place : 1 + i ≡ suc i = omega arith in
+    ap (slice_index (opening_words c)) place ∙ (counted_at 1 c i (replicate (flag_words c) 0) below ∙ omega arith)
+
+past_indices : (c j : ℕ) → c < j → slice_index (opening_words c) j ≡ 0
+past_indices c zero below = absurd (omega arith)
+past_indices c (suc j) below = behind_at 1 c j (flag_words c) (omega arith)
+
+pub admitted : (c : ℕ) → capacity_error kinds.TheVariants.Indices c ≡ None → (1 ≤ c) × (c ≤ 2 ^ 24 - 2)
+admitted x0 x1 = grind arith
+
+linked : (c : ℕ) → Linked c c (opening_words c)
+linked c = record { long = opening_long c; head = refl; next = after_index c; flags = past_indices c }
+
+some_held : (o : Option ℕ) (p : ℕ) → holds o p ≡ true → is_some o ≡ true
+some_held None p e = absurd (cc)
+some_held (Some q) p e = refl
+
+not_free : (b : Bool) → true ≡ not b → b ≡ false
+not_free true e = absurd (cc)
+not_free false e = refl
+
+module _ {T : Type 0} where
+  abbrev pub reading : ℕ → Reading T
+  reading capacity =
+      record {
+        State = Stack;
+        spec = whole_stack capacity;
+        such = every_call;
+        Holds = λ turns words. Represents capacity words;
+        read = stack_in capacity;
+      }
+
+  -- ---- the holder of an index alone releases it, and his index is out
+
+  -- the rows of a release
+  record MayRelease (capacity : ℕ) (kept : Registry T) (p index : ℕ) : Type 0 where
+    pub holders : List (Option ℕ)
+    pub is : kept ≡ registries.Indices holders
+    pub below : index < capacity
+    pub mine : is_some (slice_index_or holders index None) ≡ true
+
+  may_release : (capacity : ℕ) (kept : Registry T) (p index : ℕ) (mode : ReleaseMode)
+      → first_row (kept_rows capacity (calls.Release index mode) kept p) ≡ None → MayRelease capacity kept p index
+  may_release capacity (registries.Indices holders) p index mode e =
+      let held : Bool = not (holds (slice_index_or holders index None) p) in
+      let low : (nat_le capacity index ≡ false) × (first_row ((held, NotHeld) ∷ []) ≡ None) =
+      row_passed (nat_le capacity index) BadIndex (first_row ((held, NotHeld) ∷ [])) e in
+      let own : (not (holds (slice_index_or holders index None) p) ≡ false) × (first_row [] ≡ None) =
+      row_passed (not (holds (slice_index_or holders index None) p)) NotHeld None low.1 in
+      record {
+        holders = holders;
+        is = refl;
+        below = not_past capacity index low.0;
+        mine = some_held (slice_index_or holders index None) p (is_true (holds (slice_index_or holders index None) p) own.0);
+      }
+  may_release capacity kept p index mode e = absurd (cc)
+
+  is_out : (t : Trace T) (p index : ℕ) (mode : ReleaseMode) → IsReached t → t.world.kind ≡ kinds.TheVariants.Indices
+      → refusal_of t.world (Begin p (starts.Indices (calls.Release index mode))) ≡ None → Represents t.world.capacity t.world.words
+      → IsOut (stack_in t.world.capacity t.world.words) index
+  is_out t p index mode r is free fits =
+      let rows = (may_begin t.world p (starts.Indices (calls.Release index mode)) (passes t.world (Begin p (starts.Indices (calls.Release index mode))) free).on).rows in
+      let may = may_release t.world.capacity t.world.kept p index mode rows in
+      let set : IsIndexSet t = subst (λ k. (promise_of {T = T} k).holds t) is (reached_kept laws_of t r).promised in
+      let kept : KeepsHolders (registries.Indices may.holders) t.events = subst (λ k. KeepsHolders k t.events) may.is set.holders in
+      let held : claimed t.world.capacity t.world.words index ≡ true =
+      set.flags index may.below ∙ (ap is_some (sym (kept index)) ∙ may.mine) in
+      (may.below, not_free (is_free (stack_in t.world.capacity t.world.words) index) (sym held ∙ fits.flags index may.below))
+
+  -- ---- each call
+
+  module _ (code : Coding T) (capacity turns : ℕ) (words : List ℕ) (fits : Represents capacity words) where
+    abbrev Whole : IndexStart → Type 0
+    Whole start = FlightRuns code (Answers (reading capacity) turns words (starts.Indices start)) (flights.Indices (first capacity start)) words
+
+    acquires : Whole calls.Acquire
+    acquires =
+        runs_as code (λ (c : Acquire) (given : Unit {0}). acquire_want c) (λ c given old. acquire_after c old) (λ c (room : Unit {0}) old. room) tt
+        (λ c. Unit {0}) (λ c room. flights.Indices (under_way.Acquire (record { call = c; given = tt; room = room }))) (λ e room. acquire_answer e)
+        (record {
+          wants = λ c room low. refl;
+          goes = λ c room old low. twice flights.Indices under_way.Acquire acquire_answer as_it_is tt room (acquire_after c old);
+          stays = λ c old low. any_low (acquire_after c old);
+        })
+        (Took capacity words) (Answers (reading capacity) turns words (starts.Indices calls.Acquire))
+        (λ e room last h. record { said = λ is. ap acquire_answer h.1; holds = h.0; object = h.2 })
+        (first_acquire capacity) tt words tt (take_runs capacity (first_acquire capacity) refl words fits)
+
+    releases : (index : ℕ) → IsOut (stack_in capacity words) index → Whole (calls.Release index Default)
+    releases index out =
+        runs_as code (release_want {M = DefaultMode} false) (λ c given old. release_after false c old) (λ c (room : Unit {0}) old. room) index
+        (λ c. Unit {0}) (λ c room. flights.Indices (under_way.ReleaseDefault (record { call = c; given = index; room = room })))
+        (λ e room. answers.State e)
+        (record {
+          wants = λ c room low. refl;
+          goes = λ c room old low. twice flights.Indices under_way.ReleaseDefault answers.State as_it_is index room (release_after false c old);
+          stays = λ c old low. any_low (release_after false c old);
+        })
+        (Gave capacity index words) (Answers (reading capacity) turns words (starts.Indices (calls.Release index Default)))
+        (λ e room last h. record { said = λ is. ap answers.State h.1; holds = h.0; object = h.2 })
+        (first_release capacity) tt words tt (give_runs DefaultMode capacity index words fits out (first_release capacity) refl)
+
+    locks : (index : ℕ) → IsOut (stack_in capacity words) index → Whole (calls.Release index LockIfLastIndex)
+    locks index out =
+        runs_as code (release_want {M = LockMode} true) (λ c given old. release_after true c old) (λ c (room : Unit {0}) old. room) index
+        (λ c. Unit {0}) (λ c room. flights.Indices (under_way.ReleaseLock (record { call = c; given = index; room = room })))
+        (λ e room. answers.State e)
+        (record {
+          wants = λ c room low. refl;
+          goes = λ c room old low. twice flights.Indices under_way.ReleaseLock answers.State as_it_is index room (release_after true c old);
+          stays = λ c old low. any_low (release_after true c old);
+        })
+        (GaveOrLocked capacity index words) (Answers (reading capacity) turns words (starts.Indices (calls.Release index LockIfLastIndex)))
+        (λ e room last h. record { said = λ is. ap answers.State h.1; holds = h.0; object = h.2 })
+        (first_release capacity) tt words tt (lock_runs LockMode capacity index words fits out (first_release capacity) refl)
+
+    counts : Whole calls.BorrowedIndices
+    counts =
+        runs_as code (λ (c : BorrowedIndices) (given : Unit {0}). load 0) (λ c given old. borrowed_after c old) (λ c (room : Unit {0}) old. room) tt
+        (λ c. Unit {0}) (λ c room. flights.Indices (under_way.BorrowedIndices (record { call = c; given = tt; room = room }))) (λ e room. answers.Number e)
+        (record {
+          wants = λ c room low. refl;
+          goes = λ c room old low. refl;
+          stays = λ c old low. tt;
+        })
+        _ (Answers (reading capacity) turns words (starts.Indices calls.BorrowedIndices))
+        (λ e room last h. record { said = λ is. ap answers.Number h.1; holds = h.0; object = h.2 })
+        (record {}) tt words tt (count_runs capacity words (record {}) fits)
+
+    looks : Whole calls.IsLocked
+    looks =
+        runs_as code (λ (c : IsLocked) (given : Unit {0}). load 0) (λ c given old. locked_after c old) (λ c (room : Unit {0}) old. room) tt
+        (λ c. Unit {0}) (λ c room. flights.Indices (under_way.IsLocked (record { call = c; given = tt; room = room }))) (λ e room. answers.Truth e)
+        (record {
+          wants = λ c room low. refl;
+          goes = λ c room old low. refl;
+          stays = λ c old low. tt;
+        })
+        _ (Answers (reading capacity) turns words (starts.Indices calls.IsLocked))
+        (λ e room last h. record { said = λ is. ap answers.Truth h.1; holds = h.0; object = h.2 })
+        (record {}) tt words tt (look_runs capacity words (record {}) fits)
+
+  -- ---- the law
+
+  has_registry : (capacity p : ℕ) (start : IndexStart) (flight : Flight T) (kept : Registry T) → flights.Indices (first capacity start) ≡ flight
+      → first_row (kept_rows capacity start kept p) ≡ None → Agree (starts.Indices start) flight kept
+  has_registry capacity p start flight (registries.Indices holders) is e =
+      subst (λ f. Agree (starts.Indices start) f (registries.Indices holders)) is tt
+  has_registry capacity p start flight kept is e = absurd (cc)
+
+  module _ (code : Coding T) (capacity : ℕ) where
+    begins : (t : Trace T) (p : ℕ) (start : Start T) (flight : Flight T) → IsReached t → IsMadeSo code kinds.TheVariants.Indices capacity t
+        → refusal_of t.world (Begin p start) ≡ None → every_call start ≡ true → Represents capacity t.world.words
+        → first_of kinds.TheVariants.Indices capacity start t.world.kept ≡ Some flight → BeginsSo (reading capacity) code t p start flight
+    begins t p (starts.Indices start) flight r made free such fits named =
+        let is = same_flight (flights.Indices (first capacity start)) flight named in
+        let rows = (may_begin t.world p (starts.Indices start) (passes t.world (Begin p (starts.Indices start)) free).on).rows in
+        record {
+          agrees = has_registry capacity p start flight t.world.kept is
+              (subst (λ n. first_row (kept_rows n start t.world.kept p) ≡ None) made.capacity rows);
+          runs = subst (λ f. FlightRuns code (Answers (reading capacity) t.world.turns t.world.words (starts.Indices start)) f t.world.words) is
+              (runs start free);
+        }
+      where
+        out : (index : ℕ) (mode : ReleaseMode) → refusal_of t.world (Begin p (starts.Indices (calls.Release index mode))) ≡ None
+            → IsOut (stack_in capacity t.world.words) index
+        out index mode allowed =
+            subst (λ n. IsOut (stack_in n t.world.words) index) made.capacity
+            (is_out t p index mode r made.kind allowed (subst (λ n. Represents n t.world.words) (sym made.capacity) fits))
+
+        runs : (s : IndexStart) → refusal_of t.world (Begin p (starts.Indices s)) ≡ None → Whole code capacity t.world.turns t.world.words fits s
+        runs calls.Acquire allowed = acquires code capacity t.world.turns t.world.words fits
+        runs (calls.Release index Default) allowed = releases code capacity t.world.turns t.world.words fits index (out index Default allowed)
+        runs (calls.Release index LockIfLastIndex) allowed =
+            locks code capacity t.world.turns t.world.words fits index (out index LockIfLastIndex allowed)
+        runs calls.BorrowedIndices allowed = counts code capacity t.world.turns t.world.words fits
+        runs calls.IsLocked allowed = looks code capacity t.world.turns t.world.words fits
+    begins t p start flight r made free such fits named = absurd (cc)
+
+    pub law : capacity_error kinds.TheVariants.Indices capacity ≡ None → Law (reading capacity) code kinds.TheVariants.Indices capacity
+    law may =
+        let some = (admitted capacity may).0 in
+        let few = (admitted capacity may).1 in
+        let first = all_free capacity (opening_words capacity) some few (linked capacity) in
+        record {
+          later = λ m n words less h. h;
+          opens = λ queue. (first.0, first.1);
+          begins = begins;
+        }

@@ -1,0 +1,17 @@
+pub mod Agree
+pub mod AnyQueue
+pub mod BitSets
+pub mod ByKind
+pub mod Flights
+pub mod Indices
+pub mod Law
+pub mod Maps
+pub mod Overflows
+pub mod Owners
+pub mod Queues
+pub mod Rings
+pub mod Runs
+pub mod Sweeps
+pub mod Turns
+pub mod Values
+pub mod Worked

@@ -1,0 +1,56 @@
+-- The laws of a bit set's history, from those of its machine.
+use Rattle.std.proofs.Common.{◌≡◌, ℕ, ◌+◌, ◌≤◌, Bool, true, false, List, sym, ap, subst, ◌∙◌, arith}
+use Rattle.model.specs.declared.event.Event.{Event}
+use Rattle.model.specs.declared.event.Event.TheVariants.{Set, Cleared}
+use Rattle.model.specs.declared.turn.Kind.TheVariants as kinds
+use Rattle.model.specs.Coding.{Coding}
+use Rattle.model.specs.Families.Bits.Promises.{BitsAnswerRight, IsBitSet}
+use Rattle.model.specs.Families.Bits.Reading.{sets, clears, standing}
+use Rattle.model.specs.Reading.{Each}
+use Rattle.model.specs.Turns.{one_if}
+use Rattle.steps.specs.Bits.Words.{stands}
+use Rattle.laws_bits.proofs.Bits.Justified.{bits_go_on}
+use Rattle.history.specs.History.{IsHistory}
+use Rattle.history.proofs.Acts.Finds.{BitFinds, bits_find}
+use Rattle.history_laws.specs.Bits.{ChangesBit}
+
+at_most_one : (b : Bool) → one_if b ≤ 1
+at_most_one true = omega arith
+at_most_one false = omega arith
+
+changes : {T : Type 0} (before : List (Event T)) (e : Event T) → BitFinds before e → ChangesBit before e
+changes before (Set p bit) finds = omega arith
+changes before (Cleared p bit) finds = omega arith
+changes before e finds = tt
+
+module _ {T : Type 0} (code : Coding T) (capacity : ℕ) (events : List (Event T)) (h : IsHistory code kinds.Bits capacity events) where
+  machine : IsBitSet h.trace
+  machine = bits_go_on h.trace h.run.of_kind h.run.reached
+
+  as_often : (bit : ℕ) → sets bit events ≡ clears bit events + one_if (stands h.trace.world.words bit)
+  as_often bit =
+      let all = machine.conserved bit in
+      let s = ap (sets bit) h.is in
+      let c = ap (clears bit) h.is in
+      omega arith
+
+  pub conserved : (bit : ℕ) → sets bit events ≡ clears bit events + standing bit events
+  conserved bit = let all = as_often bit in omega arith
+
+  pub once : (bit : ℕ) → standing bit events ≤ 1
+  once bit =
+      let all = as_often bit in
+      let few = at_most_one (stands h.trace.world.words bit) in
+      omega arith
+
+  pub within : (bit : ℕ) → capacity ≤ bit → sets bit events ≡ 0
+  within bit past = ap (sets bit) h.is ∙ machine.within bit (let same = h.run.sized in omega arith)
+
+  pub answers : Each (BitsAnswerRight capacity) events
+  answers =
+      subst (λ n. Each (BitsAnswerRight n) events) h.run.sized
+      (subst (Each (BitsAnswerRight h.trace.world.capacity)) (sym h.is) machine.answers)
+
+  pub changed : Each ChangesBit events
+  changed before after e is =
+      changes before e (bits_find h.trace h.run.of_kind h.run.reached before after e (sym h.is ∙ is))

@@ -1,0 +1,213 @@
+-- The laws of a unique index set's history, from those of its machine.
+use Rattle.std.proofs.Common.{◌≡◌, ℕ, ◌+◌, ◌≤◌, ◌==◌, Bool, true, false, Option, Some, None, is_some, List, [], ◌∷◌, ◌++◌}
+use Rattle.std.proofs.Common.{if◌then◌else◌, refl, sym, ap, subst, ◌∙◌, append_assoc, append-nil, arith, sum_by}
+use Rattle.std.proofs.lemmas.List.Sums.{fold-append, sum_by-append, sum_by-cons, sum_by_push}
+use Rattle.model.specs.declared.event.Event.{Event}
+use Rattle.model.specs.declared.event.Event.TheVariants.{Claimed, Freed, Locked, Finished}
+use Rattle.model.specs.declared.event.Start.TheVariants.{Indices}
+use Rattle.model.specs.declared.turn.Kind.TheVariants as kinds
+use Rattle.model.specs.Coding.{Coding}
+use Rattle.model.specs.Families.Indices.Promises.{HoldsRight, AnswersRight, IsIndexSet, promise}
+use Rattle.model.specs.Families.Indices.Reading.{holder_after, holder_of, locked_after, is_locked, tally_of}
+use Rattle.model.specs.Families.Indices.Spans.{set_acts, done_by}
+use Rattle.model.specs.Promises.{IsKeptBy}
+use Rattle.model.specs.Promises.Families.{promise_of}
+use Rattle.model.specs.Promises.Spans.{StandsRight}
+use Rattle.model.specs.Reading.{Each, whose, is_party, span_of}
+use Rattle.model.specs.Turns.{one_if}
+use Rattle.laws_indices.proofs.Sound.{kept_on}
+use Rattle.history.specs.Held.{claims, frees, Holds}
+use Rattle.history.specs.History.{IsHistory}
+use Rattle.history.specs.Known.{own_of, events_by, owned, if_owned}
+use Rattle.history.proofs.Acts.Marks.{is_number}
+use Rattle.history.proofs.Acts.Ways.{open_for, along}
+use Rattle.history.proofs.Held.{held_by}
+use Rattle.history.proofs.Indices.{is_index_set}
+use Rattle.history_laws.specs.Indices.{held_below, DidAsAnswered, IsSound}
+use Rattle.history_laws.proofs.IndicesHeld.{held_is}
+use Rattle.history_laws.proofs.IndicesSpans.{IsSince, since_of}
+
+-- ---- one event
+
+module _ {T : Type 0} where
+  abbrev held_once : ℕ → List (Event T) → ℕ
+  held_once i events = one_if (is_some (holder_of i events))
+
+  module _ (c i : ℕ) (before : List (Event T)) where
+    abbrev after : Event T → ℕ
+    after e = one_if (is_some (holder_after i (holder_of i before) e))
+
+    -- an index is claimed once more than it is freed where it has a holder
+    moves : (e : Event T) → HoldsRight c before e → claims i e + held_once i before ≡ frees i e + after e
+    moves (Claimed p index) h = go (index == i) refl
+      where
+        go : (b : Bool) → (index == i) ≡ b → claims {T = T} i (Claimed p index) + held_once i before ≡ 0 + after (Claimed p index)
+        go true t =
+            let none : held_once i before ≡ 0 = ap (λ (o : Option ℕ). one_if (is_some o)) (subst (λ n. holder_of n before ≡ None) (is_number index i t) h.1) in
+            rw t (omega arith)
+        go false t = rw t refl
+    moves (Freed p index) h = go (index == i) refl
+      where
+        go : (b : Bool) → (index == i) ≡ b → 0 + held_once i before ≡ frees {T = T} i (Freed p index) + after (Freed p index)
+        go true t =
+            let some : held_once i before ≡ 1 = ap (λ (o : Option ℕ). one_if (is_some o)) (subst (λ n. holder_of n before ≡ Some p) (is_number index i t) h) in
+            rw t (omega arith)
+        go false t = rw t (omega arith)
+    moves e h = refl
+
+    -- no index behind the last is claimed
+    behind : c ≤ i → (e : Event T) → HoldsRight c before e → claims i e ≡ 0
+    behind past (Claimed p index) h = go (index == i) refl
+      where
+        go : (b : Bool) → (index == i) ≡ b → claims {T = T} i (Claimed p index) ≡ 0
+        go true t =
+            let same : index ≡ i = is_number index i t in
+            let low = h.0 in
+            absurd (omega arith)
+        go false t = rw t refl
+    behind past e h = refl
+
+    -- none is claimed where the set is locked
+    unclaimed : is_locked before ≡ true → (e : Event T) → HoldsRight c before e → claims i e ≡ 0
+    unclaimed shut (Claimed p index) h = let open_is = h.2 in absurd (cc)
+    unclaimed shut e h = refl
+
+    -- nobody holds an index of a set that is locked
+    unheld : (is_locked before ≡ true → holder_of i before ≡ None) → (e : Event T) → HoldsRight c before e
+        → locked_after (is_locked before) e ≡ true → holder_after i (holder_of i before) e ≡ None
+    unheld none (Locked p) h shut = h.0 i
+    unheld none (Claimed p index) h shut = let open_is = h.2 in absurd (cc)
+    unheld none (Freed p index) h shut = go (index == i) refl
+      where
+        go : (b : Bool) → (index == i) ≡ b → holder_after {T = T} i (holder_of i before) (Freed p index) ≡ None
+        go true t = rw t refl
+        go false t = rw t (none shut)
+    unheld none e h shut = none shut
+
+  locked_one : (e : Event T) → locked_after true e ≡ true
+  locked_one (Locked p) = refl
+  locked_one e = refl
+
+  -- ---- all events
+
+  module _ (c : ℕ) (events : List (Event T)) (each : Each (HoldsRight c) events) where
+    unheld_there : (i : ℕ) (before after : List (Event T)) → events ≡ before ++ after → is_locked before ≡ true → holder_of i before ≡ None
+    unheld_there i before after is =
+        along events (λ h. is_locked h ≡ true → holder_of i h ≡ None)
+        (λ h rest e at none shut.
+        fold-append (holder_after i) None h (e ∷ [])
+        ∙ unheld c i h none e (each h rest e at) (sym (fold-append locked_after false h (e ∷ [])) ∙ shut))
+        (λ shut. refl) before after is
+
+    unclaimed_since : (i : ℕ) (before es : List (Event T)) → events ≡ before ++ es → is_locked before ≡ true → sum_by (claims i) es ≡ 0
+    unclaimed_since i before [] is shut = refl
+    unclaimed_since i before (e ∷ es) is shut =
+        let later : is_locked (before ++ e ∷ []) ≡ true =
+        fold-append locked_after false before (e ∷ []) ∙ (ap (λ b. locked_after b e) shut ∙ locked_one e) in
+        let rest = unclaimed_since i (before ++ e ∷ []) es (is ∙ sym (append_assoc before (e ∷ []) es)) later in
+        let here = unclaimed c i before shut e (each before es e is) in
+        let sum = sum_by-cons (claims i) e es in
+        omega arith
+
+    adds_up : (i : ℕ) → sum_by (claims i) events ≡ sum_by (frees i) events + held_once i events
+    adds_up i =
+        along events (λ h. sum_by (claims i) h ≡ sum_by (frees i) h + held_once i h)
+        (λ h rest e at so. (
+        let claimed = sum_by_push (claims i) h e in
+        let freed = sum_by_push (frees i) h e in
+        let moved = moves c i h e (each h rest e at) in
+        let held : held_once i (h ++ e ∷ []) ≡ one_if (is_some (holder_after i (holder_of i h) e)) =
+        ap (λ (o : Option ℕ). one_if (is_some o)) (fold-append (holder_after i) None h (e ∷ [])) in
+        omega arith))
+        refl events [] (sym (append-nil events))
+
+    none_behind : (i : ℕ) → c ≤ i → sum_by (claims i) events ≡ 0
+    none_behind i past =
+        along events (λ h. sum_by (claims i) h ≡ 0)
+        (λ h rest e at none. (
+        let sum = sum_by_push (claims i) h e in
+        let here = behind c i h past e (each h rest e at) in
+        omega arith))
+        refl events [] (sym (append-nil events))
+
+  own_one : (p : ℕ) (f : Event T → ℕ) (e : Event T) (o : Option ℕ)
+      → sum_by f (if is_party p o then e ∷ [] else []) ≡ if_owned (λ q. q) p o (f e)
+  own_one p f e None = refl
+  own_one p f e (Some q) = go (q == p) refl
+    where
+      go : (b : Bool) → (q == p) ≡ b → sum_by f (if q == p then e ∷ [] else []) ≡ (if q == p then f e else 0)
+      go true t = rw t (omega arith)
+      go false t = rw t refl
+
+  -- what a party's events come to
+  own_sum : (p : ℕ) (f : Event T → ℕ) (events : List (Event T)) → sum_by f (events_by p events) ≡ sum_by (owned (λ q. q) p f) events
+  own_sum p f [] = refl
+  own_sum p f (e ∷ es) =
+      let rest = own_sum p f es in
+      let both = sum_by-append f (own_of p e) (events_by p es) in
+      let one = sum_by-cons (owned (λ q. q) p f) e es in
+      let first = own_one p f e (whose e) in
+      omega arith
+
+-- ---- the laws
+
+module _ {T : Type 0} (code : Coding T) (capacity : ℕ) (events : List (Event T)) (h : IsHistory code kinds.Indices capacity events) where
+  machine : IsIndexSet h.trace
+  machine = is_index_set h.trace h.run.of_kind h.run.reached
+
+  holds : Each (HoldsRight capacity) events
+  holds =
+      subst (λ n. Each (HoldsRight n) events) h.run.sized
+      (subst (Each (HoldsRight h.trace.world.capacity)) (sym h.is) machine.holds)
+
+  answers : Each (AnswersRight capacity) events
+  answers =
+      subst (λ n. Each (AnswersRight n) events) h.run.sized
+      (subst (Each (AnswersRight h.trace.world.capacity)) (sym h.is) machine.answers)
+
+  spans : Each (StandsRight promise h.trace.world.capacity) events
+  spans =
+      let kept : IsKeptBy promise h.trace =
+      subst (λ P. IsKeptBy P h.trace) (ap (promise_of {T = T}) h.run.of_kind) (kept_on h.trace h.run.of_kind h.run.reached) in
+      subst (Each (StandsRight promise h.trace.world.capacity)) (sym h.is) kept.spans
+
+  did_so : (before : List (Event T)) (e : Event T) → StandsRight promise h.trace.world.capacity before e → DidAsAnswered before e
+  did_so before (Finished p (Indices start) answer) right =
+      let under = open_for (Indices start) (λ wrote. done_by start answer ≡ Some (set_acts wrote)) (span_of p before) right in
+      let s : IsSince p (Indices start) under.wrote before = since_of p before (Indices start) under.wrote under.is in
+      record {
+        before = s.before;
+        since = s.since;
+        is = s.is;
+        within = s.within;
+        did = under.holds ∙ ap (λ (es : List (Event T)). Some (set_acts es)) (sym s.own);
+      }
+  did_so before e right = tt
+
+  pub sound : IsSound capacity events
+  sound =
+      record {
+        holds = holds;
+        did = λ before after e is. did_so before e (spans before after e is);
+        answers = answers;
+      }
+
+  pub held_none : (before after : List (Event T)) → events ≡ before ++ after → is_locked before ≡ true → (i : ℕ) → holder_of i before ≡ None
+  held_none before after is shut i = unheld_there capacity events holds i before after is shut
+
+  pub claimed_none : (before after : List (Event T)) → events ≡ before ++ after → is_locked before ≡ true → (i : ℕ) → sum_by (claims i) after ≡ 0
+  claimed_none before after is shut i = unclaimed_since capacity events holds i before after is shut
+
+  pub conserved : (i : ℕ) → sum_by (claims i) events ≡ sum_by (frees i) events + one_if (is_some (holder_of i events))
+  conserved i = adds_up capacity events holds i
+
+  pub within : (i : ℕ) → capacity ≤ i → sum_by (claims i) events ≡ 0
+  within i past = none_behind capacity events holds i past
+
+  pub sole : (p i : ℕ) → Holds i (events_by p events) → holder_of i events ≡ Some p
+  sole p i once =
+      let by = held_by (λ q. q) p capacity i events (events_by p events) holds (λ f. own_sum p f events) once in
+      by.2 ∙ ap Some by.1
+
+  pub counted : (before after : List (Event T)) → events ≡ before ++ after → (tally_of before).held ≡ held_below capacity before
+  counted before after is = held_is capacity events holds before after is

@@ -1,0 +1,11 @@
+use Rattle.history_laws.proofs.BitsSums.{conserved, once, within}
+use Rattle.history_laws.proofs.bits.bits_are_conserved.Goals as goal
+
+pub returns-clause-conserved : goal.returns-clause-conserved
+returns-clause-conserved g c code capacity events h bit = conserved code capacity events h bit
+
+pub returns-clause-once : goal.returns-clause-once
+returns-clause-once g c code capacity events h bit = once code capacity events h bit
+
+pub returns-clause-within : goal.returns-clause-within
+returns-clause-within g c code capacity events h bit past = within code capacity events h bit past

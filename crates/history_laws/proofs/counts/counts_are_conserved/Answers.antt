@@ -1,0 +1,8 @@
+use Rattle.history_laws.proofs.CountsSums.{conserved, within}
+use Rattle.history_laws.proofs.counts.counts_are_conserved.Goals as goal
+
+pub returns-clause-conserved : goal.returns-clause-conserved
+returns-clause-conserved g c code capacity events h place = conserved code capacity events h place
+
+pub returns-clause-within : goal.returns-clause-within
+returns-clause-within g c code capacity events h place past = within code capacity events h place past

@@ -1,0 +1,5 @@
+use Rattle.history_laws.proofs.OwnersLaws.{none_overlap}
+use Rattle.history_laws.proofs.owners.calls_that_lock_are_apart.Goals as goal
+
+pub returns : goal.returns
+returns g c events none = none_overlap events none

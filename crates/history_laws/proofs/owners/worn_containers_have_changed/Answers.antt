@@ -1,0 +1,5 @@
+use Rattle.history_laws.proofs.OwnersLaws.{worn_container}
+use Rattle.history_laws.proofs.owners.worn_containers_have_changed.Goals as goal
+
+pub returns : goal.returns
+returns g c code capacity events worn apart = worn_container code capacity events worn apart

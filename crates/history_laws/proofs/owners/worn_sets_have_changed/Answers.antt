@@ -1,0 +1,5 @@
+use Rattle.history_laws.proofs.OwnersLaws.{worn_set}
+use Rattle.history_laws.proofs.owners.worn_sets_have_changed.Goals as goal
+
+pub returns : goal.returns
+returns c capacity events worn apart = worn_set capacity events worn apart

@@ -1,0 +1,5 @@
+-- What the laws speak of.
+pub mod Indices
+pub mod Bits
+pub mod Counts
+pub mod Owners

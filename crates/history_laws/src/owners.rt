@@ -1,0 +1,28 @@
+//! How long the counter of a robust unique index set, or of a container, can be told not to be at its end. Where it may be,
+//! an acquire that got no index, an add that found no place and a lock that was not made tell nothing else. These functions
+//! do nothing: the contract of each is a law, whose proof is a lemma that a client's proof can cite.
+ghost use Rattle.std.specs.Prelude.{◌≡◌, ◌-◌, ◌*◌, ◌^◌, ◌≤◌, ℕ, List};
+ghost use Rattle.model.specs.declared.event.Event.{Event};
+ghost use Rattle.model.specs.Coding.{Coding};
+ghost use Rattle.lock_free_owners.specs.Robust.Told.{IsWorn};
+ghost use Rattle.lock_free_owners.specs.Container.Told as containers;
+ghost use Rattle.history_laws.specs.Owners.{changes, lock_calls, LocksApart};
+
+/// Where no two calls that may lock overlap, the counter is at its end only after a third of 2^64 - 2 changes: indices
+/// filled or freed, and counts begun. Of two that overlap each can make the other count again, and raise the counter, any
+/// number of times. The lemma is `worn_set` of `proofs/OwnersLaws.antt`.
+pub fn worn_sets_have_changed()
+    ensures { (capacity : ℕ) (events : List (Event ℕ)) → IsWorn capacity events → LocksApart events
+        → 2 ^ 64 - 2 ≤ 3 * changes events }
+{}
+
+/// The same of a container. The lemma is `worn_container` there.
+pub fn worn_containers_have_changed<T>()
+    ensures { (code : Coding T) (capacity : ℕ) (events : List (Event T)) → containers.IsWorn code capacity events → LocksApart events
+        → 2 ^ 64 - 2 ≤ 3 * changes events }
+{}
+
+/// Where no call that may lock was begun, no two overlap. The lemma is `none_overlap` there.
+pub fn calls_that_lock_are_apart<T>()
+    ensures { (events : List (Event T)) → lock_calls events ≡ 0 → LocksApart events }
+{}

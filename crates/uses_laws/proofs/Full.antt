@@ -1,0 +1,66 @@
+-- In a young history who was refused for want of an index met a full pool.
+use Rattle.std.proofs.Common.{◌≡◌, ⊎_elim, ℕ, ◌-◌, ◌*◌, ◌^◌, ◌≤◌, Err, List, sum_by, refl, sym, ap, subst, arith}
+use Rattle.steps.specs.declared.indices.enums.UniqueIndexSetAcquireFailure.TheVariants.{OutOfIndices}
+use Rattle.model.specs.declared.event.Answer.TheVariants.{NoIndex}
+use Rattle.model.specs.declared.event.Start.TheVariants.{Robust}
+use Rattle.model.specs.declared.families.indices.robust.RobustStart.TheVariants.{Acquire}
+use Rattle.model.specs.Families.Indices.Robust.Promises.{IsFilled}
+use Rattle.model.specs.Moments.{HeldSometime}
+use Rattle.model.proofs.Moments.{held_later}
+use Rattle.lock_free.specs.Event.{Event}
+use Rattle.lock_free.specs.Event.TheVariants.{Begun, Finished}
+use Rattle.lock_free.specs.HistoryView.View.{View}
+use Rattle.lock_free.specs.Robust.Told.{HasTaken, WasRefused, IsWorn}
+use Rattle.lock_free.proofs.Sums.{sum_made}
+use Rattle.history_laws.specs.Owners.{change, changes, lock_call, lock_calls, LocksApart}
+use Rattle.uses_laws.specs.Leases.{IsYoung, WasFull}
+
+-- the laws of the counter
+pub record Laws : Type 0 where
+  pub worn : (capacity : ℕ) (events : List (Event ℕ)) → IsWorn capacity events → LocksApart events → 2 ^ 64 - 2 ≤ 3 * changes events
+  pub apart : (events : List (Event ℕ)) → lock_calls events ≡ 0 → LocksApart events
+
+module _ (owner : ℕ) (old new : View ℕ) (taken : HasTaken owner (Err OutOfIndices) old new) where
+  -- a refusal changes nothing
+  same_of : (f : Event ℕ → ℕ) → ((p : ℕ) → f (Begun p (Robust (Acquire owner))) ≡ 0) → ((p : ℕ) → f (Finished p (Robust (Acquire owner)) (NoIndex OutOfIndices)) ≡ 0) → sum_by f new.made ≡ sum_by f old.made
+  same_of f begins ends =
+      let all = sum_made f taken.by (Robust (Acquire owner)) (NoIndex OutOfIndices) taken.wrote old new taken.called in
+      let none = ap (sum_by f) taken.tells in
+      let a = begins taken.by in
+      let b = ends taken.by in
+      omega arith
+
+  still_young : IsYoung old.made → IsYoung new.made
+  still_young young =
+      let locks = same_of lock_call (λ p. refl) (λ p. refl) in
+      let more = same_of change (λ p. refl) (λ p. refl) in
+      let was = young.unlocked in
+      let few = young.few in
+      record { unlocked = omega arith; few = omega arith }
+
+-- what was seen is what was made
+module _ (v : View ℕ) (whole : (f : Event ℕ → ℕ) → sum_by f v.seen ≡ sum_by f v.made) where
+  seen_young : IsYoung v.made → IsYoung v.seen
+  seen_young young =
+      let locks = whole lock_call in
+      let all = whole change in
+      let was = young.unlocked in
+      let few = young.few in
+      record { unlocked = omega arith; few = omega arith }
+
+pub was_full : Laws → (owner : ℕ) (old new : View ℕ) → HasTaken owner (Err OutOfIndices) old new → WasRefused owner OutOfIndices old new
+    → ((f : Event ℕ → ℕ) → sum_by f new.seen ≡ sum_by f new.made) → IsYoung old.made → WasFull old.capacity new.seen
+was_full laws owner old new taken refused whole young =
+    let now = seen_young new whole (still_young owner old new taken young) in
+    let last = refused.answered in
+    ⊎_elim
+    (λ worn. (
+    let many = laws.worn old.capacity new.seen worn (laws.apart new.seen now.unlocked) in
+    let few = now.few in
+    absurd (omega arith)))
+    (λ full. record {
+      by = last.by;
+      full = λ index below. subst (HeldSometime last.by (IsFilled index)) (sym last.is)
+          (held_later last.by (IsFilled index) last.before _ tt (full index below));
+    })
+    last.right.1

@@ -1,0 +1,7 @@
+-- The proofs of the clients.
+pub mod Linear
+pub mod Added
+pub mod Again
+pub mod Shared
+pub mod Drained
+pub mod Full

@@ -1,0 +1,17 @@
+use Rattle.std.proofs.Common.{sym, subst}
+use Rattle.lock_free.specs.Coding.{one_word}
+use Rattle.lock_free.specs.Shares.{IsAll}
+use Rattle.lock_free.specs.Counts.Calls.{view, history, share, set_of}
+use Rattle.uses_laws.proofs.Drained.{drained}
+use Rattle.uses_laws.proofs.drain.drain.Goals as goal
+
+pub returns : goal.returns
+returns c place low few =
+    let old = c.args.pass.now in
+    let new = c.reset_all.new.pass in
+    let whole : IsAll (share new) = subst IsAll (sym c.reset_all.ensures.goes_on.share) c.requires.whole in
+    drained _ _ _ (view old) (view new) c.reset_all.ensures.taken c.reset_all.ensures.stood (c.requires.all c.requires.whole)
+    (c.reset_all.ensures.goes_on.all whole)
+    (c.counts_are_taken_whole.ensures one_word (set_of new).capacity (history new) c.reset_all.ensures.goes_on.history)
+    (c.counts_are_conserved.ensures.conserved one_word (set_of new).capacity (history new) c.reset_all.ensures.goes_on.history)
+    place low few

@@ -1,0 +1,25 @@
+-- Two pushes in an order of the calls of all threads.
+use Rattle.std.specs.Prelude.{◌≡◌, ◌<◌, ℕ, true, Some, List}
+use Rattle.std.specs.List.{slice_get}
+use Rattle.model.specs.declared.event.Answer.{Answer}
+use Rattle.model.specs.declared.event.Answer.TheVariants.{Truth}
+use Rattle.model.specs.declared.event.Event.{Event}
+use Rattle.model.specs.declared.event.Start.TheVariants.{Queues}
+use Rattle.model.specs.declared.families.queues.QueueKind.TheVariants.{IndexQueue}
+use Rattle.model.specs.declared.families.queues.QueueStart.TheVariants.{PushIndex}
+use Rattle.model.specs.Linearizable.{Call, IsLinearizable}
+use Rattle.model.specs.Linearized.{as_list}
+
+-- at this place stands a push of this number, which answers true
+abbrev pub IsPushAt : List (Call ℕ × Answer ℕ) → ℕ → ℕ → Type 0
+IsPushAt sequential place number =
+    (call : Call ℕ) × (slice_get sequential place ≡ Some (call, Truth true)) × (call.start ≡ Queues (PushIndex number))
+
+-- the calls have a linearization in which a push of the one number stands before a push of the other
+pub record PushedInOrder (capacity first second : ℕ) (events : List (Event ℕ)) : Type 0 where
+  pub order : IsLinearizable (as_list IndexQueue capacity) events
+  pub place : ℕ
+  pub later : ℕ
+  pub before : place < later
+  pub first_push : IsPushAt order.sequential place first
+  pub second_push : IsPushAt order.sequential later second

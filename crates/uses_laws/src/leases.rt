@@ -1,0 +1,32 @@
+//! A pool of indices that can be told to be full. An acquire answers `OutOfIndices` also where the set's counter is at its
+//! end, so by itself the answer tells nothing of the indices. In a history of few changes it does, and who has the whole
+//! right to know counts the changes by what he made.
+ghost use Rattle.std.specs.Prelude.{◌≡◌, Err};
+ghost use Rattle.steps.specs.declared.indices.enums.UniqueIndexSetAcquireFailure.TheVariants.{OutOfIndices};
+ghost use Rattle.lock_free.specs.RobustUniqueIndexSet.{history, made, set_of, share, view, IsPassOf};
+ghost use Rattle.lock_free.specs.Shares.{IsAll};
+ghost use Rattle.uses_laws.specs.Leases.{IsYoung, WasFull};
+
+use history_laws::owners;
+use lock_free::mpmc::robust_unique_index_set::{OwnerId, Pass, RobustUniqueIndexSet};
+use lock_free::mpmc::unique_index_set_enums::UniqueIndexSetAcquireFailure;
+use std::sync::Wait;
+
+/// Leases an index to the owner. Where there is none in a pool of which this pass has the whole history, and in which
+/// it has made few changes, each index had an owner at a moment of the call.
+pub fn lease(
+    rt: &impl Wait,
+    pool: &RobustUniqueIndexSet,
+    owner: OwnerId,
+    pass: &mut Pass,
+) -> Result<usize, UniqueIndexSetAcquireFailure>
+    requires pass { IsPassOf pool.now pass.old }
+    requires whole { IsAll (share pass.old) }
+    requires young { IsYoung (made pass.old) }
+    ensures set { set_of pass.new ≡ set_of pass.old }
+    ensures full { result ≡ Err OutOfIndices → WasFull (view pass.old).capacity (history pass.new) }
+{
+    owners::worn_sets_have_changed();
+    owners::calls_that_lock_are_apart::<u64>();
+    pool.acquire(rt, owner, pass)
+}

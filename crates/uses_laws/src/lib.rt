@@ -1,0 +1,10 @@
+//! Small clients whose contracts need a law of the whole history: each module shows what one law is for.
+#![tactic(auto)]
+
+pub mod acts;
+pub mod drain;
+pub mod leases;
+pub mod order;
+pub mod sole;
+pub mod totals;
+pub mod twice;

@@ -1,0 +1,24 @@
+//! What a caller did itself stands in a linearization of the calls of all threads, in the order in which it was done.
+
+ghost use Rattle.std.specs.Prelude.{IsTrue};
+ghost use Rattle.lock_free.specs.Queues.Calls.{producer_queue, producer_view};
+ghost use Rattle.uses_laws.specs.Order.{PushedInOrder};
+
+use history_laws::{calls_are_in_order, calls_stand};
+use lock_free::spsc::index_queue::Producer;
+use lock_free::spsc_laws::histories_are_linearizable;
+
+/// Pushes two numbers, one after the other: whether both were taken. Then the calls of all threads have a linearization in
+/// which the first push stands before the second.
+pub fn push_both(producer: &mut Producer<'_>, first: u64, second: u64) -> bool
+    ensures { IsTrue result → PushedInOrder (producer_queue producer.old).capacity first second
+        (producer_view producer.new).seen }
+{
+    calls_stand::<u64>();
+    calls_are_in_order::<u64>();
+    histories_are_linearizable::<u64>();
+    if !producer.push(first) {
+        return false;
+    }
+    producer.push(second)
+}
