@@ -5,6 +5,8 @@
 #[cfg(test)]
 mod bus;
 #[cfg(test)]
+mod closes;
+#[cfg(test)]
 mod closures;
 #[cfg(test)]
 mod crossing;

@@ -130,9 +130,10 @@ impl<'a> User for OwnerUser<'a> {
         })
     }
 
-    fn turn(&mut self, rt: &impl Wait, _at: u64) -> Option<bool> {
+    /// It rests each sixteenth time.
+    fn turn(&mut self, rt: &impl Wait, at: u64) -> Option<bool> {
         let index = self.acquire(rt)?;
-        let alone = self.holders.stay(index);
+        let alone = self.holders.stay(index, at % 16 == 0);
         let state = self.release(rt, index, ReleaseMode::Default);
         Some(alone && state == Some(ReleaseState::Unlocked))
     }
