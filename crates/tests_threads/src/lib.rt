@@ -1,5 +1,4 @@
-//! Threads that run side by side, on what they share: each gives up, and its test fails, after half a minute. And further
-//! handles of each structure, for as many threads.
+//! Threads that run side by side, on what they share: each gives up, and its test fails, after half a minute.
 #![tactic(auto)]
 
 #[cfg(test)]
@@ -16,8 +15,6 @@ mod ends;
 mod hall;
 #[cfg(test)]
 mod holders;
-#[cfg(test)]
-mod inside;
 #[cfg(test)]
 mod last;
 #[cfg(test)]
@@ -40,10 +37,6 @@ mod pairs;
 mod queues;
 #[cfg(test)]
 mod roles;
-#[cfg(test)]
-mod slow;
-#[cfg(test)]
-mod splits;
 #[cfg(test)]
 mod tasks;
 #[cfg(test)]

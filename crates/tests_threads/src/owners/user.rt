@@ -130,10 +130,9 @@ impl<'a> User for OwnerUser<'a> {
         })
     }
 
-    /// It rests each sixteenth time.
-    fn turn(&mut self, rt: &impl Wait, at: u64) -> Option<bool> {
+    fn turn(&mut self, rt: &impl Wait, _at: u64) -> Option<bool> {
         let index = self.acquire(rt)?;
-        let alone = self.holders.stay(index, at % 16 == 0);
+        let alone = self.holders.stay(index);
         let state = self.release(rt, index, ReleaseMode::Default);
         Some(alone && state == Some(ReleaseState::Unlocked))
     }
