@@ -1,5 +1,6 @@
 -- A call of a machine that runs alone, step by step, and how a call of the crate `steps` becomes one.
-use Rattle.std.proofs.Common.{◌≡◌, ℕ, zero, suc, ◌-◌, ◌^◌, ◌≤◌, ◌==◌, Bool, true, false, Option, Some, List, refl, sym, subst, arith, slice_index, slice_set, if◌then◌else◌}
+use Rattle.std.proofs.Common.{◌≡◌, ℕ, zero, suc, ◌-◌, ◌^◌, ◌≤◌, ◌==◌, Bool, true, false, Option, Some, List, refl, sym}
+use Rattle.std.proofs.Common.{subst, arith, slice_index, slice_set, if◌then◌else◌}
 use Rattle.std.proofs.lemmas.List.{set-get_or}
 use Rattle.steps.specs.Ask.{written}
 use Rattle.steps.specs.Routine.{went_on}

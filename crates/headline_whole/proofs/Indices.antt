@@ -138,7 +138,9 @@ module _ {T : Type 0} where
       → refusal_of t.world (Begin p (starts.Indices (calls.Release index mode))) ≡ None → Represents t.world.capacity t.world.words
       → IsOut (stack_in t.world.capacity t.world.words) index
   is_out t p index mode r is free fits =
-      let rows = (may_begin t.world p (starts.Indices (calls.Release index mode)) (passes t.world (Begin p (starts.Indices (calls.Release index mode))) free).on).rows in
+      let rows =
+      (may_begin t.world p (starts.Indices (calls.Release index mode))
+      (passes t.world (Begin p (starts.Indices (calls.Release index mode))) free).on).rows in
       let may = may_release t.world.capacity t.world.kept p index mode rows in
       let set : IsIndexSet t = subst (λ k. (promise_of {T = T} k).holds t) is (reached_kept laws_of t r).promised in
       let kept : KeepsHolders (registries.Indices may.holders) t.events = subst (λ k. KeepsHolders k t.events) may.is set.holders in

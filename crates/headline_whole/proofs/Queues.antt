@@ -200,7 +200,8 @@ module _ {T : Type 0} where
     value_has (starts.Queues s) flight kept e = (s, refl, e)
     value_has start flight kept e = absurd (cc)
 
-    pub value_law : capacity_error kinds.Queue capacity ≡ None → Law (list_reading queues.Queue capacity (Holds code.size capacity) value_items) code kinds.Queue capacity
+    pub value_law : capacity_error kinds.Queue capacity ≡ None
+        → Law (list_reading queues.Queue capacity (Holds code.size capacity) value_items) code kinds.Queue capacity
     value_law may =
         queue_law code queues.Queue kinds.Queue capacity (Holds code.size capacity) value_items value_has
         (λ turns words early h. value_own turns words early h)

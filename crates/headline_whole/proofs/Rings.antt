@@ -124,7 +124,8 @@ module _ {T V : Type 0} (value_of : List ℕ → V) (size capacity : ℕ) (item 
             let first : slice_index last 1 ≡ slice_index words 1 = ap (λ (q : Bounded V). q.first) p.2 ∙ first_then in
             let values : (list_in value_of size capacity last).values ≡ appended capacity (list_in value_of size capacity words).values value =
             ap (λ (q : Bounded V). q.values) p.2 ∙ values_then in
-            let few : length (appended capacity (list_in value_of size capacity words).values value) ≤ length (list_in value_of size capacity words).values + 1 =
+            let few : length (appended capacity (list_in value_of size capacity words).values value)
+            ≤ length (list_in value_of size capacity words).values + 1 =
             longer_if (nat_lt (length (list_in value_of size capacity words).values) capacity) (list_in value_of size capacity words).values value in
             let same : length (list_in value_of size capacity last).values ≡ length (appended capacity (list_in value_of size capacity words).values value) =
             ap (λ (xs : List V). length xs) values in (
@@ -165,7 +166,8 @@ module _ {T V : Type 0} (value_of : List ℕ → V) (size capacity : ℕ) (item 
     pub still : Holds size capacity (turns + 1) words
     still = let low = h.1 in (h.0, omega arith)
 
-    pub role_so : (at new : ℕ) → 2 ≤ at → at < 4 → Holds size capacity (turns + 1) (slice_set words at new) × (items_in (slice_set words at new) ≡ items_in words)
+    pub role_so : (at new : ℕ) → 2 ≤ at → at < 4
+        → Holds size capacity (turns + 1) (slice_set words at new) × (items_in (slice_set words at new) ≡ items_in words)
     role_so at new low high =
         let turned = h.1 in
         let w = write_kept words at new low high in

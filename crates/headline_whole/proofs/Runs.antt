@@ -28,7 +28,8 @@ use Rattle.model.specs.Reading.{Span, Never, Open, Ended}
 use Rattle.model.specs.Shape.{IsShut}
 use Rattle.model.specs.Step.{Step, answer_in}
 use Rattle.model.specs.Turns.{old_of, words_after, change_of, step_count, doing_after, party_after, after_step, after_answer}
-use Rattle.model.specs.Turns.{after_next, events_of_answer, events_of_next, ask_of_doing, step_in, ending_of, events_of, events_of_step, after_turn, world_after}
+use Rattle.model.specs.Turns.{after_next, events_of_answer, events_of_next, ask_of_doing, step_in, ending_of}
+use Rattle.model.specs.Turns.{events_of, events_of_step, after_turn, world_after}
 use Rattle.model.specs.World.{World, Trace, flight_in}
 use Rattle.model.proofs.Parties.{party_put_same, party_put_other}
 use Rattle.model.proofs.Replays.{legal_more, standing_more}
@@ -49,7 +50,8 @@ module _ {T : Type 0} where
       ∙ (ap (λ (xs : List (Start T × Answer T)). answered is_call events ++ xs) none ∙ append-nil (answered is_call events))
 
   pub whole_before : (events es : List (Event T)) → RunsWhole (events ++ es) → RunsWhole events
-  whole_before events es h p start before at = h p start before (at.0 ++ es, ap (λ (xs : List (Event T)). xs ++ es) at.1 ∙ append_assoc before (Begun p start ∷ at.0) es)
+  whole_before events es h p start before at =
+      h p start before (at.0 ++ es, ap (λ (xs : List (Event T)). xs ++ es) at.1 ∙ append_assoc before (Begun p start ∷ at.0) es)
 
   pub only_before : (such : Start T → Bool) (events es : List (Event T)) → BeginsOnly such (events ++ es) → BeginsOnly such events
   only_before such events es h p start before at =
@@ -149,7 +151,8 @@ module _ {T : Type 0} (R : Reading T) where
           }
       go false is =
           let same : answered R.spec.is_call (events ++ (wrote ++ Finished p start answer ∷ [])) ≡ answered R.spec.is_call events =
-          grown ∙ (ap (λ (b : Bool). answered R.spec.is_call events ++ ((if b then (start, answer) ∷ [] else []) ++ [])) is ∙ append-nil (answered R.spec.is_call events)) in
+          grown ∙ (ap (λ (b : Bool). answered R.spec.is_call events ++ ((if b then (start, answer) ∷ [] else []) ++ [])) is
+          ∙ append-nil (answered R.spec.is_call events)) in
           record {
             legal = subst (λ (xs : List (Start T × Answer T)). IsLegal R.spec.object xs) (sym same) h.legal;
             stands = ap (λ (xs : List (Start T × Answer T)). standing R.spec.object xs) same ∙ h.stands;

@@ -1,5 +1,6 @@
 -- The counter of a container's set is at its end only after so many changes.
-use Rattle.std.proofs.Common.{◌≡◌, ℕ, ◌<◌, ◌==◌, Bool, true, false, Option, Some, None, option_map, if◌then◌else◌, nat_lt, List, length, refl, sym, ap, subst, ◌∙◌, arith}
+use Rattle.std.proofs.Common.{◌≡◌, ℕ, ◌<◌, ◌==◌, Bool, true, false, Option, Some, None, option_map, if◌then◌else◌}
+use Rattle.std.proofs.Common.{nat_lt, List, length, refl, sym, ap, subst, ◌∙◌, arith}
 use Rattle.steps.specs.Indices.Robust.Parts.{locked}
 use Rattle.steps.specs.declared.ask.After.{After}
 use Rattle.steps.specs.declared.ask.After.TheVariants.{GoOn, Done}
@@ -50,8 +51,10 @@ use Rattle.laws_container.proofs.Sound.{kept_is, opening_sound}
 use Rattle.laws_container.proofs.Terms.{Terms}
 use Rattle.history_laws.specs.Owners.{may_lock, is_locking, LocksApart}
 use Rattle.history_laws.proofs.OwnersWords.{counter_of}
-use Rattle.history_laws.proofs.ContainerPays.{remove_credit, remove_late, container_left, container_locks, container_then, container_old, ContainerStands, SameMode}
-use Rattle.history_laws.proofs.ContainerCalls.{container_mode, container_pays, container_finds, container_leaves, container_asks, container_stands, container_may}
+use Rattle.history_laws.proofs.ContainerPays.{remove_credit, remove_late, container_left, container_locks}
+use Rattle.history_laws.proofs.ContainerPays.{container_then, container_old, ContainerStands, SameMode}
+use Rattle.history_laws.proofs.ContainerCalls.{container_mode, container_pays, container_finds, container_leaves}
+use Rattle.history_laws.proofs.ContainerCalls.{container_asks, container_stands, container_may}
 use Rattle.history_laws.proofs.OwnersBounded.{Bounded, locks_of, counter, changes_more}
 use Rattle.history_laws.proofs.OwnersTurns.{left, SameLocks, PaysBy, BeginPays, Facts, run_bounded, opening_bounded}
 
@@ -124,7 +127,11 @@ module _ {T : Type 0} where
   begins_so n c p (starts.TheVariants.Remove index owner Default) =
       record { pays = (let none = first_credit c (place_of c index) Default in omega arith); mode = λ e. absurd (cc) }
   begins_so n c p (starts.TheVariants.Remove index owner LockIfLastIndex) =
-      record { pays = (let none = first_credit c (place_of c index) LockIfLastIndex in let also = first_late n c (place_of c index) in omega arith); mode = λ e. refl }
+      record {
+        pays =
+            (let none = first_credit c (place_of c index) LockIfLastIndex in let also = first_late n c (place_of c index) in omega arith);
+        mode = λ e. refl;
+      }
   begins_so n c p (starts.TheVariants.Replace index value owner) = record { pays = omega arith; mode = λ e. absurd (cc) }
   begins_so n c p (starts.TheVariants.Find owner) = record { pays = omega arith; mode = λ e. absurd (cc) }
   begins_so n c p (starts.TheVariants.Recover owner Default) = record { pays = omega arith; mode = λ e. absurd (cc) }
@@ -170,7 +177,8 @@ module _ {T : Type 0} (code : Coding T) (c : ℕ) where
     owners : t.world.kept ≡ Kept
     owners = (kept_is t.world.kept t.world.words s.state s.fit).0
 
-    pays_in : (p : ℕ) (all : List SetAct) (done : List (Act T)) (start : Start T) (flight : Flight T) → FlightAt c code.size all done start flight → 0 < length ws
+    pays_in : (p : ℕ) (all : List SetAct) (done : List (Act T)) (start : Start T) (flight : Flight T)
+        → FlightAt c code.size all done start flight → 0 < length ws
         → PaysIn code p (ask_of (want_of code flight)) (old_of ws (ask_of (want_of code flight))) Kept start flight
     pays_in p all done (Container start) (flights.TheVariants.Container flight) at some =
         paid code ws p (ask_of (want code flight)) s.state.dead s.state.states flight (container_stands code c all done start flight at)
@@ -208,7 +216,8 @@ module _ {T : Type 0} (code : Coding T) (c : ℕ) where
               subst (λ z. PaysBy ws flight (ask_of (want_of z flight))
               (step_of z ws (beside_of ws t.world.kept t.world.latest p) p x.start flight (old_of ws (ask_of (want_of z flight))) t.world.kept)) (sym s.coding)
               (subst (λ kept. PaysIn code p (ask_of (want_of code flight)) (old_of ws (ask_of (want_of code flight))) kept x.start flight) (sym owners)
-              (pays_in p (set_acts_of p s.state.events) (acts_of p s.state.events) x.start flight (stands_there (family_by terms code c) t s p x since flight found doing).at some));
+              (pays_in p (set_acts_of p s.state.events) (acts_of p s.state.events) x.start flight
+              (stands_there (family_by terms code c) t s p x since flight found doing).at some));
           decides = λ p x flight since said found doing due.
               subst (λ z. PaysIn z p None (number_of said) t.world.kept x.start flight) (sym s.coding)
               (subst (λ kept. PaysIn code p None (number_of said) kept x.start flight) (sym owners)

@@ -217,7 +217,8 @@ module _ {T : Type 0} where
             stays true t =
                 let same = tested (counter new) (counter old) t in
                 let was = b.late (owes.opens open_now) q in
-                let is : late_of (counter new) (flight_in old.world q) ≡ late_of (counter old) (flight_in old.world q) = ap (λ x. late_of x (flight_in old.world q)) same in
+                let is : late_of (counter new) (flight_in old.world q) ≡ late_of (counter old) (flight_in old.world q) =
+                ap (λ x. late_of x (flight_in old.world q)) same in
                 let own = none_late (counter old) (flight_in old.world p) k in
                 let pays = owes.pays open_now in
                 let moves = differ in

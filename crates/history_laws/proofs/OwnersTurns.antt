@@ -1,5 +1,6 @@
 -- What each turn of a robust index set, or of a container, owes so that its counter stays bounded, and so every open run.
-use Rattle.std.proofs.Common.{◌≡◌, ◌≢◌, inl, inr, ℕ, ◌+◌, ◌*◌, ◌<◌, ◌≤◌, ◌==◌, not, Bool, true, false, true≢false, Option, Some, None, is_some, is_none, List, [], ◌∷◌, ◌++◌}
+use Rattle.std.proofs.Common.{◌≡◌, ◌≢◌, inl, inr, ℕ, ◌+◌, ◌*◌, ◌<◌, ◌≤◌, ◌==◌, not, Bool, true, false, true≢false}
+use Rattle.std.proofs.Common.{Option, Some, None, is_some, is_none, List, [], ◌∷◌, ◌++◌}
 use Rattle.std.proofs.Common.{fold, length, length-set, refl, sym, ap, subst, ◌∙◌, append_assoc, arith, eq-eqb}
 use Rattle.std.proofs.lemmas.List.Sums.{fold-append}
 use Rattle.steps.specs.Indices.Robust.Parts.{locked}
@@ -27,7 +28,8 @@ use Rattle.model.specs.Reading.{Each, span_of}
 use Rattle.model.specs.Refusals.{is_due, call_refusal}
 use Rattle.model.specs.Step.{Step, answer_in}
 use Rattle.model.specs.Turns.{old_of, words_after, number_of, ask_of_doing, party_at_begin, after_begin, doing_after, after_step, step_in}
-use Rattle.model.specs.Turns.{after_answer, events_of_step, events_of_answer, after_next, events_of_next, after_decision, events_of_decision, events_of, ending_of, after_turn}
+use Rattle.model.specs.Turns.{after_answer, events_of_step, events_of_answer, after_next, events_of_next}
+use Rattle.model.specs.Turns.{after_decision, events_of_decision, events_of, ending_of, after_turn}
 use Rattle.model.specs.World.{World, Trace, opening, flight_in}
 use Rattle.model.proofs.Frame.{is_true}
 use Rattle.model.proofs.Parties.{party_put_same, party_put_other}
@@ -183,7 +185,8 @@ module _ {T : Type 0} where
 
   -- what the family tells of a machine
   pub record Facts (t : Trace T) : Type 0 where
-    pub steps : 0 < length t.world.words → (p : ℕ) (x : Party T) (flight : Flight T) (since : ℕ) → party_of p t.world.latest ≡ Some x → x.doing ≡ Going flight since
+    pub steps : 0 < length t.world.words → (p : ℕ) (x : Party T) (flight : Flight T) (since : ℕ)
+        → party_of p t.world.latest ≡ Some x → x.doing ≡ Going flight since
         → StepPays t.world p x flight (ask_of (want_of t.world.coding flight)) (old_of t.world.words (ask_of (want_of t.world.coding flight)))
     pub decides : (p : ℕ) (x : Party T) (flight : Flight T) (since : ℕ) (said : Bool) → party_of p t.world.latest ≡ Some x
         → x.doing ≡ Going flight since → is_question (want_of t.world.coding flight) ≡ true
@@ -218,7 +221,9 @@ module _ {T : Type 0} where
     nexts p (Some x) found opens =
         let ask : Doing T → Option Ask = ask_of_doing t.world.coding in
         answered p x (ask x.doing) (old_of t.world.words (ask x.doing)) x.doing found refl
-        (λ flight since d. subst (λ a. StepPays t.world p x flight a (old_of t.world.words a)) (sym (ap ask d)) (facts.steps b.some p x flight since found d)) opens
+        (λ flight since d. subst (λ a. StepPays t.world p x flight a (old_of t.world.words a)) (sym (ap ask d))
+        (facts.steps b.some p x flight since found d))
+        opens
 
     decides : (p : ℕ) (said : Bool) (o : Option (Party T)) → party_of p t.world.latest ≡ o
         → ((flight : Flight T) → flight_of (doing_of o) ≡ Some flight → is_question (want_of t.world.coding flight) ≡ true)

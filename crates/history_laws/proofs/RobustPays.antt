@@ -34,7 +34,8 @@ use Rattle.model.specs.Families.Indices.Robust.Steps.{recover_effects, effects}
 use Rattle.model.specs.Families.Queues.Calls.{as_it_is}
 use Rattle.model.specs.Step.{as_call}
 use Rattle.history_laws.specs.Owners.{changes}
-use Rattle.history_laws.proofs.OwnersParts.{moved_none, moved_most, RaiseMoves, raise_then, raise_moves, count_then, count_old, CountMoves, count_moves, count_ends}
+use Rattle.history_laws.proofs.OwnersParts.{moved_none, moved_most, RaiseMoves, raise_then, raise_moves, count_then}
+use Rattle.history_laws.proofs.OwnersParts.{count_old, CountMoves, count_moves, count_ends}
 use Rattle.history_laws.proofs.OwnersParts.{lock_credit, lock_late, lock_then, lock_old, LockPays, lock_pays}
 use Rattle.history_laws.proofs.OwnersParts.{acquire_credit, acquire_then, acquire_old, acquire_left, acquire_pays}
 use Rattle.history_laws.proofs.OwnersParts.{for_mode, for_mode_most, locks_in, release_credit, release_late, release_then, release_old}

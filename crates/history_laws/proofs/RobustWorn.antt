@@ -1,5 +1,6 @@
 -- The counter of a robust index set is at its end only after so many changes.
-use Rattle.std.proofs.Common.{◌≡◌, ◌≢◌, ℕ, ◌-◌, ◌*◌, ◌^◌, ◌<◌, ◌≤◌, ◌==◌, Bool, true, false, Option, Some, None, option_map, if◌then◌else◌, List, length, refl, sym, ap, subst, ◌∙◌, arith}
+use Rattle.std.proofs.Common.{◌≡◌, ◌≢◌, ℕ, ◌-◌, ◌*◌, ◌^◌, ◌<◌, ◌≤◌, ◌==◌, Bool, true, false, Option, Some, None}
+use Rattle.std.proofs.Common.{option_map, if◌then◌else◌, List, length, refl, sym, ap, subst, ◌∙◌, arith}
 use Rattle.steps.specs.Indices.Robust.Parts.{locked, greatest}
 use Rattle.steps.specs.declared.ask.After.{After}
 use Rattle.steps.specs.declared.ask.After.TheVariants.{GoOn, Done}
@@ -129,7 +130,8 @@ module _ {T : Type 0} (code : Coding T) (c : ℕ) where
     owners = (kept_is t.world.kept t.world.words s.state s.fit).0
 
     pays_in : (p : ℕ) (all : List SetAct) (start : Start T) (flight : Flight T) → FlightAt c all start flight → 0 < length ws
-        → PaysIn p (ask_of (want_of t.world.coding flight)) (old_of ws (ask_of (want_of t.world.coding flight))) (registries.TheVariants.Owners s.state.dead) start flight
+        → PaysIn p (ask_of (want_of t.world.coding flight)) (old_of ws (ask_of (want_of t.world.coding flight)))
+        (registries.TheVariants.Owners s.state.dead) start flight
     pays_in p all (Robust start) (flights.TheVariants.Robust flight) at some =
         paid T ws p (ask_of (want flight)) s.state.dead flight (robust_stands c all start flight at) (robust_leaves ws some flight)
         (old_of ws (ask_of (want flight))) (robust_finds ws flight)
@@ -143,7 +145,8 @@ module _ {T : Type 0} (code : Coding T) (c : ℕ) where
     decides_in p answer all start flight at due = absurd at
 
     -- a call that may lock is under way by its span
-    locks_in_span : (all : List SetAct) (start : Start T) (flight : Flight T) → FlightAt c all start flight → locks_of (Some flight) ≡ true → may_lock start ≡ true
+    locks_in_span : (all : List SetAct) (start : Start T) (flight : Flight T) → FlightAt c all start flight
+        → locks_of (Some flight) ≡ true → may_lock start ≡ true
     locks_in_span all (Robust start) (flights.TheVariants.Robust flight) at e = robust_may T c all start flight at e
     locks_in_span all start flight at e = absurd at
 
@@ -162,11 +165,14 @@ module _ {T : Type 0} (code : Coding T) (c : ℕ) where
     facts =
         record {
           steps = λ some p x flight since found doing.
-              subst (λ kept. PaysIn p (ask_of (want_of t.world.coding flight)) (old_of ws (ask_of (want_of t.world.coding flight))) kept x.start flight) (sym owners)
+              subst (λ kept. PaysIn p (ask_of (want_of t.world.coding flight))
+              (old_of ws (ask_of (want_of t.world.coding flight))) kept x.start flight)
+              (sym owners)
               (pays_in p (set_acts_of p s.state.events) x.start flight (stands_there (family_by Word code c) t s p x since flight found doing).at some);
           decides = λ p x flight since said found doing due.
               subst (λ kept. PaysIn p None (number_of said) kept x.start flight) (sym owners)
-              (decides_in p (number_of said) (set_acts_of p s.state.events) x.start flight (stands_there (family_by Word code c) t s p x since flight found doing).at due);
+              (decides_in p (number_of said) (set_acts_of p s.state.events) x.start flight
+              (stands_there (family_by Word code c) t s p x since flight found doing).at due);
           begins = λ p start flight e.
               begins_any (counter t) t.world.capacity p start t.world.kept flight
               (subst (λ kind. first_of kind t.world.capacity start t.world.kept ≡ Some flight) s.kind e);

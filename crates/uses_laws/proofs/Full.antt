@@ -22,7 +22,9 @@ pub record Laws : Type 0 where
 
 module _ (owner : ℕ) (old new : View ℕ) (taken : HasTaken owner (Err OutOfIndices) old new) where
   -- a refusal changes nothing
-  same_of : (f : Event ℕ → ℕ) → ((p : ℕ) → f (Begun p (Robust (Acquire owner))) ≡ 0) → ((p : ℕ) → f (Finished p (Robust (Acquire owner)) (NoIndex OutOfIndices)) ≡ 0) → sum_by f new.made ≡ sum_by f old.made
+  same_of : (f : Event ℕ → ℕ) → ((p : ℕ) → f (Begun p (Robust (Acquire owner))) ≡ 0)
+      → ((p : ℕ) → f (Finished p (Robust (Acquire owner)) (NoIndex OutOfIndices)) ≡ 0)
+      → sum_by f new.made ≡ sum_by f old.made
   same_of f begins ends =
       let all = sum_made f taken.by (Robust (Acquire owner)) (NoIndex OutOfIndices) taken.wrote old new taken.called in
       let none = ap (sum_by f) taken.tells in
