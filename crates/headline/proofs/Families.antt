@@ -24,11 +24,12 @@ use Rattle.model.specs.Families.Atomic.Promises as value_promises
 use Rattle.model.specs.Families.Bits.Promises.{bits_promise, counts_promise}
 use Rattle.model.specs.Families.Bits.Reading.{sets, clears, counts}
 use Rattle.model.specs.Families.Container.Promises as container_promises
+use Rattle.model.specs.Families.Container.Reading.{Act, acts_of}
 use Rattle.model.specs.Families.Indices.Promises as index_promises
 use Rattle.model.specs.Families.Indices.Reading as unique
 use Rattle.model.specs.Families.Indices.Robust.Promises as robust_promises
 use Rattle.model.specs.Families.Indices.Robust.Reading as robust
-use Rattle.model.specs.Families.Indices.Robust.Reading.{Fills, Grants, wrote_in}
+use Rattle.model.specs.Families.Indices.Robust.Reading.{Fills, Grants, set_acts_of, wrote_in}
 use Rattle.model.specs.Families.Indices.Spans.{SetActs, set_acts, claimed}
 use Rattle.model.specs.Families.Loan.Promises as loan_promises
 use Rattle.model.specs.Families.Loan.Reading.{Spot, Free, Passing, With, Waiting, Returning, spot_of, receiver_of}
@@ -42,13 +43,15 @@ use Rattle.model.specs.Promises.Families.{promise_of}
 use Rattle.model.specs.Reading.{Each, moments, Span, Never, Open, Ended, span_of}
 use Rattle.model.specs.Turns.{IsReached}
 use Rattle.model.specs.World.{Trace}
+use Rattle.laws_container.proofs.Everything.{shown}
+use Rattle.laws_container.proofs.Sound.{reached_sound}
 use Rattle.laws_turns.specs.Others.{queue_in}
 use Rattle.laws_turns.proofs.Counting as counting
 use Rattle.laws_turns.proofs.Locking as locking
 use Rattle.laws_turns.proofs.Meeting as meeting
 use Rattle.laws_turns.proofs.Queue as submission
 use Rattle.laws_turns.proofs.Waiting as waiting
-use Rattle.headline.specs.Holders.{Takes, claims, fills, grants, loans, holders, NoTwoHold, NoneOnceLocked, IsRelease, GivesBack}
+use Rattle.headline.specs.Holders.{Takes, claims, fills, grants, loans, holders, NoTwoHold, NoneOnceLocked, IsRelease, MayFree}
 use Rattle.headline.specs.Headline.{QueueRuns, ValueRuns, BitsRun, CountsRun, IndicesRun, RobustRuns, ContainerRuns}
 use Rattle.headline.specs.Headline.{IsLeftOver, is_send_or_receive, ChannelRuns, Runs}
 use Rattle.headline.specs.Moments.{Follows, call_in}
@@ -239,23 +242,24 @@ module _ {T : Type 0} where
             before_lock = grants_unlocked;
           })
 
-  back_by_robust : (p index owner : ℕ) (span : Span T) → robust_promises.promise.may_stand (FreedOf p index owner) span
-      → GivesBack index owner (call_in span) (robust.set_acts (wrote_in span))
-  back_by_robust p index owner Never h = absurd h
-  back_by_robust p index owner (Open (starts.Robust (robust_starts.Release i o mode)) wrote) h = (sym h.0, sym h.1)
-  back_by_robust p index owner (Open (starts.Robust (robust_starts.Recover mode)) wrote) h = record { before = h.before; after = []; is = h.is }
-  back_by_robust p index owner (Open (starts.Robust other) wrote) h = absurd h
-  back_by_robust p index owner (Open other wrote) h = absurd h
-  back_by_robust p index owner (Ended start answer wrote) h = absurd h
+  back_by_robust : (p index owner : ℕ) (span : Span T) (saw : List (Act T)) → robust_promises.promise.may_stand (FreedOf p index owner) span
+      → MayFree index owner (call_in span) (robust.set_acts (wrote_in span)) saw
+  back_by_robust p index owner Never saw h = absurd h
+  back_by_robust p index owner (Open (starts.Robust (robust_starts.Release i o mode)) wrote) saw h = (sym h.0, sym h.1)
+  back_by_robust p index owner (Open (starts.Robust (robust_starts.Recover mode)) wrote) saw h = record { before = h.before; after = []; is = h.is }
+  back_by_robust p index owner (Open (starts.Robust other) wrote) saw h = absurd h
+  back_by_robust p index owner (Open other wrote) saw h = absurd h
+  back_by_robust p index owner (Ended start answer wrote) saw h = absurd h
 
-  back_by_container : (p index owner : ℕ) (span : Span T) → container_promises.promise.may_stand (FreedOf p index owner) span
-      → GivesBack index owner (call_in span) (robust.set_acts (wrote_in span))
-  back_by_container p index owner Never h = absurd h
-  back_by_container p index owner (Open (starts.Container (container_starts.Remove i o mode)) wrote) h = (sym h.0, sym h.1)
-  back_by_container p index owner (Open (starts.Container (container_starts.Recover o mode)) wrote) h = sym h.0
-  back_by_container p index owner (Open (starts.Container other) wrote) h = absurd h
-  back_by_container p index owner (Open other wrote) h = absurd h
-  back_by_container p index owner (Ended start answer wrote) h = absurd h
+  back_by_container : (p index owner : ℕ) (before : List (Event T)) (span : Span T)
+      → container_promises.promise.may_stand (FreedOf p index owner) span → container_promises.FreedRight p index owner before span
+      → MayFree index owner (call_in span) (set_acts_of p before) (acts_of p before)
+  back_by_container p index owner before Never h right = absurd h
+  back_by_container p index owner before (Open (starts.Container (container_starts.Remove i o mode)) wrote) h right = (sym h.0, sym h.1)
+  back_by_container p index owner before (Open (starts.Container (container_starts.Recover o mode)) wrote) h right = (sym right.0, right.2)
+  back_by_container p index owner before (Open (starts.Container other) wrote) h right = absurd h
+  back_by_container p index owner before (Open other wrote) h right = absurd h
+  back_by_container p index owner before (Ended start answer wrote) h right = absurd h
 
   robust_runs : (t : Trace T) → t.world.kind ≡ kinds.Robust → IsReached t → IsKeptBy robust_promises.promise t → RobustRuns t
   robust_runs t is r kept =
@@ -270,28 +274,33 @@ module _ {T : Type 0} where
             (ap (λ (s : Span T). robust.set_acts (wrote_in s)) w.opens ∙ w.right);
         freed = λ p index owner before at. (
           freed_of t.world.capacity t.events set.does p index owner before at,
-          back_by_robust p index owner (span_of p before) (kept.spans before at.0 (FreedOf p index owner) at.1),
+          back_by_robust p index owner (span_of p before) (acts_of p before) (kept.spans before at.0 (FreedOf p index owner) at.1),
         );
         recovered = λ p index owner mode before at. (set.answers before at.0 _ at.1).1.gone index owner;
         asked_each = λ p index owner mode before at. (set.answers before at.0 _ at.1).1.asked index owner;
-        locks = λ p index owner before at one.
-            let late = locking.locks t is r before at.0 _ at.1 index owner one in (late.other, late.once);
+        locks = λ p index owner before at. locking.locks t is r before at.0 _ at.1 index owner;
       }
+
+  -- the indices of a container are held right, however its replaces overlap
+  holds_right : (t : Trace T) → t.world.kind ≡ kinds.Container → IsReached t → robust_promises.IsWellFormed t.events
+      → Each robust_promises.HoldsRight t.events
+  holds_right t is r well = (reached_sound shown t is r).holds.good.holds (well, tt)
 
   container_runs : (t : Trace T) → t.world.kind ≡ kinds.Container → IsReached t → IsKeptBy container_promises.promise t → ContainerRuns t
   container_runs t is r kept =
       let set = kept.promised in
       record {
         no_two_fill = no_two_fill t.world.capacity t.events set.does;
-        no_two_hold = λ well. one_grant t.world.capacity t.events set.does (set.well_formed well).holders;
-        none_once_locked = λ well. none_granted t.world.capacity t.events set.does (set.well_formed well).holders;
+        no_two_hold = λ well. one_grant t.world.capacity t.events set.does (holds_right t is r well);
+        none_once_locked = λ well. none_granted t.world.capacity t.events set.does (holds_right t is r well);
         acquired = λ p index owner value before at.
             let w = finished_wrote container_promises.promise t p _ _ before kept at in
             acquired_of t.world.capacity t.events set.does p index owner _ before at
             (ap (λ (s : Span T). robust.set_acts (wrote_in s)) w.opens ∙ w.right);
         freed = λ p index owner before at. (
           freed_of t.world.capacity t.events set.does p index owner before at,
-          back_by_container p index owner (span_of p before) (kept.spans before at.0 (FreedOf p index owner) at.1),
+          back_by_container p index owner before (span_of p before) (kept.spans before at.0 (FreedOf p index owner) at.1)
+              (set.recovers before at.0 (FreedOf p index owner) at.1),
         );
         copied = λ well p index value before at. (set.well_formed well).contents before at.0 (Copied p index value) at.1;
         added = λ well p index owner value before at. (set.well_formed well).placed before at.0 _ at.1;
@@ -301,8 +310,7 @@ module _ {T : Type 0} where
             let was = set.states p index state value rests has shows in record { before = was.before; after = was.after; is = was.is };
         recovered = λ p index owner mode before at. (set.answers before at.0 _ at.1).1.gone index;
         asked_each = λ p index owner mode before at. (set.answers before at.0 _ at.1).1.asked index;
-        locks = λ p index owner before at one.
-            let late = (set.answers before at.0 _ at.1).2 index one in (late.other, late.once);
+        locks = λ p index owner before at. (set.answers before at.0 _ at.1).2 index;
         waits = waiting.waits t is r;
         changes = counting.counts_changes t is r;
         met = λ p before at. meeting.meets_changes t is r before at.0 _ at.1;

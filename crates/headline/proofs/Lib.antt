@@ -1,5 +1,6 @@
 pub mod Acting
 pub mod Below
+pub mod Ends
 pub mod Families
 pub mod Holding
 pub mod Loans
@@ -8,5 +9,7 @@ pub mod Picking
 pub mod Progressing
 pub mod Reached
 pub mod Reaching
+pub mod Roomy
+pub mod WantsNothing
 pub mod Worked
 pub mod WorkedLockFree

@@ -1,12 +1,27 @@
 -- The definitions at worked runs.
-use Rattle.std.proofs.Common.{◌≡◌, ◌≤◌, ℕ, true, List, [], ◌∷◌, ◌++◌, length, refl, arith}
-use Rattle.model.specs.declared.event.Answer.TheVariants.{Truth}
+use Rattle.std.proofs.Common.{◌≡◌, ◌≤◌, ℕ, true, None, is_some, List, [], ◌∷◌, ◌++◌, length, refl, subst, arith}
+use Rattle.steps.specs.declared.indices.enums.ReleaseMode.TheVariants.{Default}
+use Rattle.model.specs.declared.event.Answer.TheVariants as answers
+use Rattle.model.specs.declared.event.Answer.TheVariants.{Truth, Done}
 use Rattle.model.specs.declared.event.Event.{Event}
-use Rattle.model.specs.declared.event.Event.TheVariants.{Begun, Published, HandedOut, Claimed, Freed, Locked, Filled, Granted, FreedOf, Acted}
+use Rattle.model.specs.declared.event.Event.TheVariants.{Begun, Published, HandedOut, Claimed, Freed, Locked, Filled, Granted, FreedOf, Acted, Finished}
 use Rattle.model.specs.declared.event.Item.TheVariants.{Index}
 use Rattle.model.specs.declared.event.Start.{Start}
 use Rattle.model.specs.declared.event.Start.TheVariants as starts
-use Rattle.model.specs.declared.families.queues.QueueStart.TheVariants.{PushIndex}
+use Rattle.model.specs.declared.families.container.ContainerStart.TheVariants.{Add, Remove, Replace}
+use Rattle.model.specs.declared.families.queues.QueueStart.TheVariants.{AcquireProducer, PushIndex}
+use Rattle.model.specs.declared.turn.Kind.TheVariants as kinds
+use Rattle.model.specs.declared.turn.Turn.TheVariants.{Next}
+use Rattle.model.specs.Coding.{one_word}
+use Rattle.model.specs.Families.Container.Promises.{ReplacesRight}
+use Rattle.model.specs.Families.Container.Reading.{NoneTakes}
+use Rattle.model.specs.Families.Indices.Robust.Promises.{FreesRight, IsWellFormed}
+use Rattle.model.specs.Promises.Turns.{ask_in}
+use Rattle.model.specs.Reading.{Each}
+use Rattle.model.specs.Turns.{after_turn}
+use Rattle.model.specs.World.{Trace, flight_in}
+use Rattle.model.proofs.Readings.{Each-append, Each-nil}
+use Rattle.model.proofs.Runs.{begins, ran}
 use Rattle.headline.specs.Holders.{holders, claims, fills, grants, loans, NoTwoHold, NoneOnceLocked}
 use Rattle.headline.specs.Moments.{ActedOnce}
 
@@ -76,3 +91,47 @@ acts_inside =
       within = tt;
       once = refl;
     }
+
+-- ---- a turn without an operation ends its call
+
+-- a remove of an index that the container does not have
+abbrev refusing : Trace ℕ
+refusing = ran one_word kinds.Container 1 2 (begins 0 (starts.Container (Remove 5 7 Default)) 0)
+
+ends_refused : (is_some (flight_in refusing.world 0) ≡ true) × (ask_in refusing.world (Next 0) ≡ None)
+    × (flight_in (after_turn refusing (Next 0)).world 0 ≡ None)
+ends_refused = (refl, refl, refl)
+
+-- a push of an overflowing queue of capacity 0, by its producer
+abbrev pushing : Trace ℕ
+pushing = ran one_word kinds.Overflow 0 2 (begins 0 (starts.Queues AcquireProducer) 1 ++ begins 0 push 0)
+
+ends_handed_back : (is_some (flight_in pushing.world 0) ≡ true) × (ask_in pushing.world (Next 0) ≡ None)
+    × (flight_in (after_turn pushing (Next 0)).world 0 ≡ None)
+ends_handed_back = (refl, refl, refl)
+
+-- ---- where replaces overlap, the removes may be well-formed, so that no index has two holders
+
+abbrev replace : Start ℕ
+replace = starts.Container (Replace 0 5 7)
+
+abbrev begun_twice : List (Event ℕ)
+begun_twice = Finished 0 (starts.Container (Add 4 7)) (answers.Index 0) ∷ Begun 0 replace ∷ Begun 1 replace ∷ []
+
+abbrev overlapping : List (Event ℕ)
+overlapping = begun_twice ++ Finished 0 replace Done ∷ []
+
+removes_well_formed : IsWellFormed overlapping
+removes_well_formed = Each-append FreesRight [] overlapping (Each-nil FreesRight) (tt, (tt, (tt, (tt, tt))))
+
+begun_meanwhile : (before since : List (Event ℕ)) (start : Start ℕ) → begun_twice ≡ before ++ Begun 0 start ∷ since → NoneTakes 0 7 since → ⊥
+begun_meanwhile [] since start is none = absurd (cc)
+begun_meanwhile (a ∷ []) since start is none =
+    let rest : since ≡ Begun 1 replace ∷ [] = cc in (subst (NoneTakes 0 7) rest none).0 (refl, refl)
+begun_meanwhile (a ∷ b ∷ []) since start is none = absurd (cc)
+begun_meanwhile (a ∷ b ∷ c ∷ []) since start is none = absurd (cc)
+begun_meanwhile (a ∷ b ∷ c ∷ d ∷ before) since start is none = absurd (cc)
+
+replaces_ill_formed : Each ReplacesRight overlapping → ⊥
+replaces_ill_formed each =
+    let may = each begun_twice [] (Finished 0 replace Done) refl in begun_meanwhile may.before may.since may.start may.is may.holds.1

@@ -1,5 +1,5 @@
 -- What every machine does, at every admitted capacity, after every list of turns, whoever stops where.
-use Rattle.std.specs.Prelude.{◌≡◌, ◌≢◌, ◌⊎◌, ◌<◌, ◌≤◌, ℕ, ◌+◌, Bool, true, false, Some, is_some, List, [], ◌∷◌, ◌++◌, map, slice_index}
+use Rattle.std.specs.Prelude.{◌≡◌, ◌≢◌, ◌⊎◌, ◌<◌, ◌≤◌, ℕ, ◌+◌, Bool, true, false, Some, None, is_some, List, [], ◌∷◌, ◌++◌, map, slice_index}
 use Rattle.steps.specs.Bits.Words.{stands}
 use Rattle.steps.specs.Container.Layout.{change_word}
 use Rattle.steps.specs.declared.container.state.ContainerState.{ContainerState}
@@ -30,7 +30,7 @@ use Rattle.model.specs.Families.Container.Looks.{state_in, shows, is_looking}
 use Rattle.model.specs.Families.Container.Promises.{IsWellFormedRun}
 use Rattle.model.specs.Families.Container.Questions.{question_at}
 use Rattle.model.specs.Families.Container.Reading.{contents_of, Copies, Sees, acts_of, places}
-use Rattle.model.specs.Families.Indices.Robust.Promises.{IsWellFormed, IsFilled, HeldThroughout, IsIn, asked_of, owned_of}
+use Rattle.model.specs.Families.Indices.Robust.Promises.{IsWellFormed, FilledSinceFreed, StillToFree, HeldThroughout, IsIn, asked_of, owned_of}
 use Rattle.model.specs.Families.Indices.Robust.Reading.{filled_of, Fills, Grants, Frees, Asks, Yes, set_acts_of, wrote_in, IsOneOf, IsLatest}
 use Rattle.model.specs.Families.Indices.Spans.{set_acts, claimed}
 use Rattle.model.specs.Families.Loan.Promises.{sent_in, given_back_in}
@@ -40,7 +40,6 @@ use Rattle.model.specs.Families.Queues.Book.{waiting_in}
 use Rattle.model.specs.Families.Queues.Objects.{overflowing_list}
 use Rattle.model.specs.Families.Queues.Reading.{published, handed_out}
 use Rattle.model.specs.Linearized.{as_list, as_value}
-use Rattle.model.specs.Moments.{HeldSometime}
 use Rattle.model.specs.Objects.{IsLegal}
 use Rattle.model.specs.Progress.{guarantee_of, IsWithin}
 use Rattle.model.specs.Promises.{IsTurn, IsKept}
@@ -65,7 +64,8 @@ module _ {T : Type 0} where
     pub conserved : published t.events
         ≡ handed_out t.events ++ waiting_in t.world.coding kind t.world.capacity t.world.words
 
-  -- Each finished store and load acts at one moment inside it on one value: a load answers the latest store, whole.
+  -- Each finished store and load acts at one moment inside it on one value: a load answers the latest store, whole, or the value
+  -- of zeros where none has been made.
   pub record ValueRuns (t : Trace T) : Type 0 where
     pub value : ActAs (as_value t.world.coding) t.events
 
@@ -105,19 +105,6 @@ module _ {T : Type 0} where
 
   -- ---- indices of owners
 
-  -- at a moment of the party's latest call, after it had freed this index, some index stood filled
-  abbrev pub FilledAfter : ℕ → ℕ → ℕ → List (Event T) → Type 0
-  FilledAfter p index owner before =
-      (other : ℕ)
-      × HeldSometime p
-      (λ part. IsOneOf (Frees index owner) (set_acts_of p part) × IsFilled other part)
-      before
-
-  -- the index was filled with this owner, or the party's latest call had freed it of him
-  abbrev pub FilledOrFreed : ℕ → ℕ → ℕ → List (Event T) → Type 0
-  FilledOrFreed p index owner part =
-      (filled_of index part ≡ Some owner) ⊎ IsOneOf (Frees index owner) (set_acts_of p part)
-
   -- No index is filled for two owners. In a well-formed run no index has two holders, and none has one once the set is locked.
   -- Who is answered an index of the set was granted it in that call, and it is freed of the owner that fills it, by a release
   -- for him or by a recovery that was told so.
@@ -134,26 +121,26 @@ module _ {T : Type 0} where
         → (set_acts_of p before ≡ Fills index owner ∷ Grants index owner ∷ []) × (index < t.world.capacity)
     pub freed : (p index owner : ℕ) (before : List (Event T))
         → Follows (FreedOf p index owner) before t.events
-        → (holders fills index before ≡ owner ∷ [])
-        × GivesBack index owner (call_in (span_of p before)) (set_acts_of p before)
+        → (holders fills index before ≡ owner ∷ []) × GivesBack p index owner before
     pub recovered : (p index owner : ℕ) (mode : ReleaseMode) (before : List (Event T))
         → Follows (Finished p (Robust (Recover mode)) (State Unlocked)) before t.events
         → IsOneOf (Yes index owner) (set_acts_of p before)
         → filled_of index before ≢ Some owner
     pub asked_each : (p index owner : ℕ) (mode : ReleaseMode) (before : List (Event T))
         → Follows (Finished p (Robust (Recover mode)) (State Unlocked)) before t.events
-        → HeldThroughout p (FilledOrFreed p index owner) before
+        → HeldThroughout p (StillToFree p owner index) before
         → IsOneOf (Asks index owner) (set_acts_of p before)
     pub locks : (p index owner : ℕ) (before : List (Event T))
         → Follows (Finished p (Robust (Recover LockIfLastIndex)) (State Unlocked)) before t.events
         → IsOneOf (Frees index owner) (set_acts_of p before)
-        → FilledAfter p index owner before
+        → FilledSinceFreed p owner index before
 
   -- ---- the container
 
-  -- The same is true of its indices, but a recovery frees only its owner's. In a well-formed run what is copied is the element
-  -- that stands, whole, and an add or a replace that succeeded has placed its argument. What a party's call asks about is what
-  -- it has copied last. What a party's state shows, while no look of that party is under way, the party has copied.
+  -- The same is true of its indices, where a run is well-formed if its removes are, but a recovery frees only its owner's, which
+  -- it was told to free or was shown empty. In a run whose replaces are well-formed too, what is copied is the element that
+  -- stands, whole, and an add or a replace that succeeded has placed its argument. What a party's call asks about is what it has
+  -- copied last. What a party's state shows, while no look of that party is under way, the party has copied.
   --
   -- A recovery that answers Unlocked has left its owner no index that it was told to free, or was shown empty. Each index that
   -- was filled with its owner during the whole call, or until the call itself freed it, it has asked about or was shown empty. A
@@ -164,15 +151,14 @@ module _ {T : Type 0} where
   -- met none since that look ended.
   pub record ContainerRuns (t : Trace T) : Type 0 where
     pub no_two_fill : NoTwoHold fills t.events
-    pub no_two_hold : IsWellFormedRun t → NoTwoHold grants t.events
-    pub none_once_locked : IsWellFormedRun t → NoneOnceLocked grants t.events
+    pub no_two_hold : IsWellFormed t.events → NoTwoHold grants t.events
+    pub none_once_locked : IsWellFormed t.events → NoneOnceLocked grants t.events
     pub acquired : (p index owner : ℕ) (value : T) (before : List (Event T))
         → Follows (Finished p (Container (containers.Add value owner)) (Index index)) before t.events
         → (set_acts_of p before ≡ Fills index owner ∷ Grants index owner ∷ []) × (index < t.world.capacity)
     pub freed : (p index owner : ℕ) (before : List (Event T))
         → Follows (FreedOf p index owner) before t.events
-        → (holders fills index before ≡ owner ∷ [])
-        × GivesBack index owner (call_in (span_of p before)) (set_acts_of p before)
+        → (holders fills index before ≡ owner ∷ []) × GivesBack p index owner before
     pub copied : IsWellFormedRun t → (p index : ℕ) (value : T) (before : List (Event T))
         → Follows (Copied p index value) before t.events
         → contents_of index before ≡ Some value
@@ -195,12 +181,12 @@ module _ {T : Type 0} where
         → filled_of index before ≢ Some owner
     pub asked_each : (p index owner : ℕ) (mode : ReleaseMode) (before : List (Event T))
         → Follows (Finished p (Container (containers.Recover owner mode)) (State Unlocked)) before t.events
-        → HeldThroughout p (FilledOrFreed p index owner) before
+        → HeldThroughout p (StillToFree p owner index) before
         → IsOneOf (Asks index owner) (set_acts_of p before) ⊎ IsOneOf (Sees index) (acts_of p before)
     pub locks : (p index owner : ℕ) (before : List (Event T))
         → Follows (Finished p (Container (containers.Recover owner LockIfLastIndex)) (State Unlocked)) before t.events
         → IsOneOf (Frees index owner) (set_acts_of p before)
-        → FilledAfter p index owner before
+        → FilledSinceFreed p owner index before
     pub waits : (p : ℕ) → waits_at t p ≡ is_some (question_at t p)
     pub changes : slice_index t.world.words (change_word t.world.capacity) ≡ changes_of t.events
     pub met : (p : ℕ) (before : List (Event T))
@@ -227,8 +213,9 @@ module _ {T : Type 0} where
   -- that it answers out of the submission queue. An index is freed by a call of the party that has it, or, where a receiver
   -- that has died had it, by a reclaim.
   --
-  -- Each finished send and receive acts at one moment inside it, and no call acts more than once. They act, in the order of
-  -- these moments, on one list that overflows. What waits in a queue is what was put there and not yet taken out.
+  -- Each finished send and receive acts at one moment inside it, and no call acts more than once. In the order of these moments
+  -- they act as pushes and pops of one list that overflows, from which a reclaim pops each index that it takes out of the
+  -- submission queue. What waits in a queue is what was put there and not yet taken out.
   pub record ChannelRuns (queue : ℕ) (t : Trace T) : Type 0 where
     pub length : queue_in t.world.kept ≡ Some queue
     pub no_two_hold : NoTwoHold loans t.events
@@ -268,9 +255,9 @@ module _ {T : Type 0} where
   -- ---- any kind
 
   -- Of each party's latest call: each turn back to the start of a loop is paid by a change that another party has made to a word
-  -- since the call began, and its steps are bounded, by its turns back and, for one that is wait-free or obstruction-free, by
-  -- the constants of that guarantee.
-  pub record Progresses (t : Trace T) : Type 0 where
+  -- since the call began, and its steps, which are its operations on words, are bounded, by its turns back and, for one that is
+  -- wait-free or obstruction-free, by the constants of that guarantee.
+  pub record MakesProgress (t : Trace T) : Type 0 where
     pub paid : (p : ℕ) (g : Progress) → progress_in t.world p ≡ Some g → g.backs ≤ g.others
     pub bounded : (p : ℕ) (start : Start T) (g : Progress)
         → call_in (span_of p t.events) ≡ Some start
@@ -285,13 +272,14 @@ module _ {T : Type 0} where
   -- what holds of a machine after any turns; a loan channel was made with a submission queue of this capacity
   pub record Holds (queue : ℕ) (t : Trace T) : Type 0 where
     pub runs : Runs t.world.kind queue t
-    pub progress : Progresses t
+    pub progress : MakesProgress t
     pub kept : IsKept t  -- all that its family promises
 
   -- ---- one turn
 
   -- A turn that was taken changes one word at most, as its operation says, leaves the calls of all other parties where they
-  -- stood, and writes behind what was written.
+  -- stood and the capacity of a submission queue as it was, and writes behind what was written. A turn without a decision in
+  -- which a call asks for no operation ends the call, so that none goes on so for ever.
   --
   -- If a turn of a robust set writes that a call asks about an index of an owner, the call then asks about that index of that
   -- owner. A find there that loads a cell then asks about its index if it is filled with the owner of the find, and else about
@@ -301,6 +289,7 @@ module _ {T : Type 0} where
     pub others_stay : (q : ℕ) → ¬ IsParty turn q → flight_in new.world q ≡ flight_in old.world q
     pub grows : (wrote : List (Event T)) × (new.events ≡ old.events ++ wrote)
     pub keeps_queue : queue_in new.world.kept ≡ queue_in old.world.kept
+    pub ends : (p : ℕ) → turn ≡ Next p → ask_in old.world turn ≡ None → flight_in new.world p ≡ None
     pub asks : old.world.kind ≡ kinds.Robust → (p index owner : ℕ) (wrote : List (Event T))
         → new.events ≡ old.events ++ wrote
         → IsOneOf (Asked p index owner) wrote

@@ -1,5 +1,5 @@
 -- Who holds an index.
-use Rattle.std.specs.Prelude.{◌≡◌, ◌≤◌, ℕ, ◌==◌, true, Option, Some, List, [], ◌∷◌, length, fold, if◌then◌else◌}
+use Rattle.std.specs.Prelude.{◌≡◌, ◌⊎◌, ◌≤◌, ℕ, ◌==◌, true, Option, Some, List, [], ◌∷◌, length, fold, if◌then◌else◌}
 use Rattle.model.specs.declared.event.Event.{Event}
 use Rattle.model.specs.declared.event.Event.TheVariants.{Published, HandedOut, Claimed, Freed, Filled, Granted, FreedOf, Returned, TakenBack}
 use Rattle.model.specs.declared.event.Item.TheVariants as items
@@ -8,9 +8,11 @@ use Rattle.model.specs.declared.event.Start.TheVariants.{Indices, Robust, Contai
 use Rattle.model.specs.declared.families.container.ContainerStart.TheVariants as containers
 use Rattle.model.specs.declared.families.indices.IndexStart.TheVariants as indices
 use Rattle.model.specs.declared.families.indices.robust.RobustStart.TheVariants as robust
+use Rattle.model.specs.Families.Container.Reading.{Act, Sees, acts_of}
 use Rattle.model.specs.Families.Indices.Reading.{is_locked}
-use Rattle.model.specs.Families.Indices.Robust.Reading.{SetAct, Yes, IsOneOf}
-use Rattle.headline.specs.Moments.{Always}
+use Rattle.model.specs.Families.Indices.Robust.Reading.{SetAct, Yes, set_acts_of, IsOneOf}
+use Rattle.model.specs.Reading.{span_of}
+use Rattle.headline.specs.Moments.{Always, call_in}
 
 -- an index goes to a holder, or has none any more
 pub data Hand : Type 0 where
@@ -76,11 +78,18 @@ module _ {T : Type 0} where
   IsRelease index (Some (Indices (indices.Release i mode))) = i ≡ index
   IsRelease index call = ⊥
 
-  -- The call, which has done this to the set, may free the index: it is a release or a remove of it for this owner, a recovery
-  -- of a robust set that heard yes of it, or a container's recovery of this owner.
-  abbrev pub GivesBack : ℕ → ℕ → Option (Start T) → List SetAct → Type 0
-  GivesBack index owner (Some (Robust (robust.Release i o mode))) all = (i ≡ index) × (o ≡ owner)
-  GivesBack index owner (Some (Robust (robust.Recover mode))) all = IsOneOf (Yes index owner) all
-  GivesBack index owner (Some (Container (containers.Remove i o mode))) all = (i ≡ index) × (o ≡ owner)
-  GivesBack index owner (Some (Container (containers.Recover o mode))) all = o ≡ owner
-  GivesBack index owner call all = ⊥
+  -- The call, which has done this to the set and that to the elements, may free the index: it is a release or a remove of it
+  -- for this owner, a recovery of a robust set that heard yes of it, or a container's recovery of this owner that heard yes of
+  -- it or saw no value there.
+  abbrev pub MayFree : ℕ → ℕ → Option (Start T) → List SetAct → List (Act T) → Type 0
+  MayFree index owner (Some (Robust (robust.Release i o mode))) all acts = (i ≡ index) × (o ≡ owner)
+  MayFree index owner (Some (Robust (robust.Recover mode))) all acts = IsOneOf (Yes index owner) all
+  MayFree index owner (Some (Container (containers.Remove i o mode))) all acts = (i ≡ index) × (o ≡ owner)
+  MayFree index owner (Some (Container (containers.Recover o mode))) all acts =
+      (o ≡ owner) × (IsOneOf (Yes index owner) all ⊎ IsOneOf (Sees index) acts)
+  MayFree index owner call all acts = ⊥
+
+  -- the party's latest call may
+  abbrev pub GivesBack : ℕ → ℕ → ℕ → List (Event T) → Type 0
+  GivesBack p index owner before =
+      MayFree index owner (call_in (span_of p before)) (set_acts_of p before) (acts_of p before)

@@ -28,6 +28,9 @@ use steps::words::Words;
 /// any state that turns reach without a bound on turns and parties, in more steps than the bound says for n parties one of
 /// their calls ends. A robust index set and a container are lock-free in runs in which no call may lock. A loan channel is
 /// lock-free in the runs of machines, which have a bound on turns and parties.
+///
+/// A step is an operation on a word. A turn without one is no step, and no bound counts it: it begins a call, hands it
+/// a decision, lets an owner die, or ends the call (`ends` of `Takes`).
 pub fn headline<T>()
     ensures runs { (code : Coding T) (kind : Kind) (capacity queue parties : ℕ) (turns : List (Turn T))
         → IsCoding code → capacity_error kind capacity ≡ None → queue_error kind queue ≡ None

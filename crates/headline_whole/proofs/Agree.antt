@@ -12,6 +12,7 @@ use Rattle.steps.specs.Indices.Robust.Looks.{borrowed_after, locked_after}
 use Rattle.steps.specs.Routine.{went_on}
 use Rattle.steps.specs.declared.ask.After.{After}
 use Rattle.steps.specs.declared.ask.After.TheVariants.{GoOn, Done}
+use Rattle.steps.specs.declared.container.state.ContainerState.{ContainerState}
 use Rattle.steps.specs.declared.bits.bit_set.ResetNextStage.{ResetNextStage}
 use Rattle.steps.specs.declared.bits.bit_set.ResetNextStage.TheVariants as resets
 use Rattle.steps.specs.declared.bits.bit_set.SetStage.{SetStage}
@@ -230,6 +231,12 @@ module _ {T : Type 0} where
     effects_none turn (e ∷ es) all =
         ap (λ (xs : List (Start T × Answer T)). xs ++ flat_map (whole.answer_in is_call) es) (effect_none turn e all.0) ∙ effects_none turn es all.1
 
+    pub container_writes : (code : Coding T) (p : ℕ) (flight : ContainerFlight T) (old : ℕ) (states : List (ℕ × ContainerState T))
+        → flat_map (whole.answer_in is_call) (container_steps.effects code p (state_of p states) flight old ++ container_steps.questions p flight old) ≡ []
+    container_writes code p flight old states =
+        effects_none (Next p) (container_steps.effects code p (state_of p states) flight old ++ container_steps.questions p flight old)
+        (container.all_effects (Next p) p refl code (state_of p states) flight old)
+
     pub writes_none : (code : Coding T) (words : List ℕ) (beside : Option (ℕ × ℕ)) (p : ℕ) (start : Start T) (flight : Flight T) (old : ℕ)
         (kept : Registry T) → Agree start flight kept
         → flat_map (whole.answer_in is_call) (step_of code words beside p start flight old kept).wrote ≡ []
@@ -243,6 +250,5 @@ module _ {T : Type 0} where
     writes_none code words beside p (starts.Robust start) (flights.Robust flight) old (registries.Owners dead) h =
         effects_none (Next p) (robust_steps.effects p flight old) (robust.all_effects (Next p) p refl flight old)
     writes_none code words beside p (starts.Container start) (flights.Container flight) old (registries.Container dead states) h =
-        effects_none (Next p) (container_steps.effects code p (state_of p states) flight old ++ container_steps.questions p flight old)
-        (container.all_effects (Next p) p refl code (state_of p states) flight old)
+        container_writes code p flight old states
     writes_none code words beside p start flight old kept h = absurd h

@@ -38,7 +38,7 @@ use Rattle.model.specs.World.{Trace, words_opened}
 use Rattle.model.proofs.Rows.{passes, may_begin}
 use Rattle.plain.proofs.Lists.Counts.{CountsTo}
 use Rattle.plain.proofs.Walks.{LowThen}
-use Rattle.headline_whole.specs.Objects.{every_call, is_list_call, whole_list}
+use Rattle.headline_whole.specs.Objects.{is_list_call, whole_list}
 use Rattle.headline_whole.proofs.Agree.{Agree}
 use Rattle.headline_whole.proofs.Flights.{FlightRuns, runs_as, twice, same_flight}
 use Rattle.headline_whole.proofs.Law.{IsMadeSo, Reading, Answers, BeginsSo, Law}
@@ -71,7 +71,7 @@ module _ {T : Type 0} where
   -- how words hold a list
   abbrev pub list_reading : QueueKind → ℕ → (ℕ → List ℕ → Type 0) → (List ℕ → List (Item T)) → Reading T
   list_reading kind capacity Holds read =
-      record { State = List (Item T); spec = whole_list kind capacity; such = every_call; Holds = Holds; read = read }
+      record { State = List (Item T); spec = whole_list kind capacity; Holds = Holds; read = read }
 
   -- ---- the registry
 
@@ -249,9 +249,9 @@ module _ {T : Type 0} where
         }
 
     begins : (t : Trace T) (p : ℕ) (start : Start T) (flight : Flight T) → IsReached t → IsMadeSo code machine capacity t
-        → refusal_of t.world (Begin p start) ≡ None → every_call start ≡ true → Holds t.world.turns t.world.words
+        → refusal_of t.world (Begin p start) ≡ None → Holds t.world.turns t.world.words
         → first_of machine capacity start t.world.kept ≡ Some flight → BeginsSo (list_reading kind capacity Holds read) code t p start flight
-    begins t p start flight r made free such holds named =
+    begins t p start flight r made free holds named =
         let h = has start flight t.world.kept named in
         subst (λ s. BeginsSo (list_reading kind capacity Holds read) code t p s flight) (sym h.1)
         (begins_queue t p h.0 flight (subst (λ s. refusal_of t.world (Begin p s) ≡ None) h.1 free) holds h.2)

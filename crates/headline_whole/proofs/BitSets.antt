@@ -1,5 +1,5 @@
 -- The calls of the two bit sets, run whole, are those of a set of places and of counts.
-use Rattle.std.proofs.Common.{◌≡◌, ℕ, suc, ◌+◌, ◌/◌, ◌%◌, ◌^◌, ◌<◌, ◌≤◌, true, false, not, Some, None, List, [], ◌∷◌, length}
+use Rattle.std.proofs.Common.{◌≡◌, ℕ, suc, ◌+◌, ◌/◌, ◌%◌, ◌^◌, ◌<◌, ◌≤◌, false, not, Some, None, List, [], ◌∷◌, length}
 use Rattle.std.proofs.Common.{replicate, slice_index, refl, sym, ap, subst, ◌∙◌, arith, length-set}
 use Rattle.std.proofs.lemmas.List.{length-replicate}
 use Rattle.steps.specs.Bits.BitSet.{first_set, set_want, set_after, first_reset, reset_want, reset_after}
@@ -40,7 +40,7 @@ use Rattle.plain.proofs.Places.Flags.{flags_length, same_flags}
 use Rattle.plain.proofs.Places.Resets.{reset_runs}
 use Rattle.plain.proofs.Places.Sets.{set_runs}
 use Rattle.plain.proofs.Walks.{any_low}
-use Rattle.headline_whole.specs.Objects.{every_call, whole_places, whole_counts}
+use Rattle.headline_whole.specs.Objects.{whole_places, whole_counts}
 use Rattle.headline_whole.proofs.Agree.{Agree}
 use Rattle.headline_whole.proofs.Flights.{FlightRuns, runs_as, twice, same_flight}
 use Rattle.headline_whole.proofs.Law.{IsMadeSo, Reading, Answers, BeginsSo, Law}
@@ -90,7 +90,6 @@ module _ {T : Type 0} where
       record {
         State = Places;
         spec = whole_places capacity;
-        such = every_call;
         Holds = λ turns words. Represents capacity words;
         read = places_in capacity;
       }
@@ -100,7 +99,6 @@ module _ {T : Type 0} where
       record {
         State = List ℕ;
         spec = whole_counts capacity;
-        such = every_call;
         Holds = λ turns words. length words ≡ capacity;
         read = λ words. words;
       }
@@ -212,9 +210,9 @@ module _ {T : Type 0} where
 
   module _ (code : Coding T) (capacity : ℕ) where
     places_begin : (t : Trace T) (p : ℕ) (start : Start T) (flight : Flight T) → IsReached t → IsMadeSo code kinds.Bits capacity t
-        → refusal_of t.world (Begin p start) ≡ None → every_call start ≡ true → Represents capacity t.world.words
+        → refusal_of t.world (Begin p start) ≡ None → Represents capacity t.world.words
         → first_of kinds.Bits capacity start t.world.kept ≡ Some flight → BeginsSo (places_reading capacity) code t p start flight
-    places_begin t p (starts.Bits start) flight r made free such fits named =
+    places_begin t p (starts.Bits start) flight r made free fits named =
         go start named
         (subst (λ n. first_row (kept_rows n start t.world.kept p) ≡ None) made.capacity
         (may_begin t.world p (starts.Bits start) (passes t.world (Begin p (starts.Bits start)) free).on).rows)
@@ -238,7 +236,7 @@ module _ {T : Type 0} where
         go calls.ResetAll e rows =
             so calls.ResetAll (under_way.ResetAll (record { call = all_bits capacity; given = tt; room = fresh })) (same_flight _ flight e) rows
             (empties_all code capacity t.world.turns t.world.words fits)
-    places_begin t p start flight r made free such fits named = absurd (cc)
+    places_begin t p start flight r made free fits named = absurd (cc)
 
     pub places_law : capacity_error kinds.Bits capacity ≡ None → Law (places_reading capacity) code kinds.Bits capacity
     places_law may =
@@ -258,9 +256,9 @@ module _ {T : Type 0} where
 
     module _ (few : capacity < 2 ^ 32) where
       counts_begin : (t : Trace T) (p : ℕ) (start : Start T) (flight : Flight T) → IsReached t → IsMadeSo code kinds.Counts capacity t
-          → refusal_of t.world (Begin p start) ≡ None → every_call start ≡ true → length t.world.words ≡ capacity
+          → refusal_of t.world (Begin p start) ≡ None → length t.world.words ≡ capacity
           → first_of kinds.Counts capacity start t.world.kept ≡ Some flight → BeginsSo (counts_reading capacity) code t p start flight
-      counts_begin t p (starts.Bits start) flight r made free such long named =
+      counts_begin t p (starts.Bits start) flight r made free long named =
           go start named
           (subst (λ n. first_row (kept_rows n start t.world.kept p) ≡ None) made.capacity
           (may_begin t.world p (starts.Bits start) (passes t.world (Begin p (starts.Bits start)) free).on).rows)
@@ -282,7 +280,7 @@ module _ {T : Type 0} where
           go calls.ResetAll e rows =
               so calls.ResetAll (under_way.TakeAll (record { call = all_counts capacity; given = tt; room = fresh })) (same_flight _ flight e) rows
               (takes_all code capacity t.world.turns t.world.words long few)
-      counts_begin t p start flight r made free such long named = absurd (cc)
+      counts_begin t p start flight r made free long named = absurd (cc)
 
     pub counts_law : capacity_error kinds.Counts capacity ≡ None → Law (counts_reading capacity) code kinds.Counts capacity
     counts_law may =

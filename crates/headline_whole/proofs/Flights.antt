@@ -1,5 +1,5 @@
--- A call of a machine that runs alone, step by step, and how a call of the crate `steps` becomes one.
-use Rattle.std.proofs.Common.{◌≡◌, ℕ, zero, suc, ◌-◌, ◌^◌, ◌≤◌, ◌==◌, Bool, true, false, Option, Some, List, refl, sym}
+-- A call of a machine that runs alone, from one question to the next, and how a call of the crate `steps` becomes one.
+use Rattle.std.proofs.Common.{◌≡◌, ℕ, zero, suc, ◌-◌, ◌^◌, ◌≤◌, ◌==◌, Bool, true, false, Option, Some, List, ◌++◌, refl, sym, ◌∙◌}
 use Rattle.std.proofs.Common.{subst, arith, slice_index, slice_set, if◌then◌else◌}
 use Rattle.std.proofs.lemmas.List.{set-get_or}
 use Rattle.steps.specs.Ask.{written}
@@ -16,12 +16,13 @@ use Rattle.model.specs.declared.families.Flight.{Flight}
 use Rattle.model.specs.Coding.{Coding}
 use Rattle.model.specs.Families.{want_of, ask_of, after_of, is_question}
 use Rattle.model.specs.Step.{as_call}
-use Rattle.model.specs.Turns.{old_of, words_after}
+use Rattle.model.specs.Turns.{old_of, words_after, number_of}
 use Rattle.plain.specs.declared.drive.Stop.{Stop}
 use Rattle.plain.specs.declared.drive.Stop.TheVariants.{Asked, Ended}
-use Rattle.plain.specs.Alone.{written_by, answer_in, words_then, room_then, stepped, StopsFrom, StopsIn}
-use Rattle.plain.proofs.Alone.{Runs}
+use Rattle.plain.specs.Alone.{written_by, answer_in, words_then, room_then, stepped, StopsFrom, StopsIn, CanStop, StopsAlike}
+use Rattle.plain.proofs.Alone.{Runs, Halts}
 use Rattle.plain.proofs.Walks.{LowThen}
+use Rattle.headline_whole.specs.Dialogues.{Decision, decided}
 
 -- ---- one operation, as a machine does it
 
@@ -45,8 +46,76 @@ same_old words (wants.TheVariants.Ask ask) = refl
 same_old words (wants.TheVariants.Question question) = refl
 same_old words wants.TheVariants.Nothing = refl
 
-same_end : {C E : Type 0} (a b : E) → ◌≡◌ {A = Stop C E} (Ended a) (Ended b) → a ≡ b
-same_end a b e = cc
+-- ---- a call alone stops in one way
+
+module _ {C G M E : Type 0} (want : C → G → Want (Unit {0})) (after : C → G → ℕ → After C E) (kept : C → M → ℕ → M) (given : G) where
+  same_from : (n k : ℕ) (s z : Stop C E) (r q : M) (last end : List ℕ) (a : After C (Stop C E)) (room : M) (words : List ℕ)
+      → ((d : C) → StopsIn want after kept given n s r last d room words → StopsIn want after kept given k z q end d room words
+      → (s ≡ z) × (r ≡ q) × (last ≡ end))
+      → StopsFrom want after kept given (StopsIn want after kept given n s r last) a room words s r last
+      → StopsFrom want after kept given (StopsIn want after kept given k z q end) a room words z q end
+      → (s ≡ z) × (r ≡ q) × (last ≡ end)
+  same_from n k s z r q last end (GoOn d) room words on t u = on d t u
+  same_from n k s z r q last end (Done x) room words on t u = (t.0 ∙ sym u.0, t.1 ∙ sym u.1, t.2 ∙ sym u.2)
+
+  same_stop : (n k : ℕ) (s z : Stop C E) (r q : M) (last end : List ℕ) (call : C) (room : M) (words : List ℕ)
+      → StopsIn want after kept given n s r last call room words → StopsIn want after kept given k z q end call room words
+      → (s ≡ z) × (r ≡ q) × (last ≡ end)
+  same_stop zero k s z r q last end call room words t u = absurd t
+  same_stop (suc n) zero s z r q last end call room words t u = absurd u
+  same_stop (suc n) (suc k) s z r q last end call room words t u =
+      same_from n k s z r q last end (stepped (want call given) call (after call given (answer_in words (want call given))))
+      (room_then (want call given) room (kept call room (answer_in words (want call given)))) (words_then words (want call given))
+      (λ d v w. same_stop n k s z r q last end d (room_then (want call given) room (kept call room (answer_in words (want call given))))
+      (words_then words (want call given)) v w)
+      t u
+
+  pub alike : (call : C) (room : M) (words : List ℕ) (h : CanStop want after kept given call room words)
+      → StopsAlike want after kept given call room words h.stop h.last_room h.last_words
+  alike call room words h n s r last t = same_stop h.steps n h.stop s h.last_room r h.last_words last call room words h.stops t
+
+-- ---- one step of a call that puts no question
+
+module _ {C G M E : Type 0} (want : C → G → Want (Unit {0})) (after : C → G → ℕ → After C E) (kept : C → M → ℕ → M) (given : G)
+    (P : E → M → List ℕ → Type 0) where
+  abbrev pub RunsOn : After C E → M → List ℕ → Type 0
+  RunsOn (GoOn d) room words = Runs want after kept given P d room words
+  RunsOn (Done e) room words = P e room words
+
+  ended_is : (a b : E) → ◌≡◌ {A = Stop C E} (Ended a) (Ended b) → a ≡ b
+  ended_is a b e = cc
+
+  run_moved : (n : ℕ) (end : E) (r : M) (last : List ℕ) (call : C) (w : Want (Unit {0})) (a : After C E) (room next : M) (words : List ℕ)
+      → n ≤ 2 ^ 64 - 1 → P end r last → is_question w ≡ false
+      → StopsFrom want after kept given (StopsIn want after kept given n (Ended end) r last) (stepped w call a) (room_then w room next)
+      (words_then words w) (Ended end) r last
+      → RunsOn a next (words_then words w)
+  run_moved n end r last call (wants.TheVariants.Ask ask) (GoOn d) room next words few holds calm t =
+      record { steps = n; few = few; end = end; last_room = r; last_words = last; ends = t; holds = holds }
+  run_moved n end r last call (wants.TheVariants.Ask ask) (Done x) room next words few holds calm t =
+      let is = ended_is end x t.0 in subst (λ (z : E × M × List ℕ). P z.0 z.1 z.2) (λ i. (is i, t.1 i, t.2 i)) holds
+  run_moved n end r last call (wants.TheVariants.Question question) a room next words few holds calm t = absurd (cc)
+  run_moved n end r last call wants.TheVariants.Nothing (GoOn d) room next words few holds calm t =
+      record { steps = n; few = few; end = end; last_room = r; last_words = last; ends = t; holds = holds }
+  run_moved n end r last call wants.TheVariants.Nothing (Done x) room next words few holds calm t =
+      let is = ended_is end x t.0 in subst (λ (z : E × M × List ℕ). P z.0 z.1 z.2) (λ i. (is i, t.1 i, t.2 i)) holds
+
+  pub run_goes : (call : C) (room : M) (words : List ℕ) → Runs want after kept given P call room words → is_question (want call given) ≡ false
+      → RunsOn (after call given (old_of words (ask_of (want call given)))) (kept call room (old_of words (ask_of (want call given))))
+      (words_after words (ask_of (want call given)))
+  run_goes call room words h calm = go h.steps h.few h.ends
+    where
+      go : (n : ℕ) → n ≤ 2 ^ 64 - 1 → StopsIn want after kept given n (Ended h.end) h.last_room h.last_words call room words
+          → RunsOn (after call given (old_of words (ask_of (want call given)))) (kept call room (old_of words (ask_of (want call given))))
+          (words_after words (ask_of (want call given)))
+      go zero few t = absurd t
+      go (suc n) few t =
+          subst (λ old. RunsOn (after call given old) (kept call room old) (words_after words (ask_of (want call given))))
+          (same_old words (want call given))
+          (subst (RunsOn (after call given (answer_in words (want call given))) (kept call room (answer_in words (want call given))))
+          (same_words words (want call given))
+          (run_moved n h.end h.last_room h.last_words call (want call given) (after call given (answer_in words (want call given))) room
+          (kept call room (answer_in words (want call given))) words (omega arith) h.holds calm t))
 
 pub same_flight : {T : Type 0} (a b : Flight T) → ◌≡◌ {A = Option (Flight T)} (Some a) (Some b) → a ≡ b
 same_flight a b e = cc
@@ -58,57 +127,106 @@ module _ {T : Type 0} (code : Coding T) where
       Runs (λ (f : Flight T) (given : Unit {0}). want_of code f) (λ f given old. after_of code f old) (λ f (room : Unit {0}) old. room) tt
       (λ answer room last. P answer last) flight tt words
 
-  -- it has ended so, or it goes on from there
-  abbrev pub Then : (Answer T → List ℕ → Type 0) → After (Flight T) (Answer T) → List ℕ → Type 0
-  Then P (GoOn flight) words = FlightRuns P flight words
-  Then P (Done answer) words = P answer words
+  -- ---- a call that puts questions
 
-  abbrev EndsAlone : ℕ → Answer T → Unit {0} → List ℕ → Flight T → Unit {0} → List ℕ → Type 0
-  EndsAlone n answer room last flight now words =
-      StopsIn (λ (f : Flight T) (given : Unit {0}). want_of code f) (λ f given old. after_of code f old) (λ f (room : Unit {0}) old. room) tt
-      n (Ended answer) room last flight now words
+  module _ (P : List (Decision T) → Answer T → List ℕ → Type 0) where
+    -- what has become of it, once it was told this
+    abbrev pub Turns : (List (Decision T) → Flight T → List ℕ → Type 0) → List (Decision T) → After (Flight T) (Answer T) → List ℕ → Type 0
+    Turns rest told (GoOn flight) words = rest told flight words
+    Turns rest told (Done answer) words = P told answer words
 
-  abbrev EndsFrom : ℕ → Answer T → Unit {0} → List ℕ → After (Flight T) (Stop (Flight T) (Answer T)) → Unit {0} → List ℕ → Type 0
-  EndsFrom n answer room last next now words =
-      StopsFrom (λ (f : Flight T) (given : Unit {0}). want_of code f) (λ f given old. after_of code f old) (λ f (room : Unit {0}) old. room) tt
-      (λ f m ws. EndsAlone n answer room last f m ws) next now words (Ended answer) room last
+    -- it has ended, or whatever it is told it goes on from there
+    abbrev pub AtStop : (List (Decision T) → Flight T → List ℕ → Type 0) → List (Decision T) → Stop (Flight T) (Answer T) → List ℕ → Type 0
+    AtStop rest told (Ended answer) words = P told answer words
+    AtStop rest told (Asked question flight) words =
+        (said : Bool) → Turns rest (told ++ decided code (Some flight) said) (after_of code flight (number_of said)) words
 
-  -- ---- one step
+    abbrev pub Halting : (List (Decision T) → Flight T → List ℕ → Type 0) → List (Decision T) → Flight T → List ℕ → Type 0
+    Halting rest told flight words =
+        Halts (λ (f : Flight T) (given : Unit {0}). want_of code f) (λ f given old. after_of code f old) (λ f (room : Unit {0}) old. room) tt
+        (λ stop room last. AtStop rest told stop last) flight tt words
 
-  module _ (P : Answer T → List ℕ → Type 0) where
-    taken : (n : ℕ) (end : Answer T) (room : Unit {0}) (last : List ℕ) (flight : Flight T) (w : Want (Unit {0}))
-        (a : After (Flight T) (Answer T)) (words : List ℕ)
-        → n ≤ 2 ^ 64 - 1 → P end last
-        → EndsFrom n end room last (stepped w flight a) (room_then w tt tt) (words_then words w)
-        → (is_question w ≡ false) × Then P a (words_then words w)
-    taken n end room last flight (wants.TheVariants.Ask ask) (GoOn d) words few holds t =
-        (refl, record { steps = n; few = few; end = end; last_room = room; last_words = last; ends = t; holds = holds })
-    taken n end room last flight (wants.TheVariants.Ask ask) (Done x) words few holds t =
-        (refl, subst (λ z. P z (words_then words (wants.TheVariants.Ask ask))) (same_end {C = Flight T} end x t.0) (subst (P end) t.2 holds))
-    taken n end room last flight (wants.TheVariants.Question question) a words few holds t =
-        let e : ◌≡◌ {A = Stop (Flight T) (Answer T)} (Ended end) (Asked question flight) = t.0 in absurd (cc)
-    taken n end room last flight wants.TheVariants.Nothing (GoOn d) words few holds t =
-        (refl, record { steps = n; few = few; end = end; last_room = room; last_words = last; ends = t; holds = holds })
-    taken n end room last flight wants.TheVariants.Nothing (Done x) words few holds t =
-        (refl, subst (λ z. P z words) (same_end {C = Flight T} end x t.0) (subst (P end) t.2 holds))
+    -- alone from here it asks fewer questions than this, and whatever it is told, P holds of what it was told and of its answer
+    abbrev pub Talks : ℕ → List (Decision T) → Flight T → List ℕ → Type 0
+    Talks zero told flight words = ⊥
+    Talks (suc n) told flight words = Halting (Talks n) told flight words
 
-    -- it puts no question, and once a machine has taken its step, it has ended so or runs on
-    pub one_step : (flight : Flight T) (words : List ℕ) → FlightRuns P flight words
-        → (is_question (want_of code flight) ≡ false)
-        × Then P (after_of code flight (old_of words (ask_of (want_of code flight)))) (words_after words (ask_of (want_of code flight)))
-    one_step flight words h = go h.steps h.few h.ends
-      where
-        go : (n : ℕ) → n ≤ 2 ^ 64 - 1 → EndsAlone n h.end h.last_room h.last_words flight tt words
-            → (is_question (want_of code flight) ≡ false)
-            × Then P (after_of code flight (old_of words (ask_of (want_of code flight)))) (words_after words (ask_of (want_of code flight)))
-        go zero few t = absurd t
-        go (suc n) few t =
-            subst (λ old. (is_question (want_of code flight) ≡ false) × Then P (after_of code flight old) (words_after words (ask_of (want_of code flight))))
-            (same_old words (want_of code flight))
-            (subst (λ ws. (is_question (want_of code flight) ≡ false) × Then P (after_of code flight (answer_in words (want_of code flight))) ws)
-            (same_words words (want_of code flight))
-            (taken n h.end h.last_room h.last_words flight (want_of code flight) (after_of code flight (answer_in words (want_of code flight))) words
-            (omega arith) h.holds t))
+    abbrev HaltsFrom : ℕ → Stop (Flight T) (Answer T) → Unit {0} → List ℕ → After (Flight T) (Stop (Flight T) (Answer T)) → Unit {0} → List ℕ → Type 0
+    HaltsFrom n stop room last next now words =
+        StopsFrom (λ (f : Flight T) (given : Unit {0}). want_of code f) (λ f given old. after_of code f old) (λ f (room : Unit {0}) old. room) tt
+        (StopsIn (λ (f : Flight T) (given : Unit {0}). want_of code f) (λ f given old. after_of code f old) (λ f (room : Unit {0}) old. room) tt
+        n stop room last) next now words stop room last
+
+    module _ (rest : List (Decision T) → Flight T → List ℕ → Type 0) (told : List (Decision T)) where
+      moved : (n : ℕ) (stop : Stop (Flight T) (Answer T)) (room : Unit {0}) (last : List ℕ) (flight : Flight T) (w : Want (Unit {0}))
+          (a : After (Flight T) (Answer T)) (words : List ℕ) → n ≤ 2 ^ 64 - 1 → AtStop rest told stop last → is_question w ≡ false
+          → HaltsFrom n stop room last (stepped w flight a) (room_then w tt tt) (words_then words w)
+          → Turns (Halting rest) told a (words_then words w)
+      moved n stop room last flight (wants.TheVariants.Ask ask) (GoOn d) words few holds calm t =
+          record { steps = n; few = few; stop = stop; last_room = room; last_words = last; stops = t; holds = holds }
+      moved n stop room last flight (wants.TheVariants.Ask ask) (Done x) words few holds calm t =
+          subst (λ s. AtStop rest told s (words_then words (wants.TheVariants.Ask ask))) t.0 (subst (AtStop rest told stop) t.2 holds)
+      moved n stop room last flight (wants.TheVariants.Question question) a words few holds calm t = absurd (cc)
+      moved n stop room last flight wants.TheVariants.Nothing (GoOn d) words few holds calm t =
+          record { steps = n; few = few; stop = stop; last_room = room; last_words = last; stops = t; holds = holds }
+      moved n stop room last flight wants.TheVariants.Nothing (Done x) words few holds calm t =
+          subst (λ s. AtStop rest told s words) t.0 (subst (AtStop rest told stop) t.2 holds)
+
+      heard : (n : ℕ) (stop : Stop (Flight T) (Answer T)) (room : Unit {0}) (last : List ℕ) (flight : Flight T) (w : Want (Unit {0}))
+          (a : After (Flight T) (Answer T)) (words : List ℕ) → AtStop rest told stop last → is_question w ≡ true
+          → HaltsFrom n stop room last (stepped w flight a) (room_then w tt tt) (words_then words w)
+          → (said : Bool) → Turns rest (told ++ decided code (Some flight) said) (after_of code flight (number_of said)) words
+      heard n stop room last flight (wants.TheVariants.Ask ask) a words holds is t = absurd (cc)
+      heard n stop room last flight (wants.TheVariants.Question question) a words holds is t =
+          subst (λ s. AtStop rest told s words) t.0 (subst (AtStop rest told stop) t.2 holds)
+      heard n stop room last flight wants.TheVariants.Nothing a words holds is t = absurd (cc)
+
+      -- where a machine takes a step of it that needs no decision, it goes on or has ended so
+      pub talk_goes : (flight : Flight T) (words : List ℕ) → Halting rest told flight words → is_question (want_of code flight) ≡ false
+          → Turns (Halting rest) told (after_of code flight (old_of words (ask_of (want_of code flight)))) (words_after words (ask_of (want_of code flight)))
+      talk_goes flight words h calm = go h.steps h.few h.stops
+        where
+          go : (n : ℕ) → n ≤ 2 ^ 64 - 1
+              → StopsIn (λ (f : Flight T) (given : Unit {0}). want_of code f) (λ f given old. after_of code f old) (λ f (room : Unit {0}) old. room) tt
+              n h.stop h.last_room h.last_words flight tt words
+              → Turns (Halting rest) told (after_of code flight (old_of words (ask_of (want_of code flight))))
+              (words_after words (ask_of (want_of code flight)))
+          go zero few t = absurd t
+          go (suc n) few t =
+              subst (λ old. Turns (Halting rest) told (after_of code flight old) (words_after words (ask_of (want_of code flight))))
+              (same_old words (want_of code flight))
+              (subst (λ ws. Turns (Halting rest) told (after_of code flight (answer_in words (want_of code flight))) ws)
+              (same_words words (want_of code flight))
+              (moved n h.stop h.last_room h.last_words flight (want_of code flight) (after_of code flight (answer_in words (want_of code flight))) words
+              (omega arith) h.holds calm t))
+
+      -- and where it is told yes or no
+      pub talk_hears : (flight : Flight T) (words : List ℕ) → Halting rest told flight words → is_question (want_of code flight) ≡ true → (said : Bool)
+          → Turns rest (told ++ decided code (Some flight) said) (after_of code flight (number_of said)) words
+      talk_hears flight words h is = go h.steps h.stops
+        where
+          go : (n : ℕ)
+              → StopsIn (λ (f : Flight T) (given : Unit {0}). want_of code f) (λ f given old. after_of code f old) (λ f (room : Unit {0}) old. room) tt
+              n h.stop h.last_room h.last_words flight tt words
+              → (said : Bool) → Turns rest (told ++ decided code (Some flight) said) (after_of code flight (number_of said)) words
+          go zero t = absurd t
+          go (suc n) t =
+              heard n h.stop h.last_room h.last_words flight (want_of code flight) (after_of code flight (answer_in words (want_of code flight))) words
+              h.holds is t
+
+    -- a call that puts no question
+    pub talks_once : (Q : Answer T → List ℕ → Type 0) (told : List (Decision T)) (flight : Flight T) (words : List ℕ)
+        → ((answer : Answer T) (last : List ℕ) → Q answer last → P told answer last) → FlightRuns Q flight words → Talks 1 told flight words
+    talks_once Q told flight words so h =
+        record {
+          steps = h.steps;
+          few = h.few;
+          stop = Ended h.end;
+          last_room = h.last_room;
+          last_words = h.last_words;
+          stops = h.ends;
+          holds = so h.end h.last_words h.holds;
+        }
 
   -- ---- a call of `steps` as a call of a machine
 
@@ -123,36 +241,48 @@ module _ {T : Type 0} (code : Coding T) where
       pub goes : (c : C) (room : M) (old : ℕ) → Low c → after_of code (flight c room) old ≡ came (kept c room old) (after c given old)
       pub stays : (c : C) (old : ℕ) → Low c → LowThen Low (after c given old)
 
-    lifted : (n : ℕ) (e : E) (r : M) (last : List ℕ) (w : Want (Unit {0})) (c : C) (a : After C E) (room next : M) (words : List ℕ)
-        → LowThen Low a
-        → ((d : C) (m : M) (ws : List ℕ) → Low d → StopsIn want after kept given n (Ended e) r last d m ws
-        → EndsAlone n (answer e r) tt last (flight d m) tt ws)
-        → StopsFrom want after kept given (StopsIn want after kept given n (Ended e) r last) (stepped w c a) (room_then w room next)
-        (words_then words w) (Ended e) r last
-        → EndsFrom n (answer e r) tt last (stepped w (flight c room) (came next a)) (room_then w tt tt) (words_then words w)
-    lifted n e r last (wants.TheVariants.Ask ask) c (GoOn d) room next words low on t = on d next (words_then words (wants.TheVariants.Ask ask)) low t
-    lifted n e r last (wants.TheVariants.Ask ask) c (Done x) room next words low on t =
-        let end = same_end {C = C} e x t.0 in ((λ i. Ended (answer (end i) (t.1 i))), refl, t.2)
-    lifted n e r last (wants.TheVariants.Question question) c a room next words low on t =
-        let f : ◌≡◌ {A = Stop C E} (Ended e) (Asked question c) = t.0 in absurd (cc)
-    lifted n e r last wants.TheVariants.Nothing c (GoOn d) room next words low on t = on d next words low t
-    lifted n e r last wants.TheVariants.Nothing c (Done x) room next words low on t =
-        let end = same_end {C = C} e x t.0 in ((λ i. Ended (answer (end i) (t.1 i))), refl, t.2)
+    -- where the one stops, the other stops
+    abbrev pub lift_stop : Stop C E → M → Stop (Flight T) (Answer T)
+    lift_stop (Ended e) room = Ended (answer e room)
+    lift_stop (Asked question call) room = Asked question (flight call room)
 
-    lifts : IsFlight → (n : ℕ) (e : E) (r : M) (last : List ℕ) (c : C) (room : M) (words : List ℕ) → Low c
-        → StopsIn want after kept given n (Ended e) r last c room words
-        → EndsAlone n (answer e r) tt last (flight c room) tt words
-    lifts is zero e r last c room words low t = absurd t
-    lifts is (suc n) e r last c room words low t =
-        subst (λ w. EndsFrom n (answer e r) tt last (stepped w (flight c room) (after_of code (flight c room) (answer_in words w))) (room_then w tt tt)
+    abbrev StopsAlone : ℕ → Stop (Flight T) (Answer T) → List ℕ → Flight T → Unit {0} → List ℕ → Type 0
+    StopsAlone n stop last under now words =
+        StopsIn (λ (f : Flight T) (given : Unit {0}). want_of code f) (λ f given old. after_of code f old) (λ f (room : Unit {0}) old. room) tt
+        n stop tt last under now words
+
+    abbrev StopsOn : ℕ → Stop (Flight T) (Answer T) → List ℕ → After (Flight T) (Stop (Flight T) (Answer T)) → Unit {0} → List ℕ → Type 0
+    StopsOn n stop last next now words =
+        StopsFrom (λ (f : Flight T) (given : Unit {0}). want_of code f) (λ f given old. after_of code f old) (λ f (room : Unit {0}) old. room) tt
+        (λ f m ws. StopsAlone n stop last f m ws) next now words stop tt last
+
+    lifted : (n : ℕ) (s : Stop C E) (r : M) (last : List ℕ) (w : Want (Unit {0})) (c : C) (a : After C E) (room next : M) (words : List ℕ)
+        → LowThen Low a
+        → ((d : C) (m : M) (ws : List ℕ) → Low d → StopsIn want after kept given n s r last d m ws
+        → StopsAlone n (lift_stop s r) last (flight d m) tt ws)
+        → StopsFrom want after kept given (StopsIn want after kept given n s r last) (stepped w c a) (room_then w room next)
+        (words_then words w) s r last
+        → StopsOn n (lift_stop s r) last (stepped w (flight c room) (came next a)) (room_then w tt tt) (words_then words w)
+    lifted n s r last (wants.TheVariants.Ask ask) c (GoOn d) room next words low on t = on d next (words_then words (wants.TheVariants.Ask ask)) low t
+    lifted n s r last (wants.TheVariants.Ask ask) c (Done x) room next words low on t = ((λ i. lift_stop (t.0 i) (t.1 i)), refl, t.2)
+    lifted n s r last (wants.TheVariants.Question question) c a room next words low on t = ((λ i. lift_stop (t.0 i) (t.1 i)), refl, t.2)
+    lifted n s r last wants.TheVariants.Nothing c (GoOn d) room next words low on t = on d next words low t
+    lifted n s r last wants.TheVariants.Nothing c (Done x) room next words low on t = ((λ i. lift_stop (t.0 i) (t.1 i)), refl, t.2)
+
+    lifts : IsFlight → (n : ℕ) (s : Stop C E) (r : M) (last : List ℕ) (c : C) (room : M) (words : List ℕ) → Low c
+        → StopsIn want after kept given n s r last c room words
+        → StopsAlone n (lift_stop s r) last (flight c room) tt words
+    lifts is zero s r last c room words low t = absurd t
+    lifts is (suc n) s r last c room words low t =
+        subst (λ w. StopsOn n (lift_stop s r) last (stepped w (flight c room) (after_of code (flight c room) (answer_in words w))) (room_then w tt tt)
         (words_then words w))
         (sym (is.wants c room low))
-        (subst (λ a. EndsFrom n (answer e r) tt last (stepped (want c given) (flight c room) a) (room_then (want c given) tt tt)
+        (subst (λ a. StopsOn n (lift_stop s r) last (stepped (want c given) (flight c room) a) (room_then (want c given) tt tt)
         (words_then words (want c given)))
         (sym (is.goes c room (answer_in words (want c given)) low))
-        (lifted n e r last (want c given) c (after c given (answer_in words (want c given))) room
+        (lifted n s r last (want c given) c (after c given (answer_in words (want c given))) room
         (kept c room (answer_in words (want c given))) words (is.stays c (answer_in words (want c given)) low)
-        (λ d m ws less u. lifts is n e r last d m ws less u) t))
+        (λ d m ws less u. lifts is n s r last d m ws less u) t))
 
     pub runs_as : IsFlight → (Q : E → M → List ℕ → Type 0) (P : Answer T → List ℕ → Type 0)
         → ((e : E) (room : M) (last : List ℕ) → Q e room last → P (answer e room) last)
@@ -164,8 +294,23 @@ module _ {T : Type 0} (code : Coding T) where
           end = answer h.end h.last_room;
           last_room = tt;
           last_words = h.last_words;
-          ends = lifts is h.steps h.end h.last_room h.last_words c room words low h.ends;
+          ends = lifts is h.steps (Ended h.end) h.last_room h.last_words c room words low h.ends;
           holds = so h.end h.last_room h.last_words h.holds;
+        }
+
+    pub talks_as : IsFlight → (P : List (Decision T) → Answer T → List ℕ → Type 0) (n : ℕ) (told : List (Decision T))
+        (c : C) (room : M) (words : List ℕ) → Low c → (h : CanStop want after kept given c room words)
+        → AtStop P (Talks P n) told (lift_stop h.stop h.last_room) h.last_words
+        → Talks P (suc n) told (flight c room) words
+    talks_as is P n told c room words low h at =
+        record {
+          steps = h.steps;
+          few = h.few;
+          stop = lift_stop h.stop h.last_room;
+          last_room = tt;
+          last_words = h.last_words;
+          stops = lifts is h.steps h.stop h.last_room h.last_words c room words low h.stops;
+          holds = at;
         }
 
 -- what has become of a call of a family, as what has become of the machine's call

@@ -49,7 +49,7 @@ use Rattle.plain.proofs.Stacks.Looks.{count_runs, look_runs}
 use Rattle.plain.proofs.Stacks.Opened.{Linked, all_free}
 use Rattle.plain.proofs.Stacks.Releases.{Gave, give_runs, GaveOrLocked, lock_runs}
 use Rattle.plain.proofs.Walks.{any_low}
-use Rattle.headline_whole.specs.Objects.{every_call, whole_stack}
+use Rattle.headline_whole.specs.Objects.{whole_stack}
 use Rattle.headline_whole.proofs.Agree.{Agree}
 use Rattle.headline_whole.proofs.Flights.{FlightRuns, runs_as, twice, same_flight}
 use Rattle.headline_whole.proofs.Law.{IsMadeSo, Reading, Answers, BeginsSo, Law}
@@ -104,7 +104,6 @@ module _ {T : Type 0} where
       record {
         State = Stack;
         spec = whole_stack capacity;
-        such = every_call;
         Holds = λ turns words. Represents capacity words;
         read = stack_in capacity;
       }
@@ -231,9 +230,9 @@ module _ {T : Type 0} where
 
   module _ (code : Coding T) (capacity : ℕ) where
     begins : (t : Trace T) (p : ℕ) (start : Start T) (flight : Flight T) → IsReached t → IsMadeSo code kinds.TheVariants.Indices capacity t
-        → refusal_of t.world (Begin p start) ≡ None → every_call start ≡ true → Represents capacity t.world.words
+        → refusal_of t.world (Begin p start) ≡ None → Represents capacity t.world.words
         → first_of kinds.TheVariants.Indices capacity start t.world.kept ≡ Some flight → BeginsSo (reading capacity) code t p start flight
-    begins t p (starts.Indices start) flight r made free such fits named =
+    begins t p (starts.Indices start) flight r made free fits named =
         let is = same_flight (flights.Indices (first capacity start)) flight named in
         let rows = (may_begin t.world p (starts.Indices start) (passes t.world (Begin p (starts.Indices start)) free).on).rows in
         record {
@@ -256,7 +255,7 @@ module _ {T : Type 0} where
             locks code capacity t.world.turns t.world.words fits index (out index LockIfLastIndex allowed)
         runs calls.BorrowedIndices allowed = counts code capacity t.world.turns t.world.words fits
         runs calls.IsLocked allowed = looks code capacity t.world.turns t.world.words fits
-    begins t p start flight r made free such fits named = absurd (cc)
+    begins t p start flight r made free fits named = absurd (cc)
 
     pub law : capacity_error kinds.TheVariants.Indices capacity ≡ None → Law (reading capacity) code kinds.TheVariants.Indices capacity
     law may =

@@ -1,5 +1,5 @@
 -- What is to be shown of the calls of a kind: over words that hold an object each runs alone as the object says.
-use Rattle.std.proofs.Common.{◌≡◌, ℕ, ◌+◌, ◌≤◌, Bool, true, Some, None, List, if◌then◌else◌}
+use Rattle.std.proofs.Common.{◌≡◌, ℕ, ◌+◌, ◌≤◌, true, Some, None, List, if◌then◌else◌}
 use Rattle.model.specs.declared.event.Answer.{Answer}
 use Rattle.model.specs.declared.event.Start.{Start}
 use Rattle.model.specs.declared.families.Flight.{Flight}
@@ -12,23 +12,17 @@ use Rattle.model.specs.Refusals.{refusal_of}
 use Rattle.model.specs.Turns.{IsReached}
 use Rattle.model.specs.World.{Trace, words_opened}
 use Rattle.headline_whole.proofs.Agree.{Agree}
+pub use Rattle.headline_whole.proofs.Courses.{IsMadeSo}
 use Rattle.headline_whole.proofs.Flights.{FlightRuns}
 
 -- how words hold an object, where the machine has taken so many turns
 pub record Reading (T : Type 0) : Type 1 where
   pub State : Type 0
   pub spec : Specification T State
-  pub such : Start T → Bool  -- the calls that may begin
   pub Holds : ℕ → List ℕ → Type 0
   pub read : List ℕ → State
 
 module _ {T : Type 0} where
-  -- the trace is one of such a machine
-  pub record IsMadeSo (z : Coding T) (k : Kind) (c : ℕ) (t : Trace T) : Type 0 where
-    pub coding : t.world.coding ≡ z
-    pub kind : t.world.kind ≡ k
-    pub capacity : t.world.capacity ≡ c
-
   module _ (R : Reading T) where
     -- a call that has begun on these words answers so and leaves these
     pub record Answers (turns : ℕ) (words : List ℕ) (start : Start T) (answer : Answer T) (last : List ℕ) : Type 0 where
@@ -45,5 +39,5 @@ module _ {T : Type 0} where
       pub opens : (queue : ℕ) → R.Holds 0 (words_opened kind code.size capacity queue)
           × (R.read (words_opened kind code.size capacity queue) ≡ R.spec.object.opening)
       pub begins : (t : Trace T) (p : ℕ) (start : Start T) (flight : Flight T) → IsReached t → IsMadeSo code kind capacity t
-          → refusal_of t.world (Begin p start) ≡ None → R.such start ≡ true → R.Holds t.world.turns t.world.words
+          → refusal_of t.world (Begin p start) ≡ None → R.Holds t.world.turns t.world.words
           → first_of kind capacity start t.world.kept ≡ Some flight → BeginsSo code t p start flight

@@ -1,18 +1,30 @@
--- The calls of the robust index set that put no question, run whole, are those of a map from index to owner.
-use Rattle.std.proofs.Common.{◌≡◌, ℕ, zero, suc, ◌^◌, ◌<◌, ◌≤◌, Bool, true, false, Some, None, option_map, List, ◌∷◌}
-use Rattle.std.proofs.Common.{map, nat_le, nat_lt, replicate, refl, ap, subst, arith, if◌then◌else◌}
+-- The calls of the robust index set, run whole, are those of a map from index to owner.
+use Rattle.std.proofs.Common.{◌≡◌, ℕ, zero, suc, ◌+◌, ◌-◌, ◌^◌, ◌<◌, ◌≤◌, Bool, true, false, Some, None, option_map, List, [], ◌∷◌, ◌++◌}
+use Rattle.std.proofs.Common.{map, nat_le, nat_lt, replicate, refl, sym, ap, subst, ◌∙◌, arith, if◌then◌else◌}
 use Rattle.std.proofs.lemmas.Bool.Decides.{nat_tests}
 use Rattle.std.proofs.lemmas.List.{length-replicate}
 use Rattle.steps.specs.Indices.Robust.Acquire.{first_acquire, acquire_want, acquire_after}
+use Rattle.steps.specs.Indices.Robust.Find.{first_find, find_want, find_after}
 use Rattle.steps.specs.Indices.Robust.Looks.{first_borrowed, borrowed_want, borrowed_after, locked_after}
 use Rattle.steps.specs.Indices.Robust.Parts.{empty}
+use Rattle.steps.specs.Indices.Robust.Recover.{first_recover, recover_want, recover_after}
 use Rattle.steps.specs.Indices.Robust.Release.{first_release, release_want, release_after}
 use Rattle.steps.specs.Objects.Owners as objects
 use Rattle.steps.specs.Objects.Owners.{Owners}
 use Rattle.steps.specs.Queues.Ring.{load}
+use Rattle.steps.specs.declared.ask.After.{After}
+use Rattle.steps.specs.declared.ask.After.TheVariants.{GoOn, Done}
+use Rattle.steps.specs.declared.ask.Question.{Question}
+use Rattle.steps.specs.declared.ask.Question.TheVariants as questions
+use Rattle.steps.specs.declared.ask.Want.TheVariants as wants
+use Rattle.steps.specs.declared.enums.CallbackProgression.{CallbackProgression}
 use Rattle.steps.specs.declared.indices.enums.ReleaseMode.{ReleaseMode}
+use Rattle.steps.specs.declared.indices.enums.ReleaseState.{ReleaseState}
+use Rattle.steps.specs.declared.indices.robust.find.Find.{Find}
 use Rattle.steps.specs.declared.indices.robust.looks.BorrowedIndices.{BorrowedIndices}
 use Rattle.steps.specs.declared.indices.robust.looks.IsLocked.{IsLocked}
+use Rattle.steps.specs.declared.indices.robust.recover.Recover.{Recover}
+use Rattle.model.specs.declared.event.Answer.{Answer}
 use Rattle.model.specs.declared.event.Answer.TheVariants as answers
 use Rattle.model.specs.declared.event.Start.{Start}
 use Rattle.model.specs.declared.event.Start.TheVariants as starts
@@ -26,25 +38,40 @@ use Rattle.model.specs.declared.families.indices.robust.calls.RobustFlight.TheVa
 use Rattle.model.specs.declared.turn.Kind.TheVariants as kinds
 use Rattle.model.specs.declared.turn.Turn.TheVariants.{Begin}
 use Rattle.model.specs.Coding.{Coding}
-use Rattle.model.specs.Families.{first_of}
+use Rattle.model.specs.Families.{first_of, after_of, kept_after_begin}
 use Rattle.model.specs.Families.Indices.Robust.Calls.{first, acquire_answer, release_answer}
 use Rattle.model.specs.Families.Indices.Robust.Opening.{names_owner, kept_rows}
+use Rattle.model.specs.Families.Indices.Robust.Opening.{opening_words as robust_words}
 use Rattle.model.specs.Families.Queues.Calls.{as_it_is}
 use Rattle.model.specs.Refusals.{refusal_of}
 use Rattle.model.specs.Rows.{first_row}
-use Rattle.model.specs.Turns.{IsReached}
+use Rattle.model.specs.Step.{as_call}
+use Rattle.model.specs.Turns.{IsReached, number_of}
 use Rattle.model.specs.World.{Trace, capacity_error}
 use Rattle.model.proofs.Rows.{passes, may_begin, row_passed}
-use Rattle.plain.specs.Alone.{BehavesAs}
+use Rattle.plain.specs.declared.drive.Stop.{Stop}
+use Rattle.plain.specs.declared.drive.Stop.TheVariants as stops
+use Rattle.plain.specs.Alone.{BehavesAs, StopsAlike}
+use Rattle.plain.specs.Callable.{HasFound, index_in}
 use Rattle.plain.specs.Robust.{owner_in, owners_in, Represents}
 use Rattle.plain.proofs.Robust.Acquires.{take_at}
+use Rattle.plain.proofs.Alone.{stops_so}
+use Rattle.plain.proofs.Robust.Finding.{Searching, Further, can_go, ended_so, further_so}
+use Rattle.plain.proofs.Robust.Finding.{starts as starts_find, few_rounds as find_rounds}
 use Rattle.plain.proofs.Robust.Looks.{borrowed_at, looked_at}
+use Rattle.plain.proofs.Robust.Recovering.{Recovering, Gone, Onward, asks_so, onward_so}
+use Rattle.plain.proofs.Robust.Recovering.{can_go as recover_can, ended_so as recovered_so, starts as starts_recover, few_rounds as recover_rounds}
+use Rattle.plain.proofs.Robust.Recovers.{AsksAt}
 use Rattle.plain.proofs.Robust.Releases.{give_at}
 use Rattle.plain.proofs.Walks.{any_low}
-use Rattle.headline_whole.specs.Objects.{is_owners_call, whole_owners}
+use Rattle.headline_whole.specs.Dialogues.{Decision, decided, decided_at}
+use Rattle.headline_whole.specs.Objects.{owners_after, owners_questions, owners_answer, owners_freed, whole_owners}
 use Rattle.headline_whole.proofs.Agree.{Agree}
-use Rattle.headline_whole.proofs.Flights.{FlightRuns, runs_as, twice}
-use Rattle.headline_whole.proofs.Law.{IsMadeSo, Reading, Answers, BeginsSo, Law}
+use Rattle.headline_whole.proofs.Courses.{Course, IsMadeSo, Rules}
+use Rattle.headline_whole.proofs.Flights.{FlightRuns, IsFlight, Turns, AtStop, Talks, talks_once, lift_stop, runs_as, talks_as, alike, twice}
+use Rattle.headline_whole.proofs.Replies.{course}
+use Rattle.headline_whole.proofs.Talks.{Speech, Ends, Speaks, talking, talk_rules}
+use Rattle.headline_whole.proofs.Told.{goes_on, progression, same_decision, same_number, yes_number, yes_of, decision, found_so, asked_so}
 
 pub admitted : (c : ℕ) → capacity_error kinds.Robust c ≡ None → (1 ≤ c) × (c < 2 ^ 32)
 admitted x0 x1 = grind arith
@@ -66,21 +93,36 @@ named_if outer call flight true e = (refl, cc)
 named_if outer call flight false e = absurd (cc)
 
 module _ {T : Type 0} where
-  abbrev pub reading : ℕ → Reading T
-  reading capacity =
-      record {
-        State = Owners;
-        spec = whole_owners capacity;
-        such = is_owners_call;
-        Holds = λ turns words. Represents capacity words;
-        read = owners_in;
-      }
+  abbrev pub robust_course : ℕ → Course T
+  robust_course capacity = course (whole_owners {T = T} capacity)
+
+  abbrev pub robust_speech : (capacity : ℕ) → Speech (robust_course capacity)
+  robust_speech capacity = record { Holds = λ turns words. Represents capacity words; read = owners_in }
+
+  -- a call that puts no question has answered so and leaves these words
+  pub record Answers (capacity : ℕ) (words : List ℕ) (start : RobustStart) (answer : Answer T) (last : List ℕ) : Type 0 where
+    pub said : answer ≡ owners_answer (owners_in words) (starts.Robust start) []
+    pub holds : Represents capacity last
+    pub object : owners_in last ≡ owners_after {T = T} (owners_in words) (starts.Robust start) []
 
   -- ---- each call
 
-  module _ (code : Coding T) (capacity turns : ℕ) (words : List ℕ) (fits : Represents capacity words) where
+  module _ (code : Coding T) (capacity turns p : ℕ) (words : List ℕ) (fits : Represents capacity words) where
     abbrev Whole : RobustStart → Type 0
-    Whole start = FlightRuns code (Answers (reading capacity) turns words (starts.Robust start)) (flights.Robust (first capacity start)) words
+    Whole start = FlightRuns code (Answers capacity words start) (flights.Robust (first capacity start)) words
+
+    abbrev At : RobustStart → List (Decision T) → Answer T → List ℕ → Type 0
+    At start told answer last = Ends (robust_course capacity) (robust_speech capacity) code (owners_in words) turns p (starts.Robust start) told answer last
+
+    abbrev Said : RobustStart → Type 0
+    Said start = (n : ℕ) × Talks code (At start) n [] (flights.Robust (first capacity start)) words
+
+    speaks : (start : RobustStart) → owners_questions {T = T} (owners_in words) (starts.Robust start) [] ≡ [] → Whole start → Said start
+    speaks start none whole = (
+      1,
+      talks_once code (At start) (Answers capacity words start) [] (flights.Robust (first capacity start)) words
+          (λ answer last h. ((λ i. record { questions = sym none i; answer = h.said i }), h.holds, h.object)) whole,
+    )
 
     acquires : (owner : ℕ) → owner < empty → Whole (calls.Acquire owner)
     acquires owner lives =
@@ -92,8 +134,8 @@ module _ {T : Type 0} where
           stays = λ c old low. any_low (acquire_after c old);
         })
         (λ e room ws. BehavesAs (Represents capacity) owners_in objects.acquired (λ s. objects.after_acquire s owner) words e ws)
-        (Answers (reading capacity) turns words (starts.Robust (calls.Acquire owner)))
-        (λ e room last h. record { said = λ is. ap acquire_answer h.1; holds = h.0; object = h.2 })
+        (Answers capacity words (calls.Acquire owner))
+        (λ e room last h. record { said = ap acquire_answer h.1; holds = h.0; object = h.2 })
         (first_acquire capacity) tt words tt (take_at capacity owner owner refl lives (first_acquire capacity) refl words fits)
 
     releases : (index owner : ℕ) (mode : ReleaseMode) → owner < empty → index < capacity → Whole (calls.Release index owner mode)
@@ -111,8 +153,8 @@ module _ {T : Type 0} where
         })
         (λ e room ws. BehavesAs (Represents capacity) owners_in (λ s. objects.released s index owner mode)
         (λ s. objects.after_release s index owner mode) words e ws)
-        (Answers (reading capacity) turns words (starts.Robust (calls.Release index owner mode)))
-        (λ e room last h. record { said = λ is. ap release_answer h.1; holds = h.0; object = h.2 })
+        (Answers capacity words (calls.Release index owner mode))
+        (λ e room last h. record { said = ap release_answer h.1; holds = h.0; object = h.2 })
         (first_release capacity) tt words tt (give_at capacity index owner mode owner refl lives (first_release capacity) refl words fits low)
 
     counts : Whole calls.BorrowedIndices
@@ -125,8 +167,8 @@ module _ {T : Type 0} where
           stays = λ c old low. any_low (borrowed_after c old);
         })
         (λ e room ws. BehavesAs (Represents capacity) owners_in objects.borrowed objects.raised words e ws)
-        (Answers (reading capacity) turns words (starts.Robust calls.BorrowedIndices))
-        (λ e room last h. record { said = λ is. ap answers.Number h.1; holds = h.0; object = h.2 })
+        (Answers capacity words calls.BorrowedIndices)
+        (λ e room last h. record { said = ap answers.Number h.1; holds = h.0; object = h.2 })
         (first_borrowed capacity) tt words tt (borrowed_at capacity (first_borrowed capacity) refl words fits)
 
     looks : Whole calls.IsLocked
@@ -139,9 +181,185 @@ module _ {T : Type 0} where
           stays = λ c old low. tt;
         })
         (λ e room ws. BehavesAs (Represents capacity) owners_in objects.is_locked (λ s. s) words e ws)
-        (Answers (reading capacity) turns words (starts.Robust calls.IsLocked))
-        (λ e room last h. record { said = λ is. ap answers.Truth h.1; holds = h.0; object = h.2 })
+        (Answers capacity words calls.IsLocked)
+        (λ e room last h. record { said = ap answers.Truth h.1; holds = h.0; object = h.2 })
         (record {}) tt words tt (looked_at capacity (record {}) words fits)
+
+    -- ---- a find
+
+    module _ (owner : ℕ) (lives : owner < empty) where
+      abbrev finds : List (Decision T) → ℕ → CallbackProgression → List (Decision T) → Type 0
+      finds p index said q = q ≡ p ++ decision (questions.Index index) (goes_on said) ∷ []
+
+      abbrev find_flight : Find → Unit {0} → Flight T
+      find_flight c room = flights.Robust (under_way.Find (record { call = c; given = owner; room = room }))
+
+      find_is : IsFlight code (λ (c : Find) (given : ℕ). find_want c) find_after (λ c (room : Unit {0}) old. room) owner (λ c. Unit {0})
+          find_flight (λ e room. answers.Number e)
+      find_is =
+          record {
+            wants = λ c room low. refl;
+            goes = λ c room old low. twice flights.Robust under_way.Find answers.Number as_it_is owner room (find_after c owner old);
+            stays = λ c old low. any_low (find_after c owner old);
+          }
+
+      found : (told : List (Decision T)) (n : ℕ) (last : List ℕ) → HasFound finds (objects.indices_of (owners_in words) owner) [] n told
+          → last ≡ words → At (calls.Find owner) told (answers.Number n) last
+      found told n last h same =
+          let was = found_so questions.Index finds (λ p index said q e. e) (objects.indices_of (owners_in words) owner) n told h in (
+            (λ i. record { questions = was.asked i; answer = answers.Number (was.number i) }),
+            subst (Represents capacity) (sym same) fits,
+            ap owners_in same,
+          )
+
+      module _ (m done : ℕ) (call : Find) (now : List (Decision T)) (ws : List ℕ) (t : Searching finds [] capacity owner words done call now ws)
+          (rest : (d : Find) (later : List (Decision T)) (last : List ℕ) → Searching finds [] capacity owner words (done + 1) d later last
+          → Talks code (At (calls.Find owner)) m later (find_flight d tt) last) where
+        further : (a : After Find ℕ) (later : List (Decision T)) (last : List ℕ) → Further finds [] capacity owner words (done + 1) a later last
+            → Turns code (At (calls.Find owner)) (Talks code (At (calls.Find owner)) m) later
+            (as_call (λ c. find_flight c tt) (λ e. answers.Number e) a) last
+        further (GoOn d) later last h = rest d later last h
+        further (Done n) later last h = found later n last h.0 h.1
+
+        find_asks : (start : List ℕ) (question : Question (Unit {0})) (asks : Find) (r : Unit {0}) (last : List ℕ)
+            → Searching finds [] capacity owner start done call now ws
+            → StopsAlike (λ (c : Find) (given : ℕ). find_want c) find_after (λ c (room : Unit {0}) old. room) owner call tt ws
+            (stops.Asked question asks) r last
+            → find_want asks ≡ wants.Question (questions.Index (index_in question))
+        find_asks [] question asks r last u alone = absurd u
+        find_asks (g ∷ cells) question asks r last u alone =
+            let at = stops_so (λ (c : Find) (given : ℕ). find_want c) find_after (λ c (room : Unit {0}) old. room) owner _ call tt (g ∷ cells) u.4.run
+            (stops.Asked question asks) r last
+            (subst (λ vs. StopsAlike (λ (c : Find) (given : ℕ). find_want c) find_after (λ c (room : Unit {0}) old. room) owner call tt vs
+            (stops.Asked question asks) r last) u.3 alone) in
+            ap find_want at.stands ∙ ap (λ q. wants.Question (questions.Index (index_in q))) (sym at.asks)
+
+        find_stops : (s : Stop Find ℕ) (r : Unit {0}) (last : List ℕ)
+            → StopsAlike (λ (c : Find) (given : ℕ). find_want c) find_after (λ c (room : Unit {0}) old. room) owner call tt ws s r last
+            → AtStop code (At (calls.Find owner)) (Talks code (At (calls.Find owner)) m) now
+            (lift_stop code (λ (c : Find) (given : ℕ). find_want c) find_after (λ c (room : Unit {0}) old. room) owner (λ c. Unit {0})
+            find_flight (λ e room. answers.Number e) s r) last
+        find_stops (stops.Ended n) r last alone =
+            let end = ended_so finds [] capacity owner words done call now ws n r last t alone in found now n last end.0 end.1
+        find_stops (stops.Asked question asks) r last alone = λ said.
+            let later : List (Decision T) = now ++ decision (questions.Index (index_in question)) said ∷ [] in
+            let next = further_so finds [] capacity owner words done call now ws question asks r last t alone (index_in question) refl (progression said) later
+            (ap (λ b. now ++ decision (questions.Index (index_in question)) b ∷ []) (sym (same_decision said)))
+            (number_of said) (same_number said) (find_after asks owner (number_of said)) refl in
+            let told : now ++ decided code (Some (find_flight asks r)) said ≡ later =
+            ap (λ w. now ++ decided_at {T = T} None w said) (find_asks words question asks r last t alone) in
+            subst (λ ds. Turns code (At (calls.Find owner)) (Talks code (At (calls.Find owner)) m) ds
+            (after_of code (find_flight asks r) (number_of said)) last)
+            (sym told)
+            (subst (λ a. Turns code (At (calls.Find owner)) (Talks code (At (calls.Find owner)) m) later a last)
+            (sym (find_is.goes asks r (number_of said) tt)) (further (find_after asks owner (number_of said)) later last next))
+
+      find_talks : (m done : ℕ) (call : Find) (now : List (Decision T)) (ws : List ℕ) → done + m ≡ 2 ^ 64 - 1
+          → Searching finds [] capacity owner words done call now ws → Talks code (At (calls.Find owner)) m now (find_flight call tt) ws
+      find_talks zero done call now ws sum t =
+          let few = find_rounds finds [] capacity owner words done call now ws t in absurd (omega arith)
+      find_talks (suc m) done call now ws sum t =
+          let can = can_go finds [] capacity owner words done call now ws t in
+          talks_as code (λ (c : Find) (given : ℕ). find_want c) find_after (λ c (room : Unit {0}) old. room) owner (λ c. Unit {0})
+          find_flight (λ e room. answers.Number e) find_is (At (calls.Find owner)) m now call tt ws tt can
+          (find_stops m done call now ws t (λ d later last u. find_talks m (done + 1) d later last (omega arith) u)
+          can.stop can.last_room can.last_words
+          (alike (λ (c : Find) (given : ℕ). find_want c) find_after (λ c (room : Unit {0}) old. room) owner call tt ws can))
+
+      finds_all : Said (calls.Find owner)
+      finds_all = (
+        2 ^ 64 - 1,
+        find_talks (2 ^ 64 - 1) 0 (first_find capacity) [] words (omega arith)
+            (starts_find finds [] capacity owner words (first_find capacity) refl fits lives),
+      )
+
+    -- ---- a recovery
+
+    module _ (mode : ReleaseMode) where
+      abbrev asks : List (Decision T) → ℕ → ℕ → Bool → List (Decision T) → Type 0
+      asks p owner index said q = q ≡ p ++ decision (questions.Owned owner index) said ∷ []
+
+      abbrev tells : Unit {0} → ℕ → ℕ → Unit {0} → Type 0
+      tells p owner index q = Unit {0}
+
+      abbrev recover_flight : Recover → Unit {0} → Flight T
+      recover_flight c room = flights.Robust (under_way.Recover (record { call = c; given = mode; room = room }))
+
+      recover_is : IsFlight code (λ (c : Recover) (given : ReleaseMode). recover_want c) recover_after (λ c (room : Unit {0}) old. room) mode
+          (λ c. Unit {0}) recover_flight (λ e room. answers.State e)
+      recover_is =
+          record {
+            wants = λ c room low. refl;
+            goes = λ c room old low. twice flights.Robust under_way.Recover answers.State as_it_is mode room (recover_after c mode old);
+            stays = λ c old low. any_low (recover_after c mode old);
+          }
+
+      gone : (told : List (Decision T)) (state : ReleaseState) (last : List ℕ) → Gone asks tells mode [] tt capacity words state told tt last
+          → At (calls.Recover mode) told (answers.State state) last
+      gone told state last h =
+          let was = asked_so (objects.to_recover (owners_in words)) (λ o. questions.Owned o.owner o.index)
+          (λ p a q. asks p a.of.owner a.of.index a.yes q) (λ before a rest p q long is e. e) h.calls.asked told h.calls.all h.calls.answers in
+          let is : owners_in last ≡ owners_freed (owners_in words) mode (map yes_of told) =
+          h.calls.next ∙ ap (objects.recovered mode (owners_in words)) (sym was.agreed_are) in (
+            (λ i. record { questions = was.questions_are i; answer = answers.State ((h.state_is ∙ ap objects.state_of is) i) }),
+            h.fits,
+            is,
+          )
+
+      module _ (m done : ℕ) (call : Recover) (now : List (Decision T)) (ws : List ℕ)
+          (t : Recovering asks tells mode [] tt capacity words done call now tt ws)
+          (rest : (d : Recover) (later : List (Decision T)) (last : List ℕ) → Recovering asks tells mode [] tt capacity words (done + 1) d later tt last
+          → Talks code (At (calls.Recover mode)) m later (recover_flight d tt) last) where
+        recover_stops : (s : Stop Recover ReleaseState) (r : Unit {0}) (last : List ℕ)
+            → StopsAlike (λ (c : Recover) (given : ReleaseMode). recover_want c) recover_after (λ c (room : Unit {0}) old. room) mode call tt ws s r last
+            → AtStop code (At (calls.Recover mode)) (Talks code (At (calls.Recover mode)) m) now
+            (lift_stop code (λ (c : Recover) (given : ReleaseMode). recover_want c) recover_after (λ c (room : Unit {0}) old. room) mode (λ c. Unit {0})
+            recover_flight (λ e room. answers.State e) s r) last
+        recover_stops (stops.Ended state) r last alone =
+            gone now state last (recovered_so asks tells mode [] tt capacity words done call now tt ws t state r last alone)
+        recover_stops (stops.Asked question put) r last alone = λ said.
+            let at = asks_so asks tells mode [] tt capacity words done call now tt ws t question put r last alone in
+            let later : List (Decision T) = now ++ decision (questions.Owned at.owner at.index) said ∷ [] in
+            let next = onward_so asks tells mode [] tt capacity words done call now tt ws t question put last at at.owner at.index at.asks
+            said later tt refl (λ is. tt) (λ is. refl) (if said then 1 else 0) refl (recover_after put mode (if said then 1 else 0)) refl in
+            let told : now ++ decided code (Some (recover_flight put r)) said ≡ later =
+            ap (λ c. now ++ decided_at {T = T} None (recover_want c) said) at.stands in
+            subst (λ ds. Turns code (At (calls.Recover mode)) (Talks code (At (calls.Recover mode)) m) ds
+            (after_of code (recover_flight put r) (number_of said)) last)
+            (sym told)
+            (subst (λ a. Turns code (At (calls.Recover mode)) (Talks code (At (calls.Recover mode)) m) later a last)
+            (sym (recover_is.goes put r (number_of said) tt))
+            (subst (λ old. Turns code (At (calls.Recover mode)) (Talks code (At (calls.Recover mode)) m) later
+            (as_call (λ c. recover_flight c tt) (λ e. answers.State e) (recover_after put mode old)) last)
+            (sym (yes_number said))
+            (onward question put last at said later (recover_after put mode (if said then 1 else 0)) next)))
+          where
+            onward : (question : Question (Unit {0})) (put : Recover) (last : List ℕ)
+                (at : AsksAt capacity t.g t.cells t.left question put last) (said : Bool) (later : List (Decision T)) (a : After Recover ReleaseState)
+                → Onward asks tells mode [] tt capacity words done call now tt ws t question put last at at.owner at.index at.asks later tt a
+                → Turns code (At (calls.Recover mode)) (Talks code (At (calls.Recover mode)) m) later
+                (as_call (λ c. recover_flight c tt) (λ e. answers.State e) a) last
+            onward question put last at said later (GoOn d) h = rest d later last h
+            onward question put last at said later (Done state) h = absurd h
+
+      recover_talks : (m done : ℕ) (call : Recover) (now : List (Decision T)) (ws : List ℕ) → done + m ≡ 2 ^ 64 - 1
+          → Recovering asks tells mode [] tt capacity words done call now tt ws → Talks code (At (calls.Recover mode)) m now (recover_flight call tt) ws
+      recover_talks zero done call now ws sum t =
+          let few = recover_rounds asks tells mode [] tt capacity words fits done call now tt ws t in absurd (omega arith)
+      recover_talks (suc m) done call now ws sum t =
+          let can = recover_can asks tells mode [] tt capacity words done call now tt ws t in
+          talks_as code (λ (c : Recover) (given : ReleaseMode). recover_want c) recover_after (λ c (room : Unit {0}) old. room) mode (λ c. Unit {0})
+          recover_flight (λ e room. answers.State e) recover_is (At (calls.Recover mode)) m now call tt ws tt can
+          (recover_stops m done call now ws t (λ d later last u. recover_talks m (done + 1) d later last (omega arith) u)
+          can.stop can.last_room can.last_words
+          (alike (λ (c : Recover) (given : ReleaseMode). recover_want c) recover_after (λ c (room : Unit {0}) old. room) mode call tt ws can))
+
+      recovers_all : Said (calls.Recover mode)
+      recovers_all = (
+        2 ^ 64 - 1,
+        recover_talks (2 ^ 64 - 1) 0 (first_recover capacity) [] words (omega arith)
+            (starts_recover asks tells mode [] tt capacity words (first_recover capacity) refl fits),
+      )
 
   -- ---- the law
 
@@ -158,40 +376,50 @@ module _ {T : Type 0} where
 
   module _ (code : Coding T) (capacity : ℕ) where
     begins : (t : Trace T) (p : ℕ) (start : Start T) (flight : Flight T) → IsReached t → IsMadeSo code kinds.Robust capacity t
-        → refusal_of t.world (Begin p start) ≡ None → is_owners_call start ≡ true → Represents capacity t.world.words
-        → first_of kinds.Robust capacity start t.world.kept ≡ Some flight → BeginsSo (reading capacity) code t p start flight
-    begins t p (starts.Robust start) flight r made free such fits named =
+        → refusal_of t.world (Begin p start) ≡ None → Represents capacity t.world.words
+        → first_of kinds.Robust capacity start t.world.kept ≡ Some flight
+        → Speaks (robust_course capacity) (robust_speech capacity) code (owners_in t.world.words) t.world.turns p start [] flight t.world.words
+        (kept_after_begin t.world.coding t.world.capacity start p t.world.kept)
+    begins t p (starts.Robust start) flight r made free fits named =
         let is = named_if flights.Robust (first capacity start) flight (names_owner start) named in
         let rows = subst (λ n. first_row (kept_rows n start t.world.kept p) ≡ None) made.capacity
         (may_begin t.world p (starts.Robust start) (passes t.world (Begin p (starts.Robust start)) free).on).rows in
-        record {
-          agrees = has_registry capacity p start flight t.world.kept is.1 rows;
-          runs = subst (λ f. FlightRuns code (Answers (reading capacity) t.world.turns t.world.words (starts.Robust start)) f t.world.words) is.1
-              (runs start such is.0 rows);
-        }
+        let talk = subst (λ f. (n : ℕ) × Talks code (Ends (robust_course capacity) (robust_speech capacity) code (owners_in t.world.words)
+        t.world.turns p (starts.Robust start)) n [] f t.world.words) is.1 (runs start is.0 rows) in
+        (has_registry capacity p start flight t.world.kept is.1 rows, talk.0, talk.1)
       where
-        runs : (s : RobustStart) → is_owners_call {T = T} (starts.Robust s) ≡ true → names_owner s ≡ true
-            → first_row (kept_rows capacity s t.world.kept p) ≡ None → Whole code capacity t.world.turns t.world.words fits s
-        runs (calls.Acquire owner) such names rows = acquires code capacity t.world.turns t.world.words fits owner (below owner empty names)
-        runs (calls.Release index owner mode) such names rows =
-            releases code capacity t.world.turns t.world.words fits index owner mode (below owner empty names)
-            (low_index capacity p index owner mode t.world.kept rows)
-        runs (calls.Find owner) such names rows = absurd (cc)
-        runs (calls.Recover mode) such names rows = absurd (cc)
-        runs calls.BorrowedIndices such names rows = counts code capacity t.world.turns t.world.words fits
-        runs calls.IsLocked such names rows = looks code capacity t.world.turns t.world.words fits
-    begins t p start flight r made free such fits named = absurd (cc)
+        runs : (s : RobustStart) → names_owner s ≡ true → first_row (kept_rows capacity s t.world.kept p) ≡ None
+            → Said code capacity t.world.turns p t.world.words fits s
+        runs (calls.Acquire owner) names rows =
+            speaks code capacity t.world.turns p t.world.words fits (calls.Acquire owner) refl
+            (acquires code capacity t.world.turns p t.world.words fits owner (below owner empty names))
+        runs (calls.Release index owner mode) names rows =
+            speaks code capacity t.world.turns p t.world.words fits (calls.Release index owner mode) refl
+            (releases code capacity t.world.turns p t.world.words fits index owner mode (below owner empty names)
+            (low_index capacity p index owner mode t.world.kept rows))
+        runs (calls.Find owner) names rows = finds_all code capacity t.world.turns p t.world.words fits owner (below owner empty names)
+        runs (calls.Recover mode) names rows = recovers_all code capacity t.world.turns p t.world.words fits mode
+        runs calls.BorrowedIndices names rows =
+            speaks code capacity t.world.turns p t.world.words fits calls.BorrowedIndices refl
+            (counts code capacity t.world.turns p t.world.words fits)
+        runs calls.IsLocked names rows =
+            speaks code capacity t.world.turns p t.world.words fits calls.IsLocked refl
+            (looks code capacity t.world.turns p t.world.words fits)
+    begins t p start flight r made free fits named = absurd (cc)
 
-    pub law : capacity_error kinds.Robust capacity ≡ None → Law (reading capacity) code kinds.Robust capacity
-    law may =
+    opened_so : owners_in (robust_words capacity) ≡ objects.opened_at capacity 0
+    opened_so = λ i. record { owners = no_owner capacity i; generation = 0 }
+
+    pub rules : capacity_error kinds.Robust capacity ≡ None
+        → Rules (robust_course capacity) (talking (robust_course capacity) (robust_speech capacity) code) code kinds.Robust capacity
+    rules may =
         let some = (admitted capacity may).0 in
         let few = (admitted capacity may).1 in
         let long = length-replicate {A = ℕ} capacity empty in
-        record {
+        talk_rules (robust_course capacity) (robust_speech capacity) code kinds.Robust capacity
+        (record {
           later = λ m n words less h. h;
-          opens = λ queue. (
-            record { long = omega arith; some = some; few = few; small = omega arith },
-            λ i. record { owners = no_owner capacity i; generation = 0 },
-          );
+          opens = λ queue. record { long = omega arith; some = some; few = few; small = omega arith };
+          first = λ queue. record { legal = refl; stands = sym opened_so };
           begins = begins;
-        }
+        })

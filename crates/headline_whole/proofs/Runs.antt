@@ -1,7 +1,7 @@
 -- In a run whose calls run whole, between two turns either no call is under way and the words hold the object, or one call is
--- under way, and alone from here it ends as the object says.
+-- under way.
 use Rattle.std.proofs.Common.{◌≡◌, ◌≢◌, ◌⊎◌, inl, inr, ⊎_elim, ℕ, ◌+◌, ◌≤◌, Bool, true, false, Option, Some, None, List, [], ◌∷◌, ◌++◌}
-use Rattle.std.proofs.Common.{refl, sym, ap, subst, ◌∙◌, append_assoc, append-nil, arith, if◌then◌else◌}
+use Rattle.std.proofs.Common.{refl, sym, ap, subst, ◌∙◌, append_assoc, append-nil, arith}
 use Rattle.std.proofs.lemmas.Bool.{cases_eq}
 use Rattle.std.proofs.lemmas.List.Concat.{flat_map-append}
 use Rattle.std.specs.List.{flat_map}
@@ -11,50 +11,35 @@ use Rattle.steps.specs.declared.ask.Ask.{Ask}
 use Rattle.model.specs.declared.event.Answer.{Answer}
 use Rattle.model.specs.declared.event.Event.{Event}
 use Rattle.model.specs.declared.event.Event.TheVariants.{Begun, Finished}
-use Rattle.model.specs.declared.event.Start.{Start}
 use Rattle.model.specs.declared.families.Flight.{Flight}
 use Rattle.model.specs.declared.families.Registry.{Registry}
 use Rattle.model.specs.declared.party.Doing.{Doing}
 use Rattle.model.specs.declared.party.Doing.TheVariants.{Going}
 use Rattle.model.specs.declared.party.Party.{Party}
 use Rattle.model.specs.declared.party.Progress.{Progress}
-use Rattle.model.specs.declared.turn.Turn.TheVariants.{Next}
-use Rattle.model.specs.Families.{want_of, ask_of, after_of, beside_of}
-use Rattle.model.specs.Objects.{IsLegal, standing}
+use Rattle.model.specs.declared.turn.Turn.TheVariants.{Next, Decide}
+use Rattle.model.specs.Families.{want_of, ask_of}
 use Rattle.model.specs.Parties.{party_of, doing_of, flight_of}
 use Rattle.model.specs.Promise.{Promise}
 use Rattle.model.specs.Promises.Bounds.{Progresses}
 use Rattle.model.specs.Reading.{Span, Never, Open, Ended}
 use Rattle.model.specs.Shape.{IsShut}
-use Rattle.model.specs.Step.{Step, answer_in}
-use Rattle.model.specs.Turns.{old_of, words_after, change_of, step_count, doing_after, party_after, after_step, after_answer}
-use Rattle.model.specs.Turns.{after_next, events_of_answer, events_of_next, ask_of_doing, step_in, ending_of}
-use Rattle.model.specs.Turns.{events_of, events_of_step, after_turn, world_after}
+use Rattle.model.specs.Step.{Step}
+use Rattle.model.specs.Turns.{old_of, words_after, change_of, number_of, step_count, party_after, after_step, after_answer}
+use Rattle.model.specs.Turns.{after_next, after_decision, events_of_answer, events_of_next, events_of_decision, ask_of_doing}
+use Rattle.model.specs.Turns.{step_in, events_of, events_of_step, after_turn, world_after}
 use Rattle.model.specs.World.{World, Trace, flight_in}
 use Rattle.model.proofs.Parties.{party_put_same, party_put_other}
-use Rattle.model.proofs.Replays.{legal_more, standing_more}
+use Rattle.headline_whole.specs.Dialogues.{Request, Reply, Decision, Story, decided, finished_in, story_after, as_request, as_reply}
 use Rattle.headline_whole.specs.Whole as whole
-use Rattle.headline_whole.specs.Whole.{RunsWhole, BeginsOnly, answered, AnswersAs}
-use Rattle.headline_whole.proofs.Agree.{Agree, goes_so, agrees_then, writes_none}
-use Rattle.headline_whole.proofs.Flights.{FlightRuns, Then, one_step}
-use Rattle.headline_whole.proofs.Law.{Reading, Answers}
+use Rattle.headline_whole.specs.Whole.{RunsWhole}
+use Rattle.headline_whole.proofs.Courses.{NoneEnds, Course, Holding, Came, Steps}
 
 module _ {T : Type 0} where
   -- ---- what events say
 
-  -- more events, of which none ends a call
-  more_answered : (is_call : Start T → Bool) (events es : List (Event T)) → flat_map (whole.answer_in is_call) es ≡ []
-      → answered is_call (events ++ es) ≡ answered is_call events
-  more_answered is_call events es none =
-      flat_map-append (whole.answer_in is_call) events es
-      ∙ (ap (λ (xs : List (Start T × Answer T)). answered is_call events ++ xs) none ∙ append-nil (answered is_call events))
-
   pub whole_before : (events es : List (Event T)) → RunsWhole (events ++ es) → RunsWhole events
   whole_before events es h p start before at =
-      h p start before (at.0 ++ es, ap (λ (xs : List (Event T)). xs ++ es) at.1 ∙ append_assoc before (Begun p start ∷ at.0) es)
-
-  pub only_before : (such : Start T → Bool) (events es : List (Event T)) → BeginsOnly such (events ++ es) → BeginsOnly such events
-  only_before such events es h p start before at =
       h p start before (at.0 ++ es, ap (λ (xs : List (Event T)). xs ++ es) at.1 ∙ append_assoc before (Begun p start ∷ at.0) es)
 
   -- a party whose span is shut has no call under way
@@ -63,6 +48,13 @@ module _ {T : Type 0} where
   shut_rests promise capacity size Never g on shut h = h
   shut_rests promise capacity size (Open start wrote) g on shut h = shut
   shut_rests promise capacity size (Ended start answer wrote) g on shut h = let over : g.finished ≡ true = h.1 in absurd (cc)
+
+  -- where none of these ends a call, no call has finished in them
+  pub none_finished : (told : List (Decision T)) (es : List (Event T)) → flat_map (whole.answer_in (λ start. true)) es ≡ []
+      → flat_map (finished_in told) es ≡ []
+  none_finished told [] none = refl
+  none_finished told (Finished p start answer ∷ es) none = absurd (cc)
+  none_finished told (e ∷ es) none = none_finished told es none
 
   -- ---- what a turn of a call under way makes
 
@@ -79,192 +71,159 @@ module _ {T : Type 0} where
       ap (events_of_next w p) found
       ∙ ap (λ (d : Doing T). events_of_answer w p x (old_of w.words (ask_of_doing w.coding d)) d) doing
 
+  decision_world : (w : World T) (p : ℕ) (said : Bool) (x : Party T) (flight : Flight T) (since : ℕ) → party_of p w.latest ≡ Some x
+      → x.doing ≡ Going flight since → world_after w (Decide p said) ≡ after_step w p x since None (step_in w p x flight (number_of said))
+  decision_world w p said x flight since found doing =
+      ap (after_decision w p said) found ∙ ap (λ (d : Doing T). after_answer w p x None (number_of said) d) doing
+
+  decision_events : (w : World T) (p : ℕ) (said : Bool) (x : Party T) (flight : Flight T) (since : ℕ) → party_of p w.latest ≡ Some x
+      → x.doing ≡ Going flight since → events_of w (Decide p said) ≡ events_of_step p x.start (step_in w p x flight (number_of said))
+  decision_events w p said x flight since found doing =
+      ap (events_of_decision w p said) found ∙ ap (λ (d : Doing T). events_of_answer w p x (number_of said) d) doing
+
   pub no_flight : {A : Type 0} (o : Option (Flight T)) (f : Flight T) → o ≡ None → o ≡ Some f → A
   no_flight o f e g = let h : ◌≡◌ {A = Option (Flight T)} None (Some f) = sym e ∙ g in absurd (cc)
 
 -- ---- the invariant
 
-module _ {T : Type 0} (R : Reading T) where
-  -- what has been answered is what the object answers, and this is the object now
-  pub record HasAnswered (object : R.State) (events : List (Event T)) : Type 0 where
-    pub legal : AnswersAs R.spec events
-    pub stands : standing R.spec.object (answered R.spec.is_call events) ≡ object
-
-  pub record Rests (t : Trace T) : Type 0 where
+module _ {T : Type 0} (C : Course T) (H : Holding C) where
+  pub record Rests (t : Trace T) (calls : List (Request T × Reply T)) : Type 0 where
     pub none : (q : ℕ) → flight_in t.world q ≡ None
-    pub holds : R.Holds t.world.turns t.world.words
-    pub answers : HasAnswered (R.read t.world.words) t.events
+    pub holds : H.Holds t.world.turns t.world.words t.world.kept
+    pub answers : C.HasAnswered (H.read t.world.words t.world.kept) t.events calls
 
-  pub record Goes (t : Trace T) : Type 0 where
+  pub record Goes (t : Trace T) (story : Story T) : Type 0 where
     pub party : ℕ
     pub call : Party T
     pub flight : Flight T
     pub since : ℕ
-    pub words : List ℕ  -- as it began
+    pub object : C.State  -- as it began
     pub turns : ℕ
     pub found : party_of party t.world.latest ≡ Some call
     pub doing : call.doing ≡ Going flight since
-    pub agrees : Agree call.start flight t.world.kept
     pub others : (q : ℕ) → q ≢ party → flight_in t.world q ≡ None
     pub later : turns + 1 ≤ t.world.turns
-    pub runs : FlightRuns t.world.coding (Answers R turns words call.start) flight t.world.words
-    pub answers : HasAnswered (R.read words) t.events
+    pub under : H.Under object turns party call.start story.told flight t.world.words t.world.kept
+    pub answers : C.HasAnswered object t.events story.calls
 
-  abbrev pub Stands : Trace T → Type 0
-  Stands t = Rests t ⊎ Goes t
+  abbrev pub Stands : Trace T → Story T → Type 0
+  Stands t story = Rests t story.calls ⊎ Goes t story
 
-  pub still_answered : (object : R.State) (events es : List (Event T)) → flat_map (whole.answer_in R.spec.is_call) es ≡ []
-      → HasAnswered object events → HasAnswered object (events ++ es)
-  still_answered object events es none h =
-      let same = more_answered R.spec.is_call events es none in
-      record {
-        legal = subst (λ (xs : List (Start T × Answer T)). IsLegal R.spec.object xs) (sym same) h.legal;
-        stands = ap (λ (xs : List (Start T × Answer T)). standing R.spec.object xs) same ∙ h.stands;
-      }
+  -- ---- the call under way goes on
 
-  -- a call ends
-  once_more : (object : R.State) (events wrote : List (Event T)) (p : ℕ) (start : Start T) (answer : Answer T)
-      → flat_map (whole.answer_in R.spec.is_call) wrote ≡ []
-      → (R.spec.is_call start ≡ true → answer ≡ R.spec.object.answer object start) → HasAnswered object events
-      → HasAnswered (if R.spec.is_call start then R.spec.object.after object start else object) (events ++ (wrote ++ Finished p start answer ∷ []))
-  once_more object events wrote p start answer none said h = go (R.spec.is_call start) refl
-    where
-      grown : answered R.spec.is_call (events ++ (wrote ++ Finished p start answer ∷ []))
-          ≡ answered R.spec.is_call events ++ ((if R.spec.is_call start then (start, answer) ∷ [] else []) ++ [])
-      grown =
-          flat_map-append (whole.answer_in R.spec.is_call) events (wrote ++ Finished p start answer ∷ [])
-          ∙ ap (λ (xs : List (Start T × Answer T)). answered R.spec.is_call events ++ xs)
-          (flat_map-append (whole.answer_in R.spec.is_call) wrote (Finished p start answer ∷ [])
-          ∙ ap (λ (xs : List (Start T × Answer T)). xs ++ ((if R.spec.is_call start then (start, answer) ∷ [] else []) ++ [])) none)
-
-      go : (b : Bool) → R.spec.is_call start ≡ b
-          → HasAnswered (if b then R.spec.object.after object start else object) (events ++ (wrote ++ Finished p start answer ∷ []))
-      go true is =
-          let same : answered R.spec.is_call (events ++ (wrote ++ Finished p start answer ∷ [])) ≡ answered R.spec.is_call events ++ (start, answer) ∷ [] =
-          grown ∙ ap (λ (b : Bool). answered R.spec.is_call events ++ ((if b then (start, answer) ∷ [] else []) ++ [])) is in
-          record {
-            legal = subst (λ (xs : List (Start T × Answer T)). IsLegal R.spec.object xs) (sym same)
-                (legal_more R.spec.object (answered R.spec.is_call events) ((start, answer) ∷ []) object h.legal h.stands
-                (ap (λ (a : Answer T). a ∷ []) (sym (said is))));
-            stands = ap (λ (xs : List (Start T × Answer T)). standing R.spec.object xs) same
-                ∙ standing_more R.spec.object (answered R.spec.is_call events) ((start, answer) ∷ []) object (R.spec.object.after object start) h.stands refl;
-          }
-      go false is =
-          let same : answered R.spec.is_call (events ++ (wrote ++ Finished p start answer ∷ [])) ≡ answered R.spec.is_call events =
-          grown ∙ (ap (λ (b : Bool). answered R.spec.is_call events ++ ((if b then (start, answer) ∷ [] else []) ++ [])) is
-          ∙ append-nil (answered R.spec.is_call events)) in
-          record {
-            legal = subst (λ (xs : List (Start T × Answer T)). IsLegal R.spec.object xs) (sym same) h.legal;
-            stands = ap (λ (xs : List (Start T × Answer T)). standing R.spec.object xs) same ∙ h.stands;
-          }
-
-  -- ---- a turn of the call under way
-
-  module _ (t : Trace T) (h : Goes t) where
-    abbrev w : World T
-    w = t.world
-
-    abbrev asks : Option Ask
-    asks = ask_of (want_of t.world.coding h.flight)
-
-    abbrev step : Step (Flight T) (Registry T) T
-    step = step_in t.world h.party h.call h.flight (old_of t.world.words (ask_of (want_of t.world.coding h.flight)))
-
-    abbrev now : Trace T
-    now =
+  module _ (t : Trace T) (story : Story T) (h : Goes t story) (told : List (Decision T)) (ask : Option Ask) where
+    abbrev now : Step (Flight T) (Registry T) T → Trace T
+    now s =
         record {
-          world = after_step t.world h.party h.call h.since (ask_of (want_of t.world.coding h.flight))
-              (step_in t.world h.party h.call h.flight (old_of t.world.words (ask_of (want_of t.world.coding h.flight))));
-          events = t.events
-              ++ events_of_step h.party h.call.start
-              (step_in t.world h.party h.call h.flight (old_of t.world.words (ask_of (want_of t.world.coding h.flight))));
+          world = after_step t.world h.party h.call h.since ask s;
+          events = t.events ++ events_of_step h.party h.call.start s;
         }
 
-    abbrev call_now : Party T
-    call_now =
-        party_after h.call h.since t.world.changes (step_count (ask_of (want_of t.world.coding h.flight)))
-        (change_of t.world.words (ask_of (want_of t.world.coding h.flight)))
-        (step_in t.world h.party h.call h.flight (old_of t.world.words (ask_of (want_of t.world.coding h.flight))))
+    abbrev story_now : Step (Flight T) (Registry T) T → Story T
+    story_now s =
+        record { told = told; calls = story.calls ++ flat_map (finished_in told) (events_of_step h.party h.call.start s) }
 
-    goes_as : (step_in t.world h.party h.call h.flight (old_of t.world.words (ask_of (want_of t.world.coding h.flight)))).after
-        ≡ after_of t.world.coding h.flight (old_of t.world.words (ask_of (want_of t.world.coding h.flight)))
-    goes_as =
-        goes_so t.world.coding t.world.words (beside_of t.world.words t.world.kept t.world.latest h.party) h.party h.call.start h.flight
-        (old_of t.world.words (ask_of (want_of t.world.coding h.flight))) t.world.kept h.agrees
+    abbrev call_now : Step (Flight T) (Registry T) T → Party T
+    call_now s = party_after h.call h.since t.world.changes (step_count ask) (change_of t.world.words ask) s
 
-    quiet : flat_map (whole.answer_in R.spec.is_call)
-        (step_in t.world h.party h.call h.flight (old_of t.world.words (ask_of (want_of t.world.coding h.flight)))).wrote ≡ []
-    quiet =
-        writes_none R.spec.is_call t.world.coding t.world.words (beside_of t.world.words t.world.kept t.world.latest h.party) h.party h.call.start
-        h.flight (old_of t.world.words (ask_of (want_of t.world.coding h.flight))) t.world.kept h.agrees
+    still_none : (s : Step (Flight T) (Registry T) T) (q : ℕ) → q ≢ h.party → flight_in (now s).world q ≡ None
+    still_none s q ne =
+        ap (λ (o : Option (Party T)). flight_of (doing_of o)) (party_put_other q h.party (call_now s) t.world.latest ne) ∙ h.others q ne
 
-    still_none : (q : ℕ) → q ≢ h.party → flight_in now.world q ≡ None
-    still_none q ne =
-        ap (λ (o : Option (Party T)). flight_of (doing_of o)) (party_put_other q h.party call_now t.world.latest ne) ∙ h.others q ne
+    nothing_more : (wrote : List (Event T)) → NoneEnds wrote → NoneEnds (wrote ++ [])
+    nothing_more wrote none = subst NoneEnds (sym (append-nil wrote)) none
 
-    comes_to : (a : After (Flight T) (Answer T))
-        → (step_in t.world h.party h.call h.flight (old_of t.world.words (ask_of (want_of t.world.coding h.flight)))).after ≡ a
-        → Then t.world.coding (Answers R h.turns h.words h.call.start) a (words_after t.world.words (ask_of (want_of t.world.coding h.flight)))
-        → ((m n : ℕ) (words : List ℕ) → m ≤ n → R.Holds m words → R.Holds n words)
-        → Stands now
-    comes_to (GoOn d) is left later =
+    no_more_calls : (wrote : List (Event T)) → NoneEnds wrote → story.calls ++ flat_map (finished_in told) (wrote ++ []) ≡ story.calls
+    no_more_calls wrote none =
+        ap (λ (xs : List (Request T × Reply T)). story.calls ++ xs) (none_finished told (wrote ++ []) (nothing_more wrote none (λ start. true)))
+        ∙ append-nil story.calls
+
+    one_more_call : (wrote : List (Event T)) (answer : Answer T) → NoneEnds wrote
+        → story.calls ++ flat_map (finished_in told) (wrote ++ Finished h.party h.call.start answer ∷ [])
+        ≡ story.calls ++ (as_request h.party h.call.start told, as_reply told answer) ∷ []
+    one_more_call wrote answer none =
+        ap (λ (xs : List (Request T × Reply T)). story.calls ++ xs)
+        (flat_map-append (finished_in told) wrote (Finished h.party h.call.start answer ∷ [])
+        ∙ ap (λ (xs : List (Request T × Reply T)). xs ++ (as_request h.party h.call.start told, as_reply told answer) ∷ [])
+        (none_finished told wrote (none (λ start. true))))
+
+    comes_to : (a : After (Flight T) (Answer T)) (back : Bool) (wrote : List (Event T)) (kept : Registry T) → NoneEnds wrote
+        → Came C H h.object h.turns h.party h.call.start told a (words_after t.world.words ask) kept
+        → ((m n : ℕ) (words : List ℕ) (kept : Registry T) → m ≤ n → H.Holds m words kept → H.Holds n words kept)
+        → Stands (now (record { after = a; back = back; wrote = wrote; kept = kept }))
+        (story_now (record { after = a; back = back; wrote = wrote; kept = kept }))
+    comes_to (GoOn d) back wrote kept none came later =
+        let s : Step (Flight T) (Registry T) T = record { after = GoOn d; back = back; wrote = wrote; kept = kept } in
         inr (record {
           party = h.party;
-          call = call_now;
+          call = call_now s;
           flight = d;
-          since = h.since + change_of t.world.words (ask_of (want_of t.world.coding h.flight));
-          words = h.words;
+          since = h.since + change_of t.world.words ask;
+          object = h.object;
           turns = h.turns;
-          found = party_put_same h.party call_now t.world.latest;
-          doing =
-              ap (λ (a : After (Flight T) (Answer T)).
-              doing_after (t.world.changes + change_of t.world.words (ask_of (want_of t.world.coding h.flight)))
-              (h.since + change_of t.world.words (ask_of (want_of t.world.coding h.flight))) a) is;
-          agrees =
-              agrees_then t.world.coding t.world.words (beside_of t.world.words t.world.kept t.world.latest h.party) h.party h.call.start h.flight
-              (old_of t.world.words (ask_of (want_of t.world.coding h.flight))) t.world.kept d h.agrees (sym goes_as ∙ is);
-          others = still_none;
+          found = party_put_same h.party (call_now s) t.world.latest;
+          doing = refl;
+          others = still_none s;
           later = let l = h.later in omega arith;
-          runs = left;
+          under = came;
           answers =
-              still_answered (R.read h.words) t.events _
-              (flat_map-append (whole.answer_in R.spec.is_call) step.wrote (ending_of h.party h.call.start (answer_in step.after))
-              ∙ (ap (λ (a : After (Flight T) (Answer T)).
-              flat_map (whole.answer_in R.spec.is_call) step.wrote
-              ++ flat_map (whole.answer_in R.spec.is_call) (ending_of h.party h.call.start (answer_in a))) is
-              ∙ ap (λ (xs : List (Start T × Answer T)). xs ++ []) quiet))
-              h.answers;
+              subst (C.HasAnswered h.object (t.events ++ (wrote ++ []))) (sym (no_more_calls wrote none))
+              (C.quiet h.object t.events (wrote ++ []) story.calls (nothing_more wrote none) h.answers);
         })
-    comes_to (Done answer) is left later =
+    comes_to (Done answer) back wrote kept none came later =
+        let s : Step (Flight T) (Registry T) T = record { after = Done answer; back = back; wrote = wrote; kept = kept } in
         inl (record {
-          none = λ q. ⊎_elim (mine q) (still_none q) (cases_eq q h.party);
-          holds = later (h.turns + 1) (t.world.turns + 1) (words_after t.world.words (ask_of (want_of t.world.coding h.flight)))
-              (let l = h.later in omega arith) left.holds;
+          none = λ q. ⊎_elim (mine s q refl) (still_none s q) (cases_eq q h.party);
+          holds = later (h.turns + 1) (t.world.turns + 1) (words_after t.world.words ask) kept (let l = h.later in omega arith) came.1;
           answers =
-              subst (λ (object : R.State). HasAnswered object now.events) (sym left.object)
-              (subst (λ (a : After (Flight T) (Answer T)).
-              HasAnswered (if R.spec.is_call h.call.start then R.spec.object.after (R.read h.words) h.call.start else R.read h.words)
-              (t.events ++ (step.wrote ++ ending_of h.party h.call.start (answer_in a))))
-              (sym is) (once_more (R.read h.words) t.events step.wrote h.party h.call.start answer quiet left.said h.answers));
+              subst (λ (object : C.State). C.HasAnswered object (now s).events (story_now s).calls) (sym came.2)
+              (subst (C.HasAnswered (C.after h.object (as_request h.party h.call.start told)) (now s).events) (sym (one_more_call wrote answer none))
+              (C.once h.object t.events wrote story.calls h.party h.call.start told answer none came.0 h.answers));
         })
       where
-        mine : (q : ℕ) → q ≡ h.party → flight_in now.world q ≡ None
-        mine q e =
-            ap (λ (n : ℕ). flight_in now.world n) e
-            ∙ (ap (λ (o : Option (Party T)). flight_of (doing_of o)) (party_put_same h.party call_now t.world.latest)
-            ∙ ap (λ (a : After (Flight T) (Answer T)).
-            flight_of (Some (doing_after (t.world.changes + change_of t.world.words (ask_of (want_of t.world.coding h.flight)))
-            (h.since + change_of t.world.words (ask_of (want_of t.world.coding h.flight))) a))) is)
+        mine : (s : Step (Flight T) (Registry T) T) (q : ℕ) → s.after ≡ Done answer → q ≡ h.party → flight_in (now s).world q ≡ None
+        mine s q over e =
+            ap (λ (n : ℕ). flight_in (now s).world n) e
+            ∙ (ap (λ (o : Option (Party T)). flight_of (doing_of o)) (party_put_same h.party (call_now s) t.world.latest)
+            ∙ ap (λ (a : After (Flight T) (Answer T)). flight_of (doing_of (Some (call_now (record s { after = a }))))) over)
 
-    next_is : after_turn t (Next h.party) ≡ now
-    next_is =
-        λ i. record {
-          world = next_world t.world h.party h.call h.flight h.since h.found h.doing i;
-          events = t.events ++ next_events t.world h.party h.call h.flight h.since h.found h.doing i;
-        }
+    pub comes : (s : Step (Flight T) (Registry T) T)
+        → Steps C H h.object h.turns h.party h.call.start told (words_after t.world.words ask) s
+        → ((m n : ℕ) (words : List ℕ) (kept : Registry T) → m ≤ n → H.Holds m words kept → H.Holds n words kept)
+        → Stands (now s) (story_now s)
+    comes s st later = comes_to s.after s.back s.wrote s.kept st.none st.came later
 
-    pub goes_on : ((m n : ℕ) (words : List ℕ) → m ≤ n → R.Holds m words → R.Holds n words) → Stands (after_turn t (Next h.party))
-    goes_on later =
-        let one = one_step t.world.coding (Answers R h.turns h.words h.call.start) h.flight t.world.words h.runs in
-        subst Stands (sym next_is)
-        (comes_to (after_of t.world.coding h.flight (old_of t.world.words (ask_of (want_of t.world.coding h.flight)))) goes_as one.1 later)
+  module _ (t : Trace T) (story : Story T) (h : Goes t story) where
+    pub goes_on : Steps C H h.object h.turns h.party h.call.start story.told (words_after t.world.words (ask_of (want_of t.world.coding h.flight)))
+        (step_in t.world h.party h.call h.flight (old_of t.world.words (ask_of (want_of t.world.coding h.flight))))
+        → ((m n : ℕ) (words : List ℕ) (kept : Registry T) → m ≤ n → H.Holds m words kept → H.Holds n words kept)
+        → Stands (after_turn t (Next h.party)) (story_after t.world (Next h.party) story)
+    goes_on st later =
+        let world = next_world t.world h.party h.call h.flight h.since h.found h.doing in
+        let wrote = next_events t.world h.party h.call h.flight h.since h.found h.doing in
+        subst (λ (x : World T × List (Event T)).
+        Stands (record { world = x.0; events = t.events ++ x.1 })
+        (record { told = story.told; calls = story.calls ++ flat_map (finished_in story.told) x.1 }))
+        (λ i. (sym world i, sym wrote i))
+        (comes t story h story.told (ask_of (want_of t.world.coding h.flight))
+        (step_in t.world h.party h.call h.flight (old_of t.world.words (ask_of (want_of t.world.coding h.flight)))) st later)
+
+    pub hears : (said : Bool)
+        → Steps C H h.object h.turns h.party h.call.start (story.told ++ decided t.world.coding (Some h.flight) said) t.world.words
+        (step_in t.world h.party h.call h.flight (number_of said))
+        → ((m n : ℕ) (words : List ℕ) (kept : Registry T) → m ≤ n → H.Holds m words kept → H.Holds n words kept)
+        → Stands (after_turn t (Decide h.party said)) (story_after t.world (Decide h.party said) story)
+    hears said st later =
+        let world = decision_world t.world h.party said h.call h.flight h.since h.found h.doing in
+        let wrote = decision_events t.world h.party said h.call h.flight h.since h.found h.doing in
+        let here : flight_in t.world h.party ≡ Some h.flight =
+        ap (λ (o : Option (Party T)). flight_of (doing_of o)) h.found ∙ ap (λ (d : Doing T). flight_of (Some d)) h.doing in
+        subst (λ (x : World T × List (Event T) × Option (Flight T)).
+        Stands (record { world = x.0; events = t.events ++ x.1 })
+        (record {
+          told = story.told ++ decided t.world.coding x.2 said;
+          calls = story.calls ++ flat_map (finished_in (story.told ++ decided t.world.coding x.2 said)) x.1;
+        }))
+        (λ i. (sym world i, sym wrote i, sym here i))
+        (comes t story h (story.told ++ decided t.world.coding (Some h.flight) said) None
+        (step_in t.world h.party h.call h.flight (number_of said)) st later)

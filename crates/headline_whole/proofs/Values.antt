@@ -34,7 +34,6 @@ use Rattle.plain.specs.Value.{value_in, Represents}
 use Rattle.plain.proofs.Values.{Stored, store_runs, Loaded, load_runs}
 use Rattle.plain.proofs.Walks.{any_low}
 use Rattle.plain.proofs.Words.{words_same}
-use Rattle.headline_whole.specs.Objects.{every_call}
 use Rattle.headline_whole.proofs.Agree.{Agree}
 use Rattle.headline_whole.proofs.Flights.{FlightRuns, runs_as, twice, same_flight}
 use Rattle.headline_whole.proofs.Indices.{zeros_at}
@@ -62,7 +61,7 @@ module _ {T : Type 0} (code : Coding T) where
   stands words = (value_in code.value_of code.size words).value
 
   abbrev pub reading : Reading T
-  reading = record { State = T; spec = as_value code; such = every_call; Holds = Holds; read = stands }
+  reading = record { State = T; spec = as_value code; Holds = Holds; read = stands }
 
   -- the word of the role is none of the value's
   module _ (turns : ℕ) (words : List ℕ) (h : Holds turns words) (new : ℕ) where
@@ -191,9 +190,9 @@ module _ {T : Type 0} (code : Coding T) where
     every turns words h early calls.Load = loads turns words h coded
 
     begins : (t : Trace T) (p : ℕ) (start : Start T) (flight : Flight T) → IsReached t → IsMadeSo code kinds.Atomic capacity t
-        → refusal_of t.world (Begin p start) ≡ None → every_call start ≡ true → Holds t.world.turns t.world.words
+        → refusal_of t.world (Begin p start) ≡ None → Holds t.world.turns t.world.words
         → first_of kinds.Atomic capacity start t.world.kept ≡ Some flight → BeginsSo reading code t p start flight
-    begins t p (starts.Atomic start) flight r made free such h named =
+    begins t p (starts.Atomic start) flight r made free h named =
         let is = same_flight (flights.Atomic (first start)) flight named in
         let allowed = passes t.world (Begin p (starts.Atomic start)) free in
         record {
@@ -201,7 +200,7 @@ module _ {T : Type 0} (code : Coding T) where
           runs = subst (λ f. FlightRuns code (Answers reading t.world.turns t.world.words (starts.Atomic start)) f t.world.words) is
               (every t.world.turns t.world.words h allowed.turns start);
         }
-    begins t p start flight r made free such h named = absurd (cc)
+    begins t p start flight r made free h named = absurd (cc)
 
     pub law : Law reading code kinds.Atomic capacity
     law =

@@ -1,3 +1,5 @@
+pub mod Dialogues
 pub mod Kinds
 pub mod Objects
+pub mod States
 pub mod Whole

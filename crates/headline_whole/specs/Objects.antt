@@ -1,15 +1,20 @@
 -- The objects as which calls answer that run whole: lists, sets of places, counts, a stack of free indices, and maps from index
 -- to owner and value.
-use Rattle.std.specs.Prelude.{ℕ, ◌==◌, Bool, true, false, not, Result, Ok, Err, List, length, slice_index}
+use Rattle.std.specs.Prelude.{ℕ, ◌==◌, Bool, true, false, not, Option, Some, None, is_some, Result, Ok, Err, List, [], ◌∷◌}
+use Rattle.std.specs.Prelude.{if◌then◌else◌, length, map, slice_index, slice_index_or}
+use Rattle.std.specs.List.{count_by}
 use Rattle.steps.specs.Objects.Counts as counts
 use Rattle.steps.specs.Objects.Owners as owners
-use Rattle.steps.specs.Objects.Owners.{Owners}
+use Rattle.steps.specs.Objects.Owners.{Owners, Owned}
 use Rattle.steps.specs.Objects.Places as places
 use Rattle.steps.specs.Objects.Places.{Places}
 use Rattle.steps.specs.Objects.Stacks as stacks
 use Rattle.steps.specs.Objects.Stacks.{Stack}
+use Rattle.steps.specs.declared.ask.Question.{Question}
+use Rattle.steps.specs.declared.ask.Question.TheVariants as questions
 use Rattle.steps.specs.declared.container.enums.ContainerAddFailure.{ContainerAddFailure}
 use Rattle.steps.specs.declared.container.handle.ContainerHandle.{ContainerHandle}
+use Rattle.steps.specs.declared.indices.enums.ReleaseMode.{ReleaseMode}
 use Rattle.steps.specs.declared.indices.enums.ReleaseMode.TheVariants.{Default, LockIfLastIndex}
 use Rattle.steps.specs.declared.indices.enums.ReleaseState.TheVariants.{Unlocked}
 use Rattle.model.specs.declared.event.Answer.{Answer}
@@ -31,16 +36,40 @@ use Rattle.model.specs.Families.Queues.Objects.{list_of}
 use Rattle.model.specs.Linearizable.{Specification}
 use Rattle.plain.specs.Contents as contents
 use Rattle.plain.specs.Contents.{Contents}
+use Rattle.plain.specs.States as states
+use Rattle.plain.specs.States.{Snapshot}
+use Rattle.plain.specs.Visited as visits
+use Rattle.headline_whole.specs.Dialogues.{Dialogue, showing}
 
 -- a handle of a container: all indices past the capacity are one, which has no owner
 abbrev pub handle_to : ℕ → ℕ → ℕ → ContainerHandle
 handle_to capacity index owner =
     record { index = place_of capacity index; owner = owner; container = 0 }
 
-module _ {T : Type 0} where
-  abbrev pub every_call : Start T → Bool
-  every_call start = true
+-- a container, and what the state of each party shows, where it has one
+pub record Viewed (T : Type 0) : Type 0 where
+  pub contents : Contents T
+  pub views : ℕ → Option (Snapshot T)
 
+-- ---- what a find and a recovery are told
+
+-- the indices that a find comes to: all of these, or those up to the one at which it is told to stop
+abbrev pub visited : List ℕ → List Bool → List ℕ
+visited [] decisions = []
+visited (index ∷ indices) (true ∷ decisions) = index ∷ visited indices decisions
+visited (index ∷ indices) decisions = index ∷ []
+
+-- those about which a recovery was told yes
+abbrev pub agreed : List Owned → List Bool → List Owned
+agreed (o ∷ owned) (true ∷ decisions) = o ∷ agreed owned decisions
+agreed (o ∷ owned) (false ∷ decisions) = agreed owned decisions
+agreed owned decisions = []
+
+-- the robust set after a recovery that was told so
+abbrev pub owners_freed : Owners → ReleaseMode → List Bool → Owners
+owners_freed s mode decisions = owners.recovered mode s (agreed (owners.to_recover s) decisions)
+
+module _ {T : Type 0} where
   -- ---- lists: the bounded one and the overflowing one, which also say how many values they have
 
   abbrev pub is_list_call : Start T → Bool
@@ -71,6 +100,7 @@ module _ {T : Type 0} where
       }
 
   -- ---- a set of places, and counts of places
+  -- (a reset of all answers `Done`: what its closure hears is in no answer)
 
   abbrev pub is_places_call : Start T → Bool
   is_places_call (Bits start) = true
@@ -142,79 +172,127 @@ module _ {T : Type 0} where
 
   -- ---- a map from index to owner: an acquire takes the lowest index that has none
 
-  -- the calls of it that put no question
-  abbrev pub is_owners_call : Start T → Bool
-  is_owners_call (Robust (robust.Acquire owner)) = true
-  is_owners_call (Robust (robust.Release index owner mode)) = true
-  is_owners_call (Robust robust.BorrowedIndices) = true
-  is_owners_call (Robust robust.IsLocked) = true
-  is_owners_call start = false
-
-  abbrev pub owners_after : Owners → Start T → Owners
-  owners_after s (Robust (robust.Acquire owner)) = owners.after_acquire s owner
-  owners_after s (Robust (robust.Release index owner mode)) =
+  abbrev pub owners_after : Owners → Start T → List Bool → Owners
+  owners_after s (Robust (robust.Acquire owner)) decisions = owners.after_acquire s owner
+  owners_after s (Robust (robust.Release index owner mode)) decisions =
       owners.after_release s index owner mode
-  owners_after s (Robust robust.BorrowedIndices) = owners.raised s
-  owners_after s start = s
+  owners_after s (Robust (robust.Recover mode)) decisions = owners_freed s mode decisions
+  owners_after s (Robust robust.BorrowedIndices) decisions = owners.raised s
+  owners_after s start decisions = s
 
-  abbrev pub owners_answer : Owners → Start T → Answer T
-  owners_answer s (Robust (robust.Acquire owner)) = acquire_answer (owners.acquired s)
-  owners_answer s (Robust (robust.Release index owner mode)) =
+  abbrev pub owners_questions : Owners → Start T → List Bool → List (Question T)
+  owners_questions s (Robust (robust.Find owner)) decisions =
+      map (λ index. questions.Index index) (visited (owners.indices_of s owner) decisions)
+  owners_questions s (Robust (robust.Recover mode)) decisions =
+      map (λ (o : Owned). questions.Owned o.owner o.index) (owners.to_recover s)
+  owners_questions s start decisions = []
+
+  abbrev pub owners_answer : Owners → Start T → List Bool → Answer T
+  owners_answer s (Robust (robust.Acquire owner)) decisions = acquire_answer (owners.acquired s)
+  owners_answer s (Robust (robust.Release index owner mode)) decisions =
       release_answer (owners.released s index owner mode)
-  owners_answer s (Robust robust.BorrowedIndices) = Number (owners.borrowed s)
-  owners_answer s (Robust robust.IsLocked) = Truth (owners.is_locked s)
-  owners_answer s start = Done
+  owners_answer s (Robust (robust.Find owner)) decisions =
+      Number (length (visited (owners.indices_of s owner) decisions))
+  owners_answer s (Robust (robust.Recover mode)) decisions =
+      State (owners.state_of (owners_freed s mode decisions))
+  owners_answer s (Robust robust.BorrowedIndices) decisions = Number (owners.borrowed s)
+  owners_answer s (Robust robust.IsLocked) decisions = Truth (owners.is_locked s)
+  owners_answer s start decisions = Done
 
-  abbrev pub whole_owners : ℕ → Specification T Owners
+  abbrev pub whole_owners : ℕ → Dialogue T Owners
   whole_owners capacity =
       record {
-        is_call = is_owners_call;
-        object =
-            record { opening = owners.opened_at capacity 0; after = owners_after; answer = owners_answer };
+        opening = owners.opened_at capacity 0;
+        after = λ s call. owners_after s call.start call.decisions;
+        reply = λ s call. record {
+          questions = owners_questions s call.start call.decisions;
+          answer = owners_answer s call.start call.decisions;
+        };
       }
 
   -- ---- a map from index to owner and value
 
-  -- the calls of it that put no question, and need no state
-  abbrev pub is_map_call : Start T → Bool
-  is_map_call (Container (containers.Add value owner)) = true
-  is_map_call (Container (containers.Remove index owner mode)) = true
-  is_map_call (Container (containers.Replace index value owner)) = true
-  is_map_call (Container containers.Len) = true
-  is_map_call (Container containers.IsEmpty) = true
-  is_map_call (Container containers.IsLocked) = true
-  is_map_call start = false
+  -- what a find and a recovery ask about: the value that stands at the index
+  abbrev pub about : Contents T → ℕ → Question T
+  about s index = showing (slice_index_or s.values index None) (questions.Value index tt)
 
-  abbrev pub map_after : ℕ → Contents T → Start T → Contents T
-  map_after capacity s (Container (containers.Add value owner)) = contents.after_add s owner value
-  map_after capacity s (Container (containers.Remove index owner mode)) =
+  -- the container after a recovery that was told so
+  abbrev pub map_freed : Contents T → ℕ → ReleaseMode → List Bool → Contents T
+  map_freed s owner mode decisions =
+      visits.one_change (visits.all_freed mode s (agreed (visits.to_ask s owner) decisions))
+
+  abbrev pub map_after : ℕ → Contents T → Start T → List Bool → Contents T
+  map_after capacity s (Container (containers.Add value owner)) decisions =
+      contents.after_add s owner value
+  map_after capacity s (Container (containers.Remove index owner mode)) decisions =
       contents.after_remove s (handle_to capacity index owner) mode
-  map_after capacity s (Container (containers.Replace index value owner)) =
+  map_after capacity s (Container (containers.Replace index value owner)) decisions =
       contents.after_replace s (handle_to capacity index owner) value
-  map_after capacity s (Container containers.Len) = contents.counted s
-  map_after capacity s (Container containers.IsEmpty) = contents.counted s
-  map_after capacity s start = s
+  map_after capacity s (Container (containers.Recover owner mode)) decisions =
+      map_freed s owner mode decisions
+  map_after capacity s (Container containers.Len) decisions = contents.counted s
+  map_after capacity s (Container containers.IsEmpty) decisions = contents.counted s
+  map_after capacity s start decisions = s
+
+  abbrev pub map_questions : Contents T → Start T → List Bool → List (Question T)
+  map_questions s (Container (containers.Find owner)) decisions =
+      map (about s) (visited (owners.indices_of s.owners owner) decisions)
+  map_questions s (Container (containers.Recover owner mode)) decisions =
+      map (λ (o : Owned). about s o.index) (visits.to_ask s owner)
+  map_questions s start decisions = []
 
   abbrev pub add_answer : Result ContainerHandle ContainerAddFailure → Answer T
   add_answer (Ok handle) = Index handle.index
   add_answer (Err failure) = NoPlace failure
 
-  abbrev pub map_answer : ℕ → Contents T → Start T → Answer T
-  map_answer capacity s (Container (containers.Add value owner)) =
-      add_answer (contents.added s owner)
-  map_answer capacity s (Container (containers.Remove index owner mode)) =
-      removed (contents.removed s (handle_to capacity index owner) mode)
-  map_answer capacity s (Container (containers.Replace index value owner)) =
-      replaced (contents.replaced s (handle_to capacity index owner))
-  map_answer capacity s (Container containers.Len) = Number (contents.number s)
-  map_answer capacity s (Container containers.IsEmpty) = Truth (contents.number s == 0)
-  map_answer capacity s (Container containers.IsLocked) = Truth (contents.is_locked s)
-  map_answer capacity s start = Done
+  -- what a party's state shows, or nothing where it has none
+  abbrev pub view_of : Contents T → Option (Snapshot T) → Snapshot T
+  view_of s None = states.blank (contents.capacity s)
+  view_of s (Some view) = view
 
-  abbrev pub whole_map : ℕ → Specification T (Contents T)
+  -- what it shows after a call of the party: that of a new state, or what it showed brought up to date
+  abbrev pub view_after : Contents T → Start T → Option (Snapshot T) → Option (Snapshot T)
+  view_after s (Container containers.GetState) view =
+      Some (states.updated s (states.blank (contents.capacity s)))
+  view_after s (Container containers.UpdateState) view = Some (states.updated s (view_of s view))
+  view_after s start view = view
+
+  abbrev pub number_shown : Snapshot T → ℕ
+  number_shown view = count_by is_some view.values
+
+  -- of a call of a party whose state shows this
+  abbrev pub map_answer : ℕ → Contents T → Option (Snapshot T) → Start T → List Bool → Answer T
+  map_answer capacity s view (Container (containers.Add value owner)) decisions =
+      add_answer (contents.added s owner)
+  map_answer capacity s view (Container (containers.Remove index owner mode)) decisions =
+      removed (contents.removed s (handle_to capacity index owner) mode)
+  map_answer capacity s view (Container (containers.Replace index value owner)) decisions =
+      replaced (contents.replaced s (handle_to capacity index owner))
+  map_answer capacity s view (Container (containers.Find owner)) decisions =
+      Number (length (visited (owners.indices_of s.owners owner) decisions))
+  map_answer capacity s view (Container (containers.Recover owner mode)) decisions =
+      State (owners.state_of (map_freed s owner mode decisions).owners)
+  map_answer capacity s view (Container containers.GetState) decisions =
+      Number (number_shown (states.updated s (states.blank (contents.capacity s))))
+  map_answer capacity s view (Container containers.UpdateState) decisions =
+      Truth (not (s.changes == (view_of s view).changes))
+  map_answer capacity s view (Container containers.Len) decisions = Number (contents.number s)
+  map_answer capacity s view (Container containers.IsEmpty) decisions = Truth (contents.number s == 0)
+  map_answer capacity s view (Container containers.IsLocked) decisions = Truth (contents.is_locked s)
+  map_answer capacity s view start decisions = Done
+
+  -- no party has a state yet
+  abbrev pub whole_map : ℕ → Dialogue T (Viewed T)
   whole_map capacity =
       record {
-        is_call = is_map_call;
-        object =
-            record { opening = contents.opened capacity 0; after = map_after capacity; answer = map_answer capacity };
+        opening = record { contents = contents.opened capacity 0; views = λ p. None };
+        after = λ s call. record {
+          contents = map_after capacity s.contents call.start call.decisions;
+          views = λ p.
+              if p == call.party then view_after s.contents call.start (s.views p) else s.views p;
+        };
+        reply = λ s call. record {
+          questions = map_questions s.contents call.start call.decisions;
+          answer = map_answer capacity s.contents (s.views call.party) call.start call.decisions;
+        };
       }

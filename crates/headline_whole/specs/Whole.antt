@@ -1,5 +1,5 @@
 -- Runs in which calls run whole, and what they answer.
-use Rattle.std.specs.Prelude.{◌≡◌, ℕ, Bool, true, List, [], ◌∷◌, if◌then◌else◌}
+use Rattle.std.specs.Prelude.{ℕ, Bool, List, [], ◌∷◌, if◌then◌else◌}
 use Rattle.std.specs.List.{flat_map}
 use Rattle.model.specs.declared.event.Answer.{Answer}
 use Rattle.model.specs.declared.event.Event.{Event}
@@ -18,13 +18,6 @@ module _ {T : Type 0} where
       (p : ℕ) (start : Start T) (before : List (Event T))
       → Follows (Begun p start) before events
       → (q : ℕ) → IsShut (span_of q before)
-
-  -- only such calls begin
-  abbrev pub BeginsOnly : (Start T → Bool) → List (Event T) → Type 0
-  BeginsOnly such events =
-      (p : ℕ) (start : Start T) (before : List (Event T))
-      → Follows (Begun p start) before events
-      → such start ≡ true
 
   -- a call that has finished, if it is one of these, with its answer
   abbrev pub answer_in : (Start T → Bool) → Event T → List (Start T × Answer T)

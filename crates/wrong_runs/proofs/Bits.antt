@@ -1,5 +1,5 @@
 -- For each field of what the bit sets promise a run that this field alone refuses here.
-use Rattle.std.proofs.Common.{◌≡◌, ℕ, true, false, List, [], ◌∷◌, ◌++◌, refl, arith}
+use Rattle.std.proofs.Common.{◌≡◌, ℕ, false, List, [], ◌∷◌, ◌++◌, refl, arith}
 use Rattle.model.specs.declared.event.Answer.TheVariants.{Truth, Number}
 use Rattle.model.specs.declared.event.Event.{Event}
 use Rattle.model.specs.declared.event.Event.TheVariants as events

@@ -1,5 +1,5 @@
 -- For each field of what a container promises a run that this field alone refuses here.
-use Rattle.std.proofs.Common.{◌≡◌, ◌≢◌, ℕ, ◌-◌, ◌^◌, true, false, Some, None, List, [], ◌∷◌, ◌++◌, refl, arith}
+use Rattle.std.proofs.Common.{◌≡◌, ℕ, ◌-◌, ◌^◌, true, List, [], ◌∷◌, ◌++◌, refl, arith}
 use Rattle.steps.specs.declared.indices.enums.ReleaseMode.TheVariants.{Default}
 use Rattle.steps.specs.declared.indices.enums.ReleaseState.TheVariants as states
 use Rattle.model.specs.declared.event.Answer.TheVariants.{Index, State, Truth}
@@ -15,7 +15,7 @@ use Rattle.model.specs.Coding.{one_word}
 use Rattle.model.specs.Families.Container.Promises.{IsContainer, IsContained, IsWellFormedRun, ReplacesRight}
 use Rattle.model.specs.Families.Container.Reading.{Act, Copies}
 use Rattle.model.specs.Families.Indices.Robust.Promises.{FreesRight}
-use Rattle.model.specs.Families.Indices.Robust.Reading.{SetAct, Frees, IsOneOf, set_acts_of}
+use Rattle.model.specs.Families.Indices.Robust.Reading.{SetAct, Frees}
 use Rattle.model.specs.Reading.{Each}
 use Rattle.model.specs.World.{Trace}
 use Rattle.model.proofs.Readings.{Each-append, Each-nil, no_more}

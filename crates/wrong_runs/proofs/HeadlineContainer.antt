@@ -15,16 +15,17 @@ use Rattle.model.specs.declared.turn.Turn.{Turn}
 use Rattle.model.specs.Coding.{one_word}
 use Rattle.model.specs.Families.Container.Promises.{IsWellFormedRun, ReplacesRight}
 use Rattle.model.specs.Families.Container.Reading.{Copies, Sees, MayReplace}
-use Rattle.model.specs.Families.Indices.Robust.Promises.{FreesRight, IsFilled}
-use Rattle.model.specs.Families.Indices.Robust.Reading.{Asks, Frees, set_acts_of, IsOneOf}
+use Rattle.model.specs.Families.Indices.Robust.Promises.{FreesRight, IsFilled, StillToFree}
+use Rattle.model.specs.Families.Indices.Robust.Reading.{Asks, Frees, Yes, set_acts_of, IsOneOf}
 use Rattle.model.proofs.Readings.{Each-append, Each-nil, no_more}
 use Rattle.model.proofs.Runs.{begins, ran}
-use Rattle.headline.specs.Headline.{ContainerRuns, FilledOrFreed}
+use Rattle.headline.specs.Headline.{ContainerRuns}
 use Rattle.wrong_runs.specs.Wrong.{two_grants}
 use Rattle.wrong_runs.proofs.Container.{container, still, well_formed, forgotten, no_copy, copied, copied_well_formed, unplaced}
-use Rattle.wrong_runs.proofs.HeadlineRobust.{over, held_since, none_stays}
+use Rattle.wrong_runs.proofs.HeadlineRobust.{over, over_well_formed, held_since, none_stays}
 use Rattle.wrong_runs.proofs.HeadlineSets.{two}
 use Rattle.wrong_runs.proofs.Machines.{at_no_moment}
+use Rattle.wrong_runs.proofs.Robust.{well_formed as grants_well_formed}
 
 abbrev runs : List (Event ℕ) → Type 0
 runs events = ContainerRuns (container still events)
@@ -48,20 +49,10 @@ filled_twice : runs (Filled 0 0 7 ∷ Filled 1 0 9 ∷ []) → ⊥
 filled_twice k = two (9 ∷ 7 ∷ []) (k.no_two_fill (Filled 0 0 7 ∷ Filled 1 0 9 ∷ []) [] refl 0) refl
 
 -- an index is granted to two owners
-grants_well_formed : IsWellFormedRun (container still two_grants)
-grants_well_formed =
-    well_formed two_grants still (Each-append FreesRight [] two_grants (Each-nil FreesRight) (tt, (tt, (tt, tt))))
-    (Each-append ReplacesRight [] two_grants (Each-nil ReplacesRight) (tt, (tt, (tt, tt))))
-
 granted_twice : runs two_grants → ⊥
 granted_twice k = two (9 ∷ 7 ∷ []) (k.no_two_hold grants_well_formed two_grants [] refl 0) refl
 
 -- it is locked while an owner holds an index
-over_well_formed : IsWellFormedRun (container still over)
-over_well_formed =
-    well_formed over still (Each-append FreesRight [] over (Each-nil FreesRight) (tt, (tt, tt)))
-    (Each-append ReplacesRight [] over (Each-nil ReplacesRight) (tt, (tt, tt)))
-
 locked_over : runs over → ⊥
 locked_over k = let none = k.none_once_locked over_well_formed over [] refl refl 0 in cc
 
@@ -85,7 +76,7 @@ of_another = Filled 1 0 9 ∷ Begun 0 (remove 0 7) ∷ []
 freed_of_another : runs (of_another ++ FreedOf 0 0 7 ∷ []) → ⊥
 freed_of_another k = let e = (k.freed 0 0 7 of_another ([], refl)).0 in cc
 
--- it is freed by an add, by a remove of another index or for another owner, or by a recovery of another owner
+-- it is freed by an add, by a remove of another index or for another owner, by a recovery of another owner,
 freed_by_add : runs (Begun 0 add ∷ Filled 0 0 7 ∷ FreedOf 0 0 7 ∷ []) → ⊥
 freed_by_add k = (k.freed 0 0 7 (Begun 0 add ∷ Filled 0 0 7 ∷ []) ([], refl)).1
 
@@ -105,7 +96,16 @@ abbrev wrong_recovery : List (Event ℕ)
 wrong_recovery = Filled 0 0 9 ∷ Begun 1 (recover Default) ∷ []
 
 freed_by_wrong_recovery : runs (wrong_recovery ++ FreedOf 1 0 9 ∷ []) → ⊥
-freed_by_wrong_recovery k = let e = (k.freed 1 0 9 wrong_recovery ([], refl)).1 in cc
+freed_by_wrong_recovery k = let e = (k.freed 1 0 9 wrong_recovery ([], refl)).1.0 in cc
+
+-- or by a recovery of its owner that was neither told to free it nor shown it empty
+abbrev untold : List (Event ℕ)
+untold = Filled 0 0 7 ∷ Begun 1 (recover Default) ∷ []
+
+freed_untold : runs (untold ++ FreedOf 1 0 7 ∷ []) → ⊥
+freed_untold k =
+    ⊎_elim (λ one. no_more one.before (Yes 0 7) one.after one.is) (λ one. no_more one.before (Sees 0) one.after one.is)
+    (k.freed 1 0 7 untold ([], refl)).1.1
 
 -- ---- elements, in a well-formed run
 
@@ -174,7 +174,7 @@ unasked = Filled 0 0 7 ∷ Begun 1 (recover Default) ∷ []
 asks_nothing : runs (unasked ++ Finished 1 (recover Default) (State Unlocked) ∷ []) → ⊥
 asks_nothing k =
     ⊎_elim (λ one. no_more one.before (Asks 0 7) one.after one.is) (λ one. no_more one.before (Sees 0) one.after one.is)
-    (k.asked_each 1 0 7 Default unasked ([], refl) (held_since (FilledOrFreed 1 0 7) 7 (recover Default) (inl refl)))
+    (k.asked_each 1 0 7 Default unasked ([], refl) (held_since (StillToFree 1 7 0) 7 (recover Default) (inl refl)))
 
 -- one that might lock ends unlocked, and after it has freed an index none is filled
 abbrev emptied : List (Event ℕ)
@@ -183,14 +183,14 @@ emptied = Filled 0 0 7 ∷ Begun 1 (recover LockIfLastIndex) ∷ FreedOf 1 0 7 �
 unlocked_empty : runs (emptied ++ Finished 1 (recover LockIfLastIndex) (State Unlocked) ∷ []) → ⊥
 unlocked_empty k =
     let late = k.locks 1 0 7 emptied ([], refl) (record { before = []; after = []; is = refl }) in
-    at_no_moment 1 (λ part. IsOneOf (Frees 0 7) (set_acts_of 1 part) × IsFilled late.0 part) emptied (
+    at_no_moment 1 (λ part. IsOneOf (Frees 0 7) (set_acts_of 1 part) × IsFilled late.other part) emptied (
       (λ h. no_more h.0.before (Frees 0 7) h.0.after h.0.is),
       (
         (λ h. no_more h.0.before (Frees 0 7) h.0.after h.0.is),
-        ((λ h. no_more h.0.before (Frees 0 7) h.0.after h.0.is), (λ h. none_stays (0 == late.0) h.1)),
+        ((λ h. no_more h.0.before (Frees 0 7) h.0.after h.0.is), (λ h. none_stays (0 == late.other) h.1)),
       ),
     )
-    late.1
+    late.once
 
 -- ---- questions and changes
 

@@ -9,11 +9,11 @@ use Rattle.model.specs.declared.event.Event.TheVariants.{Begun, Filled, Granted,
 use Rattle.model.specs.declared.event.Start.{Start}
 use Rattle.model.specs.declared.event.Start.TheVariants as starts
 use Rattle.model.specs.declared.families.indices.robust.RobustStart.TheVariants.{Acquire, Release, Recover}
-use Rattle.model.specs.Families.Indices.Robust.Promises.{FreesRight, IsFilled, HeldThroughout}
+use Rattle.model.specs.Families.Indices.Robust.Promises.{FreesRight, IsWellFormed, IsFilled, StillToFree, HeldThroughout}
 use Rattle.model.specs.Families.Indices.Robust.Reading.{SetAct, Asks, Frees, Yes, set_acts_of, IsOneOf}
 use Rattle.model.specs.Moments.{BeginsNone}
 use Rattle.model.proofs.Readings.{Each-append, Each-nil, no_more}
-use Rattle.headline.specs.Headline.{RobustRuns, FilledOrFreed}
+use Rattle.headline.specs.Headline.{RobustRuns}
 use Rattle.wrong_runs.specs.Wrong.{two_grants}
 use Rattle.wrong_runs.proofs.HeadlineSets.{two}
 use Rattle.wrong_runs.proofs.Machines.{at_no_moment}
@@ -43,8 +43,11 @@ granted_twice k = two (9 ∷ 7 ∷ []) (k.no_two_hold well_formed two_grants [] 
 abbrev pub over : List (Event ℕ)
 over = Granted 0 0 7 ∷ Locked 1 ∷ []
 
+pub over_well_formed : IsWellFormed over
+over_well_formed = Each-append FreesRight [] over (Each-nil FreesRight) (tt, (tt, tt))
+
 locked_over : robust over → ⊥
-locked_over k = let none = k.none_once_locked (Each-append FreesRight [] over (Each-nil FreesRight) (tt, (tt, tt))) over [] refl refl 0 in cc
+locked_over k = let none = k.none_once_locked over_well_formed over [] refl refl 0 in cc
 
 -- an acquire is answered an index that it was not granted, or one that the set does not have
 answered_ungranted : robust (Begun 0 acquire ∷ Finished 0 acquire (Index 0) ∷ []) → ⊥
@@ -118,7 +121,7 @@ unasked = Filled 0 0 7 ∷ Begun 1 (recover Default) ∷ []
 
 asks_nothing : robust (unasked ++ Finished 1 (recover Default) (State Unlocked) ∷ []) → ⊥
 asks_nothing k =
-    let one = k.asked_each 1 0 7 Default unasked ([], refl) (held_since (FilledOrFreed 1 0 7) 7 (recover Default) (inl refl)) in
+    let one = k.asked_each 1 0 7 Default unasked ([], refl) (held_since (StillToFree 1 7 0) 7 (recover Default) (inl refl)) in
     no_more one.before (Asks 0 7) one.after one.is
 
 -- ---- a recovery that might lock ends unlocked, and after it has freed an index none is filled
@@ -133,11 +136,11 @@ emptied = Filled 0 0 7 ∷ Begun 1 (recover LockIfLastIndex) ∷ FreedOf 1 0 7 �
 unlocked_empty : robust (emptied ++ Finished 1 (recover LockIfLastIndex) (State Unlocked) ∷ []) → ⊥
 unlocked_empty k =
     let late = k.locks 1 0 7 emptied ([], refl) (record { before = []; after = []; is = refl }) in
-    at_no_moment 1 (λ part. IsOneOf (Frees 0 7) (set_acts_of 1 part) × IsFilled late.0 part) emptied (
+    at_no_moment 1 (λ part. IsOneOf (Frees 0 7) (set_acts_of 1 part) × IsFilled late.other part) emptied (
       (λ h. no_more h.0.before (Frees 0 7) h.0.after h.0.is),
       (
         (λ h. no_more h.0.before (Frees 0 7) h.0.after h.0.is),
-        ((λ h. no_more h.0.before (Frees 0 7) h.0.after h.0.is), (λ h. none_stays (0 == late.0) h.1)),
+        ((λ h. no_more h.0.before (Frees 0 7) h.0.after h.0.is), (λ h. none_stays (0 == late.other) h.1)),
       ),
     )
-    late.1
+    late.once

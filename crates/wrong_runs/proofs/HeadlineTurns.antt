@@ -1,10 +1,12 @@
 -- For each field of what `headline` says of every kind, of the progress of calls and of one turn, what this field refuses.
 use Rattle.std.proofs.Common.{◌≡◌, inl, ℕ, true, false, List, [], ◌∷◌, ◌++◌, refl, arith}
+use Rattle.steps.specs.declared.indices.enums.ReleaseMode.TheVariants.{Default}
 use Rattle.model.specs.declared.event.Event.{Event}
 use Rattle.model.specs.declared.event.Event.TheVariants.{Begun, Acted, Asked, Died}
 use Rattle.model.specs.declared.event.Answer.TheVariants.{Truth}
-use Rattle.model.specs.declared.event.Start.TheVariants.{Queues, Robust}
+use Rattle.model.specs.declared.event.Start.TheVariants.{Queues, Robust, Container}
 use Rattle.model.specs.declared.families.Registry.TheVariants as registries
+use Rattle.model.specs.declared.families.container.ContainerStart.TheVariants.{Remove}
 use Rattle.model.specs.declared.families.indices.robust.RobustStart.TheVariants.{Acquire, Find}
 use Rattle.model.specs.declared.families.queues.QueueStart.TheVariants.{Len}
 use Rattle.model.specs.declared.party.Doing.TheVariants.{Over}
@@ -13,7 +15,7 @@ use Rattle.model.specs.declared.turn.Turn.TheVariants.{Begin, Next, Decide}
 use Rattle.model.specs.Coding.{one_word}
 use Rattle.model.specs.World.{Trace}
 use Rattle.model.proofs.Runs.{begins, ran}
-use Rattle.headline.specs.Headline.{Progresses, Holds, Takes}
+use Rattle.headline.specs.Headline.{MakesProgress, Holds, Takes}
 use Rattle.wrong_runs.proofs.HeadlineQueues.{full_at_once}
 use Rattle.wrong_runs.proofs.Loan.{fresh, still, channel}
 use Rattle.wrong_runs.proofs.Machines.{machine}
@@ -34,14 +36,14 @@ went steps backs =
     }
 
 -- a call has turned back, and nobody has changed a word
-turns_back : Progresses (went 0 1) → ⊥
+turns_back : MakesProgress (went 0 1) → ⊥
 turns_back k = let e = k.paid 0 _ refl in absurd (omega arith)
 
 -- a push has taken 9 steps
-steps_on : Progresses (went 9 0) → ⊥
+steps_on : MakesProgress (went 9 0) → ⊥
 steps_on k = let e = k.bounded 0 (push 7) _ refl refl in absurd (omega arith)
 
-waits_on : Progresses (went 9 0) → ⊥
+waits_on : MakesProgress (went 9 0) → ⊥
 waits_on k = let e = k.guaranteed 0 (push 7) _ refl refl in absurd (omega arith)
 
 -- ---- any kind
@@ -80,6 +82,13 @@ forgets k = let e = k.grows.1 in cc
 -- the submission queue has another capacity
 grows_longer : Takes (channel still []) (Next 0) (machine kinds.Loan still (registries.Loan (record fresh { queue = 3 })) []) → ⊥
 grows_longer k = let e = k.keeps_queue in cc
+
+-- a remove of an index that the container does not have asks for nothing, and does not end
+abbrev refusing : Trace ℕ
+refusing = ran one_word kinds.Container 1 2 (Begin 0 (Container (Remove 5 7 Default)) ∷ [])
+
+refuses_on : Takes refusing (Next 0) refusing → ⊥
+refuses_on k = let e = k.ends 0 refl refl in cc
 
 -- a robust set of one index, which owner 1 has, and for which party 1 has begun a find that has taken so many steps
 abbrev finding : ℕ → Trace ℕ

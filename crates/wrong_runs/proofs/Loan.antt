@@ -1,5 +1,5 @@
 -- For each field of what a loan channel promises a run that this field alone refuses here.
-use Rattle.std.proofs.Common.{◌≡◌, ◌≢◌, ◌⊎◌, ⊎_elim, inl, ℕ, ◌<◌, true, false, Some, None, List, [], ◌∷◌, refl, arith}
+use Rattle.std.proofs.Common.{◌≡◌, ⊎_elim, inl, ℕ, ◌<◌, Some, List, [], ◌∷◌, refl, arith}
 use Rattle.steps.specs.declared.indices.enums.UniqueIndexSetAcquireFailure.TheVariants as failures
 use Rattle.steps.specs.declared.loan.places.Place.TheVariants as places
 use Rattle.model.specs.declared.event.Answer.TheVariants.{Index, NoIndex, PoppedIndex}

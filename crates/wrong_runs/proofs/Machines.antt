@@ -1,5 +1,5 @@
 -- How the wrong runs are written: what a machine would be that has written these events.
-use Rattle.std.proofs.Common.{◌≡◌, ℕ, List, [], ◌∷◌, ◌++◌, sym, subst, ◌∙◌, append_assoc, append-nil}
+use Rattle.std.proofs.Common.{◌≡◌, ℕ, List, [], ◌∷◌, ◌++◌, sym, subst, append_assoc, append-nil}
 use Rattle.model.specs.declared.event.Event.{Event}
 use Rattle.model.specs.declared.families.Registry.{Registry}
 use Rattle.model.specs.declared.turn.Kind.{Kind}

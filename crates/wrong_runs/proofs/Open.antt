@@ -1,6 +1,6 @@
 -- For each field of what holds of a robust index set and of a container in which nobody sees an owner die a run that this field alone
 -- refuses here.
-use Rattle.std.proofs.Common.{◌≡◌, ◌<◌, ℕ, ◌-◌, ◌^◌, true, false, Some, None, List, [], ◌∷◌, ◌++◌, refl, arith}
+use Rattle.std.proofs.Common.{◌≡◌, ◌<◌, ℕ, ◌-◌, ◌^◌, true, List, [], ◌∷◌, refl, arith}
 use Rattle.steps.specs.declared.indices.enums.ReleaseMode.TheVariants.{Default}
 use Rattle.model.specs.declared.event.Answer.TheVariants.{Truth}
 use Rattle.model.specs.declared.event.Event.{Event}
@@ -11,13 +11,11 @@ use Rattle.model.specs.declared.families.Registry.TheVariants as registries
 use Rattle.model.specs.declared.families.container.ContainerStart.TheVariants as containers
 use Rattle.model.specs.declared.families.indices.robust.RobustStart.TheVariants as robust
 use Rattle.model.specs.declared.turn.Kind.TheVariants as kinds
-use Rattle.model.specs.Families.Container.Promises.{IsWellFormedRun}
-use Rattle.model.specs.Families.Container.Reading.{Act, Copies}
+use Rattle.model.specs.Families.Container.Reading.{Copies}
 use Rattle.model.specs.Families.Indices.Robust.Promises.{FreesRight, IsWellFormed}
-use Rattle.model.specs.Reading.{Each}
 use Rattle.model.specs.World.{Trace}
 use Rattle.model.proofs.Readings.{Each-append, Each-nil, no_more}
-use Rattle.model.proofs.Runs.{begins, ran}
+use Rattle.model.proofs.Runs.{begins}
 use Rattle.laws_robust.specs.Gone.{IsHonest, ActsForRight}
 use Rattle.laws_robust.specs.Open.{IsOpenSet, IsReachedOpen}
 use Rattle.laws_container.specs.Open.{IsOpenContainer, IsFaithful, IsFaithfulRun}

@@ -1,8 +1,8 @@
 -- For each field of what a queue promises a run that this field alone refuses here.
-use Rattle.std.proofs.Common.{◌≡◌, ℕ, true, false, Some, None, List, [], ◌∷◌, refl, arith}
+use Rattle.std.proofs.Common.{ℕ, false, Some, None, List, [], ◌∷◌, refl, arith}
 use Rattle.model.specs.declared.event.Answer.TheVariants.{Truth, Number, PoppedNone}
 use Rattle.model.specs.declared.event.Event.{Event}
-use Rattle.model.specs.declared.event.Event.TheVariants.{Begun, Published, HandedOut, Acted, Finished}
+use Rattle.model.specs.declared.event.Event.TheVariants.{Begun, Published, Acted, Finished}
 use Rattle.model.specs.declared.event.Item.TheVariants.{Index}
 use Rattle.model.specs.declared.event.Start.{Start}
 use Rattle.model.specs.declared.event.Start.TheVariants as starts

@@ -1,8 +1,8 @@
 -- For each field of what the robust index set promises a run that this field alone refuses here.
-use Rattle.std.proofs.Common.{◌≡◌, ℕ, ◌-◌, ◌^◌, true, false, Some, None, List, [], ◌∷◌, refl, arith}
+use Rattle.std.proofs.Common.{ℕ, ◌-◌, ◌^◌, true, List, [], ◌∷◌, refl, arith}
 use Rattle.model.specs.declared.event.Answer.TheVariants.{Truth}
 use Rattle.model.specs.declared.event.Event.{Event}
-use Rattle.model.specs.declared.event.Event.TheVariants.{Filled, Granted, FreedOf, Told, Finished}
+use Rattle.model.specs.declared.event.Event.TheVariants.{Filled, Granted, Told, Finished}
 use Rattle.model.specs.declared.event.Start.TheVariants as starts
 use Rattle.model.specs.declared.families.Registry.TheVariants as registries
 use Rattle.model.specs.declared.families.indices.robust.RobustStart.TheVariants.{IsLocked}

@@ -1,5 +1,5 @@
 -- For each field of what the single value promises a run that this field alone refuses here.
-use Rattle.std.proofs.Common.{◌≡◌, ℕ, true, false, Some, None, List, [], ◌∷◌, refl}
+use Rattle.std.proofs.Common.{ℕ, false, Some, None, List, [], ◌∷◌, refl}
 use Rattle.model.specs.declared.event.Answer.TheVariants.{Truth, Loaded}
 use Rattle.model.specs.declared.event.Event.{Event}
 use Rattle.model.specs.declared.event.Event.TheVariants.{Acted, Finished}

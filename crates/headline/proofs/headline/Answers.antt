@@ -15,6 +15,7 @@ use Rattle.laws_turns.specs.Questions.{waits_at}
 use Rattle.headline.specs.Headline.{Holds}
 use Rattle.machine.proofs.Laws.{laws_of}
 use Rattle.machine.proofs.LockFree.{one_ends, robust_one_ends, container_one_ends, channel_one_ends}
+use Rattle.headline.proofs.Ends.{ends}
 use Rattle.headline.proofs.Picking.{picked}
 use Rattle.headline.proofs.Reached.{holds}
 use Rattle.headline.proofs.Reaching.{reaches}
@@ -44,6 +45,7 @@ returns-clause-turn g c t turn r e =
       others_stay = others.others_stay t.world turn;
       grows = (events_of t.world turn, refl);
       keeps_queue = submission.keeps_queue t.world turn;
+      ends = ends t r turn e;
       asks = λ is p index owner wrote grown one. picked _ _ wrote one (asking.asks_at_once t turn is r wrote grown);
       finds = λ is p index owner next here loads. finding.finds_asking t is r turn e p owner index next here loads;
       answered = last_word t turn r e;

@@ -1,0 +1,517 @@
+-- The calls of a container, run whole, are those of a map from index to owner and value, with what the state of each party shows.
+use Rattle.std.proofs.Common.{◌≡◌, ◌⊎◌, inl, inr, ℕ, zero, suc, ◌+◌, ◌*◌, ◌==◌, Bool, true, false, Option, Some, None, is_some, option_map, List, []}
+use Rattle.std.proofs.Common.{◌++◌, replicate, length-append, refl, sym, ap, subst, ◌∙◌, arith, if◌then◌else◌}
+use Rattle.std.proofs.lemmas.List.{length-replicate}
+use Rattle.steps.specs.Container.Look.{first_look, look_want, look_after, look_kept}
+use Rattle.steps.specs.Indices.Robust.Parts.{empty}
+use Rattle.steps.specs.declared.ask.After.{After}
+use Rattle.steps.specs.declared.ask.After.TheVariants.{GoOn, Done}
+use Rattle.steps.specs.declared.container.look.Look.{Look}
+use Rattle.steps.specs.declared.container.state.ContainerState.{ContainerState}
+use Rattle.model.specs.declared.event.Answer.{Answer}
+use Rattle.model.specs.declared.event.Start.{Start}
+use Rattle.model.specs.declared.event.Start.TheVariants as starts
+use Rattle.model.specs.declared.families.Flight.{Flight}
+use Rattle.model.specs.declared.families.Flight.TheVariants as flights
+use Rattle.model.specs.declared.families.Registry.{Registry}
+use Rattle.model.specs.declared.families.Registry.TheVariants as registries
+use Rattle.model.specs.declared.families.container.ContainerStart.{ContainerStart}
+use Rattle.model.specs.declared.families.container.ContainerStart.TheVariants as calls
+use Rattle.model.specs.declared.families.container.calls.ContainerFlight.TheVariants as under_way
+use Rattle.model.specs.declared.families.container.calls.LookOf.{LookOf}
+use Rattle.model.specs.declared.families.container.calls.LookOf.TheVariants.{GetState, UpdateState}
+use Rattle.model.specs.declared.turn.Kind.TheVariants as kinds
+use Rattle.model.specs.declared.turn.Turn.TheVariants.{Begin}
+use Rattle.model.specs.Coding.{Coding, IsCoding}
+use Rattle.model.specs.Families.{first_of, want_of, ask_of, is_question, after_of, step_of, kept_after_begin, kept_after_death}
+use Rattle.model.specs.Families.Container.Calls.{first, look_came, look_goes, settled_if, writes_state}
+use Rattle.model.specs.Families.Container.Opening.{opening_words, names_owner, kept_rows}
+use Rattle.model.specs.Families.Container.States.{state_of, with_state, set_state, fresh}
+use Rattle.model.specs.Families.Indices.Robust.Dead.{dead_with}
+use Rattle.model.specs.Refusals.{refusal_of}
+use Rattle.model.specs.Rows.{first_row}
+use Rattle.model.specs.Step.{as_call}
+use Rattle.model.specs.Turns.{IsReached, old_of, words_after, number_of}
+use Rattle.model.specs.World.{Trace, capacity_error}
+use Rattle.model.proofs.Rows.{passes, may_begin}
+use Rattle.plain.specs.Contents as contents
+use Rattle.plain.specs.Contents.{Contents, contents_in, IsFilled, Holds}
+use Rattle.plain.specs.States.{Snapshot, snapshot_of}
+use Rattle.plain.proofs.Elements.Filled.{filled_opened}
+use Rattle.plain.proofs.Elements.Opens.{opens_so}
+use Rattle.headline_whole.specs.Dialogues.{Decision, decided, as_request}
+use Rattle.headline_whole.specs.Objects.{Viewed, view_of, view_after, whole_map}
+use Rattle.headline_whole.proofs.Agree.{Agree, goes_so, agrees_then, agrees_still, writes_none, container_writes}
+use Rattle.headline_whole.proofs.Courses.{Course, IsMadeSo, Holding, Came, Steps, Rules}
+use Rattle.headline_whole.proofs.Flights.{Turns, Talks, talk_goes, talk_hears, RunsOn, run_goes}
+use Rattle.headline_whole.proofs.Looks.{never_asks, start_of, views_in, AllRight, Looking, begins_fresh, begins_on, goes_on, shows}
+use Rattle.headline_whole.proofs.Looks.{words_are, views_then, said}
+use Rattle.headline_whole.proofs.Looks as looks
+use Rattle.headline_whole.proofs.Maps.{map_in, admitted, every}
+use Rattle.headline_whole.proofs.Maps as maps
+use Rattle.headline_whole.proofs.Owners.{named_if}
+use Rattle.headline_whole.proofs.Replies.{course}
+
+module _ {T : Type 0} where
+  -- the states of the parties, of what is kept
+  abbrev pub states_in : Registry T → List (ℕ × ContainerState T)
+  states_in (registries.Container dead states) = states
+  states_in kept = []
+
+  states_stay : (kept : Registry T) (owner : ℕ) → states_in (kept_after_death kept owner) ≡ states_in kept
+  states_stay (registries.Owners dead) owner = refl
+  states_stay (registries.Container dead states) owner = refl
+  states_stay (registries.Loan book) owner = refl
+  states_stay kept owner = refl
+
+  -- no other call than a look writes them
+  states_same : (code : Coding T) (words : List ℕ) (beside : Option (ℕ × ℕ)) (p : ℕ) (start : Start T) (flight : Flight T) (old : ℕ)
+      (kept : Registry T) → Agree start flight kept → states_in (step_of code words beside p start flight old kept).kept ≡ states_in kept
+  states_same code words beside p (starts.Queues start) (flights.Queues flight) old (registries.Queues roles) h = refl
+  states_same code words beside p (starts.Atomic start) (flights.Atomic flight) old (registries.Atomic producer) h = refl
+  states_same code words beside p (starts.Bits start) (flights.Bits flight) old registries.Nothing h = refl
+  states_same code words beside p (starts.Indices start) (flights.Indices flight) old (registries.Indices holders) h = refl
+  states_same code words beside p (starts.Robust start) (flights.Robust flight) old (registries.Owners dead) h = refl
+  states_same code words beside p (starts.Container start) (flights.Container (under_way.Look which call)) old (registries.Container dead states) h =
+      absurd h
+  states_same code words beside p (starts.Container start) (flights.Container flight) old (registries.Container dead states) h = refl
+  states_same code words beside p start flight old kept h = absurd h
+
+  either_same : (b : Bool) (s : Contents T) (start : Start T) (view : Option (Snapshot T)) → view_after s start view ≡ view
+      → (if b then view_after s start view else view) ≡ view
+  either_same true s start view same = same
+  either_same false s start view same = refl
+
+module _ {T : Type 0} (code : Coding T) (coded : IsCoding code) (capacity : ℕ) where
+  abbrev pub map_course : Course T
+  map_course = course (whole_map {T = T} capacity)
+
+  abbrev seen : List ℕ → (ℕ → Option (Snapshot T)) → Viewed T
+  seen words views = record { contents = map_in code capacity words; views = views }
+
+  -- a call that goes on from its words alone
+  pub record Talking (first_words : List ℕ) (views : ℕ → Option (Snapshot T)) (p : ℕ) (start : Start T) (told : List (Decision T))
+      (flight : Flight T) (words : List ℕ) (kept : Registry T) : Type 0 where
+    pub agrees : Agree start flight kept
+    pub most : ℕ
+    pub talks : Talks code (maps.Ends code capacity first_words views p start) most told flight words
+    pub right : AllRight code coded capacity (states_in kept)
+    pub same : (q : ℕ) → views_in (states_in kept) q ≡ views q
+    pub still : (s : Contents T) (view : Option (Snapshot T)) → view_after s start view ≡ view
+
+  -- a look
+  pub record Viewing (first_words : List ℕ) (holds : Holds code.value_of code.size capacity 0 first_words) (views : ℕ → Option (Snapshot T)) (p : ℕ)
+      (start : Start T) (told : List (Decision T)) (flight : Flight T) (words : List ℕ) (kept : Registry T) : Type 0 where
+    pub which : LookOf
+    pub call : Look T
+    pub dead : List ℕ
+    pub states : List (ℕ × ContainerState T)
+    pub start_is : start ≡ starts.Container (start_of which)
+    pub told_is : told ≡ []
+    pub flight_is : flight ≡ flights.Container (under_way.Look which call)
+    pub kept_is : kept ≡ registries.Container dead states
+    pub looking : Looking code coded capacity first_words holds views p which call words states
+
+  pub record Begun (s : Viewed T) (p : ℕ) (start : Start T) (told : List (Decision T)) (flight : Flight T) (words : List ℕ) (kept : Registry T)
+      : Type 0 where
+    pub first_words : List ℕ
+    pub views : ℕ → Option (Snapshot T)
+    pub is : s ≡ seen first_words views
+    pub holds : Holds code.value_of code.size capacity 0 first_words
+    pub under : Talking first_words views p start told flight words kept
+        ⊎ Viewing first_words holds views p start told flight words kept
+
+  abbrev pub holding : Holding map_course
+  holding =
+      record {
+        Holds = λ turns words kept. Holds code.value_of code.size capacity 0 words × AllRight code coded capacity (states_in kept);
+        read = λ words kept. record { contents = map_in code capacity words; views = views_in (states_in kept) };
+        Under = λ s turns p start told flight words kept. Begun s p start told flight words kept;
+      }
+
+  module _ (turns p : ℕ) (first_words : List ℕ) (holds : Holds code.value_of code.size capacity 0 first_words) (views : ℕ → Option (Snapshot T)) where
+    abbrev object : Viewed T
+    object = record { contents = map_in code capacity first_words; views = views }
+
+    -- ---- a step of a call that goes on from its words alone
+
+    module _ (start : Start T) (told next_told : List (Decision T)) (flight : Flight T) (words next_words : List ℕ) (kept : Registry T)
+        (beside : Option (ℕ × ℕ)) (old : ℕ) (k : Talking first_words views p start told flight words kept) where
+      abbrev next_kept : Registry T
+      next_kept = (step_of code words beside p start flight old kept).kept
+
+      right_then : AllRight code coded capacity (states_in next_kept)
+      right_then = subst (AllRight code coded capacity) (sym (states_same code words beside p start flight old kept k.agrees)) k.right
+
+      same_then : (q : ℕ) → views_in (states_in next_kept) q ≡ views q
+      same_then q = ap (λ states. views_in states q) (states_same code words beside p start flight old kept k.agrees) ∙ k.same q
+
+      came : (n : ℕ) (a : After (Flight T) (Answer T)) → after_of code flight old ≡ a
+          → Turns code (maps.Ends code capacity first_words views p start)
+          (λ told f ws. Talks code (maps.Ends code capacity first_words views p start) n told f ws) next_told a next_words
+          → Came map_course holding object turns p start next_told a next_words next_kept
+      came n (GoOn d) is left =
+          record {
+            first_words = first_words;
+            views = views;
+            is = refl;
+            holds = holds;
+            under = inl (record {
+              agrees = agrees_then code words beside p start flight old kept d k.agrees is;
+              most = n;
+              talks = left;
+              right = right_then;
+              same = same_then;
+              still = k.still;
+            });
+          }
+      came n (Done answer) is left = (
+        left.said,
+        (left.holds, right_then),
+        λ i. record {
+          contents = left.object i;
+          views = λ q. (same_then q ∙ sym (either_same (q == p) (map_in code capacity first_words) start (views q)
+              (k.still (map_in code capacity first_words) (views q)))) i;
+        },
+      )
+
+      steps : (n : ℕ) → Turns code (maps.Ends code capacity first_words views p start)
+          (λ told f ws. Talks code (maps.Ends code capacity first_words views p start) n told f ws) next_told (after_of code flight old) next_words
+          → Steps map_course holding object turns p start next_told next_words (step_of code words beside p start flight old kept)
+      steps n left =
+          record {
+            none = λ is_call. writes_none is_call code words beside p start flight old kept k.agrees;
+            came =
+                subst (λ a. Came map_course holding object turns p start next_told a next_words next_kept)
+                (sym (goes_so code words beside p start flight old kept k.agrees))
+                (came n (after_of code flight old) refl left);
+          }
+
+    talk_on : (start : Start T) (told : List (Decision T)) (flight : Flight T) (words : List ℕ) (kept : Registry T) (beside : Option (ℕ × ℕ))
+        → Talking first_words views p start told flight words kept → is_question (want_of code flight) ≡ false
+        → Steps map_course holding object turns p start told (words_after words (ask_of (want_of code flight)))
+        (step_of code words beside p start flight (old_of words (ask_of (want_of code flight))) kept)
+    talk_on start told flight words kept beside k calm = go k.most k.talks
+      where
+        go : (n : ℕ) → Talks code (maps.Ends code capacity first_words views p start) n told flight words
+            → Steps map_course holding object turns p start told (words_after words (ask_of (want_of code flight)))
+            (step_of code words beside p start flight (old_of words (ask_of (want_of code flight))) kept)
+        go zero t = absurd t
+        go (suc n) t =
+            steps start told told flight words (words_after words (ask_of (want_of code flight))) kept beside
+            (old_of words (ask_of (want_of code flight))) k (suc n)
+            (talk_goes code (maps.Ends code capacity first_words views p start)
+            (λ told f ws. Talks code (maps.Ends code capacity first_words views p start) n told f ws) told flight words t calm)
+
+    talk_told : (start : Start T) (told : List (Decision T)) (flight : Flight T) (words : List ℕ) (kept : Registry T) (beside : Option (ℕ × ℕ))
+        (said : Bool) → Talking first_words views p start told flight words kept → is_question (want_of code flight) ≡ true
+        → Steps map_course holding object turns p start (told ++ decided code (Some flight) said) words
+        (step_of code words beside p start flight (number_of said) kept)
+    talk_told start told flight words kept beside said k is = go k.most k.talks
+      where
+        go : (n : ℕ) → Talks code (maps.Ends code capacity first_words views p start) n told flight words
+            → Steps map_course holding object turns p start (told ++ decided code (Some flight) said) words
+            (step_of code words beside p start flight (number_of said) kept)
+        go zero t = absurd t
+        go (suc n) t =
+            steps start told (told ++ decided code (Some flight) said) flight words words kept beside (number_of said) k n
+            (talk_hears code (maps.Ends code capacity first_words views p start)
+            (λ told f ws. Talks code (maps.Ends code capacity first_words views p start) n told f ws) told flight words t is said)
+
+    -- ---- a step of a look
+
+    module _ (which : LookOf) (call : Look T) (dead : List ℕ) (states : List (ℕ × ContainerState T)) (words : List ℕ) (beside : Option (ℕ × ℕ))
+        (k : Looking code coded capacity first_words holds views p which call words states) where
+      abbrev last : List ℕ
+      last = words_after words (ask_of (look_want code.size call))
+
+      abbrev old : ℕ
+      old = old_of words (ask_of (look_want code.size call))
+
+      abbrev new_states : After (Look T) Bool → List (ℕ × ContainerState T)
+      new_states a =
+          set_state p (settled_if a (shows code coded capacity first_words holds views p which call words last states k old)) states
+
+      look_comes : (a : After (Look T) Bool)
+          → RunsOn (λ (c : Look T) given. look_want code.size c) (look_after code.size) (look_kept code.value_of code.size) k.old.seen
+          (looks.Ends code coded capacity first_words holds views p k.old) a (look_kept code.value_of code.size call k.state.shown old) last
+          → Came map_course holding object turns p (starts.Container (start_of which)) []
+          (as_call flights.Container (λ (answer : Answer T). answer)
+          (look_came which (shows code coded capacity first_words holds views p which call words last states k old) a))
+          last (registries.Container dead (new_states a))
+      look_comes (GoOn d) left =
+          record {
+            first_words = first_words;
+            views = views;
+            is = refl;
+            holds = holds;
+            under = inr (record {
+              which = which;
+              call = d;
+              dead = dead;
+              states = new_states (GoOn d);
+              start_is = refl;
+              told_is = refl;
+              flight_is = refl;
+              kept_is = refl;
+              looking = goes_on code coded capacity first_words holds views p which call words last states k old d left;
+            });
+          }
+      look_comes (Done changed) left =
+          let same = words_are code coded capacity first_words holds views p which call words last states k old changed left in (
+            said code coded capacity first_words holds views p which call words last states k old changed left,
+            (
+              subst (Holds code.value_of code.size capacity 0) (sym same) holds,
+              looks.right_then code coded capacity first_words holds views p which call words last states k old changed left,
+            ),
+            λ i. record {
+              contents = (ap (map_in code capacity) same ∙ contents_stay which) i;
+              views = λ q. views_then code coded capacity first_words holds views p which call words last states k old changed left q i;
+            },
+          )
+        where
+          contents_stay : (w : LookOf) → map_in code capacity first_words
+              ≡ (map_course.after object (as_request p (starts.Container (start_of w)) [])).contents
+          contents_stay GetState = refl
+          contents_stay UpdateState = refl
+
+      seen_same : k.state.seen ≡ k.old.seen
+      seen_same = ap (λ (z : ContainerState T). z.seen) k.state_is
+
+      look_on : Steps map_course holding object turns p (starts.Container (start_of which)) [] last
+          (step_of code words beside p (starts.Container (start_of which)) (flights.Container (under_way.Look which call)) old
+          (registries.Container dead states))
+      look_on =
+          record {
+            none = λ is_call. container_writes is_call code p (under_way.Look which call) old states;
+            came =
+                subst (λ (o : Option (ContainerState T)).
+                Came map_course holding object turns p (starts.Container (start_of which)) []
+                (as_call flights.Container (λ (answer : Answer T). answer) (look_goes code which call o old)) last
+                (registries.Container dead (writes_state code p call old o states)))
+                (sym k.found)
+                (subst (λ numbers.
+                Came map_course holding object turns p (starts.Container (start_of which)) []
+                (as_call flights.Container (λ (answer : Answer T). answer)
+                (look_came which (shows code coded capacity first_words holds views p which call words last states k old)
+                (look_after code.size call numbers old)))
+                last (registries.Container dead (new_states (look_after code.size call numbers old))))
+                (sym seen_same)
+                (look_comes (look_after code.size call k.old.seen old)
+                (run_goes (λ (c : Look T) given. look_want code.size c) (look_after code.size) (look_kept code.value_of code.size) k.old.seen
+                (looks.Ends code coded capacity first_words holds views p k.old) call k.state.shown words k.run
+                (never_asks code.size call.capacity call.stage))));
+          }
+
+    view_on : (start : Start T) (told : List (Decision T)) (flight : Flight T) (words : List ℕ) (kept : Registry T) (beside : Option (ℕ × ℕ))
+        → Viewing first_words holds views p start told flight words kept
+        → Steps map_course holding object turns p start told (words_after words (ask_of (want_of code flight)))
+        (step_of code words beside p start flight (old_of words (ask_of (want_of code flight))) kept)
+    view_on start told flight words kept beside k =
+        subst (λ (x : Start T × List (Decision T) × Flight T × Registry T).
+        Steps map_course holding object turns p x.0 x.1 (words_after words (ask_of (want_of code x.2)))
+        (step_of code words beside p x.0 x.2 (old_of words (ask_of (want_of code x.2))) x.3))
+        (λ i. (sym k.start_is i, sym k.told_is i, sym k.flight_is i, sym k.kept_is i))
+        (look_on k.which k.call k.dead k.states words beside k.looking)
+
+    view_asks_none : (start : Start T) (told : List (Decision T)) (flight : Flight T) (words : List ℕ) (kept : Registry T)
+        → Viewing first_words holds views p start told flight words kept → is_question (want_of code flight) ≡ false
+    view_asks_none start told flight words kept k =
+        subst (λ f. is_question (want_of code f) ≡ false) (sym k.flight_is) (never_asks code.size k.call.capacity k.call.stage)
+
+  -- ---- a turn of a call
+
+  none_asked : {A : Type 0} (b : Bool) → b ≡ true → b ≡ false → A
+  none_asked b t f = absurd (cc)
+
+  goes : (s : Viewed T) (turns p : ℕ) (start : Start T) (told : List (Decision T)) (flight : Flight T) (words : List ℕ)
+      (kept : Registry T) (beside : Option (ℕ × ℕ)) → Begun s p start told flight words kept → is_question (want_of code flight) ≡ false
+      → Steps map_course holding s turns p start told (words_after words (ask_of (want_of code flight)))
+      (step_of code words beside p start flight (old_of words (ask_of (want_of code flight))) kept)
+  goes s turns p start told flight words kept beside u calm =
+      subst (λ z. Steps map_course holding z turns p start told (words_after words (ask_of (want_of code flight)))
+      (step_of code words beside p start flight (old_of words (ask_of (want_of code flight))) kept)) (sym u.is) (go u.under)
+    where
+      go : Talking u.first_words u.views p start told flight words kept ⊎ Viewing u.first_words u.holds u.views p start told flight words kept
+          → Steps map_course holding (seen u.first_words u.views) turns p start told (words_after words (ask_of (want_of code flight)))
+          (step_of code words beside p start flight (old_of words (ask_of (want_of code flight))) kept)
+      go (inl k) = talk_on turns p u.first_words u.holds u.views start told flight words kept beside k calm
+      go (inr k) = view_on turns p u.first_words u.holds u.views start told flight words kept beside k
+
+  decides : (s : Viewed T) (turns p : ℕ) (start : Start T) (told : List (Decision T)) (flight : Flight T) (words : List ℕ)
+      (kept : Registry T) (beside : Option (ℕ × ℕ)) (said : Bool) → Begun s p start told flight words kept
+      → is_question (want_of code flight) ≡ true
+      → Steps map_course holding s turns p start (told ++ decided code (Some flight) said) words
+      (step_of code words beside p start flight (number_of said) kept)
+  decides s turns p start told flight words kept beside said u is =
+      subst (λ z. Steps map_course holding z turns p start (told ++ decided code (Some flight) said) words
+      (step_of code words beside p start flight (number_of said) kept)) (sym u.is) (go u.under)
+    where
+      go : Talking u.first_words u.views p start told flight words kept ⊎ Viewing u.first_words u.holds u.views p start told flight words kept
+          → Steps map_course holding (seen u.first_words u.views) turns p start (told ++ decided code (Some flight) said) words
+          (step_of code words beside p start flight (number_of said) kept)
+      go (inl k) = talk_told turns p u.first_words u.holds u.views start told flight words kept beside said k is
+      go (inr k) =
+          none_asked (is_question (want_of code flight)) is (view_asks_none turns p u.first_words u.holds u.views start told flight words kept k)
+
+  stays : (s : Viewed T) (p : ℕ) (start : Start T) (told : List (Decision T)) (flight : Flight T) (words : List ℕ) (kept : Registry T) (owner : ℕ)
+      → Begun s p start told flight words kept → Begun s p start told flight words (kept_after_death kept owner)
+  stays s p start told flight words kept owner u =
+      record { first_words = u.first_words; views = u.views; is = u.is; holds = u.holds; under = go u.under }
+    where
+      go : Talking u.first_words u.views p start told flight words kept ⊎ Viewing u.first_words u.holds u.views p start told flight words kept
+          → Talking u.first_words u.views p start told flight words (kept_after_death kept owner)
+          ⊎ Viewing u.first_words u.holds u.views p start told flight words (kept_after_death kept owner)
+      go (inl k) =
+          inl (record {
+            agrees = agrees_still start flight kept owner k.agrees;
+            most = k.most;
+            talks = k.talks;
+            right = subst (AllRight code coded capacity) (sym (states_stay kept owner)) k.right;
+            same = λ q. ap (λ states. views_in states q) (states_stay kept owner) ∙ k.same q;
+            still = k.still;
+          })
+      go (inr k) =
+          inr (record {
+            which = k.which;
+            call = k.call;
+            dead = dead_with owner k.dead;
+            states = k.states;
+            start_is = k.start_is;
+            told_is = k.told_is;
+            flight_is = k.flight_is;
+            kept_is = ap (λ (z : Registry T). kept_after_death z owner) k.kept_is;
+            looking = k.looking;
+          })
+
+  -- ---- a call begins
+
+  module _ (p : ℕ) (words : List ℕ) (h : Holds code.value_of code.size capacity 0 words) (dead : List ℕ) (states : List (ℕ × ContainerState T))
+      (right : AllRight code coded capacity states) where
+    abbrev BegunAt : ContainerStart T → Type 0
+    BegunAt start =
+        Begun (seen words (views_in states)) p (starts.Container start) [] (flights.Container (first capacity start)) words
+        (kept_after_begin code capacity (starts.Container start) p (registries.Container dead states))
+
+    begins_update : (o : Option (ContainerState T)) → state_of p states ≡ o
+        → Looking code coded capacity words h (views_in states) p UpdateState (first_look capacity) words
+        (if is_some o then states else with_state p (fresh code capacity) states)
+    begins_update None e =
+        begins_fresh code coded capacity words h (views_in states) p UpdateState states
+        (ap (λ o. view_of (map_in code capacity words) (option_map snapshot_of o)) e) right (λ q. refl)
+    begins_update (Some state) e = begins_on code coded capacity words h (views_in states) p states state e right (λ q. refl)
+
+    begun_at : (start : ContainerStart T) → names_owner start ≡ true → BegunAt start
+    begun_at calls.GetState names =
+        record {
+          first_words = words;
+          views = views_in states;
+          is = refl;
+          holds = h;
+          under = inr (record {
+            which = GetState;
+            call = first_look capacity;
+            dead = dead;
+            states = with_state p (fresh code capacity) states;
+            start_is = refl;
+            told_is = refl;
+            flight_is = refl;
+            kept_is = refl;
+            looking = begins_fresh code coded capacity words h (views_in states) p GetState states refl right (λ q. refl);
+          });
+        }
+    begun_at calls.UpdateState names =
+        record {
+          first_words = words;
+          views = views_in states;
+          is = refl;
+          holds = h;
+          under = inr (record {
+            which = UpdateState;
+            call = first_look capacity;
+            dead = dead;
+            states = if is_some (state_of p states) then states else with_state p (fresh code capacity) states;
+            start_is = refl;
+            told_is = refl;
+            flight_is = refl;
+            kept_is = refl;
+            looking = begins_update (state_of p states) refl;
+          });
+        }
+    begun_at start names =
+        let talk = every code capacity coded (views_in states) p words h start tt names in
+        record {
+          first_words = words;
+          views = views_in states;
+          is = refl;
+          holds = h;
+          under = inl (record {
+            agrees = tt;
+            most = talk.0;
+            talks = talk.1;
+            right = right;
+            same = λ q. refl;
+            still = λ s view. refl;
+          });
+        }
+
+  begun_on : (p : ℕ) (start : ContainerStart T) (kept : Registry T) (words : List ℕ) → Holds code.value_of code.size capacity 0 words
+      → AllRight code coded capacity (states_in kept) → names_owner start ≡ true → first_row (kept_rows start kept p) ≡ None
+      → Begun (seen words (views_in (states_in kept))) p (starts.Container start) [] (flights.Container (first capacity start)) words
+      (kept_after_begin code capacity (starts.Container start) p kept)
+  begun_on p start (registries.Container dead states) words h right names rows = begun_at p words h dead states right start names
+  begun_on p start kept words h right names rows = absurd (cc)
+
+  begins : (t : Trace T) (p : ℕ) (start : Start T) (flight : Flight T) → IsReached t → IsMadeSo code kinds.Container capacity t
+      → refusal_of t.world (Begin p start) ≡ None
+      → Holds code.value_of code.size capacity 0 t.world.words × AllRight code coded capacity (states_in t.world.kept)
+      → first_of kinds.Container capacity start t.world.kept ≡ Some flight
+      → Begun (seen t.world.words (views_in (states_in t.world.kept))) p start [] flight t.world.words
+      (kept_after_begin t.world.coding t.world.capacity start p t.world.kept)
+  begins t p (starts.Container start) flight r made free h named =
+      let is = named_if flights.Container (first capacity start) flight (names_owner start) named in
+      subst (λ (x : Flight T × Coding T × ℕ).
+      Begun (seen t.world.words (views_in (states_in t.world.kept))) p (starts.Container start) [] x.0 t.world.words
+      (kept_after_begin x.1 x.2 (starts.Container start) p t.world.kept))
+      (λ i. (is.1 i, sym made.coding i, sym made.capacity i))
+      (begun_on p start t.world.kept t.world.words h.0 h.1 is.0
+      (may_begin t.world p (starts.Container start) (passes t.world (Begin p (starts.Container start)) free).on).rows)
+  begins t p start flight r made free h named = absurd (cc)
+
+  -- ---- the rules
+
+  opening_map : contents_in code.value_of code.size capacity 0 (opening_words code.size capacity) ≡ contents.opened capacity 0
+  opening_map =
+      let one_more : suc capacity ≡ 1 + capacity = omega arith in
+      opens_so code.value_of code.size capacity 0 (replicate {A = ℕ} (suc capacity) empty) (opening_words code.size capacity)
+      (1 + capacity + code.size * capacity) (ap (λ n. replicate {A = ℕ} n empty) one_more) refl
+
+  no_state : {A : Type 0} (x : ContainerState T) → ◌≡◌ {A = Option (ContainerState T)} None (Some x) → A
+  no_state x e = absurd (cc)
+
+  pub rules : capacity_error kinds.Container capacity ≡ None → Rules map_course holding code kinds.Container capacity
+  rules may =
+      let some = (admitted capacity may).0 in
+      let few = (admitted capacity may).1 in
+      let cells = length-replicate {A = ℕ} capacity empty in
+      let rest = length-replicate {A = ℕ} (1 + capacity + code.size * capacity) 0 in
+      let both = length-append (replicate {A = ℕ} capacity empty) (replicate {A = ℕ} (1 + capacity + code.size * capacity) 0) in
+      record {
+        later = λ m n words kept less h. h;
+        opens = λ queue. (
+          (
+            record { long = omega arith; some = some; few = few; small = omega arith },
+            subst IsFilled (sym opening_map) (filled_opened capacity 0),
+          ),
+          λ q x e. no_state x e,
+        );
+        mourns = λ turns words kept owner h. (
+          (h.0, subst (AllRight code coded capacity) (sym (states_stay kept owner)) h.1),
+          λ i. record { contents = map_in code capacity words; views = views_in (states_stay kept owner i) },
+        );
+        stays = λ s turns p start told flight words kept owner u. stays s p start told flight words kept owner u;
+        begins = begins;
+        goes = goes;
+        decides = decides;
+        first = λ queue. record { legal = refl; stands = λ i. record { contents = sym opening_map i; views = λ q. None } };
+      }

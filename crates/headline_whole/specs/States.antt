@@ -1,0 +1,30 @@
+-- What a machine keeps as the states of a container's parties, beside what the container's object says that they show.
+use Rattle.std.specs.Prelude.{◌≡◌, ℕ, Bool, true, false, Option, Some, None, option_map}
+use Rattle.model.specs.declared.families.Flight.{Flight}
+use Rattle.model.specs.declared.families.Flight.TheVariants as flights
+use Rattle.model.specs.declared.families.Registry.{Registry}
+use Rattle.model.specs.declared.families.Registry.TheVariants as registries
+use Rattle.model.specs.declared.families.container.calls.ContainerFlight.TheVariants.{Look}
+use Rattle.model.specs.Families.Container.States.{state_of}
+use Rattle.model.specs.Turns.{IsReached}
+use Rattle.model.specs.World.{Trace, flight_in}
+use Rattle.plain.specs.States.{Snapshot, snapshot_of}
+use Rattle.headline_whole.specs.Dialogues.{stands_after, calls_of}
+use Rattle.headline_whole.specs.Objects.{whole_map}
+
+module _ {T : Type 0} where
+  -- a call that makes or changes the state of its party is under way
+  abbrev pub is_look : Option (Flight T) → Bool
+  is_look (Some (flights.Container (Look which call))) = true
+  is_look flight = false
+
+  -- what the kept state of a party shows, or nothing where none is kept
+  abbrev pub kept_view : Registry T → ℕ → Option (Snapshot T)
+  kept_view (registries.Container dead states) p = option_map snapshot_of (state_of p states)
+  kept_view kept p = None
+
+  -- after its finished calls the object says what is shown by the kept state of each party that has no look under way
+  abbrev pub ShowsViews : (t : Trace T) → IsReached t → Type 0
+  ShowsViews t r =
+      (p : ℕ) → is_look (flight_in t.world p) ≡ false
+      → kept_view t.world.kept p ≡ (stands_after (whole_map t.world.capacity) (calls_of t r)).views p
