@@ -20,7 +20,7 @@ use Rattle.history.proofs.Reached.{reached_as_opening, fresh_as_opening}
 use Rattle.history.proofs.Calls.{call_then, stateless_none}
 use Rattle.history.proofs.Known.{by_mine, AreOf}
 use Rattle.history.proofs.AllSeen.{known_alone}
-use Rattle.history.proofs.Steps.{settle}
+use Rattle.history.proofs.Steps.{settle_with}
 use Rattle.history.proofs.Turns.{KeptLaws, MachineLaws, kept_laws, Between, begun, begun_at, gone, goes_to, told, own_told}
 
 -- each party is its own seat
@@ -87,7 +87,7 @@ module _ {T : Type 0} (code : Coding T) (kind : Kind) (capacity size : ℕ)
 
   -- a pass that has made these events
   abbrev pub maker : List (Event T) → View T
-  maker es = record { capacity = capacity; party = Some 0; share = all_shares; seen = es; other = []; made = es; going = None; state = None }
+  maker es = record { capacity = capacity; party = Some 0; share = all_shares; seen = es; other = []; made = es; going = None; state = None; asked = 0; taken = 0 }
 
   pub sums : (words : List ℕ) (es : List (Event T)) (going : Option (Start T × Flight T))
       → (h : Here words es going) → (f : Event T → ℕ)
@@ -195,6 +195,8 @@ module _ {T : Type 0} (code : Coding T) (kind : Kind) (capacity size : ℕ)
         made = es;
         going = call_in h.u.world 0;
         state = state_in h.u.world.kept 0;
+        asked = 0;
+        taken = 0;
       }) h.events
       ∙ (ap (λ o. record {
         capacity = capacity;
@@ -205,7 +207,10 @@ module _ {T : Type 0} (code : Coding T) (kind : Kind) (capacity size : ℕ)
         made = es;
         going = o;
         state = state_in h.u.world.kept 0;
+        asked = 0;
+        taken = 0;
       }) h.there
-      ∙ ap (λ z. record { capacity = capacity; party = Some 0; share = all_shares; seen = es; other = []; made = es; going = None; state = z })
+      ∙ ap (λ z. record { capacity = capacity; party = Some 0; share = all_shares; seen = es; other = []; made = es; going = None; state = z; asked = 0; taken = 0 })
       (stateless_none h.u.world.kept 0 (laws.stateless h.u h.between.run))))
-      (settle code kind capacity 0 0 same_seat words (alone words) first es h.u refl (omega arith) h.between)
+      (settle_with code kind capacity 0 0 same_seat 0 0 words (alone words) first es h.u refl (omega arith)
+      (λ call is. (let no : ◌≡◌ {A = Option (Start T × Flight T)} None (Some call) = sym h.there ∙ is in absurd (cc))) h.between)

@@ -1,5 +1,5 @@
 -- The machine before a step of a call: what the view says there, as which party the call goes on, and what is written.
-use Rattle.history.proofs.Names.{◌≡◌, inl, inr, ⊎_elim, ℕ, ◌<◌, Option, Some, None, IfSome, List, [], ◌∷◌, ◌++◌}
+use Rattle.history.proofs.Names.{◌≡◌, inl, inr, ⊎_elim, ℕ, ◌+◌, ◌<◌, ◌≤◌, Option, Some, None, IfSome, List, [], ◌∷◌, ◌++◌}
 use Rattle.history.proofs.Names.{sym, ap, subst, ◌∙◌, append_assoc, append-nil, arith, sum_by, Event, Begun, Start}
 use Rattle.history.proofs.Names.{Flight, Registry, Kind, Begin, Coding, first_of, kept_after_begin, state_in}
 use Rattle.history.proofs.Names.{first_row, after_turn, World, Trace, IsAll}
@@ -8,12 +8,12 @@ use lib.ListN.{get_elem?}
 use Rattle.atomic_table.specs.Table.{State}
 use Rattle.history.specs.declared.view.View.{View}
 use Rattle.history.specs.Known.{events_by, by_party, owned}
-use Rattle.history.specs.History.{IsRun, IsMachine, Fits, IsLate, call_in}
-use Rattle.history.specs.Stages.{Calling, LeavesState, opened, Starts, At, rows_as}
+use Rattle.history.specs.History.{IsRun, IsMachine, Fits, IsLate, call_in, steps_in}
+use Rattle.history.specs.Stages.{Calling, LeavesState, opened, Starts, At, rows_as, taken_by}
 use Rattle.history.proofs.Known.{by_more, nil_right, idle_seat, none_late}
 use Rattle.history.proofs.AllSeen.{known_whole}
 use Rattle.history.proofs.Calls.{begins_no_look}
-use Rattle.history.proofs.Turns.{KeptLaws, Between, at_first, begun, begun_at, begun_kept, begins_free}
+use Rattle.history.proofs.Turns.{KeptLaws, Between, at_first, begun, begun_at, begun_kept, begun_steps, begins_free}
 use Rattle.history.proofs.CallsIn.{no_rest, same_rest, none_after, Prior}
 
 module _ {T C M E : Type 0} (code : Coding T) (kind : Kind) (effects : World T → ℕ → Flight T → ℕ → List (Event T))
@@ -33,6 +33,19 @@ module _ {T C M E : Type 0} (code : Coding T) (kind : Kind) (effects : World T �
 
   pub still_stands : (base v : View T) (c : C) (m : M) → Stage base v c m → call.stands base.capacity c
   still_stands x0 x1 x2 x3 x4 = grind arith
+
+  -- what was asked for since the drive began is no more than its call has taken
+  pub asked_so : (base v : View T) (c : C) (m : M) → Stage base v c m
+      → v.asked + taken_by base.going base.taken ≤ base.asked + taken_by v.going v.taken
+  asked_so base v c m (inl first) =
+      subst (λ (z : View T). z.asked + taken_by base.going base.taken ≤ base.asked + taken_by z.going z.taken) (sym first.is)
+      (as_much (base.asked + taken_by base.going base.taken))
+    where
+      as_much : (n : ℕ) → n ≤ n
+      as_much n = omega arith
+  asked_so base v c m (inr under) =
+      subst (λ (o : Option (Start T × Flight T)). v.asked + taken_by base.going base.taken ≤ base.asked + taken_by o v.taken)
+      (sym under.going) under.asked
 
   -- ---- the machine, before the step
 
@@ -61,6 +74,7 @@ module _ {T C M E : Type 0} (code : Coding T) (kind : Kind) (effects : World T �
     pub there : call_in u.world p ≡ Some (call.start, call.flight c m)
     pub by : (base : View T) → Stage base v c m → call.by base.party p
     pub prior : (base : View T) → Stage base v c m → Told_by p c m base u.events (v.made ++ gained)
+    pub counted : steps_in u.world p ≡ taken_by v.going v.taken
     pub began : v.going ≡ None → Began key p v u.world.kept
     pub held : v.going ≡ Some (call.start, call.flight c m) → state_in u.world.kept p ≡ v.state
     pub as_party : v.going ≡ Some (call.start, call.flight c m) → v.party ≡ Some p
@@ -149,6 +163,10 @@ module _ {T C M E : Type 0} (code : Coding T) (kind : Kind) (effects : World T �
               (call.flight c m) (idle p starts.mine) is_first may;
           by = λ base' stage. first_by p (subst (λ (z : View T). call.by z.party p) (sym first.is) starts.by) base' none stage;
           prior = λ base' stage. first_prior p starts.mine base' none stage;
+          counted =
+              begun_steps code kind key (size_of key) effects (laws key) r.owner s id p [] r.trace before call.start
+              (call.flight c m) (idle p starts.mine) is_first may
+              ∙ sym (ap (λ o. taken_by o v.taken) none);
           began = λ none'. record {
             t = r.trace;
             run = r.run;
@@ -187,6 +205,7 @@ module _ {T C M E : Type 0} (code : Coding T) (kind : Kind) (effects : World T �
           there = here.going p mine under.mine ∙ under.going;
           by = λ base' stage. later_by p under.mine base' under.going stage;
           prior = λ base' stage. later_prior p mine under.mine base' under.going stage;
+          counted = here.counted p mine under.mine (call.start, call.flight c m) under.going ∙ sym (ap (λ o. taken_by o v.taken) under.going);
           began = λ none. (let no : ◌≡◌ {A = Option (Start T × Flight T)} None (Some (call.start, call.flight c m)) = sym none ∙ under.going in absurd (cc));
           held = λ has. here.stated p mine under.mine;
           as_party = λ has. under.mine;

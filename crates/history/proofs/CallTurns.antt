@@ -1,6 +1,6 @@
 -- A step of a call as a turn of the machine: what the view says then.
 use Rattle.std.proofs.Common.{arith}
-use Rattle.history.proofs.Names.{false, ◌≡◌, ℕ, ◌<◌, Option, Some, None, IfSome, List, [], ◌∷◌, ◌++◌, refl}
+use Rattle.history.proofs.Names.{false, ◌≡◌, ◌⊎◌, ℕ, ◌+◌, ◌<◌, ◌≤◌, Option, Some, None, IfSome, List, [], ◌∷◌, ◌++◌, refl}
 use Rattle.history.proofs.Names.{sym, ap, subst, ◌∙◌, append_assoc, sum_by, fold, sum_by-append, Ask, After, GoOn}
 use Rattle.history.proofs.Names.{Answer, Event, Finished, Flight, Kind, Turn, Next, Coding, want_of, goes_of, ask_of}
 use Rattle.history.proofs.Names.{answer_in, span_of, own_after, Open, after_turn, events_of, ending_of, words_after}
@@ -9,18 +9,19 @@ use mathlib.Core.Option.{some}
 use lib.ListN.{get_elem?}
 use Rattle.atomic_table.specs.Table.{State}
 use Rattle.steps.specs.declared.ask.After.TheVariants.{Done}
+use Rattle.model.specs.Turns.{step_count}
 use Rattle.history.specs.declared.view.View.{View}
 use Rattle.history.specs.Known.{events_by}
-use Rattle.history.specs.History.{IsRun, IsLate, IsOfParties, LastStep, call_in, refusal_as}
-use Rattle.history.specs.Stages.{Calling, LeavesState, Since, opened, IsUnderWay, At, Ends}
+use Rattle.history.specs.History.{IsRun, IsLate, IsOfParties, LastStep, call_in, steps_in, refusal_as}
+use Rattle.history.specs.Stages.{Calling, LeavesState, Since, opened, IsUnderWay, At, Ends, StepsOnly, taken_by}
 use Rattle.history.proofs.Known.{by_more}
 use Rattle.history.proofs.Calls.{stands, call_then, next_no_look}
 use Rattle.history.proofs.Reached.{next_as}
-use Rattle.history.proofs.Turns.{KeptLaws, Between, want_for, at_ask, goes_free, gone, kept_then, goes_to}
+use Rattle.history.proofs.Turns.{KeptLaws, Between, want_for, at_ask, goes_free, gone, gone_named, gone_steps, kept_then, goes_to}
 use Rattle.history.proofs.Turns.{told as turn_told, own_told, found_old, made_between}
 use Rattle.history.proofs.Steps.{view_after}
 use Rattle.history.proofs.CallsIn.{regroup, Prior, span_since, Met}
-use Rattle.history.proofs.CallReady.{same_capacity, same_share, some_share, Ready}
+use Rattle.history.proofs.CallReady.{same_capacity, same_share, some_share, asked_so, Ready}
 
 module _ {T C M E : Type 0} (code : Coding T) (kind : Kind) (effects : World T → ℕ → Flight T → ℕ → List (Event T))
     (size_of : ℕ → ℕ) (laws : (capacity : ℕ) → KeptLaws code kind capacity (size_of capacity) effects)
@@ -29,12 +30,12 @@ module _ {T C M E : Type 0} (code : Coding T) (kind : Kind) (effects : World T �
   Stage base v c m = At code kind call base v c m
 
   -- the call is later by what a turn of its party wrote, and by its end
-  pub since_turn : (p id : ℕ) (turn : Turn T) (u : Trace T) (v base : View T) (gained wrote effs last : List (Event T))
+  pub since_turn : (asked p id : ℕ) (turn : Turn T) (u : Trace T) (v base : View T) (gained wrote effs last : List (Event T))
       → Prior p call.start wrote base u.events (v.made ++ gained) → events_of u.world turn ≡ effs ++ last
       → events_by p (events_of u.world turn) ≡ events_by p effs ++ last
       → Since p call.start (wrote ++ events_by p effs) last base
-      (view_after code kind base.capacity id p v (gained ++ events_by p (events_of u.world turn)) (after_turn u turn))
-  since_turn p id turn u v base gained wrote effs last prior told_now own_now =
+      (view_after code kind base.capacity id p asked v (gained ++ events_by p (events_of u.world turn)) (after_turn u turn))
+  since_turn asked p id turn u v base gained wrote effs last prior told_now own_now =
       record {
         others = prior.others;
         during = prior.during ++ effs;
@@ -92,7 +93,7 @@ module _ {T C M E : Type 0} (code : Coding T) (kind : Kind) (effects : World T �
     run_then x0 x1 = grind (arith, same_capacity, next_between)
 
     abbrev pub view_then : View T
-    view_then = view_after code kind key id y.p v then_gained then_trace
+    view_then = view_after code kind key id y.p (v.asked + 1) v then_gained then_trace
 
     -- what it writes now, and of its own
     abbrev effs : List (Event T)
@@ -136,7 +137,20 @@ module _ {T C M E : Type 0} (code : Coding T) (kind : Kind) (effects : World T �
         flight_now ask low y.there asks_it finds
         ∙ ap (λ zs. mine_now ++ zs) ends
         in
-        since_turn y.p id (Next y.p) y.u v base y.gained wrote effs last prior told_now own_now
+        since_turn (v.asked + 1) y.p id (Next y.p) y.u v base y.gained wrote effs last prior told_now own_now
+
+    steps_then : steps_in then_trace.world y.p ≡ steps_in y.u.world y.p + step_count ask
+    steps_then =
+        gone_steps code kind key (size_of key) effects (laws key) y.owner s id y.p y.gained y.u y.between call.start
+        flight_now ask low y.there asks_it finds
+
+    -- each operation was a step of the call
+    pub asked_then : step_count ask ≡ 1 → (base : View T) → Stage base v c m → StepsOnly base view_then
+    asked_then one base stage =
+        let before = asked_so code kind effects size_of laws call base v c m stage in
+        let counted : steps_in y.u.world y.p ≡ taken_by v.going v.taken = y.counted in
+        let more : steps_in then_trace.world y.p ≡ steps_in y.u.world y.p + step_count ask = steps_then in
+        omega arith
 
     -- who has the whole has made all of it
     all_then : (base : View T) → Stage base v c m → IsAll base.share → (f : Event T → ℕ) → sum_by f view_then.seen ≡ sum_by f view_then.made
@@ -191,8 +205,8 @@ module _ {T C M E : Type 0} (code : Coding T) (kind : Kind) (effects : World T �
         → IsLate kind (Some (call.start, flight_now)) late
         → Met code kind base.capacity call.start flight_now y.p base.going (es ++ late) found y.u
         → call.wrote base.capacity y.p base.going d m' ((es ++ late) ++ mine_now))
-        → IsUnderWay code kind call base view_then d m'
-    goes_then base stage d m' afters standing past tells =
+        → StepsOnly base view_then → IsUnderWay code kind call base view_then d m'
+    goes_then base stage d m' afters standing past tells steps =
         let before = y.prior base stage in
         record {
           capacity = same_capacity code kind effects size_of laws call base v c m stage;
@@ -205,6 +219,7 @@ module _ {T C M E : Type 0} (code : Coding T) (kind : Kind) (effects : World T �
           going = going_then ∙ ap (call_then call.start) afters;
           state = state_then base stage;
           past = past;
+          asked = steps;
           alone = refl;
           wrote = (before.wrote ++ before.late) ++ mine_now;
           tells = tells before.wrote before.late before.tells before.waits (met base stage);
@@ -223,8 +238,8 @@ module _ {T C M E : Type 0} (code : Coding T) (kind : Kind) (effects : World T �
         → IsLate kind (Some (call.start, flight_now)) late
         → Met code kind base.capacity call.start flight_now y.p base.going (es ++ late) found y.u
         → call.wrote_all base.capacity y.p base.going end m' ((es ++ late) ++ mine_now))
-        → Ends code kind call base end m' view_then
-    ends_then base stage end m' afters tells =
+        → StepsOnly base view_then ⊎ (view_then.asked ≤ base.asked + 1) → Ends code kind call base end m' view_then
+    ends_then base stage end m' afters tells took =
         let before = y.prior base stage in
         record {
           capacity = same_capacity code kind effects size_of laws call base v c m stage;
@@ -243,6 +258,11 @@ module _ {T C M E : Type 0} (code : Coding T) (kind : Kind) (effects : World T �
           history = record { trace = then_trace; run = run_then base stage; is = refl };
           last = last_then base stage (Finished y.p call.start (call.answer end m'))
               (ap (λ (a : After (Flight T) (Answer T)). ending_of y.p call.start (answer_in a)) afters);
+          named =
+              gone_named code kind key (size_of key) effects (laws key) y.owner s id y.p y.gained y.u y.between call.start
+              flight_now ask low y.there asks_it finds;
+          counted = refl;
+          took = took;
           all = all_then base stage;
           parties = parties_then;
         }

@@ -1,10 +1,13 @@
 -- What a caller knows of a whole call.
 use Rattle.std.proofs.Common.{arith}
-use Rattle.history.proofs.Names.{◌≡◌, inl, inr, ℕ, Option, Some, None, [], ◌++◌, refl, sym, ap, subst, ◌∙◌}
+use Rattle.history.proofs.Names.{◌≡◌, inl, inr, ℕ, ◌+◌, ◌≤◌, Option, Some, None, [], ◌++◌, refl, sym, ap, subst, ◌∙◌}
 use Rattle.history.proofs.Names.{append-nil, Start, Flight, Kind, Coding, IsAll}
 use Rattle.history.specs.declared.view.View.{View}
 use Rattle.history.specs.History.{IsHistory, HasStood, Called}
-use Rattle.history.specs.Stages.{Calling, opened, At, Ends}
+use Rattle.history.specs.Stages.{Calling, opened, taken_by, At, Ends}
+
+as_much : (n : ℕ) → n ≤ n
+as_much n = omega arith
 
 module _ {T C M E : Type 0} (code : Coding T) (kind : Kind) (call : Calling T C M E) where
   -- where no call was under way before it, it began
@@ -40,6 +43,9 @@ module _ {T C M E : Type 0} (code : Coding T) (kind : Kind) (call : Calling T C 
         going = under.going;
         state = λ leaves is. refl;
         past = under.past;
+        asked =
+            subst (λ (o : Option (Start T × Flight T)). v.asked + taken_by o v.taken ≤ v.asked + v.taken) (sym under.going)
+            (as_much (v.asked + v.taken));
         alone = under.alone;
         wrote = [];
         tells = subst (λ (o : Option (Start T × Flight T)). call.wrote v.capacity under.party o c m []) (sym under.going) (none v.capacity under.party);

@@ -1,6 +1,6 @@
 -- Where the calls of a machine stand after a turn.
-use Rattle.history.proofs.Names.{◌≡◌, ◌≢◌, ℕ, zero, suc, ◌<◌, ◌==◌, Bool, false, Option, Some, None, List}
-use Rattle.history.proofs.Names.{[], ◌∷◌, ◌++◌, length, get_or, set, refl, ap, arith, nat_tests, Ask, After}
+use Rattle.history.proofs.Names.{◌≡◌, ◌≢◌, ℕ, zero, suc, ◌+◌, ◌<◌, ◌==◌, Bool, false, Option, Some, None, List}
+use Rattle.history.proofs.Names.{[], ◌∷◌, ◌++◌, length, get_or, set, refl, ap, ◌∙◌, arith, nat_tests, Ask, After}
 use Rattle.history.proofs.Names.{GoOn, Answer, Event, Start, Flight, Registry}
 use Rattle.history.proofs.Names.{Doing, Going, Over, Party, Kind, Begin, Next, Coding, opening_of, kept_after_begin}
 use Rattle.history.proofs.Names.{want_of, after_of, goes_of, ask_of, is_look_of, state_in, is_looking, party_of}
@@ -11,7 +11,8 @@ use Rattle.history.proofs.Names.{ending_of, old_of, ask_of_doing, World, flight_
 use Rattle.history.proofs.Names.{party_put_other}
 use Rattle.steps.specs.declared.ask.After.TheVariants.{Done}
 use Rattle.model.specs.declared.families.Registry as registries
-use Rattle.history.specs.History.{call_at, call_of, call_in}
+use Rattle.model.specs.Turns.{step_count}
+use Rattle.history.specs.History.{call_at, call_of, call_in, started, steps_of, steps_in}
 use Rattle.history.specs.Stages.{is_state_look}
 
 other_number : (p q : ℕ) → q ≢ p → (p == q) ≡ false
@@ -58,6 +59,52 @@ module _ {T : Type 0} where
       go : (doing : Doing T) → call_in (after_answer w p x None (number_of said) doing) q ≡ call_in w q
       go (Over others) = refl
       go (Going flight since) = ap call_of (party_put_other q p _ w.latest ne)
+
+  -- ---- the steps of calls
+
+  -- those of another party's call stay
+  pub steps_next_other : (w : World T) (p q : ℕ) → q ≢ p → (o : Option (Party T)) → steps_in (after_next w p o) q ≡ steps_in w q
+  steps_next_other w p q ne None = refl
+  steps_next_other w p q ne (Some x) = go x.doing
+    where
+      go : (doing : Doing T)
+          → steps_in (after_answer w p x (ask_of_doing w.coding x.doing) (old_of w.words (ask_of_doing w.coding x.doing)) doing) q
+          ≡ steps_in w q
+      go (Over others) = refl
+      go (Going flight since) = ap steps_of (party_put_other q p _ w.latest ne)
+
+  pub steps_begin_other : (w : World T) (p q : ℕ) (start : Start T) → q ≢ p → (o : Option (Flight T))
+      → steps_in (after_begin w p start o) q ≡ steps_in w q
+  steps_begin_other w p q start ne None = refl
+  steps_begin_other w p q start ne (Some flight) = ap steps_of (party_put_other q p _ w.latest ne)
+
+  pub steps_decision_other : (w : World T) (p q : ℕ) (said : Bool) → q ≢ p → (o : Option (Party T))
+      → steps_in (after_decision w p said o) q ≡ steps_in w q
+  steps_decision_other w p q said ne None = refl
+  steps_decision_other w p q said ne (Some x) = go x.doing
+    where
+      go : (doing : Doing T) → steps_in (after_answer w p x None (number_of said) doing) q ≡ steps_in w q
+      go (Over others) = refl
+      go (Going flight since) = ap steps_of (party_put_other q p _ w.latest ne)
+
+  -- its own: none at its begin, one more for each operation, and no more for an answer
+  pub steps_begin_own : (w : World T) (p : ℕ) (start : Start T) (flight : Flight T) (o : Option (Flight T))
+      → o ≡ Some flight → steps_in (after_begin w p start o) p ≡ 0
+  steps_begin_own w p start flight None e = absurd (cc)
+  steps_begin_own w p start flight (Some f) e = ap steps_of (party_put_same p _ w.latest)
+
+  pub steps_next_own : (w : World T) (p : ℕ) (start : Start T) (flight : Flight T) (h : Stands w p start flight)
+      → steps_in (after_next w p (party_of p w.latest)) p ≡ steps_in w p + step_count (ask_of (want_of w.coding flight))
+  steps_next_own w p start flight h = rw (h.found, h.doing) (ap steps_of (party_put_same p _ w.latest))
+
+  -- and named as it began
+  pub started_next_own : (w : World T) (p : ℕ) (start : Start T) (flight : Flight T) (h : Stands w p start flight)
+      → started (party_of p (after_next w p (party_of p w.latest)).latest) ≡ Some start
+  started_next_own w p start flight h = rw (h.found, h.doing) (ap started (party_put_same p _ w.latest) ∙ ap Some h.named)
+
+  pub steps_decision_own : (w : World T) (p : ℕ) (start : Start T) (flight : Flight T) (said : Bool) (h : Stands w p start flight)
+      → steps_in (after_decision w p said (party_of p w.latest)) p ≡ steps_in w p + 0
+  steps_decision_own w p start flight said h = rw (h.found, h.doing) (ap steps_of (party_put_same p _ w.latest))
 
   -- ---- what is kept
 

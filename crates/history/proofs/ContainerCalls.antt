@@ -57,7 +57,7 @@ module _ {T : Type 0} (code : Coding T) (which : CountOf) where
   count_call : IsCallOf code (plain_effects code) (container_words code) borrowed_want borrowed_after (λ c m n. m) (counts_values which)
   count_call = grind (arith, as_counted, count_found, counts_so, count_after, count_on, fewer, set_words, count_asks)
 
-  pub container_count_keeps : KeepsRule (λ (z : View T). z.capacity) (At code kinds.Container (counts_values which))
+  pub container_count_keeps : KeepsRule (λ (z : View T). z.asked) (λ (z : View T). z.capacity) (At code kinds.Container (counts_values which))
       (Ends code kinds.Container (counts_values which))
       (λ key. container_words code key + 1) (λ key. key) (λ key. IsMachine code kinds.Container key) borrowed_want borrowed_after (λ c m n. m)
   container_count_keeps = container_keeps code (counts_values which) (λ c m. tt) borrowed_want borrowed_after (λ c m n. m) count_call (λ c n. refl)
@@ -79,7 +79,7 @@ module _ {T : Type 0} (code : Coding T) where
   lock_call : IsCallOf code (plain_effects code) (container_words code) (λ c. load 0) locked_after (λ c m n. m) sees_lock
   lock_call = grind arith
 
-  pub container_lock_keeps : KeepsRule (λ (z : View T). z.capacity) (At code kinds.Container sees_lock) (Ends code kinds.Container sees_lock)
+  pub container_lock_keeps : KeepsRule (λ (z : View T). z.asked) (λ (z : View T). z.capacity) (At code kinds.Container sees_lock) (Ends code kinds.Container sees_lock)
       (λ key. container_words code key + 1) (λ key. key) (λ key. IsMachine code kinds.Container key) (λ c. load 0) locked_after (λ c m n. m)
   container_lock_keeps = container_keeps code sees_lock (λ c m. tt) (λ c. load 0) locked_after (λ c m n. m) lock_call (λ c n. refl)
 
@@ -170,7 +170,7 @@ module _ {T : Type 0} (code : Coding T) (given : GiveBack) where
         tells_all = λ capacity p from c end m n es h skip wrote e still new. goes_so capacity p c n es (Done end) h (wrote new) e;
       }
 
-  pub container_remove_keeps : KeepsRule (λ (z : View T). z.capacity)
+  pub container_remove_keeps : KeepsRule (λ (z : View T). z.asked) (λ (z : View T). z.capacity)
       (At code kinds.Container (removes_value given)) (Ends code kinds.Container (removes_value given))
       (λ key. container_words code key + 1) (λ key. key) (λ key. IsMachine code kinds.Container key) (λ c. remove_want c given) after (λ c m n. m)
   container_remove_keeps = container_keeps code (removes_value given) (λ c m. tt) (λ c. remove_want c given) after (λ c m n. m) remove_call (λ c n. refl)

@@ -225,7 +225,7 @@ module _ {T R : Type 0} (code : Coding T) (law : IsCoding code) (words_in : R �
   ended_step base e m w h = inl h
 
   -- each step of a find keeps the rule of the table
-  pub container_find_keeps : KeepsRule (λ (z : View T). z.capacity) (AtAsked code kinds.Container after kept finding) FindOver
+  pub container_find_keeps : KeepsRule (λ (z : View T). z.asked) (λ (z : View T). z.capacity) (AtAsked code kinds.Container after kept finding) FindOver
       (λ key. container_words code key + 1) (λ key. key) (λ key. IsMachine code kinds.Container key) want after kept
   container_find_keeps =
       keeps_said code kinds.Container tt container_effects (plain_effects code) (container_words code) (containers_owe code) want after kept finding
@@ -234,7 +234,7 @@ module _ {T R : Type 0} (code : Coding T) (law : IsCoding code) (words_in : R �
   -- a step at a word ends it, where it does, for good
   pub container_find_word : (base v : View T) (c : Finding T R) (m : Room) (key words slots id : ℕ) → is_question (want c) ≡ false
       → words ≡ container_words code key + 1 → v.capacity ≡ key → AtAsked code kinds.Container after kept finding base v c m
-      → Owes (IsMachine code kinds.Container key) words slots id
+      → Owes (λ (z : View T). z.asked) (IsMachine code kinds.Container key) words slots id
       (Told (λ (z : View T). z.capacity) (AtAsked code kinds.Container after kept finding) (Ends code kinds.Container finding) after kept c m) (want c) (v, [])
   container_find_word base v c m key words slots id still wide known at =
       keeps_word code kinds.Container tt container_effects (plain_effects code) (container_words code) (containers_owe code) want after kept finding

@@ -196,7 +196,7 @@ module _ {T R : Type 0} (code : Coding T) (law : IsCoding code) (words_in : R 鈫
       asks_so x0 x1 x2 x3 = grind (arith, false, recover_words)
 
   -- each step of a recovery keeps the rule of the table; at a question the machine is handed the answer with the step after it
-  pub container_recover_keeps : KeepsRule (位 (z : View T). z.capacity)
+  pub container_recover_keeps : KeepsRule (位 (z : View T). z.asked) (位 (z : View T). z.capacity)
       (AtAsked code kinds.Container after kept recovering) (Ends code kinds.Container recovering)
       (位 key. container_words code key + 1) (位 key. key) (位 key. IsMachine code kinds.Container key) want after kept
   container_recover_keeps =

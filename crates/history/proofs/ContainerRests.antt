@@ -36,7 +36,7 @@ module _ {T : Type 0} (code : Coding T) where
   abbrev pub Keeps : {C M E : Type 0} → (View T → View T → C → M → Type 0) → (View T → E → M → View T → Type 0) → (C → Want (Unit {0})) → (C → ℕ → After C E)
       → (C → M → ℕ → M) → Type 0
   Keeps at ends want after kept =
-      KeepsRule (λ (z : View T). z.capacity) at ends (λ key. container_words code key + 1) (λ key. key)
+      KeepsRule (λ (z : View T). z.asked) (λ (z : View T). z.capacity) at ends (λ key. container_words code key + 1) (λ key. key)
       (λ key. IsMachine code kinds.Container key) want after kept
 
   pub never_late : (going : Option (Start T × Flight T)) (late : List (Event T)) → IsLate kinds.Container going late → late ≡ []

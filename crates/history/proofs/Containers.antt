@@ -1,7 +1,7 @@
 -- What the container owes, from the laws of its open runs, which party may begin a call on it, and that a call which is no
 -- look of a state goes on by itself.
-use Rattle.history.proofs.Names.{◌≡◌, ℕ, ◌+◌, ◌≤◌, true, false, Option, Some, None, IfSome, List, [], ◌++◌, length}
-use Rattle.history.proofs.Names.{sum_by, sym, ap, subst, ◌∙◌, arith, After, Want, ContainerState, total_words}
+use Rattle.history.proofs.Names.{◌≡◌, ℕ, ◌+◌, ◌-◌, ◌≤◌, true, false, Option, Some, None, IfSome, List, [], ◌++◌, length}
+use Rattle.history.proofs.Names.{sum_by, refl, sym, ap, subst, ◌∙◌, arith, After, Want, ContainerState, total_words}
 use Rattle.history.proofs.Names.{Event, Start, Container, Flight, Registry, ContainerStart}
 use Rattle.history.proofs.Names.{Party, Turn, Coding, first_of}
 use Rattle.history.proofs.Names.{step_of, beside_of, goes_of, going_rows, first, is_look_of, state_in}
@@ -9,13 +9,16 @@ use Rattle.history.proofs.Names.{names_owner, questions, has_died, SetAct, set_a
 use Rattle.history.proofs.Names.{after_turn, World, Trace, stands_there, Word, open_refusal, AllLive, KeepsRule}
 use Rattle.model.specs.declared.families.Flight as flights
 use Rattle.model.specs.declared.families.Registry as registries
+use Rattle.model.specs.declared.families.container.calls.ContainerFlight.{ContainerFlight}
 use Rattle.model.specs.declared.families.container.calls.ContainerFlight.TheVariants as calls
 use Rattle.model.specs.declared.turn.Kind.TheVariants as kinds
 use Rattle.model.specs.Families.Container.Reading.{Act, acts_of}
 use Rattle.model.specs.Families.Container.Steps.{effects}
 use Rattle.model.proofs.Frame as frame
 use Rattle.laws_container.specs.Open.{IsOpenContainer}
+use Rattle.laws_container.proofs.Bounds.{bounds}
 use Rattle.laws_container.proofs.Invariant.{ContainerNow, Represents, FlightAt, family_by}
+use Rattle.laws_container.proofs.Knows as knows
 use Rattle.laws_container.proofs.Living.{has_not_died, step_is_free}
 use Rattle.laws_container.proofs.OpenRuns.{reached_open_sound, reached_open_lives, reached_open_wide}
 use Rattle.laws_container.proofs.OpenRuns.{reached_open_kept, reached_open_tells}
@@ -30,6 +33,7 @@ use Rattle.history.proofs.CallsIn.{AsksFor, ActsAlone, steps_alone}
 use Rattle.history.proofs.Drives.{IsCallOf, keeps_all_there}
 use Rattle.history.proofs.Known.{AreOf, by_other}
 use Rattle.history.proofs.Starting.{starts_by_last}
+use Rattle.history.proofs.Paid.{Pays, progress_within, pays_run}
 use Rattle.history.proofs.Turns.{StepsOn, KeptLaws, all_someone}
 
 module _ {T : Type 0} where
@@ -59,6 +63,10 @@ module _ {T : Type 0} where
 -- the words of the set, how often an element has changed, and for each index a number and its element
 abbrev pub container_words : {T : Type 0} → Coding T → ℕ → ℕ
 container_words code capacity = total_words capacity code.size
+
+-- each turn back is paid by a change of a word
+turns_paid : {T : Type 0} (z : Coding T) (c : ℕ) (v : knows.View T) (flight : ContainerFlight T) → knows.Knows z c flight v → v.backs ≤ v.changes - v.since
+turns_paid x0 x1 x2 x3 x4 = grind arith
 
 module _ {T : Type 0} (code : Coding T) (capacity : ℕ) where
   abbrev pub IsOn : Trace T → Type 0
@@ -146,6 +154,22 @@ module _ {T : Type 0} (code : Coding T) (capacity : ℕ) where
   containers_owe =
       record { size = container_size; steps_on = steps_on; states = λ t turn run next free q none. states_stay t run turn free q none }
 
+  word_bounds : (z : Coding T) (c : ℕ) → frame.Bounds (family_by by_word z c)
+  word_bounds z c = record { most = (bounds z c).most; paid = paid }
+    where
+      paid : (s : ContainerNow T) (p : ℕ) (events : List (Event T)) (since changes backs : ℕ) (flight : Flight T)
+          → (family_by by_word z c).Knows s p events since changes backs flight → backs ≤ changes - since
+      paid s p events since changes backs (flights.TheVariants.Container flight) h = turns_paid z c _ flight h
+      paid s p events since changes backs flight h = absurd h
+
+  -- how many steps its calls take
+  pub container_pays : Pays code kinds.Container capacity
+  container_pays t r =
+      (let s = container_sound t r in
+      let F = family_by by_word t.world.coding t.world.capacity in
+      pays_run code kinds.Container capacity t r F refl s
+      (progress_within code kinds.Container capacity t r F refl s (word_bounds t.world.coding t.world.capacity)))
+
 -- ---- which party may begin a call
 
 -- what is tested of a begin, where nobody has died
@@ -183,7 +207,7 @@ module _ {T C M E : Type 0} (code : Coding T) (call : Calling T C M E) (plain : 
 
   pub container_keeps : (want : C → Want (Unit {0})) (after : C → ℕ → After C E) (kept : C → M → ℕ → M)
       → IsCallOf code (plain_effects code) (container_words code) want after kept call → ((c : C) (n : ℕ) → call.skips c n ≡ false)
-      → KeepsRule (λ (z : View T). z.capacity) (At code kinds.Container call) (Ends code kinds.Container call)
+      → KeepsRule (λ (z : View T). z.asked) (λ (z : View T). z.capacity) (At code kinds.Container call) (Ends code kinds.Container call)
       (λ key. container_words code key + 1) (λ key. key) (λ key. IsMachine code kinds.Container key) want after kept
   container_keeps want after kept is_call never =
       keeps_all_there code kinds.Container container_effects (container_words code) (containers_owe code) want after kept call

@@ -13,16 +13,16 @@ use Rattle.steps.specs.declared.ask.Want.TheVariants as wants
 use Rattle.threaded.specs.Driver.{Told}
 use Rattle.history.specs.declared.view.View.{View}
 use Rattle.history.specs.Known.{events_by}
-use Rattle.history.specs.History.{IsRun, IsMachine, call_in, refusal_as}
-use Rattle.history.specs.Stages.{Calling, LeavesState, Since, IsUnderWay, At, Ends, HasHeard, AtAsked}
+use Rattle.history.specs.History.{IsRun, IsMachine, call_in, steps_in, refusal_as}
+use Rattle.history.specs.Stages.{Calling, LeavesState, Since, IsUnderWay, At, Ends, HasHeard, AtAsked, StepsOnly, taken_by}
 use Rattle.history.proofs.Known.{by_more, within}
 use Rattle.history.proofs.Reached.{MayDecide, decide_as}
 use Rattle.history.proofs.Calls.{stands, flight_is}
-use Rattle.history.proofs.Turns.{KeptLaws, Between, heard, decided, decided_at, made_between}
+use Rattle.history.proofs.Turns.{KeptLaws, Between, heard, decided, decided_at, decided_steps, made_between}
 use Rattle.history.proofs.Steps.{view_after, settle}
 use Rattle.history.proofs.CallsIn.{by_bool, goes, AsksFor, StepsOf, StepsThere, ActsAlone, written_alone, steps_alone}
 use Rattle.history.proofs.CallTurns.{since_turn}
-use Rattle.history.proofs.CallReady.{Ready, ready, Told_by}
+use Rattle.history.proofs.CallReady.{Ready, ready, asked_so, Told_by}
 use Rattle.history.proofs.Drives.{ToldOver, keeps_at, next_ended}
 
 -- A call that may put questions. It begins with none, and puts none right after another.
@@ -83,7 +83,7 @@ module _ {T C M E : Type 0} (code : Coding T) (kind : Kind) (decides : MayDecide
 
     -- what the seat would know then
     abbrev view_heard : View T
-    view_heard = view_after code kind key id y.p v gained_then u_then
+    view_heard = view_after code kind key id y.p v.asked v gained_then u_then
 
     abbrev table_heard : State (Unit {0}) (View T)
     table_heard = record { words = s.words; homes = s.homes; views = slice_set s.views id view_heard }
@@ -93,7 +93,7 @@ module _ {T C M E : Type 0} (code : Coding T) (kind : Kind) (decides : MayDecide
         (GoOn (call.flight c m)) h.said y.there free comes
 
     machine_heard : IsMachine code kind key table_heard
-    machine_heard = settle code kind key id y.p y.owner s.words s v gained_then u_then at h.before.some between_heard
+    machine_heard = settle code kind key id y.p y.owner v.asked s.words s v gained_then u_then at h.before.some between_heard
 
     there_heard : call_in u_then.world y.p ≡ Some (call.start, call.flight c m)
     there_heard = decided_at code kind key (size_of key) effects (laws key) y.owner s id y.p y.gained y.u y.between call.start from
@@ -132,7 +132,7 @@ module _ {T C M E : Type 0} (code : Coding T) (kind : Kind) (decides : MayDecide
 
       since_then : Since y.p call.start ((told_by.wrote ++ told_by.late) ++ events_by y.p effs) [] base view_heard
       since_then =
-          since_turn code kind effects size_of laws call y.p id (Decide y.p h.said) y.u v base y.gained
+          since_turn code kind effects size_of laws call v.asked y.p id (Decide y.p h.said) y.u v base y.gained
           (told_by.wrote ++ told_by.late) effs [] told_by.prior told_heard
           (ap (events_by y.p) told_heard ∙ by_more y.p effs [])
 
@@ -144,6 +144,16 @@ module _ {T C M E : Type 0} (code : Coding T) (kind : Kind) (decides : MayDecide
           let same : k.before.party ≡ y.p = cc in
           (laws key).states y.u (Decide y.p h.said) y.between.run between_heard.run free y.p refl
           ∙ (y.state leaves is_p ∙ k.before.state leaves (was ∙ ap Some (sym same)))
+
+      -- nor a step
+      asked_heard : StepsOnly base view_heard
+      asked_heard =
+          let before = asked_so code kind effects size_of laws call base v h.asking h.room stage_then in
+          let counted : steps_in y.u.world y.p ≡ taken_by v.going v.taken = y.counted in
+          let more : steps_in u_then.world y.p ≡ steps_in y.u.world y.p + 0 =
+          decided_steps code kind key (size_of key) effects (laws key) y.owner s id y.p y.gained y.u y.between call.start from
+          (GoOn (call.flight c m)) h.said y.there free comes in
+          omega arith
 
       run_then : IsRun code kind base.capacity u_then
       run_then = grind (arith, between_heard)
@@ -161,6 +171,7 @@ module _ {T C M E : Type 0} (code : Coding T) (kind : Kind) (decides : MayDecide
             going = there_heard;
             state = state_heard;
             past = λ i. steps.past base.capacity h.asking c n i standing_then h.goes;
+            asked = asked_heard;
             alone = refl;
             wrote = (told_by.wrote ++ told_by.late) ++ events_by y.p effs;
             tells = subst (λ zs. call.wrote base.capacity y.p base.going c m zs) (sym all_its_own) tells_then;
@@ -224,7 +235,7 @@ module _ {T C M E : Type 0} (code : Coding T) (kind : Kind) (decides : MayDecide
 
     -- what the table owes at the word
     abbrev OwedAt : View T → (C → M → View T → ℕ → View T → Type 0) → Type 0
-    OwedAt v told = OwesAsk (IsMachine code kind key) words slots id (told c m) ask.word ask.op (v, [])
+    OwedAt v told = OwesAsk (λ (z : View T). z.asked) (IsMachine code kind key) words slots id (told c m) ask.word ask.op (v, [])
 
     below : ask.word < words
     below = (let low = asked.1 in omega arith)
@@ -232,7 +243,7 @@ module _ {T C M E : Type 0} (code : Coding T) (kind : Kind) (decides : MayDecide
     at_word : (base v : View T) → v.capacity ≡ key → Stage base v c m → OwedAt v ToldSo
     at_word base v known stage =
         let size : key ≡ base.capacity = sym known ∙ same_size base v c m (inl stage) in
-        subst (λ w. Owes (IsMachine code kind key) words slots id (ToldSo c m) w (v, [])) asked.2
+        subst (λ w. Owes (λ (z : View T). z.asked) (IsMachine code kind key) words slots id (ToldSo c m) w (v, [])) asked.2
         (keeps_at code kind effects size_of laws want after kept call steps_there base v c m key words slots id wide known stage
         (subst (λ i. AsksFor (size_of i) (want c)) size asked))
 
@@ -240,7 +251,7 @@ module _ {T C M E : Type 0} (code : Coding T) (kind : Kind) (decides : MayDecide
     at_once : (base₀ v : View T) → v.capacity ≡ key → Stage base₀ v c m → OwedAt v ToldAsked
     at_once base₀ v known at₀ =
         let h = at_word base₀ v known at₀ in
-        (h.0, λ s r long at small. (let x = h.1 s r long at small in (x.0, x.1, x.2, x.3, (told_asked c m _ v v x.0 refl as_it_is x.4.0, x.4.1))))
+        (h.0, λ s r long at small. (let x = h.1 s r long at small in (x.0, x.1, x.2, x.3, (told_asked c m _ v v x.0 refl as_it_is x.4.0, x.4.1, x.4.2))))
       where
         as_it_is : (base : View T) → AtAsked code kind after kept call base v c m → Stage base v c m
         as_it_is base (inl stage) = stage
@@ -266,7 +277,7 @@ module _ {T C M E : Type 0} (code : Coding T) (kind : Kind) (decides : MayDecide
                       = vs;
                 }))
                 (set-set s.views id (view_heard s v key id c m r at known base₀ h) x.0) x.3,
-            (told_asked c m _ (view_heard s v key id c m r at known base₀ h) v x.0 refl (as_heard s r at) x.4.0, x.4.1),
+            (told_asked c m _ (view_heard s v key id c m r at known base₀ h) v x.0 refl (as_heard s r at) x.4.0, x.4.1, x.4.2),
           )),
     )
       where
@@ -277,14 +288,14 @@ module _ {T C M E : Type 0} (code : Coding T) (kind : Kind) (decides : MayDecide
   -- at a word, where its call can end by a step alone
   pub keeps_word : (base₀ v : View T) (c : C) (m : M) (key words slots id : ℕ) → words ≡ size_of key + 1 → v.capacity ≡ key
       → is_question (want c) ≡ false → AtAsked code kind after kept call base₀ v c m
-      → Owes (IsMachine code kind key) words slots id (ToldAsked c m) (want c) (v, [])
+      → Owes (λ (z : View T). z.asked) (IsMachine code kind key) words slots id (ToldAsked c m) (want c) (v, [])
   keeps_word base₀ v c m key words slots id wide known still at₀ = go_at (steps.asks key c stands_so still)
     where
       stands_so : call.stands key c
       stands_so = grind (arith, same_size, standing)
 
-      go_at : AsksFor (size_of key) (want c) → Owes (IsMachine code kind key) words slots id (ToldAsked c m) (want c) (v, [])
-      go_at asked = subst (λ w. Owes (IsMachine code kind key) words slots id (ToldAsked c m) w (v, [])) (sym asked.2) (go at₀)
+      go_at : AsksFor (size_of key) (want c) → Owes (λ (z : View T). z.asked) (IsMachine code kind key) words slots id (ToldAsked c m) (want c) (v, [])
+      go_at asked = subst (λ w. Owes (λ (z : View T). z.asked) (IsMachine code kind key) words slots id (ToldAsked c m) w (v, [])) (sym asked.2) (go at₀)
         where
           go : AtAsked code kind after kept call base₀ v c m → OwedAt key words slots id c m wide still asked v ToldAsked
           go (inl stage) = at_once key words slots id c m wide still asked base₀ v known stage
@@ -305,12 +316,12 @@ module _ {T C M E : Type 0} (code : Coding T) (kind : Kind) (decides : MayDecide
         go base stage (GoOn d) e = hears_said base v c d m false due e stage
         go base stage (Done end) e = ends_said base v c m false end due e stage
 
-    pub keeps_said : KeepsRule (λ (z : View T). z.capacity) (AtAsked code kind after kept call) Finished (λ key. size_of key + 1) (λ key. key)
+    pub keeps_said : KeepsRule (λ (z : View T). z.asked) (λ (z : View T). z.capacity) (AtAsked code kind after kept call) Finished (λ key. size_of key + 1) (λ key. key)
         (λ key. IsMachine code kind key) want after kept
     keeps_said base₀ v c m key words slots id wide known at₀ = by_bool (is_question (want c)) (λ due. at_question (want c) refl due)
         (λ still. keeps_word base₀ v c m key words slots id wide known still at₀)
       where
-        at_question : (w : Want (Unit {0})) → want c ≡ w → is_question w ≡ true → Owes (IsMachine code kind key) words slots id (ToldAsked c m) w (v, [])
+        at_question : (w : Want (Unit {0})) → want c ≡ w → is_question w ≡ true → Owes (λ (z : View T). z.asked) (IsMachine code kind key) words slots id (ToldAsked c m) w (v, [])
         at_question (wants.Ask a) e due = absurd (cc)
         at_question (wants.Question q) e due = told_no v c m (ap is_question e ∙ due)
         at_question wants.Nothing e due = absurd (cc)
@@ -330,7 +341,7 @@ module _ {T C M E : Type 0} (code : Coding T) (kind : Kind) (decides : MayDecide
       → IsUnderWay code kind call base v c m → Ends code kind call base e (kept c m (number_of said)) v
   never_ends base v c m said end due e under = absurd (is_call.lasts c end (number_of said) due e)
 
-  pub keeps_asked : KeepsRule (λ (z : View T). z.capacity) (AtAsked code kind after kept call) (Ends code kind call) (λ key. size_of key + 1) (λ key. key)
+  pub keeps_asked : KeepsRule (λ (z : View T). z.asked) (λ (z : View T). z.capacity) (AtAsked code kind after kept call) (Ends code kind call) (λ key. size_of key + 1) (λ key. key)
       (λ key. IsMachine code kind key) want after kept
   keeps_asked =
       keeps_said code kind decides effects own size_of laws want after kept call acts is_call.asking

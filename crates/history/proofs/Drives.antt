@@ -1,5 +1,5 @@
 -- The driver over the rule of a machine: what it asks of the steps of a call, shown once for all calls of all kinds.
-use Rattle.history.proofs.Names.{◌^◌, true, false, ◌≡◌, inl, inr, ℕ, ◌+◌, ◌<◌, Some, None, List, [], ◌∷◌, ◌++◌}
+use Rattle.history.proofs.Names.{◌^◌, true, false, ◌≡◌, inl, inr, ℕ, ◌+◌, ◌<◌, ◌≤◌, Some, None, List, [], ◌∷◌, ◌++◌}
 use Rattle.history.proofs.Names.{length, slice_index, slice_set, refl, sym, ap, subst, ◌∙◌, arith, Allows, written}
 use Rattle.history.proofs.Names.{Ask, After, GoOn, Want, Event, Flight, Kind, Next, Coding, want_of, after_of}
 use Rattle.history.proofs.Names.{goes_of, is_question, after_turn, World, Trace, answered, Owes, NextKnown, KeepsRule}
@@ -14,7 +14,7 @@ use Rattle.threaded.specs.Driver.{Told}
 use Rattle.history.specs.declared.view.View.{View}
 use Rattle.history.specs.Known.{events_by}
 use Rattle.history.specs.History.{IsRun, IsMachine, IsLate, call_in}
-use Rattle.history.specs.Stages.{Calling, IsFirst, At, Ends, LeftOut, Over}
+use Rattle.history.specs.Stages.{Calling, IsFirst, At, Ends, LeftOut, Over, StepsOnly}
 use Rattle.history.specs.Views.{Looks}
 use Rattle.history.proofs.Known.{by_mine, AreOf}
 use Rattle.history.proofs.Calls.{get_left}
@@ -23,11 +23,14 @@ use Rattle.history.proofs.Steps.{settle}
 use Rattle.history.proofs.Passes.{set_same}
 use Rattle.history.proofs.PassLooks.{looks_at}
 use Rattle.history.proofs.CallsIn.{by_bool, AsksFor, StepsIn, StepsThere, IsCallThere, ActsAlone, steps_alone, with_goes}
-use Rattle.history.proofs.CallTurns.{then_gained, next_between, view_then, goes_then, ends_then}
+use Rattle.history.proofs.CallTurns.{then_gained, next_between, view_then, asked_then, goes_then, ends_then}
 use Rattle.history.proofs.CallReady.{same_capacity, some_share, still_stands, Ready, ready}
 pub use Rattle.history.proofs.CallsIn.{goes, IsCallOf, Met, IsCallIn, in_machine, NeverPushes}
 pub use Rattle.history.proofs.Called.{called, at_itself}
 pub use Rattle.history.proofs.Sized.{AtSized, EndsSized, keeps_sized}
+
+as_much : (n : ℕ) → n ≤ n
+as_much n = omega arith
 
 module _ {T C M E Asks : Type 0} (code : Coding T) (kind : Kind) (effects : World T → ℕ → Flight T → ℕ → List (Event T)) (size_of : ℕ → ℕ)
     (laws : (capacity : ℕ) → KeptLaws code kind capacity (size_of capacity) effects) (want : C → Want (Unit {0})) (after : C → ℕ → After C E)
@@ -55,6 +58,9 @@ module _ {T C M E Asks : Type 0} (code : Coding T) (kind : Kind) (effects : Worl
     comes_there : (base : View T) → At code kind call base v c m → goes_of code y.p (call.flight c m) n y.u.world.kept ≡ goes call (after c n) (kept c m n)
     comes_there x0 x1 = grind arith
 
+    steps_so : (base : View T) → At code kind call base v c m → StepsOnly base view_now
+    steps_so = asked_then code kind effects size_of laws call s v key id c m at known y (Some ask) low asks_it finds_it refl
+
     known_then : (base : View T) → At code kind call base v c m → (r : After C E) → after c n ≡ r → Step base r (kept c m n) view_now
     known_then base stage (GoOn d) e =
         inr (goes_then code kind effects size_of laws call s v key id c m at known y (Some ask) low asks_it finds_it
@@ -62,13 +68,15 @@ module _ {T C M E Asks : Type 0} (code : Coding T) (kind : Kind) (effects : Worl
         (is_call.stays base.capacity c d n (still_stands code kind effects size_of laws call base v c m stage) e)
         (λ k. is_call.past base.capacity c d n k (still_stands code kind effects size_of laws call base v c m stage) e)
         (λ es late h waits met. is_call.tells base.capacity y.p base.going c d m n es late y.u
-        (still_stands code kind effects size_of laws call base v c m stage) h waits met e))
+        (still_stands code kind effects size_of laws call base v c m stage) h waits met e)
+        (steps_so base stage))
     known_then base stage (Done end) e =
         inl (ends_then code kind effects size_of laws call s v key id c m at known y (Some ask) low asks_it finds_it
         base stage end (kept c m n) (comes_there base stage ∙ ap (λ r. goes call r (kept c m n)) e)
         (λ es late h waits met. is_call.tells_all base.capacity y.p base.going c end m n es late y.u
         (still_stands code kind effects size_of laws call base v c m stage) skip h waits met e
-        (ap is_question wants_it)))
+        (ap is_question wants_it))
+        (inl (steps_so base stage)))
 
     pub told : Told (λ (z : View T). z.capacity) (At code kind call) (Over code kind call) after kept c m v (answered ask.op n) view_now
     told = grind (arith, known_then)
@@ -86,7 +94,7 @@ module _ {T C M E Asks : Type 0} (code : Coding T) (kind : Kind) (effects : Worl
 
   module _ (s : State (Unit {0}) (View T)) (v w : View T) (key : ℕ) (c : C) (m : M) (ask : Ask)
       (known : v.capacity ≡ key) (wants_it : want c ≡ wants.Ask ask)
-      (skip : call.skips c (slice_index s.words ask.word) ≡ true) (looked : Looks code kind key v w) (t : Trace T)
+      (skip : call.skips c (slice_index s.words ask.word) ≡ true) (looked : Looks code kind key v w) (counts : w.asked ≡ v.asked + 1) (t : Trace T)
       (run : IsRun code kind key t) (same_seen : w.seen ≡ t.events)
       (same_word : slice_index t.world.words ask.word ≡ slice_index s.words ask.word) where
     abbrev seen_word : ℕ
@@ -97,6 +105,7 @@ module _ {T C M E Asks : Type 0} (code : Coding T) (kind : Kind) (effects : Worl
         let size : base.capacity ≡ key = sym (ap (λ (z : View T). z.capacity) first.is) ∙ known in
         record {
           looked = subst (λ z. Looks code kind z.capacity z w) first.is (subst (λ n. Looks code kind n v w) (sym known) looked);
+          asked = counts ∙ ap (λ (z : View T). z.asked + 1) first.is;
           word = seen_word;
           from = c;
           skipped = skip;
@@ -126,13 +135,13 @@ module _ {T C M E Asks : Type 0} (code : Coding T) (kind : Kind) (effects : Worl
 
   pub keeps_at : (base₀ v : View T) (c : C) (m : M) (key words slots id : ℕ) → words ≡ size_of key + 1 → v.capacity ≡ key → At code kind call base₀ v c m
       → AsksFor (size_of base₀.capacity) (want c)
-      → Owes (IsMachine code kind key) words slots id (ToldOver c m) (want c) (v, [])
+      → Owes (λ (z : View T). z.asked) (IsMachine code kind key) words slots id (ToldOver c m) (want c) (v, [])
   keeps_at base₀ v c m key words slots id wide known at₀ asked =
       let ask = asked.0 in
       let same : base₀.capacity ≡ key = sym (same_capacity code kind effects size_of laws call base₀ v c m at₀) ∙ known in
       let low : ask.word < size_of key = subst (λ z. ask.word < size_of z) same asked.1 in
       let below : ask.word < words = omega arith in
-      subst (λ w. Owes (IsMachine code kind key) words slots id (ToldOver c m) w (v, [])) (sym asked.2) (
+      subst (λ w. Owes (λ (z : View T). z.asked) (IsMachine code kind key) words slots id (ToldOver c m) w (v, [])) (sym asked.2) (
         below,
         λ s r long at small. by_bool (call.skips c (slice_index s.words ask.word)) (λ skip. (
             let out = is_call.leaves c ask (slice_index s.words ask.word) skip asked.2 in
@@ -147,17 +156,17 @@ module _ {T C M E Asks : Type 0} (code : Coding T) (kind : Kind) (effects : Worl
               look.1,
               look.2,
               subst (λ n. IsMachine code kind key (table.stepped s ask.word n id [] look.0 look.1)) (sym out.0) look.3,
-              (told_left s v look.0 key c m ask known asked.2 skip look.4.0 r.trace r.run look.5 same_word, look.4.1),
+              (told_left s v look.0 key c m ask known asked.2 skip look.4.0 look.6 r.trace r.run look.5 same_word, look.6, look.4.1),
             ))) (λ skip. (
             let y = ready code kind effects size_of laws call s v key id c m r at known base₀ at₀ in (
               view_now s v key id c m at known y ask low asked.2 small skip,
               table.keeps,
               tt,
-              settle code kind key id y.p y.owner
+              settle code kind key id y.p y.owner (v.asked + 1)
                   (slice_set s.words ask.word (written ask.op (slice_index s.words ask.word))) s v
                   (gained_now s v key id c m at known y ask low asked.2 small skip) (after_turn y.u (Next y.p)) at
                   (some_share code kind effects size_of laws call base₀ v c m at₀) (between_then s v key id c m at known y ask low asked.2 small skip),
-              (told s v key id c m at known y ask low asked.2 small skip, refl),
+              (told s v key id c m at known y ask low asked.2 small skip, refl, refl),
             ))),
       )
 
@@ -177,15 +186,15 @@ module _ {T C M E Asks : Type 0} (code : Coding T) (kind : Kind) (effects : Worl
     told_all : (c : C) (m : M) (x : View T) (n : ℕ) (w : View T) → ToldOver c m x n w → ToldEnds c m x n w
     told_all x0 x1 x2 x3 x4 x5 = grind arith
 
-    pub keeps_ends : KeepsRule (λ (z : View T). z.capacity) (At code kind call) (Over code kind call) (λ key. size_of key + 1) (λ key. key)
+    pub keeps_ends : KeepsRule (λ (z : View T). z.asked) (λ (z : View T). z.capacity) (At code kind call) (Over code kind call) (λ key. size_of key + 1) (λ key. key)
         (λ key. IsMachine code kind key) want after kept
-        → KeepsRule (λ (z : View T). z.capacity) (At code kind call) (Ends code kind call) (λ key. size_of key + 1) (λ key. key)
+        → KeepsRule (λ (z : View T). z.asked) (λ (z : View T). z.capacity) (At code kind call) (Ends code kind call) (λ key. size_of key + 1) (λ key. key)
         (λ key. IsMachine code kind key) want after kept
     keeps_ends keeps base₀ v c m key words slots id wide known at₀ = go (want c) (keeps base₀ v c m key words slots id wide known at₀)
       where
-        go : (w : Want (Unit {0})) → Owes (IsMachine code kind key) words slots id (ToldOver c m) w (v, [])
-            → Owes (IsMachine code kind key) words slots id (ToldEnds c m) w (v, [])
-        go (wants.Ask a) h = (h.0, λ s r long at small. (let x = h.1 s r long at small in (x.0, x.1, x.2, x.3, (told_all c m v _ x.0 x.4.0, x.4.1))))
+        go : (w : Want (Unit {0})) → Owes (λ (z : View T). z.asked) (IsMachine code kind key) words slots id (ToldOver c m) w (v, [])
+            → Owes (λ (z : View T). z.asked) (IsMachine code kind key) words slots id (ToldEnds c m) w (v, [])
+        go (wants.Ask a) h = (h.0, λ s r long at small. (let x = h.1 s r long at small in (x.0, x.1, x.2, x.3, (told_all c m v _ x.0 x.4.0, x.4.1, x.4.2))))
         go (wants.Question q) h = told_all c m v 0 v h
         go wants.Nothing h = told_all c m v 0 v h
 
@@ -194,14 +203,14 @@ module _ {T C M E Asks : Type 0} (code : Coding T) (kind : Kind) (effects : Worl
 module _ {T C M E : Type 0} (code : Coding T) (kind : Kind) (effects : World T → ℕ → Flight T → ℕ → List (Event T)) (size_of : ℕ → ℕ)
     (laws : (capacity : ℕ) → KeptLaws code kind capacity (size_of capacity) effects) (want : C → Want (Unit {0})) (after : C → ℕ → After C E)
     (kept : C → M → ℕ → M) (call : Calling T C M E) (is_call : IsCallThere code kind effects size_of want after kept call) where
-  pub keeps_there : KeepsRule (λ (z : View T). z.capacity) (At code kind call) (Over code kind call) (λ key. size_of key + 1) (λ key. key)
+  pub keeps_there : KeepsRule (λ (z : View T). z.asked) (λ (z : View T). z.capacity) (At code kind call) (Over code kind call) (λ key. size_of key + 1) (λ key. key)
       (λ key. IsMachine code kind key) want after kept
   keeps_there base₀ v c m key words slots id wide known at₀ =
       keeps_at code kind effects size_of laws want after kept call is_call base₀ v c m key words slots id wide known at₀
       (is_call.asks base₀.capacity c (still_stands code kind effects size_of laws call base₀ v c m at₀))
 
   pub keeps_all_there : ((c : C) (n : ℕ) → call.skips c n ≡ false)
-      → KeepsRule (λ (z : View T). z.capacity) (At code kind call) (Ends code kind call) (λ key. size_of key + 1) (λ key. key)
+      → KeepsRule (λ (z : View T). z.asked) (λ (z : View T). z.capacity) (At code kind call) (Ends code kind call) (λ key. size_of key + 1) (λ key. key)
       (λ key. IsMachine code kind key) want after kept
   keeps_all_there never = keeps_ends code kind effects size_of laws want after kept call is_call never keeps_there
 
@@ -220,12 +229,12 @@ module _ {T C M E : Type 0} (code : Coding T) (kind : Kind) (effects : World T �
       goes_on_alike code kind capacity (size_of capacity) effects (laws capacity) t run p (call.flight c m) n ∙ h.same_after capacity c m n stands) h
 
   module _ (is_call : IsCallIn code kind effects size_of want after kept call) where
-    pub keeps_in : KeepsRule (λ (z : View T). z.capacity) (At code kind call) (Over code kind call) (λ key. size_of key + 1) (λ key. key)
+    pub keeps_in : KeepsRule (λ (z : View T). z.asked) (λ (z : View T). z.capacity) (At code kind call) (Over code kind call) (λ key. size_of key + 1) (λ key. key)
         (λ key. IsMachine code kind key) want after kept
     keeps_in = keeps_there code kind effects size_of laws_there want after kept call (steps_there is_call)
 
     pub keeps_all_in : ((c : C) (n : ℕ) → call.skips c n ≡ false)
-        → KeepsRule (λ (z : View T). z.capacity) (At code kind call) (Ends code kind call) (λ key. size_of key + 1) (λ key. key)
+        → KeepsRule (λ (z : View T). z.asked) (λ (z : View T). z.capacity) (At code kind call) (Ends code kind call) (λ key. size_of key + 1) (λ key. key)
         (λ key. IsMachine code kind key) want after kept
     keeps_all_in = keeps_all_there code kind effects size_of laws_there want after kept call (steps_there is_call)
 
@@ -261,12 +270,12 @@ module _ {T C M E : Type 0} (code : Coding T) (kind : Kind) (effects : ℕ → F
   by_itself : IsCallThere code kind (λ w. effects) size_of want after kept call
   by_itself = steps_alone code kind (λ w. effects) effects call (acts_alone code kind effects size_of laws call) want after kept is_call
 
-  pub keeps : KeepsRule (λ (z : View T). z.capacity) (At code kind call) (Over code kind call)
+  pub keeps : KeepsRule (λ (z : View T). z.asked) (λ (z : View T). z.capacity) (At code kind call) (Over code kind call)
       (λ key. size_of key + 1) (λ key. key) (λ key. IsMachine code kind key) want after kept
   keeps = keeps_there code kind (λ w. effects) size_of (all_kept_laws code kind effects size_of laws) want after kept call by_itself
 
   pub keeps_all : ((c : C) (n : ℕ) → call.skips c n ≡ false)
-      → KeepsRule (λ (z : View T). z.capacity) (At code kind call) (Ends code kind call) (λ key. size_of key + 1)
+      → KeepsRule (λ (z : View T). z.asked) (λ (z : View T). z.capacity) (At code kind call) (Ends code kind call) (λ key. size_of key + 1)
       (λ key. key) (λ key. IsMachine code kind key) want after kept
   keeps_all = keeps_all_there code kind (λ w. effects) size_of (all_kept_laws code kind effects size_of laws) want after kept call by_itself
 
@@ -287,7 +296,7 @@ module _ {T C M E : Type 0} (code : Coding T) (kind : Kind) (effects : World T �
         view_then code kind effects size_of laws call s v key id c m at known y None tt asks_none finds,
         table.keeps,
         tt,
-        settle code kind key id y.p y.owner (slice_set s.words word (slice_index s.words word)) s v
+        settle code kind key id y.p y.owner (v.asked + 1) (slice_set s.words word (slice_index s.words word)) s v
             (then_gained code kind effects size_of laws call s v key id c m at known y None tt asks_none finds) u at first.some
             (subst (λ ws. Between code kind key y.owner (record { words = ws; homes = s.homes; views = s.views }) id y.p
             (then_gained code kind effects size_of laws call s v key id c m at known y None tt asks_none finds) u) (sym (set_same s.words word))
@@ -295,7 +304,8 @@ module _ {T C M E : Type 0} (code : Coding T) (kind : Kind) (effects : World T �
         (
           ends_then code kind effects size_of laws call s v key id c m at known y None tt asks_none finds v (inl first) end m'
               (afters y.p y.u y.between.run y.there)
-              (λ es late h waits met. tells y.p es late y.u y.between.run y.there h waits),
+              (λ es late h waits met. tells y.p es late y.u y.between.run y.there h waits)
+              (inr (as_much (v.asked + 1))),
           refl,
         ),
       )

@@ -74,7 +74,7 @@ module _ {T : Type 0} (code : Coding T) where
   pub acquire_call : IsCallOf code index_effects core.size acquire_want acquire_after (λ c m n. m) takes_index
   acquire_call = grind (arith, as_told, hears_at, takes_on, asks_one, writes_so)
 
-  pub acquire_keeps : KeepsRule (λ (z : View T). z.capacity) (At code kinds.Indices takes_index)
+  pub acquire_keeps : KeepsRule (λ (z : View T). z.asked) (λ (z : View T). z.capacity) (At code kinds.Indices takes_index)
       (Ends code kinds.Indices takes_index) (λ key. core.size key + 1) (λ key. key)
       (λ key. IsMachine code kinds.Indices key) acquire_want acquire_after (λ c m n. m)
   acquire_keeps =
@@ -135,7 +135,7 @@ module _ {T : Type 0} (code : Coding T) (index : ℕ) where
   pub release_call : IsCallOf code index_effects core.size (λ c. release_want false c index) (λ c n. release_after false c n) (λ c m n. m) (gives_index index)
   release_call = grind (arith, as_given, false, gives_heard, gives_on, asks_for, writes_at)
 
-  pub release_keeps : KeepsRule (λ (z : View T). z.capacity) (At code kinds.Indices (gives_index index))
+  pub release_keeps : KeepsRule (λ (z : View T). z.asked) (λ (z : View T). z.capacity) (At code kinds.Indices (gives_index index))
       (Ends code kinds.Indices (gives_index index)) (λ key. core.size key + 1) (λ key. key)
       (λ key. IsMachine code kinds.Indices key) (λ c. release_want false c index) (λ c n. release_after false c n)
       (λ c m n. m)
@@ -208,7 +208,7 @@ module _ {T : Type 0} (code : Coding T) (index : ℕ) where
   pub lock_call : IsCallOf code index_effects core.size (λ c. release_want true c index) (λ c n. release_after true c n) (λ c m n. m) (gives_or_locks index)
   lock_call = grind (arith, as_locked, locks_heard, locks_on, asks_of, locks_at)
 
-  pub lock_keeps : KeepsRule (λ (z : View T). z.capacity) (At code kinds.Indices (gives_or_locks index))
+  pub lock_keeps : KeepsRule (λ (z : View T). z.asked) (λ (z : View T). z.capacity) (At code kinds.Indices (gives_or_locks index))
       (Ends code kinds.Indices (gives_or_locks index)) (λ key. core.size key + 1) (λ key. key)
       (λ key. IsMachine code kinds.Indices key) (λ c. release_want true c index) (λ c n. release_after true c n)
       (λ c m n. m)
@@ -239,7 +239,7 @@ module _ {T : Type 0} (code : Coding T) where
   pub count_call : IsCallOf code index_effects core.size (λ c. load 0) borrowed_after (λ c m n. m) counts_out
   count_call = grind arith
 
-  pub count_keeps : KeepsRule (λ (z : View T). z.capacity) (At code kinds.Indices counts_out)
+  pub count_keeps : KeepsRule (λ (z : View T). z.asked) (λ (z : View T). z.capacity) (At code kinds.Indices counts_out)
       (Ends code kinds.Indices counts_out) (λ key. core.size key + 1) (λ key. key)
       (λ key. IsMachine code kinds.Indices key) (λ c. load 0) borrowed_after (λ c m n. m)
   count_keeps =
@@ -252,7 +252,7 @@ module _ {T : Type 0} (code : Coding T) where
   pub look_call : IsCallOf code index_effects core.size (λ c. load 0) locked_after (λ c m n. m) looks_locked
   look_call = grind arith
 
-  pub look_keeps : KeepsRule (λ (z : View T). z.capacity) (At code kinds.Indices looks_locked)
+  pub look_keeps : KeepsRule (λ (z : View T). z.asked) (λ (z : View T). z.capacity) (At code kinds.Indices looks_locked)
       (Ends code kinds.Indices looks_locked) (λ key. core.size key + 1) (λ key. key)
       (λ key. IsMachine code kinds.Indices key) (λ c. load 0) locked_after (λ c m n. m)
   look_keeps =

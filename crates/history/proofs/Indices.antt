@@ -26,6 +26,7 @@ use Rattle.history.proofs.Calls.{stands, IsStateless}
 use Rattle.history.proofs.Held.{held_by}
 use Rattle.history.proofs.Known.{AreOf}
 use Rattle.history.proofs.Starting.{starts_by_last}
+use Rattle.history.proofs.Paid.{Pays, progress_kept, pays_run}
 use Rattle.history.proofs.Turns.{CallGoesOn, KindLaws}
 
 module _ {T : Type 0} where
@@ -101,6 +102,14 @@ module _ {T : Type 0} (code : Coding T) (capacity : ℕ) where
     alone = λ going late h. h;
     stateless = λ t r. (let s = sound t r in subst IsStateless (sym (kept_is t.world.kept t.world.words s.state s.fit).0) tt);
   }
+
+  -- how many steps its calls take
+  pub index_pays : Pays code kinds.TheVariants.Indices capacity
+  index_pays t r =
+      (let s = sound t r in
+      let F = family t.world.coding t.world.capacity in
+      pays_run code kinds.TheVariants.Indices capacity t r F refl s
+      (progress_kept code kinds.TheVariants.Indices capacity t r F refl s (kept_on t r.of_kind r.reached)))
 
 -- ---- which party may begin a call
 

@@ -17,6 +17,7 @@ pub mod CallReady
 pub mod CallTurns
 pub mod Written
 pub mod Drives
+pub mod Paid
 pub mod Decisions
 pub mod Made
 pub mod Starting

@@ -193,7 +193,7 @@ module _ {T : Type 0} (code : Coding T) (v : ℕ) where
       }
 
   -- each step of a push keeps the rule of the table: it is a machine
-  pub over_push_keeps : KeepsRule (λ (z : View T). z.capacity) (At code kinds.Overflow pushing)
+  pub over_push_keeps : KeepsRule (λ (z : View T). z.asked) (λ (z : View T). z.capacity) (At code kinds.Overflow pushing)
       (Over code kinds.Overflow pushing) (λ key. 4 + (key + 1) + 1) (λ key. key)
       (λ key. IsMachine code kinds.Overflow key) (λ c. push_want c v) push_after push_kept
   over_push_keeps =

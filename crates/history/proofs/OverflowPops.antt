@@ -166,7 +166,7 @@ module _ {T : Type 0} (code : Coding T) where
             ∙ (ap (events_by p) (effects_end t.world p c b m n e) ∙ loud p n c m b t c.stage h.2 at.front at.apart e)));
       }
 
-  pub over_pop_keeps : KeepsRule (λ (z : View T). z.capacity) (At code kinds.Overflow popping)
+  pub over_pop_keeps : KeepsRule (λ (z : View T). z.asked) (λ (z : View T). z.capacity) (At code kinds.Overflow popping)
       (Ends code kinds.Overflow popping) (λ key. 4 + (key + 1) + 1) (λ key. key)
       (λ key. IsMachine code kinds.Overflow key) pop_want pop_after pop_kept
   over_pop_keeps =

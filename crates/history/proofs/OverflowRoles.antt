@@ -24,7 +24,7 @@ module _ {T : Type 0} (code : Coding T) where
 
   abbrev Keeps : {C M E : Type 0} → Calling T C M E → (C → Want (Unit {0})) → (C → ℕ → After C E) → (C → M → ℕ → M) → Type 0
   Keeps call =
-      KeepsRule (λ (z : View T). z.capacity) (At code kinds.Overflow call) (Ends code kinds.Overflow call)
+      KeepsRule (λ (z : View T). z.asked) (λ (z : View T). z.capacity) (At code kinds.Overflow call) (Ends code kinds.Overflow call)
       (λ key. 4 + (key + 1) + 1) (λ key. key) (λ key. IsMachine code kinds.Overflow key)
 
   low : (capacity : ℕ) → 4 + capacity ≤ words_of capacity
@@ -61,7 +61,7 @@ module _ {T : Type 0} (code : Coding T) where
         (counts_waiting which size) (counts size) (λ c n. refl)
 
     -- for any capacity
-    pub over_lens_keep : KeepsRule (λ (z : View T). z.capacity)
+    pub over_lens_keep : KeepsRule (λ (z : View T). z.asked) (λ (z : View T). z.capacity)
         (λ (base : View T). At code kinds.Overflow (counts_waiting which base.capacity) base)
         (λ (base : View T). Ends code kinds.Overflow (counts_waiting which base.capacity) base)
         (λ key. 4 + (key + 1) + 1) (λ key. key) (λ key. IsMachine code kinds.Overflow key) len_want len_after

@@ -1,5 +1,5 @@
 -- A look of a pass at the whole history, under the rule of a machine.
-use Rattle.history.proofs.Names.{◌≡◌, ◌≢◌, ◌⊎◌, inl, inr, ⊎_elim, ℕ, zero, suc, ◌<◌, Option, Some, None, List, []}
+use Rattle.history.proofs.Names.{◌≡◌, ◌≢◌, ◌⊎◌, inl, inr, ⊎_elim, ℕ, zero, suc, ◌+◌, ◌<◌, Option, Some, None, List, []}
 use Rattle.history.proofs.Names.{◌∷◌, ◌++◌, length, set, slice_index, slice_set, refl, sym, ap, subst, ◌∙◌}
 use Rattle.history.proofs.Names.{append-nil, arith, length-set, sum_by, Allows, at_set, Event, Kind, Coding, Trace}
 use Rattle.history.proofs.Names.{Start, Flight}
@@ -7,10 +7,12 @@ use mathlib.Core.Option.{some, some-injective}
 use lib.ListN.{get_elem?}
 use Rattle.atomic_table.specs.Table.{State}
 use Rattle.atomic_table.specs.Table as table
+use Rattle.steps.specs.declared.ask.Op.TheVariants.{Load}
+use Rattle.history.proofs.Names.{OwesAsk}
 use Rattle.model.specs.declared.turn.Kind.TheVariants as kinds
 use Rattle.history.specs.declared.view.View.{View}
 use Rattle.history.specs.History.{IsBeginning, IsMachine, Fits, HasSeenOf, IsLate}
-use Rattle.history.specs.Views.{Looks, LooksAt, WhenIdle}
+use Rattle.history.specs.Views.{Looks, LooksOnce, LooksAt, WhenIdle}
 use Rattle.history.specs.Known.{Known, owned, events_by}
 use Rattle.history.proofs.Calls.{get_left}
 use Rattle.history.proofs.Known.{by_more, nil_right, within, none_late, by_nothing}
@@ -85,7 +87,7 @@ module _ {T : Type 0} (code : Coding T) (kind : Kind) (capacity : ℕ) where
       → slice_index s.words word < 18446744073709551616
       → (w : View T) × (a : table.Act (Unit {0})) × table.Valid s.homes [] a
       × Holds (table.stepped s word (slice_index s.words word) id [] w a)
-      × (Looks code kind capacity v w × (table.carried_after [] a ≡ [])) × (w.seen ≡ m.trace.events)
+      × (Looks code kind capacity v w × (table.carried_after [] a ≡ [])) × (w.seen ≡ m.trace.events) × (w.asked ≡ v.asked + 1)
   looks_at slots id word v some_share calm s m long at small =
       let t = m.trace in
       let f = m.seats id v at in
@@ -102,6 +104,8 @@ module _ {T : Type 0} (code : Coding T) (kind : Kind) (capacity : ℕ) where
         made = v.made;
         going = v.going;
         state = v.state;
+        asked = v.asked + 1;
+        taken = v.taken;
       } in (
         w,
         table.keeps,
@@ -114,6 +118,7 @@ module _ {T : Type 0} (code : Coding T) (kind : Kind) (capacity : ℕ) where
               going = f.going;
               idle = f.idle;
               stated = f.stated;
+              counted = f.counted;
               party = f.party;
               late = [];
               waits = none_late t.world.kind v.going;
@@ -147,7 +152,26 @@ module _ {T : Type 0} (code : Coding T) (kind : Kind) (capacity : ℕ) where
           refl,
         ),
         refl,
+        refl,
       )
+
+  -- a look is one operation
+  pub looks_once : (slots id word : ℕ) (v : View T) → 0 < v.share.part
+      → ((late : List (Event T)) → IsLate kind v.going late → late ≡ [])
+      → Allows Holds slots id (v, []) word (λ n. n) (λ found me. LooksOnce code kind capacity v me.0 × (me.1 ≡ []))
+  looks_once slots id word v some_share calm s m long at small =
+      (let x = looks_at slots id word v some_share calm s m long at small in (x.0, x.1, x.2, x.3, ((x.4.0, x.6), x.4.1)))
+
+  -- as what a seat owes for it
+  pub owes_look : (words slots id word : ℕ) (v : View T) → word < words → 0 < v.share.part
+      → ((late : List (Event T)) → IsLate kind v.going late → late ≡ [])
+      → OwesAsk (λ (z : View T). z.asked) Holds words slots id (λ u n w. LooksOnce code kind capacity u w) word Load (v, [])
+  owes_look words slots id word v below some_share calm = (
+    below,
+    λ s m long at small. (
+        let x = looks_at slots id word v some_share calm s m long at small in
+        (x.0, x.1, x.2, x.3, ((x.4.0, x.6), x.6, x.4.1))),
+  )
 
   -- where something may be late the seat stays as it is, and nothing is told of the look
   looks_when : (slots id word : ℕ) (v : View T) → 0 < v.share.part → (s : State (Unit {0}) (View T)) → (m : Holds s)

@@ -93,6 +93,7 @@ module _ {T : Type 0} (code : Coding T) (kind : Kind) (capacity : ℕ) where
             going = λ p of_j is. absurd (cc);
             idle = λ p of_j ne. m.further p (alone p j e of_j);
             stated = λ p of_j is. absurd (cc);
+            counted = λ p of_j is call under. absurd (cc);
             party = tt;
             late = [];
             waits = none_late m.trace.world.kind None;
@@ -113,6 +114,7 @@ module _ {T : Type 0} (code : Coding T) (kind : Kind) (capacity : ℕ) where
             going = f.going;
             idle = f.idle;
             stated = f.stated;
+            counted = f.counted;
             party = f.party;
             late = f.late;
             waits = f.waits;
@@ -199,6 +201,9 @@ module _ {T : Type 0} (code : Coding T) (kind : Kind) (capacity : ℕ) where
             stated =
                 λ p now is. ⊎_elim (λ (h : m.owner p ≡ id). mine.stated p h is)
                 (λ (h : m.owner p ≡ other). absurd (apart (sym h ∙ party_is v.party p is mine.party))) (of_id p now);
+            counted =
+                λ p now is call under. ⊎_elim (λ (h : m.owner p ≡ id). mine.counted p h is call under)
+                (λ (h : m.owner p ≡ other). absurd (apart (sym h ∙ party_is v.party p is mine.party))) (of_id p now);
             idle = λ p now ne. ⊎_elim (λ (h : m.owner p ≡ id). mine.idle p h ne) (λ (h : m.owner p ≡ other). its_idle p h) (of_id p now);
             party = go v.party mine.party;
             late = mine.late;
@@ -251,6 +256,7 @@ module _ {T : Type 0} (code : Coding T) (kind : Kind) (capacity : ℕ) where
                 going = λ p now. f.going p (of_third p j ne now).0;
                 idle = λ p now. f.idle p (of_third p j ne now).0;
                 stated = λ p now. f.stated p (of_third p j ne now).0;
+                counted = λ p now. f.counted p (of_third p j ne now).0;
                 party = go x.party f.party;
                 late = f.late;
                 waits = f.waits;

@@ -87,7 +87,7 @@ module _ {T : Type 0} (code : Coding T) (v : ℕ) where
   push_is_call = grind (arith, same_after, hears, stays, asks, finds, leaves, queue_effects, effects_on, quiet)
 
   -- each step of a push keeps the rule of the table: it is a machine
-  pub push_keeps : KeepsRule (λ (z : View T). z.capacity) (At code kinds.IndexQueue call)
+  pub push_keeps : KeepsRule (λ (z : View T). z.asked) (λ (z : View T). z.capacity) (At code kinds.IndexQueue call)
       (Over code kinds.IndexQueue call) (λ key. 4 + key + 1) (λ key. key) (λ key. IsMachine code kinds.IndexQueue key)
       (λ c. push_want words_of_index c v) (λ c n. push_after 1 c n) (λ c m n. m)
   push_keeps =
@@ -149,7 +149,7 @@ module _ {T : Type 0} (code : Coding T) where
   pub pop_is_call : IsCallOf code (queue_effects code) (λ capacity. 4 + capacity) (λ (c : Taking). pop_want c) (λ c n. pop_after 1 c n) keeps_it taking
   pop_is_call = grind (arith, pop_same_after, pop_hears, pop_stays, pop_finds_word, queue_effects, pop_effects_on, pop_quiet, pop_effects_end, pop_loud)
 
-  pub pop_keep_all : KeepsRule (λ (z : View T). z.capacity) (At code kinds.IndexQueue taking)
+  pub pop_keep_all : KeepsRule (λ (z : View T). z.asked) (λ (z : View T). z.capacity) (At code kinds.IndexQueue taking)
       (Ends code kinds.IndexQueue taking) (λ key. 4 + key + 1) (λ key. key) (λ key. IsMachine code kinds.IndexQueue key)
       (λ (c : Taking). pop_want c) (λ c n. pop_after 1 c n) keeps_it
   pop_keep_all =

@@ -37,7 +37,7 @@ module _ {T : Type 0} (code : Coding T) (role : Role) where
   pub acquire_is_call : IsCallOf code (queue_effects code) (λ capacity. 4 + capacity) acquire_want acquire_after (λ c m n. m) acquiring
   acquire_is_call = grind arith
 
-  pub acquire_keeps : KeepsRule (λ (z : View T). z.capacity) (At code kinds.IndexQueue acquiring)
+  pub acquire_keeps : KeepsRule (λ (z : View T). z.asked) (λ (z : View T). z.capacity) (At code kinds.IndexQueue acquiring)
       (Ends code kinds.IndexQueue acquiring) (λ key. 4 + key + 1) (λ key. key)
       (λ key. IsMachine code kinds.IndexQueue key) acquire_want acquire_after (λ c m n. m)
   acquire_keeps =
@@ -73,7 +73,7 @@ module _ {T : Type 0} (code : Coding T) (role : Role) where
   pub release_is_call : IsCallOf code (queue_effects code) (λ capacity. 4 + capacity) release_want release_after (λ c m n. m) releasing
   release_is_call = grind arith
 
-  pub release_keeps : KeepsRule (λ (z : View T). z.capacity) (At code kinds.IndexQueue releasing)
+  pub release_keeps : KeepsRule (λ (z : View T). z.asked) (λ (z : View T). z.capacity) (At code kinds.IndexQueue releasing)
       (Ends code kinds.IndexQueue releasing) (λ key. 4 + key + 1) (λ key. key)
       (λ key. IsMachine code kinds.IndexQueue key) release_want release_after (λ c m n. m)
   release_keeps =
@@ -130,7 +130,7 @@ module _ {T : Type 0} (code : Coding T) (which : LengthOf) (size : ℕ) where
   pub len_is_call : IsCallOf code (queue_effects code) (λ capacity. 4 + capacity) len_want len_after (λ c m n. m) counting
   len_is_call = grind (arith, len_same_after, len_hears, len_stays, len_asks_for)
 
-  pub len_keeps : KeepsRule (λ (z : View T). z.capacity) (At code kinds.IndexQueue counting)
+  pub len_keeps : KeepsRule (λ (z : View T). z.asked) (λ (z : View T). z.capacity) (At code kinds.IndexQueue counting)
       (Ends code kinds.IndexQueue counting) (λ key. 4 + key + 1) (λ key. key)
       (λ key. IsMachine code kinds.IndexQueue key) len_want len_after (λ c m n. m)
   len_keeps =
@@ -167,7 +167,7 @@ module _ {T : Type 0} (code : Coding T) (which : LengthOf) (size : ℕ) where
 
 -- for any capacity
 pub lens_keep : {T : Type 0} (code : Coding T) (which : LengthOf)
-    → KeepsRule (λ (z : View T). z.capacity)
+    → KeepsRule (λ (z : View T). z.asked) (λ (z : View T). z.capacity)
     (λ (base : View T). At code kinds.IndexQueue (counts_waiting which base.capacity) base)
     (λ (base : View T). Ends code kinds.IndexQueue (counts_waiting which base.capacity) base) (λ key. 4 + key + 1)
     (λ key. key) (λ key. IsMachine code kinds.IndexQueue key) len_want len_after (λ c m n. m)

@@ -17,7 +17,7 @@ use Rattle.model.specs.declared.families.queues.calls.QueueFlight.TheVariants.{I
 use Rattle.model.specs.declared.turn.Kind as kinds
 use Rattle.model.specs.Families.Queues.Calls.{after}
 use Rattle.model.specs.Families.Queues.Opening.{lacks_role, kept_rows}
-use Rattle.model.specs.Families.Queues.Promises.{IsQueue}
+use Rattle.model.specs.Families.Queues.Promises.{IsQueue, promise}
 use Rattle.model.specs.Families.Queues.Roles.{KeepsHolders}
 use Rattle.steps.specs.declared.queues.roles.Role.{Role}
 use Rattle.model.specs.Families.Queues.Steps.{effects_of}
@@ -34,6 +34,8 @@ use Rattle.history.specs.History.{IsRun, IsLate, call_in}
 use Rattle.history.proofs.Known.{AreOf}
 use Rattle.history.proofs.Calls.{stands, IsStateless}
 use Rattle.history.proofs.Reached.{queue_run}
+use Rattle.model.specs.Promises.Families.{promise_of}
+use Rattle.history.proofs.Paid.{Pays, progress_kept, pays_run}
 use Rattle.history.proofs.Turns.{CallGoesOn, KindLaws}
 
 held_there : {T : Type 0} (role : Role) (roles : Roles) (events : List (Event T))
@@ -162,6 +164,21 @@ module _ {T : Type 0} (code : Coding T) (kd : QueueKind) (base : View T) where
   pub queue_goes_on : (t : Trace T) → IsOn t → IsQueue kd t
   queue_goes_on t r = (let on = queue_run code base.capacity kd t r in
       (subst (λ P. IsKeptBy P t) (promised_by kd t r.of_kind) (kept_on kd t r.of_kind on.reached.coded on.reached.admitted on.fresh)).promised)
+
+  promise_is : (q : QueueKind) → promise_of {T = T} (machine_kind q) ≡ promise q
+  promise_is IndexQueue = refl
+  promise_is queues.TheVariants.Overflow = refl
+  promise_is queues.TheVariants.Queue = refl
+
+  -- how many steps its calls take
+  pub queue_pays : Pays code (machine_kind kd) base.capacity
+  queue_pays t r =
+      (let on = queue_run code base.capacity kd t r in
+      let s = sound_of code base.capacity kd t r in
+      let F = family t.world.coding kd t.world.capacity in
+      pays_run code (machine_kind kd) base.capacity t r F (promise_is kd) s
+      (progress_kept code (machine_kind kd) base.capacity t r F (promise_is kd) s
+      (kept_on kd t r.of_kind on.reached.coded on.reached.admitted on.fresh)))
 
   kept_there : (t : Trace T) → IsOn t → (roles : Roles) × (t.world.kept ≡ registries.TheVariants.Queues roles)
   kept_there x0 x1 = grind (arith, sound_of, kept_is)

@@ -66,7 +66,7 @@ module _ {T : Type 0} (code : Coding T) (owner : ℕ) where
   pub acquire_call : IsCallOf code robust_effects cells_and_counter (λ c. acquire_want c owner) acquire_after (λ c m n. m) (takes_owned owner)
   acquire_call = grind (arith, as_taken, acquire_found, takes_on, acquire_words)
 
-  pub acquire_keeps : KeepsRule (λ (z : View T). z.capacity) (At code kinds.Robust (takes_owned owner)) (Ends code kinds.Robust (takes_owned owner))
+  pub acquire_keeps : KeepsRule (λ (z : View T). z.asked) (λ (z : View T). z.capacity) (At code kinds.Robust (takes_owned owner)) (Ends code kinds.Robust (takes_owned owner))
       (λ key. cells_and_counter key + 1) (λ key. key) (λ key. IsMachine code kinds.Robust key) (λ c. acquire_want c owner) acquire_after
       (λ c m n. m)
   acquire_keeps = keeps_all code kinds.Robust robust_effects cells_and_counter (robusts_owe code) (λ c. acquire_want c owner) acquire_after (λ c m n. m)
@@ -123,7 +123,7 @@ module _ {T : Type 0} (code : Coding T) (given : GiveBack) where
       (gives_owned given)
   release_call = grind (arith, as_given, release_found, gives_on, release_words)
 
-  pub release_keeps : KeepsRule (λ (z : View T). z.capacity) (At code kinds.Robust (gives_owned given)) (Ends code kinds.Robust (gives_owned given))
+  pub release_keeps : KeepsRule (λ (z : View T). z.asked) (λ (z : View T). z.capacity) (At code kinds.Robust (gives_owned given)) (Ends code kinds.Robust (gives_owned given))
       (λ key. cells_and_counter key + 1) (λ key. key) (λ key. IsMachine code kinds.Robust key) (λ c. release_want c given)
       (λ c n. release_after c given n) (λ c m n. m)
   release_keeps = keeps_all code kinds.Robust robust_effects cells_and_counter (robusts_owe code) (λ c. release_want c given) (λ c n. release_after c given n)
@@ -165,7 +165,7 @@ module _ {T : Type 0} (code : Coding T) where
   pub count_call : IsCallOf code robust_effects cells_and_counter borrowed_want borrowed_after (λ c m n. m) counts_owned
   count_call = grind (arith, as_counted, count_found, counts_so, count_after, count_on, count_asks)
 
-  pub count_keeps : KeepsRule (λ (z : View T). z.capacity) (At code kinds.Robust counts_owned) (Ends code kinds.Robust counts_owned)
+  pub count_keeps : KeepsRule (λ (z : View T). z.asked) (λ (z : View T). z.capacity) (At code kinds.Robust counts_owned) (Ends code kinds.Robust counts_owned)
       (λ key. cells_and_counter key + 1) (λ key. key) (λ key. IsMachine code kinds.Robust key) borrowed_want borrowed_after (λ c m n. m)
   count_keeps = keeps_all code kinds.Robust robust_effects cells_and_counter (robusts_owe code) borrowed_want borrowed_after
       (λ c m n. m) counts_owned count_call (λ c n. refl)
@@ -177,7 +177,7 @@ module _ {T : Type 0} (code : Coding T) where
   pub look_call : IsCallOf code robust_effects cells_and_counter (λ c. load 0) locked_after (λ c m n. m) looks_owned
   look_call = grind arith
 
-  pub look_keeps : KeepsRule (λ (z : View T). z.capacity) (At code kinds.Robust looks_owned) (Ends code kinds.Robust looks_owned)
+  pub look_keeps : KeepsRule (λ (z : View T). z.asked) (λ (z : View T). z.capacity) (At code kinds.Robust looks_owned) (Ends code kinds.Robust looks_owned)
       (λ key. cells_and_counter key + 1) (λ key. key) (λ key. IsMachine code kinds.Robust key) (λ c. load 0) locked_after (λ c m n. m)
   look_keeps = keeps_all code kinds.Robust robust_effects cells_and_counter (robusts_owe code) (λ c. load 0) locked_after (λ c m n. m) looks_owned look_call
       (λ c n. refl)

@@ -268,7 +268,7 @@ module _ {T : Type 0} (code : Coding T) (mode : ReleaseMode) where
   Ended = Ends code kinds.Robust (recovers_owned mode)
 
   -- each step of a recovery keeps the rule of the table; at a question the machine is handed the answer with the step after it
-  pub recover_keeps : KeepsRule (λ (z : View T). z.capacity) At Ended (λ key. cells_and_counter key + 1) (λ key. key)
+  pub recover_keeps : KeepsRule (λ (z : View T). z.asked) (λ (z : View T). z.capacity) At Ended (λ key. cells_and_counter key + 1) (λ key. key)
       (λ key. IsMachine code kinds.Robust key) recover_want after visits_after
   recover_keeps = keeps_asked code kinds.Robust tt (λ w. robust_effects) robust_effects cells_and_counter
       (all_kept_laws code kinds.Robust robust_effects cells_and_counter (robusts_owe code)) recover_want after visits_after (recovers_owned mode)
@@ -348,7 +348,7 @@ module _ {T : Type 0} (code : Coding T) (mode : ReleaseMode) where
   ToldSo c m = ToldOf (λ (z : View T). z.capacity) At Ended after visits_after c m
 
   pub recover_tells : (base v : View T) (c : Recovering) (m : List Visit) (key words slots id : ℕ) → words ≡ cells_and_counter key + 1
-      → v.capacity ≡ key → base.going ≡ None → At base v c m → Owes (IsMachine code kinds.Robust key) words slots id (Tells c) (recover_want c) (v, [])
+      → v.capacity ≡ key → base.going ≡ None → At base v c m → Owes (λ (z : View T). z.asked) (IsMachine code kinds.Robust key) words slots id (Tells c) (recover_want c) (v, [])
   recover_tells base v c m key words slots id wide known idle at = go (recover_want c) (recover_keeps base v c m key words slots id wide known at)
     where
       all : (n : ℕ) (w : View T) → ToldSo c m v n w → Tells c v n w
@@ -360,8 +360,8 @@ module _ {T : Type 0} (code : Coding T) (mode : ReleaseMode) where
             (h.1 other (subst (At other v c) (sym same) there))),
       )
 
-      go : (w : Want (Unit {0})) → Owes (IsMachine code kinds.Robust key) words slots id (ToldSo c m) w (v, [])
-          → Owes (IsMachine code kinds.Robust key) words slots id (Tells c) w (v, [])
-      go (wants.Ask a) h = (h.0, λ s r long there small. (let x = h.1 s r long there small in (x.0, x.1, x.2, x.3, (all _ x.0 x.4.0, x.4.1))))
+      go : (w : Want (Unit {0})) → Owes (λ (z : View T). z.asked) (IsMachine code kinds.Robust key) words slots id (ToldSo c m) w (v, [])
+          → Owes (λ (z : View T). z.asked) (IsMachine code kinds.Robust key) words slots id (Tells c) w (v, [])
+      go (wants.Ask a) h = (h.0, λ s r long there small. (let x = h.1 s r long there small in (x.0, x.1, x.2, x.3, (all _ x.0 x.4.0, x.4.1, x.4.2))))
       go (wants.Question q) h = all 0 v h
       go wants.Nothing h = all 0 v h

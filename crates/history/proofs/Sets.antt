@@ -1,5 +1,5 @@
 -- What bit sets and counting bit sets owe, from their laws.
-use Rattle.history.proofs.Names.{◌≡◌, ℕ, ◌+◌, ◌-◌, ◌^◌, ◌<◌, nat_lt, false, Option, Some, None, IfSome, List, [], ◌∷◌}
+use Rattle.history.proofs.Names.{◌≡◌, ℕ, ◌+◌, ◌-◌, ◌^◌, ◌<◌, ◌≤◌, nat_lt, false, Option, Some, None, IfSome, List, [], ◌∷◌}
 use Rattle.history.proofs.Names.{length, replicate, refl, sym, ap, subst, ◌∙◌, arith, sum_by, AllByRecursion}
 use Rattle.history.proofs.Names.{nat_tests, elements, Event, Start, Flight, Registry, BitsStart, BitsFlight, Party}
 use Rattle.history.proofs.Names.{Next, Coding, one_word, opening_of, first_of, begin_rows, step_of, beside_of}
@@ -13,7 +13,7 @@ use Rattle.model.specs.declared.families.Registry as registries
 use Rattle.model.specs.declared.turn.Kind as kinds
 use Rattle.model.specs.Families.Bits.Steps.{effects_of}
 use Rattle.model.proofs.Frame as frame
-use Rattle.laws_bits.proofs.Family.{SetOutline, FlightAt, family}
+use Rattle.laws_bits.proofs.Family.{SetOutline, FlightAt, KnowsFlight, number_by, family}
 use Rattle.laws_bits.proofs.Laws.{SetLaws, sound_on}
 use Rattle.laws_bits.proofs.Laws as sets
 use Rattle.history.specs.History.{IsRun, IsMachine, IsReachedAs, call_in, IsLate}
@@ -25,6 +25,7 @@ use Rattle.history.proofs.Known.{AreOf}
 use Rattle.history.proofs.Calls.{stands, IsStateless}
 use Rattle.history.proofs.Reached.{rows_free}
 use Rattle.history.proofs.Starting.{starts_by_last}
+use Rattle.history.proofs.Paid.{Pays, progress_within, pays_run}
 use Rattle.history.proofs.Turns.{CallGoesOn, KindLaws}
 use Rattle.history.proofs.Passes.{opens, one_more}
 
@@ -104,6 +105,28 @@ module _ {T : Type 0} (K : SetOutline T) (laws : (code : Coding T) (c : ℕ) →
       → KindLaws code K.kind capacity words set_effects
   sets_owe alone = record { size = size; goes_on = goes_on; alone = alone; stateless = λ t r. subst IsStateless (sym (sound t r).fit.0) tt }
 
+  set_bounds : (z : Coding T) (c : ℕ) → frame.Bounds (family K z c)
+  set_bounds z c =
+      record { most = λ s p backs start flight at. most _ backs start flight at; paid = λ s p events. paid p events s.words }
+    where
+      most : (wrote : List (Event T)) (backs : ℕ) (start : Start T) (flight : Flight T) → FlightAt (K.At c wrote) start flight
+          → number_by K.number flight backs ≤ K.promise.most_steps c z.size start backs
+      most wrote backs (Bits start) (flights.TheVariants.Bits flight) at = (laws z c).most wrote backs start flight at
+      most wrote backs start flight at = absurd at
+
+      paid : (p : ℕ) (events : List (Event T)) (words : List ℕ) (since changes backs : ℕ) (flight : Flight T)
+          → KnowsFlight (K.Knows p events words since changes backs) flight → backs ≤ changes - since
+      paid p events words since changes backs (flights.TheVariants.Bits flight) h = (laws z c).paid p events words since changes backs flight h
+      paid p events words since changes backs flight h = absurd h
+
+  -- how many steps its calls take
+  pub set_pays : Pays code K.kind capacity
+  set_pays t r =
+      (let s = sound t r in
+      let F = family K t.world.coding t.world.capacity in
+      pays_run code K.kind capacity t r F (laws code capacity).promise s
+      (progress_within code K.kind capacity t r F (laws code capacity).promise s (set_bounds t.world.coding t.world.capacity)))
+
   -- a call that may begin on a new set may begin at any time, as the party that the pass was last
   pub set_starts : {C M E : Type 0} → (call : Calling T C M E) (base : View T) (c : C) (m : M)
       → base.capacity ≡ capacity → ((o : Option ℕ) (p : ℕ) → IfSome o (λ q. q ≡ p) → call.by o p)
@@ -132,6 +155,13 @@ module _ {T : Type 0} (code : Coding T) (capacity : ℕ) where
   pub bits_owe : KindLaws code kinds.TheVariants.Bits capacity (1 + elements capacity) set_effects
   bits_owe = sets_owe bit_set bits_laws code capacity (1 + elements capacity) (λ c ws es turns same holds. holds.sized ∙ ap (λ n. 1 + elements n) same)
       (λ t h. h) (λ going late h. h)
+
+  pub counts_pays : Pays code kinds.TheVariants.Counts capacity
+  counts_pays = set_pays counting_set counts_laws code capacity capacity (λ c ws es turns same holds. holds.sized ∙ same) (λ t h. h)
+
+  pub bits_pays : Pays code kinds.TheVariants.Bits capacity
+  bits_pays = set_pays bit_set bits_laws code capacity (1 + elements capacity) (λ c ws es turns same holds. holds.sized ∙ ap (λ n. 1 + elements n) same)
+      (λ t h. h)
 
 module _ {T C M E : Type 0} (code : Coding T) (call : Calling T C M E) (base : View T) (c : C) (m : M)
     (by : (o : Option ℕ) (p : ℕ) → IfSome o (λ q. q ≡ p) → call.by o p) where

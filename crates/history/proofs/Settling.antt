@@ -1,5 +1,5 @@
 -- A pass whose last call rests at a question takes a step: the machine is handed the answer first.
-use Rattle.history.proofs.Names.{true, false, ◌≡◌, inl, inr, ⊎_elim, ℕ, ◌+◌, ◌<◌, Option, Some, None, IfSome, List}
+use Rattle.history.proofs.Names.{true, false, ◌≡◌, inl, inr, ⊎_elim, ℕ, ◌+◌, ◌<◌, ◌≤◌, Option, Some, None, IfSome, List}
 use Rattle.history.proofs.Names.{[], ◌∷◌, ◌++◌, slice_index, slice_set, set-set, refl, sym, ap, subst, ◌∙◌, arith}
 use Rattle.history.proofs.Names.{sum_by, sum_by-append, Allows, set_here, written, Ask, After, Want, Answer}
 use Rattle.history.proofs.Names.{Event, Finished, Start, Flight, Kind, Decide, Coding, want_of, goes_of, is_question}
@@ -24,13 +24,16 @@ use Rattle.history.proofs.Passes.{set_same}
 use Rattle.history.proofs.Steps.{view_after, settle}
 use Rattle.history.proofs.CallsIn.{AsksFor, no_rest, same_rest, none_after}
 
+no_more : (n : ℕ) → n ≤ n + 1
+no_more n = omega arith
+
 -- each step of the call keeps the rule, where it stands so
 abbrev pub KeepsWhere : {T : Type 0} → Coding T → Kind → (ℕ → ℕ) → {C M E : Type 0} → (C → Type 0)
     → (View T → View T → C → M → Type 0) → (View T → E → M → View T → Type 0)
     → (C → Want (Unit {0})) → (C → ℕ → After C E) → (C → M → ℕ → M) → Type 0
 KeepsWhere {T} code kind size_of {C} {M} {E} may at ends want after kept =
     (base v : View T) (c : C) (m : M) (key words slots id : ℕ) → may c → words ≡ size_of key + 1 → v.capacity ≡ key → at base v c m
-    → Owes (IsMachine code kind key) words slots id (Told (λ (z : View T). z.capacity) at ends after kept c m) (want c) (v, [])
+    → Owes (λ (z : View T). z.asked) (IsMachine code kind key) words slots id (Told (λ (z : View T). z.capacity) at ends after kept c m) (want c) (v, [])
 
 module _ {T : Type 0} (code : Coding T) (kind : Kind) (decides : MayDecide kind) (effects : World T → ℕ → Flight T → ℕ → List (Event T))
     (size_of : ℕ → ℕ) (laws : (capacity : ℕ) → KeptLaws code kind capacity (size_of capacity) effects)
@@ -51,7 +54,15 @@ module _ {T : Type 0} (code : Coding T) (kind : Kind) (decides : MayDecide kind)
     none = grind arith
 
     between : Between code kind key r.owner s id h.party [] r.trace
-    between = grind (arith, at_first, mine, here, sum_by, some-injective, none)
+    between =
+        at_first code kind key s id h.party r [] mine (here.self h.some)
+        (λ q of_id ne. here.idle q of_id
+        (λ e. (let both : ◌≡◌ {A = Option ℕ} (Some h.party) (Some q) = sym h.mine ∙ e in let same : h.party ≡ q = cc in ne (sym same))))
+        (λ x there f. (
+        let same : sum_by f x.made ≡ sum_by f v.made = ap (λ (z : View T). sum_by f z.made) (some-injective x v (sym there ∙ at)) in
+        let all = here.made f in
+        let no : sum_by f here.late ≡ 0 = ap (sum_by f) none in
+        omega arith))
 
     there : call_in r.trace.world h.party ≡ Some (h.start, h.flight)
     there = here.going h.party mine h.mine ∙ h.going
@@ -73,7 +84,7 @@ module _ {T : Type 0} (code : Coding T) (kind : Kind) (decides : MayDecide kind)
 
     -- what the seat would know then
     abbrev pub view_settled : View T
-    view_settled = view_after code kind key id h.party v gained_then u_then
+    view_settled = view_after code kind key id h.party v.asked v gained_then u_then
 
     abbrev pub table_settled : State (Unit {0}) (View T)
     table_settled = record { words = s.words; homes = s.homes; views = slice_set s.views id view_settled }
@@ -84,7 +95,7 @@ module _ {T : Type 0} (code : Coding T) (kind : Kind) (decides : MayDecide kind)
         (Done h.answer) false there free comes
 
     pub machine_settled : IsMachine code kind key table_settled
-    machine_settled = settle code kind key id h.party r.owner s.words s v gained_then u_then at h.some between_then
+    machine_settled = settle code kind key id h.party r.owner v.asked s.words s v gained_then u_then at h.some between_then
 
     -- an answer is no look
     state_stays : view_settled.state ≡ v.state
@@ -141,6 +152,7 @@ module _ {T : Type 0} (code : Coding T) (kind : Kind) (decides : MayDecide kind)
           idle =
               decided_at code kind key (size_of key) effects (laws key) r.owner s id h.party [] r.trace between h.start
               h.flight (Done h.answer) false there free comes;
+          asked = no_more v.asked;
           fresh = refl;
           others = here.seen.rest;
           seen = ap (λ zs. r.trace.events ++ zs) told_end ∙ ap (λ zs. zs ++ end) here.seen.is;
@@ -193,7 +205,7 @@ module _ {T : Type 0} (code : Coding T) (kind : Kind) (decides : MayDecide kind)
     onward x0 x1 x2 x3 x4 x5 x6 = grind arith
 
     begun_keeps : (base₀ v : View T) (c : C) (m : M) (key words slots id : ℕ) → Stage base₀ v c m → (w : Want (Unit {0}))
-        → Owes (IsMachine code kind key) words slots id (ToldStage c m) w (v, []) → Owes (IsMachine code kind key) words slots id (ToldRested c m) w (v, [])
+        → Owes (λ (z : View T). z.asked) (IsMachine code kind key) words slots id (ToldStage c m) w (v, []) → Owes (λ (z : View T). z.asked) (IsMachine code kind key) words slots id (ToldRested c m) w (v, [])
     begun_keeps x0 x1 x2 x3 x4 x5 x6 x7 x8 x9 x10 = grind arith
 
     -- who has still to begin
@@ -224,15 +236,15 @@ module _ {T : Type 0} (code : Coding T) (kind : Kind) (decides : MayDecide kind)
               (told.1 (view_settled s v key id r at known h) (first_then s r at))
 
       owed : (s : State (Unit {0}) (View T)) (r : IsMachine code kind key s) (at : get_elem? s.views id ≡ some v)
-          → OwesAsk (IsMachine code kind key) words slots id (ToldStage c m) ask.word ask.op (view_settled s v key id r at known h, [])
+          → OwesAsk (λ (z : View T). z.asked) (IsMachine code kind key) words slots id (ToldStage c m) ask.word ask.op (view_settled s v key id r at known h, [])
       owed s r at =
-          subst (λ w. Owes (IsMachine code kind key) words slots id (ToldStage c m) w (view_settled s v key id r at known h, [])) word.2
+          subst (λ w. Owes (λ (z : View T). z.asked) (IsMachine code kind key) words slots id (ToldStage c m) w (view_settled s v key id r at known h, [])) word.2
           (keeps (view_settled s v key id r at known h) (view_settled s v key id r at known h) c m key words slots id ok wide known (first_then s r at))
 
       below : ask.word < words
       below = (let low = word.1 in omega arith)
 
-      first_keeps : OwesAsk (IsMachine code kind key) words slots id (ToldRested c m) ask.word ask.op (v, [])
+      first_keeps : OwesAsk (λ (z : View T). z.asked) (IsMachine code kind key) words slots id (ToldRested c m) ask.word ask.op (v, [])
       first_keeps = (
         below,
         λ s r long at small. (
@@ -249,17 +261,18 @@ module _ {T : Type 0} (code : Coding T) (kind : Kind) (decides : MayDecide kind)
                     views = vs;
                   }))
                   (set-set s.views id vh x.0) x.3,
-              (told_first s r at _ x.0 x.4.0, x.4.1),
+              (told_first s r at _ x.0 x.4.0, x.4.1, x.4.2),
             )),
       )
 
     -- each step of a call that comes after one that rests keeps the rule
     pub keeps_waiting_where : KeepsWhere code kind size_of may Rested RestedOver want after kept
-    keeps_waiting_where base₀ v c m key words slots id ok wide known (inl x) = grind (arith, begun_keeps)
+    keeps_waiting_where base₀ v c m key words slots id ok wide known (inl x) =
+        begun_keeps x.from v c m key words slots id x.stage (want c) (keeps x.from v c m key words slots id ok wide known x.stage)
     keeps_waiting_where base₀ v c m key words slots id ok wide known (inr waits) =
         let resting = subst (λ z. IsResting code z) (sym waits.is) waits.resting in
         let begins = subst (λ (z : View T). Begins z c m) (sym waits.is) waits.first in
-        subst (λ w. Owes (IsMachine code kind key) words slots id (ToldRested c m) w (v, []))
+        subst (λ w. Owes (λ (z : View T). z.asked) (IsMachine code kind key) words slots id (ToldRested c m) w (v, []))
         (sym (word v c m key words slots id wide known resting begins ok).2)
         (first_keeps v c m key words slots id wide known resting begins ok)
 
@@ -272,12 +285,12 @@ module _ {T : Type 0} (code : Coding T) (kind : Kind) (decides : MayDecide kind)
 
   module _ {C M E : Type 0} (want : C → Want (Unit {0})) (after : C → ℕ → After C E) (kept : C → M → ℕ → M)
       (Stage : View T → View T → C → M → Type 0) (Over : View T → E → M → View T → Type 0)
-      (keeps : KeepsRule (λ (z : View T). z.capacity) Stage Over (λ key. size_of key + 1) (λ key. key) (λ key. IsMachine code kind key) want after kept)
+      (keeps : KeepsRule (λ (z : View T). z.asked) (λ (z : View T). z.capacity) Stage Over (λ key. size_of key + 1) (λ key. key) (λ key. IsMachine code kind key) want after kept)
       (Begins : View T → C → M → Type 0) (asks : (v : View T) (c : C) (m : M) → Begins v c m → AsksFor (size_of v.capacity) (want c))
       (stays : (v w : View T) (c : C) (m : M) → Settles code kind v w → Begins v c m → Begins w c m)
       (first : (v : View T) (c : C) (m : M) → Begins v c m → v.going ≡ None → v.other ≡ [] → 0 < v.share.part → Stage v v c m)
       (apart : (base v : View T) (c : C) (m : M) → IsResting code v → Begins v c m → Stage base v c m → ⊥) where
-    pub keeps_waiting : KeepsRule (λ (z : View T). z.capacity) (AtWaiting code kind Begins Stage) (EndsSettled code kind Over) (λ key. size_of key + 1)
+    pub keeps_waiting : KeepsRule (λ (z : View T). z.asked) (λ (z : View T). z.capacity) (AtWaiting code kind Begins Stage) (EndsSettled code kind Over) (λ key. size_of key + 1)
         (λ key. key) (λ key. IsMachine code kind key) want after kept
     keeps_waiting base₀ v c m key words slots id wide known at₀ =
         keeps_waiting_where want after kept Stage Over (λ c. Unit {0})
@@ -287,11 +300,11 @@ module _ {T : Type 0} (code : Coding T) (kind : Kind) (decides : MayDecide kind)
   -- of one whose begin hangs on the capacity
   module _ {C M E : Type 0} (want : C → Want (Unit {0})) (after : C → ℕ → After C E) (kept : C → M → ℕ → M)
       (Stage : View T → View T → C → M → Type 0) (Over : View T → E → M → View T → Type 0)
-      (keeps : KeepsRule (λ (z : View T). z.capacity) Stage Over (λ key. size_of key + 1) (λ key. key) (λ key. IsMachine code kind key) want after kept)
+      (keeps : KeepsRule (λ (z : View T). z.asked) (λ (z : View T). z.capacity) Stage Over (λ key. size_of key + 1) (λ key. key) (λ key. IsMachine code kind key) want after kept)
       (Begins : ℕ → C → M → Type 0) (asks : (capacity : ℕ) (c : C) (m : M) → Begins capacity c m → AsksFor (size_of capacity) (want c))
       (first : (v : View T) (c : C) (m : M) → Begins v.capacity c m → v.going ≡ None → v.other ≡ [] → 0 < v.share.part → Stage v v c m)
       (apart : (base v : View T) (c : C) (m : M) → IsResting code v → Begins v.capacity c m → Stage base v c m → ⊥) where
-    pub keeps_rested : KeepsRule (λ (z : View T). z.capacity) (AtRested code kind Begins Stage Over)
+    pub keeps_rested : KeepsRule (λ (z : View T). z.asked) (λ (z : View T). z.capacity) (AtRested code kind Begins Stage Over)
         (EndsRested code kind Begins Stage Over) (λ key. size_of key + 1)
         (λ key. key) (λ key. IsMachine code kind key) want after kept
     keeps_rested =

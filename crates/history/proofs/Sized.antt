@@ -30,9 +30,9 @@ module _ {T C M E : Type 0} (code : Coding T) (kind : Kind) (size_of : ℕ → �
   told_sized x0 x1 x2 x3 x4 x5 x6 x7 = grind (arith, one_size, sized_next)
 
   pub keeps_sized : ((n : ℕ)
-      → KeepsRule (λ (z : View T). z.capacity) (At code kind (call n)) (Ends code kind (call n))
+      → KeepsRule (λ (z : View T). z.asked) (λ (z : View T). z.capacity) (At code kind (call n)) (Ends code kind (call n))
       (λ key. size_of key + 1) (λ key. key) (λ key. IsMachine code kind key) want after kept)
-      → KeepsRule (λ (z : View T). z.capacity) AtSized EndsSized (λ key. size_of key + 1) (λ key. key)
+      → KeepsRule (λ (z : View T). z.asked) (λ (z : View T). z.capacity) AtSized EndsSized (λ key. size_of key + 1) (λ key. key)
       (λ key. IsMachine code kind key) want after kept
   keeps_sized keeps_for base v c m key words slots id wide known at₀ = go (want c) (keeps_for base.capacity base v c m key words slots id wide known at₀)
     where
@@ -40,10 +40,10 @@ module _ {T C M E : Type 0} (code : Coding T) (kind : Kind) (size_of : ℕ → �
       same = one_size base.capacity base v c m at₀
 
       go : (w : Want (Unit {0}))
-          → Owes (IsMachine code kind key) words slots id
+          → Owes (λ (z : View T). z.asked) (IsMachine code kind key) words slots id
           (Told (λ (z : View T). z.capacity) (At code kind (call base.capacity)) (Ends code kind (call base.capacity)) after kept c m)
           w (v, [])
-          → Owes (IsMachine code kind key) words slots id (Told (λ (z : View T). z.capacity) AtSized EndsSized after kept c m) w (v, [])
-      go (wants.Ask a) h = (h.0, λ s r long at small. (let x = h.1 s r long at small in (x.0, x.1, x.2, x.3, (told_sized base c m v _ x.0 same x.4.0, x.4.1))))
+          → Owes (λ (z : View T). z.asked) (IsMachine code kind key) words slots id (Told (λ (z : View T). z.capacity) AtSized EndsSized after kept c m) w (v, [])
+      go (wants.Ask a) h = (h.0, λ s r long at small. (let x = h.1 s r long at small in (x.0, x.1, x.2, x.3, (told_sized base c m v _ x.0 same x.4.0, x.4.1, x.4.2))))
       go (wants.Question q) h = told_sized base c m v 0 v same h
       go wants.Nothing h = told_sized base c m v 0 v same h

@@ -26,12 +26,12 @@ use Rattle.history.specs.ContainerFind.{HasCopied}
 use Rattle.history.specs.ContainerLooks.{look_start, state_of_look, HasState, LookedAt, ShowsCopied, looking, BeginsWith, StateLooks, StateLooked}
 use Rattle.history.specs.History.{IsMachine}
 use Rattle.history.specs.Known.{events_by}
-use Rattle.history.specs.Stages.{Calling, At}
+use Rattle.history.specs.Stages.{Calling, At, StepsOnly}
 use Rattle.history.proofs.Calls.{stands, no_flight}
 use Rattle.history.proofs.CallsIn.{AsksFor, goes}
 use Rattle.history.proofs.CallTurns.{then_trace, then_gained}
 use Rattle.history.proofs.CallReady.{same_capacity, some_share, still_stands, Ready, ready}
-use Rattle.history.proofs.CallTurns.{next_between, comes_now, kept_now, view_then, goes_then, ends_then}
+use Rattle.history.proofs.CallTurns.{next_between, comes_now, kept_now, view_then, asked_then, goes_then, ends_then}
 use Rattle.history.proofs.ContainerLooks.{look_words, look_found, LookGoes, looks_so, look_goes_so, look_keeps_so, look_writes_so}
 use Rattle.history.proofs.Containers.{container_effects, effects_of_party, container_words, containers_owe, kept_there}
 use Rattle.history.proofs.Containers.{container_first, container_starts, is_open_container}
@@ -157,6 +157,11 @@ module _ {T : Type 0} (code : Coding T) (law : IsCoding code) (which : LookOf) (
         → (es ++ late) ++ events_by y.p (container_effects y.u.world y.p its_flight n) ≡ es ++ look_effects y.p (value_read m) c.stage n
     its_own x0 x1 x2 = grind (arith, append-nil, by_mine, effects_of_party, look_writes_so)
 
+    steps_so : (base : View T) → At code kinds.Container call base v c m → StepsOnly base view_now
+    steps_so =
+        asked_then code kinds.Container container_effects (container_words code) (containers_owe code) call s v key id c m at known y (Some ask) low
+        wants_it tt refl
+
     known_then : (base : View T) → Stage base v c m → (a : After (Looking T) Bool) → after c n ≡ a
         → NextKnown (λ (z : View T). z.capacity) Stage Over base a now view_now
     known_then base stage (GoOn d) e =
@@ -169,7 +174,8 @@ module _ {T : Type 0} (code : Coding T) (law : IsCoding code) (which : LookOf) (
                 base there d now (comes ∙ ap (λ a. goes call a now) e) (goes_so base.capacity y.p c m n [] (GoOn d) standing (none_looked y.p c.stage) e).0
                 (λ k. refl)
                 (λ es late h waits met new. subst (λ zs. LookedAt y.p d.stage zs) (sym (its_own es late waits))
-                (goes_so base.capacity y.p c m n es (GoOn d) standing (h new) e).1),
+                (goes_so base.capacity y.p c m n es (GoOn d) standing (h new) e).1)
+                (steps_so base there),
             state_then ∙ ap (λ a. Some (settled_if a (state_of_look cells seen now))) e,
           ),
         )
@@ -181,6 +187,7 @@ module _ {T : Type 0} (code : Coding T) (law : IsCoding code) (which : LookOf) (
         base there changed now (comes ∙ ap (λ a. goes call a now) e)
         (λ es late h waits met new. subst (λ zs. call.wrote_all base.capacity y.p None changed now zs) (sym (its_own es late waits))
         (λ none. goes_so base.capacity y.p c m n es (Done changed) standing (h new) e) refl)
+        (inl (steps_so base there))
         in (ends, state_then ∙ ap (λ a. Some (settled_if a (state_of_look cells seen now))) e, shows_copied ends.idle)
 
     told : Told (λ (z : View T). z.capacity) Stage Over after kept c m v (answered ask.op n) view_now
@@ -188,7 +195,7 @@ module _ {T : Type 0} (code : Coding T) (law : IsCoding code) (which : LookOf) (
 
   -- ---- each step keeps the rule
 
-  pub state_looks_keep : KeepsRule (λ (z : View T). z.capacity) Stage Over (λ key. container_words code key + 1) (λ key. key)
+  pub state_looks_keep : KeepsRule (λ (z : View T). z.asked) (λ (z : View T). z.capacity) Stage Over (λ key. container_words code key + 1) (λ key. key)
       (λ key. IsMachine code kinds.Container key) want after kept
   state_looks_keep base₀ v c m key words slots id wide known at₀ =
       let there₀ = plain base₀ v c m at₀ in
@@ -200,7 +207,7 @@ module _ {T : Type 0} (code : Coding T) (law : IsCoding code) (which : LookOf) (
       let ask = asked.0 in
       let low = asked.1 in
       let below : ask.word < words = omega arith in
-      subst (λ w. Owes (IsMachine code kinds.Container key) words slots id
+      subst (λ w. Owes (λ (z : View T). z.asked) (IsMachine code kinds.Container key) words slots id
       (Told (λ (z : View T). z.capacity) Stage Over after kept c m) w (v, []))
       (sym asked.2) (
         below,
@@ -210,7 +217,7 @@ module _ {T : Type 0} (code : Coding T) (law : IsCoding code) (which : LookOf) (
               view_now s v key id c m at known y ask low asked.2 has,
               table.keeps,
               tt,
-              settle code kinds.Container key id y.p y.owner (slice_set s.words ask.word (written ask.op (slice_index s.words ask.word))) s v
+              settle code kinds.Container key id y.p y.owner (v.asked + 1) (slice_set s.words ask.word (written ask.op (slice_index s.words ask.word))) s v
                   (then_gained code kinds.Container container_effects (container_words code) (containers_owe code) call s v key id c m at known y (Some ask) low
                   asked.2 tt)
                   (after_turn y.u (Next y.p)) at
@@ -218,7 +225,7 @@ module _ {T : Type 0} (code : Coding T) (law : IsCoding code) (which : LookOf) (
                   (next_between code kinds.Container container_effects (container_words code) (containers_owe code)
                   call s v key id c m at known y (Some ask) low
                   asked.2 tt),
-              (told s v key id c m at known y ask low asked.2 has, refl),
+              (told s v key id c m at known y ask low asked.2 has, refl, refl),
             )),
       )
     where

@@ -4,7 +4,7 @@ use Rattle.history.proofs.Names.{ap, subst, ◌∙◌, append_assoc, append-nil,
 use Rattle.history.proofs.Names.{Event, Kind, state_in, Trace}
 use Rattle.history.specs.declared.view.View.{View}
 use Rattle.history.specs.Known.{events_by, by_party, owned}
-use Rattle.history.specs.History.{IsBeginning, Fits, HasSeenOf, call_in, IsLate}
+use Rattle.history.specs.History.{IsBeginning, Fits, HasSeenOf, call_in, steps_in, IsLate}
 use Rattle.history.proofs.Known.{by_more, by_same, by_twice, by_apart, owned_none, owned_one, late_more}
 
 module _ {T : Type 0} where
@@ -19,7 +19,8 @@ module _ {T : Type 0} where
       (more : w.events ≡ u.events ++ es)
       (beside : (q : ℕ) → owner q ≡ j → IsLate kind (call_in u.world q) (events_by q es))
       (apart : (q : ℕ) → owner q ≡ j → call_in w.world q ≡ call_in u.world q)
-      (held : (q : ℕ) → owner q ≡ j → state_in w.world.kept q ≡ state_in u.world.kept q) where
+      (held : (q : ℕ) → owner q ≡ j → state_in w.world.kept q ≡ state_in u.world.kept q)
+      (steps : (q : ℕ) → owner q ≡ j → steps_in w.world q ≡ steps_in u.world q) where
     -- a party with no call under way has nothing written for it
     quiet : (q : ℕ) → owner q ≡ j → call_in u.world q ≡ None → events_by q es ≡ []
     quiet x0 x1 x2 = grind arith
@@ -53,6 +54,7 @@ module _ {T : Type 0} where
           going = λ q of_j is. apart q of_j ∙ f.going q of_j is;
           idle = λ q of_j ne. apart q of_j ∙ f.idle q of_j ne;
           stated = λ q of_j is. held q of_j ∙ f.stated q of_j is;
+          counted = λ q of_j is call under. steps q of_j ∙ f.counted q of_j is call under;
           party = f.party;
           late = f.late ++ by_party v.party es;
           waits = subst (λ k. IsLate k v.going (f.late ++ by_party v.party es)) (sym same') (waits_on v.party refl);

@@ -11,11 +11,12 @@ use mathlib.Core.Option.{some}
 use lib.ListN.{get_elem?}
 use Rattle.atomic_table.specs.Table.{State}
 use Rattle.steps.specs.declared.ask.Want.TheVariants as wants
+use Rattle.model.specs.Turns.{step_count}
 use Rattle.model.proofs.Turns.{writes_one_word}
 use Rattle.laws_queues.proofs.Queues.Sound.{IsFreshTurn}
 use Rattle.history.specs.declared.view.View.{View}
 use Rattle.history.specs.Known.{events_by, owned, of_none}
-use Rattle.history.specs.History.{IsRun, IsMachine, Fits, call_in, IsLate, refusal_as}
+use Rattle.history.specs.History.{IsRun, IsMachine, Fits, call_in, started, steps_in, IsLate, refusal_as}
 use Rattle.history.specs.Stages.{rows_as}
 use Rattle.history.proofs.Known.{by_more, by_same, by_other, by_mine, owned_one, late_none, none_late, AreOf, sum_first}
 use Rattle.history.proofs.AllSeen.{owned_whole}
@@ -23,6 +24,8 @@ use Rattle.history.proofs.Reached.{next_as, reached_as_more, fresh_as_more}
 use Rattle.history.proofs.StillFits.{still_fits}
 use Rattle.history.proofs.Calls.{IsStateless, goes_alike, look_begin, look_next, stands, flight_is}
 use Rattle.history.proofs.Calls.{next_other, begin_other, decision_other, begin_own, next_kept}
+use Rattle.history.proofs.Calls.{steps_next_other, steps_begin_other, steps_decision_other}
+use Rattle.history.proofs.Calls.{steps_begin_own, steps_next_own, steps_decision_own, started_next_own}
 use Rattle.history.proofs.Calls.{call_then, moved, heard_going, heard_events, get_left, set_left, Moved}
 
 -- what is wanted, where it is a word or nothing
@@ -172,9 +175,10 @@ module _ {T : Type 0} where
           → ((q : ℕ) → q ≢ p → IsLate kind (call_in u.world q) (events_by q (events_of u.world turn)))
           → ((j : ℕ) → j ≢ p → call_in (after_turn u turn).world j ≡ call_in u.world j)
           → ((q : ℕ) → q ≢ p → is_look_of u.world q turn ≡ false)
+          → ((q : ℕ) → q ≢ p → steps_in (after_turn u turn).world q ≡ steps_in u.world q)
           → Between owner (record { words = words'; homes = s.homes; views = s.views }) id p
           (gained ++ events_by p (events_of u.world turn)) (after_turn u turn)
-      turned words' turn free fresh_turn same someone beside apart no_look =
+      turned words' turn free fresh_turn same someone beside apart no_look still =
           let es = events_of u.world turn in
           let run = run_more u turn free fresh_turn b.run in
           record {
@@ -183,7 +187,8 @@ module _ {T : Type 0} where
             others =
                 λ j v ne at. still_fits kind owner u (after_turn u turn) es j v (b.others j v ne at) b.run.of_kind
                 run.of_kind refl (λ q of_j. beside q (not_mine j q ne of_j)) (λ q of_j. apart q (not_mine j q ne of_j))
-                (λ q of_j. laws.states u turn b.run run free q (no_look q (not_mine j q ne of_j)));
+                (λ q of_j. laws.states u turn b.run run free q (no_look q (not_mine j q ne of_j)))
+                (λ q of_j. still q (not_mine j q ne of_j));
             mine = b.mine;
             self = b.self;
             idle = λ q of_id ne. apart q ne ∙ b.idle q of_id ne;
@@ -226,6 +231,11 @@ module _ {T : Type 0} where
             (λ q ne. subst (λ zs. IsLate kind (call_in u.world q) zs) (sym (by_other p q (Begun p start ∷ []) ne (refl, tt)))
             (none_late kind (call_in u.world q))) (λ j ne. begin_other u.world p j start ne (first_of u.world.kind u.world.capacity start u.world.kept))
             (λ q ne. look_begin u.world p q start ne)
+            (λ q ne. steps_begin_other u.world p q start ne (first_of u.world.kind u.world.capacity start u.world.kept))
+
+        -- with no step yet
+        pub begun_steps : steps_in (after_turn u (Begin p start)).world p ≡ 0
+        begun_steps = steps_begin_own u.world p start flight (first_of u.world.kind u.world.capacity start u.world.kept) first_here
 
         pub begun : Between owner s id p (gained ++ Begun p start ∷ []) (after_turn u (Begin p start))
         begun = grind (arith, after_turn, by_mine, begins)
@@ -326,6 +336,16 @@ module _ {T : Type 0} where
             (gained ++ events_by p (events_of u.world (Next p))) (after_turn u (Next p))
         gone = turned (words_after s.words ask) (Next p) (next_as kind u.world p goes_free) fresh_now words_then someone beside
             (λ j ne. next_other u.world p j ne (party_of p u.world.latest)) (λ q ne. look_next u.world p q ne)
+            (λ q ne. steps_next_other u.world p q ne (party_of p u.world.latest))
+
+        pub gone_named : started (party_of p (after_turn u (Next p)).world.latest) ≡ Some start
+        gone_named = started_next_own u.world p start flight (stands u.world p start flight at)
+
+        -- by one step, where it asks for a word
+        pub gone_steps : steps_in (after_turn u (Next p)).world p ≡ steps_in u.world p + step_count ask
+        gone_steps =
+            steps_next_own u.world p start flight (stands u.world p start flight at)
+            ∙ ap (λ o. steps_in u.world p + step_count o) asked_of
 
       -- ---- it is handed an answer to its question, and goes on without a word, or ends
 
@@ -360,6 +380,10 @@ module _ {T : Type 0} where
         decided =
             turned s.words (Decide p said) free tt (b.words ∙ ap (λ ws. ws ++ 0 ∷ []) (sym (writes_one_word u.world (Decide p said))))
             heard_someone heard_beside (λ j ne. decision_other u.world p j said ne (party_of p u.world.latest)) (λ q ne. refl)
+            (λ q ne. steps_decision_other u.world p q said ne (party_of p u.world.latest))
+
+        pub decided_steps : steps_in (after_turn u (Decide p said)).world p ≡ steps_in u.world p + 0
+        decided_steps = steps_decision_own u.world p start flight said (stands u.world p start flight at)
 
         pub decided_at : call_in (after_turn u (Decide p said)).world p ≡ call_then start next
         decided_at =

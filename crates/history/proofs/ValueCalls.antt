@@ -43,7 +43,7 @@ module _ {T : Type 0} (code : Coding T) where
   abbrev Keeps : {C M E : Type 0} → Calling T C M E → (C → Rattle.steps.specs.declared.ask.Want.Want (Unit {0}))
       → (C → ℕ → After C E) → (C → M → ℕ → M) → Type 0
   Keeps call =
-      KeepsRule (λ (z : View T). z.capacity) (At code kinds.Atomic call) (Ends code kinds.Atomic call)
+      KeepsRule (λ (z : View T). z.asked) (λ (z : View T). z.capacity) (At code kinds.Atomic call) (Ends code kinds.Atomic call)
       (λ key. 2 + code.size * 2 + 1) (λ key. key) (λ key. IsMachine code kinds.Atomic key)
 
   -- a word of a cell is one of the value's words
@@ -143,7 +143,7 @@ module _ {T : Type 0} (code : Coding T) (law : IsCoding code) (value : T) where
       (λ c n. store_after code.size c n) (λ c m n. m) storing
   store_is_call = grind (arith, store_same_after, store_hears, store_stays, store_finds_word, store_finds, store_leaves, store_quiet, store_true, store_acts)
 
-  pub store_keeps : KeepsRule (λ (z : View T). z.capacity) (At code kinds.Atomic storing)
+  pub store_keeps : KeepsRule (λ (z : View T). z.asked) (λ (z : View T). z.capacity) (At code kinds.Atomic storing)
       (Over code kinds.Atomic storing) (λ key. 2 + code.size * 2 + 1) (λ key. key)
       (λ key. IsMachine code kinds.Atomic key) (λ c. store_want code.words_of c value)
       (λ c n. store_after code.size c n) (λ c m n. m)
@@ -247,7 +247,7 @@ module _ {T R : Type 0} (code : Coding T) (law : IsCoding code) (words_in : R �
   load_is_call : IsCallOf code (value_effects code) (size_of code) (λ (c : Loading T R). load_want c) (λ c n. load_after code.size c n) keeps_word loading
   load_is_call = grind (arith, load_same_after, load_hears, load_stays, load_finds_word, load_quiet, load_acts)
 
-  pub load_keeps_rule : KeepsRule (λ (z : View T). z.capacity) (At code kinds.Atomic loading)
+  pub load_keeps_rule : KeepsRule (λ (z : View T). z.asked) (λ (z : View T). z.capacity) (At code kinds.Atomic loading)
       (Ends code kinds.Atomic loading) (λ key. 2 + code.size * 2 + 1) (λ key. key)
       (λ key. IsMachine code kinds.Atomic key) (λ (c : Loading T R). load_want c) (λ c n. load_after code.size c n)
       keeps_word

@@ -91,7 +91,7 @@ module _ {T : Type 0} (code : Coding T) (law : IsCoding code) (v : T) where
       (λ c. push_want code.words_of c v) (λ c n. push_after code.size c n) (λ c m n. m) pushing
   push_is_call = grind (arith, push_same_after, push_hears, push_stays, push_finds_word, push_finds, push_leaves, queue_effects, effects_on, quiet)
 
-  pub value_push_keeps : KeepsRule (λ (z : View T). z.capacity) (At code kinds.Queue pushing)
+  pub value_push_keeps : KeepsRule (λ (z : View T). z.asked) (λ (z : View T). z.capacity) (At code kinds.Queue pushing)
       (Over code kinds.Queue pushing) (λ key. 4 + code.size * key + 1) (λ key. key)
       (λ key. IsMachine code kinds.Queue key) (λ c. push_want code.words_of c v) (λ c n. push_after code.size c n)
       (λ c m n. m)
@@ -227,7 +227,7 @@ module _ {T R : Type 0} (code : Coding T) (law : IsCoding code) (words_in : R �
             ∙ pop_loud p n c m b c.stage e;
       }
 
-  pub value_pop_keeps : KeepsRule (λ (z : View T). z.capacity) (At code kinds.Queue popping)
+  pub value_pop_keeps : KeepsRule (λ (z : View T). z.asked) (λ (z : View T). z.capacity) (At code kinds.Queue popping)
       (Ends code kinds.Queue popping) (λ key. 4 + code.size * key + 1) (λ key. key)
       (λ key. IsMachine code kinds.Queue key) (λ (c : Popping T R). pop_want c) (λ c n. pop_after code.size c n)
       keeps_word

@@ -28,7 +28,7 @@ module _ {T : Type 0} (code : Coding T) (law : IsCoding code) where
 
   abbrev Keeps : {C M E : Type 0} → Calling T C M E → (C → Want (Unit {0})) → (C → ℕ → After C E) → (C → M → ℕ → M) → Type 0
   Keeps call =
-      KeepsRule (λ (z : View T). z.capacity) (At code kinds.Queue call) (Ends code kinds.Queue call)
+      KeepsRule (λ (z : View T). z.asked) (λ (z : View T). z.capacity) (At code kinds.Queue call) (Ends code kinds.Queue call)
       (λ key. 4 + code.size * key + 1) (λ key. key) (λ key. IsMachine code kinds.Queue key)
 
   module _ (role : Role) where
@@ -63,7 +63,7 @@ module _ {T : Type 0} (code : Coding T) (law : IsCoding code) where
         (λ c n. refl)
 
     -- for any capacity
-    pub value_lens_keep : KeepsRule (λ (z : View T). z.capacity)
+    pub value_lens_keep : KeepsRule (λ (z : View T). z.asked) (λ (z : View T). z.capacity)
         (λ (base : View T). At code kinds.Queue (counts_waiting which base.capacity) base)
         (λ (base : View T). Ends code kinds.Queue (counts_waiting which base.capacity) base)
         (λ key. 4 + code.size * key + 1) (λ key. key) (λ key. IsMachine code kinds.Queue key) len_want len_after

@@ -26,6 +26,7 @@ use Rattle.history.specs.Value.{takes_producer, gives_producer, HasProducer}
 use Rattle.history.proofs.Calls.{stands, IsStateless}
 use Rattle.history.proofs.Known.{AreOf}
 use Rattle.history.proofs.Ledger.{Moves, held_by_one, at_most}
+use Rattle.history.proofs.Paid.{Pays, progress_kept, pays_run}
 use Rattle.history.proofs.Turns.{CallGoesOn, KindLaws}
 
 module _ {T : Type 0} where
@@ -103,6 +104,14 @@ module _ {T : Type 0} (code : Coding T) (capacity : ℕ) where
   -- what the model promises of each run
   pub value_goes_on : (t : Trace T) → IsOn t → IsValue t
   value_goes_on t r = (subst (λ P. IsKeptBy P t) (ap (promise_of {T = T}) r.of_kind) (kept_on t r.of_kind r.reached.coded r.fresh)).promised
+
+  -- and how many steps its calls take
+  pub value_pays : Pays code kinds.Atomic capacity
+  value_pays t r =
+      (let s = value_sound t r in
+      let F = family t.world.coding t.world.capacity in
+      pays_run code kinds.Atomic capacity t r F refl s
+      (progress_kept code kinds.Atomic capacity t r F refl s (kept_on t r.of_kind r.reached.coded r.fresh)))
 
 -- ---- which party holds the role that a pass holds: one of its own
 

@@ -48,6 +48,18 @@ module _ {T : Type 0} where
   abbrev pub call_in : World T → ℕ → Option (Start T × Flight T)
   call_in w p = call_of (party_of p w.latest)
 
+  -- of a party's latest call: how many steps it has taken, and as what it began
+  abbrev pub steps_of : Option (Party T) → ℕ
+  steps_of None = 0
+  steps_of (Some x) = x.steps
+
+  abbrev pub started : Option (Party T) → Option (Start T)
+  started None = None
+  started (Some x) = Some x.start
+
+  abbrev pub steps_in : World T → ℕ → ℕ
+  steps_in w p = steps_of (party_of p w.latest)
+
   -- ---- beginnings
 
   -- the events that were seen are a beginning of these
@@ -88,6 +100,9 @@ module _ {T : Type 0} where
     pub going : (p : ℕ) → owner p ≡ j → v.party ≡ Some p → call_in t.world p ≡ v.going
     pub idle : (p : ℕ) → owner p ≡ j → v.party ≢ Some p → call_in t.world p ≡ None
     pub stated : (p : ℕ) → owner p ≡ j → v.party ≡ Some p → state_in t.world.kept p ≡ v.state
+    -- the steps of its call under way are counted
+    pub counted : (p : ℕ) → owner p ≡ j → v.party ≡ Some p → (call : Start T × Flight T) → v.going ≡ Some call
+        → steps_in t.world p ≡ v.taken
     pub party : IfSome v.party (λ p. owner p ≡ j)
     pub late : List (Event T)
     pub waits : IsLate t.world.kind v.going late

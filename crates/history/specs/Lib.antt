@@ -7,6 +7,7 @@ pub mod Container
 pub mod History
 pub mod Rooms
 pub mod Stages
+pub mod Steps
 pub mod Queues
 pub mod Overflow
 pub mod Value

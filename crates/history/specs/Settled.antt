@@ -1,6 +1,6 @@
 -- A call that an answer may end takes no step behind it, so its party stands at the question until the pass takes a step
 -- again. The machine is handed the answer then, before anything else: the call has ended.
-use Rattle.std.specs.Prelude.{Bool, ◌≡◌, ◌⊎◌, ℕ, ◌<◌, true, false, None, Some, List, [], ◌∷◌, ◌++◌, sum_by}
+use Rattle.std.specs.Prelude.{Bool, ◌≡◌, ◌⊎◌, ℕ, ◌<◌, ◌≤◌, ◌+◌, true, false, None, Some, List, [], ◌∷◌, ◌++◌, sum_by}
 use Rattle.steps.specs.declared.ask.After.{After}
 use Rattle.steps.specs.declared.ask.After.TheVariants.{Done}
 use Rattle.model.specs.declared.event.Answer.{Answer}
@@ -41,6 +41,7 @@ module _ {T : Type 0} (code : Coding T) where
     pub share : new.share ≡ old.share
     pub state : new.state ≡ old.state
     pub idle : new.going ≡ None
+    pub asked : new.asked ≤ old.asked + 1
     pub fresh : new.other ≡ []
     pub others : List (Event T)
     pub seen : new.seen

@@ -1,5 +1,5 @@
 -- What a seat knows while a call is driven on a table that is a machine: the same for any call.
-use Rattle.std.specs.Prelude.{Bool, true, false, ◌≡◌, ◌<◌, ◌⊎◌, ℕ, Option, Some, None, IfSome, is_none, List, [], ◌∷◌, ◌++◌, sum_by, slice_index}
+use Rattle.std.specs.Prelude.{Bool, true, false, ◌≡◌, ◌<◌, ◌≤◌, ◌+◌, ◌⊎◌, ℕ, Option, Some, None, IfSome, is_none, List, [], ◌∷◌, ◌++◌, sum_by, slice_index}
 use Rattle.model.specs.declared.event.Answer.{Answer}
 use Rattle.model.specs.declared.event.Event.{Event}
 use Rattle.model.specs.declared.event.Event.TheVariants.{Begun, Finished}
@@ -19,13 +19,14 @@ use Rattle.steps.specs.declared.ask.Ask.{Ask}
 use Rattle.steps.specs.declared.ask.Want.TheVariants as wants
 use Rattle.model.specs.Families.{begin_rows, opening_of, first_of, want_of, is_question}
 use Rattle.model.specs.Families.Container.Looks.{is_looking}
+use Rattle.model.specs.Parties.{party_of}
 use Rattle.model.specs.Rows.{first_row}
 use Rattle.model.specs.Turns.{number_of}
 use Rattle.model.specs.World.{Trace}
 use Rattle.threaded.specs.Shares.{IsAll}
 use Rattle.history.specs.declared.view.View.{View}
 use Rattle.history.specs.Known.{events_by, owned}
-use Rattle.history.specs.History.{IsHistory, IsOfParties, IsRun, LastStep, HasStood}
+use Rattle.history.specs.History.{IsHistory, IsOfParties, IsRun, LastStep, HasStood, started, steps_in}
 use Rattle.history.specs.Views.{Looks}
 
 -- A call of the driver as a call of the model.
@@ -56,7 +57,16 @@ pub record LeavesState {T C M E : Type 0} (call : Calling T C M E) : Type 0 wher
   pub start : is_state_look call.start ≡ false
   pub flight : (c : C) (m : M) → is_looking (Some (call.flight c m)) ≡ false
 
+-- how many steps the call had taken: none where none was under way
+abbrev pub taken_by : {A : Type 0} → Option A → ℕ → ℕ
+taken_by None taken = 0
+taken_by (Some call) taken = taken
+
 module _ {T : Type 0} where
+  -- no operation was asked for between the two views but as a step of the call, which may have been under way in the first
+  abbrev pub StepsOnly : View T → View T → Type 0
+  StepsOnly base v = v.asked + taken_by base.going base.taken ≤ base.asked + v.taken
+
   -- a call that was not under way began
   abbrev pub opened : ℕ → Start T → Option (Start T × Flight T) → List (Event T)
   opened p start None = Begun p start ∷ []
@@ -117,6 +127,7 @@ module _ {T C M E : Type 0} (code : Coding T) (kind : Kind) (call : Calling T C 
     pub going : v.going ≡ Some (call.start, call.flight c m)
     pub state : LeavesState call → base.party ≡ Some party → v.state ≡ base.state
     pub past : (n : ℕ) → call.skips c n ≡ false
+    pub asked : StepsOnly base v
     pub alone : v.other ≡ []
     pub wrote : List (Event T)
     pub tells : call.wrote base.capacity party base.going c m wrote
@@ -133,6 +144,7 @@ module _ {T C M E : Type 0} (code : Coding T) (kind : Kind) (call : Calling T C 
   -- it was a look, at a word where it is no call
   pub record LeftOut (base : View T) (e : E) (m : M) (w : View T) : Type 0 where
     pub looked : Looks code kind base.capacity base w
+    pub asked : w.asked ≡ base.asked + 1
     pub word : ℕ
     pub from : C
     pub skipped : call.skips from word ≡ true
@@ -163,6 +175,11 @@ module _ {T C M E : Type 0} (code : Coding T) (kind : Kind) (call : Calling T C 
     pub history : IsHistory code kind base.capacity w.seen
     pub last : LastStep code kind base.capacity party
         (Finished party call.start (call.answer e m)) w.seen
+    -- the party's latest call in the machine is this one; each operation was one of its steps, or it needed none and was
+    -- one look
+    pub named : started (party_of party history.trace.world.latest) ≡ Some call.start
+    pub counted : steps_in history.trace.world party ≡ w.taken
+    pub took : StepsOnly base w ⊎ (w.asked ≤ base.asked + 1)
     -- who has the whole has made all of it
     pub all : IsAll base.share → (f : Event T → ℕ) → sum_by f w.seen ≡ sum_by f w.made
     pub parties : IsOfParties w

@@ -43,6 +43,8 @@ module _ {T : Type 0} (value : T) where
         made = opened (first_stores version);
         going = None;
         state = None;
+        asked = 0;
+        taken = 0;
       }
 
 -- the words of its cells: those of the value, but zeros in the first where it was stored once

@@ -1,5 +1,5 @@
 -- The views of passes as they are made, cut, put together and looked through.
-use Rattle.std.specs.Prelude.{◌≡◌, ◌⊎◌, ℕ, Option, Some, None, [], ◌++◌, ◌<◌, sum_by, length, slice_index}
+use Rattle.std.specs.Prelude.{◌≡◌, ◌⊎◌, ℕ, Option, Some, None, [], ◌++◌, ◌<◌, ◌+◌, sum_by, length, slice_index}
 use Rattle.model.specs.declared.event.Event.{Event}
 use Rattle.model.specs.declared.event.Start.{Start}
 use Rattle.model.specs.declared.families.Flight.{Flight}
@@ -25,8 +25,11 @@ module _ {T : Type 0} where
         made = [];
         going = None;
         state = None;
+        asked = 0;
+        taken = 0;
       }
 
+  -- the split is one operation of the pass that is split, and the join one of the pass that takes in
   abbrev pub right_view : View T → View T
   right_view v =
       record {
@@ -38,10 +41,12 @@ module _ {T : Type 0} where
         made = [];
         going = None;
         state = None;
+        asked = 0;
+        taken = 0;
       }
 
   abbrev pub left_view : View T → View T
-  left_view v = record v { share = half_of v.share }
+  left_view v = record v { share = half_of v.share; asked = v.asked + 1 }
 
   abbrev pub joined_view : View T → View T → View T
   joined_view v w =
@@ -54,6 +59,8 @@ module _ {T : Type 0} where
         made = v.made ++ w.made;
         going = v.going;
         state = v.state;
+        asked = v.asked + 1;
+        taken = v.taken;
       }
 
   abbrev pub spent_view : View T
@@ -67,6 +74,8 @@ module _ {T : Type 0} where
         made = [];
         going = None;
         state = None;
+        asked = 0;
+        taken = 0;
       }
 
   -- a look sees all of the history, of which both were beginnings
@@ -88,6 +97,10 @@ module _ {T : Type 0} where
     -- what it had not seen is of other parties
     pub apart : v.other ≡ [] → 0 < v.share.part → (p : ℕ) → parties.owner p ≡ parties.seat
         → events_by p mine.rest ≡ []
+
+  -- the same, where the look is one operation
+  abbrev pub LooksOnce : Coding T → Kind → ℕ → View T → View T → Type 0
+  LooksOnce code kind size v w = Looks code kind size v w × (w.asked ≡ v.asked + 1)
 
   -- a look at this word, and what the machine had there
   pub record LooksAt (code : Coding T) (kind : Kind) (size word : ℕ) (v : View T) (found : ℕ) (w : View T) : Type 0 where

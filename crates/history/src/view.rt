@@ -71,4 +71,8 @@ pub struct View<T> {
     pub going: Option<Going<T>>,
     /// The state of a container that its party has, as its latest look has left it.
     pub state: Option<Shown<T>>,
+    /// How many operations on words its seat has asked for.
+    pub asked: u64,
+    /// How many of them its latest call has taken, where that is under way: the steps of the call in the machine.
+    pub taken: u64,
 }

@@ -58,7 +58,7 @@ use Rattle.history_laws.proofs.ContainerCalls.{container_asks, container_stands,
 use Rattle.history_laws.proofs.OwnersBounded.{Bounded, locks_of, counter, changes_more}
 use Rattle.history_laws.proofs.OwnersTurns.{left, SameLocks, PaysBy, BeginPays, Facts, run_bounded, opening_bounded}
 
-some_same : {A : Type 0} (x y : A) → Some x ≡ Some y → x ≡ y
+pub some_same : {A : Type 0} (x y : A) → Some x ≡ Some y → x ≡ y
 some_same x y e = cc
 
 first_credit : (c index : ℕ) (mode : ReleaseMode) → remove_credit mode (first_remove c index).stage ≡ 0
@@ -155,13 +155,13 @@ module _ {T : Type 0} where
 
 module _ {T : Type 0} (code : Coding T) (c : ℕ) where
   -- the terms of any open run
-  abbrev terms : Terms
+  abbrev pub terms : Terms
   terms = record { by = Word; kept = false }
 
-  abbrev Sound : Trace T → Type 0
+  abbrev pub Sound : Trace T → Type 0
   Sound t = frame.Sound (family_by terms code c) t
 
-  sound_on : (t : Trace T) (turn : Turn T) → open_refusal t.world turn ≡ None → Sound t → Sound (after_turn t turn)
+  pub sound_on : (t : Trace T) (turn : Turn T) → open_refusal t.world turn ≡ None → Sound t → Sound (after_turn t turn)
   sound_on t turn e s = open_turn_sound false code c t s (λ keeps. absurd (cc)) turn e (λ keeps. absurd (cc))
 
   module _ (t : Trace T) (s : Sound t) where
@@ -209,7 +209,7 @@ module _ {T : Type 0} (code : Coding T) (c : ℕ) where
             ap is_locking there.span ∙ locks_in_span (set_acts_of q s.state.events) (acts_of q s.state.events) x.start flight there.at e
         go (Over others) d e = absurd (cc)
 
-    facts : Facts t
+    pub facts : Facts t
     facts =
         record {
           steps = λ some p x flight since found doing.
@@ -235,7 +235,7 @@ module _ {T : Type 0} (code : Coding T) (c : ℕ) where
 -- ---- any run
 
 module _ {T : Type 0} where
-  opens_so : (t : Trace T) → t.world.kind ≡ kinds.TheVariants.Container → IsReachedOpen t
+  pub opens_so : (t : Trace T) → t.world.kind ≡ kinds.TheVariants.Container → IsReachedOpen t
       → Sound t.world.coding t.world.capacity (opening t.world.coding t.world.kind t.world.capacity t.world.parties)
   opens_so t is r =
       let w = t.world in
@@ -243,7 +243,7 @@ module _ {T : Type 0} where
       subst (λ kind. Sound w.coding w.capacity (opening w.coding kind w.capacity w.parties))
       (sym is) (opening_sound shown (terms w.coding w.capacity) w.coding w.capacity w.parties r.coded may.0 may.1)
 
-  opens_bounded : (t : Trace T) → t.world.kind ≡ kinds.TheVariants.Container → Bounded (opening t.world.coding t.world.kind t.world.capacity t.world.parties)
+  pub opens_bounded : (t : Trace T) → t.world.kind ≡ kinds.TheVariants.Container → Bounded (opening t.world.coding t.world.kind t.world.capacity t.world.parties)
   opens_bounded t is =
       let w = t.world in
       subst (λ kind. Bounded (opening w.coding kind w.capacity w.parties)) (sym is)

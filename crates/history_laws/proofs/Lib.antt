@@ -15,3 +15,13 @@ pub mod OwnersTurns
 pub mod RobustWorn
 pub mod ContainerWorn
 pub mod OwnersLaws
+pub mod ContainerLifts
+pub mod ContainerRaised
+pub mod ContainerLiving
+pub mod ContainerFew
+pub mod ContainerPlain
+pub mod ContainerLaws
+pub mod GrantsClaims
+pub mod GrantsEvents
+pub mod GrantsLaws
+pub mod WorkedOwners

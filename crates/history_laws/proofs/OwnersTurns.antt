@@ -287,10 +287,10 @@ module _ {T : Type 0} where
 
   module _ (Sound : Trace T → Type 0) (facts : (t : Trace T) → Sound t → Facts t)
       (on : (t : Trace T) (turn : Turn T) → open_refusal t.world turn ≡ None → Sound t → Sound (after_turn t turn)) where
-    abbrev Holds : Trace T → Type 0
+    abbrev pub Holds : Trace T → Type 0
     Holds t = Sound t × (LocksApart t.events → Bounded t)
 
-    turn_holds : (t : Trace T) (turn : Turn T) → open_refusal t.world turn ≡ None → Holds t → Holds (after_turn t turn)
+    pub turn_holds : (t : Trace T) (turn : Turn T) → open_refusal t.world turn ≡ None → Holds t → Holds (after_turn t turn)
     turn_holds t turn e h =
         let next = on t turn e h.0 in
         let known = facts t h.0 in

@@ -3,3 +3,5 @@ pub mod Indices
 pub mod Bits
 pub mod Counts
 pub mod Owners
+pub mod Containers
+pub mod Grants

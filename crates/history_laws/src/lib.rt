@@ -3,7 +3,9 @@
 #![tactic(auto)]
 
 pub mod bits;
+pub mod containers;
 pub mod counts;
+pub mod grants;
 pub mod indices;
 pub mod owners;
 

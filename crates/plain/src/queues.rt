@@ -69,11 +69,11 @@ fn len<T: Words>(words: &mut Vec<u64>, capacity: u32) -> u64
 
 impl<T: Words> Queue<T> {
     /// Appends the value, and answers true; where there is no room, or no position, false.
-    pub fn push(&mut self, value: T) -> bool
+    pub fn push(&mut self, value: &T) -> bool
         ensures answer { result ≡ takes_more self.old }
-        ensures list { self.new ≡ pushed self.old value }
+        ensures list { self.new ≡ pushed self.old value.now }
     {
-        push(&mut self.words, self.capacity, &value)
+        push(&mut self.words, self.capacity, value)
     }
 
     /// Takes the oldest value, or None where there is none.

@@ -137,7 +137,8 @@ impl UniqueIndexSet {
         }
     }
 
-    /// Takes the index on top of the stack. `IsLocked` where the set is locked, `OutOfIndices` where the stack is empty.
+    /// Takes the index on top of the stack. `IsLocked` where the set is locked, `OutOfIndices` where the stack is
+    /// empty.
     pub fn acquire_raw_index(&mut self) -> Result<u32, UniqueIndexSetAcquireFailure>
         ensures answer { result ≡ acquired self.old }
         ensures stack { self.new ≡ after_acquire self.old }

@@ -9,15 +9,15 @@ use Rattle.steps.specs.declared.ask.Want.{Want}
 use Rattle.steps.specs.declared.ask.Want.TheVariants as wants
 use Rattle.threaded.specs.Driver.{OwesAsk, Owes, answered}
 
-module _ {V : Type 0} (holds : State (Unit {0}) V → Type 0) (words slots id : ℕ) where
+module _ {V : Type 0} (asked : V → ℕ) (holds : State (Unit {0}) V → Type 0) (words slots id : ℕ) where
   pub weaker : (told more : V → ℕ → V → Type 0) (word : ℕ) (op : Op) (me : Me (Unit {0}) V)
       → ((found : ℕ) → found < 18446744073709551616 → (w : V) → told me.0 (answered op found) w → more me.0 (answered op found) w)
-      → OwesAsk holds words slots id told word op me → OwesAsk holds words slots id more word op me
-  weaker told more word op me h owed = (owed.0, λ s r long at small. let x = owed.1 s r long at small in (x.0, x.1, x.2, x.3, (h _ small _ x.4.0, x.4.1)))
+      → OwesAsk asked holds words slots id told word op me → OwesAsk asked holds words slots id more word op me
+  weaker told more word op me h owed = (owed.0, λ s r long at small. let x = owed.1 s r long at small in (x.0, x.1, x.2, x.3, (h _ small _ x.4.0, x.4.1, x.4.2)))
 
   pub weaker_owes : (told more : V → ℕ → V → Type 0) (want : Want (Unit {0})) (me : Me (Unit {0}) V)
       → ((n : ℕ) (w : V) → told me.0 n w → more me.0 n w)
-      → Owes holds words slots id told want me → Owes holds words slots id more want me
+      → Owes asked holds words slots id told want me → Owes asked holds words slots id more want me
   weaker_owes told more (wants.Ask a) me h owed = weaker told more a.word a.op me (λ found small w. h _ w) owed
   weaker_owes told more (wants.Question q) me h owed = h 0 me.0 owed
   weaker_owes told more wants.Nothing me h owed = h 0 me.0 owed

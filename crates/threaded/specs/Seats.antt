@@ -2,6 +2,7 @@
 use Rattle.std.specs.Prelude.{◌≡◌, ℕ}
 use Rattle.std.specs.Arc.{arc_value}
 use Rattle.atomic_table.specs.Seated.{TableId}
+use Rattle.threaded.specs.declared.driver.seated.Home.{Home}
 use Rattle.threaded.specs.declared.driver.seated.Seated.{Seated}
 
 module _ {V K Q : Type 0} where
@@ -16,6 +17,10 @@ module _ {V K Q : Type 0} where
   -- which table it is at
   abbrev pub table_of : Seated V K Q → TableId
   table_of t = t.seat.table_id
+
+  -- and which table a structure holds
+  abbrev pub home_id : Home V K Q → TableId
+  home_id h = (arc_value h.table).shared.table_id
 
   -- the same seat, at the same table
   abbrev pub IsSame : Seated V K Q → Seated V K Q → Type 0

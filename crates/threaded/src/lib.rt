@@ -3,7 +3,8 @@
 //! Each call drives a value of the crate `steps` on the words of a table of `atomic_table`, of the
 //! type that the machine runs but for the room in which a value's words are read.
 //! What a caller knows of a structure is the view of its pass; the rule of the table says
-//! how the views of all passes fit together. No contract here counts the steps of a call.
+//! how the views of all passes fit together. A view counts the operations on words that its seat has asked for:
+//! each that the driver performs is one more.
 #![tactic(auto)]
 
 pub mod driver;

@@ -1,5 +1,5 @@
 //! One operation on a word, one step of a call, and whole calls.
-ghost use Rattle.std.specs.Prelude.{◌≡◌, ℕ};
+ghost use Rattle.std.specs.Prelude.{◌≡◌, ℕ, ◌+◌};
 ghost use Rattle.threaded.specs.Driver.{Owes, OwesAsk, Next, Told, KeepsRule, moves};
 ghost use Rattle.threaded.specs.Seats.{seen, table_of, key_of, IsSame, IsAt};
 
@@ -16,44 +16,55 @@ impl<V> Tells<V> for Brand {
 }
 
 /// A step that tells what its caller picks.
-pub struct Says<M> {
-    of: PhantomData<M>,
+pub struct Says<M, K, Q> {
+    of: PhantomData<(M, K, Q)>,
 }
 
-impl<V, M: Tells<V>> Play<(), V> for Says<M> {
-    ghost then = { λ step. moves M.told };
+impl<V, K, Q: Rule<V, K>, M: Tells<V>> Play<(), V> for Says<M, K, Q> {
+    ghost then = { λ step. moves Q.asked M.told };
 }
 
 impl<V, K, Q: Rule<V, K>> Seated<V, K, Q> {
-    /// One operation on one word: its old value, and the new one at a store.
+    /// One operation on one word: its old value, and the new one at a store. The view counts it.
     #[inline(always)]
-    fn perform<M: Tells<V>>(&mut self, ask: Ask) -> u64
-        requires owes { OwesAsk (Q.holds (key_of self.old)) (table_of self.old).words
+    pub(super) fn perform<M: Tells<V>>(&mut self, ask: Ask) -> u64
+        requires owes { OwesAsk Q.asked (Q.holds (key_of self.old)) (table_of self.old).words
             (table_of self.old).slots self.old.seat.id M.told ask.word ask.op self.old.seat.me }
         requires capacity { (v : V) (n : ℕ) (w : V) → M.told v n w
             → Q.capacity_seen w ≡ Q.capacity_seen v }
         ensures same { IsSame self.old self.new }
         ensures told { M.told (seen self.old) result (seen self.new) }
+        ensures counted { Q.asked (seen self.new) ≡ Q.asked (seen self.old) + 1 }
     {
         let word = ask.word;
         let table = &self.table;
         match ask.op {
-            Op::Load => table.shared.load::<Says<M>>(&mut self.seat, word),
+            Op::Load => table.shared.load::<Says<M, K, Q>>(&mut self.seat, word),
             Op::Store(new) => {
-                table.shared.store::<Says<M>>(&mut self.seat, word, new);
+                table
+                    .shared
+                    .store::<Says<M, K, Q>>(&mut self.seat, word, new);
                 new
             }
-            Op::Swap(new) => table.shared.swap::<Says<M>>(&mut self.seat, word, new),
-            Op::Add(by) => table.shared.fetch_add::<Says<M>>(&mut self.seat, word, by),
-            Op::Sub(by) => table.shared.fetch_sub::<Says<M>>(&mut self.seat, word, by),
+            Op::Swap(new) => table
+                .shared
+                .swap::<Says<M, K, Q>>(&mut self.seat, word, new),
+            Op::Add(by) => table
+                .shared
+                .fetch_add::<Says<M, K, Q>>(&mut self.seat, word, by),
+            Op::Sub(by) => table
+                .shared
+                .fetch_sub::<Says<M, K, Q>>(&mut self.seat, word, by),
             Op::And(bits) => table
                 .shared
-                .fetch_and::<Says<M>>(&mut self.seat, word, bits),
-            Op::Or(bits) => table.shared.fetch_or::<Says<M>>(&mut self.seat, word, bits),
+                .fetch_and::<Says<M, K, Q>>(&mut self.seat, word, bits),
+            Op::Or(bits) => table
+                .shared
+                .fetch_or::<Says<M, K, Q>>(&mut self.seat, word, bits),
             Op::Exchange(from, to) => {
                 table
                     .shared
-                    .compare_exchange::<Says<M>>(&mut self.seat, word, from, to)
+                    .compare_exchange::<Says<M, K, Q>>(&mut self.seat, word, from, to)
             }
         }
     }
@@ -61,7 +72,7 @@ impl<V, K, Q: Rule<V, K>> Seated<V, K, Q> {
     /// What a call hears where it stands: the word's old value; at a question, which only its caller can answer, 0.
     #[inline(always)]
     fn answer<M: Tells<V>, C: Routine>(&mut self, call: C, given: &C::Given) -> u64
-        requires owes { Owes (Q.holds (key_of self.old)) (table_of self.old).words
+        requires owes { Owes Q.asked (Q.holds (key_of self.old)) (table_of self.old).words
             (table_of self.old).slots self.old.seat.id M.told (C.want_of call given.now) self.old.seat.me }
         requires capacity { (v : V) (n : ℕ) (w : V) → M.told v n w
             → Q.capacity_seen w ≡ Q.capacity_seen v }
@@ -83,7 +94,7 @@ impl<V, K, Q: Rule<V, K>> Seated<V, K, Q> {
         given: &C::Given,
         room: &mut C::Room,
     ) -> After<C, C::End>
-        requires owes { Owes (Q.holds (key_of self.old)) (table_of self.old).words
+        requires owes { Owes Q.asked (Q.holds (key_of self.old)) (table_of self.old).words
             (table_of self.old).slots self.old.seat.id M.told (C.want_of call given.now) self.old.seat.me }
         requires capacity { (v : V) (n : ℕ) (w : V) → M.told v n w
             → Q.capacity_seen w ≡ Q.capacity_seen v }
@@ -111,7 +122,7 @@ impl<V, K, Q: Rule<V, K>> Seated<V, K, Q> {
             (λ c k. C.after c given.now k) C.kept call room.old v n w
             → M.told v n w }
         requires table { IsAt Q.size Q.capacity Q.capacity_seen self.old }
-        requires rule { KeepsRule Q.capacity_seen (D.at given.now) (D.ends given.now) Q.size
+        requires rule { KeepsRule Q.asked Q.capacity_seen (D.at given.now) (D.ends given.now) Q.size
             Q.capacity Q.holds (λ c. C.want_of c given.now) (λ c k. C.after c given.now k) C.kept }
         requires at { (base : V) × D.at given.now base (seen self.old) call room.old }
         ensures same { IsSame self.old self.new }
@@ -135,7 +146,7 @@ impl<V, K, Q: Rule<V, K>> Seated<V, K, Q> {
         room: &mut C::Room,
     ) -> After<C, C::End>
         requires table { IsAt Q.size Q.capacity Q.capacity_seen self.old }
-        requires rule { KeepsRule Q.capacity_seen (D.at given.now) (D.ends given.now) Q.size
+        requires rule { KeepsRule Q.asked Q.capacity_seen (D.at given.now) (D.ends given.now) Q.size
             Q.capacity Q.holds (λ c. C.want_of c given.now) (λ c k. C.after c given.now k) C.kept }
         requires at { (base : V) × D.at given.now base (seen self.old) call room.old }
         ensures same { IsSame self.old self.new }
@@ -158,7 +169,7 @@ impl<V, K, Q: Rule<V, K>> Seated<V, K, Q> {
         room: &mut C::Room,
     ) -> C::End
         requires table { IsAt Q.size Q.capacity Q.capacity_seen self.old }
-        requires rule { KeepsRule Q.capacity_seen (D.at given.now) (D.ends given.now) Q.size
+        requires rule { KeepsRule Q.asked Q.capacity_seen (D.at given.now) (D.ends given.now) Q.size
             Q.capacity Q.holds (λ c. C.want_of c given.now) (λ c k. C.after c given.now k) C.kept }
         requires at { D.at given.now (seen self.old) (seen self.old) call room.old }
         ensures same { IsSame self.old self.new }
@@ -201,7 +212,7 @@ impl<V, K, Q: Rule<V, K>> Seated<V, K, Q> {
         room: &mut C::Room,
     ) -> C::End
         requires table { IsAt Q.size Q.capacity Q.capacity_seen self.old }
-        requires rule { KeepsRule Q.capacity_seen (D.at given.now) (D.ends given.now) Q.size
+        requires rule { KeepsRule Q.asked Q.capacity_seen (D.at given.now) (D.ends given.now) Q.size
             Q.capacity Q.holds (λ c. C.want_of c given.now) (λ c k. C.after c given.now k) C.kept }
         requires at { D.at given.now (seen self.old) (seen self.old) call room.old }
         ensures same { IsSame self.old self.new }

@@ -13,6 +13,9 @@ pub trait Rule<V, K>: TableRule<(), V, K> {
     ghost capacity: { K → ℕ };
 
     ghost capacity_seen: { V → ℕ };
+
+    /// How many operations on words were asked for with this view. Each that a driver performs is one.
+    ghost asked: { V → ℕ };
 }
 
 /// What a seat knows while the call C is under way, and how the call ends. One call may be driven

@@ -14,3 +14,9 @@ pub struct Seated<V, K, Q: TableRule<(), V, K>> {
     ghost seated: { seat.table_id ≡ (arc_value table).shared.table_id },
     ghost bare: { seat.me.1 ≡ [] },
 }
+
+/// The words of a structure, as the structure holds them. Whoever has it can read or write no word by it: that takes a seat.
+#[derive(Drop)]
+pub struct Home<V, K, Q: TableRule<(), V, K>> {
+    pub(crate) table: Arc<Table<(), V, K, Q, Global>, Global>,
+}

@@ -1,0 +1,168 @@
+-- What a call takes, from the guarantee of its kind in the model.
+use Rattle.history.proofs.Names.{◌≡◌, ◌⊎◌, inl, inr, ⊎_elim, ℕ, ◌+◌, ◌-◌, ◌*◌, ◌≤◌, Option, Some, None, refl, sym, ap, subst, ◌∙◌, arith}
+use Rattle.history.proofs.Names.{Start, Kind, Party, Doing, Going, Over, Coding, party_of, Trace, span_of}
+use Rattle.model.specs.declared.party.Progress.{Progress}
+use Rattle.model.specs.Parties.{progress_after, others_of, is_over}
+use Rattle.model.specs.Progress.{Guarantee, WaitFree, ObstructionFree, guarantee_of, IsGuaranteed, IsWithin}
+use Rattle.model.specs.Promises.Bounds.{IsBounded, Progresses}
+use Rattle.model.specs.Promises.Families.{promise_of}
+use Rattle.model.specs.Promises.{IsKept}
+use Rattle.model.specs.World.{progress_in}
+use Rattle.model.proofs.Frame as frame
+use Rattle.model.proofs.Frame.{Family}
+use Rattle.model.proofs.Progress.{guaranteed}
+use Rattle.history.specs.declared.view.View.{View}
+use Rattle.history.specs.History.{IsRun, steps_in, steps_of, started}
+use Rattle.history.specs.Stages.{Calling, Ends, LeftOut, StepsOnly, taken_by}
+use Rattle.history.specs.Steps.{TakesAtMost, TakesAlone}
+
+-- how far this call has come, where words were changed so often
+abbrev pub progress_of : {T : Type 0} → ℕ → Party T → Progress
+progress_of changes x =
+    record { steps = x.steps; backs = x.backs; others = others_of changes x.doing; finished = is_over x.doing }
+
+-- on this machine the latest call of each party is within its guarantee
+abbrev pub PaysOn : {T : Type 0} → Kind → ℕ → ℕ → Trace T → Type 0
+PaysOn {T} kind capacity size t =
+    (p : ℕ) (x : Party T) → party_of p t.world.latest ≡ Some x
+    → IsWithin (guarantee_of kind capacity size x.start) (progress_of t.world.changes x)
+
+-- and so on each of this kind and capacity
+abbrev pub Pays : {T : Type 0} → Coding T → Kind → ℕ → Type 0
+Pays {T} code kind capacity = (t : Trace T) → IsRun code kind capacity t → PaysOn kind capacity code.size t
+
+-- ---- of a machine that is sound, with its bounds
+
+paid : (fewer more each : ℕ) → fewer ≤ more → fewer * each ≤ more * each
+paid fewer more each le = (let rest : more ≡ fewer + (more - fewer) = omega arith in rw rest (spread fewer (more - fewer) each))
+  where
+    spread : (a b each : ℕ) → a * each ≤ (a + b) * each
+    spread a b each = omega arith
+
+more_paid : (steps alone backs others retry : ℕ) → steps ≤ alone + backs * retry → backs ≤ others → steps ≤ alone + others * retry
+more_paid steps alone backs others retry most le = (let times = paid backs others retry le in omega arith)
+
+module _ {T : Type 0} (F : Family T) (kind : Kind) (promised : promise_of {T = T} kind ≡ F.promise) (t : Trace T) (s : frame.Sound F t)
+    (progress : (p : ℕ) → Progresses F.promise F.capacity F.coding.size (span_of p t.events) (progress_in t.world p)) where
+  bounded : (p : ℕ) (x : Party T) → party_of p t.world.latest ≡ Some x
+      → IsBounded F.promise F.capacity F.coding.size x.start (progress_of t.world.changes x)
+  bounded p x found =
+      go x.doing (subst (λ o. frame.Fits F s.state p o (span_of p t.events)) found (s.inv.calls p))
+      (subst (λ o. Progresses F.promise F.capacity F.coding.size (span_of p t.events) (progress_after t.world.changes o)) found (progress p))
+    where
+      go : (doing : Doing T) → frame.FitsDoing F s.state p x doing (span_of p t.events)
+          → Progresses F.promise F.capacity F.coding.size (span_of p t.events) (Some (progress_of t.world.changes x))
+          → IsBounded F.promise F.capacity F.coding.size x.start (progress_of t.world.changes x)
+      go (Going flight since) h is =
+          (subst (λ seen. Progresses F.promise F.capacity F.coding.size seen (Some (progress_of t.world.changes x))) h.span is).0
+      go (Over others) h is =
+          (subst (λ seen. Progresses F.promise F.capacity F.coding.size seen (Some (progress_of t.world.changes x))) h.span is).0
+
+  pub pays_on : PaysOn kind F.capacity F.coding.size t
+  pays_on p x found =
+      go (guarantee_of kind F.capacity F.coding.size x.start)
+      (subst (λ P. IsGuaranteed P F.capacity F.coding.size x.start (guarantee_of kind F.capacity F.coding.size x.start)) promised
+      (guaranteed kind F.capacity F.coding.size x.start))
+    where
+      go : (g : Guarantee) → IsGuaranteed F.promise F.capacity F.coding.size x.start g → IsWithin g (progress_of t.world.changes x)
+      go (WaitFree most) h = (let b = bounded p x found in let is = b.steps in let le = h x.backs in omega arith)
+      go (ObstructionFree alone retry) h =
+          (let b = bounded p x found in let is = b.steps in let le = h x.backs in
+          more_paid x.steps alone x.backs (others_of t.world.changes x.doing) retry (omega arith) b.backs)
+
+module _ {T : Type 0} (code : Coding T) (kind : Kind) (capacity : ℕ) (t : Trace T) (r : IsRun code kind capacity t) (F : Family T)
+    (promised : promise_of {T = T} kind ≡ F.promise) (s : frame.Sound F t) where
+  -- what is promised of the run says how far each call has come
+  pub progress_kept : IsKept t → (p : ℕ) → Progresses F.promise F.capacity F.coding.size (span_of p t.events) (progress_in t.world p)
+  progress_kept kept p =
+      subst (λ P. Progresses P F.capacity F.coding.size (span_of p t.events) (progress_in t.world p))
+      (ap (promise_of {T = T}) r.of_kind ∙ promised)
+      (subst (λ n. Progresses (promise_of t.world.kind) n F.coding.size (span_of p t.events) (progress_in t.world p)) s.capacity
+      (subst (λ (c : Coding T). Progresses (promise_of t.world.kind) t.world.capacity c.size (span_of p t.events) (progress_in t.world p)) s.coding
+      (kept.progress p)))
+
+  -- and so do the bounds of its family
+  pub progress_within : frame.Bounds F → (p : ℕ) → Progresses F.promise F.capacity F.coding.size (span_of p t.events) (progress_in t.world p)
+  progress_within bounds p =
+      frame.progresses F bounds s.state p t.events t.world.changes (party_of p t.world.latest) (span_of p t.events) (s.inv.calls p) (s.inv.knows p)
+
+  pub pays_run : ((p : ℕ) → Progresses F.promise F.capacity F.coding.size (span_of p t.events) (progress_in t.world p))
+      → PaysOn kind capacity code.size t
+  pays_run progress =
+      subst (λ n. PaysOn kind n code.size t) (sym s.capacity ∙ r.sized)
+      (subst (λ (c : Coding T). PaysOn kind F.capacity c.size t) (sym s.coding ∙ r.coded) (pays_on F kind promised t s progress))
+
+-- ---- of a call that has ended
+
+-- one step at least
+abbrev pub AllowsOne : Guarantee → Type 0
+AllowsOne (WaitFree most) = 1 ≤ most
+AllowsOne (ObstructionFree alone retry) = 1 ≤ alone
+
+-- what a guarantee says of two views
+abbrev pub TakesBy : {T : Type 0} → Coding T → Kind → ℕ → Guarantee → View T → View T → Type 0
+TakesBy code kind capacity (WaitFree most) old new = TakesAtMost most old new
+TakesBy code kind capacity (ObstructionFree alone retry) old new = TakesAlone code kind capacity alone retry old new
+
+module _ {T C M E : Type 0} (code : Coding T) (kind : Kind) (call : Calling T C M E) (base w : View T) (e : E) (m : M) where
+  -- the party's latest call, which this one is
+  record Latest (ends : Ends code kind call base e m w) : Type 0 where
+    pub x : Party T
+    pub found : party_of ends.party ends.history.trace.world.latest ≡ Some x
+    pub named : x.start ≡ call.start
+    pub steps : x.steps ≡ w.taken
+
+  latest : (ends : Ends code kind call base e m w) → Latest ends
+  latest ends = go (party_of ends.party ends.history.trace.world.latest) refl
+    where
+      go : (o : Option (Party T)) → party_of ends.party ends.history.trace.world.latest ≡ o → Latest ends
+      go None is = (let no : ◌≡◌ {A = Option (Start T)} None (Some call.start) = sym (ap started is) ∙ ends.named in absurd (cc))
+      go (Some x) is =
+          let named : ◌≡◌ {A = Option (Start T)} (Some x.start) (Some call.start) = sym (ap started is) ∙ ends.named in
+          record { x = x; found = is; named = cc; steps = sym (ap steps_of is) ∙ ends.counted }
+
+  -- each operation was a step of the call, or there was one
+  few : base.going ≡ None → Ends code kind call base e m w → (w.asked ≤ base.asked + w.taken) ⊎ (w.asked ≤ base.asked + 1)
+  few idle ends = ⊎_elim (λ only. inl (begun only)) (λ once. inr once) ends.took
+    where
+      begun : StepsOnly base w → w.asked ≤ base.asked + w.taken
+      begun only =
+          (let is : w.asked + taken_by base.going base.taken ≤ base.asked + w.taken = only in
+          let none : taken_by base.going base.taken ≡ 0 = ap (λ o. taken_by o base.taken) idle in
+          omega arith)
+
+  few_enough : (steps most : ℕ) → steps ≡ w.taken → steps ≤ most → 1 ≤ most
+      → (w.asked ≤ base.asked + w.taken) ⊎ (w.asked ≤ base.asked + 1) → w.asked ≤ base.asked + most
+  few_enough steps most same within least (inl h) = omega arith
+  few_enough steps most same within least (inr h) = omega arith
+
+  takes_by : base.going ≡ None → (ends : Ends code kind call base e m w) → (now : Latest ends) → (g : Guarantee) → AllowsOne g
+      → IsWithin g (progress_of ends.history.trace.world.changes now.x) → TakesBy code kind base.capacity g base w
+  takes_by idle ends now (WaitFree most) least within = few_enough now.x.steps most now.steps within least (few idle ends)
+  takes_by idle ends now (ObstructionFree alone retry) least within =
+      record {
+        trace = ends.history.trace;
+        run = ends.history.run;
+        seen = ends.history.is;
+        party = ends.party;
+        mine = ends.mine;
+        progress = progress_of ends.history.trace.world.changes now.x;
+        latest = ap (progress_after ends.history.trace.world.changes) now.found;
+        steps =
+            few_enough now.x.steps (alone + others_of ends.history.trace.world.changes now.x.doing * retry) now.steps within
+            (omega arith) (few idle ends);
+      }
+
+  -- a whole call is within the guarantee of its kind
+  pub takes : base.going ≡ None → Pays code kind base.capacity
+      → AllowsOne (guarantee_of kind base.capacity code.size call.start) → Ends code kind call base e m w
+      → TakesBy code kind base.capacity (guarantee_of kind base.capacity code.size call.start) base w
+  takes idle pays one ends =
+      (let now = latest ends in
+      takes_by idle ends now (guarantee_of kind base.capacity code.size call.start) one
+      (subst (λ start. IsWithin (guarantee_of kind base.capacity code.size start) (progress_of ends.history.trace.world.changes now.x)) now.named
+      (pays ends.history.trace ends.history.run ends.party now.x now.found)))
+
+  -- a look is one operation
+  pub left_takes : (most : ℕ) → 1 ≤ most → LeftOut code kind call base e m w → TakesAtMost most base w
+  left_takes most least left = (let is = left.asked in omega arith)

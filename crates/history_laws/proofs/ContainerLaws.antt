@@ -1,0 +1,14 @@
+-- The laws of what stands in a container, of every history.
+use Rattle.std.proofs.Common.{ℕ, List, sym, subst}
+use Rattle.model.specs.declared.event.Event.{Event}
+use Rattle.model.specs.declared.turn.Kind.TheVariants as kinds
+use Rattle.model.specs.Coding.{Coding}
+use Rattle.history.specs.History.{IsHistory}
+use Rattle.history_laws.specs.Containers.{IsOrderly, IsContained}
+use Rattle.history_laws.proofs.ContainerFew.{reached_contained}
+pub use Rattle.history_laws.proofs.ContainerPlain.{none_recovers, none_frees}
+
+pub contained_history : {T : Type 0} (code : Coding T) (capacity : ℕ) (events : List (Event T)) → IsHistory code kinds.Container capacity events
+    → IsOrderly events → IsContained events
+contained_history code capacity events h kept =
+    subst IsContained (sym h.is) (reached_contained h.trace h.run.of_kind h.run.reached (subst IsOrderly h.is kept))

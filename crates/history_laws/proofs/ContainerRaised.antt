@@ -1,0 +1,328 @@
+-- The numbers of a container's elements, and its number of changes, are bounded by what its history lets them rise.
+use Rattle.std.proofs.Common.{◌≡◌, ◌≢◌, ℕ, ◌+◌, ◌<◌, ◌≤◌, Bool, true, false, Option, Some, None, List, [], ◌∷◌, ◌++◌}
+use Rattle.std.proofs.Common.{length, get_or, refl, sym, ap, subst, ◌∙◌, append-nil, arith, option_map, if◌then◌else◌}
+use Rattle.std.proofs.lemmas.List.Sums.{sum_by-append}
+use Rattle.steps.specs.declared.ask.After.{After}
+use Rattle.steps.specs.declared.ask.After.TheVariants.{GoOn, Done}
+use Rattle.steps.specs.declared.ask.Ask.{Ask}
+use Rattle.steps.specs.declared.container.state.ContainerState.{ContainerState}
+use Rattle.model.specs.declared.event.Answer.{Answer}
+use Rattle.model.specs.declared.event.Event.{Event}
+use Rattle.model.specs.declared.event.Event.TheVariants.{Begun}
+use Rattle.model.specs.declared.event.Start.{Start}
+use Rattle.model.specs.declared.event.Start.TheVariants.{Container}
+use Rattle.model.specs.declared.families.Flight.{Flight}
+use Rattle.model.specs.declared.families.Flight as flights
+use Rattle.model.specs.declared.families.Registry.{Registry}
+use Rattle.model.specs.declared.families.Registry as registries
+use Rattle.model.specs.declared.families.container.ContainerStart.{ContainerStart}
+use Rattle.model.specs.declared.families.container.calls.ContainerFlight.{ContainerFlight}
+use Rattle.model.specs.declared.party.Doing.{Doing}
+use Rattle.model.specs.declared.party.Doing.TheVariants.{Going, Over}
+use Rattle.model.specs.declared.party.Party.{Party}
+use Rattle.model.specs.declared.turn.Kind.{Kind}
+use Rattle.model.specs.declared.turn.Kind as kinds
+use Rattle.model.specs.declared.turn.Turn.{Turn}
+use Rattle.model.specs.declared.turn.Turn.TheVariants.{Begin, Next, Decide, Die}
+use Rattle.model.specs.Coding.{Coding}
+use Rattle.model.specs.Families.{first_of, want_of, ask_of, beside_of, step_of}
+use Rattle.model.specs.Families.Container.Calls.{first, want, after}
+use Rattle.model.specs.Families.Container.Opening.{names_owner}
+use Rattle.model.specs.Families.Container.Reading.{Act, acts_of}
+use Rattle.model.specs.Families.Container.States.{state_of}
+use Rattle.model.specs.Families.Container.Steps as calls
+use Rattle.model.specs.Families.Indices.Robust.Reading.{SetAct, set_acts_of}
+use Rattle.model.specs.Parties.{party_of, doing_of, flight_of}
+use Rattle.model.specs.Step.{Step, as_step, as_call, answer_in}
+use Rattle.model.specs.Turns.{old_of, words_after, number_of, ask_of_doing, party_at_begin, after_begin, doing_after, after_step, step_in}
+use Rattle.model.specs.Turns.{after_answer, events_of_step, events_of_answer, after_next, events_of_next}
+use Rattle.model.specs.Turns.{after_decision, events_of_decision, ending_of, after_turn}
+use Rattle.model.specs.World.{Trace, flight_in}
+use Rattle.model.proofs.Parties.{party_put_same, party_put_other}
+use Rattle.model.proofs.Scenes.{stands_there}
+use Rattle.laws_indices.proofs.Sums.{sum_below, sum_moved, sum_longer}
+use Rattle.laws_robust.specs.Open.{open_refusal}
+use Rattle.laws_container.proofs.Invariant.{family_by, FlightAt}
+use Rattle.laws_container.proofs.Sound.{kept_is}
+use Rattle.history_laws.specs.Containers.{rise, rises}
+use Rattle.history_laws.proofs.ContainerLifts.{container_lifts, lifts_left, IsWithin, is_within, container_lift, keeps, begins as begins_so}
+use Rattle.history_laws.proofs.ContainerWorn.{Sound, terms, some_same}
+
+module _ {T : Type 0} where
+  -- ---- any call
+
+  abbrev pub lifts : Flight T → ℕ
+  lifts (flights.TheVariants.Container flight) = container_lifts flight
+  lifts flight = 0
+
+  abbrev pub lifts_of : Option (Flight T) → ℕ
+  lifts_of None = 0
+  lifts_of (Some flight) = lifts flight
+
+  abbrev pub lifts_at : Trace T → ℕ → ℕ
+  lifts_at t q = lifts_of (flight_in t.world q)
+
+  abbrev pub word_at : ℕ → Trace T → ℕ
+  word_at n t = get_or t.world.words n 0
+
+  rises_more : (xs ys : List (Event T)) → rises (xs ++ ys) ≡ rises xs + rises ys
+  rises_more xs ys = sum_by-append rise xs ys
+
+  -- ---- between two turns
+
+  -- so many parties have begun calls
+  pub record Raised (n : ℕ) (t : Trace T) : Type 0 where
+    pub seats : ℕ
+    pub beyond : (q : ℕ) → seats ≤ q → flight_in t.world q ≡ None
+    pub fits : word_at n t + sum_below (lifts_at t) seats ≤ rises t.events
+
+  pub word_raised : (n : ℕ) (t : Trace T) → Raised n t → word_at n t ≤ rises t.events
+  word_raised n t r = let fits = r.fits in omega arith
+
+  -- what a turn of a party owes
+  record Owes (n : ℕ) (old new : Trace T) (p : ℕ) (es : List (Event T)) : Type 0 where
+    pub events : new.events ≡ old.events ++ es
+    pub others : (q : ℕ) → q ≢ p → flight_in new.world q ≡ flight_in old.world q
+    pub pays : word_at n new + lifts_at new p ≤ word_at n old + lifts_at old p + rises es
+
+  module _ (n : ℕ) (old new : Trace T) (p : ℕ) (es : List (Event T)) (owes : Owes n old new p es) (r : Raised n old) where
+    abbrev seats : ℕ
+    seats = r.seats + (p + 1)
+
+    longer : sum_below (lifts_at old) seats ≡ sum_below (lifts_at old) r.seats
+    longer = sum_longer (lifts_at old) r.seats seats (omega arith) (λ i far. ap lifts_of (r.beyond i far))
+
+    differ : sum_below (lifts_at new) seats + lifts_at old p ≡ sum_below (lifts_at old) r.seats + lifts_at new p
+    differ =
+        let moves = sum_moved (lifts_at new) (lifts_at old) seats p (omega arith) (λ i ne. ap lifts_of (owes.others i ne)) in
+        let long = longer in
+        omega arith
+
+    beyond : (q : ℕ) → seats ≤ q → flight_in new.world q ≡ None
+    beyond q far = owes.others q (λ e. absurd (omega arith)) ∙ r.beyond q (omega arith)
+
+    raised_on : Raised n new
+    raised_on =
+        record {
+          seats = seats;
+          beyond = beyond;
+          fits =
+              let pays = owes.pays in
+              let was = r.fits in
+              let moves = differ in
+              let more : rises new.events ≡ rises old.events + rises es = ap rises owes.events ∙ rises_more old.events es in
+              omega arith;
+        }
+
+  raised_same : (n : ℕ) (t : Trace T) → Raised n t → Raised n record { world = t.world; events = t.events ++ [] }
+  raised_same n t r = subst (λ es. Raised n record { world = t.world; events = es }) (sym (append-nil t.events)) r
+
+  -- ---- a step
+
+  abbrev flight_after : After (Flight T) (Answer T) → Option (Flight T)
+  flight_after (GoOn flight) = Some flight
+  flight_after (Done answer) = None
+
+  doing_is : (changes since : ℕ) (a : After (Flight T) (Answer T)) → flight_of (Some (doing_after changes since a)) ≡ flight_after a
+  doing_is changes since (GoOn flight) = refl
+  doing_is changes since (Done answer) = refl
+
+  record PaysBy (n : ℕ) (words : List ℕ) (flight : Flight T) (ask : Option Ask) (s : Step (Flight T) (Registry T) T) : Type 0 where
+    pub pays : get_or (words_after words ask) n 0 + lifts_of (flight_after s.after) ≤ get_or words n 0 + lifts flight + rises s.wrote
+
+  abbrev stepped : Trace T → ℕ → Party T → ℕ → Option Ask → Step (Flight T) (Registry T) T → Trace T
+  stepped t p x since ask s = record { world = after_step t.world p x since ask s; events = t.events ++ events_of_step p x.start s }
+
+  module _ (n : ℕ) (t : Trace T) (p : ℕ) (x : Party T) (flight : Flight T) (since : ℕ) (ask : Option Ask) (answer : ℕ)
+      (found : party_of p t.world.latest ≡ Some x) (doing : x.doing ≡ Going flight since)
+      (pays : PaysBy n t.world.words flight ask (step_in t.world p x flight answer)) where
+    abbrev s : Step (Flight T) (Registry T) T
+    s = step_in t.world p x flight answer
+
+    abbrev new : Trace T
+    new = stepped t p x since ask s
+
+    was : flight_in t.world p ≡ Some flight
+    was = ap (λ o. flight_of (doing_of o)) found ∙ ap (λ d. flight_of (Some d)) doing
+
+    then_is : flight_in new.world p ≡ flight_after s.after
+    then_is = ap (λ o. flight_of (doing_of o)) (party_put_same p _ t.world.latest) ∙ doing_is _ _ s.after
+
+    wrote_more : rises s.wrote ≤ rises (events_of_step p x.start s)
+    wrote_more = let more = rises_more s.wrote (ending_of p x.start (answer_in s.after)) in omega arith
+
+    step_owes : Owes n t new p (events_of_step p x.start s)
+    step_owes =
+        record {
+          events = refl;
+          others = λ q ne. ap (λ o. flight_of (doing_of o)) (party_put_other q p _ t.world.latest ne);
+          pays =
+              (let keeps = pays.pays in
+              let before = ap lifts_of was in
+              let after = ap lifts_of then_is in
+              let more = wrote_more in
+              omega arith);
+        }
+
+  -- ---- a begin
+
+  abbrev begun : Trace T → ℕ → Start T → Option (Flight T) → Trace T
+  begun t p start o = record { world = after_begin t.world p start o; events = t.events ++ Begun p start ∷ [] }
+
+  module _ (n : ℕ) (t : Trace T) (p : ℕ) (start : Start T) (flight : Flight T) (pays : lifts flight ≤ rise (Begun p start)) where
+    begun_is : flight_in (begun t p start (Some flight)).world p ≡ Some flight
+    begun_is = ap (λ o. flight_of (doing_of o)) (party_put_same p (party_at_begin start flight t.world.changes) t.world.latest)
+
+    begin_owes : Owes n t (begun t p start (Some flight)) p (Begun p start ∷ [])
+    begin_owes =
+        record {
+          events = refl;
+          others = λ q ne. ap (λ o. flight_of (doing_of o)) (party_put_other q p _ t.world.latest ne);
+          pays = (let after = ap lifts_of begun_is in omega arith);
+        }
+
+-- ---- a step of a container's call, as one of any family
+
+module _ {T : Type 0} (code : Coding T) (c : ℕ) where
+  any_left : (a : After (ContainerFlight T) (Answer T))
+      → lifts_of (flight_after (as_call flights.TheVariants.Container (λ (answer : Answer T). answer) a)) ≡ lifts_left a
+  any_left (GoOn flight) = refl
+  any_left (Done answer) = refl
+
+  abbrev any_step : ℕ → ContainerFlight T → ℕ → List ℕ → List (ℕ × ContainerState T) → Step (Flight T) (Registry T) T
+  any_step p flight answer dead states =
+      as_step flights.TheVariants.Container (λ kept. registries.TheVariants.Container kept.0 kept.1) (calls.step code p flight answer dead states)
+
+  module _ (n : ℕ) (words : List ℕ) (p : ℕ) (dead : List ℕ) (states : List (ℕ × ContainerState T)) (flight : ContainerFlight T) where
+    writes : (old : ℕ) → rises (calls.effects code p (state_of p states) flight old) ≤ rises (any_step p flight old dead states).wrote
+    writes old =
+        let more = rises_more (calls.effects code p (state_of p states) flight old) (calls.questions p flight old) in omega arith
+
+    decided : (old : ℕ) → PaysBy n words (flights.TheVariants.Container flight) None (any_step p flight old dead states)
+    decided old =
+        record {
+          pays =
+              (let kept = keeps code p (state_of p states) flight old in
+              let left = any_left (after code (state_of p states) flight old) in
+              let wrote = writes old in
+              omega arith);
+        }
+
+    module _ (inside : n < length words) (past : 1 + c ≤ n) (before : n < 2 + (c + c)) (within : IsWithin c flight) where
+      abbrev wanted : Option Ask
+      wanted = ask_of (want code flight)
+
+      stepped_so : PaysBy n words (flights.TheVariants.Container flight) wanted (any_step p flight (old_of words wanted) dead states)
+      stepped_so =
+          record {
+            pays =
+                (let kept = keeps code p (state_of p states) flight (old_of words wanted) in
+                let left = any_left (after code (state_of p states) flight (old_of words wanted)) in
+                let wrote = writes (old_of words wanted) in
+                let lifted = container_lift words n inside code c past before flight within in
+                omega arith);
+          }
+
+-- ---- a begin, as one of any family
+
+module _ {T : Type 0} where
+  begins_by : (c p : ℕ) (start : ContainerStart T) (flight : Flight T) (b : Bool)
+      → option_map flights.TheVariants.Container (if b then Some (first c start) else None) ≡ Some flight → lifts flight ≤ rise (Begun p (Container start))
+  begins_by c p start flight true e =
+      subst (λ f. lifts f ≤ rise (Begun p (Container start))) (some_same (flights.TheVariants.Container (first c start)) flight e) (begins_so c p start)
+  begins_by c p start flight false e = absurd (cc)
+
+  begins_any : (c p : ℕ) (start : Start T) (kept : Registry T) (flight : Flight T) → first_of kinds.TheVariants.Container c start kept ≡ Some flight
+      → lifts flight ≤ rise (Begun p start)
+  begins_any c p (Container start) kept flight e = begins_by c p start flight (names_owner start) e
+  begins_any c p start kept flight e = absurd (cc)
+
+-- ---- a turn
+
+module _ {T : Type 0} (code : Coding T) (c : ℕ) (t : Trace T) (s : Sound code c t) (n : ℕ) (past : 1 + c ≤ n) (before : n < 2 + (c + c)) where
+  abbrev ws : List ℕ
+  ws = t.world.words
+
+  abbrev Kept : Registry T
+  Kept = registries.TheVariants.Container s.state.dead s.state.states
+
+  abbrev PaysIn : Coding T → ℕ → Option Ask → ℕ → Registry T → Start T → Flight T → Type 0
+  PaysIn z p ask answer kept start flight = PaysBy n ws flight ask (step_of z ws (beside_of ws kept t.world.latest p) p start flight answer kept)
+
+  inside : n < length ws
+  inside =
+      let wide = s.holds.elements.wide in
+      let same = ap length (kept_is t.world.kept t.world.words s.state s.fit).1 in
+      omega arith
+
+  pays_in : (p : ℕ) (all : List SetAct) (done : List (Act T)) (start : Start T) (flight : Flight T)
+      → FlightAt c code.size all done start flight
+      → PaysIn code p (ask_of (want_of code flight)) (old_of ws (ask_of (want_of code flight))) Kept start flight
+  pays_in p all done (Container start) (flights.TheVariants.Container flight) at =
+      stepped_so code c n ws p s.state.dead s.state.states flight inside past before (is_within c code.size all done start flight at)
+  pays_in p all done start flight at = absurd at
+
+  decides_in : (p answer : ℕ) (all : List SetAct) (done : List (Act T)) (start : Start T) (flight : Flight T) → FlightAt c code.size all done start flight
+      → PaysIn code p None answer Kept start flight
+  decides_in p answer all done (Container start) (flights.TheVariants.Container flight) at =
+      decided code c n ws p s.state.dead s.state.states flight answer
+  decides_in p answer all done start flight at = absurd at
+
+  owners : t.world.kept ≡ Kept
+  owners = (kept_is t.world.kept t.world.words s.state s.fit).0
+
+  module _ (p : ℕ) (x : Party T) (flight : Flight T) (since : ℕ) (found : party_of p t.world.latest ≡ Some x) (doing : x.doing ≡ Going flight since) where
+    at : FlightAt c code.size (set_acts_of p s.state.events) (acts_of p s.state.events) x.start flight
+    at = (stands_there (family_by (terms code c) code c) t s p x since flight found doing).at
+
+    step_pays : PaysBy n ws flight (ask_of (want_of t.world.coding flight)) (step_in t.world p x flight (old_of ws (ask_of (want_of t.world.coding flight))))
+    step_pays =
+        subst (λ z. PaysBy n ws flight (ask_of (want_of z flight))
+        (step_of z ws (beside_of ws t.world.kept t.world.latest p) p x.start flight (old_of ws (ask_of (want_of z flight))) t.world.kept)) (sym s.coding)
+        (subst (λ kept. PaysIn code p (ask_of (want_of code flight)) (old_of ws (ask_of (want_of code flight))) kept x.start flight) (sym owners)
+        (pays_in p (set_acts_of p s.state.events) (acts_of p s.state.events) x.start flight at))
+
+    decision_pays : (said : Bool) → PaysBy n ws flight None (step_in t.world p x flight (number_of said))
+    decision_pays said =
+        subst (λ z. PaysIn z p None (number_of said) t.world.kept x.start flight) (sym s.coding)
+        (subst (λ kept. PaysIn code p None (number_of said) kept x.start flight) (sym owners)
+        (decides_in p (number_of said) (set_acts_of p s.state.events) (acts_of p s.state.events) x.start flight at))
+
+  module _ (r : Raised n t) where
+    answered : (p : ℕ) (x : Party T) (ask : Option Ask) (answer : ℕ) (doing : Doing T) → party_of p t.world.latest ≡ Some x → x.doing ≡ doing
+        → ((flight : Flight T) (since : ℕ) → doing ≡ Going flight since → PaysBy n ws flight ask (step_in t.world p x flight answer))
+        → Raised n record { world = after_answer t.world p x ask answer doing; events = t.events ++ events_of_answer t.world p x answer doing }
+    answered p x ask answer (Over others) found d pays = raised_same n t r
+    answered p x ask answer (Going flight since) found d pays =
+        raised_on n t _ p _ (step_owes n t p x flight since ask answer found d (pays flight since refl)) r
+
+    nexts : (p : ℕ) (o : Option (Party T)) → party_of p t.world.latest ≡ o
+        → Raised n record { world = after_next t.world p o; events = t.events ++ events_of_next t.world p o }
+    nexts p None found = raised_same n t r
+    nexts p (Some x) found =
+        let ask : Doing T → Option Ask = ask_of_doing t.world.coding in
+        answered p x (ask x.doing) (old_of t.world.words (ask x.doing)) x.doing found refl
+        (λ flight since d. subst (λ a. PaysBy n ws flight a (step_in t.world p x flight (old_of ws a))) (sym (ap ask d)) (step_pays p x flight since found d))
+
+    decides : (p : ℕ) (said : Bool) (o : Option (Party T)) → party_of p t.world.latest ≡ o
+        → Raised n record { world = after_decision t.world p said o; events = t.events ++ events_of_decision t.world p said o }
+    decides p said None found = raised_same n t r
+    decides p said (Some x) found =
+        answered p x None (number_of said) x.doing found refl (λ flight since d. decision_pays p x flight since found d said)
+
+    begins : (p : ℕ) (start : Start T) (o : Option (Flight T)) → first_of t.world.kind t.world.capacity start t.world.kept ≡ o → Raised n (begun t p start o)
+    begins p start None e =
+        let more = rises_more t.events (Begun p start ∷ []) in
+        let fits = r.fits in
+        record { seats = r.seats; beyond = r.beyond; fits = omega arith }
+    begins p start (Some flight) e =
+        raised_on n t _ p _
+        (begin_owes n t p start flight
+        (begins_any t.world.capacity p start t.world.kept flight
+        (subst (λ kind. first_of kind t.world.capacity start t.world.kept ≡ Some flight) s.kind e))) r
+
+    pub turn_raised : (turn : Turn T) → open_refusal t.world turn ≡ None → Raised n (after_turn t turn)
+    turn_raised (Begin p start) e = begins p start (first_of t.world.kind t.world.capacity start t.world.kept) refl
+    turn_raised (Next p) e = nexts p (party_of p t.world.latest) refl
+    turn_raised (Decide p said) e = decides p said (party_of p t.world.latest) refl
+    turn_raised (Die owner) e = absurd (cc)

@@ -1,0 +1,80 @@
+-- What a party's call under way has to do with one index, and what each event makes of that, and of who may give it back.
+use Rattle.std.proofs.Common.{◌≡◌, ◌≢◌, ◌⊎◌, ⊎_elim, inl, inr, ℕ, ◌==◌, Option, Some, None, List, [], ◌∷◌}
+use Rattle.std.proofs.Common.{arith, if◌then◌else◌}
+use Rattle.std.proofs.lemmas.Bool.{cases_eq}
+use Rattle.model.specs.declared.event.Start.{Start}
+use Rattle.model.specs.declared.event.Start.TheVariants.{Robust, Container}
+use Rattle.model.specs.declared.families.container.ContainerStart as containers
+use Rattle.model.specs.declared.families.indices.robust.RobustStart.TheVariants.{Acquire, Release}
+use Rattle.model.specs.Families.Indices.Robust.Reading.{SetAct, Fills, Grants, set_acts, without}
+use Rattle.model.specs.Reading.{Span, Open}
+use Rattle.laws_robust.proofs.Rights.{Right, Nobody, Settled, By, taken_by}
+
+-- it has filled it, it was granted it too, or it is to give it back; for this owner
+pub data Claim : Type 0 where
+  Apart : Claim
+  Filling : (owner : ℕ) → Claim
+  Held : (owner : ℕ) → Claim
+  Giving : (owner : ℕ) → Claim
+
+module _ (i : ℕ) where
+  abbrev pub fill_claim : ℕ → List SetAct → Claim
+  fill_claim o (Fills j p ∷ []) = if j == i then Filling o else Apart
+  fill_claim o (Fills j p ∷ Grants k q ∷ []) = if j == i then Held o else Apart
+  fill_claim o all = Apart
+
+  abbrev pub give_claim : ℕ → ℕ → List SetAct → Claim
+  give_claim j o [] = if j == i then Giving o else Apart
+  give_claim j o all = Apart
+
+  abbrev pub claim_by : {T : Type 0} → Start T → List SetAct → Claim
+  claim_by (Robust (Acquire o)) all = fill_claim o all
+  claim_by (Container (containers.TheVariants.Add value o)) all = fill_claim o all
+  claim_by (Robust (Release j o mode)) all = give_claim j o all
+  claim_by (Container (containers.TheVariants.Remove j o mode)) all = give_claim j o all
+  claim_by start all = Apart
+
+  abbrev pub claim : {T : Type 0} → Span T → Claim
+  claim (Open start wrote) = claim_by start (set_acts wrote)
+  claim span = Apart
+
+-- ---- what it is for all parties to claim rightly, where these are the index's owner, its holder, for whom it may be given
+-- ---- back, and who may
+
+pub record Good (filled holder settled : Option ℕ) (right : Right) (claims : ℕ → Claim) (Began : ℕ → ℕ → Type 0) : Type 0 where
+  pub held : (o : ℕ) → holder ≡ Some o → filled ≡ Some o
+  pub settles : (o : ℕ) → settled ≡ Some o → (filled ≡ Some o) × (right ≡ Settled o)
+  pub filling : (q o : ℕ) → claims q ≡ Filling o → (filled ≡ Some o) × (right ≡ By q) × (holder ≡ None)
+  pub holding : (q o : ℕ) → claims q ≡ Held o → (filled ≡ Some o) × (right ≡ By q)
+  pub giving : (q o : ℕ) → claims q ≡ Giving o → Began q o → (filled ≡ Some o) × (right ≡ By q)
+
+module _ (filled holder settled : Option ℕ) (right : Right) (claims next : ℕ → Claim) (Began After : ℕ → ℕ → Type 0)
+    (g : Good filled holder settled right claims Began) where
+  -- a call that goes on as it was, or claims nothing
+  abbrev pub Stays : ℕ → Type 0
+  Stays q = (next q ≡ Apart) ⊎ ((next q ≡ claims q) × ((o : ℕ) → After q o → Began q o))
+
+  pub quiet : ((q : ℕ) → Stays q) → Good filled holder settled right next After
+  quiet stays = grind arith
+
+  module _ (p o : ℕ) (others : (q : ℕ) → q ≢ p → Stays q) where
+    stays_or : (q : ℕ) → (q ≡ p) ⊎ Stays q
+    stays_or q = ⊎_elim inl (λ ne. inr (others q ne)) (cases_eq q p)
+
+    pub fills : filled ≡ None → next p ≡ Filling o → Good (Some o) holder settled (By p) next After
+    fills none mine = let each = stays_or in grind arith
+
+    pub grants : claims p ≡ Filling o → next p ≡ Held o → Good filled (Some o) settled right next After
+    grants was mine = let each = stays_or in let here = g.filling p o was in grind arith
+
+    pub finishes : claims p ≡ Held o → next p ≡ Apart → Good filled holder (Some o) (Settled o) next After
+    finishes was mine = let each = stays_or in let here = g.holding p o was in grind arith
+
+    pub begins : next p ≡ Giving o → (After p o → settled ≡ Some o) → Good filled holder (without o settled) (taken_by p o right) next After
+    begins mine began = let each = stays_or in grind arith
+
+    pub frees : next p ≡ Apart → claims p ≡ Giving o → Began p o → Good None None None Nobody next After
+    frees mine was began = let each = stays_or in let here = g.giving p o was began in grind arith
+
+  pub recovers : ((q : ℕ) → next q ≡ Apart) → Good None None None Nobody next After
+  recovers apart = grind arith

@@ -1,0 +1,427 @@
+-- Where each that frees an index may, each call that has filled it, or is to give it back, has the right to it, and so it is
+-- granted where nobody holds it.
+use Rattle.std.proofs.Common.{◌≡◌, ◌≢◌, ◌⊎◌, ⊎_elim, inl, inr, ℕ, ◌==◌, Bool, true, false, Option, Some, None, List, [], ◌∷◌, ◌++◌}
+use Rattle.std.proofs.Common.{refl, sym, ap, subst, ◌∙◌, append-nil, append_assoc, arith, if◌then◌else◌, eq-eqb}
+use Rattle.std.proofs.lemmas.Bool.{cases_eq}
+use Rattle.std.proofs.lemmas.List.Concat.{flat_map-append}
+use Rattle.std.proofs.lemmas.List.Sums.{fold-append}
+use Rattle.model.specs.declared.event.Answer.{Answer}
+use Rattle.model.specs.declared.event.Answer.TheVariants.{Index}
+use Rattle.model.specs.declared.event.Event.{Event}
+use Rattle.model.specs.declared.event.Event.TheVariants.{Begun, Filled, Granted, FreedOf, Asked, Told, Locked, Died, Finished}
+use Rattle.model.specs.declared.event.Start.{Start}
+use Rattle.model.specs.declared.event.Start.TheVariants.{Robust, Container}
+use Rattle.model.specs.declared.families.container.ContainerStart as containers
+use Rattle.model.specs.declared.families.indices.robust.RobustStart as robusts
+use Rattle.model.specs.Families.Container.Promises as container
+use Rattle.model.specs.Families.Indices.Robust.Promises as robust
+use Rattle.model.specs.Families.Indices.Robust.Promises.{SetDoes}
+use Rattle.model.specs.Families.Indices.Robust.Reading.{SetAct, Fills, Grants, Frees, Asks, Yes, Locks, set_act, set_acts, without}
+use Rattle.model.specs.Families.Indices.Robust.Reading.{filled_after, filled_of, holder_after, holder_of, settled_after, settled_of}
+use Rattle.model.specs.Moments.{BeginsNone, SinceBegin}
+use Rattle.model.specs.Promises.Spans.{Stands, StandsRight}
+use Rattle.model.specs.Reading.{Each, Span, Never, Open, Ended, longer, ended, own_after, span_after, span_of, is_party, whose}
+use Rattle.model.proofs.Readings.{AreRight, Each-append, Each-nil}
+use Rattle.laws_robust.proofs.Past.{since_less, since_begun}
+use Rattle.laws_robust.proofs.Rights.{Right, Nobody, Settled, By, taken_by, right_after, right_of}
+use Rattle.history_laws.specs.Grants.{is_at, MayFree, FreesRightAt, IsFreedRight, GrantsRightAt, IsHeldByOne}
+use Rattle.history_laws.proofs.GrantsClaims.{Claim, Apart, Filling, Held, Giving, fill_claim, give_claim, claim_by, claim}
+use Rattle.history_laws.proofs.GrantsClaims.{Good, quiet, fills, grants, finishes, begins, frees, recovers}
+use Rattle.history_laws.proofs.OwnersParts.{tested}
+
+-- a claim of the index j is one of i
+abbrev here : ℕ → ℕ → Claim → Claim
+here i j mine = if j == i then mine else Apart
+
+-- it claims nothing, or what it did
+abbrev Same : Claim → Claim → Type 0
+Same old new = (new ≡ Apart) ⊎ (new ≡ old)
+
+fill_more : (i o : ℕ) (all : List SetAct) (one : SetAct) → ((j n : ℕ) → one ≡ Fills j n → ⊥) → ((j n : ℕ) → one ≡ Grants j n → ⊥)
+    → fill_claim i o (all ++ one ∷ []) ≡ Apart
+fill_more i o [] one x y = grind arith
+fill_more i o (a ∷ []) one x y = grind arith
+fill_more i o (a ∷ b ∷ []) one x y = grind arith
+fill_more i o (a ∷ b ∷ d ∷ rest) one x y = grind arith
+
+give_more : (i j o : ℕ) (all : List SetAct) (one : SetAct) → give_claim i j o (all ++ one ∷ []) ≡ Apart
+give_more i j o [] one = refl
+give_more i j o (a ∷ rest) one = refl
+
+differ : (p q : ℕ) → q ≢ p → (p == q) ≡ false
+differ p q ne = go (p == q) refl
+  where
+    go : (b : Bool) → (p == q) ≡ b → (p == q) ≡ false
+    go true e = absurd (ne (sym (tested p q e)))
+    go false e = e
+
+module _ {T : Type 0} (i : ℕ) where
+  -- ---- what both structures say of an event
+
+  abbrev GaveBack : ℕ → ℕ → ℕ → List (Event T) → Type 0
+  GaveBack p j o before =
+      (claim i (span_of p before) ≡ here i j (Giving o)) × SinceBegin p (λ part since. settled_of j part ≡ Some o) before
+
+  abbrev pub Says : List (Event T) → Event T → Type 0
+  Says before (Filled p j o) = claim i (longer (span_of p before) (Filled p j o)) ≡ here i j (Filling o)
+  Says before (Granted p j o) =
+      (claim i (span_of p before) ≡ here i j (Filling o)) × (claim i (longer (span_of p before) (Granted p j o)) ≡ here i j (Held o))
+  Says before (FreedOf p j o) =
+      (claim i (longer (span_of p before) (FreedOf p j o)) ≡ Apart)
+      × (MayFree p j before (span_of p before) → GaveBack p j o before ⊎ ((q : ℕ) → is_at j (span_of q before) ≡ false))
+  Says before (Finished p (Robust (robusts.TheVariants.Acquire o)) (Index j)) = claim i (span_of p before) ≡ here i j (Held o)
+  Says before (Finished p (Container (containers.TheVariants.Add value o)) (Index j)) = claim i (span_of p before) ≡ here i j (Held o)
+  Says before e = Unit {0}
+
+  -- it says so of a container, and of a set
+  module _ (c : ℕ) where
+    container_fills : (p j o : ℕ) (span : Span T) → Stands container.promise c (Filled p j o) span
+        → claim i (longer span (Filled p j o)) ≡ here i j (Filling o)
+    container_fills p j o span h = grind (arith, flat_map-append)
+
+    robust_fills : (p j o : ℕ) (span : Span T) → Stands robust.promise c (Filled p j o) span
+        → claim i (longer span (Filled p j o)) ≡ here i j (Filling o)
+    robust_fills p j o span h = grind (arith, flat_map-append)
+
+    container_grants : (p j o : ℕ) (span : Span T) → Stands container.promise c (Granted p j o) span
+        → (claim i span ≡ here i j (Filling o)) × (claim i (longer span (Granted p j o)) ≡ here i j (Held o))
+    container_grants p j o span h = grind (arith, flat_map-append)
+
+    robust_grants : (p j o : ℕ) (span : Span T) → Stands robust.promise c (Granted p j o) span
+        → (claim i span ≡ here i j (Filling o)) × (claim i (longer span (Granted p j o)) ≡ here i j (Held o))
+    robust_grants p j o span h = grind (arith, flat_map-append)
+
+    container_frees : (p j o : ℕ) (span : Span T) → Stands container.promise c (FreedOf p j o) span
+        → claim i (longer span (FreedOf p j o)) ≡ Apart
+    container_frees p j o span h = grind (arith, flat_map-append)
+
+    robust_frees : (p j o : ℕ) (span : Span T) → Stands robust.promise c (FreedOf p j o) span
+        → claim i (longer span (FreedOf p j o)) ≡ Apart
+    robust_frees p j o span h = grind (arith, flat_map-append)
+
+    abbrev OneOf : ℕ → ℕ → ℕ → List (Event T) → Span T → Type 0
+    OneOf p j o before span =
+        ((claim i span ≡ here i j (Giving o)) × SinceBegin p (λ part since. settled_of j part ≡ Some o) before)
+        ⊎ ((q : ℕ) → is_at j (span_of q before) ≡ false)
+
+    container_one : (p j o : ℕ) (before : List (Event T)) (span : Span T) → Stands container.promise c (FreedOf p j o) span
+        → MayFree p j before span → OneOf p j o before span
+    container_one p j o before (Open (Container (containers.TheVariants.Remove k owner mode)) wrote) h may = inl (grind arith, subst (λ n. SinceBegin p (λ part since. settled_of j part ≡ Some n) before) (sym h.1) may)
+    container_one p j o before (Open (Container (containers.TheVariants.Recover owner mode)) wrote) h may = inr may
+    container_one p j o before span h may = absurd h
+
+    robust_one : (p j o : ℕ) (before : List (Event T)) (span : Span T) → Stands robust.promise c (FreedOf p j o) span
+        → MayFree p j before span → OneOf p j o before span
+    robust_one p j o before (Open (Robust (robusts.TheVariants.Release k owner mode)) wrote) h may = inl (grind arith, subst (λ n. SinceBegin p (λ part since. settled_of j part ≡ Some n) before) (sym h.1) may)
+    robust_one p j o before (Open (Robust (robusts.TheVariants.Recover mode)) wrote) h may = inr may
+    robust_one p j o before span h may = absurd h
+
+    container_ends : (p j o : ℕ) (value : T) (span : Span T)
+        → Stands container.promise c (Finished p (Container (containers.TheVariants.Add value o)) (Index j)) span → claim i span ≡ here i j (Held o)
+    container_ends p j o value span h = grind arith
+
+    container_ends_none : (p j o : ℕ) (span : Span T)
+        → Stands {T = T} container.promise c (Finished p (Robust (robusts.TheVariants.Acquire o)) (Index j)) span → ⊥
+    container_ends_none p j o span h = grind arith
+
+    robust_ends : (p j o : ℕ) (span : Span T)
+        → Stands {T = T} robust.promise c (Finished p (Robust (robusts.TheVariants.Acquire o)) (Index j)) span → claim i span ≡ here i j (Held o)
+    robust_ends p j o span h = grind arith
+
+    robust_ends_none : (p j o : ℕ) (value : T) (span : Span T)
+        → Stands robust.promise c (Finished p (Container (containers.TheVariants.Add value o)) (Index j)) span → ⊥
+    robust_ends_none p j o value span h = grind arith
+
+    pub container_says : (before : List (Event T)) (e : Event T) → StandsRight container.promise c before e → Says before e
+    container_says before (Filled p j o) h = container_fills p j o (span_of p before) h
+    container_says before (Granted p j o) h = container_grants p j o (span_of p before) h
+    container_says before (FreedOf p j o) h =
+        (container_frees p j o (span_of p before) h, λ may. container_one p j o before (span_of p before) h may)
+    container_says before (Finished p (Robust (robusts.TheVariants.Acquire o)) (Index j)) h = absurd (container_ends_none p j o (span_of p before) h)
+    container_says before (Finished p (Container (containers.TheVariants.Add value o)) (Index j)) h = container_ends p j o value (span_of p before) h
+    container_says before e h = tt
+
+    pub robust_says : (before : List (Event T)) (e : Event T) → StandsRight robust.promise c before e → Says before e
+    robust_says before (Filled p j o) h = robust_fills p j o (span_of p before) h
+    robust_says before (Granted p j o) h = robust_grants p j o (span_of p before) h
+    robust_says before (FreedOf p j o) h =
+        (robust_frees p j o (span_of p before) h, λ may. robust_one p j o before (span_of p before) h may)
+    robust_says before (Finished p (Robust (robusts.TheVariants.Acquire o)) (Index j)) h = robust_ends p j o (span_of p before) h
+    robust_says before (Finished p (Container (containers.TheVariants.Add value o)) (Index j)) h = absurd (robust_ends_none p j o value (span_of p before) h)
+    robust_says before e h = tt
+
+  -- ---- what an event makes of a claim
+
+  claim_more : (start : Start T) (all : List SetAct) (one : SetAct) → ((j n : ℕ) → one ≡ Fills j n → ⊥) → ((j n : ℕ) → one ≡ Grants j n → ⊥)
+      → claim_by i start (all ++ one ∷ []) ≡ Apart
+  claim_more start all one x y = grind (arith, fill_more, give_more)
+
+  -- what is written that is no such act
+  longer_same : (span : Span T) (e : Event T) → ((p j o : ℕ) → e ≡ Filled p j o → ⊥) → ((p j o : ℕ) → e ≡ Granted p j o → ⊥)
+      → Same (claim i span) (claim i (longer span e))
+  longer_same Never e x y = inl refl
+  longer_same (Ended start answer wrote) e x y = inl refl
+  longer_same (Open start wrote) (Filled p j o) x y = absurd (x p j o refl)
+  longer_same (Open start wrote) (Granted p j o) x y = absurd (y p j o refl)
+  longer_same (Open start wrote) (FreedOf p j o) x y =
+      inl (ap (claim_by i start) (flat_map-append set_act wrote (FreedOf p j o ∷ [])) ∙ claim_more start (set_acts wrote) (Frees j o) (λ a b e. cc) (λ a b e. cc))
+  longer_same (Open start wrote) (Asked p j o) x y =
+      inl (ap (claim_by i start) (flat_map-append set_act wrote (Asked p j o ∷ [])) ∙ claim_more start (set_acts wrote) (Asks j o) (λ a b e. cc) (λ a b e. cc))
+  longer_same (Open start wrote) (Told p j o) x y =
+      inl (ap (claim_by i start) (flat_map-append set_act wrote (Told p j o ∷ [])) ∙ claim_more start (set_acts wrote) (Yes j o) (λ a b e. cc) (λ a b e. cc))
+  longer_same (Open start wrote) (Locked p) x y =
+      inl (ap (claim_by i start) (flat_map-append set_act wrote (Locked p ∷ [])) ∙ claim_more start (set_acts wrote) Locks (λ a b e. cc) (λ a b e. cc))
+  longer_same (Open start wrote) e x y =
+      inr (ap (claim_by i start) (flat_map-append set_act wrote (e ∷ []) ∙ append-nil (set_acts wrote)))
+
+  ended_apart : (span : Span T) (answer : Answer T) → claim i (ended span answer) ≡ Apart
+  ended_apart Never answer = refl
+  ended_apart (Open start wrote) answer = refl
+  ended_apart (Ended start first wrote) answer = refl
+
+  -- ---- one event
+
+  abbrev Began : List (Event T) → ℕ → ℕ → Type 0
+  Began events q o = SinceBegin q (λ part since. settled_of i part ≡ Some o) events
+
+  abbrev pub GoodAt : List (Event T) → Type 0
+  GoodAt events =
+      Good (filled_of i events) (holder_of i events) (settled_of i events) (right_of i events) (λ q. claim i (span_of q events)) (Began events)
+
+  own_span : (p : ℕ) (e : Event T) (span : Span T) → whose e ≡ Some p → span_after p span e ≡ own_after span e
+  own_span p e span is =
+      ap (λ o. if is_party p o then own_after span e else span) is ∙ ap (λ b. if b then own_after span e else span) (eq-eqb p p refl)
+
+  other_span : (p q : ℕ) (e : Event T) (span : Span T) → whose e ≡ Some p → q ≢ p → span_after q span e ≡ span
+  other_span p q e span is ne =
+      ap (λ o. if is_party q o then own_after span e else span) is ∙ ap (λ b. if b then own_after span e else span) (differ p q ne)
+
+  begins_none : (p q : ℕ) (e : Event T) → whose e ≡ Some p → q ≢ p → BeginsNone q (e ∷ [])
+  begins_none p q (Begun r start) is ne = (λ same. ne (sym same ∙ some_is r p is), tt)
+    where
+      some_is : (r p : ℕ) → Some r ≡ Some p → r ≡ p
+      some_is r p e = cc
+  begins_none p q e is ne = tt
+
+  -- neither a fill, nor a grant, nor the begin of a call that gives back
+  abbrev Calm : Event T → Type 0
+  Calm (Filled p j o) = ⊥
+  Calm (Granted p j o) = ⊥
+  Calm (Begun p (Robust (robusts.TheVariants.Release j o mode))) = ⊥
+  Calm (Begun p (Container (containers.TheVariants.Remove j o mode))) = ⊥
+  Calm e = Unit {0}
+
+  begun_apart : (p : ℕ) (start : Start T) → Calm (Begun p start) → claim_by i start [] ≡ Apart
+  begun_apart p (Robust (robusts.TheVariants.Release j o mode)) calm = absurd calm
+  begun_apart p (Container (containers.TheVariants.Remove j o mode)) calm = absurd calm
+  begun_apart p (Robust (robusts.TheVariants.Acquire o)) calm = refl
+  begun_apart p start calm = refl
+
+  module _ (events : List (Event T)) (g : GoodAt events) where
+    abbrev filled : Option ℕ
+    filled = filled_of i events
+
+    abbrev holder : Option ℕ
+    holder = holder_of i events
+
+    abbrev settled : Option ℕ
+    settled = settled_of i events
+
+    abbrev right : Right
+    right = right_of i events
+
+    abbrev claims : ℕ → Claim
+    claims q = claim i (span_of q events)
+
+    abbrev claims_then : Event T → ℕ → Claim
+    claims_then e q = claim i (span_after q (span_of q events) e)
+
+    abbrev StaysBy : Event T → ℕ → Type 0
+    StaysBy e q = (claims_then e q ≡ Apart) ⊎ ((claims_then e q ≡ claims q) × ((o : ℕ) → Began (events ++ e ∷ []) q o → Began events q o))
+
+    went_on : (e : Event T) (q : ℕ) → BeginsNone q (e ∷ []) → (o : ℕ) → Began (events ++ e ∷ []) q o → Began events q o
+    went_on e q none o h = since_less q (λ part. settled_of i part ≡ Some o) events (e ∷ []) none h
+
+    others : (p : ℕ) (e : Event T) → whose e ≡ Some p → (q : ℕ) → q ≢ p → StaysBy e q
+    others p e is q ne = inr (ap (claim i) (other_span p q e (span_of q events) is ne), went_on e q (begins_none p q e is ne))
+
+    mine_then : (p : ℕ) (e : Event T) (to : Claim) → whose e ≡ Some p → claim i (own_after (span_of p events) e) ≡ to → claims_then e p ≡ to
+    mine_then p e to is h = ap (claim i) (own_span p e (span_of p events) is) ∙ h
+
+    all_stay : (p : ℕ) (e : Event T) → whose e ≡ Some p → StaysBy e p → (q : ℕ) → StaysBy e q
+    all_stay p e is mine q = ⊎_elim (λ same. subst (StaysBy e) (sym same) mine) (others p e is q) (cases_eq q p)
+
+    same_stays : (p : ℕ) (e : Event T) → whose e ≡ Some p → BeginsNone p (e ∷ []) → Same (claims p) (claim i (own_after (span_of p events) e)) → StaysBy e p
+    same_stays p e is none same =
+        ⊎_elim (λ apart. inl (mine_then p e Apart is apart)) (λ still. inr (mine_then p e (claims p) is still, went_on e p none)) same
+
+    abbrev Then : Event T → Type 0
+    Then e =
+        Good (filled_after i filled e) (holder_after i holder e) (settled_after i settled e) (right_after i right e) (claims_then e) (Began (events ++ e ∷ []))
+
+    quietly : (e : Event T) → ((q : ℕ) → StaysBy e q) → Good filled holder settled right (claims_then e) (Began (events ++ e ∷ []))
+    quietly e stays = quiet filled holder settled right claims (claims_then e) (Began events) (Began (events ++ e ∷ [])) g stays
+
+    -- where it is none of this index
+    elsewhere : (p j : ℕ) (e : Event T) (to : Claim) → whose e ≡ Some p → (j == i) ≡ false → claim i (own_after (span_of p events) e) ≡ here i j to
+        → (q : ℕ) → StaysBy e q
+    elsewhere p j e to is other h = all_stay p e is (inl (mine_then p e Apart is (h ∙ ap (λ b. if b then to else Apart) other)))
+
+    at_here : (j : ℕ) (to c : Claim) → (j == i) ≡ true → c ≡ here i j to → c ≡ to
+    at_here j to c same h = h ∙ ap (λ b. if b then to else Apart) same
+
+    step_fill : (c p j o : ℕ) → SetDoes c events (Filled p j o) → Says events (Filled p j o) → Then (Filled p j o)
+    step_fill c p j o does says = go (j == i) refl
+      where
+        e : Event T
+        e = Filled p j o
+
+        go : (b : Bool) → (j == i) ≡ b
+            → Good (if b then Some o else filled) holder settled (if b then By p else right) (claims_then (Filled p j o)) (Began (events ++ Filled p j o ∷ []))
+        go true same =
+            fills filled holder settled right claims (claims_then (Filled p j o)) (Began events) (Began (events ++ Filled p j o ∷ [])) g p o
+            (others p (Filled p j o) refl) (subst (λ n. filled_of n events ≡ None) (tested j i same) does.1)
+            (mine_then p (Filled p j o) (Filling o) refl (at_here j (Filling o) _ same says))
+        go false other = quietly (Filled p j o) (elsewhere p j (Filled p j o) (Filling o) refl other says)
+
+    step_grant : (p j o : ℕ) → Says events (Granted p j o) → Then (Granted p j o)
+    step_grant p j o says = go (j == i) refl
+      where
+        go : (b : Bool) → (j == i) ≡ b
+            → Good filled (if b then Some o else holder) settled right (claims_then (Granted p j o)) (Began (events ++ Granted p j o ∷ []))
+        go true same =
+            grants filled holder settled right claims (claims_then (Granted p j o)) (Began events) (Began (events ++ Granted p j o ∷ [])) g p o
+            (others p (Granted p j o) refl) (at_here j (Filling o) _ same says.0)
+            (mine_then p (Granted p j o) (Held o) refl (at_here j (Held o) _ same says.1))
+        go false other = quietly (Granted p j o) (elsewhere p j (Granted p j o) (Held o) refl other says.1)
+
+    -- the index is granted where nobody holds it
+    grant_right : (p j o : ℕ) → Says events (Granted p j o) → GrantsRightAt i events (Granted p j o)
+    grant_right p j o says same =
+        subst (λ n. holder_of n events ≡ None) (sym same) (g.filling p o (at_here j (Filling o) _ (eq-eqb j i same) says.0)).2
+
+    -- who is not at it claims nothing of it
+    not_at : (span : Span T) → is_at i span ≡ false → claim i span ≡ Apart
+    not_at span none = grind arith
+
+    step_free : (p j o : ℕ) → Says events (FreedOf p j o) → FreesRightAt i events (FreedOf p j o) → Then (FreedOf p j o)
+    step_free p j o says may = go (j == i) refl
+      where
+        go : (b : Bool) → (j == i) ≡ b
+            → Good (if b then None else filled) (if b then None else holder) (if b then None else settled) (if b then Nobody else right)
+            (claims_then (FreedOf p j o)) (Began (events ++ FreedOf p j o ∷ []))
+        go false other =
+            quietly (FreedOf p j o) (all_stay p (FreedOf p j o) refl (inl (mine_then p (FreedOf p j o) Apart refl says.0)))
+        go true same =
+            let is = tested j i same in
+            ⊎_elim
+            (λ gave. frees filled holder settled right claims (claims_then (FreedOf p j o)) (Began events) (Began (events ++ FreedOf p j o ∷ [])) g p o
+            (others p (FreedOf p j o) refl) (mine_then p (FreedOf p j o) Apart refl says.0) (at_here j (Giving o) _ same gave.0)
+            (subst (λ n. SinceBegin p (λ part since. settled_of n part ≡ Some o) events) is gave.1))
+            (λ none. recovers filled holder settled right claims (claims_then (FreedOf p j o)) (Began events) (Began (events ++ FreedOf p j o ∷ [])) g
+            (λ q. ⊎_elim (λ own. subst (λ n. claims_then (FreedOf p j o) n ≡ Apart) (sym own) (mine_then p (FreedOf p j o) Apart refl says.0))
+            (λ ne. ap (claim i) (other_span p q (FreedOf p j o) (span_of q events) refl ne)
+            ∙ not_at (span_of q events) (subst (λ n. is_at n (span_of q events) ≡ false) is (none q))) (cases_eq q p)))
+            (says.1 (may is))
+
+    -- a call that was granted an index ends
+    step_end : (p j o : ℕ) (e : Event T) → whose e ≡ Some p → claim i (own_after (span_of p events) e) ≡ Apart → claims p ≡ here i j (Held o)
+        → (b : Bool) → (j == i) ≡ b
+        → Good filled holder (if b then Some o else settled) (if b then Settled o else right) (claims_then e) (Began (events ++ e ∷ []))
+    step_end p j o e is apart was true same =
+        finishes filled holder settled right claims (claims_then e) (Began events) (Began (events ++ e ∷ [])) g p o
+        (others p e is) (at_here j (Held o) _ same was) (mine_then p e Apart is apart)
+    step_end p j o e is apart was false other = quietly e (all_stay p e is (inl (mine_then p e Apart is apart)))
+
+    -- a call begins that is to give an index back
+    step_begin : (p j o : ℕ) (start : Start T) → claim i {T = T} (Open start []) ≡ here i j (Giving o) → (b : Bool) → (j == i) ≡ b
+        → Good filled holder (if b then without o settled else settled) (if b then taken_by p o right else right) (claims_then (Begun p start))
+        (Began (events ++ Begun p start ∷ []))
+    step_begin p j o start to true same =
+        begins filled holder settled right claims (claims_then (Begun p start)) (Began events) (Began (events ++ Begun p start ∷ [])) g p o
+        (others p (Begun p start) refl) (mine_then p (Begun p start) (Giving o) refl (at_here j (Giving o) _ same to))
+        (λ began. since_begun p (λ part. settled_of i part ≡ Some o) events start began)
+    step_begin p j o start to false other = quietly (Begun p start) (elsewhere p j (Begun p start) (Giving o) refl other to)
+
+    stays_calm : (e : Event T) → Calm e → (q : ℕ) → StaysBy e q
+    stays_calm e calm q = by e (whose e) refl calm
+      where
+        own : (p : ℕ) (e : Event T) → whose e ≡ Some p → Calm e → StaysBy e p
+        own p (Begun r start) is calm = inl (mine_then p (Begun r start) Apart is (begun_apart r start calm))
+        own p (Finished r start answer) is calm = inl (mine_then p (Finished r start answer) Apart is (ended_apart (span_of p events) answer))
+        own p (Filled r j o) is calm = absurd calm
+        own p (Granted r j o) is calm = absurd calm
+        own p e is calm = same_stays p e is tt (longer_same (span_of p events) e (λ r j o same. cc) (λ r j o same. cc))
+
+        by : (e : Event T) (o : Option ℕ) → whose e ≡ o → Calm e → StaysBy e q
+        by e (Some p) is calm = all_stay p e is (own p e is calm) q
+        by (Died o) None is calm = inr (refl, went_on (Died o) q tt)
+        by e None is calm = absurd (cc)
+
+    step : (c : ℕ) (e : Event T) → SetDoes c events e → Says events e → FreesRightAt i events e → Then e
+    step c (Filled p j o) does says may = step_fill c p j o does says
+    step c (Granted p j o) does says may = step_grant p j o says
+    step c (FreedOf p j o) does says may = step_free p j o says may
+    step c (Finished p (Robust (robusts.TheVariants.Acquire o)) (Index j)) does says may =
+        step_end p j o (Finished p (Robust (robusts.TheVariants.Acquire o)) (Index j)) refl (ended_apart (span_of p events) (Index j)) says (j == i) refl
+    step c (Finished p (Container (containers.TheVariants.Add value o)) (Index j)) does says may =
+        step_end p j o (Finished p (Container (containers.TheVariants.Add value o)) (Index j)) refl (ended_apart (span_of p events) (Index j)) says (j == i) refl
+    step c (Begun p (Robust (robusts.TheVariants.Release j o mode))) does says may =
+        step_begin p j o (Robust (robusts.TheVariants.Release j o mode)) refl (j == i) refl
+    step c (Begun p (Container (containers.TheVariants.Remove j o mode))) does says may =
+        step_begin p j o (Container (containers.TheVariants.Remove j o mode)) refl (j == i) refl
+    step c e does says may = quietly e (stays_calm e tt)
+
+    right_now : (e : Event T) → Says events e → GrantsRightAt i events e
+    right_now (Granted p j o) says = grant_right p j o says
+    right_now e says = tt
+
+    good_then : (c : ℕ) (e : Event T) → SetDoes c events e → Says events e → FreesRightAt i events e → GoodAt (events ++ e ∷ [])
+    good_then c e does says may =
+        let new = step c e does says may in
+        let was_filled = fold-append (filled_after i) None events (e ∷ []) in
+        let was_holder = fold-append (holder_after i) None events (e ∷ []) in
+        let was_settled = fold-append (settled_after i) None events (e ∷ []) in
+        let was_right = fold-append (right_after i) Nobody events (e ∷ []) in
+        let spans : (q : ℕ) → span_of q (events ++ e ∷ []) ≡ span_after q (span_of q events) e = λ q. fold-append (span_after q) Never events (e ∷ []) in
+        let moved =
+        quiet _ _ _ _ (claims_then e) (λ q. claim i (span_of q (events ++ e ∷ []))) (Began (events ++ e ∷ [])) (Began (events ++ e ∷ [])) new
+        (λ q. inr (ap (claim i) (spans q), λ o h. h)) in
+        subst (λ x. Good x (holder_of i (events ++ e ∷ [])) (settled_of i (events ++ e ∷ [])) (right_of i (events ++ e ∷ [])) (λ q. claim i (span_of q (events ++ e ∷ []))) (Began (events ++ e ∷ []))) (sym was_filled)
+        (subst (λ x. Good (filled_after i filled e) x (settled_of i (events ++ e ∷ [])) (right_of i (events ++ e ∷ [])) (λ q. claim i (span_of q (events ++ e ∷ []))) (Began (events ++ e ∷ []))) (sym was_holder)
+        (subst (λ x. Good (filled_after i filled e) (holder_after i holder e) x (right_of i (events ++ e ∷ [])) (λ q. claim i (span_of q (events ++ e ∷ []))) (Began (events ++ e ∷ []))) (sym was_settled)
+        (subst (λ x. Good (filled_after i filled e) (holder_after i holder e) (settled_after i settled e) x (λ q. claim i (span_of q (events ++ e ∷ []))) (Began (events ++ e ∷ []))) (sym was_right) moved)))
+
+  -- ---- all events
+
+  none_yet : GoodAt []
+  none_yet =
+      record {
+        held = λ o e. absurd (cc);
+        settles = λ o e. absurd (cc);
+        filling = λ q o e. absurd (cc);
+        holding = λ q o e. absurd (cc);
+        giving = λ q o e began. absurd (cc);
+      }
+
+  all_right : (c : ℕ) (events es : List (Event T)) → Each (SetDoes c) (events ++ es) → Each Says (events ++ es) → Each (FreesRightAt i) (events ++ es)
+      → GoodAt events → AreRight (GrantsRightAt i) events es
+  all_right c events [] does says may g = tt
+  all_right c events (e ∷ es) does says may g =
+      let is : (events ++ e ∷ []) ++ es ≡ events ++ e ∷ es = append_assoc events (e ∷ []) es in
+      let next = good_then events g c e (does events es e refl) (says events es e refl) (may events es e refl) in (
+        right_now events g e (says events es e refl),
+        all_right c (events ++ e ∷ []) es (subst (Each (SetDoes c)) (sym is) does) (subst (Each Says) (sym is) says)
+            (subst (Each (FreesRightAt i)) (sym is) may) next,
+      )
+
+  held_by_one : (c : ℕ) (events : List (Event T)) → Each (SetDoes c) events → Each Says events → IsFreedRight i events → IsHeldByOne i events
+  held_by_one c events does says may = Each-append (GrantsRightAt i) [] events (Each-nil (GrantsRightAt i)) (all_right c [] events does says may none_yet)
+
+  pub container_held : (c : ℕ) (events : List (Event T)) → Each (SetDoes c) events → Each (StandsRight container.promise c) events
+      → IsFreedRight i events → IsHeldByOne i events
+  container_held c events does spans may = held_by_one c events does (λ before after e is. container_says c before e (spans before after e is)) may
+
+  pub set_held : (c : ℕ) (events : List (Event T)) → Each (SetDoes c) events → Each (StandsRight robust.promise c) events
+      → IsFreedRight i events → IsHeldByOne i events
+  set_held c events does spans may = held_by_one c events does (λ before after e is. robust_says c before e (spans before after e is)) may

@@ -1,0 +1,5 @@
+use Rattle.history_laws.proofs.GrantsLaws.{container_grants}
+use Rattle.history_laws.proofs.grants.container_indices_are_held_by_one.Goals as goal
+
+pub returns : goal.returns
+returns g c index code capacity events h freed = container_grants index code capacity events h freed

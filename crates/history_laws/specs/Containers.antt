@@ -1,0 +1,110 @@
+-- That the values of a container stand whole, by its history: what the events have to keep to, and what they then say.
+use Rattle.std.specs.Prelude.{◌≡◌, ℕ, ◌+◌, ◌-◌, ◌*◌, ◌^◌, ◌<◌, ◌==◌, Bool, true, false, List, sum_by}
+use Rattle.model.specs.declared.event.Event.{Event}
+use Rattle.model.specs.declared.event.Event.TheVariants.{Begun, FreedOf, Told, Hidden, Died, Finished}
+use Rattle.model.specs.declared.event.Start.{Start}
+use Rattle.model.specs.declared.event.Start.TheVariants.{Container}
+use Rattle.model.specs.declared.families.container.ContainerStart.TheVariants.{Add, Remove, Replace, Recover}
+use Rattle.model.specs.Families.Container.Promises.{ReplacesRight, ContainsRight, PlacesRight}
+use Rattle.model.specs.Families.Container.Reading.{MayReplace}
+use Rattle.model.specs.Families.Container.Removals.{HidesRight}
+use Rattle.model.specs.Families.Indices.Robust.Promises.{FreesRight, HoldsRight, IsFilledWith}
+use Rattle.model.specs.Moments.{HeldSometime}
+use Rattle.model.specs.Reading.{Each, Span, Open, span_of}
+use Rattle.laws_robust.specs.Gone.{Word, is_gone}
+use Rattle.history_laws.specs.Owners.{changes, LocksApart}
+
+module _ {T : Type 0} where
+  -- ---- nobody acts for an owner in recovery
+
+  -- the call adds, removes or replaces for this owner
+  abbrev pub is_for : ℕ → Start T → Bool
+  is_for owner (Container (Add value o)) = o == owner
+  is_for owner (Container (Remove index o mode)) = o == owner
+  is_for owner (Container (Replace index value o)) = o == owner
+  is_for owner start = false
+
+  -- such a call is under way
+  abbrev pub is_acting : ℕ → Span T → Bool
+  is_acting owner (Open start wrote) = is_for owner start
+  is_acting owner span = false
+
+  -- no call for an owner begins who is gone, and no recovery of one for whom a call is under way
+  abbrev pub BeginsRight : List (Event T) → Event T → Type 0
+  BeginsRight before (Begun p (Container (Recover owner mode))) = (q : ℕ) → is_acting owner (span_of q before) ≡ false
+  BeginsRight before (Begun p start) = (owner : ℕ) → is_for owner start ≡ true → is_gone Word owner before ≡ false
+  BeginsRight before e = Unit {0}
+
+  abbrev pub IsFaithful : List (Event T) → Type 0
+  IsFaithful events = Each BeginsRight events
+
+  -- ---- each gives back, and replaces, what is his
+
+  -- A remove that frees was begun where its index might be given back for its owner, and a replace that has replaced,
+  -- or is under way at an index that was its owner's meanwhile, where it might be replaced.
+  pub record IsWellFormed (events : List (Event T)) : Type 0 where
+    pub frees : Each FreesRight events
+    pub replaced : Each ReplacesRight events
+    pub replaces : (p index owner : ℕ) (value : T) (wrote : List (Event T))
+        → span_of p events ≡ Open (Container (Replace index value owner)) wrote
+        → HeldSometime p (IsFilledWith owner index) events → MayReplace p index owner events
+
+  -- ---- no number comes round
+
+  -- By how much the numbers of elements, and the number of changes, go up at most: a call that places a value counts
+  -- it and the change, one that hides some counts the change, and each that is hidden counts once.
+  abbrev pub rise : Event T → ℕ
+  rise (Begun p (Container (Add value owner))) = 2
+  rise (Begun p (Container (Replace index value owner))) = 2
+  rise (Begun p (Container (Remove index owner mode))) = 1
+  rise (Begun p (Container (Recover owner mode))) = 1
+  rise (Hidden p index) = 1
+  rise e = 0
+
+  abbrev pub rises : List (Event T) → ℕ
+  rises events = sum_by rise events
+
+  -- neither these nor the counter of its set can have come round
+  abbrev pub IsYoung : List (Event T) → Type 0
+  IsYoung events = 3 * changes events + rises events < 2 ^ 64 - 3
+
+  -- ---- what is asked of the events, and what they say then
+
+  -- Each acts for owners who are there, and on what is his; no two calls that may lock overlap, each of which could
+  -- make the other raise the counter any number of times; and no number has come round.
+  pub record IsOrderly (events : List (Event T)) : Type 0 where
+    pub well_formed : IsWellFormed events
+    pub faithful : IsFaithful events
+    pub apart : LocksApart events
+    pub young : IsYoung events
+
+  -- No index is granted that is held. A value is placed where nothing stands, and hidden where something does; what is
+  -- copied stands there, whole. An add or a replace that succeeded has placed its value, and what stood at an index
+  -- that a call has freed is hidden before that call ends.
+  pub record IsContained (events : List (Event T)) : Type 0 where
+    pub holders : Each HoldsRight events
+    pub contents : Each ContainsRight events
+    pub placed : Each PlacesRight events
+    pub hidden : Each HidesRight events
+
+  -- ---- histories in which little can go wrong
+
+  -- the event tells that an owner is gone: he has died, a recovery of him begins, or is told to free an index of his
+  abbrev pub recovery : Event T → ℕ
+  recovery (Died owner) = 1
+  recovery (Told p index owner) = 1
+  recovery (Begun p (Container (Recover owner mode))) = 1
+  recovery e = 0
+
+  abbrev pub recoveries : List (Event T) → ℕ
+  recoveries events = sum_by recovery events
+
+  -- an index is freed, or a replace begins or ends
+  abbrev pub removal : Event T → ℕ
+  removal (FreedOf p index owner) = 1
+  removal (Begun p (Container (Replace index value owner))) = 1
+  removal (Finished p (Container (Replace index value owner)) answer) = 1
+  removal e = 0
+
+  abbrev pub removals : List (Event T) → ℕ
+  removals events = sum_by removal events
