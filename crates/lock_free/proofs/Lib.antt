@@ -1,6 +1,7 @@
 -- For clients: what follows for who has the whole share, and what their proofs are made of.
 pub use Rattle.lock_free_value.proofs.Versions as ValueVersions
 pub use Rattle.history.proofs.Known as HistoryKnown
+pub use Rattle.history.proofs.Acts as HistoryActs
 pub use Rattle.lock_free_queues.proofs.Queues.Positions as QueuePositions
 pub use Rattle.lock_free_queues.proofs.Queues.Promised as QueuePromises
 pub use Rattle.lock_free_queues.proofs.Queues.Sums as QueueSums
@@ -11,7 +12,9 @@ pub use Rattle.threaded.proofs.Shares
 mod Names
 pub mod Sums
 mod Looks
+mod Steps
 pub mod Ends
+pub mod Closures
 pub mod Unique
 pub mod Loan
 pub mod Sets

@@ -9,7 +9,7 @@ pub use Rattle.history.specs.History.{Called, IsBeginning, IsHistory, IsMachine,
 pub use Rattle.history.specs.Indices.{counts_out, given_by, gives_index, gives_or_locks, looks_locked, takes_index}
 pub use Rattle.history.specs.Known.{events_by}
 pub use Rattle.history.specs.Stages.{At, Calling, Ends}
-pub use Rattle.history.specs.Views.{Looks, first_view, joined_view}
+pub use Rattle.history.specs.Views.{Looks, LooksOnce, first_view, joined_view}
 pub use Rattle.history.specs.declared.view.View.{View}
 pub use Rattle.laws_bits.proofs.Bits.Justified.{bits_go_on}
 pub use Rattle.laws_bits.proofs.Counts.Justified.{counts_go_on}

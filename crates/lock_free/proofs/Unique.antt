@@ -4,3 +4,4 @@ pub mod Machine
 pub mod Facts
 pub mod Whole
 pub mod Holding
+pub mod Pools

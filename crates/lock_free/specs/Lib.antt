@@ -12,6 +12,17 @@ pub use Rattle.history.specs.Known as HistoryKnown
 pub use Rattle.model.specs.Coding
 pub use Rattle.history.specs.Held as HistoryHeld
 pub use Rattle.history.specs.Passes
+pub use Rattle.history.specs.Steps as HistorySteps
+pub use Rattle.history_laws.specs.Indices as IndexLaws
+pub use Rattle.history_laws.specs.Bits as BitLaws
+pub use Rattle.history_laws.specs.Counts as CountLaws
+pub use Rattle.history_laws.specs.Owners as OwnerLaws
+pub use Rattle.history_laws.specs.Containers as ContainerLaws
+pub use Rattle.history_laws.specs.Grants as GrantLaws
+pub use Rattle.history.specs.Acts as HistoryActs
+pub use Rattle.history.specs.Order as HistoryOrder
+pub use Rattle.model.specs.Linearizable
+pub use Rattle.model.specs.Linearized
 pub use Rattle.model.specs.Families.Indices.Reading as IndexReading
 pub use Rattle.model.specs.Families.Indices.Promises as IndexPromises
 pub use Rattle.model.specs.Families.Bits.Reading as Sums

@@ -1,4 +1,5 @@
 -- The words of the contracts of unique index sets.
 pub mod Held
+pub mod Pools
 pub mod Told
 pub mod Handles

@@ -1,8 +1,9 @@
 //! The containers of the Rust crate iceoryx2-bb-lock-free, for the threads of one process, under its module paths.
 #![tactic(auto)]
 
+pub mod laws;
 pub mod mpmc;
 pub mod spsc;
 
 pub use lock_free_owners::laws as owner_laws;
-pub use lock_free_sp::{laws, spmc, spsc_laws, value_laws, words};
+pub use lock_free_sp::{spmc, spsc_laws, value_laws, words};

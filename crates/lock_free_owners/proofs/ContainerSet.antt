@@ -13,3 +13,6 @@ pub mod Finds
 pub mod RecoverTurns
 pub mod Recoveries
 pub mod States
+pub mod Changes
+pub mod Meeting
+pub mod Steps

@@ -6,3 +6,4 @@ pub mod Turns
 pub mod Asking
 pub mod Finding
 pub mod Recoveries
+pub mod Looking

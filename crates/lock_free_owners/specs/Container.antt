@@ -12,3 +12,4 @@ pub mod Callable
 pub mod Visits
 pub mod Questions
 pub mod Handles
+pub mod Steps

@@ -2,5 +2,7 @@ pub mod Stages
 pub mod Callable
 pub mod Told
 pub mod Finding
+pub mod Recovering
 pub mod Turns
 pub mod Handles
+pub mod Steps

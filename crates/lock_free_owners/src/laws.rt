@@ -1,11 +1,13 @@
 //! What one history of a robust unique index set says, and of a container: laws of every history that a pass has seen. The
 //! functions do nothing: the contract of each is the law, whose proof is a lemma that a client's proof can cite.
-ghost use Rattle.std.specs.Prelude.{ℕ, List};
+ghost use Rattle.std.specs.Prelude.{ℕ, ◌<◌, ◌-◌, ◌^◌, List};
 ghost use Rattle.model.specs.declared.event.Event.{Event};
 ghost use Rattle.model.specs.declared.turn.Kind.TheVariants as kinds;
 ghost use Rattle.model.specs.Coding.{Coding, one_word};
 ghost use Rattle.model.specs.Families.Container.Promises.{IsWellFormedRun, IsContained};
+ghost use Rattle.model.specs.Reading.{Each};
 ghost use Rattle.laws_container.specs.Open.{IsFaithfulRun};
+ghost use Rattle.laws_turns.specs.Changes.{changes_of, MeetsChanges};
 ghost use Rattle.history.specs.History.{IsHistory};
 ghost use Rattle.lock_free_owners.specs.Robust.Told.{IsSound};
 ghost use Rattle.lock_free_owners.specs.Container.Told as containers;
@@ -32,4 +34,12 @@ pub fn container_histories_are_contained<T>()
     ensures { (code : Coding T) (capacity : ℕ) (events : List (Event T))
         → (h : IsHistory code kinds.Container capacity events)
         → IsWellFormedRun h.trace → IsFaithfulRun h.trace h.run.reached → IsContained h.trace }
+{}
+
+/// And what an update of the state that a pass has answers, in a history of fewer than 2^64 - 1 changes: true where one was
+/// counted since the look began that last brought that state up to date, and false where none was since that look ended.
+pub fn container_updates_meet_changes<T>()
+    ensures { (code : Coding T) (capacity : ℕ) (events : List (Event T))
+        → IsHistory code kinds.Container capacity events → changes_of events < 2 ^ 64 - 1
+        → Each MeetsChanges events }
 {}

@@ -18,9 +18,15 @@ pub mod Numbers
 pub mod Positions
 pub mod Reads
 pub mod Cells
+pub mod Paid
 pub mod Closes
 pub mod Promised
 pub mod Whole
 pub mod Sums
+pub mod Sent
+pub mod Passed
+pub mod Relays
+pub mod TakenOut
+pub mod Merging
 pub mod Free
 pub mod OverCloses

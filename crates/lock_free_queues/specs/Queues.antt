@@ -9,6 +9,9 @@ pub mod Values
 pub mod Overflowing
 pub mod Told
 pub mod Sums
+pub mod Sent
+pub mod Relays
+pub mod Merges
 pub mod Positions
 pub mod Closes
 pub mod Reads

@@ -1,35 +1,46 @@
 //! What one history of a queue says: laws of every history that a pass has seen. Those that name a kind are of a queue
 //! of any kind, and with `IsBounded` of those that refuse a push where they are full. These functions do nothing: the
 //! contract of each is a law, whose proof is a lemma that a client's proof can cite.
-ghost use Rattle.std.specs.Prelude.{◌≡◌, ◌⊎◌, ◌<◌, ◌≤◌, ◌+◌, ℕ, Bool, true, false, Some, None, List, length, sum_by};
+ghost use Rattle.std.specs.Prelude.{◌≡◌, ◌⊎◌, ◌<◌, ◌≤◌, ◌+◌, ◌-◌, ◌^◌, ◌++◌, ◌∷◌, [], ℕ, Bool, true, false};
+ghost use Rattle.std.specs.Prelude.{Option, Some, None, IfNone, List, length, map, take, sum_by, is_some};
 ghost use Rattle.steps.specs.declared.queues.roles.Role.{Role};
 ghost use Rattle.model.specs.declared.event.Answer.{Answer};
 ghost use Rattle.model.specs.declared.event.Event.{Event};
 ghost use Rattle.model.specs.declared.event.Item.{Item};
+ghost use Rattle.model.specs.declared.event.Item.TheVariants.{Index};
 ghost use Rattle.model.specs.declared.families.queues.QueueKind.{QueueKind};
 ghost use Rattle.model.specs.declared.families.queues.calls.LengthOf.{LengthOf};
+ghost use Rattle.model.specs.declared.turn.Kind.{Kind};
 ghost use Rattle.model.specs.declared.turn.Kind.TheVariants as kinds;
-ghost use Rattle.model.specs.Coding.{Coding};
-ghost use Rattle.model.specs.Families.Queues.Reading.{published, handed_out};
+ghost use Rattle.model.specs.Coding.{Coding, one_word};
+ghost use Rattle.model.specs.Families.Queues.Reading.{published, handed_out, waiting};
 ghost use Rattle.model.specs.Linearizable.{IsLinearizable};
 ghost use Rattle.model.specs.Linearized.{as_list};
 ghost use Rattle.model.specs.Progress.{KeepsGuarantees};
 ghost use Rattle.threaded.specs.Shares.{IsAll};
 ghost use Rattle.history.specs.declared.view.View.{View};
 ghost use Rattle.history.specs.History.{IsBeginning, IsHistory};
+ghost use Rattle.history.specs.Views.{first_view};
 ghost use Rattle.lock_free_queues.specs.Queues.Bounded.{IsBounded, machine_kind};
 ghost use Rattle.history.specs.Passes.{Goes, MissesNothing};
+ghost use Rattle.lock_free_queues.specs.Queues.Merges.{Merges, HasPushedUpTo, HasTaken, HasDrained};
 ghost use Rattle.lock_free_queues.specs.Queues.Overflowing.{HasOverflowed};
 ghost use Rattle.lock_free_queues.specs.Queues.Positions.{IsPublished, IsTaken, IsSound, IsOverSound};
+ghost use Rattle.steps.specs.Objects.Lists.{Bounded};
+ghost use Rattle.lock_free_queues.specs.Queues.Closes.{Closes, IsWhatWaits, IsNewestThatWaits};
+ghost use Rattle.lock_free_queues.specs.Queues.Sent.{HasSent, HasReceived, HasPassed, TellsApart};
 ghost use Rattle.lock_free_queues.specs.Queues.Sums.{puts, gets, HasDone};
 ghost use Rattle.lock_free_queues.specs.Queues.Told.{HasPushed, HasPublished, WasAtEnd, WasFull, HasPopped};
 ghost use Rattle.lock_free_queues.specs.Queues.Told.{HasTakenOut, HasTakenFirst, WasEmpty, FoundNone, HasMeasured};
-ghost use Rattle.lock_free_queues.specs.Queues.Told.{HasAcquired, HasReleased};
+ghost use Rattle.lock_free_queues.specs.Queues.Told.{HasAcquired, HasReleased, HasSplit, HasJoined};
+
+pub mod relays;
 
 /// A history of a queue is linearizable as its list: the calls of all passes, pushes and pops. The lemma is
 /// `linearizable` of `proofs/Queues/Promised.antt`.
 pub fn histories_are_linearizable<T>()
-    ensures { (code : Coding T) (kind : QueueKind) (capacity : ℕ) (v : View T) → IsHistory code (machine_kind kind) capacity v.seen
+    ensures { (code : Coding T) (kind : QueueKind) (capacity : ℕ) (v : View T)
+        → IsHistory code (machine_kind kind) capacity v.seen
         → IsLinearizable (as_list kind capacity) v.seen }
 {}
 
@@ -44,12 +55,13 @@ pub fn histories_are_sound<T>()
 /// The same of an overflowing queue, of which at most one more than the capacity waits, while a push is under way: each
 /// value that leaves it, by a push or by a pop, is the oldest that waits. The lemma is `over_sound` there.
 pub fn overflowing_histories_are_sound<T>()
-    ensures { (code : Coding T) (capacity : ℕ) (v : View T) → IsHistory code kinds.Overflow capacity v.seen → IsOverSound capacity v.seen }
+    ensures { (code : Coding T) (capacity : ℕ) (v : View T) → IsHistory code kinds.Overflow capacity v.seen
+        → IsOverSound capacity v.seen }
 {}
 
-/// Each call is wait-free, or obstruction-free, as docs/FIELD.md says: in the machine that has the history, whatever
-/// the number of turns, no call has taken more steps than that. No clause says that
-/// a thread's call takes one atomic step for each of these turns, and no more. The lemma is `guarantees` there.
+/// Each call is wait-free, or obstruction-free, as docs/FIELD.md says. In the machine that has the history no call has
+/// taken more steps than that, whatever the number of turns. How many a thread's call takes is what its clause `steps`
+/// says, with the same numbers. The lemma is `guarantees` there.
 pub fn calls_keep_guarantees<T>()
     ensures { (code : Coding T) (kind : QueueKind) (capacity : ℕ) (v : View T)
         → (h : IsHistory code (machine_kind kind) capacity v.seen) → KeepsGuarantees h.trace }
@@ -58,8 +70,10 @@ pub fn calls_keep_guarantees<T>()
 /// No position is published twice, or taken twice. The lemmas are `published_once` and `taken_once` of
 /// `proofs/Queues/Positions.antt`.
 pub fn positions_are_once<T>()
-    ensures published { (p q i : ℕ) (x y : Item T) (events : List (Event T)) → IsPublished p i x events → IsPublished q i y events → (p ≡ q) × (x ≡ y) }
-    ensures taken { (p q i : ℕ) (x y : Item T) (events : List (Event T)) → IsTaken p i x events → IsTaken q i y events → (p ≡ q) × (x ≡ y) }
+    ensures published { (p q i : ℕ) (x y : Item T) (events : List (Event T)) → IsPublished p i x events
+        → IsPublished q i y events → (p ≡ q) × (x ≡ y) }
+    ensures taken { (p q i : ℕ) (x y : Item T) (events : List (Event T)) → IsTaken p i x events
+        → IsTaken q i y events → (p ≡ q) × (x ≡ y) }
 {}
 
 /// Equal positions have equal values. The lemma is `agree` of `proofs/Queues/Promised.antt`.
@@ -71,8 +85,10 @@ pub fn values_agree<T>()
 /// What was published or taken stays so. The lemmas are `still_published` and `still_taken` of
 /// `proofs/Queues/Positions.antt`.
 pub fn positions_stay<T>()
-    ensures published { (p i : ℕ) (x : Item T) (old new : List (Event T)) → IsBeginning old new → IsPublished p i x old → IsPublished p i x new }
-    ensures taken { (p i : ℕ) (x : Item T) (old new : List (Event T)) → IsBeginning old new → IsTaken p i x old → IsTaken p i x new }
+    ensures published { (p i : ℕ) (x : Item T) (old new : List (Event T)) → IsBeginning old new
+        → IsPublished p i x old → IsPublished p i x new }
+    ensures taken { (p i : ℕ) (x : Item T) (old new : List (Event T)) → IsBeginning old new → IsTaken p i x old
+        → IsTaken p i x new }
 {}
 
 /// A push publishes at a position above all that its guard had seen published, and a pop takes from one above all that
@@ -81,7 +97,8 @@ pub fn positions_stay<T>()
 pub fn positions_rise<T>()
     ensures published { (item : Item T) (old new : View T) → HasPublished item old new
         → (p : ℕ) × IsPublished p (length (published old.seen)) item new.seen }
-    ensures above { (old : View T) (q j : ℕ) (y : Item T) → IsPublished q j y old.seen → j < length (published old.seen) }
+    ensures above { (old : View T) (q j : ℕ) (y : Item T) → IsPublished q j y old.seen
+        → j < length (published old.seen) }
     ensures taken { (item : Item T) (old new : View T) → HasTakenOut item old new
         → (p : ℕ) × IsTaken p (length (handed_out old.seen)) item new.seen }
     ensures below { (old : View T) (q j : ℕ) (y : Item T) → IsTaken q j y old.seen → j < length (handed_out old.seen) }
@@ -101,8 +118,10 @@ pub fn overflowing_takes_in_order<T>()
 /// push found the queue full, each that its guard had seen taken lies more than the capacity below the next to be
 /// published. The lemmas are `none_later_than` and `full_above` there.
 pub fn refusals_are_right<T>()
-    ensures empty { (old new : View T) → WasEmpty old new → (q j : ℕ) (y : Item T) → IsPublished q j y old.seen → j < length (handed_out old.seen) }
-    ensures full { (code : Coding T) (kind : QueueKind) (capacity : ℕ) (item : Item T) (old new : View T) → IsBounded kind
+    ensures empty { (old new : View T) → WasEmpty old new → (q j : ℕ) (y : Item T) → IsPublished q j y old.seen
+        → j < length (handed_out old.seen) }
+    ensures full { (code : Coding T) (kind : QueueKind) (capacity : ℕ) (item : Item T) (old new : View T)
+        → IsBounded kind
         → IsHistory code (machine_kind kind) capacity new.seen → WasFull capacity item old new
         → (q j : ℕ) (y : Item T) → IsTaken q j y old.seen → j + capacity < length (published old.seen) }
 {}
@@ -111,9 +130,11 @@ pub fn refusals_are_right<T>()
 /// is `all_taken` of `proofs/Queues/Whole.antt`, beside `nothing_more` there: nobody else has published or taken out
 /// anything.
 pub fn emptied_is_all<T>()
-    ensures { (code : Coding T) (kind : QueueKind) (capacity : ℕ) (old new : View T) → IsAll old.share → MissesNothing old
+    ensures { (code : Coding T) (kind : QueueKind) (capacity : ℕ) (old new : View T) → IsAll old.share
+        → MissesNothing old
         → Goes code (machine_kind kind) capacity old new
-        → HasPopped None old new → (published new.seen ≡ published old.seen) × (handed_out new.seen ≡ published new.seen) }
+        → HasPopped None old new → (published new.seen ≡ published old.seen)
+        × (handed_out new.seen ≡ published new.seen) }
 {}
 
 /// What each call adds to how much its pass has published and taken out itself. The lemmas are `done_pushed` and those
@@ -123,10 +144,12 @@ pub fn calls_are_counted<T>()
     ensures refused { (item : Item T) (taken : Bool) (old new : View T) → taken ≡ false
         → HasPushed item taken old new ⊎ (taken ≡ false) × WasAtEnd old new → HasDone 0 0 old new }
     ensures added { (value : ℕ) (old new : View T) → HasOverflowed value None old new → HasDone 1 0 old new }
-    ensures replaced { (value oldest : ℕ) (old new : View T) → HasOverflowed value (Some oldest) old new → HasDone 1 1 old new }
+    ensures replaced { (value oldest : ℕ) (old new : View T) → HasOverflowed value (Some oldest) old new
+        → HasDone 1 1 old new }
     ensures popped { (item : Item T) (old new : View T) → HasPopped (Some item) old new → HasDone 0 1 old new }
     ensures none { (old new : View T) → HasPopped None old new → HasDone 0 0 old new }
-    ensures acquired { (role : Role) (taken : Bool) (old new : View T) → HasAcquired role taken old new → HasDone 0 0 old new }
+    ensures acquired { (role : Role) (taken : Bool) (old new : View T) → HasAcquired role taken old new
+        → HasDone 0 0 old new }
     ensures released { (role : Role) (old new : View T) → HasReleased role old new → HasDone 0 0 old new }
     ensures measured { (which : LengthOf) (capacity : ℕ) (answer : Answer T) (old new : View T)
         → HasMeasured which capacity answer old new → HasDone 0 0 old new }
@@ -137,4 +160,137 @@ pub fn calls_are_counted<T>()
 pub fn whole_is_counted<T>()
     ensures { (v : View T) → IsAll v.share → MissesNothing v
         → (length (published v.seen) ≡ sum_by puts v.made) × (length (handed_out v.seen) ≡ sum_by gets v.made) }
+{}
+
+/// A push that succeeds appends its value to those that its pass has sent. Nothing is appended as the role is taken or
+/// given back, or where a push is refused. The lemmas are `sent_none` and those beside it in `proofs/Queues/Sent.antt`.
+pub fn pushes_are_sent<T, V>()
+    ensures acquired { (named : V
+        → Item T) (code : Coding T) (kind : Kind) (capacity : ℕ) (role : Role) (old new : View T)
+        → Goes code kind capacity old new → HasAcquired role true old new → HasSent named [] old new }
+    ensures pushed { (named : V
+        → Item T) (code : Coding T) (kind : Kind) (capacity : ℕ) (values : List V) (value : V) (old was new : View T)
+        → HasSent named values old was → Goes code kind capacity was new → HasPushed (named value) true was new
+        → HasPublished (named value) was new → HasSent named (values ++ value ∷ []) old new }
+    ensures refused { (named : V
+        → Item T) (code : Coding T) (kind : Kind) (capacity room : ℕ) (values : List V) (item : Item T) (taken : Bool)
+        (old was new : View T) → HasSent named values old was → Goes code kind capacity was new → taken ≡ false
+        → HasPushed item taken was new ⊎ (taken ≡ false) × WasAtEnd was new
+        → WasFull room item was new ⊎ WasAtEnd was new → HasSent named values old new }
+    ensures released { (named : V
+        → Item T) (code : Coding T) (kind : Kind) (capacity : ℕ) (role : Role) (values : List V) (old was new : View T)
+        → HasSent named values old was → Goes code kind capacity was new → HasReleased role was new
+        → published new.seen ≡ published was.seen → HasSent named values old new }
+{}
+
+/// A pop that finds a value appends it to those that its pass has received. Nothing is appended as the role is taken or
+/// given back, or where a pop finds none. The lemmas are `received_none` and those beside it there.
+pub fn pops_are_received<T, V>()
+    ensures acquired { (named : V
+        → Item T) (code : Coding T) (kind : Kind) (capacity : ℕ) (role : Role) (old new : View T)
+        → Goes code kind capacity old new → HasAcquired role true old new → HasReceived named [] old new }
+    ensures popped { (named : V
+        → Item T) (code : Coding T) (kind : Kind) (capacity : ℕ) (values : List V) (value : V) (old was new : View T)
+        → HasReceived named values old was → Goes code kind capacity was new → HasPopped (Some (named value)) was new
+        → HasTakenOut (named value) was new → HasReceived named (values ++ value ∷ []) old new }
+    ensures none { (named : V
+        → Item T) (code : Coding T) (kind : Kind) (capacity : ℕ) (values : List V) (old was new : View T)
+        → HasReceived named values old was → Goes code kind capacity was new → HasPopped None was new → WasEmpty was new
+        → HasReceived named values old new }
+    ensures released { (named : V
+        → Item T) (code : Coding T) (kind : Kind) (capacity : ℕ) (role : Role) (values : List V) (old was new : View T)
+        → HasReceived named values old was → Goes code kind capacity was new → HasReleased role was new
+        → handed_out new.seen ≡ handed_out was.seen → HasReceived named values old new }
+{}
+
+/// Two halves of a first pass that are joined know all that happened. If one of them sent some values and the other
+/// received some, nobody else pushed or popped: what was sent is all that was published, and what was received is all
+/// that was taken out. The lemma is `passed` of `proofs/Queues/Passed.antt`, beside `both_passed` for other passes.
+pub fn halves_pass_all<T, V>()
+    ensures { (named : V → Item T) (sent received : List V) (capacity : ℕ) (first left right mine theirs new : View T)
+        → first ≡ first_view capacity → HasSplit first left right → HasSent named sent left mine
+        → HasReceived named received right theirs
+        → HasJoined mine theirs new → MissesNothing new → HasPassed named sent received new }
+{}
+
+/// What was received is a beginning of what was sent, in order. A bounded queue has at most its capacity left, and the
+/// list that `close` returns is what is left. The lemmas are `in_order`, `few_left` and `rest_waits` there.
+pub fn passed_in_order<T, V>()
+    ensures order { (named : V
+        → Item T) (code : Coding T) (kind : QueueKind) (capacity : ℕ) (sent received : List V) (v : View T)
+        → TellsApart named → IsHistory code (machine_kind kind) capacity v.seen → HasPassed named sent received v
+        → received ≡ take (length received) sent }
+    ensures few { (named : V
+        → Item T) (code : Coding T) (kind : QueueKind) (capacity : ℕ) (sent received : List V) (v : View T)
+        → IsBounded kind → IsHistory code (machine_kind kind) capacity v.seen → HasPassed named sent received v
+        → length sent ≤ length received + capacity }
+    ensures closed { (named : V → Item T) (capacity : ℕ) (sent received : List V) (v : View T) (q : Bounded V)
+        → TellsApart named
+        → HasPassed named sent received v → Closes named capacity v q → sent ≡ received ++ q.values }
+{}
+
+/// A `close` loses nothing. Until the moment of which it tells, what was published is what was taken out, then of an
+/// overflowing queue what the list leaves out, and then the list. The lemmas are `closed_book` of
+/// `proofs/Queues/Closes.antt` and `over_closed_book` of `proofs/Queues/OverCloses.antt`.
+pub fn closes_lose_nothing<T, V>()
+    ensures bounded { (named : V
+        → Item T) (code : Coding T) (kind : QueueKind) (capacity : ℕ) (v : View T) (q : Bounded V)
+        → (h : IsWhatWaits code (machine_kind kind) named capacity v q)
+        → published h.at ≡ handed_out h.at ++ map named q.values }
+    ensures overflowing { (capacity : ℕ) (v : View ℕ) (q : Bounded ℕ) → (h : IsNewestThatWaits capacity v q)
+        → published h.at ≡ handed_out h.at ++ (h.older ++ map Index q.values) }
+{}
+
+/// Who knows what was sent and received goes on knowing it. With the whole share nothing changes as a role is taken,
+/// each pop receives one value more, and where a pop finds none all that was sent was received. The lemmas are
+/// `still_passed`, `one_passed` and `all_passed` there.
+pub fn passed_goes_on<T, V>()
+    ensures acquired { (named : V
+        → Item T) (code : Coding T) (kind : Kind) (capacity : ℕ) (role : Role) (sent received : List V)
+        (old new : View T)
+        → HasPassed named sent received old → Goes code kind capacity old new → HasAcquired role true old new
+        → HasPassed named sent received new }
+    ensures popped { (named : V
+        → Item T) (code : Coding T) (kind : Kind) (capacity : ℕ) (value : V) (sent received : List V) (old new : View T)
+        → HasPassed named sent received old → Goes code kind capacity old new → HasPopped (Some (named value)) old new
+        → HasTakenOut (named value) old new → HasPassed named sent (received ++ value ∷ []) new }
+    ensures none { (named : V
+        → Item T) (code : Coding T) (kind : QueueKind) (capacity : ℕ) (sent received : List V) (old new : View T)
+        → TellsApart named → HasPassed named sent received old → Goes code (machine_kind kind) capacity old new
+        → HasPopped None old new → received ≡ sent }
+{}
+
+/// A push succeeds where its pass had seen fewer values wait than the capacity. With the whole share it succeeds where
+/// its pass has pushed less than it has popped and the capacity together. In both cases the last position, 2^64 - 1,
+/// was not reached before. The lemmas are `push_succeeds` and `counted_push_succeeds` there.
+pub fn pushes_succeed<T>()
+    ensures seen { (capacity : ℕ) (item : Item T) (taken : Bool) (old new : View T)
+        → length (waiting old.seen) < capacity
+        → length (published old.seen) < 2 ^ 64 - 1 → (taken ≡ false → WasFull capacity item old new
+        ⊎ WasAtEnd old new) → taken ≡ true }
+    ensures counted { (code : Coding T) (kind : QueueKind) (capacity : ℕ) (item : Item T) (taken : Bool)
+        (old new : View T)
+        → IsHistory code (machine_kind kind) capacity old.seen → IsAll old.share → MissesNothing old
+        → sum_by puts old.made < sum_by gets old.made + capacity → sum_by puts old.made < 2 ^ 64 - 1
+        → (taken ≡ false → WasFull capacity item old new ⊎ WasAtEnd old new) → taken ≡ true }
+{}
+
+/// A pop succeeds where its pass had seen a value wait. The lemma is `pop_succeeds` there.
+pub fn pops_succeed<T, V>()
+    ensures { (answer : Option V) (old new : View T) → 0 < length (waiting old.seen) → IfNone answer (WasEmpty old new)
+        → is_some answer ≡ true }
+{}
+
+/// No number that is pushed into an overflowing queue is lost. If one half of a first pass pushed these numbers and got
+/// some back, the other half popped some, and who has joined both pops the rest, then each number was popped or handed
+/// back, once, and both lists stand in the order of the pushes. The lemma is `overflowed` of
+/// `proofs/Queues/Merging.antt`, and those on single calls stand in `proofs/Queues/TakenOut.antt`.
+pub fn overflowing_merges()
+    ensures { (room capacity : ℕ) (role : Role) (all back came popped : List ℕ)
+        (first left right mine theirs joined taking last : View ℕ)
+        → length all < 2 ^ 64 - 1 → first ≡ first_view capacity → HasSplit first left right
+        → HasPushedUpTo all back left mine
+        → HasTaken came right theirs → HasJoined mine theirs joined → MissesNothing joined
+        → Goes one_word kinds.Overflow room joined taking → HasAcquired role true joined taking
+        → HasDrained came popped taking last → Merges popped back all }
 {}

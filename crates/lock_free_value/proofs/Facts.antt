@@ -1,5 +1,5 @@
 -- What is known of whole calls on a value.
-use Rattle.std.proofs.Common.{◌≡◌, inl, inr, ℕ, ◌-◌, ◌^◌, ◌<◌, ◌==◌, Bool, true, false, Some, None, List, [], ◌∷◌}
+use Rattle.std.proofs.Common.{◌≡◌, inl, inr, ℕ, ◌+◌, ◌-◌, ◌^◌, ◌<◌, ◌==◌, Bool, true, false, Some, None, List, [], ◌∷◌}
 use Rattle.std.proofs.Common.{◌++◌, length, replicate, slice_index, sum_by, refl, sym, ap, subst, ◌∙◌, append_assoc}
 use Rattle.std.proofs.Common.{append-nil, length-append, arith}
 use Rattle.lock_free_value.proofs.Names.{nat_tests, flat_map-append, sum_by-append, Truth, Loaded, Done, Event, Begun}
@@ -22,13 +22,16 @@ use Rattle.model.specs.Reading.{Each, whose, is_party}
 use Rattle.history.specs.History.{Called}
 use Rattle.history.specs.Known.{events_by}
 use Rattle.history.specs.Stages.{Calling, opened, Ends, Over}
+use Rattle.history.specs.Steps.{TakesAtMost}
+use Rattle.model.specs.Progress.{guarantee_of}
 use Rattle.history.specs.Value.{ByProducer, acquires_producer}
 use Rattle.history.specs.Value.{releases_producer, store_skips, value_of_room, loads_value}
 use Rattle.history.proofs.Drives.{called}
 use Rattle.history.proofs.Known.{by_more}
 use Rattle.history.proofs.ValueHolders.{history_by_producers, back_over, forth_over, ArePlain}
 use Rattle.history.proofs.ValueLaws.{load_tells, last_is, version_is_count}
-use Rattle.history.proofs.Values.{value_goes_on, producer_by}
+use Rattle.history.proofs.Paid.{AllowsOne, TakesBy, takes, left_takes}
+use Rattle.history.proofs.Values.{value_goes_on, value_pays, producer_by}
 use Rattle.lock_free_value.specs.Calls.{GoesOn, WasAtEnd}
 use Rattle.lock_free_value.specs.Roles.{Moved}
 use Rattle.lock_free_value.specs.Told.{HasAcquired, HasReleased, HasStored, HasLoaded}
@@ -285,6 +288,19 @@ module _ {T : Type 0} (code : Coding T) (base w : View T) (idle : base.going ≡
         let q = yes.party in
         moved 0 0 base.made w.made (Begun q (Atomic (Store x)) ∷ act q ∷ end q ∷ []) (stored_so m yes).made refl refl
     store_moves e m (inr left) = moved 0 0 base.made w.made [] (left.looked.made ∙ sym (append-nil base.made)) refl refl
+
+  -- ---- how many operations they took
+
+  pub takes_here : {C M E : Type 0} (call : Calling T C M E) (e : E) (m : M) → AllowsOne (guarantee_of kinds.Atomic 1 code.size call.start)
+      → Ends code kinds.Atomic call base e m w → TakesBy code kinds.Atomic 1 (guarantee_of kinds.Atomic 1 code.size call.start) base w
+  takes_here call e m least ends =
+      subst (λ n. AllowsOne (guarantee_of kinds.Atomic n code.size call.start)
+      → TakesBy code kinds.Atomic n (guarantee_of kinds.Atomic n code.size call.start) base w) one
+      (λ some. takes code kinds.Atomic call base w e m idle (value_pays code base.capacity) some ends) least
+
+  pub store_takes : (x : T) (e : Bool) (m : Unit {0}) → Over code kinds.Atomic (stores_value code x) base e m w → TakesAtMost (2 + code.size) base w
+  store_takes x e m (inl ends) = takes_here (stores_value code x) e m (omega arith) ends
+  store_takes x e m (inr left) = left_takes code kinds.Atomic (stores_value code x) base w e m (2 + code.size) (omega arith) left
 
   -- ---- loads
 

@@ -1,11 +1,11 @@
 -- Which value a pass is for, and what it knows of the value's history.
 use Rattle.std.specs.Prelude.{◌≡◌, ◌+◌, ◌-◌, ◌^◌, length}
-use Rattle.std.specs.Arc.{arc_value}
 use Rattle.laws_value.specs.Stored.{stored}
 use Rattle.atomic_table.specs.Seated.{TableId}
 use Rattle.steps.specs.declared.words.Words.{Ghosts}
 use Rattle.model.specs.declared.turn.Kind.TheVariants as kinds
 use Rattle.model.specs.Coding.{Coding, coding_of}
+use Rattle.threaded.specs.Seats.{home_id}
 use Rattle.history.specs.declared.view.View.{View}
 use Rattle.history.specs.History.{IsHistory}
 pub use Rattle.history.specs.Passes.{MissesNothing}
@@ -18,7 +18,7 @@ use Rattle.lock_free_value.specs.declared.spmc.unrestricted_atomic.rule.ValueRul
 
 -- what names a value
 abbrev pub value_id : {T : Type 0} → UnrestrictedAtomic T → TableId
-value_id a = (arc_value a.board).shared.table_id
+value_id a = home_id a.home
 
 -- it has seen a history of a value
 abbrev pub HasHistory : {T : Type 0} → Coding T → View T → Type 0

@@ -29,8 +29,8 @@ pub fn histories_are_sound<T>()
 {}
 
 /// Each call is wait-free, or obstruction-free, as docs/FIELD.md says: in the machine that has the history, whatever the
-/// number of turns, no call has taken more steps than that. No clause says that a thread's
-/// call takes one atomic step for each of these turns, and no more.
+/// number of turns, no call has taken more steps than that. The clause `steps` of each call says the same of what the
+/// thread's pass has counted.
 pub fn calls_keep_guarantees<T>()
     ensures { (code : Coding T) (events : List (Event T))
         → (h : IsHistory code kinds.Atomic 1 events) → KeepsGuarantees h.trace }

@@ -2,7 +2,7 @@
 use Rattle.lock_free.proofs.Names.{◌≡◌, ⊎_elim, true≢false, ◌==◌, ℕ, zero, suc, ◌+◌, ◌<◌, ◌≤◌, Bool, true, false, cond}
 use Rattle.lock_free.proofs.Names.{List, [], ◌∷◌, ◌++◌, map, refl, sym, ap, subst, ◌∙◌, arith, append_assoc, append-nil}
 use Rattle.lock_free.proofs.Names.{map-append, FoldsTo, All, range_with_len, cases_lt, sum_by-cons, FoldsTo-push}
-use Rattle.lock_free.proofs.Names.{All-nil, All-cons, All-push, All-weaker, all_pairs_push, element_of, has_flag, After}
+use Rattle.lock_free.proofs.Names.{All-nil, All-cons, All-push, All-weaker, all_pairs_push, element_of, elements, has_flag, After}
 use Rattle.lock_free.proofs.Names.{Emptying, OneWord, Event, Finished, one_word, IsBitSet, fresh, SinceBegin}
 use Rattle.lock_free.proofs.Names.{bits_go_on, View, events_by, At}
 use Rattle.std.specs.List.{filter, count_by}
@@ -20,14 +20,16 @@ use Rattle.model.specs.Reading.{whose, is_party}
 use Rattle.laws_bits.proofs.Bits.Lists.{Rise, places_rise, clears_named}
 use Rattle.laws_bits.proofs.Bits.Core.{clears_more}
 use Rattle.history.specs.Stages.{opened}
+use Rattle.history.specs.Steps.{TakesAtMost}
 use Rattle.lock_free.specs.Bits.Callable.{Ascends, Visited, TakesPlaces}
 use Rattle.lock_free.specs.Driven.{HasMade, HasDone, IsIdle}
 use Rattle.lock_free.specs.Sets.Kinds.{Flags}
 use Rattle.lock_free.specs.Sets.Stages.{empties}
 use Rattle.lock_free.specs.Bits.Told.{cleared_by, HasCleanedOut, MissedNoPlace}
 use Rattle.lock_free.proofs.Ends.{before_end, to_end}
-use Rattle.lock_free.proofs.Sets.Emptied.{emptying, Goes, Stepped, stepped, same_capacity, WroteSoFar, first_wrote, words_left, wrote_on, wrote_all}
+use Rattle.lock_free.proofs.Sets.Emptied.{emptying, Goes, Stepped, stepped, same_capacity, WroteSoFar, first_wrote, words_left, ends_all, wrote_on, wrote_all}
 use Rattle.lock_free.proofs.Sets.Emptying.{goes_next}
+use Rattle.lock_free.proofs.Steps.{bits_take}
 
 -- ---- the places of one word, one after another
 
@@ -219,6 +221,19 @@ module _ {F : Type 0} (R : F → ℕ → F → Type 0) (cap : ℕ) (visit : F) w
         (kept_all (λ y. y < first + k) (λ place. has_flag room.0 place) first k (λ p from to t. to)))
         (place_within (first + k) (omega arith) (omega arith) stood)
 
+    -- it has taken one step for each word
+    pub cleared_steps : a ≡ Done tt → TakesAtMost (elements cap) base w
+    cleared_steps is =
+        let wrote : ℕ → List (Event ℕ) = λ p. map (cleared_by p) h.places in
+        let left = words_left Flags cap wrote base v c m h.call in
+        let most = left.0 in
+        let above = left.1 in
+        let below = left.2 in
+        let all =
+        ends_all Flags base v w c m room n wrote h.call.idle h.call.made h.call.at kept (goes_so ∙ is)
+        (λ b at. subst (λ z. Goes Flags b z room w) is (told b at)) in
+        bits_take (empties Flags) base w tt room h.call.idle cap h.call.size (omega arith) all.0
+
     module _ (g : F) (visited : Visited R room.0 (first_place c.word) f 64 g) where
       abbrev all_places : List ℕ
       all_places = h.places ++ places_in c.word room.0
@@ -252,14 +267,13 @@ module _ {F : Type 0} (R : F → ℕ → F → Type 0) (cap : ℕ) (visit : F) w
             folds = all_folds;
           }
 
-      pub cleared_all : a ≡ Done tt → HasCleanedOut R cap visit base w × HasDone kinds.Bits base w
+      pub cleared_all : a ≡ Done tt → HasCleanedOut R cap visit g base w × HasDone kinds.Bits base w
       cleared_all is =
           let all = wrote_all Flags cap (λ p. map (cleared_by p) h.places) base v c m h.call w room n kept a goes_so told is in (
             record {
               places = all_places;
               ascend = up;
-              last = g;
-              visited = all_folds;
+              calls = all_folds;
               made = subst (λ z. HasMade emptying answers.Done z base w) (λ i p. same_events p i) all.0;
             },
             all.1,
@@ -279,12 +293,11 @@ missed_none cap base w wrote size over made =
 
 -- where there is no place, nothing is cleared and the closure is not called
 pub cleared_none : {F : Type 0} (R : F → ℕ → F → Type 0) (visit : F) (base w : View ℕ)
-    → HasMade emptying answers.Done (λ by. []) base w → HasCleanedOut R 0 visit base w
+    → HasMade emptying answers.Done (λ by. []) base w → HasCleanedOut R 0 visit visit base w
 cleared_none R visit base w made =
     record {
       places = [];
       ascend = ((λ i j d lt within. absurd (omega arith)), All-nil (λ x. x < 0));
-      last = visit;
-      visited = refl;
+      calls = refl;
       made = made;
     }

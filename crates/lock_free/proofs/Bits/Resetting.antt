@@ -13,13 +13,15 @@ use Rattle.steps.specs.declared.ask.Want.TheVariants as wants
 use Rattle.steps.specs.declared.bits.bit_set.ResetNext.{ResetNext as Resetting}
 use Rattle.steps.specs.declared.bits.bit_set.ResetNextStage.{ResetNextStage}
 use Rattle.steps.specs.declared.bits.bit_set.ResetNextStage as resets
+use Rattle.model.specs.declared.event.Answer.TheVariants.{Reset}
 use Rattle.model.specs.declared.turn.Kind.TheVariants as kinds
+use Rattle.model.specs.Families.Bits.Promises.{CameTo}
 use Rattle.model.specs.Families.Bits.Reading.{standing}
 use Rattle.model.specs.Moments.{HeldSometime}
 use Rattle.history.proofs.Sets.{bits_starts, set_effects, bits_owe}
 use Rattle.lock_free.specs.Driven.{IsIdle}
 use Rattle.lock_free.specs.Bits.Stages.{ResetStands, reset_so_far, reset_wrote, IsPlace, resets_next}
-use Rattle.lock_free.specs.Bits.Told.{HasReset, AllClearOnce}
+use Rattle.lock_free.specs.Bits.Told.{HasReset, AllClearOnce, CameFromPosition}
 use Rattle.lock_free.proofs.Ends.{has_made, before_end, to_end}
 
 place_below : (cap start passed : ℕ) → start ≤ cap → passed < cap → place_after cap start passed < cap
@@ -118,7 +120,7 @@ hears c a n e = at c.stage e
 is_call : IsCallOf one_word set_effects (λ capacity. 1 + elements capacity) reset_want reset_after (λ c m n. m) (resets_next {T = ℕ})
 is_call = grind (arith, same_after, hears, reset_so_far, set_effects, resets_next, stands_on, asks)
 
-pub next_keeps : KeepsRule (λ (z : View ℕ). z.capacity) (At one_word kinds.Bits resets_next)
+pub next_keeps : KeepsRule (λ (z : View ℕ). z.asked) (λ (z : View ℕ). z.capacity) (At one_word kinds.Bits resets_next)
     (Ends one_word kinds.Bits resets_next) (λ key. 1 + elements key + 1) (λ key. key)
     (λ key. IsMachine one_word kinds.Bits key) reset_want reset_after (λ c m n. m)
 next_keeps =
@@ -151,3 +153,15 @@ module _ (base w : View ℕ) (o : Option ℕ) (m : Unit {0}) (idle : base.going 
       let right : (b : ℕ) → b < h.trace.world.capacity → HeldSometime p (λ part. standing b part ≡ 0) before =
       set.answers before [] (Finished p (Bits ResetNext) ResetNone) (sym h.is ∙ is) in
       record { by = p; before = before; is = is; clear = λ place below. right place (subst (λ n. place < n) (sym h.run.sized) below) }
+
+  pub came_from : (place : ℕ) → o ≡ Some place → CameFromPosition base.capacity place w
+  came_from place some =
+      let h = ends.history in
+      let made : HasReset (Some place) base w = subst (λ z. HasReset z base w) some cleared in
+      let p = made.by in
+      let before = before_end made.called in
+      let is = to_end made.called in
+      let set : IsBitSet h.trace = bits_go_on h.trace h.run.of_kind h.run.reached in
+      let right : CameTo p h.trace.world.capacity place before =
+      set.answers before [] (Finished p (Bits ResetNext) (Reset place)) (sym h.is ∙ is) in
+      record { by = p; before = before; is = is; came = subst (λ n. CameTo p n place before) h.run.sized right }

@@ -98,7 +98,7 @@ module _ (place : ℕ) where
       (λ c n. set_after c place n) (λ c m n. m) (sets_place {T = ℕ} place)
   is_call = grind (arith, same_after, hears, asks, set_effects, sets_place, writes)
 
-  pub set_keeps : KeepsRule (λ (z : View ℕ). z.capacity) (At one_word kinds.Bits (sets_place place))
+  pub set_keeps : KeepsRule (λ (z : View ℕ). z.asked) (λ (z : View ℕ). z.capacity) (At one_word kinds.Bits (sets_place place))
       (Ends one_word kinds.Bits (sets_place place)) (λ key. 1 + elements key + 1) (λ key. key)
       (λ key. IsMachine one_word kinds.Bits key) (λ c. set_want c place) (λ c n. set_after c place n) (λ c m n. m)
   set_keeps =

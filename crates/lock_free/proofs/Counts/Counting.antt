@@ -36,7 +36,7 @@ module _ (place : ℕ) where
           let same : record { word = place; op = Add 1 } ≡ a = cc in
           ap (λ (z : Ask). set_after c (answered z.op n)) (sym same)
 
-  pub count_keeps : KeepsRule (λ (z : View ℕ). z.capacity) (At one_word kinds.Counts (counts_place place))
+  pub count_keeps : KeepsRule (λ (z : View ℕ). z.asked) (λ (z : View ℕ). z.capacity) (At one_word kinds.Counts (counts_place place))
       (Ends one_word kinds.Counts (counts_place place)) (λ key. key + 1) (λ key. key)
       (λ key. IsMachine one_word kinds.Counts key) (λ c. set_want c place) (λ c n. set_after c n) (λ c m n. m)
   count_keeps =

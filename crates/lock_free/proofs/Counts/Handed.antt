@@ -1,5 +1,5 @@
 -- What a closure was called with so far, while a set is emptied, and that it is what the call wrote.
-use Rattle.lock_free.proofs.Names.{◌≡◌, ℕ, zero, suc, ◌+◌, ◌<◌, List, [], ◌∷◌, ◌++◌, sym, refl, subst}
+use Rattle.lock_free.proofs.Names.{◌≡◌, ℕ, zero, suc, ◌+◌, ◌<◌, ◌^◌, List, [], ◌∷◌, ◌++◌, sym, refl, subst}
 use Rattle.lock_free.proofs.Names.{arith, map, append-nil, All, FoldsTo, nat_tests, FoldsTo-push, All-push}
 use Rattle.lock_free.proofs.Names.{All-weaker, all_pairs_push, BitState}
 use Rattle.model.specs.Families.Bits.Steps.{take_events}
@@ -25,15 +25,15 @@ module _ {F : Type 0} (R : F → BitState → F → Type 0) (cap : ℕ) (v : F) 
   pub counted_on : (low : ℕ) (p q : F) → q ≡ p → Counted R cap low v p → Counted R cap (low + 1) v q
   counted_on x0 x1 x2 x3 x4 = grind arith
 
-  pub counted_more : (low count : ℕ) (p q : F) → low < cap → 0 < count → R p (record { bit = low; count = count }) q
+  pub counted_more : (low count : ℕ) (p q : F) → low < cap → 0 < count → count < 2 ^ 64 → R p (record { bit = low; count = count }) q
       → Counted R cap low v p → Counted R cap (low + 1) v q
-  counted_more low count p q within some hit h =
+  counted_more low count p q within some small hit h =
       let x : BitState = record { bit = low; count = count } in
       record {
         states = h.states ++ x ∷ [];
         ascend = (
           all_pairs_push (λ (y z : BitState). y.bit < z.bit) h.states x h.ascend.0 h.below,
-          All-push (λ (y : BitState). (y.bit < cap) × (0 < y.count)) h.states x h.ascend.1 (within, some),
+          All-push (λ (y : BitState). (y.bit < cap) × (0 < y.count) × (y.count < 2 ^ 64)) h.states x h.ascend.1 (within, some, small),
         );
         below =
             All-push (λ (y : BitState). y.bit < low + 1) h.states x
@@ -53,14 +53,14 @@ module _ {F : Type 0} (R : F → BitState → F → Type 0) (cap : ℕ) (v : F) 
   pub found_events : (p place n : ℕ) → map (taken_by p) (found place n) ≡ take_events p place n
   found_events x0 x1 x2 = grind (arith, suc, nat_tests)
 
-  pub counted_found : (low n : ℕ) (p q : F) → low < cap → (0 < n → R p (record { bit = low; count = n }) q)
+  pub counted_found : (low n : ℕ) (p q : F) → low < cap → n < 2 ^ 64 → (0 < n → R p (record { bit = low; count = n }) q)
       → (n ≡ 0 → q ≡ p) → (h : Counted R cap low v p)
       → (g : Counted R cap (low + 1) v q) × (g.states ≡ h.states ++ found low n)
   unfolding counted_on counted_more
-  counted_found low zero p q within hit miss h =
+  counted_found low zero p q within small hit miss h =
       let g = counted_on R cap v low p q (miss refl) h in
       (g, sym (append-nil h.states))
-  counted_found low (suc n) p q within hit miss h = (counted_more R cap v low (suc n) p q within (omega arith) (hit (omega arith)) h, refl)
+  counted_found low (suc n) p q within small hit miss h = (counted_more R cap v low (suc n) p q within (omega arith) small (hit (omega arith)) h, refl)
 
 -- ---- the closure at an equal capacity
 

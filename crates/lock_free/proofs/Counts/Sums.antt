@@ -45,7 +45,8 @@ module _ (old new : View ℕ) where
       let t = sum_made (take_of b) h.by (Bits (Set place)) (Number number) wrote old new h.called in
       (omega arith, omega arith)
 
-  pub take_adds : {F : Type 0} (step : F → BitState → F → Type 0) (capacity : ℕ) (visit : F) (h : HasTakenOut step capacity visit old new) (b : ℕ)
+  pub take_adds : {F : Type 0} {visited : F} (step : F → BitState → F → Type 0) (capacity : ℕ) (visit : F)
+      (h : HasTakenOut step capacity visit visited old new) (b : ℕ)
       → (counts b new.made ≡ counts b old.made) × (takes b new.made ≡ takes b old.made + taken_at b h.states)
   take_adds step capacity visit h b =
       let p = h.made.by in

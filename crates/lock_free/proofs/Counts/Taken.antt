@@ -1,5 +1,5 @@
 -- Taking all counts out: the closure is called with just what the call takes.
-use Rattle.lock_free.proofs.Names.{◌≡◌, ℕ, List, ◌+◌, ◌<◌, [], ◌++◌, map, refl, sym, ap, subst, ◌∙◌, arith, map-append}
+use Rattle.lock_free.proofs.Names.{◌≡◌, ℕ, List, ◌+◌, ◌^◌, ◌<◌, [], ◌++◌, map, refl, sym, ap, subst, ◌∙◌, arith, map-append}
 use Rattle.lock_free.proofs.Names.{All-nil, After, BitState, Emptying, OneWord, Event, Finished, one_word, IsCountingOn}
 use Rattle.lock_free.proofs.Names.{fresh, SinceBegin, counts_go_on, View, At}
 use Rattle.steps.specs.Bits.ResetAll.{all_counts, reset_all_after, reset_all_kept}
@@ -8,13 +8,15 @@ use Rattle.model.specs.declared.event.Answer.TheVariants as answers
 use Rattle.model.specs.declared.turn.Kind.TheVariants as kinds
 use Rattle.model.specs.Families.Bits.Promises.{HasTakenOn}
 use Rattle.model.specs.Families.Bits.Steps.{take_events}
+use Rattle.history.specs.Steps.{TakesAtMost}
 use Rattle.lock_free.specs.Driven.{HasMade, HasDone, IsIdle}
 use Rattle.lock_free.specs.Sets.Kinds.{Counts}
 use Rattle.lock_free.specs.Sets.Stages.{empties}
 use Rattle.lock_free.specs.Counts.Told.{taken_by, HasTakenOut, MissedNoCount}
 use Rattle.lock_free.proofs.Ends.{before_end, to_end}
 use Rattle.lock_free.proofs.Sets.Emptying.{goes_next}
-use Rattle.lock_free.proofs.Sets.Emptied.{emptying, Goes, WroteSoFar, first_wrote, words_left, wrote_on, wrote_all}
+use Rattle.lock_free.proofs.Steps.{counts_take}
+use Rattle.lock_free.proofs.Sets.Emptied.{emptying, Goes, WroteSoFar, first_wrote, words_left, ends_all, wrote_on, wrote_all}
 use Rattle.lock_free.proofs.Counts.Handed.{Counted, none_counted, none_states, counted_found, found, found_events}
 
 module _ {F : Type 0} (R : F → BitState → F → Type 0) (cap : ℕ) (visit : F) where
@@ -39,9 +41,21 @@ module _ {F : Type 0} (R : F → BitState → F → Type 0) (cap : ℕ) (visit :
     pub within : c.word < cap
     within = grind (arith, words_left, map, taken_by)
 
-    module _ (g : F) (hit : 0 < room.0 → R f (record { bit = c.word; count = room.0 }) g) (miss : room.0 ≡ 0 → g ≡ f) where
+    -- it has taken one step for each place
+    pub taken_steps : a ≡ Done tt → TakesAtMost cap base w
+    taken_steps is =
+        let wrote : ℕ → List (Event ℕ) = λ p. map (taken_by p) h.handed.states in
+        let left = words_left Counts cap wrote base v c m h.call in
+        let most = left.0 in
+        let below = left.2 in
+        let all =
+        ends_all Counts base v w c m room n wrote h.call.idle h.call.made h.call.at kept (goes_so ∙ is)
+        (λ b at. subst (λ z. Goes Counts b z room w) is (told b at)) in
+        counts_take (empties Counts) base w tt room h.call.idle cap h.call.size (omega arith) all.0
+
+    module _ (small : room.0 < 2 ^ 64) (g : F) (hit : 0 < room.0 → R f (record { bit = c.word; count = room.0 }) g) (miss : room.0 ≡ 0 → g ≡ f) where
       next_handed : (x : Counted R cap (c.word + 1) visit g) × (x.states ≡ h.handed.states ++ found R cap visit c.word room.0)
-      next_handed = counted_found R cap visit c.word room.0 f g within hit miss h.handed
+      next_handed = counted_found R cap visit c.word room.0 f g within small hit miss h.handed
 
       same_events : (p : ℕ) → map (taken_by p) h.handed.states ++ take_events p c.word room.0 ≡ map (taken_by p) next_handed.0.states
       same_events x0 = grind (arith, map, taken_by, found_events, map-append, found, next_handed)
@@ -60,14 +74,13 @@ module _ {F : Type 0} (R : F → BitState → F → Type 0) (cap : ℕ) (visit :
               subst (λ k. (x : Counted R cap k visit g) × (x.states ≡ next_handed.0.states))
               (sym (ap (λ (z : Emptying). z.word) (goes_next c n next (goes_so ∙ is)).0)) (next_handed.0, refl)
 
-      pub taken_all : a ≡ Done tt → HasTakenOut R cap visit base w × HasDone kinds.Counts base w
+      pub taken_all : a ≡ Done tt → HasTakenOut R cap visit g base w × HasDone kinds.Counts base w
       taken_all is =
           let all = wrote_all Counts cap (λ p. map (taken_by p) h.handed.states) base v c m h.call w room n kept a goes_so told is in (
             record {
               states = next_handed.0.states;
               ascend = next_handed.0.ascend;
-              last = g;
-              visited = next_handed.0.folds;
+              calls = next_handed.0.folds;
               made = subst (λ z. HasMade emptying answers.Done z base w) (λ i p. same_events p i) all.0;
             },
             all.1,
@@ -87,12 +100,11 @@ missed_none cap base w wrote size over made =
 
 -- where there is no place, nothing is taken and the closure is not called
 pub taken_none : {F : Type 0} (R : F → BitState → F → Type 0) (visit : F) (base w : View ℕ)
-    → HasMade emptying answers.Done (λ by. []) base w → HasTakenOut R 0 visit base w
+    → HasMade emptying answers.Done (λ by. []) base w → HasTakenOut R 0 visit visit base w
 taken_none R visit base w made =
     record {
       states = [];
-      ascend = ((λ i j d lt within. absurd (omega arith)), All-nil (λ (x : BitState). (x.bit < 0) × (0 < x.count)));
-      last = visit;
-      visited = refl;
+      ascend = ((λ i j d lt within. absurd (omega arith)), All-nil (λ (x : BitState). (x.bit < 0) × (0 < x.count) × (x.count < 2 ^ 64)));
+      calls = refl;
       made = made;
     }

@@ -193,13 +193,17 @@ kept_one (Loaned ∷ ps) zero h = refl
 kept_one (Sent ∷ ps) zero h = absurd (true≢false h)
 kept_one (p ∷ ps) (suc i) h = ap (λ z. reclaimed p ∷ z) (kept_one ps i h)
 
+-- what is not reached yet is as it was
+pub not_reached : (ps ys : List Place) (i : ℕ) (sent : Bool) → ys ≡ so_far i ps → is_sent (place_at ys i) ≡ sent → is_sent (place_at ps i) ≡ sent
+not_reached ps ys i sent e h = ap is_sent (sym (at_so_far ps i) ∙ ap (λ z. place_at z i) (sym e)) ∙ h
+
 module _ (ps ys : List Place) (i : ℕ) (e : ys ≡ so_far i ps) (lt : i < length ps) where
   pub sent_step : is_sent (place_at ys i) ≡ true → (set ys i Free ≡ so_far (i + 1) ps) × (count_by is_sent (take (i + 1) ps) ≡ count_by is_sent (take i ps) + 1)
   sent_step x0 = grind (arith, is_sent, place_at, at_so_far, set, add-one, freed_one, count_by_more_yes)
 
   pub other_step : is_sent (place_at ys i) ≡ false → (ys ≡ so_far (i + 1) ps) × (count_by is_sent (take (i + 1) ps) ≡ count_by is_sent (take i ps))
   other_step h =
-      let there : is_sent (place_at ps i) ≡ false = ap is_sent (sym (at_so_far ps i) ∙ ap (λ z. place_at z i) (sym e)) ∙ h in
+      let there = not_reached ps ys i false e h in
       (subst (λ n. ys ≡ so_far n ps) (sym (add-one i)) (e ∙ kept_one ps i there), count_by_more_no is_sent ps i Free lt there)
 
 pub so_far_all : (ps : List Place) → so_far (length ps) ps ≡ map reclaimed ps

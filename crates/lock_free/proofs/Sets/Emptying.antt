@@ -120,7 +120,7 @@ module _ (kind : SetKind) where
       all_of p c m n from here es none =
           ap (λ zs. zs ++ set_effects p (flight_at kind c m) n) none ∙ (same_effects kind p c m n ∙ ap (λ z. emptied kind p z n) here)
 
-  pub keeps : KeepsRule (λ (z : View ℕ). z.capacity) (At one_word (machine_kind kind) (empties kind))
+  pub keeps : KeepsRule (λ (z : View ℕ). z.asked) (λ (z : View ℕ). z.capacity) (At one_word (machine_kind kind) (empties kind))
       (Ends one_word (machine_kind kind) (empties kind)) (λ key. words_of kind key + 1) (λ key. key)
       (λ key. IsMachine one_word (machine_kind kind) key) reset_all_want reset_all_after (λ c m n. reset_all_kept m n)
   keeps =

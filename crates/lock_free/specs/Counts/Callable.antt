@@ -1,6 +1,6 @@
 -- What a closure is called with: places that ascend below the capacity, each at most once, with
--- their counts, which are above 0.
-use Rattle.std.specs.Prelude.{ℕ, ◌<◌, List, All, AllPairs}
+-- their counts, which are above 0 and less than 2^64.
+use Rattle.std.specs.Prelude.{ℕ, ◌<◌, ◌^◌, List, All, AllPairs}
 use Rattle.std.specs.List.{FoldsTo}
 use Rattle.steps.specs.declared.bits.counting_bit_set.BitState.{BitState}
 
@@ -8,12 +8,12 @@ use Rattle.steps.specs.declared.bits.counting_bit_set.BitState.{BitState}
 abbrev pub CountsAscend : ℕ → List BitState → Type 0
 CountsAscend capacity states =
     AllPairs (λ (x y : BitState). x.bit < y.bit) states
-    × All (λ (state : BitState). (state.bit < capacity) × (0 < state.count)) states
+    × All (λ (state : BitState). (state.bit < capacity) × (0 < state.count) × (state.count < 2 ^ 64)) states
 
 -- after calls at places that ascend, the closure may be called at any place above them
--- and below the capacity, with any count above 0
+-- and below the capacity, with any such count
 pub record TakesCounts {F : Type 0} (pre : F → BitState → Type 0)
     (step : F → BitState → F → Type 0) (capacity : ℕ) (f : F) : Type 0 where
   pub at : (before : List BitState) (now : F) (state : BitState) → FoldsTo step f before now
       → CountsAscend capacity before → All (λ (s : BitState). s.bit < state.bit) before
-      → state.bit < capacity → 0 < state.count → pre now state
+      → state.bit < capacity → 0 < state.count → state.count < 2 ^ 64 → pre now state

@@ -30,13 +30,13 @@ pub record AnswersCount (place number : ℕ) (new : View ℕ) : Type 0 where
 abbrev pub taken_by : ℕ → BitState → Event ℕ
 taken_by p state = TakenOut p state.bit state.count
 
--- the call took just these counts out, ascending, and the closure was called with each of them
-pub record HasTakenOut {F : Type 0} (step : F → BitState → F → Type 0) (capacity : ℕ) (visit : F)
+-- the call took just these counts out, ascending, and the closure was called with each of them, which led it from the
+-- one state to the other
+pub record HasTakenOut {F : Type 0} (step : F → BitState → F → Type 0) (capacity : ℕ) (visit visited : F)
     (old new : View ℕ) : Type 0 where
   pub states : List BitState
   pub ascend : CountsAscend capacity states
-  pub last : F
-  pub visited : FoldsTo step visit states last
+  pub calls : FoldsTo step visit states visited
   pub made : HasMade (Bits ResetAll) Done (λ by. map (taken_by by) states) old new
 
 -- of each place that counted above 0 as the call began something was taken out since, by it or by

@@ -1,7 +1,8 @@
 //! A count for each place, which any number of threads raise and take out.
 //!
-//! The comments say how many atomic steps a call takes, and its contract does not. These bounds are proved in the
-//! model, of the calls that it has. What is proved of threads is what the contracts say.
+//! How many atomic steps a call takes is what its clause `steps` says: the operations on words that its pass has
+//! counted. The driver counts each one that it performs; a split, a join and a look go by the table itself, and count
+//! theirs by their contracts. What is proved of threads is what the contracts say.
 use super::sets;
 use super::sets::rule::Counts;
 pub use steps::bits::counting_bit_set::BitState;

@@ -3,8 +3,9 @@
 //! Each call but `capacity` is made with a pass, and what a caller holds is told by what its pass made. Passes of one set
 //! never hold the same index, and once any of them has seen the lock, none holds one.
 //!
-//! The comments say how many atomic steps a call takes, and its contract does not. These bounds are proved in the
-//! model, of the calls that it has. What is proved of threads is what the contracts say.
+//! How many atomic steps a call takes is what its clause `steps` says: the operations on words that its pass has
+//! counted. The driver counts each one that it performs; a split, a join and a look go by the table itself, and count
+//! theirs by their contracts. What is proved of threads is what the contracts say.
 ghost use Rattle.std.specs.Prelude.{◌≡◌, ◌<◌, ◌+◌, [], None};
 ghost use Rattle.std.specs.Arc.{arc_value};
 ghost use Rattle.history.specs.Held.{Holds};

@@ -2,8 +2,8 @@
 //! an index queue as long as the set. The receiver's end is the two other guards: it pops what is sent, and pushes it
 //! back. Not of the Rust crate.
 //!
-//! The comments say how many atomic steps a call takes, and its contract does not. These bounds are proved in the
-//! model, of the calls that it has. What is proved of threads is what the contracts say.
+//! How many atomic steps a call takes is what its clauses `steps`, of its pass, and `queue_steps`, of its end of a
+//! queue, say: the operations on words that these have counted. What is proved of threads is what the contracts say.
 ghost use Rattle.lock_free.specs.UniqueIndexSet.{view, IsPassOf};
 ghost use Rattle.lock_free.specs.Loan.Places.{IsBookOf};
 

@@ -26,7 +26,7 @@ use Rattle.lock_free_owners.specs.Container.Turns.{CallAt, BeginsAdd, BeginsRemo
 use Rattle.lock_free_owners.specs.Container.Turns.{BeginsLock, AddAt, AddEnds, RemoveAt, RemoveEnds, ReplaceAt}
 use Rattle.lock_free_owners.specs.Container.Turns.{ReplaceEnds, CountAt, CountEnds, LockAt, LockEnds}
 use Rattle.lock_free_owners.proofs.ContainerSet.Idle.{rests}
-use Rattle.lock_free_owners.proofs.Rules.Container.Bare.{leaves}
+use Rattle.lock_free_owners.proofs.Rules.Container.Bare.{stays}
 
 module _ {T : Type 0} (code : Coding T) where
   -- ---- a call that begins
@@ -48,7 +48,7 @@ module _ {T : Type 0} (code : Coding T) where
 
   settles_by : (key slots id word : ℕ) (v : View T) → v.capacity ≡ key → (v.going ≡ None) ⊎ IsResting code v → Settling key slots id word v
   settles_by key slots id word v known (inl idle) =
-      leaves code key slots id v word (λ n. n) (λ k. refl) (λ u n w. SettledFrom code kinds.Container u w) (λ k. inl (refl, idle))
+      stays code key slots id v word (λ u w. SettledFrom code kinds.Container u w) (inl (refl, idle))
   settles_by key slots id word v known (inr resting) = λ s r long at small.
       (let x = container_settles code key slots id word v known resting s r long at small in (x.0, x.1, x.2, x.3, (inr x.4.0, x.4.1)))
 

@@ -19,8 +19,8 @@ use Rattle.lock_free_owners.specs.Container.Bare.{Still, LookStands, LookEnds}
 use Rattle.lock_free_owners.specs.Container.Idle.{IsIdle}
 use Rattle.lock_free_owners.specs.Container.LookTurns.{IsOnHistory, LookAt, LookOver, IsPast, LookOnAt, LookOnOver}
 use Rattle.lock_free_owners.specs.Container.Names.{unnumbered}
-use Rattle.lock_free_owners.specs.Container.Told.{HasMade}
-use Rattle.lock_free_owners.proofs.ContainerSet.Began.{capacity_from, idle_from, share_from, ended_goes, ended_called}
+use Rattle.lock_free_owners.specs.Container.Told.{Answered, HasMade}
+use Rattle.lock_free_owners.proofs.ContainerSet.Began.{capacity_from, idle_from, share_from, ended_answered, ended_goes, ended_called}
 use Rattle.lock_free_owners.proofs.ContainerSet.Idle.{rests, idle_none}
 use Rattle.lock_free_owners.proofs.ContainerSet.SameStates.{Decided}
 use Rattle.lock_free_owners.proofs.Rules.Container.LookRuns.{state_rule}
@@ -74,11 +74,11 @@ module _ {T : Type 0} (code : Coding T) (law : IsCoding code) (which : LookOf) (
 
   look_keeps_by : Decided On → Keeps code At Over want after kept
   look_keeps_by (inl on) base v c m key words slots id wide known at =
-      weaker_owes (IsMachine code kinds.Container key) words slots id (ToldOn c m) (Told (λ (z : View T). z.capacity) At Over after kept c m) (want c) (v, [])
+      weaker_owes (λ (z : View T). z.asked) (IsMachine code kinds.Container key) words slots id (ToldOn c m) (Told (λ (z : View T). z.capacity) At Over after kept c m) (want c) (v, [])
       (λ n w h. (h.0, λ b here. joins on b (after c n) (kept c m n) w (h.1 from (here.0 on))))
       (state_rests_keep code law which from.capacity seen from v c m key words slots id wide known (at.0 on))
   look_keeps_by (inr other) base v c m key words slots id wide known at =
-      weaker_owes (IsMachine code kinds.Container key) words slots id (ToldStill c m)
+      weaker_owes (λ (z : View T). z.asked) (IsMachine code kinds.Container key) words slots id (ToldStill c m)
       (Told (λ (z : View T). z.capacity) At Over after kept c m) (want c) (v, [])
       (λ n w h. (h.0, λ b here. leaves other b (after c n) (kept c m n) w (h.1 from (here.1 other))))
       (state_rule code code.value_of code.size law.some seen from v c m key words slots id wide known (at.1 other))
@@ -107,7 +107,7 @@ module _ {T : Type 0} (code : Coding T) (law : IsCoding code) (which : LookOf) (
 
   pub look_on_keeps : Decided On → Keeps code AtOn OverOn want after kept
   look_on_keeps decided base v c m key words slots id wide known at =
-      weaker_owes (IsMachine code kinds.Container key) words slots id (Told (λ (z : View T). z.capacity) At Over after kept c m)
+      weaker_owes (λ (z : View T). z.asked) (IsMachine code kinds.Container key) words slots id (Told (λ (z : View T). z.capacity) At Over after kept c m)
       (Told (λ (z : View T). z.capacity) AtOn OverOn after kept c m) (want c) (v, [])
       (λ n w h. (h.0, λ b here. goes_past b (after c n) (kept c m n) w (takes c c.stage n here.1) (h.1 b here.0)))
       (look_keeps decided base v c m key words slots id wide known at.0)
@@ -154,6 +154,11 @@ module _ {T : Type 0} (code : Coding T) (which : LookOf) (from w : View T) (seen
 
   pub look_goes : Goes code kinds.Container from.capacity from w
   look_goes = ended_goes code from ends.from ends.settled (looking code which from.capacity seen) w changed m ends.over.0
+
+  pub look_answered : Answered code (look_start which) (looked which (state_of_look from.capacity seen m) changed) from w
+  look_answered =
+      ended_answered code from ends.from ends.settled (looking code which from.capacity seen) w changed m ends.over.0 (look_start which) refl
+      (looked which (state_of_look from.capacity seen m) changed) refl
 
   pub look_made : HasMade code (look_start which) (looked which (state_of_look from.capacity seen m) changed)
       (λ by es. HasLookedAll from.capacity by changed es) from w

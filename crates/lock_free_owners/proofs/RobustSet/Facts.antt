@@ -1,5 +1,5 @@
 -- What is known of whole calls on a set.
-use Rattle.lock_free_owners.proofs.Names.{◌≡◌, ⊎_elim, ℕ, ◌<◌, ◌≤◌, Bool, true, false, true≢false, None, Ok, Err}
+use Rattle.lock_free_owners.proofs.Names.{◌≡◌, ⊎_elim, ℕ, ◌+◌, ◌<◌, ◌≤◌, Bool, true, false, true≢false, None, Ok, Err}
 use Rattle.lock_free_owners.proofs.Names.{IfOk, IfErr, OnOk, List, [], ◌∷◌, ◌++◌, refl, sym, ap, ◌∙◌}
 use Rattle.lock_free_owners.proofs.Names.{append_assoc, arith, Acquired, Released, ReleaseMode, LockIfLastIndex}
 use Rattle.lock_free_owners.proofs.Names.{Default, ReleaseState, OutOfIndices, WasLocked, GiveBack, Answer, State}
@@ -17,10 +17,15 @@ use Rattle.model.specs.Families.Indices.Robust.Calls.{acquire_answer, release_an
 use Rattle.lock_free_owners.specs.Robust.Told.{HasTaken, HasGiven, HasRecovered, HasCounted, HasLooked, WroteAt}
 use Rattle.lock_free_owners.specs.Robust.Told.{WasFilled, WasGranted, WasFreed, IsSound, Answered, WasRefused}
 use Rattle.lock_free_owners.specs.Robust.Told.{HasReleased, FoundLock, FoundState}
+use Rattle.model.specs.Progress.{guarantee_of}
+use Rattle.history.proofs.Paid.{AllowsOne, TakesBy, takes}
+use Rattle.history.proofs.Robusts.{robust_pays}
+use Rattle.history.specs.Steps.{TakesAtMost}
 use Rattle.lock_free_owners.specs.Robust.Callable.{HasVisited}
+use Rattle.lock_free_owners.specs.Robust.Steps.{SetTakes, ReleaseTakes, RecoverTakes}
 use Rattle.lock_free_owners.proofs.RobustSet.Asking.{visits_none}
 use Rattle.lock_free_owners.proofs.RobustSet.Sound.{sound_history}
-use Rattle.lock_free_owners.proofs.RobustSet.Events.{find_own, lock_stays, not_locked}
+use Rattle.lock_free_owners.proofs.RobustSet.Events.{find_own, lock_stays, longer, not_locked}
 
 module _ (base w : View ℕ) (h : IsHistory one_word kinds.Robust base.capacity w.seen) where
   sound : IsSound base.capacity w.seen
@@ -236,3 +241,45 @@ recovered_lock base w idle mode states.Unlocked visits ends =
 
 pub looks_goes : (capacity : ℕ) (base w : View ℕ) → Looks one_word kinds.Robust capacity base w → Goes one_word kinds.Robust capacity base w
 looks_goes x0 x1 x2 x3 = grind arith
+
+-- looks behind a call of the pass
+pub looks_after : (capacity : ℕ) (base v w : View ℕ) → Goes one_word kinds.Robust capacity base v → Looks one_word kinds.Robust capacity v w
+    → Goes one_word kinds.Robust capacity base w
+looks_after capacity base v w first looks =
+    let next = looks_goes capacity v w looks in
+    record {
+      share = next.share ∙ first.share;
+      since = longer first.since next.since;
+      history = next.history;
+      all = next.all;
+    }
+
+-- ---- how many operations they take
+
+module _ {C M E : Type 0} (call : Calling ℕ C M E) (base w : View ℕ) (e : E) (m : M) (idle : base.going ≡ None) where
+  takes_so : AllowsOne (guarantee_of kinds.Robust base.capacity one_word.size call.start) → Ends one_word kinds.Robust call base e m w
+      → TakesBy one_word kinds.Robust base.capacity (guarantee_of kinds.Robust base.capacity one_word.size call.start) base w
+  takes_so least ends = takes one_word kinds.Robust call base w e m idle (robust_pays one_word base.capacity) least ends
+
+module _ (base w : View ℕ) (idle : base.going ≡ None) where
+  pub acquire_takes : (owner : ℕ) (e : Acquired) (m : Unit {0}) → Ends one_word kinds.Robust (takes_owned owner) base e m w
+      → SetTakes base.capacity (base.capacity + 3) (base.capacity + 1) base w
+  acquire_takes owner e m ends = takes_so (takes_owned owner) base w e m idle (omega arith) ends
+
+  pub release_takes : (index owner : ℕ) (mode : ReleaseMode) (e : Released) (m : Unit {0})
+      → Ends one_word kinds.Robust (gives_owned (record { index = index; owner = owner; mode = mode })) base e m w → ReleaseTakes base.capacity mode base w
+  release_takes index owner Default e m ends = takes_so (gives_owned (record { index = index; owner = owner; mode = Default })) base w e m idle (omega arith) ends
+  release_takes index owner LockIfLastIndex e m ends =
+      takes_so (gives_owned (record { index = index; owner = owner; mode = LockIfLastIndex })) base w e m idle (omega arith) ends
+
+  pub count_takes : (e : ℕ) (m : Unit {0}) → Ends one_word kinds.Robust counts_owned base e m w
+      → SetTakes base.capacity (base.capacity + 2) (base.capacity + 2) base w
+  count_takes e m ends = takes_so counts_owned base w e m idle (omega arith) ends
+
+  pub look_takes : (e : Bool) (m : Unit {0}) → Ends one_word kinds.Robust looks_owned base e m w → TakesAtMost 1 base w
+  look_takes e m ends = takes_so looks_owned base w e m idle (omega arith) ends
+
+  pub recover_takes : (mode : ReleaseMode) (e : ReleaseState) (m : List Visit) → Ends one_word kinds.Robust (recovers_owned mode) base e m w
+      → RecoverTakes base.capacity mode base w
+  recover_takes Default e m ends = takes_so (recovers_owned Default) base w e m idle (omega arith) ends
+  recover_takes LockIfLastIndex e m ends = takes_so (recovers_owned LockIfLastIndex) base w e m idle (omega arith) ends

@@ -12,6 +12,7 @@ use Rattle.steps.specs.Indices.Robust.Parts.{one_more}
 use Rattle.steps.specs.Indices.Robust.Find.{at_find, first_find, find_comes_to, find_takes, find_left}
 use Rattle.model.specs.declared.turn.Kind.TheVariants as kinds
 use Rattle.model.specs.Families.Indices.Robust.Reading.{filled_of}
+use Rattle.history.specs.Steps.{TakesAtMost}
 use Rattle.history.proofs.Finds.{tells_owner, tells_other, owned_none, owned_later, owned_more, owned_past}
 use Rattle.history.proofs.Looking.{looks_then}
 use Rattle.lock_free_owners.specs.Robust.Callable.{HasFound}
@@ -121,11 +122,12 @@ module _ {F : Type 0} (step : F → ℕ → CallbackProgression → F → Type 0
 
   -- it has come past the indices below this one
   comes : (w : View ℕ) (c : Find) (index found : ℕ) (q : F) → Looked w → w.capacity ≡ cap → 0 < w.share.part → c.capacity ≡ cap → index ≤ cap
-      → Came index found w.seen q → On (find_comes_to c index found) w q
-  comes x0 x1 x2 x3 x4 x5 x6 x7 x8 x9 x10 = grind (arith, by_test, nat_lt, at_find, nat_tests, found_all)
+      → TakesAtMost index base w → Came index found w.seen q → On (find_comes_to c index found) w q
+  comes x0 x1 x2 x3 x4 x5 x6 x7 x8 x9 x10 x11 = grind (arith, by_test, nat_lt, at_find, nat_tests, found_all)
 
   module _ (small : cap < 2 ^ 32) (fits : owner < empty) (v w : View ℕ) (c : Find) (p : F) (h : Search v c p) where
-    module _ (index found k : ℕ) (at : SoFar (finds.LoadsCell index found) v p) (looks : LooksAt one_word kinds.Robust cap (cell_word index) v k w) where
+    module _ (index found k : ℕ) (at : SoFar (finds.LoadsCell index found) v p) (looks : LooksAt one_word kinds.Robust cap (cell_word index) v k w)
+        (few : TakesAtMost index base v) (counted : w.asked ≡ v.asked + 1) where
       looked_then : Looked w
       looked_then = go at.1
         where
@@ -135,6 +137,9 @@ module _ {F : Type 0} (step : F → ℕ → CallbackProgression → F → Type 0
 
       came_there : Came index found w.seen p
       came_there = came_later index found v.seen p at.2 w.seen looks.looks.mine
+
+      few_now : TakesAtMost (index + 1) base w
+      few_now = (let before = few in let one = counted in omega arith)
 
       pub loaded : On (find_takes c (finds.LoadsCell index found) owner k) w p
       loaded =
@@ -147,19 +152,22 @@ module _ {F : Type 0} (step : F → ℕ → CallbackProgression → F → Type 0
             known = known;
             some = some;
             standing = h.standing;
+            steps = few_now;
             so_far = (at.0, looked_then, tells_owner one_word cap index k at.0 v w looks owner fits e, (found, omega arith, came_there));
           })
-          (λ ne. comes w c (index + 1) found p looked_then known some h.standing (omega arith)
+          (λ ne. comes w c (index + 1) found p looked_then known some h.standing (omega arith) few_now
           (came_past index found w.seen p came_there looked_then.mine (tells_other one_word cap index k at.0 v w looks owner ne)))
 
-    pub heard : (index found : ℕ) (answer : CallbackProgression) (q : F) → SoFar (finds.Asks index found) v p → step p index answer q
-        → On (find_takes c (finds.Asks index found) owner (says answer)) v q
-    heard index found Continue q at hit =
+    pub heard : (index found : ℕ) (answer : CallbackProgression) (q : F) → SoFar (finds.Asks index found) v p → TakesAtMost (index + 1) base v
+        → step p index answer q → On (find_takes c (finds.Asks index found) owner (says answer)) v q
+    heard index found Continue q at few hit =
         let low = at.0 in
         let asked = at.3 in
-        comes v c (index + 1) found q at.1 h.known h.some h.standing (omega arith)
+        comes v c (index + 1) found q at.1 h.known h.some h.standing (omega arith) few
         (subst (λ n. Came (index + 1) n v.seen q) asked.1 (came_more index asked.0 v.seen p asked.2 at.1.mine q at.0 at.2 hit))
-    heard index found Stop q at hit = (at.1, found_last index at.3.0 v.seen p at.3.2 at.1.mine found q at.0 at.3.1 at.2 hit)
+    heard index found Stop q at few hit =
+        let low = at.0 in
+        (at.1, found_last index at.3.0 v.seen p at.3.2 at.1.mine found q at.0 at.3.1 at.2 hit, (let most = few in omega arith))
 
   pub starts : (c : Find) → c ≡ first_find cap → base.capacity ≡ cap → 0 < base.share.part → 0 < cap → Search base c f
   starts x0 x1 x2 x3 x4 = grind (arith, came_none)

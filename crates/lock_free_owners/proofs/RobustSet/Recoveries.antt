@@ -1,27 +1,20 @@
 -- A recovery between two turns: where it stands on the history with its visits, and what its closures were called with.
 use Rattle.std.proofs.Common.{arith}
-use Rattle.lock_free_owners.proofs.Names.{◌≡◌, ℕ, Bool, true, false, None, List, [], refl, sym, subst}
-use Rattle.lock_free_owners.proofs.Names.{recover_after, After, GoOn, Done, ReleaseMode, ReleaseState, Recovering}
+use Rattle.lock_free_owners.proofs.Names.{◌≡◌, ◌≢◌, ℕ, ◌+◌, ◌<◌, ◌≤◌, Bool, true, false, None, List, [], refl, sym, ap, subst}
+use Rattle.lock_free_owners.proofs.Names.{◌∙◌, by_eq, empty, recover_after, After, GoOn, Done, ReleaseMode, ReleaseState}
+use Rattle.lock_free_owners.proofs.Names.{Recovering}
 use Rattle.lock_free_owners.proofs.Names.{one_word, is_question, number_of, is_locked, View, Visit, recover_hears}
-use Rattle.steps.specs.Indices.Robust.Recover.{first_recover, recover_asks, recover_takes}
+use Rattle.steps.specs.Indices.Robust.Recover.{first_recover, recover_asks, recover_comes_to, recover_takes}
 use Rattle.steps.specs.declared.indices.robust.recover.RecoverStage.TheVariants as recovers
 use Rattle.threaded.specs.Driver.{Next}
 use Rattle.history.specs.Robust.{visits_after}
-use Rattle.lock_free_owners.specs.Robust.Callable.{TakesQuestions, TakesFreed, HasVisited}
+use Rattle.lock_free_owners.specs.Robust.Callable.{questions_of, TakesQuestions, TakesFreed, HasVisited}
+use Rattle.lock_free_owners.specs.Robust.Recovering.{StandsSo, EndsSo, LedTo, MayAsk, LeadsOn}
 use Rattle.lock_free_owners.specs.Robust.Stages.{RecoverAsks, RecoverMoves}
 use Rattle.lock_free_owners.specs.Robust.Turns.{RecoverAt, RecoverEnds, RecoverGoes, RecoverSteps}
 use Rattle.lock_free_owners.proofs.RobustSet.Asking.{knows}
-use Rattle.lock_free_owners.proofs.Rules.Robust.Recovering.{Knows, SoFar, Onward, Visited, onward, may_ask, well_formed}
-
-module _ {F S : Type 0} (step : F → ℕ → ℕ → Bool → F → Type 0) (tell : S → ℕ → ℕ → S → Type 0) (cap : ℕ) (mode : ReleaseMode) (base : View ℕ) (f : F)
-    (s : S) where
-  abbrev pub StandsSo : View ℕ → Recovering → F → S → Type 0
-  StandsSo v call p x =
-      (visits : List Visit) × RecoverAt mode base v call visits × SoFar step tell cap (is_locked base.seen) f s call.stage visits p x
-
-  -- it has ended
-  abbrev pub EndsSo : View ℕ → ReleaseState → F → S → Type 0
-  EndsSo w state q y = (visits : List Visit) × RecoverEnds mode base state visits w × HasVisited step tell f s visits q y
+use Rattle.lock_free_owners.proofs.RobustSet.Turns.{passes}
+use Rattle.lock_free_owners.proofs.Rules.Robust.Recovering.{Knows, Onward, Visited, onward, may_ask, well_formed}
 
 module _ {F S : Type 0} (step : F → ℕ → ℕ → Bool → F → Type 0) (tell : S → ℕ → ℕ → S → Type 0) (cap : ℕ) (mode : ReleaseMode) (base : View ℕ)
     (idle : base.going ≡ None) (known : base.capacity ≡ cap) (f : F) (s : S) where
@@ -69,6 +62,13 @@ module _ {F S : Type 0} (step : F → ℕ → ℕ → Bool → F → Type 0) (te
     pub moves_end : (state : ReleaseState) → after ≡ Done state → Ended w state q y
     moves_end state is = (let now = now_at (Done state) is in (then, now.0, has_visited then q y now.1))
 
+    led_at : (a : After Recovering ReleaseState) → after ≡ a → LedTo step tell cap mode base f s w a q y
+    led_at (GoOn next) is = moves_on next is
+    led_at (Done state) is = moves_end state is
+
+    pub moves_to : LedTo step tell cap mode base f s w after q y
+    moves_to = led_at after refl
+
   -- a step that may leave the call as it is, and leaves its visits
   module _ (v w : View ℕ) (call : Recovering) (after : After Recovering ReleaseState) (goes : RecoverGoes mode v call (λ visits. visits) after w)
       (p : F) (x : S) (so : Stands v call p x) (still : Onward step tell cap shut f s after so.0 p x) where
@@ -81,6 +81,32 @@ module _ {F S : Type 0} (step : F → ℕ → ℕ → Bool → F → Type 0) (te
 
     pub stays_end : (state : ReleaseState) → after ≡ Done state → Ended w state p x
     stays_end state is = (let now = still_at (Done state) is in (so.0, now.0, has_visited so.0 p x now.1))
+
+  -- where steps that leave the second closure have led
+  module _ (v w : View ℕ) (call : Recovering) (after : After Recovering ReleaseState) (p q : F) (x : S)
+      (leads : LeadsOn step tell mode v call p after w q) (so : Stands v call p x) where
+    led : LedTo step tell cap mode base f s w after q x
+    led = subst (λ n. LedTo step tell n mode base f s w after q x) known
+        (leads base f s x idle (subst (λ n. StandsSo step tell n mode base f s v call p x) (sym known) so))
+
+    pub leads_on : (next : Recovering) → after ≡ GoOn next → Stands w next q x
+    leads_on next is = subst (λ a. LedTo step tell cap mode base f s w a q x) is led
+
+    pub leads_end : (state : ReleaseState) → after ≡ Done state → Ended w state q x
+    leads_end state is = subst (λ a. LedTo step tell cap mode base f s w a q x) is led
+
+  pub may_ask_on : {pre : F → ℕ → ℕ → Type 0} (v : View ℕ) (call : Recovering) (p : F) (x : S)
+      → (shut ≡ false → TakesQuestions pre step cap f) → Stands v call p x → MayAsk step tell pre mode v call p
+  may_ask_on {pre} v call p x takes so =
+      record {
+        base = base;
+        f = f;
+        s = s;
+        q = x;
+        idle = idle;
+        stands = subst (λ n. StandsSo step tell n mode base f s v call p x) (sym known) so;
+        takes = λ free. subst (λ n. TakesQuestions pre step n f) (sym known) (takes free);
+      }
 
   pub asks_there : {pre : F → ℕ → ℕ → Type 0} {may : S → ℕ → ℕ → Type 0} (v : View ℕ) (call : Recovering) (p : F) (x : S)
       → (shut ≡ false → TakesQuestions pre step cap f) → (shut ≡ false → TakesFreed step may tell cap f s) → Stands v call p x
@@ -99,3 +125,86 @@ module _ (mode : ReleaseMode) (base v : View ℕ) (call : Recovering) (visits : 
   pub said_goes : RecoverAt mode base v call visits → Next (λ (z : View ℕ). z.capacity) (RecoverAt mode) (RecoverEnds mode) base
       (recover_after call mode (number_of said)) (visits_after call visits (number_of said)) v
   said_goes x0 = grind (arith, recover_after, number_of, visits_after, recover_hears, one_word, is_question, recover_asks, lasts, recover_takes)
+
+-- ---- a cell that it has come to
+
+below_not : (a b : ℕ) → a < b → a ≡ b → ⊥
+below_not a b low e = omega arith
+
+below_from : (a b : ℕ) → a ≤ b → a ≢ b → a < b
+below_from a b up ne = omega arith
+
+abbrev pub asks_at : ℕ → ℕ → ℕ → Recovering
+asks_at capacity cell owner = record { capacity = capacity; stage = recovers.Asks cell owner }
+
+module _ (capacity cell found : ℕ) (mode : ReleaseMode) where
+  pub finds_none : found ≡ empty → recover_after (passes capacity cell) mode found ≡ recover_comes_to (passes capacity cell) (cell + 1)
+  finds_none e = ap (recover_after (passes capacity cell) mode) e
+
+  pub finds_owner : found ≢ empty → recover_after (passes capacity cell) mode found ≡ GoOn (asks_at capacity cell found)
+  finds_owner some =
+      by_eq (λ a. a ≡ GoOn (asks_at capacity cell found)) found empty (recover_comes_to (passes capacity cell) (cell + 1))
+      (GoOn (asks_at capacity cell found)) (λ e. absurd (some e)) (λ ne. refl)
+
+-- what was heard of the owner found there; where there was none it was a no
+pub record Heard {F : Type 0} (step : F → ℕ → ℕ → Bool → F → Type 0) (found cell answer : ℕ) (p q : F) : Type 0 where
+  pub fits : found ≤ empty
+  pub asked : found < empty → (yes : Bool) × step p found cell yes q × (answer ≡ number_of yes)
+  pub passed : found ≡ empty → (answer ≡ 0) × (q ≡ p)
+
+module _ {F S : Type 0} (step : F → ℕ → ℕ → Bool → F → Type 0) (tell : S → ℕ → ℕ → S → Type 0) (mode : ReleaseMode) (base : View ℕ)
+    (idle : base.going ≡ None) (f : F) (s : S) (v w : View ℕ) (capacity cell found : ℕ)
+    (goes : RecoverGoes mode v (passes capacity cell) (λ visits. visits) (recover_after (passes capacity cell) mode found) w)
+    (p : F) (x : S) (so : StandsSo step tell base.capacity mode base f s v (passes capacity cell) p x) where
+  abbrev Led : After Recovering ReleaseState → F → Type 0
+  Led a q = LedTo step tell base.capacity mode base f s w a q x
+
+  loaded : Led (recover_after (passes capacity cell) mode found) p
+  loaded = moves_to step tell base.capacity mode base idle refl f s v w (passes capacity cell) (recover_after (passes capacity cell) mode found) found goes
+      p p x x so (refl, refl, refl)
+
+  at_owner : found ≢ empty → StandsSo step tell base.capacity mode base f s w (asks_at capacity cell found) p x
+  at_owner some = subst (λ a. Led a p) (finds_owner capacity cell found mode some) loaded
+
+  -- the closure may be asked about the owner
+  pub may_ask_about : {pre : F → ℕ → ℕ → Type 0} → (is_locked base.seen ≡ false → TakesQuestions pre step base.capacity f) → found < empty
+      → pre p found cell
+  may_ask_about {pre} takes low =
+      let there = at_owner (below_not found empty low) in
+      let known = knows mode base w idle (asks_at capacity cell found) there.0 there.1 in
+      (takes known.0.0).at (questions_of there.0) p (record { owner = found; index = cell }) there.2.questions there.2.asked_ascend there.2.asked_below
+      (low, known.0.1)
+
+  -- how it goes on from the answer
+  answer_leads : (q : F) (yes : Bool) → found < empty → step p found cell yes q → Led (recover_after (asks_at capacity cell found) mode (number_of yes)) q
+  answer_leads q reply low hit =
+      moves_to step tell base.capacity mode base idle refl f s w w (asks_at capacity cell found)
+      (recover_after (asks_at capacity cell found) mode (number_of reply)) (number_of reply)
+      (λ other visits fresh at. said_goes mode other w (asks_at capacity cell found) visits cell found refl reply at) p q x x
+      (at_owner (below_not found empty low))
+      (low, refl, (reply, hit, refl), refl)
+
+  module _ (answer : ℕ) (q : F) (heard : Heard step found cell answer p q) where
+    -- a yes
+    pub yes_leads : answer ≢ 0 → (found ≢ empty) × Led (recover_after (asks_at capacity cell found) mode answer) q
+    yes_leads some = (there, subst (λ n. Led (recover_after (asks_at capacity cell found) mode n) q) (sym said.2) (answer_leads q said.0 low said.1))
+      where
+        there : found ≢ empty
+        there e = some (heard.passed e).0
+
+        low : found < empty
+        low = below_from found empty heard.fits there
+
+        said : (yes : Bool) × step p found cell yes q × (answer ≡ number_of yes)
+        said = heard.asked low
+
+    -- a no leads on behind the cell
+    pub no_leads : answer ≡ 0 → Led (recover_comes_to (passes capacity cell) (cell + 1)) q
+    no_leads none =
+        by_eq {A = Unit {0}} (λ z. Led (recover_comes_to (passes capacity cell) (cell + 1)) q) found empty tt tt
+        (λ e. subst (λ r. Led (recover_comes_to (passes capacity cell) (cell + 1)) r) (sym (heard.passed e).1)
+        (subst (λ a. Led a p) (finds_none capacity cell found mode e) loaded))
+        (λ ne. (
+        let low : found < empty = below_from found empty heard.fits ne in
+        let said = heard.asked low in
+        subst (λ n. Led (recover_after (asks_at capacity cell found) mode n) q) (sym said.2 ∙ none) (answer_leads q said.0 low said.1)))

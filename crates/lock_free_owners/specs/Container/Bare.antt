@@ -5,10 +5,14 @@ use Rattle.steps.specs.declared.container.look.Look.{Look}
 use Rattle.steps.specs.declared.container.look.LookStage as looks
 use Rattle.history.specs.declared.view.View.{View}
 
+-- what is known stays, and so many operations are counted
+abbrev pub IsCounted : {T : Type 0} → View T → View T → Type 0
+IsCounted old new = new ≡ record old { asked = new.asked }
+
 -- until its end it leaves what is known
 module _ {T C M : Type 0} where
   abbrev pub Still : (View T → C → Type 0) → View T → View T → C → M → Type 0
-  Still stands base v call room = (v ≡ base) × stands v call
+  Still stands base v call room = IsCounted base v × stands v call
 
 module _ {T : Type 0} where
   abbrev pub LookStage : ℕ → View T → looks.LookStage → Type 0
@@ -22,4 +26,4 @@ module _ {T : Type 0} where
   LookStands size v call = (call.capacity ≡ v.capacity) × LookStage size v call.stage
 
   abbrev pub LookEnds : {M : Type 0} → View T → Bool → M → View T → Type 0
-  LookEnds base updated room w = w ≡ base
+  LookEnds base updated room w = IsCounted base w

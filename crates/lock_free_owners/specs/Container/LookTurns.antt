@@ -8,7 +8,7 @@ use Rattle.model.specs.declared.families.container.calls.LookOf.{LookOf}
 use Rattle.model.specs.Coding.{Coding}
 use Rattle.history.specs.declared.view.View.{View}
 use Rattle.history.specs.ContainerLooks.{BeginsWith, RestedLooks, RestedLooked}
-use Rattle.lock_free_owners.specs.Container.Bare.{Still, LookStands}
+use Rattle.lock_free_owners.specs.Container.Bare.{IsCounted, Still, LookStands}
 
 module _ {T : Type 0} (code : Coding T) (which : LookOf) (from : View T) (shown : Showing T) (seen : Numbers) where
   -- the history has the state with which it began
@@ -23,7 +23,7 @@ module _ {T : Type 0} (code : Coding T) (which : LookOf) (from : View T) (shown 
   abbrev pub LookOver : Bool → Showing T → View T → Type 0
   LookOver changed m w =
       (IsOnHistory → RestedLooked code which from.capacity seen from changed m w)
-      × ((IsOnHistory → ⊥) → w ≡ from)
+      × ((IsOnHistory → ⊥) → IsCounted from w)
 
 -- another number of changes than the state has seen was found
 abbrev pub IsPast : looks.LookStage → Type 0

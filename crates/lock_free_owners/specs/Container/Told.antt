@@ -1,5 +1,5 @@
 -- What the calls on containers add to the history, and what they answer.
-use Rattle.std.specs.Prelude.{◌≡◌, ℕ, Bool, true, false, Some, Result, Ok, Err, List, [], ◌∷◌, ◌++◌, slice_index}
+use Rattle.std.specs.Prelude.{◌≡◌, ℕ, ◌<◌, ◌-◌, ◌^◌, Bool, true, false, Some, Result, Ok, Err, List, [], ◌∷◌, ◌++◌, slice_index}
 use Rattle.steps.specs.Container.Add.{Added}
 use Rattle.steps.specs.Container.Remove.{Removed}
 use Rattle.steps.specs.Container.Replace.{Replaced}
@@ -28,6 +28,7 @@ use Rattle.model.specs.Reading.{Each}
 use Rattle.model.specs.World.{Trace}
 use Rattle.laws_robust.specs.Gone.{Word, IsHonest}
 use Rattle.laws_container.specs.Gone.{AsksBy, RecoversBy, AnswersBy}
+use Rattle.laws_turns.specs.Changes.{changes_of, MeetsChanges}
 use Rattle.history.specs.declared.view.View.{View}
 use Rattle.history.specs.Container as container
 use Rattle.history.specs.ContainerFind.{HasCopied}
@@ -58,6 +59,18 @@ module _ {T : Type 0} where
 abbrev pub placed : Result ContainerHandle ContainerAddFailure → Added
 placed (Ok handle) = Ok handle.index
 placed (Err failure) = Err failure
+
+module _ {T : Type 0} where
+  -- The last that was seen is the end of an update of the state that the pass has. Where fewer than 2^64 - 1 changes were
+  -- counted, it answered true as one was since the look began that last brought that state up to date, or false as none was
+  -- since that look ended.
+  pub record HasMet (changed : Bool) (old new : View T) : Type 0 where
+    pub by : ℕ
+    pub before : List (Event T)
+    pub is : new.seen ≡ before ++ Finished by (Container UpdateState) (Truth changed) ∷ []
+    pub since : IsBeginning old.seen before
+    pub right : changes_of new.seen < 2 ^ 64 - 1
+        → MeetsChanges before (Finished by (Container UpdateState) (Truth changed))
 
 module _ {T : Type 0} (code : Coding T) where
   -- one call of the history, by a party of the pass, and what it wrote; where the last call of the pass rested, that had

@@ -13,6 +13,7 @@ use Rattle.model.specs.Families.Indices.Robust.Reading.{filled_of}
 use Rattle.threaded.specs.Callable.{Ascends}
 use Rattle.history.specs.declared.view.View.{View}
 use Rattle.history.specs.Finds.{WereOwned}
+use Rattle.history.specs.Steps.{TakesAtMost}
 use Rattle.history.specs.Views.{Looks}
 use Rattle.lock_free_owners.specs.Robust.Callable.{WentOn, HasFound}
 
@@ -25,6 +26,11 @@ FindAsks pre capacity (finds.TheVariants.Asks index found) f = (index < capacity
 abbrev pub GoesDown : ℕ → ℕ → After Find ℕ → Type 0
 GoesDown capacity left (GoOn next) = find_left capacity next.stage < left
 GoesDown capacity left (Done found) = Unit {0}
+
+-- it has loaded so many cells
+abbrev pub cells_loaded : finds.FindStage → ℕ
+cells_loaded (finds.TheVariants.LoadsCell index found) = index
+cells_loaded (finds.TheVariants.Asks index found) = index + 1
 
 module _ {F : Type 0} (step : F → ℕ → CallbackProgression → F → Type 0) (capacity owner : ℕ) (base : View ℕ) (f : F) where
   -- the calls from f on that led to p: one at each of these n indices, all below this one
@@ -50,8 +56,9 @@ module _ {F : Type 0} (step : F → ℕ → CallbackProgression → F → Type 0
     pub known : v.capacity ≡ capacity
     pub some : 0 < v.share.part
     pub standing : c.capacity ≡ capacity
+    pub steps : TakesAtMost (cells_loaded c.stage) base v
     pub so_far : SoFar c.stage v p
 
   abbrev pub Onward : After Find ℕ → View ℕ → F → Type 0
   Onward (GoOn d) w q = Searching w d q
-  Onward (Done n) w q = Looked w × HasFound step capacity owner f n q base.seen w.seen
+  Onward (Done n) w q = Looked w × HasFound step capacity owner f n q base.seen w.seen × TakesAtMost capacity base w

@@ -1,5 +1,5 @@
 -- The steps of a find and of a recovery between which their closures are called, and how these are called.
-use Rattle.std.specs.Prelude.{◌≡◌, ℕ, ◌<◌, ◌≤◌, Bool, true, false}
+use Rattle.std.specs.Prelude.{◌≡◌, ℕ, ◌<◌, Bool, true, false}
 use Rattle.steps.specs.Indices.Robust.Parts.{empty}
 use Rattle.steps.specs.Indices.Robust.Recover.{recover_after}
 use Rattle.steps.specs.declared.ask.After.{After}
@@ -15,25 +15,6 @@ use Rattle.model.specs.Turns.{number_of}
 abbrev pub says : CallbackProgression → ℕ
 says Continue = 1
 says Stop = 0
-
--- where loads of cells lead from this one on: to a cell or an owner there or further on, or to the end
-abbrev pub HasPassedTo : ℕ → recovers.RecoverStage → Type 0
-HasPassedTo first recovers.TheVariants.LoadsCounter = ⊥
-HasPassedTo first (recovers.TheVariants.LoadsCell index) = first ≤ index
-HasPassedTo first (recovers.TheVariants.Asks index owner) = first ≤ index
-HasPassedTo first (recovers.TheVariants.EmptiesCell index owner) = ⊥
-HasPassedTo first (recovers.TheVariants.Raises index raise) = ⊥
-HasPassedTo first (recovers.TheVariants.Locks index lock) = ⊥
-HasPassedTo first recovers.TheVariants.LoadsCounterAgain = Unit {0}
-
-abbrev pub HasPassed : ℕ → After Recover ReleaseState → Type 0
-HasPassed first (GoOn d) = HasPassedTo first d.stage
-HasPassed first (Done state) = ⊥
-
--- a call that has come to a cell goes past it, and any other stays
-abbrev pub PassesCells : Recover → recovers.RecoverStage → After Recover ReleaseState → Type 0
-PassesCells call (recovers.TheVariants.LoadsCell index) after = HasPassed index after
-PassesCells call stage after = after ≡ GoOn call
 
 -- a call that has come past its last cell takes its last step, and any other stays
 abbrev pub LooksAgain : Recover → ReleaseMode → recovers.RecoverStage
@@ -81,7 +62,7 @@ module _ {F S : Type 0} where
   RecoverMoves step tell call mode recovers.TheVariants.LoadsCounter k p s after q t =
       GoesQuietly call mode k p s after q t
   RecoverMoves step tell call mode (recovers.TheVariants.LoadsCell index) k p s after q t =
-      (q ≡ p) × (t ≡ s) × HasPassed index after
+      GoesQuietly call mode k p s after q t
   RecoverMoves step tell call mode (recovers.TheVariants.Asks index owner) k p s after q t =
       (owner < empty) × (t ≡ s) × ((yes : Bool) × step p owner index yes q × (k ≡ number_of yes))
       × (after ≡ recover_after call mode k)

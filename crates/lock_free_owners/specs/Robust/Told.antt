@@ -3,6 +3,7 @@ use Rattle.std.specs.Prelude.{◌≡◌, ℕ, ◌<◌, Bool, true, false, Some, 
 use Rattle.steps.specs.Indices.Robust.Acquire.{Acquired}
 use Rattle.steps.specs.Indices.Robust.Parts.{greatest}
 use Rattle.steps.specs.Indices.Robust.Release.{Released}
+use Rattle.steps.specs.declared.enums.CallbackProgression.{CallbackProgression}
 use Rattle.steps.specs.declared.indices.enums.ReleaseMode.{ReleaseMode}
 use Rattle.steps.specs.declared.indices.enums.ReleaseMode.TheVariants.{LockIfLastIndex}
 use Rattle.steps.specs.declared.indices.enums.ReleaseState.{ReleaseState}
@@ -30,7 +31,8 @@ use Rattle.laws_robust.specs.Gone.{Word, IsHonest, AsksBy, AnswersBy}
 use Rattle.history.specs.declared.view.View.{View}
 use Rattle.history.specs.History.{Called, IsBeginning, IsRun}
 use Rattle.history.specs.Robust as robust
-use Rattle.lock_free_owners.specs.Robust.Callable.{HasVisited}
+use Rattle.history.specs.Views.{Looks}
+use Rattle.lock_free_owners.specs.Robust.Callable.{HasFound, HasVisited}
 
 -- one call of the history, by a party of the pass, and what it wrote
 pub record HasMade (start : RobustStart) (answer : Answer ℕ) (Wrote : ℕ → List (Event ℕ) → Type 0)
@@ -73,6 +75,16 @@ HasCounted number = HasMade BorrowedIndices (Number number) (λ by es. es ≡ []
 
 abbrev pub HasLooked : Bool → View ℕ → View ℕ → Type 0
 HasLooked locked = HasMade IsLocked (Truth locked) (λ by es. es ≡ [])
+
+-- A find begins with a look at the lock, which is a call of the history, so that the history shows where it begins. From the
+-- end of that call on it only looks: which indices it came to is said of the moments from there to its end.
+pub record HasSearched {F : Type 0} (step : F → ℕ → CallbackProgression → F → Type 0) (capacity owner : ℕ)
+    (f : F) (number : ℕ) (last : F) (old new : View ℕ) : Type 0 where
+  pub locked : Bool
+  pub begun : View ℕ
+  pub begins : HasLooked locked old begun
+  pub looks : Looks one_word kinds.Robust capacity begun new
+  pub found : HasFound step capacity owner f number last begun.seen new.seen
 
 module _ {T : Type 0} where
   -- what was so of the history when the call wrote this event

@@ -10,9 +10,10 @@
 //! owner once its recovery has begun. Where a caller breaks them each call still answers as its contract says, but a
 //! value can be torn, stay hidden, or be that of another.
 //!
-//! The comments say how many atomic steps a call takes, and its contract does not. These bounds are proved in the
-//! model, of the calls that it has. What is proved of threads is what the contracts say. Nor does a contract say that
-//! an index taken is the lowest.
+//! How many atomic steps a call takes is what its clause `steps` says: the operations on words that its pass has counted,
+//! at most so many alone, so many more for each change of a word by others, and by the clause one more where the last call
+//! of the pass rested. Of a find, of a join and of an update of a state that the pass has not, the comments say it, and no
+//! clause does. What is proved of threads is what the contracts say. No contract says that an index taken is the lowest.
 use self::rule::Board;
 use self::token::Token;
 use std::alloc::Global;

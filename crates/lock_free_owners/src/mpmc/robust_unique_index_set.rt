@@ -13,9 +13,9 @@
 //! The generation counter of a set ends at `u64::MAX - 1`. From there on no index is handed out, and the set is locked
 //! no more (so `steps` has it, and tests say; a contract only excuses then what it says of a refusal).
 //!
-//! The comments say how many atomic steps a call takes, and its contract does not. These bounds are proved in the
-//! model, of the calls that it has. What is proved of threads is what the contracts say. Nor does a contract say that
-//! an index taken is the lowest.
+//! How many atomic steps a call takes is what its clause `steps` says: the operations on words that its pass has counted,
+//! at most so many alone, and so many more for each change of a word by others. What is proved of threads is what the
+//! contracts say. No contract says that an index taken is the lowest.
 ghost use Rattle.std.specs.Prelude.{◌≡◌, ◌<◌, ◌+◌, [], None};
 ghost use Rattle.std.specs.Arc.{arc_value};
 ghost use Rattle.lock_free_owners.specs.Robust.Turns.{size};
@@ -25,6 +25,7 @@ use std::alloc::Global;
 use std::sync::Arc;
 
 mod acquires;
+mod asks;
 mod calls;
 mod counts;
 mod drives;

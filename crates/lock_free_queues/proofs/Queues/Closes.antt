@@ -1,23 +1,27 @@
 -- What the words that were read say of the list that is made of them.
 use Rattle.lock_free_queues.proofs.Names.{◌≡◌, inl, inr, ⊎_elim, ℕ, zero, suc, ◌+◌, ◌-◌, ◌*◌, ◌%◌, ◌<◌, ◌≤◌, Some}
-use Rattle.lock_free_queues.proofs.Names.{List, [], ◌∷◌, ◌++◌, length, map, max, get_or, slice_get, slice_index, refl}
+use Rattle.lock_free_queues.proofs.Names.{List, [], ◌∷◌, ◌++◌, length, map, take, drop, get_or, slice_get, slice_index, refl}
 use Rattle.lock_free_queues.proofs.Names.{sym, ap, subst, ◌∙◌, append-nil, arith, cases_lt, flat_map-append}
 use Rattle.lock_free_queues.proofs.Names.{length-map, slice_get-map, slice_get_within, option_map, Item, QueueKind}
 use Rattle.lock_free_queues.proofs.Names.{IndexQueue, Overflow, Queue, Kind, Coding, IsCoding, cells_of, published}
 use Rattle.lock_free_queues.proofs.Names.{handed_out, waiting, publishes, hands_out, IsAll, cell_within, machine_kind}
-use Rattle.lock_free_queues.proofs.Names.{Val, encoded, item, View, first_view, IsListed, queue_goes_on}
+use Rattle.lock_free_queues.proofs.Names.{Val, encoded, item, View, IsListed, IsBeginning, IsHistory}
+use Rattle.lock_free_queues.proofs.Names.{Event, length-drop}
 use Rattle.std.proofs.Common.{length-append}
+use Rattle.std.proofs.lemmas.List.{take-append-drop}
+use Rattle.steps.specs.Objects.Lists.{Bounded}
 use Rattle.plain.specs.Queues.{words_from, value_at, values_from, Represents}
 use Rattle.plain.proofs.Lists.Cells.{values_length}
 use Rattle.plain.proofs.Words.{words_all}
-use Rattle.lock_free_queues.specs.Queues.Closes.{Closes}
+use Rattle.lock_free_queues.specs.Queues.Closes.{Closes, IsWhatWaits}
 use Rattle.lock_free_queues.specs.Queues.Kinds.{words_in_cells}
 use Rattle.lock_free_queues.specs.Queues.Reads.{WasRead, LastWords}
 use Rattle.lock_free_queues.proofs.Queues.Cells.{get_behind, item_same, Stands, stands}
 use Rattle.lock_free_queues.proofs.Queues.Facts.{listed_always}
 use Rattle.lock_free_queues.proofs.Queues.Indices.{is_coding}
 use Rattle.lock_free_queues.proofs.Queues.Positions.{get_left, hits_grow}
-use Rattle.lock_free_queues.proofs.Queues.Reads.{begins_further}
+use Rattle.lock_free_queues.proofs.Queues.Reads.{begins_further, read_here, write_here, taken_here}
+use Rattle.lock_free_queues.proofs.Queues.Whole.{none_more}
 
 -- ---- lists by their elements
 
@@ -52,6 +56,16 @@ value_in_list value_of size capacity words p (suc m) (suc k) low =
     let there : (p + 1) + k ≡ p + suc k = omega arith in
     value_in_list value_of size capacity words (p + 1) m k (omega arith) ∙ ap (λ q. Some (value_at value_of size capacity words q)) there
 
+get_dropped : {A : Type 0} (xs : List A) (n k : ℕ) → slice_get (drop n xs) k ≡ slice_get xs (n + k)
+get_dropped xs zero k = (let same : 0 + k ≡ k = omega arith in ap (slice_get xs) (sym same))
+get_dropped [] (suc n) k = refl
+get_dropped (x ∷ xs) (suc n) k =
+    (let same : suc n + k ≡ suc (n + k) = omega arith in get_dropped xs n k ∙ ap (slice_get (x ∷ xs)) (sym same))
+
+pub no_element : {A : Type 0} (xs : List A) → length xs ≡ 0 → xs ≡ []
+no_element [] long = refl
+no_element (x ∷ xs) long = absurd (omega arith)
+
 -- ---- the words that were read
 
 cells_are_words : {T : Type 0} (code : Coding T) (kd : QueueKind) (capacity : ℕ)
@@ -85,68 +99,85 @@ module _ {T : Type 0} (code : Coding T) (law : IsCoding code) (kd : QueueKind) (
   abbrev named : V → Item T
   named x = item kd x
 
-  abbrev some_view : View T
-  some_view = first_view capacity
+  abbrev write : ℕ
+  write = slice_index words 0
 
-  listed : (word found : ℕ) (old new : View T) → (w : WasRead code kind capacity old new word found) → IsListed cells w.trace.events
-  listed word found old new w =
-      listed_always code capacity w.trace.events kd (record { trace = w.trace; run = w.run; is = refl }) w.trace.events
-      [] (sym (append-nil w.trace.events))
+  abbrev taken : ℕ
+  taken = slice_index words 1
+
+  -- the history as the read position was read
+  abbrev pub moment : List (Event T)
+  moment = l.new.seen
+
+  pub history : IsHistory code kind capacity moment
+  history =
+      record { trace = l.taken_read.trace; run = l.taken_read.run; is = sym (read_here code kd capacity l.new 1 taken l.taken_read) }
+
+  list : IsListed cells moment
+  list = listed_always code capacity moment kd history moment [] (sym (append-nil moment))
+
+  pub since : IsBeginning v.seen moment
+  since = begins_further v.seen l.begun.seen moment l.opening.since l.reading.since
 
   -- the positions that were loaded
-  write_is : l.write ≡ length (published l.first_read.trace.events)
-  write_is = l.first_read.found_is ∙ (queue_goes_on code kd some_view l.first_read.trace l.first_read.run).book.write
+  write_is : write ≡ length (published l.begun.seen)
+  write_is = write_here code kd capacity l.begun write l.first_read
 
-  taken_is : l.taken ≡ length (handed_out l.last_read.trace.events)
-  taken_is = l.last_read.found_is ∙ (queue_goes_on code kd some_view l.last_read.trace l.last_read.run).book.read
+  pub taken_is : taken ≡ length (handed_out moment)
+  taken_is = taken_here code kd capacity l.new taken l.taken_read
 
-  -- what was taken out as any of the words was read
-  taken_by : (word found : ℕ) → (w : WasRead code kind capacity v l.new word found) → length (handed_out w.trace.events) ≤ l.taken
-  taken_by word found w =
-      (let is = taken_is in
-      let grown =
-      hits_grow hands_out w.trace.events l.last_read.trace.events
-      (begins_further w.trace.events l.new.seen l.last_read.trace.events w.until l.last_read.since) in
-      omega arith)
+  -- nothing was published since the first load
+  quiet : published moment ≡ published l.begun.seen
+  quiet =
+      let is : published moment ≡ published l.begun.seen ++ published l.reading.since.rest =
+      ap published l.reading.since.is ∙ flat_map-append publishes l.begun.seen l.reading.since.rest in
+      let low = write_is in
+      let high = write_here code kd capacity l.ended write l.last_read in
+      let grown = hits_grow publishes moment l.ended.seen l.ending.since in
+      let long = ap length is in
+      let both = length-append (published l.begun.seen) (published l.reading.since.rest) in
+      none_more (published l.begun.seen) (published l.reading.since.rest) (published moment) is (omega arith)
 
-  seen_published : length (published v.seen) ≤ l.write
-  seen_published = grind (arith, write_is, hits_grow, publishes)
-
-  seen_taken : length (handed_out v.seen) ≤ l.taken
-  seen_taken =
-      (let is = taken_is in
-      let grown =
-      hits_grow hands_out v.seen l.last_read.trace.events
-      (begins_further v.seen l.new.seen l.last_read.trace.events l.read.since l.last_read.since) in
-      omega arith)
-
-  near : l.write ≤ l.taken + cells
-  near =
-      let is = write_is in
-      let low = taken_by 0 l.write l.first_read in
-      let list = listed 0 l.write v l.new l.first_read in
+  pub number : taken + length (waiting moment) ≡ write
+  number =
       let book = ap length list.book in
-      let long = length-append (handed_out l.first_read.trace.events) (waiting l.first_read.trace.events) in
-      let few = list.few in
+      let both = length-append (handed_out moment) (waiting moment) in
+      let same = ap length quiet in
+      let low = write_is in
+      let out = taken_is in
       omega arith
+
+  near : write ≤ taken + cells
+  near = (let all = number in let few = list.few in omega arith)
+
+  behind : taken ≤ write
+  behind = (let all = number in omega arith)
 
   long : length words ≡ 4 + z.size * cells
   long = l.long ∙ ap (λ n. 4 + n) (cells_are_words code kd capacity)
 
   -- of a queue with as many cells as its capacity
   pub fits : cells ≡ capacity → Represents z.size capacity words
-  fits x0 = grind (arith, near, long, length)
+  fits same =
+      record {
+        long = long ∙ ap (λ n. 4 + z.size * n) same;
+        small = l.small;
+        behind = behind;
+        near = (let n = near in omega arith);
+        fits = l.fits;
+      }
 
-  -- a value that was seen at a position that nobody had taken from as the read position was read
-  pub record Waits (i : ℕ) (x : Item T) : Type 0 where
-    pub low : i < l.write
+  -- a value at a position that nobody had taken from as the read position was read
+  record Waits (i : ℕ) (x : Item T) : Type 0 where
+    pub low : i < write
     pub value : V
     pub is : x ≡ named value
     pub there : value_at z.value_of z.size cells words i ≡ value
 
-  module _ (i : ℕ) (x : Item T) (at : slice_get (published v.seen) i ≡ Some x) (high : l.taken ≤ i) where
-    low_one : i < l.write
-    low_one = (let inside = slice_get_within (published v.seen) i x at in let ahead = seen_published in omega arith)
+  module _ (i : ℕ) (x : Item T) (at : slice_get (published moment) i ≡ Some x) (high : taken ≤ i) where
+    low_one : i < write
+    low_one =
+        (let inside = slice_get_within (published moment) i x at in let same = ap length quiet in let low = write_is in omega arith)
 
     some : 0 < cells
     some = (let low = low_one in let n = near in omega arith)
@@ -154,7 +185,7 @@ module _ {T : Type 0} (code : Coding T) (law : IsCoding code) (kd : QueueKind) (
     abbrev place : ℕ → ℕ
     place k = 4 + (z.size * (i % cells) + k)
 
-    read_at : (k : ℕ) → k < z.size → WasRead code kind capacity v l.new (place k) (slice_index words (place k))
+    read_at : (k : ℕ) → k < z.size → WasRead code kind capacity l.begun l.new (place k) (slice_index words (place k))
     read_at k below = (let inside = cell_within z.size cells i k some below in let all = long in l.cells (place k) (omega arith) (omega arith))
 
     stood : (k : ℕ) → (below : k < z.size) → Stands code kd capacity (read_at k below).trace (read_at k below).run i x
@@ -163,9 +194,10 @@ module _ {T : Type 0} (code : Coding T) (law : IsCoding code) (kd : QueueKind) (
         let t = w.trace in
         let there : slice_get (published t.events) i ≡ Some x =
         ap (λ es. slice_get (published es) i) w.since.is
-        ∙ (ap (λ xs. slice_get xs i) (flat_map-append publishes v.seen w.since.rest)
-        ∙ get_left (published v.seen) (published w.since.rest) i x at) in
-        let taken = taken_by (place k) (slice_index words (place k)) w in
+        ∙ (ap (λ xs. slice_get xs i) (flat_map-append publishes l.begun.seen w.since.rest)
+        ∙ get_left (published l.begun.seen) (published w.since.rest) i x (ap (λ xs. slice_get xs i) (sym quiet) ∙ at)) in
+        let grown = hits_grow hands_out t.events moment w.until in
+        let out = taken_is in
         stands code kd capacity t w.run i x there (omega arith)
 
     -- it has a word
@@ -181,7 +213,7 @@ module _ {T : Type 0} (code : Coding T) (law : IsCoding code) (kd : QueueKind) (
         let same : s.value ≡ first_one = item_same kd s.value first_one (sym s.is ∙ (stood 0 one).is) in
         (read_at k below).found_is ∙ (s.words k below ∙ ap (λ y. get_or (z.words_of y) k 0) same)
 
-    pub waits : Waits i x
+    waits : Waits i x
     waits =
         let y = first_one in
         let long_one = (coded code law kd).sized y in
@@ -195,80 +227,120 @@ module _ {T : Type 0} (code : Coding T) (law : IsCoding code) (kd : QueueKind) (
         record { low = low_one; value = y; is = (stood 0 one).is; there = ap z.value_of (alike ∙ all) ∙ (coded code law kd).given_back y }
 
   -- who has the whole share has seen all of it
-  module _ (all : IsAll v.share) where
-    same_seen : l.new.seen ≡ v.seen
-    same_seen = l.read.whole all
-
-    pub write_all : l.write ≡ length (published v.seen)
-    write_all = grind (arith, write_is, seen_published, hits_grow, publishes, length, published, same_seen)
-
-    pub taken_all : l.taken ≡ length (handed_out v.seen)
-    taken_all = grind (arith, taken_is, seen_taken, hits_grow, hands_out, length, handed_out, same_seen)
-
-    list_seen : IsListed cells v.seen
-    list_seen =
-        (let t = l.first_read.trace in
-        listed_always code capacity t.events kd (record { trace = t; run = l.first_read.run; is = refl }) v.seen
-        l.first_read.since.rest l.first_read.since.is)
+  pub whole_seen : IsAll v.share → moment ≡ v.seen
+  whole_seen all = (let x = l.opening.whole all in l.reading.whole (subst IsAll (sym l.opening.share) all) ∙ x)
 
   -- ---- the list: these words, but that it may begin later
 
   module _ (ws : List ℕ) (alike : (word : ℕ) → 4 ≤ word → slice_index ws word ≡ slice_index words word)
-      (end : slice_index ws 0 ≡ max l.write l.taken) (from : l.taken ≤ slice_index ws 1) where
+      (end : slice_index ws 0 ≡ write) (from : taken ≤ slice_index ws 1) (to : slice_index ws 1 ≤ write) where
+    abbrev first : ℕ
+    first = slice_index ws 1
+
     abbrev count : ℕ
-    count = slice_index ws 0 - slice_index ws 1
+    count = slice_index ws 0 - first
 
     abbrev values : List V
-    values = values_from z.value_of z.size cells ws (slice_index ws 1) count
+    values = values_from z.value_of z.size cells ws first count
+
+    -- those that wait before it
+    abbrev pub older : List (Item T)
+    older = take (first - taken) (waiting moment)
+
+    pub older_are : length older ≡ first - taken
+    older_are =
+        (let all = number in
+        let left = length-drop (first - taken) (waiting moment) in
+        let both = ap length (take-append-drop (first - taken) (waiting moment)) in
+        let sum = length-append older (drop (first - taken) (waiting moment)) in
+        omega arith)
 
     same_value : (i : ℕ) → value_at z.value_of z.size cells ws i ≡ value_at z.value_of z.size cells words i
     same_value x0 = grind (arith, words_alike)
 
-    value_there : (i : ℕ) → slice_index ws 1 ≤ i → i < l.write → slice_get values (i - slice_index ws 1) ≡ Some (value_at z.value_of z.size cells words i)
+    value_there : (i : ℕ) → first ≤ i → i < write → slice_get values (i - first) ≡ Some (value_at z.value_of z.size cells words i)
     value_there x0 x1 x2 = grind (arith, value_in_list, value_at, same_value)
 
-    -- who has the whole share has seen all of it
-    module _ (all : IsAll v.share) (exact : slice_index ws 1 ≡ l.taken) where
-      number_is : length (waiting v.seen) ≡ count
-      number_is = grind (arith, write_all, taken_all, length, list_seen, length-append, handed_out, waiting)
+    rest_is : drop (first - taken) (waiting moment) ≡ map named values
+    rest_is =
+        same_list (drop (first - taken) (waiting moment)) (map named values)
+        (let all = number in
+        let left = length-drop (first - taken) (waiting moment) in
+        let many = values_length z.value_of z.size cells ws first count in
+        let named_many = length-map values named in
+        omega arith)
+        each
+      where
+        each : (k : ℕ) (x : Item T) → slice_get (drop (first - taken) (waiting moment)) k ≡ Some x → slice_get (map named values) k ≡ Some x
+        each k x e =
+            let i : ℕ = first + k in
+            let place : i ≡ length (handed_out moment) + ((first - taken) + k) = (let out = taken_is in omega arith) in
+            let at : slice_get (published moment) i ≡ Some x =
+            ap (slice_get (published moment)) place
+            ∙ (ap (λ xs. slice_get xs (length (handed_out moment) + ((first - taken) + k))) list.book
+            ∙ (get_behind (handed_out moment) (waiting moment) ((first - taken) + k)
+            ∙ (sym (get_dropped (waiting moment) (first - taken) k) ∙ e))) in
+            let w = waits i x at (omega arith) in
+            let back : i - first ≡ k = omega arith in
+            let there : slice_get values k ≡ Some (value_at z.value_of z.size cells words i) =
+            ap (slice_get values) (sym back) ∙ value_there i (omega arith) w.low in
+            slice_get-map named values k ∙ (ap (λ o. option_map named o) there ∙ ap Some (ap named w.there ∙ sym w.is))
 
-      waiting_is : waiting v.seen ≡ map named values
-      waiting_is =
-          same_list (waiting v.seen) (map named values)
-          (number_is ∙ (sym (values_length z.value_of z.size cells ws (slice_index ws 1) count) ∙ sym (length-map values named)))
-          each
-        where
-          each : (k : ℕ) (x : Item T) → slice_get (waiting v.seen) k ≡ Some x → slice_get (map named values) k ≡ Some x
-          each k x e =
-              let i : ℕ = length (handed_out v.seen) + k in
-              let at : slice_get (published v.seen) i ≡ Some x =
-              ap (λ xs. slice_get xs i) (list_seen all).book ∙ (get_behind (handed_out v.seen) (waiting v.seen) k ∙ e) in
-              let b = taken_all all in
-              let w = waits i x at (omega arith) in
-              let place : i - slice_index ws 1 ≡ k = omega arith in
-              let there : slice_get values k ≡ Some (value_at z.value_of z.size cells words i) =
-              ap (slice_get values) (sym place) ∙ value_there i (omega arith) w.low in
-              slice_get-map named values k ∙ (ap (λ o. option_map named o) there ∙ ap Some (ap named w.there ∙ sym w.is))
+    pub waiting_is : waiting moment ≡ older ++ map named values
+    waiting_is = sym (take-append-drop (first - taken) (waiting moment)) ∙ ap (λ xs. older ++ xs) rest_is
 
-    pub closes_later : (IsAll v.share → slice_index ws 1 ≡ l.taken)
-        → Closes named capacity v (record { capacity = capacity; first = slice_index ws 1; values = values })
+    pub closes_later : (IsAll v.share → first ≡ taken)
+        → Closes named capacity v (record { capacity = capacity; first = first; values = values })
     closes_later exact =
         record {
           same = refl;
-          published_there = λ i x at. ⊎_elim (λ (before : i < slice_index ws 1). inl before)
-              (λ (after : slice_index ws 1 ≤ i).
-              let w = waits i (named x) at (omega arith) in
+          published_there = λ i x at. ⊎_elim (λ (before : i < first). inl before)
+              (λ (after : first ≤ i).
+              let still : slice_get (published moment) i ≡ Some (named x) =
+              ap (λ es. slice_get (published es) i) since.is
+              ∙ (ap (λ xs. slice_get xs i) (flat_map-append publishes v.seen since.rest)
+              ∙ get_left (published v.seen) (published since.rest) i (named x) at) in
+              let w = waits i (named x) still (omega arith) in
               let same : w.value ≡ x = item_same kd w.value x (sym w.is) in
               inr (after, value_there i (omega arith) w.low ∙ ap Some (w.there ∙ same)))
-              (cases_lt i (slice_index ws 1));
-          taken = (let low = seen_taken in omega arith);
-          whole = λ all. (exact all ∙ taken_all all, (list_seen all).book ∙ ap (λ xs. handed_out v.seen ++ xs) (waiting_is all (exact all)));
+              (cases_lt i first);
+          taken = (let low = hits_grow hands_out v.seen moment since in let out = taken_is in omega arith);
+          whole = λ all. (
+            exact all ∙ (taken_is ∙ ap (λ es. length (handed_out es)) (whole_seen all)),
+            subst (λ es. published es ≡ handed_out es ++ map named values) (whole_seen all)
+                (list.book
+                ∙ ap (λ xs. handed_out moment ++ xs) (waiting_is
+                ∙ ap (λ xs. xs ++ map named values) (no_element older (let none = exact all in let are = older_are in omega arith)))),
+          );
         }
 
+  abbrev closed : Bounded V
+  closed =
+      record {
+        capacity = capacity;
+        first = taken;
+        values = values_from z.value_of z.size cells words taken (write - taken);
+      }
+
   -- just these words
-  pub closes : Closes named capacity v (record {
-    capacity = capacity;
-    first = slice_index words 1;
-    values = values_from z.value_of z.size cells words (slice_index words 1) (slice_index words 0 - slice_index words 1);
-  })
-  closes = (let first = l.first in closes_later words (λ word high. refl) l.last (omega arith) (λ all. first))
+  pub closes : Closes named capacity v closed
+  closes = closes_later words (λ word high. refl) refl (omega arith) behind (λ all. refl)
+
+  pub what_waits : IsWhatWaits code kind named capacity v closed
+  what_waits =
+      record {
+        at = moment;
+        since = since;
+        history = history;
+        taken = taken_is;
+        waits = waiting_is words (λ word high. refl) refl (omega arith) behind
+            ∙ ap (λ xs. xs ++ map named closed.values)
+            (no_element (older words (λ word high. refl) refl (omega arith) behind)
+            (let are = older_are words (λ word high. refl) refl (omega arith) behind in omega arith));
+      }
+
+-- nothing is lost until then
+pub closed_book : {T V : Type 0} (named : V → Item T) (code : Coding T) (kind : QueueKind) (capacity : ℕ) (v : View T) (q : Bounded V)
+    → (h : IsWhatWaits code (machine_kind kind) named capacity v q) → published h.at ≡ handed_out h.at ++ map named q.values
+closed_book named code kind capacity v q h =
+    (listed_always code capacity h.at kind h.history h.at [] (sym (append-nil h.at))).book ∙ ap (λ xs. handed_out h.at ++ xs) h.waits

@@ -3,7 +3,6 @@ use Rattle.lock_free_queues.proofs.Names.{◌≡◌, ⊎_elim, ℕ, zero, suc, �
 use Rattle.lock_free_queues.proofs.Names.{length, get_or, set, replicate, refl, sym, ap, ◌∙◌, length-set, take}
 use Rattle.lock_free_queues.proofs.Names.{get_or-set_same, get_or-set_other, arith, cases_lt, length-replicate}
 use Rattle.lock_free_queues.proofs.Names.{take-replicate, value_in, set_left, set_same}
-use Rattle.laws_queues.proofs.Queues.Core as core
 use Rattle.lock_free_queues.proofs.Queues.Tests.{not_below}
 
 -- the value of words that are zeros

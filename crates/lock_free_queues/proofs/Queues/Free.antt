@@ -3,7 +3,7 @@
 use Rattle.lock_free_queues.proofs.Names.{◌≡◌, ◌≤◌, ℕ, ◌+◌, Option, Some, None, List, [], ◌∷◌, ◌++◌, length}
 use Rattle.lock_free_queues.proofs.Names.{map, refl, sym, ap, subst, ◌∙◌, append_assoc, append-nil, sum_by, arith}
 use Rattle.lock_free_queues.proofs.Names.{length-map, fold-append, Role, Event}
-use Rattle.lock_free_queues.proofs.Names.{Index, Queues, Overflow}
+use Rattle.lock_free_queues.proofs.Names.{Index, Overflow}
 use Rattle.lock_free_queues.proofs.Names.{Coding, producer_of, waiting, pending}
 use Rattle.lock_free_queues.proofs.Names.{GrantsRight, Each, Trace, waiting_is, Hangs, IsRun, takes, gives}
 use Rattle.lock_free_queues.proofs.Names.{role_after, sum_first, sound_of, granted}

@@ -1,10 +1,10 @@
 -- The calls on roles and lengths, and what a look tells, of a queue of each kind.
 use Rattle.std.proofs.Common.{arith}
-use Rattle.lock_free_queues.proofs.Names.{◌≡◌, ℕ, ◌+◌, Option, None, length, After, Role, Producer}
-use Rattle.lock_free_queues.proofs.Names.{Consumer, len_want, len_after, Start}
-use Rattle.lock_free_queues.proofs.Names.{Flight, QueueKind, IndexQueue, Overflow, Queue, LengthOf, Coding, IsCoding}
+use Rattle.lock_free_queues.proofs.Names.{◌≡◌, ℕ, ◌+◌, length, After, Role, Producer}
+use Rattle.lock_free_queues.proofs.Names.{Consumer, len_want, len_after}
+use Rattle.lock_free_queues.proofs.Names.{QueueKind, IndexQueue, Overflow, Queue, LengthOf, Coding, IsCoding}
 use Rattle.lock_free_queues.proofs.Names.{Trace, machine_kind, KeepsRule, View, IsMachine, IsRun, takes_role}
-use Rattle.lock_free_queues.proofs.Names.{gives_role, counts_waiting, Calling, At, Ends, WhenIdle, overflow_owes}
+use Rattle.lock_free_queues.proofs.Names.{gives_role, counts_waiting, Calling, At, Ends, overflow_owes}
 use Rattle.lock_free_queues.proofs.Names.{index_owes, values_owe}
 use Rattle.steps.specs.declared.ask.Want.{Want}
 use Rattle.steps.specs.Queues.Roles.{acquire_want, acquire_after, release_want, release_after}
@@ -15,11 +15,6 @@ use Rattle.lock_free_queues.specs.Queues.Kinds.{words_in_cells, opened_by}
 use Rattle.lock_free_queues.specs.Queues.Opened.{position_at}
 use Rattle.lock_free_queues.specs.Queues.Roles.{LacksRole}
 use Rattle.lock_free_queues.proofs.Queues.Grants.{has_none, quiet_true, quiet_none}
-
-module _ {T : Type 0} where
-  -- while no call is under way a look tells all
-  pub told_idle : (kd : QueueKind) (going : Option (Start T × Flight T)) (Told : Type 0) → going ≡ None → WhenIdle (machine_kind kd) going Told → Told
-  told_idle x0 x1 x2 x3 x4 = grind arith
 
 module _ {T : Type 0} (code : Coding T) where
   pub words_long : (kd : QueueKind) (capacity : ℕ) (t : Trace T) → IsRun code (machine_kind kd) capacity t
@@ -36,7 +31,7 @@ module _ {T : Type 0} (code : Coding T) where
 module _ {T : Type 0} (code : Coding T) (law : IsCoding code) where
   abbrev Keeps : {C M E : Type 0} → QueueKind → Calling T C M E → (C → Want (Unit {0})) → (C → ℕ → After C E) → (C → M → ℕ → M) → Type 0
   Keeps kd call =
-      KeepsRule (λ (z : View T). z.capacity) (At code (machine_kind kd) call) (Ends code (machine_kind kd) call)
+      KeepsRule (λ (z : View T). z.asked) (λ (z : View T). z.capacity) (At code (machine_kind kd) call) (Ends code (machine_kind kd) call)
       (λ key. 4 + words_in_cells code.size kd key + 1) (λ key. key) (λ key. IsMachine code (machine_kind kd) key)
 
   pub acquires_keep : (kd : QueueKind) (role : Role) → Keeps kd (takes_role role) acquire_want acquire_after (λ c m n. m)
@@ -50,7 +45,7 @@ module _ {T : Type 0} (code : Coding T) (law : IsCoding code) where
   releases_keep Queue role = value_release_keeps code law role
 
   pub lengths_keep : (kd : QueueKind) (which : LengthOf)
-      → KeepsRule (λ (z : View T). z.capacity)
+      → KeepsRule (λ (z : View T). z.asked) (λ (z : View T). z.capacity)
       (λ (base : View T). At code (machine_kind kd) (counts_waiting which base.capacity) base)
       (λ (base : View T). Ends code (machine_kind kd) (counts_waiting which base.capacity) base)
       (λ key. 4 + words_in_cells code.size kd key + 1) (λ key. key) (λ key. IsMachine code (machine_kind kd) key) len_want len_after (λ c m n. m)

@@ -1,21 +1,21 @@
 -- What the words that were read of an overflowing queue say of the list that is made of them: it begins later where one
 -- value more than the capacity stands there.
-use Rattle.lock_free_queues.proofs.Names.{◌≡◌, ℕ, ◌+◌, ◌-◌, ◌<◌, ◌≤◌, max, List, [], length, set, slice_index, refl}
-use Rattle.lock_free_queues.proofs.Names.{sym, ap, ◌∙◌, length-set, append-nil, get_or-set_same}
-use Rattle.lock_free_queues.proofs.Names.{get_or-set_other, sum_by, arith, list_in, Producer, Event, Index, Overflow}
-use Rattle.lock_free_queues.proofs.Names.{one_word, published, handed_out, waiting, IsAll, View, IsHistory, takes}
-use Rattle.lock_free_queues.proofs.Names.{gives}
-use Rattle.std.proofs.Common.{length-append}
+use Rattle.lock_free_queues.proofs.Names.{◌≡◌, ℕ, ◌+◌, ◌-◌, ◌^◌, ◌<◌, ◌≤◌, max, List, length, set, slice_index, refl}
+use Rattle.lock_free_queues.proofs.Names.{sym, ap, subst, ◌∙◌, length-set, get_or-set_same, get_or-set_other}
+use Rattle.lock_free_queues.proofs.Names.{sum_by, arith, list_in, Producer, Event, Index, Overflow, one_word}
+use Rattle.lock_free_queues.proofs.Names.{published, handed_out, waiting, IsAll, View, IsHistory, takes, gives, [], ◌++◌}
+use Rattle.lock_free_queues.proofs.Names.{map, append-nil}
+use Rattle.steps.specs.Objects.Lists.{Bounded}
 use Rattle.plain.specs.Overflowing.{Represents}
 use Rattle.model.specs.declared.turn.Kind.TheVariants as kinds
-use Rattle.lock_free_queues.specs.Queues.Closes.{Closes}
+use Rattle.lock_free_queues.specs.Queues.Closes.{Closes, IsNewestThatWaits}
 use Rattle.lock_free_queues.specs.Queues.Reads.{LastWords}
 use Rattle.lock_free_queues.specs.Queues.Roles.{LacksRole}
 use Rattle.lock_free_queues.proofs.Queues.Closes as closing
 use Rattle.lock_free_queues.proofs.Queues.Facts.{grants, listed_always}
 use Rattle.lock_free_queues.proofs.Queues.Free.{is_free, few_when_free}
 use Rattle.lock_free_queues.proofs.Queues.Indices.{is_coding}
-use Rattle.lock_free_queues.proofs.Queues.Whole.{none_more}
+use Rattle.lock_free_queues.proofs.Queues.Reads.{read_here}
 
 module _ (capacity : ℕ) (v : View ℕ) (words : List ℕ)
     (l : LastWords one_word kinds.Overflow (capacity + 1) capacity v words) (lacks : LacksRole Producer v.made) where
@@ -38,48 +38,74 @@ module _ (capacity : ℕ) (v : View ℕ) (words : List ℕ)
   above : (word : ℕ) → 4 ≤ word → slice_index later word ≡ slice_index words word
   above word high = get_or-set_other words 1 word first 0 (λ e. absurd (omega arith))
 
+  from : slice_index words 1 ≤ slice_index later 1
+  from = (let one = first_is in omega arith)
+
+  to : slice_index later 1 ≤ slice_index words 0
+  to = (let one = first_is in let all = closing.number one_word is_coding Overflow capacity v words l in omega arith)
+
+  end : slice_index later 0 ≡ slice_index words 0
+  end = other 0 (omega arith)
+
   pub over_fits : Represents capacity later
-  over_fits = grind (arith, first_is, other, long, length-set)
+  over_fits =
+      record {
+        long = length-set words 1 first ∙ long;
+        small = l.small;
+        behind = (let last = to in let same = end in omega arith);
+        near = (let one = first_is in let same = end in omega arith);
+        fits = subst (λ n. n < 2 ^ 64) (sym end) l.fits;
+      }
+
+  abbrev moment : List (Event ℕ)
+  moment = closing.moment one_word is_coding Overflow capacity v words l
 
   -- who has the whole share, and not the producer's role, knows that no push is under way
-  module _ (all : IsAll v.share) where
-    abbrev at : List (Event ℕ)
-    at = l.first_read.trace.events
-
-    all_seen : at ≡ v.seen
-    all_seen =
-        let whole : length l.new.seen ≡ length v.seen = ap length (l.read.whole all) in
-        let low = ap length l.first_read.since.is in
-        let a = length-append v.seen l.first_read.since.rest in
-        let high = ap length l.first_read.until.is in
-        let b = length-append at l.first_read.until.rest in
-        none_more v.seen l.first_read.since.rest at l.first_read.since.is (omega arith)
-
-    moved : (f : Event ℕ → ℕ) → sum_by f at ≡ sum_by f v.made
-    moved x0 = grind (arith, all_seen)
-
-    few : length (waiting at) ≤ capacity
-    few =
-        let h : IsHistory one_word kinds.Overflow capacity at = record { trace = l.first_read.trace; run = l.first_read.run; is = refl } in
-        few_when_free one_word capacity l.first_read.trace l.first_read.run
-        (is_free Producer at (grants one_word Overflow capacity at h) (moved (takes Producer) ∙ (lacks ∙ sym (moved (gives Producer)))))
-
-    exact : slice_index later 1 ≡ l.taken
-    exact =
-        let one = first_is in
-        let last = l.last in
-        let taken = l.first in
-        let write = closing.write_all one_word is_coding Overflow capacity v words l all in
-        let read = closing.taken_all one_word is_coding Overflow capacity v words l all in
-        let h : IsHistory one_word kinds.Overflow capacity at = record { trace = l.first_read.trace; run = l.first_read.run; is = refl } in
-        let book = ap length (listed_always one_word capacity at Overflow h at [] (sym (append-nil at))).book in
-        let both = length-append (handed_out at) (waiting at) in
-        let same_out : length (published at) ≡ length (published v.seen) = ap (λ es. length (published es)) all_seen in
-        let same_took : length (handed_out at) ≡ length (handed_out v.seen) = ap (λ es. length (handed_out es)) all_seen in
-        let some = few in
-        omega arith
+  exact : IsAll v.share → slice_index later 1 ≡ slice_index words 1
+  exact all =
+      let t = l.taken_read.trace in
+      let same : t.events ≡ v.seen =
+      read_here one_word Overflow capacity l.new 1 (slice_index words 1) l.taken_read
+      ∙ closing.whole_seen one_word is_coding Overflow capacity v words l all in
+      let made : (f : Event ℕ → ℕ) → sum_by f t.events ≡ sum_by f v.made = λ f. ap (sum_by f) same ∙ seen_made all f in
+      let h : IsHistory one_word kinds.Overflow capacity t.events = record { trace = t; run = l.taken_read.run; is = refl } in
+      let few : length (waiting t.events) ≤ capacity =
+      few_when_free one_word capacity t l.taken_read.run
+      (is_free Producer t.events (grants one_word Overflow capacity t.events h) (made (takes Producer) ∙ (lacks ∙ sym (made (gives Producer))))) in
+      let here : length (waiting t.events) ≡ length (waiting moment) =
+      ap (λ es. length (waiting es)) (read_here one_word Overflow capacity l.new 1 (slice_index words 1) l.taken_read) in
+      let number = closing.number one_word is_coding Overflow capacity v words l in
+      let one = first_is in
+      omega arith
+    where
+      seen_made : IsAll v.share → (f : Event ℕ → ℕ) → sum_by f v.seen ≡ sum_by f v.made
+      seen_made all f =
+          let here : l.new.seen ≡ v.seen = closing.whole_seen one_word is_coding Overflow capacity v words l all in
+          let share : IsAll l.new.share = subst IsAll (sym (l.reading.share ∙ l.opening.share)) all in
+          ap (sum_by f) (sym here) ∙ (l.reading.all share f ∙ ap (sum_by f) (l.reading.made ∙ l.opening.made))
 
   pub over_closes : Closes Index capacity v (list_in capacity later)
-  over_closes =
-      closing.closes_later one_word is_coding Overflow capacity v words l later above (other 0 (omega arith) ∙ l.last)
-      (let one = first_is in let taken = l.first in omega arith) exact
+  over_closes = closing.closes_later one_word is_coding Overflow capacity v words l later above end from to exact
+
+  pub newest : IsNewestThatWaits capacity v (list_in capacity later)
+  newest =
+      let are = closing.older_are one_word is_coding Overflow capacity v words l later above end from to in
+      let out = closing.taken_is one_word is_coding Overflow capacity v words l in
+      let number = closing.number one_word is_coding Overflow capacity v words l in
+      let one = first_is in
+      let low = from in
+      record {
+        at = moment;
+        since = closing.since one_word is_coding Overflow capacity v words l;
+        history = closing.history one_word is_coding Overflow capacity v words l;
+        older = closing.older one_word is_coding Overflow capacity v words l later above end from to;
+        taken = omega arith;
+        waits = closing.waiting_is one_word is_coding Overflow capacity v words l later above end from to;
+        few = omega arith;
+      }
+
+-- nothing is lost until then
+pub over_closed_book : (capacity : ℕ) (v : View ℕ) (q : Bounded ℕ) → (h : IsNewestThatWaits capacity v q)
+    → published h.at ≡ handed_out h.at ++ (h.older ++ map Index q.values)
+over_closed_book capacity v q h =
+    (listed_always one_word capacity h.at Overflow h.history h.at [] (sym (append-nil h.at))).book ∙ ap (λ xs. handed_out h.at ++ xs) h.waits

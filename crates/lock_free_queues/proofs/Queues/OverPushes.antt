@@ -65,7 +65,7 @@ module _ {T : Type 0} (code : Coding T) (value : ℕ) where
             (acts c e n c.stage stands.2 skip is, h.tells_all capacity p from c e m n es late t stands skip wrote waits met is still);
       }
 
-  pub told_keeps : KeepsRule (λ (z : View T). z.capacity) (At code kinds.Overflow pushing)
+  pub told_keeps : KeepsRule (λ (z : View T). z.asked) (λ (z : View T). z.capacity) (At code kinds.Overflow pushing)
       (Over code kinds.Overflow pushing) (λ key. 4 + (key + 1) + 1) (λ key. key)
       (λ key. IsMachine code kinds.Overflow key) (λ c. push_want c value) push_after push_kept
   told_keeps =

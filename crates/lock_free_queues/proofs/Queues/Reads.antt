@@ -1,16 +1,22 @@
 -- What one load of a queue's word tells, and what the loads of all words tell together.
-use Rattle.lock_free_queues.proofs.Names.{◌≡◌, ⊎_elim, ℕ, None, ◌+◌, ◌<◌, ◌≤◌, ◌^◌, List, [], ◌∷◌, ◌++◌, length, max}
+use Rattle.lock_free_queues.proofs.Names.{◌≡◌, ⊎_elim, ℕ, None, ◌+◌, ◌<◌, ◌≤◌, ◌^◌, List, [], ◌∷◌, ◌++◌, length}
 use Rattle.lock_free_queues.proofs.Names.{set, slice_index, refl, sym, ap, subst, ◌∙◌, append_assoc, append-nil}
 use Rattle.lock_free_queues.proofs.Names.{length-set, get_or-set_same, get_or-set_other, arith, cases_lt}
-use Rattle.lock_free_queues.proofs.Names.{get_or_append_left, Me, Allows, Event, QueueKind, Kind, Coding, IsAll}
-use Rattle.lock_free_queues.proofs.Names.{machine_kind, View, IsBeginning, IsMachine, IsRun, Looks, LooksAt}
+use Rattle.lock_free_queues.proofs.Names.{Me, Allows, Event, QueueKind, Kind, Coding, IsAll, MissesNothing}
+use Rattle.lock_free_queues.proofs.Names.{publishes, published, handed_out, machine_kind, View, IsBeginning, IsMachine, IsRun, Looks}
+use Rattle.lock_free_queues.proofs.Names.{LooksAt, first_view, queue_goes_on}
+use Rattle.lock_free_queues.proofs.Names.{Option, Start, Flight, get_left}
 use Rattle.std.proofs.Common.{length-append}
-use Rattle.std.proofs.Math.Seq.{get_or-append_seam}
-use Rattle.history.proofs.PassLooks.{looks_word}
+use Rattle.history.proofs.PassLooks.{looks_at}
+use Rattle.history.specs.History.{IsLate}
+use Rattle.steps.specs.declared.ask.Op.TheVariants.{Load}
+use Rattle.threaded.specs.Driver.{OwesAsk}
 use Rattle.lock_free_queues.specs.Queues.Kinds.{words_in_cells}
 use Rattle.lock_free_queues.specs.Queues.Told.{HasLooked}
-use Rattle.lock_free_queues.proofs.Queues.Kinds.{told_idle, words_long}
+use Rattle.lock_free_queues.proofs.Queues.Kinds.{words_long}
 use Rattle.lock_free_queues.specs.Queues.Reads.{WasRead, CellsRead, HasRead, LastWords}
+use Rattle.lock_free_queues.proofs.Queues.Positions.{hits_grow}
+use Rattle.lock_free_queues.proofs.Queues.Whole.{none_more}
 
 module _ {T : Type 0} where
   begins_itself : (es : List (Event T)) → IsBeginning es es
@@ -25,6 +31,10 @@ module _ {T : Type 0} where
 
   pub then_read : (v w x : View T) → HasRead v w → HasRead w x → HasRead v x
   then_read x0 x1 x2 x3 x4 = grind (arith, begins_further)
+
+  -- before the first load
+  pub not_read : (v : View T) → MissesNothing v → HasRead v v
+  not_read v all = record { share = refl; since = begins_itself v.seen; made = refl; whole = λ x. refl; all = all }
 
 module _ {T : Type 0} (code : Coding T) (kd : QueueKind) where
   module _ (capacity word found : ℕ) (v w : View T) (same : v.capacity ≡ capacity)
@@ -70,7 +80,12 @@ module _ {T : Type 0} (code : Coding T) (kd : QueueKind) where
   abbrev pub Owed : ℕ → ℕ → ℕ → ℕ → Me (Unit {0}) (View T) → Type 0
   Owed key slots id word me =
       Allows (IsMachine code (machine_kind kd) key) slots id me word (λ n. n)
-      (λ found new. LooksAt code (machine_kind kd) me.0.capacity word me.0 found new.0 × (new.1 ≡ []))
+      (λ found new. LooksAt code (machine_kind kd) me.0.capacity word me.0 found new.0
+      × (new.0.asked ≡ me.0.asked + 1) × (new.1 ≡ []))
+
+  -- while no call is under way nothing is late
+  calm : (kind : QueueKind) (going : Option (Start T × Flight T)) → going ≡ None → (late : List (Event T)) → IsLate (machine_kind kind) going late → late ≡ []
+  calm x0 x1 x2 x3 x4 = grind arith
 
   pub owed : (key slots id word : ℕ) (v : View T) (me : Me (Unit {0}) (View T)) → me ≡ (v, []) → v.capacity ≡ key
       → v.going ≡ None → 0 < v.share.part → Owed key slots id word me
@@ -78,8 +93,34 @@ module _ {T : Type 0} (code : Coding T) (kd : QueueKind) where
       subst (Owed key slots id word) (sym same)
       (subst (λ k. Owed k slots id word (v, [])) size
       (λ s holds many at low.
-      let r = looks_word code (machine_kind kd) v.capacity slots id word v some s holds many at low in
-      (r.0, r.1, r.2, r.3, (told_idle kd v.going _ idle r.4.0, r.4.1))))
+      let x = looks_at code (machine_kind kd) v.capacity slots id word v some (calm kd v.going idle) s holds many at low in (
+        x.0,
+        x.1,
+        x.2,
+        x.3,
+        (
+          record {
+            looks = x.4.0;
+            trace = holds.trace;
+            run = holds.run;
+            seen = x.5;
+            word_is =
+                λ below. ap (λ ws. slice_index ws word) holds.words ∙ get_left holds.trace.world.words (0 ∷ []) word below;
+          },
+          x.6,
+          x.4.1,
+        ),
+      )))
+
+  -- as what a seat owes for it
+  pub owes_look : (key words slots id word : ℕ) (v : View T) (xs : List (ℕ × Unit {0})) → word < words → xs ≡ [] → v.capacity ≡ key
+      → v.going ≡ None → 0 < v.share.part
+      → OwesAsk (λ (z : View T). z.asked) (IsMachine code (machine_kind kd) key) words slots id
+      (λ u n w. LooksAt code (machine_kind kd) u.capacity word u n w) word Load (v, xs)
+  owes_look key words slots id word v xs below bare size idle some =
+      subst (λ ys. OwesAsk (λ (z : View T). z.asked) (IsMachine code (machine_kind kd) key) words slots id
+      (λ u n w. LooksAt code (machine_kind kd) u.capacity word u n w) word Load (v, ys)) (sym bare)
+      (below, owed key slots id word v (v, []) refl size idle some)
 
 module _ {T : Type 0} (code : Coding T) (kind : Kind) where
   pub has_looked : (v w : View T) → v.other ≡ [] → Looks code kind v.capacity v w → HasLooked v w
@@ -116,51 +157,89 @@ module _ {T : Type 0} (code : Coding T) (kind : Kind) where
         found_is = r.found_is;
       }
 
-  module _ (capacity : ℕ) (v w : View T) where
-    pub no_cells : (words : List ℕ) → length words ≡ 4 → CellsRead code kind capacity v w words
-    no_cells words long word high low = absurd (omega arith)
+  -- the words of cells below one were read
+  abbrev pub ReadTo : ℕ → View T → View T → ℕ → List ℕ → Type 0
+  ReadTo capacity v w at words = (word : ℕ) → 4 ≤ word → word < at → WasRead code kind capacity v w word (slice_index words word)
 
-    pub cells_until : (x : View T) (words : List ℕ) → CellsRead code kind capacity v w words → HasRead w x → CellsRead code kind capacity v x words
-    cells_until x words cells b word high low = read_until capacity word (slice_index words word) v w x (cells word high low) b
+  pub none_read : (capacity : ℕ) (v w : View T) (words : List ℕ) → ReadTo capacity v w 4 words
+  none_read capacity v w words word high low = absurd (omega arith)
 
-    pub one_cell_more : (words : List ℕ) (at found : ℕ) → length words ≡ at → CellsRead code kind capacity v w words
-        → WasRead code kind capacity v w at found → CellsRead code kind capacity v w (words ++ found ∷ [])
-    one_cell_more words at found long cells r word high low =
-        let more = length-append words (found ∷ []) in
-        ⊎_elim (λ (before : word < length words). subst (WasRead code kind capacity v w word)
-        (sym (get_or_append_left words (found ∷ []) 0 word before)) (cells word high before))
-        (λ (last : length words ≤ word).
-        let here : word ≡ length words = omega arith in
-        let is : slice_index (words ++ found ∷ []) word ≡ found = ap (λ k. slice_index (words ++ found ∷ []) k) here ∙ get_or-append_seam words found [] 0 in
-        let place : at ≡ word = omega arith in
-        subst (WasRead code kind capacity v w word) (sym is) (subst (λ k. WasRead code kind capacity v w k found) place r))
-        (cases_lt word (length words))
+  pub read_to_until : (capacity : ℕ) (v w x : View T) (at : ℕ) (words : List ℕ) → ReadTo capacity v w at words → HasRead w x → ReadTo capacity v x at words
+  read_to_until capacity v w x at words cells b word high low = read_until capacity word (slice_index words word) v w x (cells word high low) b
 
-    -- the words, with the positions of the list
-    pub last_words : (wide : ℕ) (words : List ℕ) (write taken : ℕ) → capacity < 2 ^ 32 → HasRead v w → length words ≡ 4 + wide → write < 2 ^ 64 → taken < 2 ^ 64
-        → WasRead code kind capacity v w 0 write → CellsRead code kind capacity v w words
-        → WasRead code kind capacity w w 1 taken
-        → LastWords code kind wide capacity v (set (set words 0 (max write taken)) 1 taken)
-    last_words wide words write taken small read long fits taken_fits first cells last =
-        let a : List ℕ = set words 0 (max write taken) in
-        let la = length-set words 0 (max write taken) in
-        let lb = length-set a 1 taken in
-        record {
-          new = w;
-          read = read;
-          small = small;
-          long = omega arith;
-          write = write;
-          taken = taken;
-          fits = fits;
-          taken_fits = taken_fits;
-          first_read = first;
-          cells = λ word high low. (
-              let same : slice_index (set a 1 taken) word ≡ slice_index words word =
-              get_or-set_other a 1 word taken 0 (λ e. absurd (omega arith))
-              ∙ get_or-set_other words 0 word (max write taken) 0 (λ e. absurd (omega arith)) in
-              subst (WasRead code kind capacity v w word) (sym same) (cells word high (omega arith)));
-          last_read = last;
-          last = get_or-set_other a 1 0 taken 0 (λ e. absurd (omega arith)) ∙ get_or-set_same words 0 (max write taken) 0 (omega arith);
-          first = get_or-set_same a 1 taken 0 (omega arith);
-        }
+  -- one more
+  pub one_read : (capacity : ℕ) (v w x : View T) (at found : ℕ) (words : List ℕ) → at < length words → HasRead v w → HasRead w x
+      → ReadTo capacity v w at words → WasRead code kind capacity w x at found → ReadTo capacity v x (at + 1) (set words at found)
+  one_read capacity v w x at found words inside a b cells r word high low =
+      ⊎_elim (λ (before : word < at). subst (WasRead code kind capacity v x word)
+      (sym (get_or-set_other words at word found 0 (λ e. absurd (omega arith))))
+      (read_until capacity word (slice_index words word) v w x (cells word high before) b))
+      (λ (last : at ≤ word).
+      let here : word ≡ at = omega arith in
+      let is : slice_index (set words at found) word ≡ found = ap (λ k. slice_index (set words at found) k) here ∙ get_or-set_same words at found 0 inside in
+      subst (WasRead code kind capacity v x word) (sym is)
+      (subst (λ k. WasRead code kind capacity v x k found) (sym here) (read_since capacity at found v w x a r)))
+      (cases_lt word at)
+
+  -- the words, with the positions of the list
+  pub last_words : (capacity wide : ℕ) (v w x y : View T) (words : List ℕ) (write taken : ℕ) → capacity < 2 ^ 32 → length words ≡ 4 + wide → write < 2 ^ 64
+      → HasRead v w → HasRead w x → HasRead x y → WasRead code kind capacity w w 0 write
+      → CellsRead code kind capacity w x words → WasRead code kind capacity x x 1 taken → WasRead code kind capacity y y 0 write
+      → LastWords code kind wide capacity v (set (set words 0 write) 1 taken)
+  last_words capacity wide v w x y words write taken small long low opening reading ending first cells took last =
+      let a : List ℕ = set words 0 write in
+      let la = length-set words 0 write in
+      let lb = length-set a 1 taken in
+      let write_is : slice_index (set a 1 taken) 0 ≡ write =
+      get_or-set_other a 1 0 taken 0 (λ e. absurd (omega arith)) ∙ get_or-set_same words 0 write 0 (omega arith) in
+      let taken_is : slice_index (set a 1 taken) 1 ≡ taken = get_or-set_same a 1 taken 0 (omega arith) in
+      record {
+        begun = w;
+        new = x;
+        ended = y;
+        opening = opening;
+        reading = reading;
+        ending = ending;
+        small = small;
+        long = omega arith;
+        fits = subst (λ n. n < 2 ^ 64) (sym write_is) low;
+        first_read = subst (WasRead code kind capacity w w 0) (sym write_is) first;
+        cells = λ word high inside. (
+            let same : slice_index (set a 1 taken) word ≡ slice_index words word =
+            get_or-set_other a 1 word taken 0 (λ e. absurd (omega arith))
+            ∙ get_or-set_other words 0 word write 0 (λ e. absurd (omega arith)) in
+            subst (WasRead code kind capacity w x word) (sym same) (cells word high (omega arith)));
+        taken_read = subst (WasRead code kind capacity x x 1) (sym taken_is) took;
+        last_read = subst (WasRead code kind capacity y y 0) (sym write_is) last;
+      }
+
+module _ {T : Type 0} (code : Coding T) (kd : QueueKind) where
+  module _ (capacity : ℕ) (v : View T) where
+    -- a word that was read as all this was seen
+    pub read_here : (word found : ℕ) → (r : WasRead code (machine_kind kd) capacity v v word found) → r.trace.events ≡ v.seen
+    read_here word found r =
+        let low = ap length r.since.is in
+        let a = length-append v.seen r.since.rest in
+        let high = ap length r.until.is in
+        let b = length-append r.trace.events r.until.rest in
+        none_more v.seen r.since.rest r.trace.events r.since.is (omega arith)
+
+    -- the positions say how many were published and taken out
+    pub write_here : (n : ℕ) → WasRead code (machine_kind kd) capacity v v 0 n → n ≡ length (published v.seen)
+    write_here n r =
+        r.found_is
+        ∙ ((queue_goes_on code kd (first_view capacity) r.trace r.run).book.write ∙ ap (λ es. length (published es)) (read_here 0 n r))
+
+    pub taken_here : (n : ℕ) → WasRead code (machine_kind kd) capacity v v 1 n → n ≡ length (handed_out v.seen)
+    taken_here n r =
+        r.found_is
+        ∙ ((queue_goes_on code kd (first_view capacity) r.trace r.run).book.read ∙ ap (λ es. length (handed_out es)) (read_here 1 n r))
+
+  -- the write position never sinks
+  pub writes_rise : (capacity n m : ℕ) (v w : View T) → HasRead v w → WasRead code (machine_kind kd) capacity v v 0 n
+      → WasRead code (machine_kind kd) capacity w w 0 m → n ≤ m
+  writes_rise capacity n m v w h a b =
+      let one = write_here capacity v n a in
+      let two = write_here capacity w m b in
+      let grown = hits_grow publishes v.seen w.seen h.since in
+      omega arith

@@ -65,6 +65,8 @@ module _ {T : Type 0} where
         made = opened answer item (position_at capacity position);
         going = None;
         state = None;
+        asked = 0;
+        taken = 0;
       }
 
   -- of a bounded queue

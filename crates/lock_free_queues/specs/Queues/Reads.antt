@@ -1,5 +1,5 @@
 -- What the words say that are read while a queue is closed.
-use Rattle.std.specs.Prelude.{◌≡◌, ℕ, ◌+◌, ◌^◌, ◌<◌, ◌≤◌, max, List, length, slice_index}
+use Rattle.std.specs.Prelude.{◌≡◌, ℕ, ◌+◌, ◌^◌, ◌<◌, ◌≤◌, List, length, slice_index}
 use Rattle.model.specs.declared.turn.Kind.{Kind}
 use Rattle.model.specs.Coding.{Coding}
 use Rattle.model.specs.World.{Trace}
@@ -31,19 +31,20 @@ pub record HasRead {T : Type 0} (old new : View T) : Type 0 where
   pub whole : IsAll old.share → new.seen ≡ old.seen
   pub all : MissesNothing new
 
--- the words, so many of them of cells, with the positions of the list, and what stood there
+-- The words, so many of them of cells, with both positions as they stood as the read position was read: nothing was
+-- published from the first load of the write position to the last.
 pub record LastWords {T : Type 0} (code : Coding T) (kind : Kind) (wide capacity : ℕ) (old : View T)
     (words : List ℕ) : Type 0 where
+  pub begun : View T
   pub new : View T
-  pub read : HasRead old new
+  pub ended : View T
+  pub opening : HasRead old begun
+  pub reading : HasRead begun new
+  pub ending : HasRead new ended
   pub small : capacity < 2 ^ 32
   pub long : length words ≡ 4 + wide
-  pub write : ℕ
-  pub taken : ℕ
-  pub fits : write < 2 ^ 64
-  pub taken_fits : taken < 2 ^ 64
-  pub first_read : WasRead code kind capacity old new 0 write
-  pub cells : CellsRead code kind capacity old new words
-  pub last_read : WasRead code kind capacity new new 1 taken
-  pub last : slice_index words 0 ≡ max write taken
-  pub first : slice_index words 1 ≡ taken
+  pub fits : slice_index words 0 < 2 ^ 64
+  pub first_read : WasRead code kind capacity begun begun 0 (slice_index words 0)
+  pub cells : CellsRead code kind capacity begun new words
+  pub taken_read : WasRead code kind capacity new new 1 (slice_index words 1)
+  pub last_read : WasRead code kind capacity ended ended 0 (slice_index words 0)

@@ -1,12 +1,12 @@
 -- Which queue a pass is for, and what it knows of the queue's history: of queues of any kind.
 use Rattle.std.specs.Prelude.{◌≡◌, ℕ}
-use Rattle.std.specs.Arc.{arc_value}
 use Rattle.atomic_table.specs.Seated.{TableId}
 use Rattle.steps.specs.declared.words.Words.{Ghosts}
 use Rattle.model.specs.declared.families.queues.QueueKind.{QueueKind}
 use Rattle.model.specs.Coding.{Coding, coding_of}
 use Rattle.history.specs.declared.view.View.{View}
 use Rattle.history.specs.History.{IsHistory}
+use Rattle.threaded.specs.Seats.{home_id}
 use Rattle.lock_free_queues.specs.Queues.Bounded.{machine_kind}
 pub use Rattle.history.specs.Passes.{Goes, MissesNothing}
 use Rattle.lock_free_queues.specs.declared.spsc.ring.rule.Kind as kinds
@@ -34,7 +34,7 @@ module _ {T : Type 0} where
 
 module _ {E T : Type 0} where
   abbrev pub queue_id : Ring E T → QueueId
-  queue_id q = record { table = (arc_value q.table).shared.table_id; capacity = q.capacity }
+  queue_id q = record { table = home_id q.home; capacity = q.capacity }
 
   abbrev pub capacity_of : Ring E T → ℕ
   capacity_of q = q.capacity

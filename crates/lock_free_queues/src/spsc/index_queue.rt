@@ -1,7 +1,9 @@
 //! The bounded queue of numbers of 64 bits with one producer and one consumer, shared between threads.
 //!
-//! The comments say how many atomic steps a call takes, and its contract does not. These bounds are proved in the
-//! model, of the calls that it has. What is proved of threads is what the contracts say.
+//! How many atomic steps a call takes is what its clause `steps` says: the operations on words that its pass has
+//! counted. The driver counts each one that it performs. A split, a join and a look go by the table itself, and count
+//! theirs by their contracts. A `close` has no such clause, since no pass is left. What is proved of threads is what
+//! the contracts say.
 use super::ring;
 use super::ring::rule::Numbers;
 

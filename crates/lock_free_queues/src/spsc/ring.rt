@@ -1,24 +1,24 @@
 //! What the queues have in common: what threads share, what each of them holds, and the calls but pushes and pops. The
 //! queues are this with a kind E and values T; each module of `spsc` has its own names for them.
 //!
-//! The comments say how many atomic steps a call takes, and its contract does not. These bounds are proved in the
-//! model, of the calls that it has. What is proved of threads is what the contracts say.
+//! How many atomic steps a call takes is what its clause `steps` says: the operations on words that its pass has
+//! counted. Each that it performs is counted, by the driver. A `close` has no such clause, since no pass is left. What is proved of threads is what
+//! the contracts say.
 ghost use Rattle.std.specs.Prelude.{◌≡◌, ◌<◌, ◌+◌, ◌^◌, [], None};
-ghost use Rattle.std.specs.Arc.{arc_value};
 ghost use Rattle.steps.specs.declared.queues.roles.Role.TheVariants as roles;
 ghost use Rattle.history.specs.Roles.{HasRole};
+ghost use Rattle.threaded.specs.Seats.{key_of};
 ghost use Rattle.lock_free_queues.specs.Queues.Kinds.{words_in_cells};
 ghost use Rattle.lock_free_queues.specs.Queues.Roles.{LacksRole};
 
 use self::drives::{Popping, Pushing};
-use self::rule::{Board, Kind, Origin, RingRule};
+use self::rule::{Kind, Origin, RingRule};
 use atomic_table::TableRule;
 use history::view::View;
 use std::alloc::Global;
 use std::marker::PhantomData;
-use std::sync::Arc;
 use steps::words::Words;
-use threaded::driver::seated::Seated;
+use threaded::driver::seated::{Home, Seated};
 
 mod calls;
 mod drives;
@@ -35,7 +35,7 @@ pub use handles::Handle;
 
 /// A queue, which threads share by reference. One producer pushes and one consumer pops at a time.
 pub struct Ring<E: Kind, T: Words> {
-    table: Arc<Board<E, T>, Global>,
+    home: Home<View<T>, Origin, RingRule<E, T>>,
     pub(crate) capacity: u32,
     pub(crate) alloc: Global,
 }
@@ -53,7 +53,7 @@ pub struct Held<E: Kind, T: Words, Q: TableRule<(), View<T>, Origin>> {
     pub seated: Seated<View<T>, Origin, Q>,
     pub capacity: u32,
     ghost sized: { seated.seat.table_id.words ≡ 4 + words_in_cells T.WORDS E.KIND capacity + 1 },
-    ghost keyed: { (arc_value seated.table).shared.key.capacity ≡ capacity },
+    ghost keyed: { (key_of seated).capacity ≡ capacity },
     ghost known: { seated.seat.me.0.capacity ≡ capacity },
     ghost small: { capacity < 2 ^ 32 },
     ghost idle: { seated.seat.me.0.going ≡ None },
@@ -68,7 +68,8 @@ pub type Token<E, T> = Held<E, T, RingRule<E, T>>;
 /// role. This project's own.
 pub struct Pass<E: Kind, T: Words> {
     pub(crate) token: Token<E, T>,
-    ghost none: { LacksRole roles.Producer token.seated.seat.me.0.made × LacksRole roles.Consumer token.seated.seat.me.0.made },
+    ghost none: { LacksRole roles.Producer token.seated.seat.me.0.made
+        × LacksRole roles.Consumer token.seated.seat.me.0.made },
 }
 
 /// The end of a queue that pushes. There is one at a time. It owns the pass that it was acquired with, and gives the
@@ -76,7 +77,8 @@ pub struct Pass<E: Kind, T: Words> {
 pub struct Producer<'a, E: Kind, T: Words> {
     ring: &'a Ring<E, T>,
     pub(crate) token: Token<E, T>,
-    ghost role: { HasRole roles.Producer token.seated.seat.me.0.made × LacksRole roles.Consumer token.seated.seat.me.0.made },
+    ghost role: { HasRole roles.Producer token.seated.seat.me.0.made
+        × LacksRole roles.Consumer token.seated.seat.me.0.made },
 }
 
 /// The end of a queue that pops. There is one at a time. It owns the pass that it was acquired with, and gives the
@@ -84,14 +86,16 @@ pub struct Producer<'a, E: Kind, T: Words> {
 pub struct Consumer<'a, E: Kind, T: Words> {
     ring: &'a Ring<E, T>,
     pub(crate) token: Token<E, T>,
-    ghost role: { HasRole roles.Consumer token.seated.seat.me.0.made × LacksRole roles.Producer token.seated.seat.me.0.made },
+    ghost role: { HasRole roles.Consumer token.seated.seat.me.0.made
+        × LacksRole roles.Producer token.seated.seat.me.0.made },
 }
 
-// A drop by hand is one call in a caller's proof, on each way out; one that is derived is as many as it has fields below.
+// A drop by hand is one call in a caller's proof, on each way out. One that is derived is as many as it has fields
+// below.
 impl<E: Kind, T: Words> Drop for Ring<E, T> {
     fn drop(self) {
         let Self {
-            table: _table,
+            home: _home,
             capacity: _,
             alloc: _,
         } = self;
@@ -126,7 +130,8 @@ impl<E: Kind, T: Words, Q: TableRule<(), View<T>, Origin>> Drop for Held<E, T, Q
 impl<E: Kind, T: Words> Pass<E, T> {
     pub(crate) fn into_token(self) -> Token<E, T>
         ensures token { result ≡ self.token }
-        ensures none { LacksRole roles.Producer result.seated.seat.me.0.made × LacksRole roles.Consumer result.seated.seat.me.0.made }
+        ensures none { LacksRole roles.Producer result.seated.seat.me.0.made
+            × LacksRole roles.Consumer result.seated.seat.me.0.made }
     {
         let Self { token } = self;
         token

@@ -1,19 +1,17 @@
 //! One value of any type with words, with one producer and any number of readers, shared between threads.
 //!
-//! The comments say how many atomic steps a call takes, and its contract does not. These bounds are proved in the
-//! model, of the calls that it has. What is proved of threads is what the contracts say.
+//! How many atomic steps a call takes is what its clause `steps` says: the operations on words that its pass has counted. Each
+//! that it performs is counted, by the driver. What is proved of threads is what the contracts say.
 ghost use Rattle.std.specs.Prelude.{◌≡◌, ◌<◌, ◌+◌, ◌*◌, [], None, length};
 ghost use Rattle.laws_value.specs.Stored.{stored};
 ghost use Rattle.history.specs.Value.{HasProducer};
 ghost use Rattle.lock_free_value.specs.Roles.{LacksProducer};
 
-use self::rule::{Board, Origin, ValueRule};
+use self::rule::{Origin, ValueRule};
 use atomic_table::TableRule;
 use history::view::View;
-use std::alloc::Global;
-use std::sync::Arc;
 use steps::words::Words;
-use threaded::driver::seated::Seated;
+use threaded::driver::seated::{Home, Seated};
 
 mod calls;
 mod drives;
@@ -29,13 +27,13 @@ pub use handles::Handle;
 /// A value that threads share by reference. One producer at a time stores it, and any number of readers load it whole.
 /// After `UnrestrictedAtomic` of the Rust crate.
 pub struct UnrestrictedAtomic<T: Words> {
-    board: Arc<Board<T>, Global>,
+    home: Home<View<T>, Origin<T>, ValueRule<T>>,
 }
 
 // A drop by hand is one call in a caller's proof, on each way out; one that is derived is as many as it has fields below.
 impl<T: Words> Drop for UnrestrictedAtomic<T> {
     fn drop(self) {
-        let Self { board: _board } = self;
+        let Self { home: _home } = self;
     }
 }
 

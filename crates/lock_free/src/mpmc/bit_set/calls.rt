@@ -7,7 +7,10 @@ ghost use Rattle.history.specs.declared.view.View.{View as Views};
 ghost use Rattle.lock_free.specs.Driven.{IsIdle, HasDone};
 ghost use Rattle.lock_free.specs.Sets.Calls.{capacity_of, IsPassOf, view, GoesOn};
 ghost use Rattle.lock_free.specs.Bits.Callable.{TakesPlaces, Visited};
-ghost use Rattle.lock_free.specs.Bits.Told.{HasSet, StoodOnce, HasReset, AllClearOnce, HasCleanedOut, MissedNoPlace};
+ghost use Rattle.lock_free.specs.Bits.Told.{HasSet, StoodOnce, HasReset, CameFromPosition, AllClearOnce};
+ghost use Rattle.lock_free.specs.Bits.Told.{HasCleanedOut, MissedNoPlace};
+ghost use Rattle.model.specs.Coding.{one_word};
+ghost use Rattle.history.specs.Steps.{TakesAtMost, TakesAlone};
 
 use super::drives::{ResetsNext, SetsPlace};
 use super::{BitSet, Pass};
@@ -24,59 +27,59 @@ use steps::copied::OneWord;
 use steps::routine::Routine;
 use threaded::driver::seated::Seated;
 
-/// Calls the closure with the place where it stood, and hands the closure back.
+/// Calls the closure with the place where it stood.
 #[inline(always)]
-fn call_where<F: FnMut(usize)>(mut visit: F, stood: bool, place: u64) -> F
-    requires { IsTrue stood → F.pre visit place }
-    ensures called { IsTrue stood → F.step visit place tt result }
-    ensures passed { IsFalse stood → result ≡ visit }
+fn call_where<F: FnMut(usize)>(visit: &mut F, stood: bool, place: u64)
+    requires { IsTrue stood → F.pre visit.old place }
+    ensures called { IsTrue stood → F.step visit.old place tt visit.new }
+    ensures passed { IsFalse stood → visit.new ≡ visit.old }
 {
     if stood {
         visit(place as usize);
     }
-    visit
 }
 
-/// Calls the closure with each of 64 places from `first` on whose flag was found, ascending, and hands it back.
+/// Calls the closure with each of 64 places from `first` on whose flag was found, ascending.
 #[inline(always)]
-fn visit_word<F: FnMut(usize)>(mut visit: F, found: u64, first: u64) -> F
+fn visit_word<F: FnMut(usize)>(visit: &mut F, found: u64, first: u64)
     requires small { first + 64 < 2 ^ 64 }
     requires visits { (n : ℕ) (now : F) → n < 64 → IsTrue (flag_of found (first + n))
-        → Visited (λ p x q. F.step p x tt q) found first visit n now → F.pre now (first + n) }
-    ensures { Visited (λ p x q. F.step p x tt q) found first visit 64 result }
+        → Visited (λ p x q. F.step p x tt q) found first visit.old n now → F.pre now (first + n) }
+    ensures { Visited (λ p x q. F.step p x tt q) found first visit.old 64 visit.new }
 {
     let mut left = found;
     for bit in 0..64u64 {
         // It ends at the last flag.
         if left == 0 {
-            return visit;
+            return;
         }
         let place = first + bit;
-        visit = call_where(visit, has_flag(found, place), place);
+        call_where(visit, has_flag(found, place), place);
         left = without_flag(left, place);
     }
-    visit
 }
 
 /// Resets all places, and calls the closure with each one that stood, after the step that reset it.
 fn clear_all<F: FnMut(usize)>(
     seated: &mut Seated<View<u64>, u32, SetRule<Flags>>,
     capacity: u32,
-    mut visit: F,
+    visit: &mut F,
 )
     requires table { IsAt (λ (key : ℕ). 1 + elements key + 1) (λ (key : ℕ). key) (λ (v : Views ℕ). v.capacity) seated.old }
     requires idle { IsIdle capacity (seen seated.old) }
     requires places { 0 < capacity }
-    requires visits { TakesPlaces F.pre (λ p x q. F.step p x tt q) capacity visit }
+    requires visits { TakesPlaces F.pre (λ p x q. F.step p x tt q) capacity visit.old }
     ensures same { IsSame seated.old seated.new }
     ensures done { HasDone kinds.Bits (seen seated.old) (seen seated.new) }
-    ensures cleared { HasCleanedOut (λ p x q. F.step p x tt q) capacity visit (seen seated.old) (seen seated.new) }
+    ensures cleared { HasCleanedOut (λ p x q. F.step p x tt q) capacity visit.old visit.new
+        (seen seated.old) (seen seated.new) }
+    ensures steps { TakesAtMost (elements capacity) (seen seated.old) (seen seated.new) }
 {
     let mut room = OneWord(0);
     let mut call = ResetAll::bits(capacity);
     loop {
         let after = seated.step::<ResetAll, Empties<Flags>>(call, &(), &mut room);
-        visit = visit_word(visit, room.0, (call.word as u64 - 1) * 64);
+        visit_word(visit, room.0, (call.word as u64 - 1) * 64);
         match after {
             After::GoOn(next) => call = next,
             After::Done(()) => return,
@@ -94,6 +97,7 @@ impl BitSet {
         ensures goes_on { GoesOn pass.old pass.new }
         ensures added { HasSet id result (view pass.old) (view pass.new) }
         ensures stood { IsFalse result → StoodOnce id (view pass.new) }
+        ensures steps { TakesAlone one_word kinds.Bits (capacity_of self.now) 2 1 (view pass.old) (view pass.new) }
     {
         let place = id as u64;
         let end = pass
@@ -102,8 +106,9 @@ impl BitSet {
         Set::answer(end, &place, &())
     }
 
-    /// Resets the next place that stands, and answers it: a place below the capacity. None only where each place was
-    /// clear at a moment of the call.
+    /// Resets the next place that stands, and answers it: a place below the capacity. Each place that it passed on the
+    /// way from the reset position was clear at a moment of the call. None only where each place was clear at a moment
+    /// of it.
     ///
     /// It looks from the reset position to the greatest place, and then from 0 on. The position is 0 at first, and a
     /// call that resets a place stores the one after it, as its last step: where two calls overlap, the later store
@@ -115,7 +120,10 @@ impl BitSet {
         ensures goes_on { GoesOn pass.old pass.new }
         ensures place { IfSome result (λ place. place < capacity_of self.now) }
         ensures cleared { HasReset result (view pass.old) (view pass.new) }
+        ensures came { IfSome result (λ place. CameFromPosition (capacity_of self.now) place (view pass.new)) }
         ensures clear { result ≡ None → AllClearOnce (capacity_of self.now) (view pass.new) }
+        ensures steps { TakesAlone one_word kinds.Bits (capacity_of self.now) (3 + capacity_of self.now) 1
+            (view pass.old) (view pass.new) }
     {
         let call = ResetNext::new(pass.capacity);
         let end = pass
@@ -128,20 +136,24 @@ impl BitSet {
     }
 
     /// Resets all places, and calls `visit` with each one that it cleared: ascending, each at most once and below the
-    /// capacity. Each one that stood as the call began was cleared in its span, by it or by another.
+    /// capacity. Each one that stood as the call began was cleared in its span, by it or by another. What `visit`
+    /// counts or keeps is what these calls make of it.
     ///
     /// It takes one step for each 64 places, which resets them together; `visit` is called after that step and before
     /// the next. What `visit` itself sets is handed out by this call where it lies at a place of a later step, and
     /// stands afterwards else. It leaves the position from which `reset_next` looks. In a set of no place it takes
     /// one step, a look at a word. After `reset_all` of the Rust crate, where each word has 8 places.
-    pub fn reset_all<F: FnMut(usize)>(&self, visit: F, pass: &mut Pass)
+    pub fn reset_all<F: FnMut(usize)>(&self, visit: &mut F, pass: &mut Pass)
         requires pass { IsPassOf self.now pass.old }
         requires places { TakesPlaces F.pre (λ p x q. F.step p x tt q)
-            (capacity_of self.now) visit }
+            (capacity_of self.now) visit.old }
         ensures goes_on { GoesOn pass.old pass.new }
-        ensures cleared { HasCleanedOut (λ p x q. F.step p x tt q) (capacity_of self.now) visit
+        ensures cleared { HasCleanedOut (λ p x q. F.step p x tt q) (capacity_of self.now) visit.old visit.new
             (view pass.old) (view pass.new) }
         ensures stood { MissedNoPlace (capacity_of self.now) (view pass.new) }
+        ensures steps { 0 < capacity_of self.now
+            → TakesAtMost (elements (capacity_of self.now)) (view pass.old) (view pass.new) }
+        ensures one_step { capacity_of self.now ≡ 0 → TakesAtMost 1 (view pass.old) (view pass.new) }
     {
         let capacity = pass.capacity;
         if capacity == 0 {

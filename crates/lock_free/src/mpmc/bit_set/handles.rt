@@ -1,9 +1,14 @@
 //! The calls by a handle: those of its set.
-ghost use Rattle.std.specs.Prelude.{◌≡◌, ◌<◌, None, IfSome, IsFalse};
+ghost use Rattle.std.specs.Prelude.{◌≡◌, ◌+◌, ◌<◌, None, IfSome, IsFalse};
 ghost use Rattle.lock_free.specs.Sets.Calls.{capacity_of, GoesOn};
 ghost use Rattle.lock_free.specs.Bits.Callable.{TakesPlaces};
-ghost use Rattle.lock_free.specs.Bits.Told.{HasSet, StoodOnce, HasReset, AllClearOnce, HasCleanedOut, MissedNoPlace};
+ghost use Rattle.lock_free.specs.Bits.Told.{HasSet, StoodOnce, HasReset, CameFromPosition, AllClearOnce};
+ghost use Rattle.lock_free.specs.Bits.Told.{HasCleanedOut, MissedNoPlace};
 ghost use Rattle.lock_free.specs.Sets.Handles.{set_in, pass_in, knows};
+ghost use Rattle.steps.specs.Bits.Words.{elements};
+ghost use Rattle.model.specs.declared.turn.Kind.TheVariants as kinds;
+ghost use Rattle.model.specs.Coding.{one_word};
+ghost use Rattle.history.specs.Steps.{TakesAtMost, TakesAlone};
 
 use super::Handle;
 use std::sync::Wait;
@@ -16,6 +21,8 @@ impl<'a> Handle<'a> {
         ensures goes_on { GoesOn (pass_in self.old) (pass_in self.new) }
         ensures added { HasSet id result (knows self.old) (knows self.new) }
         ensures stood { IsFalse result → StoodOnce id (knows self.new) }
+        ensures steps { TakesAlone one_word kinds.Bits (capacity_of (set_in self.old)) 2 1
+            (knows self.old) (knows self.new) }
     {
         self.set.set(rt, id, &mut self.pass)
     }
@@ -26,19 +33,26 @@ impl<'a> Handle<'a> {
         ensures goes_on { GoesOn (pass_in self.old) (pass_in self.new) }
         ensures place { IfSome result (λ place. place < capacity_of (set_in self.old)) }
         ensures cleared { HasReset result (knows self.old) (knows self.new) }
+        ensures came { IfSome result
+            (λ place. CameFromPosition (capacity_of (set_in self.old)) place (knows self.new)) }
         ensures clear { result ≡ None → AllClearOnce (capacity_of (set_in self.old)) (knows self.new) }
+        ensures steps { TakesAlone one_word kinds.Bits (capacity_of (set_in self.old))
+            (3 + capacity_of (set_in self.old)) 1 (knows self.old) (knows self.new) }
     {
         self.set.reset_next(rt, &mut self.pass)
     }
 
     /// As `BitSet::reset_all`.
-    pub fn reset_all<F: FnMut(usize)>(&mut self, visit: F)
-        requires { TakesPlaces F.pre (λ p x q. F.step p x tt q) (capacity_of (set_in self.old)) visit }
+    pub fn reset_all<F: FnMut(usize)>(&mut self, visit: &mut F)
+        requires { TakesPlaces F.pre (λ p x q. F.step p x tt q) (capacity_of (set_in self.old)) visit.old }
         ensures set { set_in self.new ≡ set_in self.old }
         ensures goes_on { GoesOn (pass_in self.old) (pass_in self.new) }
-        ensures cleared { HasCleanedOut (λ p x q. F.step p x tt q) (capacity_of (set_in self.old)) visit
+        ensures cleared { HasCleanedOut (λ p x q. F.step p x tt q) (capacity_of (set_in self.old)) visit.old visit.new
             (knows self.old) (knows self.new) }
         ensures stood { MissedNoPlace (capacity_of (set_in self.old)) (knows self.new) }
+        ensures steps { 0 < capacity_of (set_in self.old)
+            → TakesAtMost (elements (capacity_of (set_in self.old))) (knows self.old) (knows self.new) }
+        ensures one_step { capacity_of (set_in self.old) ≡ 0 → TakesAtMost 1 (knows self.old) (knows self.new) }
     {
         self.set.reset_all(visit, &mut self.pass)
     }

@@ -7,6 +7,7 @@ ghost use Rattle.lock_free.specs.Sets.Calls.{capacity_of, IsPassOf, view, GoesOn
 ghost use Rattle.lock_free.specs.Counts.Callable.{TakesCounts};
 ghost use Rattle.lock_free.specs.Counts.Told.{HasCounted, AnswersCount, HasTakenOut, MissedNoCount};
 ghost use Rattle.lock_free.specs.Driven.{IsIdle, HasDone};
+ghost use Rattle.history.specs.Steps.{TakesAtMost};
 
 use super::drives::CountsPlace;
 use super::{CountingBitSet, Pass};
@@ -21,12 +22,13 @@ use steps::copied::OneWord;
 use steps::routine::Routine;
 use threaded::driver::seated::Seated;
 
-/// Calls the closure with a place and its count, where that is above 0, and hands it back.
-fn call_where<F: FnMut(BitState)>(mut visit: F, place: u32, count: u64) -> F
-    requires { 0 < count → F.pre visit (record { bit = place; count = count }) }
+/// Calls the closure with a place and its count, where that is above 0.
+fn call_where<F: FnMut(BitState)>(visit: &mut F, place: u32, count: u64)
+    requires { 0 < count → count < 2 ^ 64 → F.pre visit.old (record { bit = place; count = count }) }
+    ensures small { count < 2 ^ 64 }
     ensures called { 0 < count
-        → F.step visit (record { bit = place; count = count }) tt result }
-    ensures passed { count ≡ 0 → result ≡ visit }
+        → F.step visit.old (record { bit = place; count = count }) tt visit.new }
+    ensures passed { count ≡ 0 → visit.new ≡ visit.old }
 {
     if count > 0 {
         visit(BitState {
@@ -34,28 +36,29 @@ fn call_where<F: FnMut(BitState)>(mut visit: F, place: u32, count: u64) -> F
             count,
         });
     }
-    visit
 }
 
 /// Takes all counts out, and calls the closure with each one above 0, after the step that took it out.
 fn take_all<F: FnMut(BitState)>(
     seated: &mut Seated<View<u64>, u32, SetRule<Counts>>,
     capacity: u32,
-    mut visit: F,
+    visit: &mut F,
 )
     requires table { IsAt (λ (key : ℕ). key + 1) (λ (key : ℕ). key) (λ (v : Views ℕ). v.capacity) seated.old }
     requires idle { IsIdle capacity (seen seated.old) }
     requires places { 0 < capacity }
-    requires states { TakesCounts F.pre (λ p x q. F.step p x tt q) capacity visit }
+    requires states { TakesCounts F.pre (λ p x q. F.step p x tt q) capacity visit.old }
     ensures same { IsSame seated.old seated.new }
     ensures done { HasDone kinds.Counts (seen seated.old) (seen seated.new) }
-    ensures taken { HasTakenOut (λ p x q. F.step p x tt q) capacity visit (seen seated.old) (seen seated.new) }
+    ensures taken { HasTakenOut (λ p x q. F.step p x tt q) capacity visit.old visit.new
+        (seen seated.old) (seen seated.new) }
+    ensures steps { TakesAtMost capacity (seen seated.old) (seen seated.new) }
 {
     let mut room = OneWord(0);
     let mut call = ResetAll::counts(capacity);
     loop {
         let after = seated.step::<ResetAll, Empties<Counts>>(call, &(), &mut room);
-        visit = call_where(visit, call.word, room.0);
+        call_where(visit, call.word, room.0);
         match after {
             After::GoOn(next) => call = next,
             After::Done(()) => return,
@@ -79,6 +82,7 @@ impl CountingBitSet {
         ensures goes_on { GoesOn pass.old pass.new }
         ensures counted { HasCounted id result (view pass.old) (view pass.new) }
         ensures answers { AnswersCount id result (view pass.new) }
+        ensures steps { TakesAtMost 1 (view pass.old) (view pass.new) }
     {
         let place = id as u64;
         let old = pass.seated.drive::<Set, CountsPlace>(Set, &place, &mut ());
@@ -87,18 +91,21 @@ impl CountingBitSet {
 
     /// Takes all counts out, and calls `visit` with each one above 0 and its place: ascending, each at most once and
     /// below the capacity. Of each place that counted as the call began something was taken out in its span, by it or
-    /// by another, unless it was counted 2^64 times in all.
+    /// by another, unless it was counted 2^64 times in all. What `visit` adds up or keeps is what these calls make of
+    /// it.
     ///
     /// It takes one step for each place, which sets its count to 0; `visit` is called after that step and before the
     /// next. A set of no place takes one look at a word. After `reset_all` of the Rust crate.
-    pub fn reset_all<F: FnMut(BitState)>(&self, visit: F, pass: &mut Pass)
+    pub fn reset_all<F: FnMut(BitState)>(&self, visit: &mut F, pass: &mut Pass)
         requires pass { IsPassOf self.now pass.old }
         requires states { TakesCounts F.pre (λ p x q. F.step p x tt q)
-            (capacity_of self.now) visit }
+            (capacity_of self.now) visit.old }
         ensures goes_on { GoesOn pass.old pass.new }
-        ensures taken { HasTakenOut (λ p x q. F.step p x tt q) (capacity_of self.now) visit
+        ensures taken { HasTakenOut (λ p x q. F.step p x tt q) (capacity_of self.now) visit.old visit.new
             (view pass.old) (view pass.new) }
         ensures stood { MissedNoCount (capacity_of self.now) (view pass.new) }
+        ensures steps { 0 < capacity_of self.now → TakesAtMost (capacity_of self.now) (view pass.old) (view pass.new) }
+        ensures one_step { capacity_of self.now ≡ 0 → TakesAtMost 1 (view pass.old) (view pass.new) }
     {
         let capacity = pass.capacity;
         if capacity == 0 {

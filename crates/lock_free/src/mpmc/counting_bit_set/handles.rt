@@ -4,6 +4,7 @@ ghost use Rattle.lock_free.specs.Sets.Calls.{capacity_of, GoesOn};
 ghost use Rattle.lock_free.specs.Counts.Callable.{TakesCounts};
 ghost use Rattle.lock_free.specs.Counts.Told.{HasCounted, AnswersCount, HasTakenOut, MissedNoCount};
 ghost use Rattle.lock_free.specs.Sets.Handles.{set_in, pass_in, knows};
+ghost use Rattle.history.specs.Steps.{TakesAtMost};
 
 use super::{BitState, Handle};
 
@@ -15,18 +16,22 @@ impl<'a> Handle<'a> {
         ensures goes_on { GoesOn (pass_in self.old) (pass_in self.new) }
         ensures counted { HasCounted id result (knows self.old) (knows self.new) }
         ensures answers { AnswersCount id result (knows self.new) }
+        ensures steps { TakesAtMost 1 (knows self.old) (knows self.new) }
     {
         self.set.set(id, &mut self.pass)
     }
 
     /// As `CountingBitSet::reset_all`.
-    pub fn reset_all<F: FnMut(BitState)>(&mut self, visit: F)
-        requires { TakesCounts F.pre (λ p x q. F.step p x tt q) (capacity_of (set_in self.old)) visit }
+    pub fn reset_all<F: FnMut(BitState)>(&mut self, visit: &mut F)
+        requires { TakesCounts F.pre (λ p x q. F.step p x tt q) (capacity_of (set_in self.old)) visit.old }
         ensures set { set_in self.new ≡ set_in self.old }
         ensures goes_on { GoesOn (pass_in self.old) (pass_in self.new) }
-        ensures taken { HasTakenOut (λ p x q. F.step p x tt q) (capacity_of (set_in self.old)) visit
+        ensures taken { HasTakenOut (λ p x q. F.step p x tt q) (capacity_of (set_in self.old)) visit.old visit.new
             (knows self.old) (knows self.new) }
         ensures stood { MissedNoCount (capacity_of (set_in self.old)) (knows self.new) }
+        ensures steps { 0 < capacity_of (set_in self.old)
+            → TakesAtMost (capacity_of (set_in self.old)) (knows self.old) (knows self.new) }
+        ensures one_step { capacity_of (set_in self.old) ≡ 0 → TakesAtMost 1 (knows self.old) (knows self.new) }
     {
         self.set.reset_all(visit, &mut self.pass)
     }

@@ -7,6 +7,7 @@ ghost use Rattle.threaded.specs.Seats.{seen, IsSame, IsAt};
 ghost use Rattle.history.specs.declared.view.View.{View as Views};
 ghost use Rattle.lock_free.specs.Driven.{HasMade, HasDone, IsIdle};
 ghost use Rattle.lock_free.specs.Sets.Kinds.{machine_kind, words_of};
+ghost use Rattle.history.specs.Steps.{TakesAtMost};
 
 use super::drives::EmptiesNone;
 use super::rule::{Kind, SetRule};
@@ -21,6 +22,7 @@ pub(crate) fn empty_none<E: Kind>(seated: &mut Seated<View<u64>, u32, SetRule<E>
     ensures same { IsSame seated.old seated.new }
     ensures done { HasDone (machine_kind E.KIND) (seen seated.old) (seen seated.new) }
     ensures called { HasMade (Bits ResetAll) Done (λ by. []) (seen seated.old) (seen seated.new) }
+    ensures steps { TakesAtMost 1 (seen seated.old) (seen seated.new) }
 {
     let _ = seated
         .table

@@ -44,8 +44,8 @@ pub struct Look<E> {
 }
 
 impl<E: Kind> Play<(), View<u64>> for Look<E> {
-    ghost use Rattle.history.specs.Views.{Looks};
+    ghost use Rattle.history.specs.Views.{LooksOnce};
 
     ghost then = { λ step old found new.
-        Looks one_word (machine_kind E.KIND) old.0.capacity old.0 new.0 × (new.1 ≡ []) };
+        LooksOnce one_word (machine_kind E.KIND) old.0.capacity old.0 new.0 × (new.1 ≡ []) };
 }

@@ -2,6 +2,7 @@
 ghost use Rattle.std.specs.Prelude.{◌≡◌, IfSome, IfNone};
 ghost use Rattle.history.specs.Passes.{HasSplit, HasJoined};
 ghost use Rattle.lock_free.specs.Sets.Calls.{set_of, view, HasHistory, MissesNothing};
+ghost use Rattle.history.specs.Steps.{TakesAtMost};
 
 use super::drives::Look;
 use super::rule::{Kind, SetRule};
@@ -19,6 +20,7 @@ impl<E: Kind> Held<E, u64, SetRule<E>> {
         ensures new { IfSome result (λ p. set_of p ≡ set_of self.old) }
         ensures cut { IfSome result (λ p. HasSplit (view self.old) (view self.new) (view p)) }
         ensures none { IfNone result (view self.new ≡ view self.old) }
+        ensures steps { TakesAtMost 1 (view self.old) (view self.new) }
     {
         let seated = &mut self.seated;
         let Ok(table) = Arc::try_clone(&seated.table) else {
@@ -40,6 +42,7 @@ impl<E: Kind> Held<E, u64, SetRule<E>> {
         ensures joined { HasJoined (view self.old) (view other) (view self.new) }
         ensures history { HasHistory self.new }
         ensures all { MissesNothing self.new }
+        ensures steps { TakesAtMost 2 (view self.old) (view self.new) }
     {
         let Held {
             of: _,

@@ -64,4 +64,6 @@ impl<E: Kind> Rule<View<u64>, u32> for SetRule<E> {
     ghost capacity = { λ capacity. capacity };
 
     ghost capacity_seen = { λ v. v.capacity };
+
+    ghost asked = { λ v. v.asked };
 }

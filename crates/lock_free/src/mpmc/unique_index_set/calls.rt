@@ -1,5 +1,5 @@
 //! The calls on a set by a pass: the calls of `steps`, driven.
-ghost use Rattle.std.specs.Prelude.{◌≡◌, ◌<◌, ◌≤◌, ℕ, false, List, length, IsTrue, IsFalse, IfOk, IfErr};
+ghost use Rattle.std.specs.Prelude.{◌≡◌, ◌+◌, ◌<◌, ◌≤◌, ℕ, max, false, List, length, IsTrue, IsFalse, IfOk, IfErr};
 ghost use Rattle.steps.specs.declared.indices.enums.ReleaseMode.TheVariants as modes;
 ghost use Rattle.steps.specs.declared.indices.enums.ReleaseState.TheVariants.{Locked, Unlocked};
 ghost use Rattle.model.specs.declared.event.Answer.TheVariants.{State, Number, Truth};
@@ -9,6 +9,9 @@ ghost use Rattle.history.specs.Held.{Holds};
 ghost use Rattle.lock_free.specs.Unique.Held.{HeldBy, HoldsNothing, HoldsAll, HoldsSome};
 ghost use Rattle.lock_free.specs.Unique.Told.{HasAcquired, WasRefused, HasGiven, HasGivenOrLocked, HasCounted, HasLooked, Answered};
 ghost use Rattle.lock_free.specs.UniqueIndexSet.{capacity_of, IsPassOf, view, history, made, GoesOn, value_of, index_pass, index_view};
+ghost use Rattle.model.specs.declared.turn.Kind.TheVariants as kinds;
+ghost use Rattle.model.specs.Coding.{one_word};
+ghost use Rattle.history.specs.Steps.{TakesAtMost, TakesAlone};
 
 use super::drives::{CountsOut, Gives, GivesOrLocks, LooksLocked, Takes};
 use super::{Pass, UniqueIndex, UniqueIndexSet};
@@ -34,6 +37,10 @@ impl UniqueIndexSet {
         ensures acquired { IfOk result (λ i. HasAcquired (value_of i) (view pass) (index_view i)) }
         ensures refused_goes_on { IfErr result (λ r. GoesOn pass r.1) }
         ensures refused { IfErr result (λ r. WasRefused r.0 (view pass) (view r.1)) }
+        ensures steps { IfOk result (λ i. TakesAlone one_word kinds.Indices (capacity_of self.now)
+            (4 + capacity_of self.now) (max 2 (capacity_of self.now)) (view pass) (index_view i)) }
+        ensures refused_steps { IfErr result (λ r. TakesAlone one_word kinds.Indices (capacity_of self.now)
+            (4 + capacity_of self.now) (max 2 (capacity_of self.now)) (view pass) (view r.1)) }
     {
         let mut pass = pass;
         match self.acquire_raw_index(rt, &mut pass) {
@@ -58,6 +65,8 @@ impl UniqueIndexSet {
         ensures acquired { IfOk result (λ i. HasAcquired i (view pass.old) (view pass.new)) }
         ensures within { IfOk result (λ i. i < capacity_of self.now) }
         ensures refused { IfErr result (λ e. WasRefused e (view pass.old) (view pass.new)) }
+        ensures steps { TakesAlone one_word kinds.Indices (capacity_of self.now) (4 + capacity_of self.now)
+            (max 2 (capacity_of self.now)) (view pass.old) (view pass.new) }
     {
         let call = Acquire::new(self.capacity);
         pass.seated
@@ -72,6 +81,7 @@ impl UniqueIndexSet {
         ensures goes_on { GoesOn pass.old pass.new }
         ensures given { HasGiven index result (view pass.old) (view pass.new) }
         ensures unlocked { result ≡ Unlocked }
+        ensures steps { TakesAtMost 5 (view pass.old) (view pass.new) }
     {
         let call = Release::<DefaultMode>::new(self.capacity);
         pass.seated
@@ -90,6 +100,7 @@ impl UniqueIndexSet {
             (view pass.old) (view pass.new) }
         ensures nothing { result ≡ Locked → HoldsNothing (made pass.new) }
         ensures whole { result ≡ Unlocked → HoldsSome (view pass.new) }
+        ensures steps { TakesAlone one_word kinds.Indices (capacity_of self.now) 4 2 (view pass.old) (view pass.new) }
     {
         let call = Release::<LockMode>::new(self.capacity);
         pass.seated
@@ -107,6 +118,7 @@ impl UniqueIndexSet {
         ensures least { (is : List ℕ) → HeldBy is (made pass.new) → length is ≤ result }
         ensures most { result ≤ capacity_of self.now }
         ensures whole { HoldsAll result (view pass.new) }
+        ensures steps { TakesAtMost 1 (view pass.old) (view pass.new) }
     {
         pass.seated
             .drive::<BorrowedIndices, CountsOut>(BorrowedIndices, &(), &mut ())
@@ -120,6 +132,7 @@ impl UniqueIndexSet {
         ensures answered { Answered starts.IsLocked (Truth result) (view pass.old) (view pass.new) }
         ensures nothing { IsTrue result → HoldsNothing (made pass.new) }
         ensures unlocked { IsFalse result → is_locked (history pass.old) ≡ false }
+        ensures steps { TakesAtMost 1 (view pass.old) (view pass.new) }
     {
         pass.seated
             .drive::<IsLocked, LooksLocked>(IsLocked, &(), &mut ())

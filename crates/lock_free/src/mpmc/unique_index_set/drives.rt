@@ -73,8 +73,8 @@ impl Drives<View<u64>, IsLocked> for LooksLocked {
 pub struct Look;
 
 impl Play<(), View<u64>> for Look {
-    ghost use Rattle.history.specs.Views.{Looks};
+    ghost use Rattle.history.specs.Views.{LooksOnce};
 
     ghost then = { λ step old found new.
-        Looks one_word kinds.Indices old.0.capacity old.0 new.0 × (new.1 ≡ []) };
+        LooksOnce one_word kinds.Indices old.0.capacity old.0 new.0 × (new.1 ≡ []) };
 }

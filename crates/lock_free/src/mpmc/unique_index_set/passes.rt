@@ -4,6 +4,7 @@ ghost use Rattle.lock_free.specs.Unique.Held.{HoldsNothing, IsSound};
 ghost use Rattle.history.specs.Held.{Holds};
 ghost use Rattle.history.specs.Passes.{HasSplit, HasJoined};
 ghost use Rattle.lock_free.specs.UniqueIndexSet.{set_of, view, made, HasHistory, MissesNothing};
+ghost use Rattle.history.specs.Steps.{TakesAtMost};
 
 use super::Pass;
 use super::drives::Look;
@@ -21,6 +22,7 @@ impl Pass {
         ensures cut { IfSome result (λ p. HasSplit (view self.old) (view self.new) (view p)) }
         ensures nothing { IfSome result (λ p. HoldsNothing (made p)) }
         ensures none { IfNone result (view self.new ≡ view self.old) }
+        ensures steps { TakesAtMost 1 (view self.old) (view self.new) }
     {
         let seated = &mut self.seated;
         let Ok(table) = Arc::try_clone(&seated.table) else {
@@ -43,6 +45,7 @@ impl Pass {
         ensures history { HasHistory self.new }
         ensures sound { IsSound (view self.new) }
         ensures all { MissesNothing self.new }
+        ensures steps { TakesAtMost 2 (view self.old) (view self.new) }
     {
         let Pass {
             seated: other,

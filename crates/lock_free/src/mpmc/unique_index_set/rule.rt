@@ -27,4 +27,6 @@ impl Rule<View<u64>, u64> for IndicesRule {
     ghost capacity = { λ capacity. capacity };
 
     ghost capacity_seen = { λ v. v.capacity };
+
+    ghost asked = { λ v. v.asked };
 }

@@ -1,11 +1,15 @@
 //! The calls of a sender, each an equation on its table.
-ghost use Rattle.std.specs.Prelude.{◌≡◌, ◌⊎◌, ◌↔◌, ◌<◌, Some, IsTrue, IfOk, IfErr, IfSome, IfNone, slice_set, map, replicate, count_by};
+ghost use Rattle.std.specs.Prelude.{◌≡◌, ◌⊎◌, ◌↔◌, ◌+◌, ◌*◌, ◌<◌, max, Some, IsTrue};
+ghost use Rattle.std.specs.Prelude.{IfOk, IfErr, IfSome, IfNone, slice_set, map, replicate, count_by};
 ghost use Rattle.lock_free.specs.UniqueIndexSet.{view, made, set_of, capacity_of, IsPassOf};
 ghost use Rattle.steps.specs.declared.indices.enums.ReleaseState.TheVariants.{Unlocked};
 ghost use Rattle.lock_free.specs.Unique.Held.{HoldsNothing};
 ghost use Rattle.lock_free.specs.Unique.Told.{HasAcquired, WasRefused, HasGiven};
 ghost use Rattle.std.specs.Option.{option_map};
 ghost use Rattle.model.specs.declared.event.Item.TheVariants.{Index};
+ghost use Rattle.model.specs.declared.turn.Kind.TheVariants as kinds;
+ghost use Rattle.model.specs.Coding.{one_word};
+ghost use Rattle.history.specs.Steps.{TakesAtMost, TakesAlone};
 ghost use Rattle.lock_free_queues.specs.Queues.Calls as returns;
 ghost use Rattle.lock_free_queues.specs.Queues.Overflowing as sends;
 ghost use Rattle.lock_free_queues.specs.Queues.Overflowing.{HasOverflowed, TookNone};
@@ -15,6 +19,7 @@ ghost use Rattle.lock_free.specs.Loan.Places.{is_out, is_sent, place_at, returne
 ghost use Rattle.lock_free.specs.Loan.Sender.{places_of, pass_view, share_of, submission_view, completion_view};
 ghost use Rattle.lock_free.specs.Loan.Sender.{submission_of, completion_of, KeepsQueues, set_of_sender, IsSame};
 ghost use Rattle.lock_free.specs.Loan.Sender.{IsSenderOf, IsLoaned};
+ghost use Rattle.lock_free.specs.Loan.Told.{InTurn, SetGoesOn, HasFreed, HasEmptied, all_sent, sent_back};
 
 use super::places::Place;
 use super::{LoanError, LoanSender};
@@ -23,6 +28,40 @@ use crate::mpmc::unique_index_set_enums::UniqueIndexSetAcquireFailure;
 use lock_free_queues::spsc::{index_queue, safely_overflowing_index_queue as overflow};
 use std::alloc::Global;
 use std::sync::Wait;
+
+/// Pops until a pop finds that nothing waits.
+fn empty_submission(rt: &impl Wait, receiver: &mut overflow::Consumer<'_>)
+    ensures queue { sends.consumer_queue receiver.new ≡ sends.consumer_queue receiver.old }
+    ensures goes { 0 < (sends.consumer_queue receiver.old).capacity
+        → sends.GoesOn (sends.consumer_queue receiver.old).capacity
+        (sends.consumer_view receiver.old) (sends.consumer_view receiver.new) }
+    ensures emptied { 0 < (sends.consumer_queue receiver.old).capacity
+        → HasEmptied (sends.consumer_view receiver.old) (sends.consumer_view receiver.new) }
+    ensures none { (sends.consumer_queue receiver.old).capacity ≡ 0
+        → sends.consumer_view receiver.new ≡ sends.consumer_view receiver.old }
+{
+    for _ in rt.forever() {
+        if receiver.pop(rt).is_none() {
+            return;
+        }
+    }
+    unreachable!()
+}
+
+/// The same of what was given back.
+fn empty_completion(rt: &impl Wait, consumer: &mut index_queue::Consumer<'_>)
+    ensures queue { returns.consumer_queue consumer.new ≡ returns.consumer_queue consumer.old }
+    ensures goes { returns.GoesOn (returns.consumer_queue consumer.old).capacity
+        (returns.consumer_view consumer.old) (returns.consumer_view consumer.new) }
+    ensures emptied { HasEmptied (returns.consumer_view consumer.old) (returns.consumer_view consumer.new) }
+{
+    for _ in rt.forever() {
+        if consumer.pop().is_none() {
+            return;
+        }
+    }
+    unreachable!()
+}
 
 impl<'a> LoanSender<'a> {
     /// A sender with nothing loaned, over a pass of the set that holds nothing and the guards of the two queues.
@@ -74,9 +113,13 @@ impl<'a> LoanSender<'a> {
             (λ i. HasAcquired i (pass_view self.old) (pass_view self.new)) }
         ensures refused { IfErr result (λ e. (places_of self.new ≡ places_of self.old)
             × WasRefused e (pass_view self.old) (pass_view self.new)) }
+        ensures goes_on { SetGoesOn (pass_view self.old) (pass_view self.new) }
         ensures queues { KeepsQueues self.old self.new }
         ensures same { IsSame self.old self.new }
         ensures share { share_of self.new ≡ share_of self.old }
+        ensures steps { TakesAlone one_word kinds.Indices (set_of_sender self.old).capacity
+            (4 + (set_of_sender self.old).capacity) (max 2 (set_of_sender self.old).capacity)
+            (pass_view self.old) (pass_view self.new) }
     {
         let index = self.set.acquire_raw_index(rt, &mut self.pass)?;
         self.places[index as usize] = Place::Loaned;
@@ -98,9 +141,11 @@ impl<'a> LoanSender<'a> {
         requires { IsLoaned index self.old }
         ensures places { places_of self.new ≡ slice_set (places_of self.old) index Free }
         ensures given { HasGiven index Unlocked (pass_view self.old) (pass_view self.new) }
+        ensures goes_on { SetGoesOn (pass_view self.old) (pass_view self.new) }
         ensures queues { KeepsQueues self.old self.new }
         ensures same { IsSame self.old self.new }
         ensures share { share_of self.new ≡ share_of self.old }
+        ensures steps { TakesAtMost 5 (pass_view self.old) (pass_view self.new) }
     {
         self.places[index as usize] = Place::Free;
         self.set.release_raw_index(index, &mut self.pass);
@@ -120,9 +165,11 @@ impl<'a> LoanSender<'a> {
     fn free(&mut self, sent: u32)
         requires { IsTrue (is_sent (place_at (places_of self.old) sent)) }
         ensures places { places_of self.new ≡ slice_set (places_of self.old) sent Free }
+        ensures freed { HasFreed sent (pass_view self.old) (pass_view self.new) }
         ensures queues { KeepsQueues self.old self.new }
         ensures same { IsSame self.old self.new }
         ensures share { share_of self.new ≡ share_of self.old }
+        ensures steps { TakesAtMost 5 (pass_view self.old) (pass_view self.new) }
     {
         self.places[sent as usize] = Place::Free;
         self.set.release_raw_index(sent, &mut self.pass);
@@ -131,9 +178,11 @@ impl<'a> LoanSender<'a> {
     /// A value came back: an index that is Sent is given back to the set, and any other changes nothing.
     fn settle(&mut self, value: u64)
         ensures places { places_of self.new ≡ returned value (places_of self.old) }
+        ensures freed { InTurn HasFreed (sent_back value (places_of self.old)) (pass_view self.old) (pass_view self.new) }
         ensures queues { KeepsQueues self.old self.new }
         ensures same { IsSame self.old self.new }
         ensures share { share_of self.new ≡ share_of self.old }
+        ensures steps { TakesAtMost 5 (pass_view self.old) (pass_view self.new) }
     {
         if value >= self.set.capacity() as u64 {
             return;
@@ -153,6 +202,9 @@ impl<'a> LoanSender<'a> {
             (places_of self.new ≡ slice_set (places_of self.old) index Sent) }
         ensures back { IfSome result (λ y. places_of self.new
             ≡ returned y (slice_set (places_of self.old) index Sent)) }
+        ensures kept { IfNone result (pass_view self.new ≡ pass_view self.old) }
+        ensures freed { IfSome result (λ y. InTurn HasFreed (sent_back y (slice_set (places_of self.old) index Sent))
+            (pass_view self.old) (pass_view self.new)) }
         ensures goes { 0 < (submission_of self.old).capacity
             → sends.GoesOn (submission_of self.old).capacity (submission_view self.old) (submission_view self.new) }
         ensures called { HasOverflowed index result (submission_view self.old) (submission_view self.new)
@@ -168,6 +220,8 @@ impl<'a> LoanSender<'a> {
         ensures completion { completion_view self.new ≡ completion_view self.old }
         ensures same { IsSame self.old self.new }
         ensures share { share_of self.new ≡ share_of self.old }
+        ensures steps { TakesAtMost 5 (pass_view self.old) (pass_view self.new) }
+        ensures queue_steps { TakesAtMost 6 (submission_view self.old) (submission_view self.new) }
     {
         let answer = self.submission.push(index as u64);
         self.places[index as usize] = Place::Sent;
@@ -188,12 +242,17 @@ impl<'a> LoanSender<'a> {
             (completion_view self.old) (completion_view self.new) }
         ensures popped { IfSome result
             (λ y. HasTakenOut (Index y) (completion_view self.old) (completion_view self.new)) }
+        ensures freed { IfSome result (λ y. InTurn HasFreed (sent_back y (places_of self.old))
+            (pass_view self.old) (pass_view self.new)) }
         ensures none { IfNone result (places_of self.new ≡ places_of self.old) }
+        ensures kept { IfNone result (pass_view self.new ≡ pass_view self.old) }
         ensures empty { IfNone result
             (WasEmpty (completion_view self.old) (completion_view self.new)) }
         ensures submission { submission_view self.new ≡ submission_view self.old }
         ensures same { IsSame self.old self.new }
         ensures share { share_of self.new ≡ share_of self.old }
+        ensures steps { TakesAtMost 5 (pass_view self.old) (pass_view self.new) }
+        ensures queue_steps { TakesAtMost 4 (completion_view self.old) (completion_view self.new) }
     {
         let back = self.completion.pop()?;
         self.settle(back);
@@ -201,8 +260,8 @@ impl<'a> LoanSender<'a> {
     }
 
     /// Empties both queues, and then frees each index that is Sent, in ascending order: how many. For a sender whose
-    /// receiver is gone, with the receiver's guard of the same queue. What is Loaned stays. That nothing waits then, tests
-    /// say and no clause does.
+    /// receiver is gone, with the receiver's guard of the same queue. What is Loaned stays. The last pop of each queue
+    /// finds that nothing waits, and the frees never lock the set.
     ///
     /// Both queues are popped until they are empty, so no bound stands where another thread gives back at the same time;
     /// at most 5 atomic steps for each index that is freed.
@@ -210,20 +269,25 @@ impl<'a> LoanSender<'a> {
         requires { sends.consumer_queue receiver.old ≡ submission_of self.old }
         ensures places { places_of self.new ≡ map reclaimed (places_of self.old) }
         ensures number { result ≡ count_by is_sent (places_of self.old) }
+        ensures freed { InTurn HasFreed (all_sent (places_of self.old)) (pass_view self.old) (pass_view self.new) }
+        ensures goes { returns.GoesOn (completion_of self.old).capacity
+            (completion_view self.old) (completion_view self.new) }
+        ensures emptied { HasEmptied (completion_view self.old) (completion_view self.new) }
+        ensures submission { submission_view self.new ≡ submission_view self.old }
         ensures same { IsSame self.old self.new }
         ensures share { share_of self.new ≡ share_of self.old }
         ensures receiver { sends.consumer_queue receiver.new ≡ sends.consumer_queue receiver.old }
+        ensures receiver_goes { 0 < (sends.consumer_queue receiver.old).capacity
+            → sends.GoesOn (sends.consumer_queue receiver.old).capacity
+            (sends.consumer_view receiver.old) (sends.consumer_view receiver.new) }
+        ensures receiver_emptied { 0 < (sends.consumer_queue receiver.old).capacity
+            → HasEmptied (sends.consumer_view receiver.old) (sends.consumer_view receiver.new) }
+        ensures receiver_none { (sends.consumer_queue receiver.old).capacity ≡ 0
+            → sends.consumer_view receiver.new ≡ sends.consumer_view receiver.old }
+        ensures steps { TakesAtMost (5 * result) (pass_view self.old) (pass_view self.new) }
     {
-        for _ in rt.forever() {
-            if receiver.pop(rt).is_none() {
-                break;
-            }
-        }
-        for _ in rt.forever() {
-            if self.completion.pop().is_none() {
-                break;
-            }
-        }
+        empty_submission(rt, receiver);
+        empty_completion(rt, &mut self.completion);
         let mut number = 0;
         for index in 0..self.set.capacity() {
             if self.has_sent(index) {

@@ -2,13 +2,18 @@
 use Rattle.std.proofs.Common.{arith}
 use Rattle.lock_free_owners.proofs.Names.{◌≡◌, ℕ, zero, suc, List, [], ◌∷◌, set, slice_index, refl, sym, ap, subst}
 use Rattle.lock_free_owners.proofs.Names.{◌∙◌, Allows, keeps, written, by_eq, After, Coding, moves, View, IsMachine}
-use Rattle.lock_free_owners.proofs.Names.{set_same}
+use Rattle.lock_free_owners.proofs.Names.{set_same, cases_eq, ⊎_elim, ◌≢◌, ◌+◌, ◌<◌, ◌⊎◌, None, GoOn, Done, Event}
 use mathlib.Core.Option.{some, some-injective}
 use lib.ListN.{get_elem?}
 use Rattle.steps.specs.declared.ask.Op.TheVariants as ops
 use Rattle.model.specs.declared.turn.Kind.TheVariants as kinds
 use Rattle.threaded.specs.Driver.{Next, Told}
-use Rattle.lock_free_owners.specs.Container.Bare.{Still}
+use Rattle.history.specs.Known.{Known, HasSeen}
+use Rattle.history.proofs.Known.{within}
+use Rattle.history.proofs.PassLooks.{reseat}
+use Rattle.atomic_table.proofs.Lists.{at_set, set_else, set_here}
+use Rattle.threaded.proofs.Shares.{shares_stay}
+use Rattle.lock_free_owners.specs.Container.Bare.{IsCounted, Still}
 
 -- a list in which what stands there is put there
 set_there : {A : Type 0} (xs : List A) (i : ℕ) (x : A) → get_elem? xs i ≡ some x → set xs i x ≡ xs
@@ -20,25 +25,108 @@ set_there (y ∷ ys) (suc i) x e = ap (λ zs. y ∷ zs) (set_there ys i x e)
 pub unchanged : (count found : ℕ) → written (ops.Exchange count count) found ≡ found
 unchanged x0 x1 = grind (arith, by_eq)
 
+-- the view of a seat that has asked for one operation more
+abbrev pub one_more : {T : Type 0} → View T → View T
+one_more v = record v { asked = v.asked + 1 }
+
+module _ {T : Type 0} (views : List (View T)) (events : List (Event T)) (id : ℕ) (v : View T) (at : get_elem? views id ≡ some v)
+    (k : Known views events) where
+  spent_on : (j : ℕ) (u : View T) → get_elem? (set views id (one_more v)) j ≡ some u → u.share.part ≡ 0 → (u.made ≡ []) × (u.going ≡ None)
+  spent_on j u found part =
+      ⊎_elim (λ (e : (j ≡ id) × (one_more v ≡ u)). subst (λ (z : View T). (z.made ≡ []) × (z.going ≡ None)) e.1
+      (k.spent id v at (ap (λ (z : View T). z.share.part) e.1 ∙ part)))
+      (λ (e : (j ≢ id) × (get_elem? views j ≡ some u)). k.spent j u e.1 part)
+      (at_set views id j (one_more v) u found)
+
+  known_on : Known (set views id (one_more v)) events
+  known_on = ⊎_elim mine theirs (cases_eq k.by id)
+    where
+      mine : k.by ≡ id → Known (set views id (one_more v)) events
+      mine e =
+          let there : some k.last ≡ some v = sym k.at ∙ (ap (get_elem? views) e ∙ at) in
+          let same : k.last ≡ v = some-injective k.last v there in
+          record {
+            shares = shares_stay (λ (z : View T). z.share) views id v (one_more v) at refl k.shares;
+            by = id;
+            last = one_more v;
+            at = set_here views id (one_more v) (within views id v at);
+            any = subst (λ (z : View T). 0 < z.share.part) same k.any;
+            all = subst (λ (z : View T). HasSeen z events) same k.all;
+            someone = k.someone;
+            spent = spent_on;
+          }
+
+      theirs : k.by ≢ id → Known (set views id (one_more v)) events
+      theirs ne =
+          record {
+            shares = shares_stay (λ (z : View T). z.share) views id v (one_more v) at refl k.shares;
+            by = k.by;
+            last = k.last;
+            at = set_else views id k.by (one_more v) ne ∙ k.at;
+            any = k.any;
+            all = k.all;
+            someone = k.someone;
+            spent = spent_on;
+          }
+
 module _ {T : Type 0} (code : Coding T) (key slots id : ℕ) (v : View T) where
-  pub leaves : (word : ℕ) (f : ℕ → ℕ) → ((k : ℕ) → f k ≡ k) → (Says : View T → ℕ → View T → Type 0) → ((k : ℕ) → Says v k v)
-      → Allows (IsMachine code kinds.Container key) slots id (v, []) word f (λ found new. moves Says (v, []) found new)
-  leaves word f same Says says s r wide at small = (
+  -- a load beside the driver may count nothing
+  pub stays : (word : ℕ) (Says : View T → View T → Type 0) → Says v v
+      → Allows (IsMachine code kinds.Container key) slots id (v, []) word (λ n. n) (λ found new. Says v new.0 × (new.1 ≡ []))
+  stays word Says says s r wide at small = (
     v,
     keeps,
     tt,
-    subst (λ vs. IsMachine code kinds.Container key (record { words = set s.words word (f (slice_index s.words word)); homes = s.homes; views = vs }))
+    subst (λ vs. IsMachine code kinds.Container key (record { words = set s.words word (slice_index s.words word); homes = s.homes; views = vs }))
         (sym (set_there s.views id v at))
         (subst (λ ws. IsMachine code kinds.Container key (record { words = ws; homes = s.homes; views = s.views }))
-        (sym (ap (set s.words word) (same (slice_index s.words word)) ∙ set_same s.words word)) r),
-    (says _, refl),
+        (sym (set_same s.words word)) r),
+    (says, refl),
   )
+
+  pub leaves : (word : ℕ) (f : ℕ → ℕ) → ((k : ℕ) → f k ≡ k) → (Says : View T → ℕ → View T → Type 0) → ((k : ℕ) → Says v k (one_more v))
+      → Allows (IsMachine code kinds.Container key) slots id (v, []) word f (λ found new. moves (λ (z : View T). z.asked) Says (v, []) found new)
+  leaves word f same Says says s r wide at small =
+      let fits = r.seats id v at in (
+        one_more v,
+        keeps,
+        tt,
+        reseat code kinds.Container key (set s.words word (f (slice_index s.words word))) s r id v (one_more v)
+            (ap (set s.words word) (same (slice_index s.words word)) ∙ set_same s.words word) at
+            (record {
+              seen = fits.seen;
+              other = fits.other;
+              self = fits.self;
+              going = fits.going;
+              idle = fits.idle;
+              stated = fits.stated;
+              counted = fits.counted;
+              party = fits.party;
+              late = fits.late;
+              waits = fits.waits;
+              of_party = fits.of_party;
+              own = fits.own;
+              made = fits.made;
+            })
+            (known_on s.views r.trace.events id v at r.known),
+        (says _, refl, refl),
+      )
+
+-- what was counted before is counted still
+pub counted_on : {T : Type 0} (base v : View T) → IsCounted base v → IsCounted base (one_more v)
+counted_on {T} base v same = ap (λ (z : View T). record z { asked = v.asked + 1 }) same
 
 -- a call whose view stays until its end
 module _ {T C E M : Type 0} (stands : View T → C → Type 0) (ends : View T → E → M → View T → Type 0) (v : View T) where
   abbrev pub Stays : After C E → Type 0
-  Stays a = (n : M) → Next (λ (z : View T). z.capacity) (Still stands) ends v a n v
+  Stays a = (n : M) → Next (λ (z : View T). z.capacity) (Still stands) ends v a n (one_more v)
 
-  pub still_tells : (after : C → ℕ → After C E) (kept : C → M → ℕ → M) (c : C) (m : M) (k : ℕ) → Stays (after c k)
-      → Told (λ (z : View T). z.capacity) (Still stands) ends after kept c m v k v
-  still_tells x0 x1 x2 x3 x4 x5 = grind arith
+  pub still_tells : ((base : View T) (e : E) (n : M) → IsCounted base v → ends v e n (one_more v) → ends base e n (one_more v))
+      → (after : C → ℕ → After C E) (kept : C → M → ℕ → M) (c : C) (m : M) (k : ℕ) → Stays (after c k)
+      → Told (λ (z : View T). z.capacity) (Still stands) ends after kept c m v k (one_more v)
+  still_tells carries after kept c m k stays = (refl, λ base at. go base at.0 (after c k) (stays (kept c m k)))
+    where
+      go : (base : View T) → IsCounted base v → (a : After C E) → Next (λ (z : View T). z.capacity) (Still stands) ends v a (kept c m k) (one_more v)
+          → Next (λ (z : View T). z.capacity) (Still stands) ends base a (kept c m k) (one_more v)
+      go base same (GoOn d) h = (counted_on base v same, h.1)
+      go base same (Done e) h = carries base e (kept c m k) same h

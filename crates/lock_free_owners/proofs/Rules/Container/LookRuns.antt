@@ -10,7 +10,7 @@ use Rattle.steps.specs.declared.container.look.LookStage as looks
 use Rattle.threaded.specs.Driver.{Next, Told}
 use Rattle.model.specs.declared.turn.Kind.TheVariants as kinds
 use Rattle.lock_free_owners.specs.Container.Bare.{Still, LookStage, LookStands, LookEnds}
-use Rattle.lock_free_owners.proofs.Rules.Container.Bare.{Stays, still_tells, leaves, unchanged}
+use Rattle.lock_free_owners.proofs.Rules.Container.Bare.{Stays, one_more, counted_on, still_tells, leaves, unchanged}
 use Rattle.lock_free_owners.proofs.Rules.Container.Places.{change_fits, count_fits, element_fits}
 
 module _ {T : Type 0} (code : Coding T) (value_of : List ℕ → T) (size : ℕ) (some_words : 1 ≤ size) (seen : Numbers) (v : View T) (c : Look T)
@@ -24,8 +24,8 @@ module _ {T : Type 0} (code : Coding T) (value_of : List ℕ → T) (size : ℕ)
   abbrev Says : View T → ℕ → View T → Type 0
   Says = Told (λ (z : View T). z.capacity) (Still (LookStands size)) LookEnds after (look_kept value_of size) c room
 
-  says : (k : ℕ) → Here (after c k) → Says v k v
-  says = still_tells (LookStands size) LookEnds v after (look_kept value_of size) c room
+  says : (k : ℕ) → Here (after c k) → Says v k (one_more v)
+  says = still_tells (LookStands size) LookEnds v (λ base e n same h. counted_on base v same) after (look_kept value_of size) c room
 
   full : words ≡ total_words c.capacity size + 1
   full = subst (λ z. words ≡ total_words z size + 1) (sym (same ∙ known)) sized
@@ -38,7 +38,7 @@ module _ {T : Type 0} (code : Coding T) (value_of : List ℕ → T) (size : ℕ)
   finds x0 x1 x2 = grind (arith, by_test, is_even, look_comes_to, at_look, comes)
 
   stage_owes : (stage : looks.LookStage) → ((k : ℕ) → look_takes size c stage seen k ≡ look_after size c seen k) → LookStage size v stage
-      → Owes (IsMachine code kinds.Container cap) words slots id Says (look_asks size c.capacity stage) (v, [])
+      → Owes (λ (z : View T). z.asked) (IsMachine code kinds.Container cap) words slots id Says (look_asks size c.capacity stage) (v, [])
   stage_owes looks.TheVariants.LoadsChange is at = (
     change_fits c.capacity size words full,
     leaves code cap slots id v (change_word c.capacity) (λ x. x) (λ k. refl) Says
@@ -69,13 +69,7 @@ module _ {T : Type 0} (code : Coding T) (value_of : List ℕ → T) (size : ℕ)
   )
 
 pub state_rule : {T : Type 0} (code : Coding T) (value_of : List ℕ → T) (size : ℕ) → 1 ≤ size → (seen : Numbers)
-    → KeepsRule (λ (z : View T). z.capacity) (Still (LookStands size)) LookEnds (λ key. total_words key size + 1) (λ key. key)
+    → KeepsRule (λ (z : View T). z.asked) (λ (z : View T). z.capacity) (Still (LookStands size)) LookEnds (λ key. total_words key size + 1) (λ key. key)
     (λ key. IsMachine code kinds.Container key) (λ (c : Look T). look_want size c) (λ c k. look_after size c seen k) (look_kept value_of size)
 state_rule code value_of size some_words seen base v c room key words slots id sized known at =
     stage_owes code value_of size some_words seen v c at.1.0 room key words slots id sized known c.stage (λ k. refl) at.1.1
-
--- the view stays
-pub look_leaves : {T : Type 0} (size : ℕ) (v w : View T) (a : After (Look T) Bool) (room : Showing T)
-    → Next (λ (z : View T). z.capacity) (Still (LookStands size)) LookEnds v a room w → w ≡ v
-look_leaves size v w (GoOn d) room h = h.0
-look_leaves size v w (Done n) room h = h

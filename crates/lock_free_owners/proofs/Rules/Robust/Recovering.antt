@@ -1,7 +1,7 @@
 -- What the closures of a recovery were called with so far.
 use mathlib.Core.List.{map-append}
 use Rattle.lock_free_owners.proofs.Names.{◌≡◌, ℕ, ◌+◌, ◌<◌, ◌≤◌, ◌==◌, nat_lt, Bool, true, false, List, [], ◌∷◌, ◌++◌}
-use Rattle.lock_free_owners.proofs.Names.{map, filter, append-nil, refl, sym, ap, ◌∙◌, subst, arith, All, FoldsTo}
+use Rattle.lock_free_owners.proofs.Names.{map, filter, append-nil, refl, sym, ap, ◌∙◌, subst, arith, All}
 use Rattle.lock_free_owners.proofs.Names.{FoldsTo-push, length-map, get_or-map, All-push, All-weaker}
 use Rattle.lock_free_owners.proofs.Names.{Contains-push, filter-append, all_pairs_push, by_test, by_eq, After, GoOn}
 use Rattle.lock_free_owners.proofs.Names.{Done, ReleaseMode, ReleaseState, empty}
@@ -16,10 +16,11 @@ use Rattle.steps.specs.declared.indices.robust.recover.RecoverStage as recovers
 use Rattle.steps.specs.Indices.Robust.Recover.{recover_comes_to, recover_raised, recover_locked, recover_takes}
 use Rattle.history.specs.Robust.{Came, HasFreed}
 use Rattle.history.specs.Robust.{VisitsAt, visits_after}
-use Rattle.lock_free_owners.specs.Robust.Callable.{Owned, Asked, IsOwned, TheyAscend, QuestionsAscend, WasAgreed, asks}
+use Rattle.lock_free_owners.specs.Robust.Callable.{Owned, Asked, IsOwned, WasAgreed, asks}
 use Rattle.lock_free_owners.specs.Robust.Callable.{tells, TakesQuestions, TakesFreed, was_freed, owned_at, question_at}
 use Rattle.lock_free_owners.specs.Robust.Callable.{questions_of, freed_of}
-use Rattle.lock_free_owners.specs.Robust.Stages.{RecoverAsks, RecoverMoves, GoesQuietly, HasPassedTo, HasPassed, PassesCells, LooksAgain, has_freed}
+use Rattle.lock_free_owners.specs.Robust.Stages.{RecoverAsks, RecoverMoves, GoesQuietly, LooksAgain, has_freed}
+use Rattle.lock_free_owners.specs.Robust.Recovering as recovering
 
 -- what is known of the lock and of the index where a closure may be called
 abbrev pub IsOpenAt : ℕ → Bool → recovers.RecoverStage → Type 0
@@ -35,12 +36,6 @@ owned owner index = record { owner = owner; index = index }
 
 abbrev said : ℕ → ℕ → Bool → Asked
 said owner index answer = record { of = owned owner index; yes = answer }
-
-abbrev AskedBelow : ℕ → List Asked → Type 0
-AskedBelow low xs = All (λ (a : Asked). a.of.index < low) xs
-
-abbrev ToldBelow : ℕ → List Owned → Type 0
-ToldBelow low xs = All (λ (o : Owned). o.index < low) xs
 
 -- ---- what the closures were called with, where one visit is the last
 
@@ -65,26 +60,15 @@ module _ {mode : ReleaseMode} {index owner : ℕ} {came : Came} {visits : List V
 
 module _ {F S : Type 0} (step : F → ℕ → ℕ → Bool → F → Type 0) (tell : S → ℕ → ℕ → S → Type 0) (cap : ℕ) (shut : Bool) (f : F) (s : S) where
   -- the calls that led to p and q, at indices below these
-  pub record Calls (asked : List Asked) (told : List Owned) (low high : ℕ) (p : F) (q : S) : Type 0 where
-    pub questions : FoldsTo (asks step) f asked p
-    pub calls : FoldsTo (tells tell) s told q
-    pub asked_ascend : QuestionsAscend cap asked
-    pub told_ascend : TheyAscend cap told
-    pub asked_below : AskedBelow low asked
-    pub told_below : ToldBelow high told
+  abbrev Calls : List Asked → List Owned → ℕ → ℕ → F → S → Type 0
+  Calls = recovering.Calls step tell cap f s
 
   -- at these visits
-  abbrev pub Visits : List Visit → ℕ → ℕ → F → S → Type 0
-  Visits visits low high p q = Calls (questions_of visits) (freed_of visits) low high p q
+  abbrev Visits : List Visit → ℕ → ℕ → F → S → Type 0
+  Visits = recovering.Visits step tell cap f s
 
   abbrev pub SoFar : recovers.RecoverStage → List Visit → F → S → Type 0
-  SoFar recovers.TheVariants.LoadsCounter visits p q = (p ≡ f) × (q ≡ s)
-  SoFar (recovers.TheVariants.LoadsCell index) visits p q = Visits visits index index p q
-  SoFar (recovers.TheVariants.Asks index owner) visits p q = Visits visits index index p q
-  SoFar (recovers.TheVariants.EmptiesCell index owner) visits p q = Visits (came_to WasTold visits) (index + 1) index p q
-  SoFar (recovers.TheVariants.Raises index raise) visits p q = Visits visits (index + 1) (index + 1) p q
-  SoFar (recovers.TheVariants.Locks index lock) visits p q = Visits visits (index + 1) (index + 1) p q
-  SoFar recovers.TheVariants.LoadsCounterAgain visits p q = (low : ℕ) × Visits visits low low p q
+  SoFar = recovering.SoFar step tell cap f s
 
   -- at the end
   abbrev pub Visited : List Visit → F → S → Type 0
@@ -152,15 +136,6 @@ module _ {F S : Type 0} (step : F → ℕ → ℕ → Bool → F → Type 0) (te
 
   comes : (c : Recover) (index : ℕ) (visits : List Visit) (p : F) (q : S) → Visits visits index index p q → Onward (recover_comes_to c index) visits p q
   comes x0 x1 x2 x3 x4 x5 = grind (arith, by_test, at_recover, nat_lt)
-
-  -- past cells without an owner
-  passed_to : (index : ℕ) (visits : List Visit) (p : F) (q : S) (stage : recovers.RecoverStage) → Visits visits index index p q → HasPassedTo index stage
-      → SoFar stage visits p q
-  passed_to x0 x1 x2 x3 x4 x5 x6 = grind (arith, wide)
-
-  passed : (index : ℕ) (visits : List Visit) (p : F) (q : S) (a : After Recover ReleaseState) → Visits visits index index p q → HasPassed index a
-      → Onward a visits p q
-  passed x0 x1 x2 x3 x4 x5 x6 = grind (arith, passed_to)
 
   -- ---- what each stage leaves
 
@@ -243,7 +218,9 @@ module _ {F S : Type 0} (step : F → ℕ → ℕ → Bool → F → Type 0) (te
         (by_eq (λ z. Onward z visits p q) k locked (Done Locked) (recover_comes_to c 0) (λ e. (0, 0, at_none visits p q at.1 so))
         (λ ne. comes c 0 visits p q (at_none visits p q at.1 so))) m
     by_stage (recovers.TheVariants.LoadsCell index) k is at p p' q q' a so m =
-        subst (λ (z : F × S). Onward a visits z.0 z.1) (λ i. (sym m.0 i, sym m.1 i)) (passed index visits p q a so m.2)
+        quietly (recovers.TheVariants.LoadsCell index) k is p p' q q' a
+        (by_eq (λ z. Onward z visits p q) k empty (recover_comes_to c (index + 1)) (GoOn (at_recover c (recovers.TheVariants.Asks index k)))
+        (λ e. comes c (index + 1) visits p q (wide visits index index (index + 1) (index + 1) p q (omega arith) (omega arith) so)) (λ ne. so)) m
     by_stage (recovers.TheVariants.Asks index owner) k is at p p' q q' a so m =
         let more : List Visit = visits ++ visit index owner HasAsked ∷ [] in
         subst (Onward a more p') (sym m.1)
@@ -290,10 +267,6 @@ module _ {F S : Type 0} (step : F → ℕ → ℕ → Bool → F → Type 0) (te
   stays : (call : Recover) (visits : List Visit) (p : F) (q : S) (after : After Recover ReleaseState) → after ≡ GoOn call → SoFar call.stage visits p q
       → Onward after visits p q
   stays call visits p q after is so = subst (λ a. Onward a visits p q) (sym is) so
-
-  pub passes_on : (call : Recover) (visits : List Visit) (p : F) (q : S) (after : After Recover ReleaseState) (stage : recovers.RecoverStage)
-      → call.stage ≡ stage → PassesCells call stage after → SoFar call.stage visits p q → Onward after visits p q
-  passes_on x0 x1 x2 x3 x4 x5 x6 x7 x8 = grind (arith, stays, passed)
 
   pub looks_on : (call : Recover) (mode : ReleaseMode) (visits : List Visit) (p : F) (q : S) (after : After Recover ReleaseState)
       (stage : recovers.RecoverStage) → call.stage ≡ stage → LooksAgain call mode stage after → SoFar call.stage visits p q → Onward after visits p q

@@ -1,5 +1,5 @@
 //! The calls on a container by a pass that ask nothing of their caller, but those of states.
-ghost use Rattle.std.specs.Prelude.{◌≡◌, ◌≤◌, true, Err, IfOk, IfErr, OnOk};
+ghost use Rattle.std.specs.Prelude.{◌≡◌, ◌+◌, ◌≤◌, true, Err, IfOk, IfErr, OnOk};
 ghost use Rattle.steps.specs.declared.container.enums.ContainerAddFailure.TheVariants.{IsLocked as Locked};
 ghost use Rattle.steps.specs.declared.container.enums.ContainerRemoveError.TheVariants.{ContainerHandleNotOwnedByContainer as NotOwned};
 ghost use Rattle.model.specs.declared.event.Answer.TheVariants.{Number, Truth};
@@ -8,6 +8,7 @@ ghost use Rattle.model.specs.Families.Container.Calls.{removed, replaced};
 ghost use Rattle.model.specs.Families.Indices.Reading.{is_locked};
 ghost use Rattle.history.specs.ContainerLooks.{KeepsState};
 ghost use Rattle.lock_free_owners.specs.Robust.Told.{WasFilled, WasGranted, WasFreed, HasReleased, FoundLock};
+ghost use Rattle.lock_free_owners.specs.Container.Steps.{TakesFew, ContainerTakes, RemoveTakes};
 ghost use Rattle.lock_free_owners.specs.Container.Told.{placed, HasAdded, HasRemoved, HasReplaced, HasCounted, HasTested, HasLooked, Answered, WasNotAdded};
 ghost use Rattle.lock_free_owners.specs.Container.Names.{view, history, code_of, container_of, capacity_of, IsPassOf, IsHandleFor, IsOwn, GoesOn};
 
@@ -51,6 +52,8 @@ impl<T: Words> Container<T> {
         ensures refused { IfErr result (λ e. WasNotAdded (code_of pass.old) value owner e
             (view pass.old) (view pass.new)) }
         ensures lock { is_locked (history pass.old) ≡ true → result ≡ Err Locked }
+        ensures steps { ContainerTakes (code_of pass.old) (capacity_of self.now) (capacity_of self.now + 7 + T.WORDS) (capacity_of self.now + 1)
+            (view pass.old) (view pass.new) }
     {
         let call = Add::new(pass.token.capacity);
         let given = Owned { value, owner };
@@ -97,6 +100,8 @@ impl<T: Words> Container<T> {
         ensures answered { IsOwn self.now handle → Answered (code_of pass.old)
             (starts.Remove handle.index handle.owner mode) (removed result) (view pass.old) (view pass.new) }
         ensures released { IfOk result (λ s. HasReleased s mode (view pass.old) (view pass.new)) }
+        ensures steps { IsOwn self.now handle → RemoveTakes (code_of pass.old) (capacity_of self.now) mode
+            (view pass.old) (view pass.new) }
     {
         if handle.container != self.id || handle.index >= self.capacity {
             return Err(ContainerRemoveError::ContainerHandleNotOwnedByContainer);
@@ -136,6 +141,7 @@ impl<T: Words> Container<T> {
             (view pass.old) (view pass.new) }
         ensures answered { IsOwn self.now handle → Answered (code_of pass.old)
             (starts.Replace handle.index value handle.owner) (replaced result) (view pass.old) (view pass.new) }
+        ensures steps { IsOwn self.now handle → TakesFew (5 + T.WORDS) (view pass.old) (view pass.new) }
     {
         if handle.container != self.id || handle.index >= self.capacity {
             return Err(ContainerRemoveError::ContainerHandleNotOwnedByContainer);
@@ -166,6 +172,8 @@ impl<T: Words> Container<T> {
         ensures answered { Answered (code_of pass.old) starts.Len (Number result) (view pass.old) (view pass.new) }
         ensures most { result ≤ capacity_of self.now }
         ensures lock { is_locked (history pass.old) ≡ true → result ≡ 0 }
+        ensures steps { ContainerTakes (code_of pass.old) (capacity_of self.now) (capacity_of self.now + 2)
+            (capacity_of self.now + 2) (view pass.old) (view pass.new) }
     {
         count_all::<T, HowMany>(&mut pass.token.seated, rt, pass.token.capacity)
     }
@@ -178,6 +186,8 @@ impl<T: Words> Container<T> {
         ensures tested { HasTested (code_of pass.old) result (view pass.old) (view pass.new) }
         ensures answered { Answered (code_of pass.old) starts.IsEmpty (Truth result) (view pass.old) (view pass.new) }
         ensures lock { is_locked (history pass.old) ≡ true → result ≡ true }
+        ensures steps { ContainerTakes (code_of pass.old) (capacity_of self.now) (capacity_of self.now + 2)
+            (capacity_of self.now + 2) (view pass.old) (view pass.new) }
     {
         count_all::<T, WhetherNone>(&mut pass.token.seated, rt, pass.token.capacity) == 0
     }
@@ -191,6 +201,7 @@ impl<T: Words> Container<T> {
         ensures looked { HasLooked (code_of pass.old) result (view pass.old) (view pass.new) }
         ensures answered { Answered (code_of pass.old) starts.IsLocked (Truth result) (view pass.old) (view pass.new) }
         ensures lock { FoundLock result (view pass.old) (view pass.new) }
+        ensures steps { TakesFew 1 (view pass.old) (view pass.new) }
     {
         pass.token
             .seated

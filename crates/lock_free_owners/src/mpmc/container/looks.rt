@@ -6,10 +6,12 @@ ghost use Rattle.model.specs.Coding.{coding_of};
 ghost use Rattle.model.specs.Families.Container.Calls.{settled_if};
 ghost use Rattle.threaded.specs.Seats.{seen, IsSame};
 ghost use Rattle.history.specs.ContainerLooks.{ShowsCopied};
+ghost use Rattle.lock_free_owners.specs.Container.Bare.{IsCounted};
 ghost use Rattle.lock_free_owners.specs.Container.LookTurns.{IsOnHistory, LookAt, LookOver};
+ghost use Rattle.lock_free_owners.specs.Container.Steps.{LookTakes};
 ghost use Rattle.lock_free_owners.specs.Container.Turns.{IsBoard};
-ghost use Rattle.lock_free_owners.specs.Container.Told.{HasGotState, HasUpdatedState};
-ghost use Rattle.lock_free_owners.specs.Container.Names.{view, code_of, container_of, IsPassOf, IsStateOf, IsLeft, IsLatestState, GoesOn};
+ghost use Rattle.lock_free_owners.specs.Container.Told.{HasGotState, HasUpdatedState, HasMet};
+ghost use Rattle.lock_free_owners.specs.Container.Names.{view, code_of, container_of, capacity_of, IsPassOf, IsStateOf, IsLeft, IsLatestState, GoesOn};
 
 use super::drives::{Beginning, Looks, LooksOn};
 use super::rule::Seat;
@@ -80,6 +82,7 @@ impl<T: Words> Container<T> {
         ensures shows { IfOk result (λ s. ShowsCopied s.shown (view pass.new)) }
         ensures refused { IfErr result (λ e. view pass.new ≡ view pass.old) }
         ensures state { IfOk result (IsStateOf self.now) }
+        ensures steps { IfOk result (λ s. LookTakes (code_of pass.old) (capacity_of self.now) (view pass.old) (view pass.new)) }
     {
         let mut state = ContainerState::new(self.alloc, self.id, self.capacity)?;
         bring_up::<T, Brand>(&mut pass.token.seated, rt, &mut state, pass.token.capacity);
@@ -87,15 +90,15 @@ impl<T: Words> Container<T> {
     }
 
     /// Brings a state of this container up to date. False where no add, replace, remove or recovery has counted a
-    /// change since the state was brought up to date last (no clause says so); the state then stays as it is. True
-    /// where one has, also where all values are the same as before: the state then shows at each index what stood there
-    /// when the call came to it (tests say so, no clause does). A change that is counted while it goes on is told by the
+    /// change since the look ended that brought the state up to date last; the state then stays as it is. True where one
+    /// has since that look began, also where all values are the same as before (both `met`, of the state that the pass
+    /// has): the state then shows at each index what stood there when the call came to it (tests say so, no clause does). A change that is counted while it goes on is told by the
     /// next call as well, though its value may be shown by then.
     ///
     /// Of the state that the pass has it is a call of the history, which copies at most one value at each index,
     /// ascending, where the answer is true, and else nothing. The pass has the state then, too, and its party has copied
     /// each value that the state shows from its index. Of any other state, as of one that another pass has got, it is
-    /// none, and leaves what the pass knows; a find that rests goes on resting.
+    /// none, and leaves what the pass knows, but for how many steps it has counted; a find that rests goes on resting.
     ///
     /// The number of changes has 64 bits and wraps, as that of each value does: where it has come round to the one that
     /// the state has seen the answer is false. A state of another container with the same number and capacity is taken
@@ -117,11 +120,14 @@ impl<T: Words> Container<T> {
         ensures goes_on { IsLatestState pass.old state.old → GoesOn pass.old pass.new }
         ensures updated { IsLatestState pass.old state.old
             → HasUpdatedState (code_of pass.old) result (view pass.old) (view pass.new) }
+        ensures met { IsLatestState pass.old state.old → HasMet result (view pass.old) (view pass.new) }
         ensures latest { IsLatestState pass.old state.old → IsLatestState pass.new state.new }
         ensures shows { IsLatestState pass.old state.old → ShowsCopied state.new.shown (view pass.new) }
-        ensures beside { (IsLatestState pass.old state.old → ⊥) → view pass.new ≡ view pass.old }
+        ensures beside { (IsLatestState pass.old state.old → ⊥) → IsCounted (view pass.old) (view pass.new) }
         ensures state { IsStateOf self.now state.new }
         ensures left { IsFalse result → IsLeft state.old state.new }
+        ensures steps { IsLatestState pass.old state.old
+            → LookTakes (code_of pass.old) (capacity_of self.now) (view pass.old) (view pass.new) }
     {
         bring_up::<T, Brand>(&mut pass.token.seated, rt, state, pass.token.capacity)
     }

@@ -2,6 +2,7 @@
 ghost use Rattle.std.specs.Prelude.{◌≡◌, None, IfSome, IfNone};
 ghost use Rattle.history.specs.ContainerLooks.{KeepsState};
 ghost use Rattle.history.specs.Passes.{HasSplit};
+ghost use Rattle.history.specs.Steps.{TakesAtMost};
 ghost use Rattle.lock_free_owners.specs.Container.Told.{HasJoined};
 ghost use Rattle.lock_free_owners.specs.Container.Names.{view, container_of, code_of, HasHistory, MissesNothing};
 
@@ -25,6 +26,7 @@ impl<T: Words> Pass<T> {
         ensures keeps { KeepsState (view self.old) (view self.new) }
         ensures idle { IfSome result (λ p. (view p).going ≡ None) }
         ensures none { IfNone result (view self.new ≡ view self.old) }
+        ensures steps { TakesAtMost 1 (view self.old) (view self.new) }
     {
         let seated = &mut self.token.seated;
         let Ok(table) = Arc::try_clone(&seated.table) else {

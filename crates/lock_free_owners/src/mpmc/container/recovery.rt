@@ -13,6 +13,7 @@ ghost use Rattle.lock_free_owners.specs.Robust.Told.{FoundState};
 ghost use Rattle.lock_free_owners.specs.Container.Questions.{TakesValues};
 ghost use Rattle.lock_free_owners.specs.Container.RecoverTold.{HasRecovered};
 ghost use Rattle.lock_free_owners.specs.Container.RecoverTurns.{RecoverAt, RecoverEnds, RecoverMay, RecoverGoes, RecoverTurns, RecoverAsks, RecoverMoves};
+ghost use Rattle.lock_free_owners.specs.Container.Steps.{RecoverTakes};
 ghost use Rattle.lock_free_owners.specs.Container.Told.{Answered};
 ghost use Rattle.lock_free_owners.specs.Container.Turns.{IsBoard};
 ghost use Rattle.lock_free_owners.specs.Container.Names.{view, history, code_of, capacity_of, IsPassOf, GoesOn};
@@ -46,86 +47,84 @@ fn step_recover<T: Words>(
     seat.step_telling::<Brand, Recover<T, Copied>>(call, &given, room)
 }
 
-/// Takes one step of the call, or asks the closure about the value that it has copied. Hands the closure back.
+/// Takes one step of the call, or asks the closure about the value that it has copied.
 #[inline(always)]
 fn recover_next<T: Words, F: FnMut(T) -> bool>(
     seat: &mut Seat<T>,
     call: Recover<T, Copied>,
     given: DeadOwner,
     room: &mut Copied,
-    predicate: F,
-) -> (After<Recover<T, Copied>, ReleaseState>, F)
+    predicate: &mut F,
+) -> After<Recover<T, Copied>, ReleaseState>
     requires board { IsBoard T.WORDS seat.old }
     requires at { RecoverMay (coding_of T.WORDS T.words_of T.value_of) given (seen seat.old) call room.old }
-    requires asks { RecoverAsks F.pre call.stage (value_in T.value_of T.WORDS room.old.words) predicate }
+    requires asks { RecoverAsks F.pre call.stage (value_in T.value_of T.WORDS room.old.words) predicate.old }
     ensures same { IsSame seat.old seat.new }
     ensures board { IsBoard T.WORDS seat.new }
     ensures turns { RecoverTurns (coding_of T.WORDS T.words_of T.value_of) given call.stage (seen seat.old) call
-        room.old result.0 room.new (seen seat.new) }
+        room.old result room.new (seen seat.new) }
     ensures moves { RecoverMoves (λ p x b q. F.step p x b q) T.WORDS call given call.stage
-        (value_in T.value_of T.WORDS room.old.words) predicate result.0 result.1 }
+        (value_in T.value_of T.WORDS room.old.words) predicate.old result predicate.new }
 {
     match call.stage {
-        RecoverStage::LoadsCounter => (step_recover(seat, call, given, room), predicate),
-        RecoverStage::LoadsCell { .. } => (step_recover(seat, call, given, room), predicate),
-        RecoverStage::LoadsCount { .. } => (step_recover(seat, call, given, room), predicate),
-        RecoverStage::LoadsWord { .. } => (step_recover(seat, call, given, room), predicate),
-        RecoverStage::ChecksCount { .. } => (step_recover(seat, call, given, room), predicate),
+        RecoverStage::LoadsCounter => step_recover(seat, call, given, room),
+        RecoverStage::LoadsCell { .. } => step_recover(seat, call, given, room),
+        RecoverStage::LoadsCount { .. } => step_recover(seat, call, given, room),
+        RecoverStage::LoadsWord { .. } => step_recover(seat, call, given, room),
+        RecoverStage::ChecksCount { .. } => step_recover(seat, call, given, room),
         RecoverStage::Asks { .. } => {
-            let (yes, predicate) = ask(predicate, Recover::<T, Copied>::value(&given, room));
-            let after = call.take(&given, room, if yes { 1 } else { 0 });
-            (after, predicate)
+            let yes = ask(predicate, Recover::<T, Copied>::value(&given, room));
+            call.take(&given, room, if yes { 1 } else { 0 })
         }
-        RecoverStage::EmptiesCell { .. } => (step_recover(seat, call, given, room), predicate),
-        RecoverStage::Hides { .. } => (step_recover(seat, call, given, room), predicate),
-        RecoverStage::Raises { .. } => (step_recover(seat, call, given, room), predicate),
-        RecoverStage::Locks { .. } => (step_recover(seat, call, given, room), predicate),
-        RecoverStage::LoadsCounterAgain => (step_recover(seat, call, given, room), predicate),
-        RecoverStage::AddsChange { .. } => (step_recover(seat, call, given, room), predicate),
+        RecoverStage::EmptiesCell { .. } => step_recover(seat, call, given, room),
+        RecoverStage::Hides { .. } => step_recover(seat, call, given, room),
+        RecoverStage::Raises { .. } => step_recover(seat, call, given, room),
+        RecoverStage::Locks { .. } => step_recover(seat, call, given, room),
+        RecoverStage::LoadsCounterAgain => step_recover(seat, call, given, room),
+        RecoverStage::AddsChange { .. } => step_recover(seat, call, given, room),
     }
 }
 
-/// Asks the closure about the value, and hands the closure back.
+/// Asks the closure about the value.
 #[inline(always)]
-fn ask<T: Words, F: FnMut(T) -> bool>(mut predicate: F, value: T) -> (bool, F)
-    requires { F.pre predicate value }
-    ensures { F.step predicate value result.0 result.1 }
+fn ask<T: Words, F: FnMut(T) -> bool>(predicate: &mut F, value: T) -> bool
+    requires { F.pre predicate.old value }
+    ensures { F.step predicate.old value result predicate.new }
 {
-    let yes = predicate(value);
-    (yes, predicate)
+    predicate(value)
 }
 
-/// Frees the indices that the closure says yes to. Hands the closure back.
+/// Frees the indices that the closure says yes to.
 fn free_all<T: Words, F: FnMut(T) -> bool>(
     seat: &mut Seat<T>,
     rt: &impl Wait,
     capacity: u32,
     owner: OwnerId,
     mode: ReleaseMode,
-    mut predicate: F,
-) -> (ReleaseState, F)
+    predicate: &mut F,
+) -> ReleaseState
     requires board { IsBoard T.WORDS seat.old }
     requires known { (seen seat.old).capacity ≡ capacity }
     requires at { RecoverAt (coding_of T.WORDS T.words_of T.value_of) (record { owner = owner; mode = mode })
         (seen seat.old) (seen seat.old) (first_recover capacity) (fresh_cell, []) }
     requires questions { is_locked (seen seat.old).seen ≡ false → TakesValues F.pre
-        (λ p x b q. F.step p x b q) capacity predicate }
+        (λ p x b q. F.step p x b q) capacity predicate.old }
     ensures same { IsSame seat.old seat.new }
     ensures board { IsBoard T.WORDS seat.new }
     ensures ends { (m : _) × RecoverEnds (coding_of T.WORDS T.words_of T.value_of)
-        (record { owner = owner; mode = mode }) (seen seat.old) result.0 m (seen seat.new) }
+        (record { owner = owner; mode = mode }) (seen seat.old) result m (seen seat.new) }
     ensures recovered { HasRecovered (coding_of T.WORDS T.words_of T.value_of) (λ p x b q. F.step p x b q)
-        (record { owner = owner; mode = mode }) result.0 capacity predicate result.1 (seen seat.old) (seen seat.new) }
+        (record { owner = owner; mode = mode }) result capacity predicate.old predicate.new (seen seat.old)
+        (seen seat.new) }
 {
     let mut room = Copied { words: [0; 128] };
     let mut call = Recover::new(capacity);
     for _ in rt.forever() {
         let given = DeadOwner { owner, mode };
-        let (after, next_predicate) = recover_next(seat, call, given, &mut room, predicate);
-        predicate = next_predicate;
+        let after = recover_next(seat, call, given, &mut room, predicate);
         match after {
             After::GoOn(next) => call = next,
-            After::Done(state) => return (state, predicate),
+            After::Done(state) => return state,
         }
     }
     unreachable!()
@@ -155,30 +154,30 @@ impl<T: Words> Container<T> {
         &self,
         rt: &impl Wait,
         owner: OwnerId,
-        predicate: F,
+        predicate: &mut F,
         mode: ReleaseMode,
         pass: &mut Pass<T>,
     ) -> ReleaseState
         requires pass { IsPassOf self.now pass.old }
         requires questions { is_locked (history pass.old) ≡ false → TakesValues F.pre
-            (λ p x b q. F.step p x b q) (capacity_of self.now) predicate }
+            (λ p x b q. F.step p x b q) (capacity_of self.now) predicate.old }
         ensures goes_on { GoesOn pass.old pass.new }
         ensures keeps { KeepsState (view pass.old) (view pass.new) }
-        ensures recovered { (last : F) × HasRecovered (code_of pass.old) (λ p x b q. F.step p x b q)
-            (record { owner = owner; mode = mode }) result (capacity_of self.now) predicate last
+        ensures recovered { HasRecovered (code_of pass.old) (λ p x b q. F.step p x b q)
+            (record { owner = owner; mode = mode }) result (capacity_of self.now) predicate.old predicate.new
             (view pass.old) (view pass.new) }
         ensures answered { Answered (code_of pass.old) (starts.Recover owner mode) (State result)
             (view pass.old) (view pass.new) }
         ensures lock { FoundState result (view pass.old) (view pass.new) }
+        ensures steps { RecoverTakes (code_of pass.old) (capacity_of self.now) mode (view pass.old) (view pass.new) }
     {
-        let (state, _) = free_all(
+        free_all(
             &mut pass.token.seated,
             rt,
             pass.token.capacity,
             owner,
             mode,
             predicate,
-        );
-        state
+        )
     }
 }

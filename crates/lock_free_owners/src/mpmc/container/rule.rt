@@ -33,6 +33,8 @@ impl<T: Words> Rule<View<T>, u64> for ContainerRule<T> {
     ghost capacity = { λ capacity. capacity };
 
     ghost capacity_seen = { λ v. v.capacity };
+
+    ghost asked = { λ v. v.asked };
 }
 
 pub type Board<T> = Table<(), View<T>, u64, ContainerRule<T>, Global>;

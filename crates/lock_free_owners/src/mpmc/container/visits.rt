@@ -43,7 +43,7 @@ fn step_find<T: Words>(
     seat.step_telling::<Brand, Find<T, Copied>>(call, &owner, room)
 }
 
-/// Takes one step of the call, or asks the closure about the value that it has copied. Hands the closure back.
+/// Takes one step of the call, or asks the closure about the value that it has copied.
 #[inline(always)]
 fn find_next<T: Words, F: FnMut(T, ContainerHandle) -> CallbackProgression>(
     seat: &mut Seat<T>,
@@ -51,23 +51,23 @@ fn find_next<T: Words, F: FnMut(T, ContainerHandle) -> CallbackProgression>(
     owner: OwnerId,
     id: u64,
     room: &mut Copied,
-    mut visit: F,
-) -> (After<Find<T, Copied>, usize>, F)
+    visit: &mut F,
+) -> After<Find<T, Copied>, usize>
     requires board { IsBoard T.WORDS seat.old }
     requires at { FindMay (coding_of T.WORDS T.words_of T.value_of) owner (seen seat.old) call room.old }
-    requires asks { FindAsks F.pre owner id call.stage (value_in T.value_of T.WORDS room.old.words) visit }
+    requires asks { FindAsks F.pre owner id call.stage (value_in T.value_of T.WORDS room.old.words) visit.old }
     ensures same { IsSame seat.old seat.new }
     ensures board { IsBoard T.WORDS seat.new }
     ensures turns { FindTurns (coding_of T.WORDS T.words_of T.value_of) owner call.stage (seen seat.old) call
-        room.old result.0 room.new (seen seat.new) }
+        room.old result room.new (seen seat.new) }
     ensures moves { FindMoves (λ p x h a q. F.step p x h a q) T.WORDS id call owner call.stage
-        (value_in T.value_of T.WORDS room.old.words) visit result.0 result.1 }
+        (value_in T.value_of T.WORDS room.old.words) visit.old result visit.new }
 {
     match call.stage {
-        FindStage::LoadsCell { .. } => (step_find(seat, call, owner, room), visit),
-        FindStage::LoadsCount { .. } => (step_find(seat, call, owner, room), visit),
-        FindStage::LoadsWord { .. } => (step_find(seat, call, owner, room), visit),
-        FindStage::ChecksCount { .. } => (step_find(seat, call, owner, room), visit),
+        FindStage::LoadsCell { .. } => step_find(seat, call, owner, room),
+        FindStage::LoadsCount { .. } => step_find(seat, call, owner, room),
+        FindStage::LoadsWord { .. } => step_find(seat, call, owner, room),
+        FindStage::ChecksCount { .. } => step_find(seat, call, owner, room),
         FindStage::Asks { index, .. } => {
             let handle = ContainerHandle {
                 index,
@@ -78,43 +78,42 @@ fn find_next<T: Words, F: FnMut(T, ContainerHandle) -> CallbackProgression>(
                 CallbackProgression::Continue => 1,
                 CallbackProgression::Stop => 0,
             };
-            (call.take(&owner, room, answer), visit)
+            call.take(&owner, room, answer)
         }
     }
 }
 
-/// Comes to the indices of the owner: how many it came to. Hands the closure back.
+/// Comes to the indices of the owner: how many it came to.
 fn find_all<T: Words, F: FnMut(T, ContainerHandle) -> CallbackProgression>(
     seat: &mut Seat<T>,
     capacity: u32,
     owner: OwnerId,
     id: u64,
-    mut visit: F,
-) -> (usize, F)
+    visit: &mut F,
+) -> usize
     requires board { IsBoard T.WORDS seat.old }
     requires known { (seen seat.old).capacity ≡ capacity }
     requires places { 0 < capacity }
     requires at { FindAt (coding_of T.WORDS T.words_of T.value_of) owner (seen seat.old) (seen seat.old)
         (first_find capacity) (fresh_cell, []) }
     requires visits { TakesVisits F.pre (λ p x h a q. F.step p x h a q)
-        (IsNamed capacity owner id) visit }
+        (IsNamed capacity owner id) visit.old }
     ensures same { IsSame seat.old seat.new }
     ensures board { IsBoard T.WORDS seat.new }
     ensures left { IsLeft (coding_of T.WORDS T.words_of T.value_of) (seen seat.old) (seen seat.new) }
     ensures found { (visits : List (Visit T)) × (bound : ℕ)
-        × HasSearched (coding_of T.WORDS T.words_of T.value_of) capacity owner result.0 bound visits
+        × HasSearched (coding_of T.WORDS T.words_of T.value_of) capacity owner result bound visits
         (seen seat.old) (seen seat.new)
-        × HasFound (λ p x h a q. F.step p x h a q) capacity (IsNamed capacity owner id) visit
-        result.0 bound visits result.1 }
+        × HasFound (λ p x h a q. F.step p x h a q) capacity (IsNamed capacity owner id) visit.old
+        result bound visits visit.new }
 {
     let mut room = Copied { words: [0; 128] };
     let mut call = Find::new(capacity);
     loop {
-        let (after, next_visit) = find_next(seat, call, owner, id, &mut room, visit);
-        visit = next_visit;
+        let after = find_next(seat, call, owner, id, &mut room, visit);
         match after {
             After::GoOn(next) => call = next,
-            After::Done(found) => return (found, visit),
+            After::Done(found) => return found,
         }
     }
 }
@@ -139,29 +138,28 @@ impl<T: Words> Container<T> {
     pub fn find<F: FnMut(T, ContainerHandle) -> CallbackProgression>(
         &self,
         owner: OwnerId,
-        visit: F,
+        visit: &mut F,
         pass: &mut Pass<T>,
     ) -> usize
         requires pass { IsPassOf self.now pass.old }
         requires visits { TakesVisits F.pre (λ p x h a q. F.step p x h a q)
-            (IsHandleFor self.now owner) visit }
+            (IsHandleFor self.now owner) visit.old }
         ensures container { container_of pass.new ≡ container_of pass.old }
         ensures goes { Goes (code_of pass.old) kinds.Container (container_of pass.old).capacity
             (view pass.old) (view pass.new) }
         ensures keeps { KeepsState (view pass.old) (view pass.new) }
-        ensures found { (visits : List (Visit T)) × (bound : ℕ) × (last : F)
+        ensures found { (visits : List (Visit T)) × (bound : ℕ)
             × HasSearched (code_of pass.old) (capacity_of self.now) owner result bound visits
             (view pass.old) (view pass.new)
             × HasFound (λ p x h a q. F.step p x h a q) (capacity_of self.now)
-            (IsHandleFor self.now owner) visit result bound visits last }
+            (IsHandleFor self.now owner) visit.old result bound visits visit.new }
     {
-        let (found, _) = find_all(
+        find_all(
             &mut pass.token.seated,
             pass.token.capacity,
             owner,
             self.id,
             visit,
-        );
-        found
+        )
     }
 }

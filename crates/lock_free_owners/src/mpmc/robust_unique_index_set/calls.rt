@@ -1,10 +1,12 @@
 //! The calls on a set by a pass that ask nothing of their caller.
-ghost use Rattle.std.specs.Prelude.{◌≡◌, ◌<◌, ◌≤◌, true, Ok, Err, IfOk, IfErr, OnOk};
+ghost use Rattle.std.specs.Prelude.{◌≡◌, ◌+◌, ◌<◌, ◌≤◌, true, Ok, Err, IfOk, IfErr, OnOk};
 ghost use Rattle.steps.specs.declared.indices.enums.UniqueIndexSetAcquireFailure.TheVariants.{IsLocked as Locked};
 ghost use Rattle.model.specs.declared.event.Answer.TheVariants.{Number, Truth};
 ghost use Rattle.model.specs.declared.families.indices.robust.RobustStart.TheVariants as starts;
 ghost use Rattle.model.specs.Families.Indices.Reading.{is_locked};
 ghost use Rattle.model.specs.Families.Indices.Robust.Calls.{release_answer};
+ghost use Rattle.history.specs.Steps.{TakesAtMost};
+ghost use Rattle.lock_free_owners.specs.Robust.Steps.{SetTakes, ReleaseTakes};
 ghost use Rattle.lock_free_owners.specs.Robust.Told.{HasTaken, HasGiven, HasCounted, HasLooked, WasFilled, WasGranted};
 ghost use Rattle.lock_free_owners.specs.Robust.Told.{WasFreed, WasRefused, Answered, HasReleased, FoundLock};
 ghost use Rattle.lock_free_owners.specs.RobustUniqueIndexSet.{view, history, capacity_of, IsPassOf, GoesOn};
@@ -42,6 +44,8 @@ impl RobustUniqueIndexSet {
         ensures granted { IfOk result (λ index. WasGranted index owner (view pass.old) (view pass.new)) }
         ensures refused { IfErr result (λ e. WasRefused owner e (view pass.old) (view pass.new)) }
         ensures lock { is_locked (history pass.old) ≡ true → result ≡ Err Locked }
+        ensures steps { SetTakes (capacity_of self.now) (capacity_of self.now + 3) (capacity_of self.now + 1)
+            (view pass.old) (view pass.new) }
     {
         match acquire_all(&mut pass.seated, rt, pass.capacity, owner) {
             Ok(index) => Ok(index as usize),
@@ -75,6 +79,7 @@ impl RobustUniqueIndexSet {
         ensures answered { Answered (starts.Release index owner mode) (release_answer result)
             (view pass.old) (view pass.new) }
         ensures released { IfOk result (λ s. HasReleased s mode (view pass.old) (view pass.new)) }
+        ensures steps { ReleaseTakes (capacity_of self.now) mode (view pass.old) (view pass.new) }
     {
         let call = Release::new(pass.capacity);
         let given = GiveBack {
@@ -100,6 +105,8 @@ impl RobustUniqueIndexSet {
         ensures answered { Answered starts.BorrowedIndices (Number result) (view pass.old) (view pass.new) }
         ensures most { result ≤ capacity_of self.now }
         ensures lock { is_locked (history pass.old) ≡ true → result ≡ 0 }
+        ensures steps { SetTakes (capacity_of self.now) (capacity_of self.now + 2) (capacity_of self.now + 2)
+            (view pass.old) (view pass.new) }
     {
         count_all(&mut pass.seated, rt, pass.capacity)
     }
@@ -112,6 +119,7 @@ impl RobustUniqueIndexSet {
         ensures looked { HasLooked result (view pass.old) (view pass.new) }
         ensures answered { Answered starts.IsLocked (Truth result) (view pass.old) (view pass.new) }
         ensures lock { FoundLock result (view pass.old) (view pass.new) }
+        ensures steps { TakesAtMost 1 (view pass.old) (view pass.new) }
     {
         pass.seated
             .drive::<IsLocked, LooksLocked>(IsLocked, &(), &mut ())

@@ -1,5 +1,5 @@
 //! What the calls and the looks say of the views at their steps.
-ghost use Rattle.std.specs.Prelude.{◌≡◌, []};
+ghost use Rattle.std.specs.Prelude.{◌≡◌, ◌+◌, []};
 ghost use Rattle.model.specs.Coding.{one_word};
 ghost use Rattle.model.specs.declared.turn.Kind.TheVariants as kinds;
 
@@ -60,10 +60,10 @@ impl Drives<View<u64>, IsLocked> for LooksLocked {
 pub struct Look;
 
 impl Play<(), View<u64>> for Look {
-    ghost use Rattle.history.specs.Views.{Looks};
+    ghost use Rattle.history.specs.Views.{LooksOnce};
 
     ghost then = { λ step old found new.
-        Looks one_word kinds.Robust old.0.capacity old.0 new.0 × (new.1 ≡ []) };
+        LooksOnce one_word kinds.Robust old.0.capacity old.0 new.0 × (new.1 ≡ []) };
 }
 
 /// A look at the whole history and at one word.
@@ -73,5 +73,6 @@ impl Play<(), View<u64>> for LookAt {
     ghost use Rattle.history.specs.Views.{LooksAt};
 
     ghost then = { λ step old found new.
-        LooksAt one_word kinds.Robust old.0.capacity step.word old.0 found new.0 × (new.1 ≡ []) };
+        LooksAt one_word kinds.Robust old.0.capacity step.word old.0 found new.0
+        × (new.0.asked ≡ old.0.asked + 1) × (new.1 ≡ []) };
 }

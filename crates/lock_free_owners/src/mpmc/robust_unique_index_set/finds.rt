@@ -11,12 +11,14 @@ ghost use Rattle.model.specs.declared.turn.Kind.TheVariants as kinds;
 ghost use Rattle.threaded.specs.Callable.{TakesPlaces};
 ghost use Rattle.threaded.specs.Seats.{seen, IsSame};
 ghost use Rattle.history.specs.declared.view.View.{View};
+ghost use Rattle.history.specs.Steps.{TakesAtMost};
 ghost use Rattle.history.specs.Views.{Looks, LooksAt};
 ghost use Rattle.lock_free_owners.specs.Robust.Callable.{HasFound};
 ghost use Rattle.lock_free_owners.specs.Robust.Finding.{FindAsks, GoesDown, Searching, Onward};
 ghost use Rattle.lock_free_owners.specs.Robust.Stages.{says};
+ghost use Rattle.lock_free_owners.specs.Robust.Told.{HasSearched};
 ghost use Rattle.lock_free_owners.specs.Robust.Turns.{IsBoard};
-ghost use Rattle.lock_free_owners.specs.RobustUniqueIndexSet.{view, history, set_of, capacity_of, IsPassOf, GoesOn};
+ghost use Rattle.lock_free_owners.specs.RobustUniqueIndexSet.{view, capacity_of, IsPassOf, GoesOn};
 
 use super::drives::LookAt;
 use super::rule::Seat;
@@ -37,6 +39,7 @@ fn look_at(seat: &mut Seat, _capacity: u32, cell: usize) -> u64
     ensures same { IsSame seat.old seat.new }
     ensures board { IsBoard seat.new }
     ensures looks { LooksAt one_word kinds.Robust _capacity (cell_word cell) (seen seat.old) result (seen seat.new) }
+    ensures counted { (seen seat.new).asked ≡ (seen seat.old).asked + 1 }
 {
     seat.table
         .shared
@@ -106,77 +109,74 @@ fn at_cell(capacity: u32, index: u32, so_many: usize) -> Find
     }
 }
 
-/// Calls the closure with the index: its answer, as the call takes it. Hands the closure back.
+/// Calls the closure with the index: its answer, as the call takes it.
 #[inline(always)]
-fn hear<F: FnMut(usize) -> CallbackProgression>(mut visit: F, index: u32) -> (u64, F)
-    requires { F.pre visit index }
-    ensures { (a : Progression) × F.step visit index a result.1 × (result.0 ≡ says a) }
+fn hear<F: FnMut(usize) -> CallbackProgression>(visit: &mut F, index: u32) -> u64
+    requires { F.pre visit.old index }
+    ensures { (a : Progression) × F.step visit.old index a visit.new × (result ≡ says a) }
 {
-    let answer = match visit(index as usize) {
+    match visit(index as usize) {
         CallbackProgression::Continue => 1,
         CallbackProgression::Stop => 0,
-    };
-    (answer, visit)
+    }
 }
 
-/// Takes steps of the call, or asks the closure about the index that it has come to. Hands the closure back.
+/// Takes steps of the call, or asks the closure about the index that it has come to.
 #[inline(always)]
 fn find_next<F: FnMut(usize) -> CallbackProgression>(
     seat: &mut Seat,
     capacity: u32,
     call: Find,
     owner: OwnerId,
-    visit: F,
-) -> (After<Find, usize>, F)
+    visit: &mut F,
+) -> After<Find, usize>
     requires board { IsBoard seat.old }
     requires some { 0 < (seen seat.old).share.part }
     requires known { (seen seat.old).capacity ≡ capacity }
     requires call { call.capacity ≡ capacity }
-    requires asks { FindAsks F.pre capacity call.stage visit }
+    requires asks { FindAsks F.pre capacity call.stage visit.old }
     ensures same { IsSame seat.old seat.new }
     ensures board { IsBoard seat.new }
-    ensures less { GoesDown capacity (find_left capacity call.stage) result.0 }
+    ensures less { GoesDown capacity (find_left capacity call.stage) result }
     ensures goes { (base : View ℕ) (f : F)
-        → Searching (λ q x a r. F.step q x a r) capacity owner base f (seen seat.old) call visit
-        → Onward (λ q x a r. F.step q x a r) capacity owner base f result.0 (seen seat.new) result.1 }
+        → Searching (λ q x a r. F.step q x a r) capacity owner base f (seen seat.old) call visit.old
+        → Onward (λ q x a r. F.step q x a r) capacity owner base f result (seen seat.new) visit.new }
 {
     match call.stage {
         FindStage::LoadsCell { index, found } => {
-            let after = pass_over::<F>(seat, capacity, index, found, owner);
-            (after, visit)
+            pass_over::<F>(seat, capacity, index, found, owner)
         }
         FindStage::Asks { index, .. } => {
-            let (answer, visit) = hear(visit, index);
-            (call.take(&owner, &mut (), answer), visit)
+            let answer = hear(visit, index);
+            call.take(&owner, &mut (), answer)
         }
     }
 }
 
-/// Comes to the indices of the owner: how many it came to. Hands the closure back.
+/// Comes to the indices of the owner: how many it came to.
 fn find_all<F: FnMut(usize) -> CallbackProgression>(
     seat: &mut Seat,
     capacity: u32,
     owner: OwnerId,
-    mut visit: F,
-) -> (usize, F)
+    visit: &mut F,
+) -> usize
     requires board { IsBoard seat.old }
     requires known { (seen seat.old).capacity ≡ capacity }
     requires some { 0 < (seen seat.old).share.part }
     requires any { 0 < capacity }
-    requires asks { TakesPlaces F.pre (λ p x q. F.step p x Continue q) capacity visit }
+    requires asks { TakesPlaces F.pre (λ p x q. F.step p x Continue q) capacity visit.old }
     ensures same { IsSame seat.old seat.new }
     ensures board { IsBoard seat.new }
     ensures looked { Looks one_word kinds.Robust capacity (seen seat.old) (seen seat.new) }
-    ensures found { HasFound (λ p x a q. F.step p x a q) capacity owner visit result.0 result.1
+    ensures steps { TakesAtMost capacity (seen seat.old) (seen seat.new) }
+    ensures found { HasFound (λ p x a q. F.step p x a q) capacity owner visit.old result visit.new
         (seen seat.old).seen (seen seat.new).seen }
 {
     let mut call = Find::new(capacity);
     loop {
-        let (after, next_visit) = find_next(seat, capacity, call, owner, visit);
-        visit = next_visit;
-        match after {
+        match find_next(seat, capacity, call, owner, visit) {
             After::GoOn(next) => call = next,
-            After::Done(found) => return (found, visit),
+            After::Done(found) => return found,
         }
     }
 }
@@ -185,29 +185,27 @@ impl RobustUniqueIndexSet {
     /// Comes to the indices of `owner`, ascending, each at most once and below the capacity, and calls `visit` with
     /// each, until it says `Stop`: how many it came to, the one on which it was told to stop among them. Each of these had
     /// the owner at a moment of the call. Of the others, up to the one on which it was told to stop, or of all, each had
-    /// another owner or none at some moment of it: so it comes to each that has the owner through the whole call. (In the
-    /// clause the moments are those from what the pass had seen when it began to what it has seen then: no event marks the
-    /// begin of what is no call of the history.)
+    /// another owner or none at some moment of it: so it comes to each that has the owner through the whole call.
     ///
-    /// It finds also the indices whose acquire met the lock, since they keep their owner. Each index may have been given
-    /// back by the time that `visit` is called with it. It is no call of the history: it looks. At most as many atomic
-    /// steps as the capacity. After `find` of the Rust crate.
+    /// It begins with a look at the lock, which is a call of the history and marks where the find begins there: these moments
+    /// come after that. The rest of it is no call of the history. It finds also the indices whose acquire met the lock, since
+    /// they keep their owner. Each index may have been given back by the time that `visit` is called with it. At most 1
+    /// atomic step more than the capacity. After `find` of the Rust crate.
     pub fn find<F: FnMut(usize) -> CallbackProgression>(
         &self,
         owner: OwnerId,
-        visit: F,
+        visit: &mut F,
         pass: &mut Pass,
     ) -> usize
         requires pass { IsPassOf self.now pass.old }
         requires indices { TakesPlaces F.pre (λ p x q. F.step p x Continue q)
-            (capacity_of self.now) visit }
-        ensures set { set_of pass.new ≡ set_of pass.old }
+            (capacity_of self.now) visit.old }
         ensures goes_on { GoesOn pass.old pass.new }
-        ensures looked { Looks one_word kinds.Robust (capacity_of self.now) (view pass.old) (view pass.new) }
-        ensures found { (last : F) × HasFound (λ p x a q. F.step p x a q) (capacity_of self.now) owner
-            visit result last (history pass.old) (history pass.new) }
+        ensures found { HasSearched (λ p x a q. F.step p x a q) (capacity_of self.now) owner
+            visit.old result visit.new (view pass.old) (view pass.new) }
+        ensures steps { TakesAtMost (capacity_of self.now + 1) (view pass.old) (view pass.new) }
     {
-        let (found, _) = find_all(&mut pass.seated, pass.capacity, owner, visit);
-        found
+        let _ = self.is_locked(pass);
+        find_all(&mut pass.seated, pass.capacity, owner, visit)
     }
 }

@@ -1,6 +1,7 @@
 //! How passes are made of one another.
 ghost use Rattle.std.specs.Prelude.{◌≡◌, IfSome, IfNone};
 ghost use Rattle.history.specs.Passes.{HasSplit, HasJoined};
+ghost use Rattle.history.specs.Steps.{TakesAtMost};
 ghost use Rattle.lock_free_owners.specs.RobustUniqueIndexSet.{set_of, view, HasHistory, MissesNothing};
 
 use super::Pass;
@@ -18,6 +19,7 @@ impl Pass {
         ensures new { IfSome result (λ p. set_of p ≡ set_of self.old) }
         ensures cut { IfSome result (λ p. HasSplit (view self.old) (view self.new) (view p)) }
         ensures none { IfNone result (view self.new ≡ view self.old) }
+        ensures steps { TakesAtMost 1 (view self.old) (view self.new) }
     {
         let seated = &mut self.seated;
         let Ok(table) = Arc::try_clone(&seated.table) else {
@@ -37,6 +39,7 @@ impl Pass {
         ensures joined { HasJoined (view self.old) (view other) (view self.new) }
         ensures history { HasHistory self.new }
         ensures all { MissesNothing self.new }
+        ensures steps { TakesAtMost 2 (view self.old) (view self.new) }
     {
         let Pass {
             seated: other,

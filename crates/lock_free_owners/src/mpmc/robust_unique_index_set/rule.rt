@@ -29,6 +29,8 @@ impl Rule<View<u64>, u64> for RobustRule {
     ghost capacity = { λ capacity. capacity };
 
     ghost capacity_seen = { λ v. v.capacity };
+
+    ghost asked = { λ v. v.asked };
 }
 
 pub type Board = Table<(), View<u64>, u64, RobustRule, Global>;

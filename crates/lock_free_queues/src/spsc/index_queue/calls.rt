@@ -5,6 +5,7 @@ ghost use Rattle.steps.specs.declared.queues.roles.Role.{Role};
 ghost use Rattle.steps.specs.declared.queues.roles.Role.TheVariants as roles;
 ghost use Rattle.model.specs.declared.event.Item.TheVariants.{Index};
 ghost use Rattle.history.specs.Roles.{HasRole};
+ghost use Rattle.history.specs.Steps.{TakesAtMost};
 ghost use Rattle.lock_free_queues.specs.Queues.Calls.{token_queue, token_view, IsSameQueue};
 ghost use Rattle.lock_free_queues.specs.Queues.Roles.{Moved};
 ghost use Rattle.lock_free_queues.specs.Queues.Told.{HasPushed, HasPublished, WasAtEnd, WasFull, HasPopped, HasTakenOut, WasEmpty};
@@ -24,9 +25,11 @@ impl Held<Numbers, u64, RingRule<Numbers, u64>> {
         ensures pushed { HasPushed (Index value) result (token_view self.old) (token_view self.new)
             ⊎ (result ≡ false) × WasAtEnd (token_view self.old) (token_view self.new) }
         ensures published { IsTrue result → HasPublished (Index value) (token_view self.old) (token_view self.new) }
-        ensures full { IsFalse result → WasFull (token_queue self.old).capacity (Index value) (token_view self.old) (token_view self.new)
+        ensures full { IsFalse result
+            → WasFull (token_queue self.old).capacity (Index value) (token_view self.old) (token_view self.new)
             ⊎ WasAtEnd (token_view self.old) (token_view self.new) }
         ensures roles { (r : Role) → Moved r 0 0 (token_view self.old).made (token_view self.new).made }
+        ensures steps { TakesAtMost 4 (token_view self.old) (token_view self.new) }
     {
         let call = Push::new(self.capacity);
         let end = self
@@ -43,6 +46,7 @@ impl Held<Numbers, u64, RingRule<Numbers, u64>> {
         ensures taken { IfSome result (λ x. HasTakenOut (Index x) (token_view self.old) (token_view self.new)) }
         ensures empty { IfNone result (WasEmpty (token_view self.old) (token_view self.new)) }
         ensures roles { (r : Role) → Moved r 0 0 (token_view self.old).made (token_view self.new).made }
+        ensures steps { TakesAtMost 4 (token_view self.old) (token_view self.new) }
     {
         let call = Pop::new(self.capacity);
         let mut room = OneWord(0);

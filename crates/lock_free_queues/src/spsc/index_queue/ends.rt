@@ -2,6 +2,7 @@
 ghost use Rattle.std.specs.Prelude.{◌≡◌, ◌⊎◌, false, IsTrue, IsFalse, IfSome, IfNone};
 ghost use Rattle.std.specs.Option.{option_map};
 ghost use Rattle.model.specs.declared.event.Item.TheVariants.{Index};
+ghost use Rattle.history.specs.Steps.{TakesAtMost};
 ghost use Rattle.lock_free_queues.specs.Queues.Calls.{producer_queue, producer_view, consumer_queue, consumer_view, GoesOn};
 ghost use Rattle.lock_free_queues.specs.Queues.Told.{HasPushed, HasPublished, HasTakenOut, WasAtEnd, WasFull, HasPopped, WasEmpty};
 
@@ -19,6 +20,7 @@ impl<'a> Producer<'a> {
         ensures full { IsFalse result
             → WasFull (producer_queue self.old).capacity (Index value) (producer_view self.old) (producer_view self.new)
             ⊎ WasAtEnd (producer_view self.old) (producer_view self.new) }
+        ensures steps { TakesAtMost 4 (producer_view self.old) (producer_view self.new) }
     {
         self.token.push(value)
     }
@@ -33,6 +35,7 @@ impl<'a> Consumer<'a> {
         ensures called { HasPopped (option_map Index result) (consumer_view self.old) (consumer_view self.new) }
         ensures popped { IfSome result (λ x. HasTakenOut (Index x) (consumer_view self.old) (consumer_view self.new)) }
         ensures empty { IfNone result (WasEmpty (consumer_view self.old) (consumer_view self.new)) }
+        ensures steps { TakesAtMost 4 (consumer_view self.old) (consumer_view self.new) }
     {
         self.token.pop()
     }

@@ -1,9 +1,10 @@
 //! The push of `steps`, which a seat drives.
-ghost use Rattle.std.specs.Prelude.{◌≡◌, ◌⊎◌, false, IsTrue, IsFalse};
+ghost use Rattle.std.specs.Prelude.{◌≡◌, ◌⊎◌, ◌+◌, false, IsTrue, IsFalse};
 ghost use Rattle.steps.specs.declared.queues.roles.Role.{Role};
 ghost use Rattle.steps.specs.declared.queues.roles.Role.TheVariants as roles;
 ghost use Rattle.model.specs.declared.event.Item.TheVariants.{Value};
 ghost use Rattle.history.specs.Roles.{HasRole};
+ghost use Rattle.history.specs.Steps.{TakesAtMost};
 ghost use Rattle.lock_free_queues.specs.Queues.Values.{token_queue, token_view, IsSameQueue};
 ghost use Rattle.lock_free_queues.specs.Queues.Roles.{Moved};
 ghost use Rattle.lock_free_queues.specs.Queues.Told.{HasPushed, HasPublished, WasAtEnd, WasFull};
@@ -23,9 +24,11 @@ impl<T: Words> Held<Values, T, RingRule<Values, T>> {
         ensures pushed { HasPushed (Value value.now) result (token_view self.old) (token_view self.new)
             ⊎ (result ≡ false) × WasAtEnd (token_view self.old) (token_view self.new) }
         ensures published { IsTrue result → HasPublished (Value value.now) (token_view self.old) (token_view self.new) }
-        ensures full { IsFalse result → WasFull (token_queue self.old).capacity (Value value.now) (token_view self.old) (token_view self.new)
+        ensures full { IsFalse result
+            → WasFull (token_queue self.old).capacity (Value value.now) (token_view self.old) (token_view self.new)
             ⊎ WasAtEnd (token_view self.old) (token_view self.new) }
         ensures roles { (r : Role) → Moved r 0 0 (token_view self.old).made (token_view self.new).made }
+        ensures steps { TakesAtMost (3 + T.WORDS) (token_view self.old) (token_view self.new) }
     {
         let call = Push::new(self.capacity);
         let end = self

@@ -2,8 +2,10 @@
 ghost use Rattle.std.specs.Prelude.{◌≡◌, IfOk, IfErr};
 ghost use Rattle.steps.specs.declared.enums.UniqueIndexCreationError.TheVariants.{NoMemory};
 ghost use Rattle.model.specs.declared.event.Item.TheVariants.{Value};
+ghost use Rattle.model.specs.declared.turn.Kind.TheVariants as kinds;
+ghost use Rattle.model.specs.Coding.{coding_of};
 ghost use Rattle.lock_free_queues.specs.Queues.Values.{capacity_of, inner, view, IsPassOf};
-ghost use Rattle.lock_free_queues.specs.Queues.Closes.{Closes};
+ghost use Rattle.lock_free_queues.specs.Queues.Closes.{Closes, IsWhatWaits};
 
 use super::{Pass, Queue, Ring};
 use crate::spsc::ring;
@@ -13,15 +15,20 @@ use steps::queues::ring::FIRST_CELL;
 use steps::words::Words;
 
 impl<T: Words> Ring<T> {
-    /// The queue of one caller that this one is in the end. Each value that the pass has seen published waits in it at
-    /// its place or lies before it, and each that it has seen taken lies before it. Who has the whole share knows that
-    /// just what was published and not taken waits. Other passes may still live.
+    /// The queue of one caller that this one is in the end: it has what waits at one moment of the call, whoever pushed
+    /// it, and before it lies what was popped until then. So each value that the pass has seen published waits in it at
+    /// its place or was popped. Who has the whole share knows that nothing came after what the pass had seen. Other
+    /// passes may still live, but no producer and no consumer.
     ///
     /// Refused is memory (`NoMemory`), for which it asks before the first atomic step; the queue and the pass are gone
-    /// then too. Else one growth, and 2 + `T::WORDS` times the capacity atomic steps. This project's own.
+    /// then too. Else one growth, and 3 + `T::WORDS` times the capacity atomic steps. If something was published
+    /// between the first of them and the last, it repeats all but the first; without a producer nothing is. This
+    /// project's own.
     pub fn close(self, pass: Pass<T>) -> Result<List<T>, UniqueIndexCreationError>
         requires { IsPassOf self pass }
         ensures list { IfOk result (λ q. Closes Value (capacity_of self) (view pass) q) }
+        ensures waits { IfOk result (λ q. IsWhatWaits (coding_of T.WORDS T.words_of T.value_of) kinds.Queue Value
+            (capacity_of self) (view pass) q) }
         ensures refused { IfErr result (λ e. e ≡ NoMemory) }
     {
         let count = FIRST_CELL + T::WORDS * self.capacity as usize;
@@ -36,6 +43,8 @@ impl<T: Words, const CAPACITY: usize> Queue<T, CAPACITY> {
     pub fn close(self, pass: Pass<T>) -> Result<List<T>, UniqueIndexCreationError>
         requires { IsPassOf (inner self) pass }
         ensures list { IfOk result (λ q. Closes Value CAPACITY (view pass) q) }
+        ensures waits { IfOk result (λ q. IsWhatWaits (coding_of T.WORDS T.words_of T.value_of) kinds.Queue Value
+            CAPACITY (view pass) q) }
         ensures refused { IfErr result (λ e. e ≡ NoMemory) }
     {
         self.into_ring().close(pass)

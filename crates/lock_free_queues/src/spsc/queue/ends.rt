@@ -1,8 +1,9 @@
 //! The calls of those that have a role.
-ghost use Rattle.std.specs.Prelude.{◌≡◌, ◌⊎◌, false, IsTrue, IsFalse, IfSome, IfNone};
+ghost use Rattle.std.specs.Prelude.{◌≡◌, ◌⊎◌, ◌+◌, false, IsTrue, IsFalse, IfSome, IfNone};
 ghost use Rattle.std.specs.Option.{option_map};
 ghost use Rattle.model.specs.declared.event.Item.TheVariants.{Value};
 ghost use Rattle.model.specs.Coding.{coding_of};
+ghost use Rattle.history.specs.Steps.{TakesAtMost};
 ghost use Rattle.lock_free_queues.specs.Queues.Values.{producer_queue, producer_view, consumer_queue, consumer_view, GoesOn};
 ghost use Rattle.lock_free_queues.specs.Queues.Told.{HasPushed, HasPublished, HasTakenOut, WasAtEnd, WasFull, HasPopped, WasEmpty};
 
@@ -18,10 +19,13 @@ impl<'a, T: Words> Producer<'a, T> {
             (producer_view self.old) (producer_view self.new) }
         ensures called { HasPushed (Value value.now) result (producer_view self.old) (producer_view self.new)
             ⊎ (result ≡ false) × WasAtEnd (producer_view self.old) (producer_view self.new) }
-        ensures pushed { IsTrue result → HasPublished (Value value.now) (producer_view self.old) (producer_view self.new) }
+        ensures pushed { IsTrue result
+            → HasPublished (Value value.now) (producer_view self.old) (producer_view self.new) }
         ensures full { IsFalse result
-            → WasFull (producer_queue self.old).capacity (Value value.now) (producer_view self.old) (producer_view self.new)
+            → WasFull (producer_queue self.old).capacity (Value value.now) (producer_view self.old)
+            (producer_view self.new)
             ⊎ WasAtEnd (producer_view self.old) (producer_view self.new) }
+        ensures steps { TakesAtMost (3 + T.WORDS) (producer_view self.old) (producer_view self.new) }
     {
         self.token.push(value)
     }
@@ -37,6 +41,7 @@ impl<'a, T: Words> Consumer<'a, T> {
         ensures called { HasPopped (option_map Value result) (consumer_view self.old) (consumer_view self.new) }
         ensures popped { IfSome result (λ x. HasTakenOut (Value x) (consumer_view self.old) (consumer_view self.new)) }
         ensures empty { IfNone result (WasEmpty (consumer_view self.old) (consumer_view self.new)) }
+        ensures steps { TakesAtMost (3 + T.WORDS) (consumer_view self.old) (consumer_view self.new) }
     {
         self.token.pop()
     }

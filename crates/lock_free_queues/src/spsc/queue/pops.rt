@@ -1,10 +1,11 @@
 //! The pop at a seat, by way of a room.
-ghost use Rattle.std.specs.Prelude.{◌≡◌, ◌≤◌, ℕ, replicate, IfSome, IfNone};
+ghost use Rattle.std.specs.Prelude.{◌≡◌, ◌≤◌, ◌+◌, ℕ, replicate, IfSome, IfNone};
 ghost use Rattle.std.specs.Option.{option_map};
 ghost use Rattle.steps.specs.declared.queues.roles.Role.{Role};
 ghost use Rattle.steps.specs.declared.queues.roles.Role.TheVariants as roles;
 ghost use Rattle.model.specs.declared.event.Item.TheVariants.{Value};
 ghost use Rattle.history.specs.Roles.{HasRole};
+ghost use Rattle.history.specs.Steps.{TakesAtMost};
 ghost use Rattle.lock_free_queues.specs.Queues.Roles.{Moved};
 ghost use Rattle.lock_free_queues.specs.Queues.Told.{HasPopped, HasTakenOut, WasEmpty};
 ghost use Rattle.lock_free_queues.specs.Queues.Values.{token_view, IsSameQueue};
@@ -26,6 +27,7 @@ impl<T: Words> Held<Values, T, RingRule<Values, T>> {
         ensures taken { IfSome result (λ x. HasTakenOut (Value x) (token_view self.old) (token_view self.new)) }
         ensures empty { IfNone result (WasEmpty (token_view self.old) (token_view self.new)) }
         ensures roles { (r : Role) → Moved r 0 0 (token_view self.old).made (token_view self.new).made }
+        ensures steps { TakesAtMost (3 + T.WORDS) (token_view self.old) (token_view self.new) }
     {
         // a room is filled with zeros: the smallest that the words fit in
         if T::WORDS <= 2 {
@@ -47,6 +49,7 @@ impl<T: Words> Held<Values, T, RingRule<Values, T>> {
         ensures taken { IfSome result (λ x. HasTakenOut (Value x) (token_view self.old) (token_view self.new)) }
         ensures empty { IfNone result (WasEmpty (token_view self.old) (token_view self.new)) }
         ensures roles { (r : Role) → Moved r 0 0 (token_view self.old).made (token_view self.new).made }
+        ensures steps { TakesAtMost (3 + T.WORDS) (token_view self.old) (token_view self.new) }
     {
         let call = Pop::<T, R>::new(self.capacity);
         let mut room = room;

@@ -1,6 +1,7 @@
 //! The calls of `steps` on roles, which a seat drives.
 ghost use Rattle.std.specs.Prelude.{IsTrue, IsFalse};
 ghost use Rattle.history.specs.Roles.{HasRole};
+ghost use Rattle.history.specs.Steps.{TakesAtMost};
 ghost use Rattle.lock_free_queues.specs.Queues.Kinds.{NoneMarked};
 ghost use Rattle.lock_free_queues.specs.Queues.Rings.{token_view, IsSameQueue};
 ghost use Rattle.lock_free_queues.specs.Queues.Roles.{Moved, other_role};
@@ -17,6 +18,7 @@ impl<E: Kind, T: Words> Held<E, T, RingRule<E, T>> {
     pub fn take<R: Side>(&mut self) -> bool
         ensures same { IsSameQueue self.old self.new }
         ensures acquired { HasAcquired R.ROLE result (token_view self.old) (token_view self.new) }
+        ensures steps { TakesAtMost 1 (token_view self.old) (token_view self.new) }
         ensures taken { IsTrue result → Moved R.ROLE 1 0 (token_view self.old).made (token_view self.new).made }
         ensures refused { IsFalse result → Moved R.ROLE 0 0 (token_view self.old).made (token_view self.new).made }
         ensures other { Moved (other_role R.ROLE) 0 0 (token_view self.old).made (token_view self.new).made }
@@ -31,6 +33,7 @@ impl<E: Kind, T: Words> Held<E, T, RingRule<E, T>> {
         requires { HasRole R.ROLE (token_view self.old).made }
         ensures same { IsSameQueue self.old self.new }
         ensures left { HasReleased R.ROLE (token_view self.old) (token_view self.new) }
+        ensures steps { TakesAtMost 1 (token_view self.old) (token_view self.new) }
         ensures list { NoneMarked R.ROLE E.KIND (token_view self.old) (token_view self.new) }
         ensures mine { Moved R.ROLE 0 1 (token_view self.old).made (token_view self.new).made }
         ensures other { Moved (other_role R.ROLE) 0 0 (token_view self.old).made (token_view self.new).made }

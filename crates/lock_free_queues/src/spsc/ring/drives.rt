@@ -1,5 +1,5 @@
 //! What the calls that all queues have say of the views at their steps. These types are for the proofs alone.
-ghost use Rattle.std.specs.Prelude.{◌≡◌, ℕ, [], refl};
+ghost use Rattle.std.specs.Prelude.{◌≡◌, ℕ, ◌+◌, [], refl};
 ghost use Rattle.model.specs.Coding.{coding_of};
 ghost use Rattle.steps.specs.declared.queues.roles.Role.{Role};
 ghost use Rattle.steps.specs.declared.queues.roles.Role.TheVariants as roles;
@@ -9,7 +9,6 @@ ghost use Rattle.history.specs.Roles.{role_word};
 ghost use Rattle.lock_free_queues.specs.Queues.Bounded.{machine_kind};
 
 use super::rule::Kind;
-use atomic_table::Play;
 use history::view::View;
 use std::marker::PhantomData;
 use steps::queues::lengths::Len;
@@ -124,17 +123,4 @@ impl<E: Kind, W: Measure, T: Words> Drives<View<T>, Len> for Measures<E, W> {
 
     ghost ends = { λ given base. Ends (coding_of T.WORDS T.words_of T.value_of) (machine_kind E.KIND)
         (counts_waiting W.WHICH base.capacity) base };
-}
-
-/// A look at the whole history, by a load that tells what the machine has in its word.
-pub struct Look<E> {
-    of: PhantomData<E>,
-}
-
-impl<E: Kind, T: Words> Play<(), View<T>> for Look<E> {
-    ghost use Rattle.history.specs.Views.{LooksAt};
-
-    ghost then = { λ step old found new.
-        LooksAt (coding_of T.WORDS T.words_of T.value_of) (machine_kind E.KIND) old.0.capacity step.word old.0 found new.0
-        × (new.1 ≡ []) };
 }

@@ -3,6 +3,7 @@ ghost use Rattle.std.specs.Prelude.{◌≡◌, true, false, IfOk, IfErr};
 ghost use Rattle.steps.specs.declared.queues.roles.Role.TheVariants as roles;
 ghost use Rattle.model.specs.Families.Queues.Reading.{published};
 ghost use Rattle.model.specs.Coding.{coding_of};
+ghost use Rattle.history.specs.Steps.{TakesAtMost};
 ghost use Rattle.lock_free_queues.specs.Queues.Kinds.{NoneTaken};
 ghost use Rattle.lock_free_queues.specs.Queues.Rings.{queue_of, view, producer_queue, producer_view, consumer_queue, consumer_view, IsPassOf, GoesOn};
 ghost use Rattle.lock_free_queues.specs.Queues.Told.{HasAcquired, HasReleased};
@@ -18,11 +19,14 @@ impl<E: Kind, T: Words> Ring<E, T> {
     pub fn acquire_producer(&self, pass: Pass<E, T>) -> Result<Producer<'_, E, T>, Pass<E, T>>
         requires { IsPassOf self.now pass }
         ensures acquired { IfOk result (λ p. (producer_queue p ≡ queue_of pass)
-            × GoesOn (coding_of T.WORDS T.words_of T.value_of) E.KIND (queue_of pass).capacity (view pass) (producer_view p)
-            × HasAcquired roles.Producer true (view pass) (producer_view p)) }
+            × GoesOn (coding_of T.WORDS T.words_of T.value_of) E.KIND (queue_of pass).capacity (view pass)
+            (producer_view p)
+            × HasAcquired roles.Producer true (view pass) (producer_view p)
+            × TakesAtMost 1 (view pass) (producer_view p)) }
         ensures refused { IfErr result (λ p. (queue_of p ≡ queue_of pass)
             × GoesOn (coding_of T.WORDS T.words_of T.value_of) E.KIND (queue_of pass).capacity (view pass) (view p)
-            × HasAcquired roles.Producer false (view pass) (view p)) }
+            × HasAcquired roles.Producer false (view pass) (view p)
+            × TakesAtMost 1 (view pass) (view p)) }
     {
         let mut token = pass.into_token();
         if token.take::<Pushing>() {
@@ -37,11 +41,14 @@ impl<E: Kind, T: Words> Ring<E, T> {
     pub fn acquire_consumer(&self, pass: Pass<E, T>) -> Result<Consumer<'_, E, T>, Pass<E, T>>
         requires { IsPassOf self.now pass }
         ensures acquired { IfOk result (λ c. (consumer_queue c ≡ queue_of pass)
-            × GoesOn (coding_of T.WORDS T.words_of T.value_of) E.KIND (queue_of pass).capacity (view pass) (consumer_view c)
-            × HasAcquired roles.Consumer true (view pass) (consumer_view c)) }
+            × GoesOn (coding_of T.WORDS T.words_of T.value_of) E.KIND (queue_of pass).capacity (view pass)
+            (consumer_view c)
+            × HasAcquired roles.Consumer true (view pass) (consumer_view c)
+            × TakesAtMost 1 (view pass) (consumer_view c)) }
         ensures refused { IfErr result (λ p. (queue_of p ≡ queue_of pass)
             × GoesOn (coding_of T.WORDS T.words_of T.value_of) E.KIND (queue_of pass).capacity (view pass) (view p)
-            × HasAcquired roles.Consumer false (view pass) (view p)) }
+            × HasAcquired roles.Consumer false (view pass) (view p)
+            × TakesAtMost 1 (view pass) (view p)) }
     {
         let mut token = pass.into_token();
         if token.take::<Popping>() {
@@ -60,6 +67,7 @@ impl<'a, E: Kind, T: Words> Producer<'a, E, T> {
             (producer_view self.entry) (view result) }
         ensures released { HasReleased roles.Producer (producer_view self.entry) (view result) }
         ensures list { published (view result).seen ≡ published (producer_view self.entry).seen }
+        ensures steps { TakesAtMost 1 (producer_view self.entry) (view result) }
     {
         let Producer { ring: _, mut token } = self;
         token.leave::<Pushing>();
@@ -75,6 +83,7 @@ impl<'a, E: Kind, T: Words> Consumer<'a, E, T> {
             (consumer_view self.entry) (view result) }
         ensures released { HasReleased roles.Consumer (consumer_view self.entry) (view result) }
         ensures list { NoneTaken E.KIND (consumer_view self.entry) (view result) }
+        ensures steps { TakesAtMost 1 (consumer_view self.entry) (view result) }
     {
         let Consumer { ring: _, mut token } = self;
         token.leave::<Popping>();

@@ -5,6 +5,8 @@ ghost use Rattle.model.specs.declared.event.Answer.TheVariants.{Number, Truth};
 ghost use Rattle.model.specs.declared.families.queues.calls.LengthOf.TheVariants as measures;
 ghost use Rattle.model.specs.Coding.{coding_of};
 ghost use Rattle.model.specs.Families.Queues.Calls.{length_answer};
+ghost use Rattle.history.specs.Steps.{TakesAlone};
+ghost use Rattle.lock_free_queues.specs.Queues.Bounded.{machine_kind};
 ghost use Rattle.lock_free_queues.specs.Queues.Kinds.{most_waiting};
 ghost use Rattle.lock_free_queues.specs.Queues.Roles.{Moved};
 ghost use Rattle.lock_free_queues.specs.Queues.Rings.{capacity_of, token_queue, token_view, queue_of, view};
@@ -26,6 +28,9 @@ impl<E: Kind, T: Words> Held<E, T, RingRule<E, T>> {
         ensures measured { HasMeasured W.WHICH (token_queue self.old).capacity
             (length_answer W.WHICH (token_queue self.old).capacity result) (token_view self.old) (token_view self.new) }
         ensures few { W.WHICH ≡ measures.Len → result ≤ most_waiting E.KIND (token_queue self.old).capacity }
+        ensures steps { TakesAlone (coding_of T.WORDS T.words_of T.value_of) (machine_kind E.KIND)
+            (token_queue self.old).capacity 4 4
+            (token_view self.old) (token_view self.new) }
         ensures roles { (r : Role) → Moved r 0 0 (token_view self.old).made (token_view self.new).made }
     {
         let call = Len::new(self.capacity);
@@ -39,6 +44,9 @@ impl<E: Kind, T: Words> Held<E, T, RingRule<E, T>> {
         ensures counted { HasMeasured measures.Len (token_queue self.old).capacity (Number result)
             (token_view self.old) (token_view self.new) }
         ensures few { result ≤ most_waiting E.KIND (token_queue self.old).capacity }
+        ensures steps { TakesAlone (coding_of T.WORDS T.words_of T.value_of) (machine_kind E.KIND)
+            (token_queue self.old).capacity 4 4
+            (token_view self.old) (token_view self.new) }
         ensures roles { (r : Role) → Moved r 0 0 (token_view self.old).made (token_view self.new).made }
     {
         self.measure::<Length>(rt)
@@ -49,6 +57,9 @@ impl<E: Kind, T: Words> Held<E, T, RingRule<E, T>> {
         ensures same { IsSameQueue self.old self.new }
         ensures told { HasMeasured measures.IsEmpty (token_queue self.old).capacity (Truth result)
             (token_view self.old) (token_view self.new) }
+        ensures steps { TakesAlone (coding_of T.WORDS T.words_of T.value_of) (machine_kind E.KIND)
+            (token_queue self.old).capacity 4 4
+            (token_view self.old) (token_view self.new) }
         ensures roles { (r : Role) → Moved r 0 0 (token_view self.old).made (token_view self.new).made }
     {
         self.measure::<Emptiness>(rt) == 0
@@ -58,6 +69,9 @@ impl<E: Kind, T: Words> Held<E, T, RingRule<E, T>> {
     pub fn is_full(&mut self, rt: &impl Wait) -> bool
         ensures same { IsSameQueue self.old self.new }
         ensures told { HasMeasured measures.IsFull (token_queue self.old).capacity (Truth result)
+            (token_view self.old) (token_view self.new) }
+        ensures steps { TakesAlone (coding_of T.WORDS T.words_of T.value_of) (machine_kind E.KIND)
+            (token_queue self.old).capacity 4 4
             (token_view self.old) (token_view self.new) }
         ensures roles { (r : Role) → Moved r 0 0 (token_view self.old).made (token_view self.new).made }
     {
@@ -77,6 +91,9 @@ impl<E: Kind, T: Words> Ring<E, T> {
         ensures counted { HasMeasured measures.Len (capacity_of self.now) (Number result)
             (view pass.old) (view pass.new) }
         ensures few { result ≤ most_waiting E.KIND (capacity_of self.now) }
+        ensures steps { TakesAlone (coding_of T.WORDS T.words_of T.value_of) (machine_kind E.KIND)
+            (queue_of pass.old).capacity 4 4
+            (view pass.old) (view pass.new) }
     {
         pass.token.len(rt) as usize
     }
@@ -89,6 +106,9 @@ impl<E: Kind, T: Words> Ring<E, T> {
             (view pass.old) (view pass.new) }
         ensures told { HasMeasured measures.IsEmpty (capacity_of self.now) (Truth result)
             (view pass.old) (view pass.new) }
+        ensures steps { TakesAlone (coding_of T.WORDS T.words_of T.value_of) (machine_kind E.KIND)
+            (queue_of pass.old).capacity 4 4
+            (view pass.old) (view pass.new) }
     {
         pass.token.is_empty(rt)
     }
@@ -100,6 +120,9 @@ impl<E: Kind, T: Words> Ring<E, T> {
         ensures goes { GoesOn (coding_of T.WORDS T.words_of T.value_of) E.KIND (queue_of pass.old).capacity
             (view pass.old) (view pass.new) }
         ensures told { HasMeasured measures.IsFull (capacity_of self.now) (Truth result)
+            (view pass.old) (view pass.new) }
+        ensures steps { TakesAlone (coding_of T.WORDS T.words_of T.value_of) (machine_kind E.KIND)
+            (queue_of pass.old).capacity 4 4
             (view pass.old) (view pass.new) }
     {
         pass.token.is_full(rt)
@@ -122,6 +145,9 @@ impl<'a, E: Kind, T: Words> Producer<'a, E, T> {
         ensures counted { HasMeasured measures.Len (producer_queue self.old).capacity (Number result)
             (producer_view self.old) (producer_view self.new) }
         ensures few { result ≤ most_waiting E.KIND (producer_queue self.old).capacity }
+        ensures steps { TakesAlone (coding_of T.WORDS T.words_of T.value_of) (machine_kind E.KIND)
+            (producer_queue self.old).capacity 4 4
+            (producer_view self.old) (producer_view self.new) }
     {
         self.token.len(rt) as usize
     }
@@ -133,6 +159,9 @@ impl<'a, E: Kind, T: Words> Producer<'a, E, T> {
             (producer_view self.old) (producer_view self.new) }
         ensures told { HasMeasured measures.IsEmpty (producer_queue self.old).capacity (Truth result)
             (producer_view self.old) (producer_view self.new) }
+        ensures steps { TakesAlone (coding_of T.WORDS T.words_of T.value_of) (machine_kind E.KIND)
+            (producer_queue self.old).capacity 4 4
+            (producer_view self.old) (producer_view self.new) }
     {
         self.token.is_empty(rt)
     }
@@ -143,6 +172,9 @@ impl<'a, E: Kind, T: Words> Producer<'a, E, T> {
         ensures goes { GoesOn (coding_of T.WORDS T.words_of T.value_of) E.KIND (producer_queue self.old).capacity
             (producer_view self.old) (producer_view self.new) }
         ensures told { HasMeasured measures.IsFull (producer_queue self.old).capacity (Truth result)
+            (producer_view self.old) (producer_view self.new) }
+        ensures steps { TakesAlone (coding_of T.WORDS T.words_of T.value_of) (machine_kind E.KIND)
+            (producer_queue self.old).capacity 4 4
             (producer_view self.old) (producer_view self.new) }
     {
         self.token.is_full(rt)
@@ -165,6 +197,9 @@ impl<'a, E: Kind, T: Words> Consumer<'a, E, T> {
         ensures counted { HasMeasured measures.Len (consumer_queue self.old).capacity (Number result)
             (consumer_view self.old) (consumer_view self.new) }
         ensures few { result ≤ most_waiting E.KIND (consumer_queue self.old).capacity }
+        ensures steps { TakesAlone (coding_of T.WORDS T.words_of T.value_of) (machine_kind E.KIND)
+            (consumer_queue self.old).capacity 4 4
+            (consumer_view self.old) (consumer_view self.new) }
     {
         self.token.len(rt) as usize
     }
@@ -176,6 +211,9 @@ impl<'a, E: Kind, T: Words> Consumer<'a, E, T> {
             (consumer_view self.old) (consumer_view self.new) }
         ensures told { HasMeasured measures.IsEmpty (consumer_queue self.old).capacity (Truth result)
             (consumer_view self.old) (consumer_view self.new) }
+        ensures steps { TakesAlone (coding_of T.WORDS T.words_of T.value_of) (machine_kind E.KIND)
+            (consumer_queue self.old).capacity 4 4
+            (consumer_view self.old) (consumer_view self.new) }
     {
         self.token.is_empty(rt)
     }
@@ -186,6 +224,9 @@ impl<'a, E: Kind, T: Words> Consumer<'a, E, T> {
         ensures goes { GoesOn (coding_of T.WORDS T.words_of T.value_of) E.KIND (consumer_queue self.old).capacity
             (consumer_view self.old) (consumer_view self.new) }
         ensures told { HasMeasured measures.IsFull (consumer_queue self.old).capacity (Truth result)
+            (consumer_view self.old) (consumer_view self.new) }
+        ensures steps { TakesAlone (coding_of T.WORDS T.words_of T.value_of) (machine_kind E.KIND)
+            (consumer_queue self.old).capacity 4 4
             (consumer_view self.old) (consumer_view self.new) }
     {
         self.token.is_full(rt)

@@ -10,13 +10,12 @@ ghost use Rattle.lock_free_queues.specs.Queues.Bounded.{machine_kind};
 ghost use Rattle.lock_free_queues.specs.Queues.Kinds.{words_in_cells, opened_by};
 ghost use Rattle.lock_free_queues.specs.Queues.Rings.{capacity_of, IsPassOf, view};
 
-use super::rule::{Kind, Origin};
+use super::rule::{Kind, Origin, RingRule};
 use super::{Held, Pass, Ring};
 use crate::spsc::places::{empty_words, start_at};
-use atomic_table::Table;
+use history::view::View;
 use std::alloc::{AllocError, Global};
 use std::marker::PhantomData;
-use std::sync::Arc;
 use steps::enums::{UniqueIndexCreationError, capacity_refusal};
 use steps::words::Words;
 use threaded::driver::seated::Seated;
@@ -40,19 +39,18 @@ impl<E: Kind, T: Words> Ring<E, T> {
             capacity: capacity as u64,
             position,
         };
-        let (table, seat) = Table::of_words(alloc, words.as_slice(), &origin)?;
-        let table = Arc::new(alloc, table)?;
-        let shared = Arc::try_clone(&table)?;
+        let (home, seated) = Seated::<View<T>, Origin, RingRule<E, T>>::open(
+            alloc,
+            words.as_slice(),
+            &origin,
+        )?;
         let token = Held {
             of: PhantomData,
-            seated: Seated {
-                seat,
-                table: shared,
-            },
+            seated,
             capacity,
         };
         let ring = Ring {
-            table,
+            home,
             capacity,
             alloc,
         };

@@ -1,20 +1,18 @@
 //! How passes are made of one another.
 ghost use Rattle.std.specs.Prelude.{◌≡◌, IfSome, IfNone};
 ghost use Rattle.model.specs.Coding.{coding_of};
+ghost use Rattle.history.specs.Steps.{TakesAtMost};
 ghost use Rattle.lock_free_queues.specs.Queues.Rings.{token_queue, token_view, queue_of, view, producer_queue};
 ghost use Rattle.lock_free_queues.specs.Queues.Rings.{producer_view, consumer_queue, consumer_view, HasHistory};
 ghost use Rattle.lock_free_queues.specs.Queues.Rings.{MissesNothing, GoesOn, IsSameQueue};
 ghost use Rattle.lock_free_queues.specs.Queues.Told.{HasSplit, HasJoined, HasLooked};
 
-use super::drives::Look;
 use super::rule::{Kind, RingRule};
 use super::{Consumer, Held, Pass, Producer, Token};
 use history::plays::{Both, Cut};
-use std::marker::PhantomData;
-use std::sync::Arc;
+use std::marker::{Brand, PhantomData};
 use steps::queues::ring::WRITE;
 use steps::words::Words;
-use threaded::driver::seated::Seated;
 
 impl<E: Kind, T: Words> Held<E, T, RingRule<E, T>> {
     /// A new seat of the same queue, which has seen the same and made nothing. None where no further reference can be
@@ -25,15 +23,12 @@ impl<E: Kind, T: Words> Held<E, T, RingRule<E, T>> {
         ensures cut { IfSome result (λ t. HasSplit (token_view self.old) (token_view self.new) (token_view t)) }
         ensures made { (token_view self.new).made ≡ (token_view self.old).made }
         ensures none { IfNone result (token_view self.new ≡ token_view self.old) }
+        ensures steps { TakesAtMost 1 (token_view self.old) (token_view self.new) }
     {
-        let seated = &mut self.seated;
-        let Ok(table) = Arc::try_clone(&seated.table) else {
-            return None;
-        };
-        let seat = seated.table.shared.split_seat::<Cut>(&mut seated.seat);
+        let seated = self.seated.split::<Cut>()?;
         Some(Held {
             of: PhantomData,
-            seated: Seated { seat, table },
+            seated,
             capacity: self.capacity,
         })
     }
@@ -43,30 +38,27 @@ impl<E: Kind, T: Words> Held<E, T, RingRule<E, T>> {
         requires { token_queue other ≡ token_queue self.old }
         ensures queue { token_queue self.new ≡ token_queue self.old }
         ensures joined { HasJoined (token_view self.old) (token_view other) (token_view self.new) }
-        ensures history { HasHistory (coding_of T.WORDS T.words_of T.value_of) E.KIND (token_queue self.old).capacity (token_view self.new) }
+        ensures history { HasHistory (coding_of T.WORDS T.words_of T.value_of) E.KIND (token_queue self.old).capacity
+            (token_view self.new) }
         ensures all { MissesNothing (token_view self.new) }
+        ensures steps { TakesAtMost 2 (token_view self.old) (token_view self.new) }
     {
         let Held {
             of: _,
             seated: other,
             capacity: _,
         } = other;
-        let Seated { seat, .. } = other;
-        let seated = &mut self.seated;
-        seated
-            .table
-            .shared
-            .join_seat::<Both>(&mut seated.seat, seat);
-        let _ = seated.table.shared.load::<Look<E>>(&mut seated.seat, WRITE);
+        self.seated.join::<Both>(other);
+        let _ = self.seated.look::<Brand>(WRITE);
     }
 
     /// A look at the whole history: one load.
     pub fn look(&mut self)
         ensures same { IsSameQueue self.old self.new }
         ensures looked { HasLooked (token_view self.old) (token_view self.new) }
+        ensures steps { TakesAtMost 1 (token_view self.old) (token_view self.new) }
     {
-        let seated = &mut self.seated;
-        let _ = seated.table.shared.load::<Look<E>>(&mut seated.seat, WRITE);
+        let _ = self.seated.look::<Brand>(WRITE);
     }
 }
 
@@ -79,6 +71,7 @@ impl<E: Kind, T: Words> Pass<E, T> {
         ensures new { IfSome result (λ p. queue_of p ≡ queue_of self.old) }
         ensures cut { IfSome result (λ p. HasSplit (view self.old) (view self.new) (view p)) }
         ensures none { IfNone result (view self.new ≡ view self.old) }
+        ensures steps { TakesAtMost 1 (view self.old) (view self.new) }
     {
         let token = self.token.split()?;
         Some(Pass { token })
@@ -90,8 +83,10 @@ impl<E: Kind, T: Words> Pass<E, T> {
         requires { queue_of other ≡ queue_of self.old }
         ensures queue { queue_of self.new ≡ queue_of self.old }
         ensures joined { HasJoined (view self.old) (view other) (view self.new) }
-        ensures history { HasHistory (coding_of T.WORDS T.words_of T.value_of) E.KIND (queue_of self.old).capacity (view self.new) }
+        ensures history { HasHistory (coding_of T.WORDS T.words_of T.value_of) E.KIND (queue_of self.old).capacity
+            (view self.new) }
         ensures all { MissesNothing (view self.new) }
+        ensures steps { TakesAtMost 2 (view self.old) (view self.new) }
     {
         let Pass { token } = other;
         self.token.join(token);
@@ -103,6 +98,7 @@ impl<E: Kind, T: Words> Pass<E, T> {
         ensures goes { GoesOn (coding_of T.WORDS T.words_of T.value_of) E.KIND (queue_of self.old).capacity
             (view self.old) (view self.new) }
         ensures looked { HasLooked (view self.old) (view self.new) }
+        ensures steps { TakesAtMost 1 (view self.old) (view self.new) }
     {
         self.token.look();
     }
@@ -114,8 +110,10 @@ impl<'a, E: Kind, T: Words> Producer<'a, E, T> {
         requires { queue_of other ≡ producer_queue self.old }
         ensures queue { producer_queue self.new ≡ producer_queue self.old }
         ensures joined { HasJoined (producer_view self.old) (view other) (producer_view self.new) }
-        ensures history { HasHistory (coding_of T.WORDS T.words_of T.value_of) E.KIND (producer_queue self.old).capacity (producer_view self.new) }
+        ensures history { HasHistory (coding_of T.WORDS T.words_of T.value_of) E.KIND
+            (producer_queue self.old).capacity (producer_view self.new) }
         ensures all { MissesNothing (producer_view self.new) }
+        ensures steps { TakesAtMost 2 (producer_view self.old) (producer_view self.new) }
     {
         let token = other.into_token();
         self.token.join(token);
@@ -128,8 +126,10 @@ impl<'a, E: Kind, T: Words> Consumer<'a, E, T> {
         requires { queue_of other ≡ consumer_queue self.old }
         ensures queue { consumer_queue self.new ≡ consumer_queue self.old }
         ensures joined { HasJoined (consumer_view self.old) (view other) (consumer_view self.new) }
-        ensures history { HasHistory (coding_of T.WORDS T.words_of T.value_of) E.KIND (consumer_queue self.old).capacity (consumer_view self.new) }
+        ensures history { HasHistory (coding_of T.WORDS T.words_of T.value_of) E.KIND
+            (consumer_queue self.old).capacity (consumer_view self.new) }
         ensures all { MissesNothing (consumer_view self.new) }
+        ensures steps { TakesAtMost 2 (consumer_view self.old) (consumer_view self.new) }
     {
         let token = other.into_token();
         self.token.join(token);

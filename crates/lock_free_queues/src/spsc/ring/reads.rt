@@ -1,18 +1,18 @@
 //! How all words of a queue are read, while others may still step.
-ghost use Rattle.std.specs.Prelude.{◌≡◌, ◌+◌, ◌<◌, ◌^◌, IfOk, IfErr};
+ghost use Rattle.std.specs.Prelude.{◌≡◌, ◌+◌, ◌<◌, ◌^◌, length, IfOk, IfErr};
 ghost use Rattle.steps.specs.declared.enums.UniqueIndexCreationError.TheVariants.{NoMemory};
 ghost use Rattle.model.specs.Coding.{coding_of};
 ghost use Rattle.lock_free_queues.specs.Queues.Bounded.{machine_kind};
 ghost use Rattle.lock_free_queues.specs.Queues.Kinds.{words_in_cells};
-ghost use Rattle.lock_free_queues.specs.Queues.Rings.{capacity_of, token_queue, token_view, view, IsPassOf};
-ghost use Rattle.lock_free_queues.specs.Queues.Reads.{WasRead, HasRead, LastWords};
+ghost use Rattle.lock_free_queues.specs.Queues.Rings.{capacity_of, token_queue, token_view, view, IsPassOf, MissesNothing};
+ghost use Rattle.lock_free_queues.specs.Queues.Reads.{WasRead, CellsRead, HasRead, LastWords};
 
-use super::drives::Look;
 use super::rule::{Kind, RingRule};
 use super::{Held, Pass, Ring};
 use std::alloc::{AllocError, Global};
+use std::marker::Brand;
 use steps::enums::UniqueIndexCreationError;
-use steps::queues::ring::{FIRST_CELL, READ, WRITE};
+use steps::queues::ring::{CONSUMER, FIRST_CELL, PRODUCER, READ, WRITE};
 use steps::words::Words;
 
 impl<E: Kind, T: Words> Held<E, T, RingRule<E, T>> {
@@ -22,39 +22,56 @@ impl<E: Kind, T: Words> Held<E, T, RingRule<E, T>> {
         ensures queue { token_queue self.new ≡ token_queue self.old }
         ensures fits { result < 2 ^ 64 }
         ensures read { HasRead (token_view self.old) (token_view self.new) }
-        ensures found { WasRead (coding_of T.WORDS T.words_of T.value_of) (machine_kind E.KIND) (token_queue self.old).capacity
+        ensures found { WasRead (coding_of T.WORDS T.words_of T.value_of) (machine_kind E.KIND)
+            (token_queue self.old).capacity
             (token_view self.old) (token_view self.new) word result }
-        ensures last { WasRead (coding_of T.WORDS T.words_of T.value_of) (machine_kind E.KIND) (token_queue self.old).capacity
+        ensures last { WasRead (coding_of T.WORDS T.words_of T.value_of) (machine_kind E.KIND)
+            (token_queue self.old).capacity
             (token_view self.new) (token_view self.new) word result }
     {
-        let seated = &mut self.seated;
-        seated.table.shared.load::<Look<E>>(&mut seated.seat, word)
+        self.seated.look::<Brand>(word)
     }
 
-    /// The words of the list that the queue is in the end, so many of them: two loads, and one for each word of the
-    /// cells. What is published after the first load is not in it, and the read position, which comes last, says what
-    /// was taken.
+    /// Loads each word of the cells into its place: one load for each.
+    pub fn read_cells(&mut self, words: &mut Vec<u64>)
+        requires long { length words.old.items ≡ 4 + words_in_cells T.WORDS E.KIND (token_queue self.old).capacity }
+        requires all { MissesNothing (token_view self.old) }
+        ensures queue { token_queue self.new ≡ token_queue self.old }
+        ensures read { HasRead (token_view self.old) (token_view self.new) }
+        ensures long { length words.new.items ≡ length words.old.items }
+        ensures cells { CellsRead (coding_of T.WORDS T.words_of T.value_of) (machine_kind E.KIND)
+            (token_queue self.old).capacity
+            (token_view self.old) (token_view self.new) words.new.items }
+    {
+        for at in FIRST_CELL..words.len() {
+            let word = self.read(at);
+            words[at] = word;
+        }
+    }
+
+    /// The words of the list that the queue is in the end, so many of them: three loads, and one for each word of the
+    /// cells. If something was published between the first load and the last, it loads all but the first again.
     pub fn last_words(&mut self, alloc: Global, count: usize) -> Result<Vec<u64>, AllocError>
         requires { count ≡ 4 + words_in_cells T.WORDS E.KIND (token_queue self.old).capacity }
         ensures { IfOk result (λ words. LastWords (coding_of T.WORDS T.words_of T.value_of) (machine_kind E.KIND)
             (words_in_cells T.WORDS E.KIND (token_queue self.old).capacity) (token_queue self.old).capacity
             (token_view self.old) words.items) }
     {
-        let mut words = Vec::with_capacity(alloc, count)?;
-        let write = self.read(WRITE);
-        words.push_reserved(write);
-        words.push_reserved(0);
-        words.push_reserved(1);
-        words.push_reserved(1);
-        for at in FIRST_CELL..count {
-            let word = self.read(at);
-            words.push_reserved(word);
+        let mut words = Vec::from_elem(alloc, 0u64, count)?;
+        words[PRODUCER] = 1;
+        words[CONSUMER] = 1;
+        let mut write = self.read(WRITE);
+        loop {
+            self.read_cells(&mut words);
+            let read = self.read(READ);
+            let again = self.read(WRITE);
+            if again == write {
+                words[WRITE] = write;
+                words[READ] = read;
+                return Ok(words);
+            }
+            write = again;
         }
-        let read = self.read(READ);
-        // all that was published before the first load may have been taken, and more
-        words[WRITE] = write.max(read);
-        words[READ] = read;
-        Ok(words)
     }
 }
 

@@ -3,9 +3,8 @@ ghost use Rattle.model.specs.Coding.{coding_of};
 ghost use Rattle.model.specs.declared.families.queues.QueueKind.{QueueKind};
 ghost use Rattle.model.specs.declared.families.queues.QueueKind.TheVariants as queues;
 
-use atomic_table::{Table, TableRule};
+use atomic_table::TableRule;
 use history::view::View;
-use std::alloc::Global;
 use std::marker::PhantomData;
 use steps::words::Words;
 use threaded::driver::rule::Rule;
@@ -68,6 +67,6 @@ impl<E: Kind, T: Words> Rule<View<T>, Origin> for RingRule<E, T> {
     ghost capacity = { λ key. key.capacity };
 
     ghost capacity_seen = { λ v. v.capacity };
-}
 
-pub type Board<E, T> = Table<(), View<T>, Origin, RingRule<E, T>, Global>;
+    ghost asked = { λ v. v.asked };
+}

@@ -3,7 +3,7 @@ ghost use Rattle.std.specs.Prelude.{◌≡◌, IfOk, IfErr};
 ghost use Rattle.steps.specs.declared.enums.UniqueIndexCreationError.TheVariants.{NoMemory};
 ghost use Rattle.model.specs.declared.event.Item.TheVariants.{Index};
 ghost use Rattle.lock_free_queues.specs.Queues.Overflowing.{capacity_of, inner, view, IsPassOf};
-ghost use Rattle.lock_free_queues.specs.Queues.Closes.{Closes};
+ghost use Rattle.lock_free_queues.specs.Queues.Closes.{Closes, IsNewestThatWaits};
 
 use super::{FixedSizeSafelyOverflowingIndexQueue, Pass, SafelyOverflowingIndexQueue};
 use crate::spsc::ring;
@@ -12,16 +12,19 @@ use steps::enums::UniqueIndexCreationError;
 use steps::queues::ring::{FIRST_CELL, READ, WRITE};
 
 impl SafelyOverflowingIndexQueue {
-    /// The queue of one caller that this one is in the end. Each number that the pass has seen published waits in it at
-    /// its place or lies before it, and each that it has seen taken lies before it. Who has the whole share knows that
-    /// just what was published and not taken waits. Other passes may still live. At most the capacity waits: where one
-    /// number more was published, the oldest is left out; who has the whole share knows that none was.
+    /// The queue of one caller that this one is in the end: it has what waits at one moment of the call, whoever pushed
+    /// it, and before it lies what was taken out until then. So each number that the pass has seen published waits in
+    /// it at its place or lies before it. Who has the whole share knows that nothing came after what the pass had seen.
+    /// Other passes may still live, but no producer and no consumer. If one more than the capacity waits, as while a
+    /// push is under way, the oldest is left out; who has the whole share knows that none is.
     ///
     /// Refused is memory (`NoMemory`), for which it asks before the first atomic step; the queue and the pass are gone
-    /// then too. Else one growth, and 3 atomic steps more than the capacity. This project's own.
+    /// then too. Else one growth, and 4 atomic steps more than the capacity. If something was published between the
+    /// first of them and the last, it repeats all but the first; without a producer nothing is. This project's own.
     pub fn close(self, pass: Pass) -> Result<List, UniqueIndexCreationError>
         requires { IsPassOf self pass }
         ensures list { IfOk result (λ q. Closes Index (capacity_of self) (view pass) q) }
+        ensures waits { IfOk result (λ q. IsNewestThatWaits (capacity_of self) (view pass) q) }
         ensures refused { IfErr result (λ e. e ≡ NoMemory) }
     {
         let capacity = self.capacity;
@@ -41,6 +44,7 @@ impl<const CAPACITY: usize> FixedSizeSafelyOverflowingIndexQueue<CAPACITY> {
     pub fn close(self, pass: Pass) -> Result<List, UniqueIndexCreationError>
         requires { IsPassOf (inner self) pass }
         ensures list { IfOk result (λ q. Closes Index CAPACITY (view pass) q) }
+        ensures waits { IfOk result (λ q. IsNewestThatWaits CAPACITY (view pass) q) }
         ensures refused { IfErr result (λ e. e ≡ NoMemory) }
     {
         self.into_ring().close(pass)

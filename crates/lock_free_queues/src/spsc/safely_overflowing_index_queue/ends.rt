@@ -2,6 +2,9 @@
 ghost use Rattle.std.specs.Prelude.{◌≡◌, ◌⊎◌, ◌<◌, Some, None, IfSome, IfNone};
 ghost use Rattle.std.specs.Option.{option_map};
 ghost use Rattle.model.specs.declared.event.Item.TheVariants.{Index};
+ghost use Rattle.model.specs.declared.turn.Kind.TheVariants as kinds;
+ghost use Rattle.model.specs.Coding.{one_word};
+ghost use Rattle.history.specs.Steps.{TakesAtMost, TakesAlone};
 ghost use Rattle.lock_free_queues.specs.Queues.Overflowing.{producer_queue, producer_view, consumer_queue, consumer_view, GoesOn, HasOverflowed, TookNone};
 ghost use Rattle.lock_free_queues.specs.Queues.Told.{HasPublished, HasPopped, HasTakenFirst, FoundNone};
 
@@ -19,12 +22,16 @@ impl<'a> Producer<'a> {
         ensures called { HasOverflowed value result (producer_view self.old) (producer_view self.new)
             ⊎ (result ≡ Some value)
             × TookNone (producer_queue self.old).capacity (producer_view self.old) (producer_view self.new) }
-        ensures published { IfNone result (HasPublished (Index value) (producer_view self.old) (producer_view self.new)) }
-        ensures handed_back { IfSome result (λ y. HasPublished (Index value) (producer_view self.old) (producer_view self.new)
+        ensures published { IfNone result (HasPublished (Index value) (producer_view self.old)
+            (producer_view self.new)) }
+        ensures handed_back { IfSome result (λ y. HasPublished (Index value) (producer_view self.old)
+            (producer_view self.new)
             × HasTakenFirst (Index y) (producer_view self.old) (producer_view self.new)
-            ⊎ (y ≡ value) × TookNone (producer_queue self.old).capacity (producer_view self.old) (producer_view self.new)) }
+            ⊎ (y ≡ value)
+            × TookNone (producer_queue self.old).capacity (producer_view self.old) (producer_view self.new)) }
         ensures own { (producer_queue self.old).capacity ≡ 0
             → (result ≡ Some value) × (producer_view self.new ≡ producer_view self.old) }
+        ensures steps { TakesAtMost 6 (producer_view self.old) (producer_view self.new) }
     {
         if self.token.capacity == 0 {
             Some(value)
@@ -43,11 +50,14 @@ impl<'a> Consumer<'a> {
             → GoesOn (consumer_queue self.old).capacity (consumer_view self.old) (consumer_view self.new) }
         ensures called { 0 < (consumer_queue self.old).capacity
             → HasPopped (option_map Index result) (consumer_view self.old) (consumer_view self.new) }
-        ensures popped { IfSome result (λ x. HasTakenFirst (Index x) (consumer_view self.old) (consumer_view self.new)) }
+        ensures popped { IfSome result (λ x. HasTakenFirst (Index x) (consumer_view self.old)
+            (consumer_view self.new)) }
         ensures empty { 0 < (consumer_queue self.old).capacity
             → IfNone result (FoundNone (consumer_view self.old) (consumer_view self.new)) }
         ensures none { (consumer_queue self.old).capacity ≡ 0
             → (result ≡ None) × (consumer_view self.new ≡ consumer_view self.old) }
+        ensures steps { 0 < (consumer_queue self.old).capacity → TakesAlone one_word kinds.Overflow
+            (consumer_queue self.old).capacity 4 2 (consumer_view self.old) (consumer_view self.new) }
     {
         if self.token.capacity == 0 {
             None

@@ -1,5 +1,6 @@
 //! The calls that are driven at a seat.
-ghost use Rattle.std.specs.Prelude.{◌≡◌, IsTrue, IsFalse};
+ghost use Rattle.std.specs.Prelude.{◌≡◌, ◌+◌, IsTrue, IsFalse};
+ghost use Rattle.history.specs.Steps.{TakesAtMost};
 ghost use Rattle.history.specs.Value.{HasProducer};
 ghost use Rattle.lock_free_value.specs.Calls.{seen, IsSame, WasAtEnd};
 ghost use Rattle.lock_free_value.specs.Roles.{Moved};
@@ -20,6 +21,7 @@ impl<T: Words> Held<T, ValueRule<T>> {
         ensures acquired { HasAcquired result (seen self.old) (seen self.new) }
         ensures taken { IsTrue result → Moved 1 0 (seen self.old).made (seen self.new).made }
         ensures refused { IsFalse result → Moved 0 0 (seen self.old).made (seen self.new).made }
+        ensures steps { TakesAtMost 1 (seen self.old) (seen self.new) }
     {
         let call = AcquireRole { word: PRODUCER };
         self.seated
@@ -32,6 +34,7 @@ impl<T: Words> Held<T, ValueRule<T>> {
         ensures same { IsSame self.old self.new }
         ensures left { HasReleased (seen self.old) (seen self.new) }
         ensures role { Moved 0 1 (seen self.old).made (seen self.new).made }
+        ensures steps { TakesAtMost 1 (seen self.old) (seen self.new) }
     {
         let call = ReleaseRole { word: PRODUCER };
         self.seated
@@ -45,6 +48,7 @@ impl<T: Words> Held<T, ValueRule<T>> {
         ensures stored { IsTrue result → HasStored value.now (seen self.old) (seen self.new) }
         ensures end { IsFalse result → WasAtEnd (seen self.old) (seen self.new) }
         ensures role { Moved 0 0 (seen self.old).made (seen self.new).made }
+        ensures steps { TakesAtMost (2 + T.WORDS) (seen self.old) (seen self.new) }
     {
         let end = self
             .seated

@@ -1,16 +1,14 @@
 //! What the calls say of the views at their steps. These types are for the proofs alone.
-ghost use Rattle.std.specs.Prelude.{◌≡◌, []};
 ghost use Rattle.model.specs.Coding.{coding_of};
 ghost use Rattle.model.specs.declared.turn.Kind.TheVariants as kinds;
 
-use atomic_table::Play;
 use history::view::View;
 use std::marker::PhantomData;
 use steps::atomic::{Load, Store};
 use steps::copied::Room;
 use steps::queues::roles::{AcquireRole, ReleaseRole};
 use steps::words::Words;
-use threaded::driver::rule::Drives;
+use threaded::driver::rule::{Drives, Tells};
 
 /// Taking the producer's role.
 pub struct TakesProducer;
@@ -71,9 +69,8 @@ impl<T: Words, R: Room<T> + Drop> Drives<View<T>, Load<T, R>> for Loads<T, R> {
 /// A look at the whole history.
 pub struct Look;
 
-impl<T: Words> Play<(), View<T>> for Look {
-    ghost use Rattle.history.specs.Views.{Looks};
+impl<T: Words> Tells<View<T>> for Look {
+    ghost use Rattle.history.specs.Views.{LooksOnce};
 
-    ghost then = { λ step old found new.
-        Looks (coding_of T.WORDS T.words_of T.value_of) kinds.Atomic 1 old.0 new.0 × (new.1 ≡ []) };
+    ghost told = { λ old found new. LooksOnce (coding_of T.WORDS T.words_of T.value_of) kinds.Atomic 1 old new };
 }

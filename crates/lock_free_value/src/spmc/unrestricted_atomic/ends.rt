@@ -1,7 +1,9 @@
 //! The calls of an unrestricted atomic value.
-ghost use Rattle.std.specs.Prelude.{◌≡◌, true, false, IsTrue, IsFalse, IfOk, IfErr};
+ghost use Rattle.std.specs.Prelude.{◌≡◌, ◌+◌, true, false, IsTrue, IsFalse, IfOk, IfErr};
 ghost use Rattle.lock_free_value.specs.Calls.{view, value_of_pass, IsPassOf, producer_view, value_of_producer, GoesOn, WasAtEnd};
 ghost use Rattle.model.specs.Coding.{coding_of};
+ghost use Rattle.model.specs.declared.turn.Kind.TheVariants as kinds;
+ghost use Rattle.history.specs.Steps.{TakesAtMost, TakesAlone};
 ghost use Rattle.lock_free_value.specs.Told.{HasAcquired, HasReleased, HasStored, HasLoaded};
 
 use super::{Pass, Producer, UnrestrictedAtomic};
@@ -15,10 +17,12 @@ impl<T: Words> UnrestrictedAtomic<T> {
         requires { IsPassOf self.now pass }
         ensures acquired { IfOk result (λ p. (value_of_producer p ≡ value_of_pass pass)
             × GoesOn (coding_of T.WORDS T.words_of T.value_of) (view pass) (producer_view p)
-            × HasAcquired true (view pass) (producer_view p)) }
+            × HasAcquired true (view pass) (producer_view p)
+            × TakesAtMost 1 (view pass) (producer_view p)) }
         ensures refused { IfErr result (λ p. (value_of_pass p ≡ value_of_pass pass)
             × GoesOn (coding_of T.WORDS T.words_of T.value_of) (view pass) (view p)
-            × HasAcquired false (view pass) (view p)) }
+            × HasAcquired false (view pass) (view p)
+            × TakesAtMost 1 (view pass) (view p)) }
     {
         let mut token = pass.into_token();
         if token.take_producer() {
@@ -36,6 +40,8 @@ impl<T: Words> UnrestrictedAtomic<T> {
         ensures value { value_of_pass pass.new ≡ value_of_pass pass.old }
         ensures goes { GoesOn (coding_of T.WORDS T.words_of T.value_of) (view pass.old) (view pass.new) }
         ensures loaded { HasLoaded result (view pass.old) (view pass.new) }
+        ensures steps { TakesAlone (coding_of T.WORDS T.words_of T.value_of) kinds.Atomic 1 (2 + T.WORDS) (1 + T.WORDS)
+            (view pass.old) (view pass.new) }
     {
         pass.token.load(rt)
     }
@@ -50,6 +56,7 @@ impl<'a, T: Words> Producer<'a, T> {
         ensures stored { IsTrue result
             → HasStored value (producer_view self.old) (producer_view self.new) }
         ensures end { IsFalse result → WasAtEnd (producer_view self.old) (producer_view self.new) }
+        ensures steps { TakesAtMost (2 + T.WORDS) (producer_view self.old) (producer_view self.new) }
     {
         self.token.store(&value)
     }
@@ -59,6 +66,7 @@ impl<'a, T: Words> Producer<'a, T> {
         ensures value { value_of_pass result ≡ value_of_producer self.entry }
         ensures goes { GoesOn (coding_of T.WORDS T.words_of T.value_of) (producer_view self.entry) (view result) }
         ensures released { HasReleased (producer_view self.entry) (view result) }
+        ensures steps { TakesAtMost 1 (producer_view self.entry) (view result) }
     {
         let Producer {
             value: _,

@@ -4,11 +4,10 @@ ghost use Rattle.steps.specs.declared.enums.UniqueIndexCreationError.TheVariants
 ghost use Rattle.history.specs.ValueOpened.{opened_view};
 ghost use Rattle.lock_free_value.specs.Calls.{view, IsPassOf};
 
-use super::rule::Origin;
+use super::rule::{Origin, ValueRule};
 use super::{Held, Pass, UnrestrictedAtomic};
-use atomic_table::Table;
+use history::view::View;
 use std::alloc::{AllocError, Global};
-use std::sync::Arc;
 use steps::atomic::{FIRST_CELL, PRODUCER, VERSION};
 use steps::enums::UniqueIndexCreationError;
 use steps::words::Words;
@@ -47,16 +46,13 @@ impl<T: Words> UnrestrictedAtomic<T> {
             words[FIRST_CELL + at] = first_word(version, word);
         }
         let origin = Origin { value, version };
-        let (table, seat) = Table::of_words(alloc, words.as_slice(), &origin)?;
-        let table = Arc::new(alloc, table)?;
-        let shared = Arc::try_clone(&table)?;
-        let token = Held {
-            seated: Seated {
-                seat,
-                table: shared,
-            },
-        };
-        Ok((UnrestrictedAtomic { board: table }, Pass { token }))
+        let (home, seated) = Seated::<View<T>, Origin<T>, ValueRule<T>>::open(
+            alloc,
+            words.as_slice(),
+            &origin,
+        )?;
+        let token = Held { seated };
+        Ok((UnrestrictedAtomic { home }, Pass { token }))
     }
 
     /// A value, and its first pass, which has the whole share and has seen its history: one party has taken the role,

@@ -1,6 +1,7 @@
 //! How passes are made of one another, and a look.
 ghost use Rattle.std.specs.Prelude.{◌≡◌, IfSome, IfNone};
 ghost use Rattle.history.specs.History.{IsBeginning};
+ghost use Rattle.history.specs.Steps.{TakesAtMost};
 ghost use Rattle.lock_free_value.specs.Calls.{seen, table_of, view, value_of_pass, producer_view, value_of_producer, HasHistory, MissesNothing, GoesOn, IsSame};
 ghost use Rattle.model.specs.Coding.{coding_of};
 ghost use Rattle.lock_free_value.specs.Told.{HasSplit, HasJoined};
@@ -9,10 +10,8 @@ use super::drives::Look;
 use super::rule::ValueRule;
 use super::{Held, Pass, Producer, Token};
 use history::plays::{Both, Cut};
-use std::sync::Arc;
 use steps::atomic::VERSION;
 use steps::words::Words;
-use threaded::driver::seated::Seated;
 
 impl<T: Words> Held<T, ValueRule<T>> {
     /// A new seat of the same value, which has seen the same and made nothing. None where no further reference can be
@@ -23,15 +22,10 @@ impl<T: Words> Held<T, ValueRule<T>> {
         ensures cut { IfSome result (λ t. HasSplit (seen self.old) (seen self.new) (seen t)) }
         ensures made { (seen self.new).made ≡ (seen self.old).made }
         ensures none { IfNone result (seen self.new ≡ seen self.old) }
+        ensures steps { TakesAtMost 1 (seen self.old) (seen self.new) }
     {
-        let seated = &mut self.seated;
-        let Ok(table) = Arc::try_clone(&seated.table) else {
-            return None;
-        };
-        let seat = seated.table.shared.split_seat::<Cut>(&mut seated.seat);
-        Some(Held {
-            seated: Seated { seat, table },
-        })
+        let seated = self.seated.split::<Cut>()?;
+        Some(Held { seated })
     }
 
     /// Takes in the other seat of the value.
@@ -41,24 +35,20 @@ impl<T: Words> Held<T, ValueRule<T>> {
         ensures joined { HasJoined (seen self.old) (seen other) (seen self.new) }
         ensures history { HasHistory (coding_of T.WORDS T.words_of T.value_of) (seen self.new) }
         ensures all { MissesNothing (seen self.new) }
+        ensures steps { TakesAtMost 2 (seen self.old) (seen self.new) }
     {
         let Held { seated: other } = other;
-        let Seated { seat, .. } = other;
-        let seated = &mut self.seated;
-        seated
-            .table
-            .shared
-            .join_seat::<Both>(&mut seated.seat, seat);
-        let _ = seated.table.shared.load::<Look>(&mut seated.seat, VERSION);
+        self.seated.join::<Both>(other);
+        let _ = self.seated.look::<Look>(VERSION);
     }
 
     /// A look at the whole history: one load.
     pub fn look(&mut self)
         ensures same { IsSame self.old self.new }
         ensures made { (seen self.new).made ≡ (seen self.old).made }
+        ensures steps { TakesAtMost 1 (seen self.old) (seen self.new) }
     {
-        let seated = &mut self.seated;
-        let _ = seated.table.shared.load::<Look>(&mut seated.seat, VERSION);
+        let _ = self.seated.look::<Look>(VERSION);
     }
 }
 
@@ -71,6 +61,7 @@ impl<T: Words> Pass<T> {
         ensures new { IfSome result (λ p. value_of_pass p ≡ value_of_pass self.old) }
         ensures cut { IfSome result (λ p. HasSplit (view self.old) (view self.new) (view p)) }
         ensures none { IfNone result (view self.new ≡ view self.old) }
+        ensures steps { TakesAtMost 1 (view self.old) (view self.new) }
     {
         let token = self.token.split()?;
         Some(Pass { token })
@@ -84,6 +75,7 @@ impl<T: Words> Pass<T> {
         ensures joined { HasJoined (view self.old) (view other) (view self.new) }
         ensures history { HasHistory (coding_of T.WORDS T.words_of T.value_of) (view self.new) }
         ensures all { MissesNothing (view self.new) }
+        ensures steps { TakesAtMost 2 (view self.old) (view self.new) }
     {
         let Pass { token } = other;
         self.token.join(token);
@@ -94,6 +86,7 @@ impl<T: Words> Pass<T> {
         ensures value { value_of_pass self.new ≡ value_of_pass self.old }
         ensures goes { GoesOn (coding_of T.WORDS T.words_of T.value_of) (view self.old) (view self.new) }
         ensures made { (view self.new).made ≡ (view self.old).made }
+        ensures steps { TakesAtMost 1 (view self.old) (view self.new) }
     {
         self.token.look();
     }
@@ -107,6 +100,7 @@ impl<'a, T: Words> Producer<'a, T> {
         ensures joined { HasJoined (producer_view self.old) (view other) (producer_view self.new) }
         ensures history { HasHistory (coding_of T.WORDS T.words_of T.value_of) (producer_view self.new) }
         ensures all { MissesNothing (producer_view self.new) }
+        ensures steps { TakesAtMost 2 (producer_view self.old) (producer_view self.new) }
     {
         let token = other.into_token();
         self.token.join(token);

@@ -2,9 +2,8 @@
 ghost use Rattle.model.specs.Coding.{coding_of};
 ghost use Rattle.model.specs.declared.turn.Kind.TheVariants as kinds;
 
-use atomic_table::{Table, TableRule};
+use atomic_table::TableRule;
 use history::view::View;
-use std::alloc::Global;
 use std::marker::PhantomData;
 use steps::words::Words;
 use threaded::driver::rule::Rule;
@@ -39,6 +38,6 @@ impl<T: Words> Rule<View<T>, Origin<T>> for ValueRule<T> {
     ghost capacity = { λ origin. 1 };
 
     ghost capacity_seen = { λ v. v.capacity };
-}
 
-pub type Board<T> = Table<(), View<T>, Origin<T>, ValueRule<T>, Global>;
+    ghost asked = { λ v. v.asked };
+}

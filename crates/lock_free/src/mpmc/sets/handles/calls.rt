@@ -3,6 +3,7 @@ ghost use Rattle.std.specs.Prelude.{◌≡◌, IfSome, IfNone};
 ghost use Rattle.lock_free.specs.Sets.Calls.{capacity_of, IsPassOf};
 ghost use Rattle.history.specs.Passes.{HasSplit};
 ghost use Rattle.lock_free.specs.Sets.Handles.{set_in, pass_in, knows};
+ghost use Rattle.history.specs.Steps.{TakesAtMost};
 
 use super::Handle;
 use crate::mpmc::sets::rule::Kind;
@@ -34,6 +35,7 @@ impl<'a, E: Kind> Handle<'a, E> {
         ensures new { IfSome result (λ h. set_in h ≡ set_in self.old) }
         ensures cut { IfSome result (λ h. HasSplit (knows self.old) (knows self.new) (knows h)) }
         ensures none { IfNone result (knows self.new ≡ knows self.old) }
+        ensures steps { TakesAtMost 1 (knows self.old) (knows self.new) }
     {
         let pass = self.pass.split()?;
         Some(Handle {

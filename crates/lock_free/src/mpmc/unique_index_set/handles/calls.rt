@@ -1,5 +1,6 @@
 //! The calls by a handle: those of its set.
-ghost use Rattle.std.specs.Prelude.{◌≡◌, ◌≤◌, ℕ, false, List, length, IfSome, IfNone, IfOk, IfErr, IsTrue, IsFalse};
+ghost use Rattle.std.specs.Prelude.{◌≡◌, ◌+◌, ◌≤◌, ℕ, max, false, List, length};
+ghost use Rattle.std.specs.Prelude.{IfSome, IfNone, IfOk, IfErr, IsTrue, IsFalse};
 ghost use Rattle.model.specs.declared.event.Answer.TheVariants.{Number, Truth};
 ghost use Rattle.model.specs.declared.families.indices.IndexStart.TheVariants as starts;
 ghost use Rattle.model.specs.Families.Indices.Reading.{is_locked};
@@ -8,6 +9,9 @@ ghost use Rattle.lock_free.specs.Unique.Told.{HasAcquired, WasRefused, HasCounte
 ghost use Rattle.lock_free.specs.UniqueIndexSet.{capacity_of, IsPassOf, history, made, value_of, index_pass, index_view, GoesOn};
 ghost use Rattle.history.specs.Passes.{HasSplit};
 ghost use Rattle.lock_free.specs.Unique.Handles.{set_in, pass_in, knows};
+ghost use Rattle.model.specs.declared.turn.Kind.TheVariants as kinds;
+ghost use Rattle.model.specs.Coding.{one_word};
+ghost use Rattle.history.specs.Steps.{TakesAtMost, TakesAlone};
 
 use super::Handle;
 use crate::mpmc::unique_index_set::{Pass, UniqueIndex, UniqueIndexSet};
@@ -40,6 +44,7 @@ impl<'a> Handle<'a> {
         ensures new { IfSome result (λ h. set_in h ≡ set_in self.old) }
         ensures cut { IfSome result (λ h. HasSplit (knows self.old) (knows self.new) (knows h)) }
         ensures none { IfNone result (knows self.new ≡ knows self.old) }
+        ensures steps { TakesAtMost 1 (knows self.old) (knows self.new) }
     {
         let pass = self.pass.split()?;
         Some(Handle {
@@ -65,6 +70,12 @@ impl<'a> Handle<'a> {
         ensures acquired { IfOk result (λ i. HasAcquired (value_of i) (knows self.entry) (index_view i)) }
         ensures refused_goes_on { IfErr result (λ r. GoesOn (pass_in self.entry) (pass_in r.1)) }
         ensures refused { IfErr result (λ r. WasRefused r.0 (knows self.entry) (knows r.1)) }
+        ensures steps { IfOk result (λ i. TakesAlone one_word kinds.Indices (capacity_of (set_in self.entry))
+            (4 + capacity_of (set_in self.entry)) (max 2 (capacity_of (set_in self.entry)))
+            (knows self.entry) (index_view i)) }
+        ensures refused_steps { IfErr result (λ r. TakesAlone one_word kinds.Indices (capacity_of (set_in self.entry))
+            (4 + capacity_of (set_in self.entry)) (max 2 (capacity_of (set_in self.entry)))
+            (knows self.entry) (knows r.1)) }
     {
         let Handle { set, pass } = self;
         match set.acquire(rt, pass) {
@@ -82,6 +93,7 @@ impl<'a> Handle<'a> {
         ensures least { (is : List ℕ) → HeldBy is (made (pass_in self.new)) → length is ≤ result }
         ensures most { result ≤ capacity_of (set_in self.old) }
         ensures whole { HoldsAll result (knows self.new) }
+        ensures steps { TakesAtMost 1 (knows self.old) (knows self.new) }
     {
         self.set.borrowed_indices(&mut self.pass)
     }
@@ -94,6 +106,7 @@ impl<'a> Handle<'a> {
         ensures answered { Answered starts.IsLocked (Truth result) (knows self.old) (knows self.new) }
         ensures nothing { IsTrue result → HoldsNothing (made (pass_in self.new)) }
         ensures unlocked { IsFalse result → is_locked (history (pass_in self.old)) ≡ false }
+        ensures steps { TakesAtMost 1 (knows self.old) (knows self.new) }
     {
         self.set.is_locked(&mut self.pass)
     }

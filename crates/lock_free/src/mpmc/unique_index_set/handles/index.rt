@@ -6,8 +6,11 @@ ghost use Rattle.model.specs.declared.event.Answer.TheVariants.{State};
 ghost use Rattle.model.specs.declared.families.indices.IndexStart.TheVariants as starts;
 ghost use Rattle.lock_free.specs.Unique.Held.{HoldsNothing, HoldsSome};
 ghost use Rattle.lock_free.specs.Unique.Told.{HasGiven, HasGivenOrLocked, Answered};
-ghost use Rattle.lock_free.specs.UniqueIndexSet.{made, value_of, index_pass, index_view, GoesOn};
+ghost use Rattle.lock_free.specs.UniqueIndexSet.{made, value_of, index_set, index_pass, index_view, GoesOn};
 ghost use Rattle.lock_free.specs.Unique.Handles.{pass_in, knows};
+ghost use Rattle.model.specs.declared.turn.Kind.TheVariants as kinds;
+ghost use Rattle.model.specs.Coding.{one_word};
+ghost use Rattle.history.specs.Steps.{TakesAtMost, TakesAlone};
 
 use super::Handle;
 use crate::mpmc::unique_index_set::UniqueIndex;
@@ -19,6 +22,7 @@ impl<'a> UniqueIndex<'a> {
     pub fn give_back(self) -> Handle<'a>
         ensures goes_on { GoesOn (index_pass self.entry) (pass_in result) }
         ensures given { HasGiven (value_of self.entry) Unlocked (index_view self.entry) (knows result) }
+        ensures steps { TakesAtMost 5 (index_view self.entry) (knows result) }
     {
         let UniqueIndex {
             set,
@@ -37,6 +41,8 @@ impl<'a> UniqueIndex<'a> {
             (index_view self.entry) (knows result.1) }
         ensures nothing { result.0 ≡ Locked → HoldsNothing (made (pass_in result.1)) }
         ensures whole { result.0 ≡ Unlocked → HoldsSome (knows result.1) }
+        ensures steps { TakesAlone one_word kinds.Indices (index_set self.entry).capacity 4 2
+            (index_view self.entry) (knows result.1) }
     {
         let UniqueIndex {
             set,

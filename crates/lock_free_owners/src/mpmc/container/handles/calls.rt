@@ -1,5 +1,5 @@
 //! The calls by a handle: those of its container.
-ghost use Rattle.std.specs.Prelude.{◌≡◌, ◌≤◌, true, None, Err, IfSome, IfNone, IfOk, IfErr, OnOk};
+ghost use Rattle.std.specs.Prelude.{◌≡◌, ◌+◌, ◌≤◌, true, None, Err, IfSome, IfNone, IfOk, IfErr, OnOk};
 ghost use Rattle.steps.specs.declared.container.enums.ContainerAddFailure.TheVariants.{IsLocked as Locked};
 ghost use Rattle.steps.specs.declared.container.enums.ContainerRemoveError.TheVariants.{ContainerHandleNotOwnedByContainer as NotOwned};
 ghost use Rattle.model.specs.declared.event.Answer.TheVariants.{Number, Truth};
@@ -7,6 +7,7 @@ ghost use Rattle.model.specs.declared.families.container.ContainerStart.TheVaria
 ghost use Rattle.model.specs.Families.Container.Calls.{removed, replaced};
 ghost use Rattle.model.specs.Families.Indices.Reading.{is_locked};
 ghost use Rattle.lock_free_owners.specs.Robust.Told.{WasFilled, WasGranted, WasFreed, HasReleased, FoundLock};
+ghost use Rattle.lock_free_owners.specs.Container.Steps.{TakesFew, ContainerTakes, RemoveTakes};
 ghost use Rattle.lock_free_owners.specs.Container.Told.{placed, HasAdded, HasRemoved, HasReplaced, HasCounted, HasTested, HasLooked, Answered, WasNotAdded};
 ghost use Rattle.lock_free_owners.specs.Container.Names.{history, code_of, capacity_of, IsPassOf, IsHandleFor, IsOwn, GoesOn};
 ghost use Rattle.history.specs.ContainerLooks.{KeepsState};
@@ -87,6 +88,9 @@ impl<'a, T: Words> Handle<'a, T> {
         ensures refused { IfErr result (λ e. WasNotAdded (code_of (pass_in self.old)) value owner e
             (knows self.old) (knows self.new)) }
         ensures lock { is_locked (history (pass_in self.old)) ≡ true → result ≡ Err Locked }
+        ensures steps { ContainerTakes (code_of (pass_in self.old)) (capacity_of (container_in self.old))
+            (capacity_of (container_in self.old) + 7 + T.WORDS) (capacity_of (container_in self.old) + 1)
+            (knows self.old) (knows self.new) }
     {
         self.container.add(rt, value, owner, &mut self.pass)
     }
@@ -111,6 +115,8 @@ impl<'a, T: Words> Handle<'a, T> {
         ensures answered { IsOwn (container_in self.old) handle → Answered (code_of (pass_in self.old))
             (starts.Remove handle.index handle.owner mode) (removed result) (knows self.old) (knows self.new) }
         ensures released { IfOk result (λ s. HasReleased s mode (knows self.old) (knows self.new)) }
+        ensures steps { IsOwn (container_in self.old) handle → RemoveTakes (code_of (pass_in self.old))
+            (capacity_of (container_in self.old)) mode (knows self.old) (knows self.new) }
     {
         self.container.remove(rt, handle, mode, &mut self.pass)
     }
@@ -128,6 +134,7 @@ impl<'a, T: Words> Handle<'a, T> {
             (knows self.old) (knows self.new) }
         ensures answered { IsOwn (container_in self.old) handle → Answered (code_of (pass_in self.old))
             (starts.Replace handle.index value handle.owner) (replaced result) (knows self.old) (knows self.new) }
+        ensures steps { IsOwn (container_in self.old) handle → TakesFew (5 + T.WORDS) (knows self.old) (knows self.new) }
     {
         self.container.replace(handle, value, &mut self.pass)
     }
@@ -142,6 +149,8 @@ impl<'a, T: Words> Handle<'a, T> {
             (knows self.old) (knows self.new) }
         ensures most { result ≤ capacity_of (container_in self.old) }
         ensures lock { is_locked (history (pass_in self.old)) ≡ true → result ≡ 0 }
+        ensures steps { ContainerTakes (code_of (pass_in self.old)) (capacity_of (container_in self.old))
+            (capacity_of (container_in self.old) + 2) (capacity_of (container_in self.old) + 2) (knows self.old) (knows self.new) }
     {
         self.container.len(rt, &mut self.pass)
     }
@@ -155,6 +164,8 @@ impl<'a, T: Words> Handle<'a, T> {
         ensures answered { Answered (code_of (pass_in self.old)) starts.IsEmpty (Truth result)
             (knows self.old) (knows self.new) }
         ensures lock { is_locked (history (pass_in self.old)) ≡ true → result ≡ true }
+        ensures steps { ContainerTakes (code_of (pass_in self.old)) (capacity_of (container_in self.old))
+            (capacity_of (container_in self.old) + 2) (capacity_of (container_in self.old) + 2) (knows self.old) (knows self.new) }
     {
         self.container.is_empty(rt, &mut self.pass)
     }
@@ -168,6 +179,7 @@ impl<'a, T: Words> Handle<'a, T> {
         ensures answered { Answered (code_of (pass_in self.old)) starts.IsLocked (Truth result)
             (knows self.old) (knows self.new) }
         ensures lock { FoundLock result (knows self.old) (knows self.new) }
+        ensures steps { TakesFew 1 (knows self.old) (knows self.new) }
     {
         self.container.is_locked(&mut self.pass)
     }

@@ -1,8 +1,10 @@
 //! The calls by a handle on states.
 ghost use Rattle.std.specs.Prelude.{◌≡◌, ◌↔◌, IsTrue, IsFalse, IfOk, IfErr};
 ghost use Rattle.history.specs.ContainerLooks.{ShowsCopied};
-ghost use Rattle.lock_free_owners.specs.Container.Names.{code_of, IsStateOf, IsLeft, IsLatestState, GoesOn};
-ghost use Rattle.lock_free_owners.specs.Container.Told.{HasGotState, HasUpdatedState};
+ghost use Rattle.lock_free_owners.specs.Container.Bare.{IsCounted};
+ghost use Rattle.lock_free_owners.specs.Container.Names.{capacity_of, code_of, IsStateOf, IsLeft, IsLatestState, GoesOn};
+ghost use Rattle.lock_free_owners.specs.Container.Steps.{LookTakes};
+ghost use Rattle.lock_free_owners.specs.Container.Told.{HasGotState, HasUpdatedState, HasMet};
 ghost use Rattle.lock_free_owners.specs.Container.Handles.{container_in, pass_in, knows};
 
 use super::Handle;
@@ -20,6 +22,8 @@ impl<'a, T: Words> Handle<'a, T> {
         ensures shows { IfOk result (λ s. ShowsCopied s.shown (knows self.new)) }
         ensures refused { IfErr result (λ e. knows self.new ≡ knows self.old) }
         ensures state { IfOk result (IsStateOf (container_in self.old)) }
+        ensures steps { IfOk result (λ s. LookTakes (code_of (pass_in self.old)) (capacity_of (container_in self.old))
+            (knows self.old) (knows self.new)) }
     {
         self.container.get_state(rt, &mut self.pass)
     }
@@ -31,11 +35,14 @@ impl<'a, T: Words> Handle<'a, T> {
         ensures goes_on { IsLatestState (pass_in self.old) state.old → GoesOn (pass_in self.old) (pass_in self.new) }
         ensures updated { IsLatestState (pass_in self.old) state.old
             → HasUpdatedState (code_of (pass_in self.old)) result (knows self.old) (knows self.new) }
+        ensures met { IsLatestState (pass_in self.old) state.old → HasMet result (knows self.old) (knows self.new) }
         ensures latest { IsLatestState (pass_in self.old) state.old → IsLatestState (pass_in self.new) state.new }
         ensures shows { IsLatestState (pass_in self.old) state.old → ShowsCopied state.new.shown (knows self.new) }
-        ensures beside { (IsLatestState (pass_in self.old) state.old → ⊥) → knows self.new ≡ knows self.old }
+        ensures beside { (IsLatestState (pass_in self.old) state.old → ⊥) → IsCounted (knows self.old) (knows self.new) }
         ensures state { IsStateOf (container_in self.old) state.new }
         ensures left { IsFalse result → IsLeft state.old state.new }
+        ensures steps { IsLatestState (pass_in self.old) state.old
+            → LookTakes (code_of (pass_in self.old)) (capacity_of (container_in self.old)) (knows self.old) (knows self.new) }
     {
         self.container.update_state(rt, state, &mut self.pass)
     }

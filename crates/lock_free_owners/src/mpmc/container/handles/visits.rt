@@ -11,6 +11,7 @@ ghost use Rattle.lock_free_owners.specs.Container.Callable.{Visit, TakesVisits, 
 ghost use Rattle.lock_free_owners.specs.Container.FindTold.{HasSearched};
 ghost use Rattle.lock_free_owners.specs.Container.Questions.{TakesValues};
 ghost use Rattle.lock_free_owners.specs.Container.RecoverTold.{HasRecovered};
+ghost use Rattle.lock_free_owners.specs.Container.Steps.{RecoverTakes};
 ghost use Rattle.lock_free_owners.specs.Container.Told.{Answered};
 ghost use Rattle.lock_free_owners.specs.Container.Names.{history, code_of, capacity_of, IsHandleFor, GoesOn};
 ghost use Rattle.lock_free_owners.specs.Container.Handles.{container_in, pass_in, knows};
@@ -26,19 +27,19 @@ impl<'a, T: Words> Handle<'a, T> {
     pub fn find<F: FnMut(T, ContainerHandle) -> CallbackProgression>(
         &mut self,
         owner: OwnerId,
-        visit: F,
+        visit: &mut F,
     ) -> usize
         requires { TakesVisits F.pre (λ p x h a q. F.step p x h a q)
-            (IsHandleFor (container_in self.old) owner) visit }
+            (IsHandleFor (container_in self.old) owner) visit.old }
         ensures container { container_in self.new ≡ container_in self.old }
         ensures goes { Goes (code_of (pass_in self.old)) kinds.Container (capacity_of (container_in self.old))
             (knows self.old) (knows self.new) }
         ensures keeps { KeepsState (knows self.old) (knows self.new) }
-        ensures found { (visits : List (Visit T)) × (bound : ℕ) × (last : F)
+        ensures found { (visits : List (Visit T)) × (bound : ℕ)
             × HasSearched (code_of (pass_in self.old)) (capacity_of (container_in self.old)) owner result
             bound visits (knows self.old) (knows self.new)
             × HasFound (λ p x h a q. F.step p x h a q) (capacity_of (container_in self.old))
-            (IsHandleFor (container_in self.old) owner) visit result bound visits last }
+            (IsHandleFor (container_in self.old) owner) visit.old result bound visits visit.new }
     {
         self.container.find(owner, visit, &mut self.pass)
     }
@@ -48,20 +49,22 @@ impl<'a, T: Words> Handle<'a, T> {
         &mut self,
         rt: &impl Wait,
         owner: OwnerId,
-        predicate: F,
+        predicate: &mut F,
         mode: ReleaseMode,
     ) -> ReleaseState
         requires { is_locked (history (pass_in self.old)) ≡ false → TakesValues F.pre
-            (λ p x b q. F.step p x b q) (capacity_of (container_in self.old)) predicate }
+            (λ p x b q. F.step p x b q) (capacity_of (container_in self.old)) predicate.old }
         ensures container { container_in self.new ≡ container_in self.old }
         ensures goes_on { GoesOn (pass_in self.old) (pass_in self.new) }
         ensures keeps { KeepsState (knows self.old) (knows self.new) }
-        ensures recovered { (last : F) × HasRecovered (code_of (pass_in self.old)) (λ p x b q. F.step p x b q)
-            (record { owner = owner; mode = mode }) result (capacity_of (container_in self.old)) predicate last
-            (knows self.old) (knows self.new) }
+        ensures recovered { HasRecovered (code_of (pass_in self.old)) (λ p x b q. F.step p x b q)
+            (record { owner = owner; mode = mode }) result (capacity_of (container_in self.old)) predicate.old
+            predicate.new (knows self.old) (knows self.new) }
         ensures answered { Answered (code_of (pass_in self.old)) (starts.Recover owner mode) (State result)
             (knows self.old) (knows self.new) }
         ensures lock { FoundState result (knows self.old) (knows self.new) }
+        ensures steps { RecoverTakes (code_of (pass_in self.old)) (capacity_of (container_in self.old)) mode
+            (knows self.old) (knows self.new) }
     {
         self.container
             .recover(rt, owner, predicate, mode, &mut self.pass)

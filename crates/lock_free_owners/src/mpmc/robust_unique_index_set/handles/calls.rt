@@ -1,11 +1,13 @@
 //! The calls by a handle: those of its set.
-ghost use Rattle.std.specs.Prelude.{◌≡◌, ◌<◌, ◌≤◌, true, Err, IfSome, IfNone, IfOk, IfErr, OnOk};
+ghost use Rattle.std.specs.Prelude.{◌≡◌, ◌+◌, ◌<◌, ◌≤◌, true, Err, IfSome, IfNone, IfOk, IfErr, OnOk};
 ghost use Rattle.steps.specs.declared.indices.enums.UniqueIndexSetAcquireFailure.TheVariants.{IsLocked as Locked};
 ghost use Rattle.model.specs.declared.event.Answer.TheVariants.{Number, Truth};
 ghost use Rattle.model.specs.declared.families.indices.robust.RobustStart.TheVariants as starts;
 ghost use Rattle.model.specs.Families.Indices.Reading.{is_locked};
 ghost use Rattle.model.specs.Families.Indices.Robust.Calls.{release_answer};
 ghost use Rattle.history.specs.Passes.{HasSplit};
+ghost use Rattle.history.specs.Steps.{TakesAtMost};
+ghost use Rattle.lock_free_owners.specs.Robust.Steps.{SetTakes, ReleaseTakes};
 ghost use Rattle.lock_free_owners.specs.Robust.Told.{HasTaken, HasGiven, HasCounted, HasLooked, WasFilled, WasGranted};
 ghost use Rattle.lock_free_owners.specs.Robust.Told.{WasFreed, WasRefused, Answered, HasReleased, FoundLock};
 ghost use Rattle.lock_free_owners.specs.RobustUniqueIndexSet.{capacity_of, IsPassOf, GoesOn, history};
@@ -44,6 +46,7 @@ impl<'a> Handle<'a> {
         ensures new { IfSome result (λ h. set_in h ≡ set_in self.old) }
         ensures cut { IfSome result (λ h. HasSplit (knows self.old) (knows self.new) (knows h)) }
         ensures none { IfNone result (knows self.new ≡ knows self.old) }
+        ensures steps { TakesAtMost 1 (knows self.old) (knows self.new) }
     {
         let pass = self.pass.split()?;
         Some(Handle {
@@ -73,6 +76,8 @@ impl<'a> Handle<'a> {
         ensures granted { IfOk result (λ index. WasGranted index owner (knows self.old) (knows self.new)) }
         ensures refused { IfErr result (λ e. WasRefused owner e (knows self.old) (knows self.new)) }
         ensures lock { is_locked (history (pass_in self.old)) ≡ true → result ≡ Err Locked }
+        ensures steps { SetTakes (capacity_of (set_in self.old)) (capacity_of (set_in self.old) + 3)
+            (capacity_of (set_in self.old) + 1) (knows self.old) (knows self.new) }
     {
         self.set.acquire(rt, owner, &mut self.pass)
     }
@@ -94,6 +99,7 @@ impl<'a> Handle<'a> {
         ensures answered { Answered (starts.Release index owner mode) (release_answer result)
             (knows self.old) (knows self.new) }
         ensures released { IfOk result (λ s. HasReleased s mode (knows self.old) (knows self.new)) }
+        ensures steps { ReleaseTakes (capacity_of (set_in self.old)) mode (knows self.old) (knows self.new) }
     {
         self.set.release(rt, index, owner, mode, &mut self.pass)
     }
@@ -105,6 +111,7 @@ impl<'a> Handle<'a> {
         ensures looked { HasLooked result (knows self.old) (knows self.new) }
         ensures answered { Answered starts.IsLocked (Truth result) (knows self.old) (knows self.new) }
         ensures lock { FoundLock result (knows self.old) (knows self.new) }
+        ensures steps { TakesAtMost 1 (knows self.old) (knows self.new) }
     {
         self.set.is_locked(&mut self.pass)
     }
@@ -117,6 +124,8 @@ impl<'a> Handle<'a> {
         ensures answered { Answered starts.BorrowedIndices (Number result) (knows self.old) (knows self.new) }
         ensures most { result ≤ capacity_of (set_in self.old) }
         ensures lock { is_locked (history (pass_in self.old)) ≡ true → result ≡ 0 }
+        ensures steps { SetTakes (capacity_of (set_in self.old)) (capacity_of (set_in self.old) + 2)
+            (capacity_of (set_in self.old) + 2) (knows self.old) (knows self.new) }
     {
         self.set.borrowed_indices(rt, &mut self.pass)
     }

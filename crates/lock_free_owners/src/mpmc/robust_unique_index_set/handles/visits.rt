@@ -1,15 +1,14 @@
 //! The calls by a handle that come to the indices of owners.
-ghost use Rattle.std.specs.Prelude.{◌≡◌, false};
+ghost use Rattle.std.specs.Prelude.{◌≡◌, ◌+◌, false};
 ghost use Rattle.steps.specs.declared.enums.CallbackProgression.TheVariants.{Continue};
 ghost use Rattle.model.specs.declared.event.Answer.TheVariants.{State};
 ghost use Rattle.model.specs.declared.families.indices.robust.RobustStart.TheVariants as starts;
-ghost use Rattle.model.specs.declared.turn.Kind.TheVariants as kinds;
-ghost use Rattle.model.specs.Coding.{one_word};
 ghost use Rattle.model.specs.Families.Indices.Reading.{is_locked};
-ghost use Rattle.history.specs.Views.{Looks};
+ghost use Rattle.history.specs.Steps.{TakesAtMost};
 ghost use Rattle.threaded.specs.Callable.{TakesPlaces};
-ghost use Rattle.lock_free_owners.specs.Robust.Callable.{HasFound, TakesQuestions, TakesFreed};
-ghost use Rattle.lock_free_owners.specs.Robust.Told.{HasRecovered, Answered, FoundState};
+ghost use Rattle.lock_free_owners.specs.Robust.Callable.{TakesQuestions, TakesFreed};
+ghost use Rattle.lock_free_owners.specs.Robust.Steps.{RecoverTakes};
+ghost use Rattle.lock_free_owners.specs.Robust.Told.{HasRecovered, HasSearched, Answered, FoundState};
 ghost use Rattle.lock_free_owners.specs.RobustUniqueIndexSet.{capacity_of, history, GoesOn};
 ghost use Rattle.lock_free_owners.specs.Robust.Handles.{set_in, pass_in, knows};
 
@@ -23,15 +22,14 @@ impl<'a> Handle<'a> {
     pub fn find<F: FnMut(usize) -> CallbackProgression>(
         &mut self,
         owner: OwnerId,
-        visit: F,
+        visit: &mut F,
     ) -> usize
-        requires { TakesPlaces F.pre (λ p x q. F.step p x Continue q) (capacity_of (set_in self.old)) visit }
+        requires { TakesPlaces F.pre (λ p x q. F.step p x Continue q) (capacity_of (set_in self.old)) visit.old }
         ensures set { set_in self.new ≡ set_in self.old }
         ensures goes_on { GoesOn (pass_in self.old) (pass_in self.new) }
-        ensures looked { Looks one_word kinds.Robust (capacity_of (set_in self.old)) (knows self.old)
-            (knows self.new) }
-        ensures found { (last : F) × HasFound (λ p x a q. F.step p x a q) (capacity_of (set_in self.old)) owner
-            visit result last (history (pass_in self.old)) (history (pass_in self.new)) }
+        ensures found { HasSearched (λ p x a q. F.step p x a q) (capacity_of (set_in self.old)) owner
+            visit.old result visit.new (knows self.old) (knows self.new) }
+        ensures steps { TakesAtMost (capacity_of (set_in self.old) + 1) (knows self.old) (knows self.new) }
     {
         self.set.find(owner, visit, &mut self.pass)
     }
@@ -41,21 +39,21 @@ impl<'a> Handle<'a> {
         &mut self,
         rt: &impl Wait,
         mode: ReleaseMode,
-        predicate: F,
-        recover_success: S,
+        predicate: &mut F,
+        recover_success: &mut S,
     ) -> ReleaseState
         requires questions { is_locked (history (pass_in self.old)) ≡ false → TakesQuestions F.pre
-            (λ p o i b q. F.step p o i b q) (capacity_of (set_in self.old)) predicate }
+            (λ p o i b q. F.step p o i b q) (capacity_of (set_in self.old)) predicate.old }
         requires freed { is_locked (history (pass_in self.old)) ≡ false → TakesFreed
             (λ p o i b q. F.step p o i b q) S.pre (λ s o i t. S.step s o i tt t)
-            (capacity_of (set_in self.old)) predicate recover_success }
+            (capacity_of (set_in self.old)) predicate.old recover_success.old }
         ensures set { set_in self.new ≡ set_in self.old }
         ensures goes_on { GoesOn (pass_in self.old) (pass_in self.new) }
-        ensures recovered { (f_last : F) × (s_last : S) × HasRecovered (λ p o i b q. F.step p o i b q)
-            (λ s o i t. S.step s o i tt t) mode result predicate recover_success f_last s_last
-            (knows self.old) (knows self.new) }
+        ensures recovered { HasRecovered (λ p o i b q. F.step p o i b q) (λ s o i t. S.step s o i tt t) mode result
+            predicate.old recover_success.old predicate.new recover_success.new (knows self.old) (knows self.new) }
         ensures answered { Answered (starts.Recover mode) (State result) (knows self.old) (knows self.new) }
         ensures lock { FoundState result (knows self.old) (knows self.new) }
+        ensures steps { RecoverTakes (capacity_of (set_in self.old)) mode (knows self.old) (knows self.new) }
     {
         self.set
             .recover(rt, mode, predicate, recover_success, &mut self.pass)

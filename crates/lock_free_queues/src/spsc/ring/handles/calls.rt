@@ -4,6 +4,8 @@ ghost use Rattle.steps.specs.declared.queues.roles.Role.TheVariants as roles;
 ghost use Rattle.model.specs.declared.event.Answer.TheVariants.{Number, Truth};
 ghost use Rattle.model.specs.declared.families.queues.calls.LengthOf.TheVariants as measures;
 ghost use Rattle.model.specs.Coding.{coding_of};
+ghost use Rattle.history.specs.Steps.{TakesAtMost, TakesAlone};
+ghost use Rattle.lock_free_queues.specs.Queues.Bounded.{machine_kind};
 ghost use Rattle.lock_free_queues.specs.Queues.Kinds.{most_waiting};
 ghost use Rattle.lock_free_queues.specs.Queues.Rings.{capacity_of, queue_of, producer_queue, producer_view, consumer_queue, consumer_view, IsPassOf, GoesOn};
 ghost use Rattle.lock_free_queues.specs.Queues.Told.{HasAcquired, HasMeasured, HasSplit, HasLooked};
@@ -42,6 +44,7 @@ impl<'a, E: Kind, T: Words> Handle<'a, E, T> {
         ensures new { IfSome result (λ h. ring_in h ≡ ring_in self.old) }
         ensures cut { IfSome result (λ h. HasSplit (knows self.old) (knows self.new) (knows h)) }
         ensures none { IfNone result (knows self.new ≡ knows self.old) }
+        ensures steps { TakesAtMost 1 (knows self.old) (knows self.new) }
     {
         let pass = self.pass.split()?;
         Some(Handle {
@@ -55,11 +58,13 @@ impl<'a, E: Kind, T: Words> Handle<'a, E, T> {
         ensures acquired { IfOk result (λ p. (producer_queue p ≡ queue_of (pass_in self.entry))
             × GoesOn (coding_of T.WORDS T.words_of T.value_of) E.KIND (queue_of (pass_in self.entry)).capacity
             (knows self.entry) (producer_view p)
-            × HasAcquired roles.Producer true (knows self.entry) (producer_view p)) }
+            × HasAcquired roles.Producer true (knows self.entry) (producer_view p)
+            × TakesAtMost 1 (knows self.entry) (producer_view p)) }
         ensures refused { IfErr result (λ h. (ring_in h ≡ ring_in self.entry)
             × GoesOn (coding_of T.WORDS T.words_of T.value_of) E.KIND (queue_of (pass_in self.entry)).capacity
             (knows self.entry) (knows h)
-            × HasAcquired roles.Producer false (knows self.entry) (knows h)) }
+            × HasAcquired roles.Producer false (knows self.entry) (knows h)
+            × TakesAtMost 1 (knows self.entry) (knows h)) }
     {
         let Handle { ring, pass } = self;
         match ring.acquire_producer(pass) {
@@ -73,11 +78,13 @@ impl<'a, E: Kind, T: Words> Handle<'a, E, T> {
         ensures acquired { IfOk result (λ c. (consumer_queue c ≡ queue_of (pass_in self.entry))
             × GoesOn (coding_of T.WORDS T.words_of T.value_of) E.KIND (queue_of (pass_in self.entry)).capacity
             (knows self.entry) (consumer_view c)
-            × HasAcquired roles.Consumer true (knows self.entry) (consumer_view c)) }
+            × HasAcquired roles.Consumer true (knows self.entry) (consumer_view c)
+            × TakesAtMost 1 (knows self.entry) (consumer_view c)) }
         ensures refused { IfErr result (λ h. (ring_in h ≡ ring_in self.entry)
             × GoesOn (coding_of T.WORDS T.words_of T.value_of) E.KIND (queue_of (pass_in self.entry)).capacity
             (knows self.entry) (knows h)
-            × HasAcquired roles.Consumer false (knows self.entry) (knows h)) }
+            × HasAcquired roles.Consumer false (knows self.entry) (knows h)
+            × TakesAtMost 1 (knows self.entry) (knows h)) }
     {
         let Handle { ring, pass } = self;
         match ring.acquire_consumer(pass) {
@@ -101,6 +108,9 @@ impl<'a, E: Kind, T: Words> Handle<'a, E, T> {
         ensures counted { HasMeasured measures.Len (capacity_of (ring_in self.old)) (Number result)
             (knows self.old) (knows self.new) }
         ensures few { result ≤ most_waiting E.KIND (capacity_of (ring_in self.old)) }
+        ensures steps { TakesAlone (coding_of T.WORDS T.words_of T.value_of) (machine_kind E.KIND) (queue_of
+            (pass_in self.old)).capacity 4 4
+            (knows self.old) (knows self.new) }
     {
         self.ring.len(rt, &mut self.pass)
     }
@@ -111,6 +121,9 @@ impl<'a, E: Kind, T: Words> Handle<'a, E, T> {
         ensures goes { GoesOn (coding_of T.WORDS T.words_of T.value_of) E.KIND (queue_of (pass_in self.old)).capacity
             (knows self.old) (knows self.new) }
         ensures told { HasMeasured measures.IsEmpty (capacity_of (ring_in self.old)) (Truth result)
+            (knows self.old) (knows self.new) }
+        ensures steps { TakesAlone (coding_of T.WORDS T.words_of T.value_of) (machine_kind E.KIND) (queue_of
+            (pass_in self.old)).capacity 4 4
             (knows self.old) (knows self.new) }
     {
         self.ring.is_empty(rt, &mut self.pass)
@@ -123,6 +136,9 @@ impl<'a, E: Kind, T: Words> Handle<'a, E, T> {
             (knows self.old) (knows self.new) }
         ensures told { HasMeasured measures.IsFull (capacity_of (ring_in self.old)) (Truth result)
             (knows self.old) (knows self.new) }
+        ensures steps { TakesAlone (coding_of T.WORDS T.words_of T.value_of) (machine_kind E.KIND) (queue_of
+            (pass_in self.old)).capacity 4 4
+            (knows self.old) (knows self.new) }
     {
         self.ring.is_full(rt, &mut self.pass)
     }
@@ -133,6 +149,7 @@ impl<'a, E: Kind, T: Words> Handle<'a, E, T> {
         ensures goes { GoesOn (coding_of T.WORDS T.words_of T.value_of) E.KIND (queue_of (pass_in self.old)).capacity
             (knows self.old) (knows self.new) }
         ensures looked { HasLooked (knows self.old) (knows self.new) }
+        ensures steps { TakesAtMost 1 (knows self.old) (knows self.new) }
     {
         self.pass.look();
     }

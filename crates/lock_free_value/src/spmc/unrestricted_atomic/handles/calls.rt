@@ -1,6 +1,8 @@
 //! The calls by a handle: those of its value.
-ghost use Rattle.std.specs.Prelude.{◌≡◌, true, false, IfSome, IfNone, IfOk, IfErr};
+ghost use Rattle.std.specs.Prelude.{◌≡◌, ◌+◌, true, false, IfSome, IfNone, IfOk, IfErr};
 ghost use Rattle.model.specs.Coding.{coding_of};
+ghost use Rattle.model.specs.declared.turn.Kind.TheVariants as kinds;
+ghost use Rattle.history.specs.Steps.{TakesAtMost, TakesAlone};
 ghost use Rattle.lock_free_value.specs.Calls.{IsPassOf, value_of_pass, producer_view, value_of_producer, GoesOn};
 ghost use Rattle.lock_free_value.specs.Told.{HasAcquired, HasLoaded, HasSplit};
 ghost use Rattle.lock_free_value.specs.Handles.{value_in, pass_in, knows};
@@ -37,6 +39,7 @@ impl<'a, T: Words> Handle<'a, T> {
         ensures new { IfSome result (λ h. value_in h ≡ value_in self.old) }
         ensures cut { IfSome result (λ h. HasSplit (knows self.old) (knows self.new) (knows h)) }
         ensures none { IfNone result (knows self.new ≡ knows self.old) }
+        ensures steps { TakesAtMost 1 (knows self.old) (knows self.new) }
     {
         let pass = self.pass.split()?;
         Some(Handle {
@@ -50,10 +53,12 @@ impl<'a, T: Words> Handle<'a, T> {
     pub fn acquire_producer(self) -> Result<Producer<'a, T>, Handle<'a, T>>
         ensures acquired { IfOk result (λ p. (value_of_producer p ≡ value_of_pass (pass_in self.entry))
             × GoesOn (coding_of T.WORDS T.words_of T.value_of) (knows self.entry) (producer_view p)
-            × HasAcquired true (knows self.entry) (producer_view p)) }
+            × HasAcquired true (knows self.entry) (producer_view p)
+            × TakesAtMost 1 (knows self.entry) (producer_view p)) }
         ensures refused { IfErr result (λ h. (value_in h ≡ value_in self.entry)
             × GoesOn (coding_of T.WORDS T.words_of T.value_of) (knows self.entry) (knows h)
-            × HasAcquired false (knows self.entry) (knows h)) }
+            × HasAcquired false (knows self.entry) (knows h)
+            × TakesAtMost 1 (knows self.entry) (knows h)) }
     {
         let Handle { value, pass } = self;
         match value.acquire_producer(pass) {
@@ -67,6 +72,8 @@ impl<'a, T: Words> Handle<'a, T> {
         ensures value { value_in self.new ≡ value_in self.old }
         ensures goes { GoesOn (coding_of T.WORDS T.words_of T.value_of) (knows self.old) (knows self.new) }
         ensures loaded { HasLoaded result (knows self.old) (knows self.new) }
+        ensures steps { TakesAlone (coding_of T.WORDS T.words_of T.value_of) kinds.Atomic 1 (2 + T.WORDS) (1 + T.WORDS)
+            (knows self.old) (knows self.new) }
     {
         self.value.load(rt, &mut self.pass)
     }
@@ -76,6 +83,7 @@ impl<'a, T: Words> Handle<'a, T> {
         ensures value { value_in self.new ≡ value_in self.old }
         ensures goes { GoesOn (coding_of T.WORDS T.words_of T.value_of) (knows self.old) (knows self.new) }
         ensures made { (knows self.new).made ≡ (knows self.old).made }
+        ensures steps { TakesAtMost 1 (knows self.old) (knows self.new) }
     {
         self.pass.look();
     }

@@ -4,6 +4,7 @@ use Rattle.lock_free.specs.Sets.Kinds.{SetKind, machine_kind}
 use Rattle.lock_free.specs.Sets.Stages.{empties_none}
 use Rattle.lock_free.proofs.Ends.{done, has_made}
 use Rattle.lock_free.proofs.Sets.Emptying.{none_at}
+use Rattle.lock_free.proofs.Steps.{none_takes}
 use Rattle.lock_free.proofs.mpmc.sets.calls.empty_none.Goals as goal
 
 -- what one look owes, where the seat knows this
@@ -39,3 +40,8 @@ returns-clause-called g c =
     let ends = c.load.ensures.2.0 in
     has_made (machine_kind g.E.Kind.KIND) (empties_none g.E.Kind.KIND) (seen c.args.seated.now) c.load.new.seat.me.0 tt
     (record { 0 = 0 }) ends c.requires.idle.idle (λ by. []) ends.tells
+
+pub returns-clause-steps : goal.returns-clause-steps
+returns-clause-steps g c =
+    none_takes g.E.Kind.KIND (seen c.args.seated.now) c.load.new.seat.me.0 (record { 0 = 0 }) c.requires.idle.idle
+    (c.requires.idle.known ∙ c.requires.places) c.load.ensures.2.0

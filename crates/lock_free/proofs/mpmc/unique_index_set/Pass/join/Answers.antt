@@ -39,7 +39,7 @@ load-requires c =
     )
 
 pub invariant_of-self-clause-sound : goal.invariant_of-self-clause-sound
-invariant_of-self-clause-sound c = sound _ c.load.new.seat.me.0 c.load.ensures.2.0.capacity c.load.ensures.2.0.history c.load.ensures.2.0.parties
+invariant_of-self-clause-sound c = sound _ c.load.new.seat.me.0 c.load.ensures.2.0.0.capacity c.load.ensures.2.0.0.history c.load.ensures.2.0.0.parties
 
 pub returns-clause-apart : goal.returns-clause-apart
 returns-clause-apart c i mine theirs =
@@ -48,16 +48,16 @@ returns-clause-apart c i mine theirs =
     let w = c.load.new.seat.me.0 in
     let is : c.join_seat.new.seat.me.0 ≡ joined_view v other = search rules in
     let looks : Looks one_word kinds.Indices (joined_view v other).capacity (joined_view v other) w =
-    subst (λ (z : View ℕ). Looks one_word kinds.Indices z.capacity z w) is c.load.ensures.2.0 in
+    subst (λ (z : View ℕ). Looks one_word kinds.Indices z.capacity z w) is c.load.ensures.2.0.0 in
     apart v other w i looks mine theirs
 
 pub returns-clause-sound : goal.returns-clause-sound
-returns-clause-sound c = sound _ c.load.new.seat.me.0 c.load.ensures.2.0.capacity c.load.ensures.2.0.history c.load.ensures.2.0.parties
+returns-clause-sound c = sound _ c.load.new.seat.me.0 c.load.ensures.2.0.0.capacity c.load.ensures.2.0.0.history c.load.ensures.2.0.0.parties
 
 pub invariant_of-self-clause-done : goal.invariant_of-self-clause-done
 invariant_of-self-clause-done c =
     let v = c.args.self.now.seated.seat.me.0 in
     let other = c.args.other.seated.seat.me.0 in
     let is : c.join_seat.new.seat.me.0 ≡ joined_view v other = search rules in
-    let made : c.load.new.seat.me.0.made ≡ v.made ++ other.made = c.load.ensures.2.0.made ∙ ap (λ (z : View ℕ). z.made) is in
+    let made : c.load.new.seat.me.0.made ≡ v.made ++ other.made = c.load.ensures.2.0.0.made ∙ ap (λ (z : View ℕ). z.made) is in
     subst IsDone (sym made) (joined_done v.made other.made c.args.self.now.done c.args.other.done)

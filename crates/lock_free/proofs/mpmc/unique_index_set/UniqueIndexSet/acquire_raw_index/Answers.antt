@@ -1,10 +1,11 @@
-use Rattle.lock_free.proofs.Names.{rules, ◌<◌, sym, ap, subst, ◌∙◌, one_word, seen, At, takes_index}
+use Rattle.lock_free.proofs.Names.{rules, ◌<◌, sym, ap, subst, ◌∙◌, one_word, seen, At, takes_index, arith}
 use Rattle.steps.specs.Indices.Unique.{first_acquire}
 use Rattle.model.specs.declared.turn.Kind.TheVariants as kinds
 use Rattle.history.proofs.IndexCalls.{acquire_keeps, acquire_first}
 use Rattle.lock_free.specs.UniqueIndexSet.{SetId}
 use Rattle.lock_free.proofs.Unique.Facts.{taken, sound, goes_on}
 use Rattle.lock_free.proofs.Unique.Whole.{taken_done, acquired_if, refused_if, within_if}
+use Rattle.lock_free.proofs.Steps.{indices_take}
 use Rattle.lock_free.proofs.mpmc.unique_index_set.UniqueIndexSet.acquire_raw_index.Goals as goal
 
 pub drive_on-requires-clause-rule : goal.drive_on-requires-clause-rule
@@ -47,3 +48,9 @@ pub returns-clause-refused : goal.returns-clause-refused
 returns-clause-refused g c =
     refused_if (seen c.args.pass.now.seated) (seen c.drive_on.new.self) tt c.args.pass.now.idle c.drive_on.result
     c.drive_on.ensures.end c.args.pass.now.done
+
+pub returns-clause-steps : goal.returns-clause-steps
+returns-clause-steps g c =
+    let mine = c.args.pass.now in
+    indices_take takes_index (seen mine.seated) (seen c.drive_on.new.self) c.drive_on.result tt mine.idle _
+    (mine.known ∙ ap (λ (z : SetId). z.capacity) c.requires) (omega arith) c.drive_on.ensures.end

@@ -1,8 +1,9 @@
-use Rattle.lock_free.proofs.Names.{rules, ◌≤◌, ap, subst, ◌∙◌, one_word, seen}
+use Rattle.lock_free.proofs.Names.{rules, ◌≤◌, ap, subst, ◌∙◌, one_word, seen, arith, counts_out}
 use Rattle.history.proofs.IndexCalls.{count_keeps, count_first}
 use Rattle.lock_free.specs.UniqueIndexSet.{SetId}
 use Rattle.lock_free.proofs.Unique.Facts.{counted, sound, counted_answered, counted_most, goes_on}
 use Rattle.lock_free.proofs.Unique.Whole.{counted_done, counted_least, counted_whole}
+use Rattle.lock_free.proofs.Steps.{indices_take}
 use Rattle.lock_free.proofs.mpmc.unique_index_set.UniqueIndexSet.borrowed_indices.Goals as goal
 
 pub drive-requires-clause-rule : goal.drive-requires-clause-rule
@@ -46,3 +47,9 @@ pub returns-clause-whole : goal.returns-clause-whole
 returns-clause-whole c =
     counted_whole (seen c.args.pass.now.seated) (seen c.drive.new.self) tt c.args.pass.now.idle c.drive.result
     c.drive.ensures.end c.args.pass.now.done
+
+pub returns-clause-steps : goal.returns-clause-steps
+returns-clause-steps c =
+    let mine = c.args.pass.now in
+    indices_take counts_out (seen mine.seated) (seen c.drive.new.self) c.drive.result tt mine.idle _
+    (mine.known ∙ ap (λ (z : SetId). z.capacity) c.requires) (omega arith) c.drive.ensures.end

@@ -1,7 +1,9 @@
-use Rattle.lock_free.proofs.Names.{rules, one_word, seen}
+use Rattle.lock_free.proofs.Names.{rules, one_word, seen, ap, ◌∙◌, arith, looks_locked}
 use Rattle.history.proofs.IndexCalls.{look_keeps, look_first}
+use Rattle.lock_free.specs.UniqueIndexSet.{SetId}
 use Rattle.lock_free.proofs.Unique.Facts.{looked, sound, looked_answered, goes_on}
 use Rattle.lock_free.proofs.Unique.Whole.{looked_done, looked_nothing, looked_unlocked}
+use Rattle.lock_free.proofs.Steps.{indices_take}
 use Rattle.lock_free.proofs.mpmc.unique_index_set.UniqueIndexSet.is_locked.Goals as goal
 
 pub drive-requires-clause-rule : goal.drive-requires-clause-rule
@@ -38,3 +40,9 @@ returns-clause-nothing c = looked_nothing (seen c.args.pass.now.seated) (seen c.
 
 pub returns-clause-unlocked : goal.returns-clause-unlocked
 returns-clause-unlocked c = looked_unlocked (seen c.args.pass.now.seated) (seen c.drive.new.self) tt c.args.pass.now.idle c.drive.result c.drive.ensures.end
+
+pub returns-clause-steps : goal.returns-clause-steps
+returns-clause-steps c =
+    let mine = c.args.pass.now in
+    indices_take looks_locked (seen mine.seated) (seen c.drive.new.self) c.drive.result tt mine.idle _
+    (mine.known ∙ ap (λ (z : SetId). z.capacity) c.requires) (omega arith) c.drive.ensures.end

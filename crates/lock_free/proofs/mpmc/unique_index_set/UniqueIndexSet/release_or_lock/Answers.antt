@@ -1,9 +1,10 @@
-use Rattle.lock_free.proofs.Names.{rules, sym, ap, subst, ◌∙◌, first_release, one_word, seen, At, gives_or_locks}
+use Rattle.lock_free.proofs.Names.{rules, sym, ap, subst, ◌∙◌, first_release, one_word, seen, At, gives_or_locks, arith}
 use Rattle.model.specs.declared.turn.Kind.TheVariants as kinds
 use Rattle.history.proofs.IndexCalls.{lock_keeps, lock_first}
 use Rattle.lock_free.specs.UniqueIndexSet.{SetId}
 use Rattle.lock_free.proofs.Unique.Facts.{given_or_locked, sound, locked_answered, goes_on}
 use Rattle.lock_free.proofs.Unique.Whole.{locked_done, locked_nothing, locked_whole}
+use Rattle.lock_free.proofs.Steps.{indices_take}
 use Rattle.lock_free.proofs.mpmc.unique_index_set.UniqueIndexSet.release_or_lock.Goals as goal
 
 pub drive_on-requires-clause-rule : goal.drive_on-requires-clause-rule
@@ -54,3 +55,9 @@ pub returns-clause-whole : goal.returns-clause-whole
 returns-clause-whole g c =
     locked_whole (seen c.args.pass.now.seated) (seen c.drive_on.new.self) tt c.args.pass.now.idle c.args.index
     c.drive_on.result c.drive_on.ensures.end c.args.pass.now.done
+
+pub returns-clause-steps : goal.returns-clause-steps
+returns-clause-steps g c =
+    let mine = c.args.pass.now in
+    indices_take (gives_or_locks c.args.index) (seen mine.seated) (seen c.drive_on.new.self) c.drive_on.result tt mine.idle _
+    (mine.known ∙ ap (λ (z : SetId). z.capacity) c.requires.pass) (omega arith) c.drive_on.ensures.end

@@ -1,9 +1,10 @@
-use Rattle.lock_free.proofs.Names.{rules, sym, ap, subst, ◌∙◌, first_release, one_word, seen, At, gives_index}
+use Rattle.lock_free.proofs.Names.{rules, sym, ap, subst, ◌∙◌, first_release, one_word, seen, At, gives_index, arith}
 use Rattle.model.specs.declared.turn.Kind.TheVariants as kinds
 use Rattle.history.proofs.IndexCalls.{release_keeps, release_first}
 use Rattle.lock_free.specs.UniqueIndexSet.{SetId}
 use Rattle.lock_free.proofs.Unique.Facts.{given, sound, unlocked, goes_on}
 use Rattle.lock_free.proofs.Unique.Whole.{given_done}
+use Rattle.lock_free.proofs.Steps.{indices_take}
 use Rattle.lock_free.proofs.mpmc.unique_index_set.UniqueIndexSet.release_raw_index.Goals as goal
 
 pub drive-requires-clause-rule : goal.drive-requires-clause-rule
@@ -39,3 +40,9 @@ invariant_of-pass-clause-done c =
     let v = seen c.args.pass.now.seated in
     let w = seen c.drive.new.self in
     given_done v w c.args.index c.drive.result (given v w tt c.args.pass.now.idle c.args.index c.drive.result c.drive.ensures.end) c.args.pass.now.done
+
+pub returns-clause-steps : goal.returns-clause-steps
+returns-clause-steps c =
+    let mine = c.args.pass.now in
+    indices_take (gives_index c.args.index) (seen mine.seated) (seen c.drive.new.self) c.drive.result tt mine.idle _
+    (mine.known ∙ ap (λ (z : SetId). z.capacity) c.requires.pass) (omega arith) c.drive.ensures.end

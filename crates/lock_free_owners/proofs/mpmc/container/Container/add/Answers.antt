@@ -6,6 +6,9 @@ use Rattle.lock_free_owners.specs.Container.Turns.{BeginsAdd, AddAt, AddEnds}
 use Rattle.lock_free_owners.proofs.ContainerSet.Begins.{add_keeps, add_begins}
 use Rattle.lock_free_owners.proofs.ContainerSet.Facts.{goes, has_added, filled_so, granted_so, within_so, open_so, refused_so, shut}
 use Rattle.lock_free_owners.proofs.ContainerSet.States.{add_leaves}
+use Rattle.lock_free_owners.proofs.Names.{◌+◌}
+use Rattle.lock_free_owners.specs.Container.Steps.{ContainerTakes}
+use Rattle.lock_free_owners.proofs.ContainerSet.Steps.{add_takes}
 use Rattle.lock_free_owners.proofs.mpmc.container.Container.add.Goals as goal
 
 pub drive_on-end-requires-clause-rule : goal.drive_on-end-requires-clause-rule
@@ -137,3 +140,19 @@ pub returns-in-Err-clause-keeps : goal.returns-in-Err-clause-keeps
 returns-in-Err-clause-keeps g c =
     add_leaves (coding_of g.T.Words.WORDS g.T.Words.words_of g.T.Words.value_of) (seen c.args.pass.now.token.seated) (seen c.drive_on-end.new.self)
     (record { value = c.args.value; owner = c.args.owner }) c.drive_on-end.result c.drive_on-end.ensures.end
+
+pub returns-in-Ok-clause-steps : goal.returns-in-Ok-clause-steps
+returns-in-Ok-clause-steps g c =
+    let code : Coding g.row.T.Denot = coding_of g.T.Words.WORDS g.T.Words.words_of g.T.Words.value_of in
+    let v = seen c.args.pass.now.token.seated in
+    let w = seen c.drive_on-end.new.self in
+    subst (λ n. ContainerTakes code n (n + 7 + g.T.Words.WORDS) (n + 1) v w) (c.args.pass.now.token.known ∙ ap (λ (z : SetId). z.capacity) c.requires)
+    (add_takes code v w (record { value = c.args.value; owner = c.args.owner }) c.drive_on-end.result c.drive_on-end.ensures.end)
+
+pub returns-in-Err-clause-steps : goal.returns-in-Err-clause-steps
+returns-in-Err-clause-steps g c =
+    let code : Coding g.row.T.Denot = coding_of g.T.Words.WORDS g.T.Words.words_of g.T.Words.value_of in
+    let v = seen c.args.pass.now.token.seated in
+    let w = seen c.drive_on-end.new.self in
+    subst (λ n. ContainerTakes code n (n + 7 + g.T.Words.WORDS) (n + 1) v w) (c.args.pass.now.token.known ∙ ap (λ (z : SetId). z.capacity) c.requires)
+    (add_takes code v w (record { value = c.args.value; owner = c.args.owner }) c.drive_on-end.result c.drive_on-end.ensures.end)

@@ -11,8 +11,8 @@ use Rattle.lock_free_owners.proofs.ContainerSet.FindTurns.{find_begins}
 use Rattle.lock_free_owners.proofs.mpmc.container.Container.find.Goals as goal
 use Rattle.lock_free_owners.proofs.mpmc.container.Container.find.Given as given
 
-pub find_all-found-requires-clause-at : goal.find_all-found-requires-clause-at
-find_all-found-requires-clause-at g c =
+pub find_all-requires-clause-at : goal.find_all-requires-clause-at
+find_all-requires-clause-at g c =
     let met = g.met.T.Words in
     let code : Coding g.row.T.Denot = coding_of g.T.Words.WORDS g.T.Words.words_of g.T.Words.value_of in
     let law : IsCoding code = record { some = met.some; few = met.few; sized = met.sized; given_back = met.given_back } in
@@ -22,31 +22,30 @@ find_all-found-requires-clause-at g c =
     subst (λ n. FindAt code c.args.owner v v (first_find n) (fresh_cell, [])) mine.known
     (find_begins code law c.args.owner v some (search rules) mine.idle mine.alone mine.some.0)
 
-pub find_all-found-requires-clause-visits : goal.find_all-found-requires-clause-visits
-find_all-found-requires-clause-visits g c =
-    subst (λ n. TakesVisits (given.F-pre g) (λ p x h a q. given.F-step g p x h a q) (IsNamed n c.args.owner (number_of c.args.self.now)) c.args.visit)
+pub find_all-requires-clause-visits : goal.find_all-requires-clause-visits
+find_all-requires-clause-visits g c =
+    subst (λ n. TakesVisits (given.F-pre g) (λ p x h a q. given.F-step g p x h a q) (IsNamed n c.args.owner (number_of c.args.self.now)) c.args.visit.now)
     (sym (ap (λ (z : SetId). z.capacity) c.requires.pass)) c.requires.visits
 
 pub returns-clause-goes : goal.returns-clause-goes
 returns-clause-goes g c =
     let code : Coding g.row.T.Denot = coding_of g.T.Words.WORDS g.T.Words.words_of g.T.Words.value_of in
-    subst (λ n. Goes code kinds.Container n (seen c.args.pass.now.token.seated) (seen c.find_all-found.new.seat)) c.args.pass.now.token.known
-    c.find_all-found.ensures.left.goes
+    subst (λ n. Goes code kinds.Container n (seen c.args.pass.now.token.seated) (seen c.find_all.new.seat)) c.args.pass.now.token.known
+    c.find_all.ensures.left.goes
 
 pub returns-clause-found : goal.returns-clause-found
 returns-clause-found g c =
     let code : Coding g.row.T.Denot = coding_of g.T.Words.WORDS g.T.Words.words_of g.T.Words.value_of in
-    let found = c.find_all-found.ensures.found in
+    let found = c.find_all.ensures.found in
     let size = ap (λ (z : SetId). z.capacity) c.requires.pass in (
       found.0,
       found.1,
-      c.find_all-found.result.1,
-      subst (λ n. HasSearched code n c.args.owner c.find_all-found.result.0 found.1 found.0 (seen c.args.pass.now.token.seated)
-          (seen c.find_all-found.new.seat)) size found.2,
-      subst (λ n. HasFound (λ p x h a q. given.F-step g p x h a q) n (IsNamed n c.args.owner (number_of c.args.self.now)) c.args.visit
-          c.find_all-found.result.0 found.1 found.0 c.find_all-found.result.1)
+      subst (λ n. HasSearched code n c.args.owner c.find_all.result found.1 found.0 (seen c.args.pass.now.token.seated)
+          (seen c.find_all.new.seat)) size found.2,
+      subst (λ n. HasFound (λ p x h a q. given.F-step g p x h a q) n (IsNamed n c.args.owner (number_of c.args.self.now)) c.args.visit.now
+          c.find_all.result found.1 found.0 c.find_all.new.visit)
           size found.3,
     )
 
 pub returns-clause-keeps : goal.returns-clause-keeps
-returns-clause-keeps g c = c.find_all-found.ensures.left.keeps
+returns-clause-keeps g c = c.find_all.ensures.left.keeps

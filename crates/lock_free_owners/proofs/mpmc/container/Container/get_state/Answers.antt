@@ -5,6 +5,8 @@ use Rattle.model.specs.declared.families.container.ContainerStart.TheVariants as
 use Rattle.model.specs.declared.turn.Kind.TheVariants as kinds
 use Rattle.lock_free_owners.specs.Container.LookTurns.{IsOnHistory, LookAt}
 use Rattle.lock_free_owners.proofs.ContainerSet.Looks.{look_begins, look_idle, look_goes, look_made, made_as, some_copied, latest_so}
+use Rattle.lock_free_owners.specs.Container.Steps.{LookTakes}
+use Rattle.lock_free_owners.proofs.ContainerSet.Steps.{look_takes}
 use Rattle.lock_free_owners.proofs.mpmc.container.Container.get_state.Goals as goal
 
 pub bring_up-requires-clause-at : goal.bring_up-requires-clause-at
@@ -86,3 +88,18 @@ returns-clause-shows g c =
     )
     in
     (c.bring_up.ensures.over.0 on).over.2
+
+pub returns-clause-steps : goal.returns-clause-steps
+returns-clause-steps g c =
+    let code : Coding g.row.T.Denot = coding_of g.T.Words.WORDS g.T.Words.words_of g.T.Words.value_of in
+    let mine = c.args.pass.now.token in
+    let v = seen mine.seated in
+    let state = c.in_ok-state.state in
+    let size = mine.known ∙ ap (λ (z : SetId). z.capacity) c.requires in
+    let on : IsOnHistory code GetState v state.shown state.seen = (
+      subst (λ (n : ℕ). state.seen ≡ no_numbers n) (sym size) c.in_ok-state.ensures.seen,
+      subst (λ (n : ℕ). state.shown ≡ shows_nothing g.T.Words.value_of g.T.Words.WORDS n) (sym size) c.in_ok-state.ensures.shown,
+    )
+    in
+    subst (λ (n : ℕ). LookTakes code n v (seen c.bring_up.new.seat)) size
+    (look_takes code v (seen c.bring_up.new.seat) GetState state.seen c.bring_up.result c.bring_up.new.state.shown (c.bring_up.ensures.over.0 on))

@@ -5,6 +5,9 @@ use Rattle.lock_free_owners.specs.Container.Turns.{BeginsCount, CountAt}
 use Rattle.lock_free_owners.proofs.ContainerSet.Begins.{count_begins}
 use Rattle.lock_free_owners.proofs.ContainerSet.Facts.{goes, tested, tested_answered, tested_none}
 use Rattle.lock_free_owners.proofs.ContainerSet.States.{count_leaves}
+use Rattle.lock_free_owners.proofs.Names.{ap, SetId, ◌∙◌, ◌+◌}
+use Rattle.lock_free_owners.specs.Container.Steps.{ContainerTakes}
+use Rattle.lock_free_owners.proofs.ContainerSet.Steps.{count_takes}
 use Rattle.lock_free_owners.proofs.mpmc.container.Container.is_empty.Goals as goal
 
 pub count_all-requires-clause-at : goal.count_all-requires-clause-at
@@ -46,3 +49,11 @@ returns-clause-keeps g c =
     count_leaves (coding_of g.T.Words.WORDS g.T.Words.words_of g.T.Words.value_of)
     (seen c.args.pass.now.token.seated) (seen c.count_all.new.seat) counts.IsEmpty c.count_all.result
     c.count_all.ensures.ends
+
+pub returns-clause-steps : goal.returns-clause-steps
+returns-clause-steps g c =
+    let code : Coding g.row.T.Denot = coding_of g.T.Words.WORDS g.T.Words.words_of g.T.Words.value_of in
+    let v = seen c.args.pass.now.token.seated in
+    let w = seen c.count_all.new.seat in
+    subst (λ n. ContainerTakes code n (n + 2) (n + 2) v w) (c.args.pass.now.token.known ∙ ap (λ (z : SetId). z.capacity) c.requires)
+    (count_takes code v w counts.IsEmpty c.count_all.result c.count_all.ensures.ends)

@@ -4,6 +4,7 @@ use Rattle.lock_free_owners.specs.Container.Turns.{BeginsLock}
 use Rattle.lock_free_owners.proofs.ContainerSet.Begins.{lock_keeps, lock_begins}
 use Rattle.lock_free_owners.proofs.ContainerSet.Facts.{goes, looked, looked_answered, looked_lock}
 use Rattle.lock_free_owners.proofs.ContainerSet.States.{lock_leaves}
+use Rattle.lock_free_owners.proofs.ContainerSet.Steps.{lock_takes}
 use Rattle.lock_free_owners.proofs.mpmc.container.Container.is_locked.Goals as goal
 
 pub drive-requires-clause-rule : goal.drive-requires-clause-rule
@@ -44,3 +45,8 @@ pub returns-clause-keeps : goal.returns-clause-keeps
 returns-clause-keeps g c =
     lock_leaves (coding_of g.T.Words.WORDS g.T.Words.words_of g.T.Words.value_of)
     (seen c.args.pass.now.token.seated) (seen c.drive.new.self) c.drive.result c.drive.ensures.end
+
+pub returns-clause-steps : goal.returns-clause-steps
+returns-clause-steps g c =
+    let code : Coding g.row.T.Denot = coding_of g.T.Words.WORDS g.T.Words.words_of g.T.Words.value_of in
+    lock_takes code (seen c.args.pass.now.token.seated) (seen c.drive.new.self) c.drive.result c.drive.ensures.end

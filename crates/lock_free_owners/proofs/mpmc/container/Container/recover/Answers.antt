@@ -7,11 +7,14 @@ use Rattle.lock_free_owners.specs.Container.RecoverTold.{HasRecovered}
 use Rattle.lock_free_owners.specs.Container.RecoverTurns.{RecoverAt}
 use Rattle.lock_free_owners.proofs.ContainerSet.RecoverTurns.{recover_begins, recovered_goes, recovered_answered, recovered_lock}
 use Rattle.lock_free_owners.proofs.ContainerSet.States.{recover_leaves}
+use Rattle.lock_free_owners.proofs.Names.{◌∙◌}
+use Rattle.lock_free_owners.specs.Container.Steps.{RecoverTakes}
+use Rattle.lock_free_owners.proofs.ContainerSet.Steps.{recover_takes}
 use Rattle.lock_free_owners.proofs.mpmc.container.Container.recover.Goals as goal
 use Rattle.lock_free_owners.proofs.mpmc.container.Container.recover.Given as given
 
-pub free_all-state-requires-clause-at : goal.free_all-state-requires-clause-at
-free_all-state-requires-clause-at g c =
+pub free_all-requires-clause-at : goal.free_all-requires-clause-at
+free_all-requires-clause-at g c =
     let met = g.met.T.Words in
     let code : Coding g.row.T.Denot = coding_of g.T.Words.WORDS g.T.Words.words_of g.T.Words.value_of in
     let law : IsCoding code = record { some = met.some; few = met.few; sized = met.sized; given_back = met.given_back } in
@@ -21,9 +24,9 @@ free_all-state-requires-clause-at g c =
     subst (λ n. RecoverAt code dead v v (first_recover n) (fresh_cell, [])) mine.known (recover_begins code law dead v
     (search rules) mine.idle mine.alone mine.some.0)
 
-pub free_all-state-requires-clause-questions : goal.free_all-state-requires-clause-questions
-free_all-state-requires-clause-questions g c free =
-    subst (λ n. TakesValues (given.F-pre g) (λ p x b q. given.F-step g p x b q) n c.args.predicate)
+pub free_all-requires-clause-questions : goal.free_all-requires-clause-questions
+free_all-requires-clause-questions g c free =
+    subst (λ n. TakesValues (given.F-pre g) (λ p x b q. given.F-step g p x b q) n c.args.predicate.now)
     (sym (ap (λ (z : SetId). z.capacity) c.requires.pass)) (c.requires.questions free)
 
 pub returns-clause-goes_on : goal.returns-clause-goes_on
@@ -33,42 +36,48 @@ returns-clause-goes_on g c =
     let law : IsCoding code = record { some = met.some; few = met.few; sized = met.sized; given_back = met.given_back } in
     let dead : DeadOwner = record { owner = c.args.owner; mode = c.args.mode } in
     let v = seen c.args.pass.now.token.seated in
-    let w = seen c.free_all-state.new.seat in
-    let ends = c.free_all-state.ensures.ends in
+    let w = seen c.free_all.new.seat in
+    let ends = c.free_all.ensures.ends in
     record {
       container = search rules;
       idle = ends.1.over.idle;
       goes = subst (λ n. Goes code kinds.Container n v w) c.args.pass.now.token.known
-          (recovered_goes code law dead v w c.free_all-state.result.0 ends.0 ends.1);
+          (recovered_goes code law dead v w c.free_all.result ends.0 ends.1);
     }
 
 pub returns-clause-recovered : goal.returns-clause-recovered
 returns-clause-recovered g c =
     let code : Coding g.row.T.Denot = coding_of g.T.Words.WORDS g.T.Words.words_of g.T.Words.value_of in
-    let dead : DeadOwner = record { owner = c.args.owner; mode = c.args.mode } in (
-      c.free_all-state.result.1,
-      subst (λ n. HasRecovered code (λ p x b q. given.F-step g p x b q) dead c.free_all-state.result.0 n c.args.predicate c.free_all-state.result.1
-          (seen c.args.pass.now.token.seated) (seen c.free_all-state.new.seat))
-          (ap (λ (z : SetId). z.capacity) c.requires.pass) c.free_all-state.ensures.recovered,
-    )
+    let dead : DeadOwner = record { owner = c.args.owner; mode = c.args.mode } in
+    subst (λ n. HasRecovered code (λ p x b q. given.F-step g p x b q) dead c.free_all.result n c.args.predicate.now c.free_all.new.predicate
+    (seen c.args.pass.now.token.seated) (seen c.free_all.new.seat))
+    (ap (λ (z : SetId). z.capacity) c.requires.pass) c.free_all.ensures.recovered
 
 pub returns-clause-answered : goal.returns-clause-answered
 returns-clause-answered g c =
     let met = g.met.T.Words in
     let code : Coding g.row.T.Denot = coding_of g.T.Words.WORDS g.T.Words.words_of g.T.Words.value_of in
     let law : IsCoding code = record { some = met.some; few = met.few; sized = met.sized; given_back = met.given_back } in
-    recovered_answered code law (record { owner = c.args.owner; mode = c.args.mode }) (seen c.args.pass.now.token.seated) (seen c.free_all-state.new.seat)
-    c.free_all-state.result.0 c.free_all-state.ensures.ends.0 c.free_all-state.ensures.ends.1
+    recovered_answered code law (record { owner = c.args.owner; mode = c.args.mode }) (seen c.args.pass.now.token.seated) (seen c.free_all.new.seat)
+    c.free_all.result c.free_all.ensures.ends.0 c.free_all.ensures.ends.1
 
 pub returns-clause-lock : goal.returns-clause-lock
 returns-clause-lock g c =
     let met = g.met.T.Words in
     let code : Coding g.row.T.Denot = coding_of g.T.Words.WORDS g.T.Words.words_of g.T.Words.value_of in
     let law : IsCoding code = record { some = met.some; few = met.few; sized = met.sized; given_back = met.given_back } in
-    recovered_lock code law (record { owner = c.args.owner; mode = c.args.mode }) (seen c.args.pass.now.token.seated) (seen c.free_all-state.new.seat)
-    c.free_all-state.result.0 c.free_all-state.ensures.ends.0 c.free_all-state.ensures.ends.1
+    recovered_lock code law (record { owner = c.args.owner; mode = c.args.mode }) (seen c.args.pass.now.token.seated) (seen c.free_all.new.seat)
+    c.free_all.result c.free_all.ensures.ends.0 c.free_all.ensures.ends.1
 
 pub returns-clause-keeps : goal.returns-clause-keeps
 returns-clause-keeps g c =
-    recover_leaves (coding_of g.T.Words.WORDS g.T.Words.words_of g.T.Words.value_of) (seen c.args.pass.now.token.seated) (seen c.free_all-state.new.seat)
-    (record { owner = c.args.owner; mode = c.args.mode }) c.free_all-state.result.0 c.free_all-state.ensures.ends.0 c.free_all-state.ensures.ends.1
+    recover_leaves (coding_of g.T.Words.WORDS g.T.Words.words_of g.T.Words.value_of) (seen c.args.pass.now.token.seated) (seen c.free_all.new.seat)
+    (record { owner = c.args.owner; mode = c.args.mode }) c.free_all.result c.free_all.ensures.ends.0 c.free_all.ensures.ends.1
+
+pub returns-clause-steps : goal.returns-clause-steps
+returns-clause-steps g c =
+    let code : Coding g.row.T.Denot = coding_of g.T.Words.WORDS g.T.Words.words_of g.T.Words.value_of in
+    let v = seen c.args.pass.now.token.seated in
+    let w = seen c.free_all.new.seat in
+    subst (λ n. RecoverTakes code n c.args.mode v w) (c.args.pass.now.token.known ∙ ap (λ (z : SetId). z.capacity) c.requires.pass)
+    (recover_takes code v w c.args.owner c.args.mode c.free_all.result c.free_all.ensures.ends.0 c.free_all.ensures.ends.1)

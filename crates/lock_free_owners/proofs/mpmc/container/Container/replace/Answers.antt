@@ -5,6 +5,7 @@ use Rattle.lock_free_owners.specs.Container.Turns.{BeginsReplace, ReplaceAt}
 use Rattle.lock_free_owners.proofs.ContainerSet.Begins.{replace_keeps, replace_begins}
 use Rattle.lock_free_owners.proofs.ContainerSet.Facts.{goes, has_replaced, replaced_answered}
 use Rattle.lock_free_owners.proofs.ContainerSet.States.{replace_leaves}
+use Rattle.lock_free_owners.proofs.ContainerSet.Steps.{replace_takes}
 use Rattle.lock_free_owners.proofs.mpmc.container.Container.replace.Goals as goal
 
 pub drive-requires-clause-rule : goal.drive-requires-clause-rule
@@ -54,4 +55,10 @@ returns-clause-answered g c own =
 pub returns-clause-keeps : goal.returns-clause-keeps
 returns-clause-keeps g c own =
     replace_leaves (coding_of g.T.Words.WORDS g.T.Words.words_of g.T.Words.value_of) (seen c.args.pass.now.token.seated) (seen c.drive.new.self)
+    (record { index = c.args.handle.index; owner = c.args.handle.owner; value = c.args.value }) c.drive.result c.drive.ensures.end
+
+pub returns-clause-steps : goal.returns-clause-steps
+returns-clause-steps g c own =
+    let code : Coding g.row.T.Denot = coding_of g.T.Words.WORDS g.T.Words.words_of g.T.Words.value_of in
+    replace_takes code (seen c.args.pass.now.token.seated) (seen c.drive.new.self)
     (record { index = c.args.handle.index; owner = c.args.handle.owner; value = c.args.value }) c.drive.result c.drive.ensures.end

@@ -3,8 +3,11 @@ use Rattle.lock_free_owners.proofs.Names.{UpdateState, seen, SetId, Goes}
 use Rattle.model.specs.declared.turn.Kind.TheVariants as kinds
 use Rattle.threaded.specs.declared.share.Share.{Share}
 use Rattle.lock_free_owners.specs.Container.LookTurns.{LookAt}
-use Rattle.lock_free_owners.proofs.ContainerSet.Looks.{look_begins, look_idle, look_goes, look_made, latest_so, on_history, of_history, left_so}
+use Rattle.lock_free_owners.proofs.ContainerSet.Looks.{look_answered, look_begins, look_idle, look_goes, look_made, latest_so, on_history, of_history, left_so}
+use Rattle.lock_free_owners.proofs.ContainerSet.Meeting.{has_met}
 use Rattle.lock_free_owners.proofs.ContainerSet.SameStates.{decide}
+use Rattle.lock_free_owners.specs.Container.Steps.{LookTakes}
+use Rattle.lock_free_owners.proofs.ContainerSet.Steps.{look_takes}
 use Rattle.lock_free_owners.proofs.mpmc.container.Container.update_state.Goals as goal
 
 pub bring_up-requires-clause-decided : goal.bring_up-requires-clause-decided
@@ -127,3 +130,27 @@ returns-clause-shows g c latest =
     let state = c.args.state.now in
     let size = mine.known ∙ ap (λ (z : SetId). z.capacity) c.requires.pass in
     (c.bring_up.ensures.over.0 (on_history code v state (c.requires.state.1 ∙ sym size) latest)).over.2
+
+pub returns-clause-met : goal.returns-clause-met
+returns-clause-met g c latest =
+    let code : Coding g.row.T.Denot = coding_of g.T.Words.WORDS g.T.Words.words_of g.T.Words.value_of in
+    let mine = c.args.pass.now.token in
+    let v = seen mine.seated in
+    let w = seen c.bring_up.new.seat in
+    let state = c.args.state.now in
+    let size = mine.known ∙ ap (λ (z : SetId). z.capacity) c.requires.pass in
+    let ends = c.bring_up.ensures.over.0 (on_history code v state (c.requires.state.1 ∙ sym size) latest) in
+    has_met code c.bring_up.result v w (look_answered code UpdateState v w state.seen c.bring_up.result c.bring_up.new.state.shown ends)
+    (look_goes code UpdateState v w state.seen c.bring_up.result c.bring_up.new.state.shown ends).history
+
+pub returns-clause-steps : goal.returns-clause-steps
+returns-clause-steps g c latest =
+    let code : Coding g.row.T.Denot = coding_of g.T.Words.WORDS g.T.Words.words_of g.T.Words.value_of in
+    let mine = c.args.pass.now.token in
+    let v = seen mine.seated in
+    let w = seen c.bring_up.new.seat in
+    let state = c.args.state.now in
+    let size = mine.known ∙ ap (λ (z : SetId). z.capacity) c.requires.pass in
+    subst (λ n. LookTakes code n v w) size
+    (look_takes code v w UpdateState state.seen c.bring_up.result c.bring_up.new.state.shown
+    (c.bring_up.ensures.over.0 (on_history code v state (c.requires.state.1 ∙ sym size) latest)))

@@ -9,7 +9,7 @@ loop-init g c =
       (refl, refl, refl),
       c.requires.board,
       starts code (λ p x b q. given.F-step g p x b q) c.args.capacity (record { owner = c.args.owner; mode = c.args.mode })
-          (seen c.args.seat.now) c.args.predicate c.new-call.result fresh_cell
+          (seen c.args.seat.now) c.args.predicate.now c.new-call.result fresh_cell
           c.new-call.ensures refl c.requires.at,
     )
 
@@ -22,7 +22,7 @@ recover_next-after-requires-clause-asks g c =
     let code : Coding g.row.T.Denot = coding_of g.T.Words.WORDS g.T.Words.words_of g.T.Words.value_of in
     let law : IsCoding code = record { some = met.some; few = met.few; sized = met.sized; given_back = met.given_back } in
     may_go code (λ p x b q. given.F-step g p x b q) c.args.capacity (record { owner = c.args.owner; mode = c.args.mode })
-    (seen c.args.seat.now) c.args.predicate law
+    (seen c.args.seat.now) c.args.predicate.now law
     (seen c.loop.seat) c.loop.call c.loop.room c.loop.predicate c.loop.invariant.2 c.requires.questions
 
 pub loop-preserved : goal.loop-preserved
@@ -35,12 +35,12 @@ loop-preserved g c =
       (called.ensures.same.0 ∙ so_far.0.0, called.ensures.same.1 ∙ so_far.0.1, called.ensures.same.2 ∙ so_far.0.2),
       called.ensures.board,
       subst (λ a. Further code (λ p x b q. given.F-step g p x b q) c.args.capacity (record { owner = c.args.owner; mode = c.args.mode })
-          (seen c.args.seat.now) c.args.predicate
-          (seen called.new.seat) a called.new.room called.result.1) c.in-GoOn.is
+          (seen c.args.seat.now) c.args.predicate.now
+          (seen called.new.seat) a called.new.room called.new.predicate) c.in-GoOn.is
           (further code (λ p x b q. given.F-step g p x b q) c.args.capacity (record { owner = c.args.owner; mode = c.args.mode })
-          (seen c.args.seat.now) c.args.predicate law
+          (seen c.args.seat.now) c.args.predicate.now law
           (seen c.loop.seat) c.loop.call c.loop.room c.loop.predicate so_far.2
-          (seen called.new.seat) called.result.0 called.new.room called.result.1 called.ensures.turns called.ensures.moves),
+          (seen called.new.seat) called.result called.new.room called.new.predicate called.ensures.turns called.ensures.moves),
     )
 
 pub returns-in-Done-clause-ends : goal.returns-in-Done-clause-ends
@@ -51,12 +51,12 @@ returns-in-Done-clause-ends g c =
     let so_far = c.loop.invariant in
     let called = c.recover_next-after in
     (subst (λ a. Further code (λ p x b q. given.F-step g p x b q) c.args.capacity (record { owner = c.args.owner; mode = c.args.mode })
-    (seen c.args.seat.now) c.args.predicate
-    (seen called.new.seat) a called.new.room called.result.1) c.in-Done.is
+    (seen c.args.seat.now) c.args.predicate.now
+    (seen called.new.seat) a called.new.room called.new.predicate) c.in-Done.is
     (further code (λ p x b q. given.F-step g p x b q) c.args.capacity (record { owner = c.args.owner; mode = c.args.mode })
-    (seen c.args.seat.now) c.args.predicate law
+    (seen c.args.seat.now) c.args.predicate.now law
     (seen c.loop.seat) c.loop.call c.loop.room c.loop.predicate so_far.2
-    (seen called.new.seat) called.result.0 called.new.room called.result.1 called.ensures.turns called.ensures.moves)).ends
+    (seen called.new.seat) called.result called.new.room called.new.predicate called.ensures.turns called.ensures.moves)).ends
 
 pub returns-in-Done-clause-recovered : goal.returns-in-Done-clause-recovered
 returns-in-Done-clause-recovered g c =
@@ -66,9 +66,9 @@ returns-in-Done-clause-recovered g c =
     let so_far = c.loop.invariant in
     let called = c.recover_next-after in
     (subst (λ a. Further code (λ p x b q. given.F-step g p x b q) c.args.capacity (record { owner = c.args.owner; mode = c.args.mode })
-    (seen c.args.seat.now) c.args.predicate
-    (seen called.new.seat) a called.new.room called.result.1) c.in-Done.is
+    (seen c.args.seat.now) c.args.predicate.now
+    (seen called.new.seat) a called.new.room called.new.predicate) c.in-Done.is
     (further code (λ p x b q. given.F-step g p x b q) c.args.capacity (record { owner = c.args.owner; mode = c.args.mode })
-    (seen c.args.seat.now) c.args.predicate law
+    (seen c.args.seat.now) c.args.predicate.now law
     (seen c.loop.seat) c.loop.call c.loop.room c.loop.predicate so_far.2
-    (seen called.new.seat) called.result.0 called.new.room called.result.1 called.ensures.turns called.ensures.moves)).recovered
+    (seen called.new.seat) called.result called.new.room called.new.predicate called.ensures.turns called.ensures.moves)).recovered

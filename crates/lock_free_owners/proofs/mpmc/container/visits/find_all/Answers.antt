@@ -10,7 +10,7 @@ loop-next-init g c =
       (refl, refl, refl),
       c.requires.board,
       starts code (λ p x h a q. given.F-step g p x h a q) c.args.capacity c.args.owner c.args.id
-          (seen c.args.seat.now) c.args.visit c.new-call.result fresh_cell
+          (seen c.args.seat.now) c.args.visit.now c.new-call.result fresh_cell
           c.new-call.ensures refl c.requires.places c.requires.at,
     )
 
@@ -24,7 +24,7 @@ find_next-after-requires-clause-asks g c =
     let law : IsCoding code = record { some = met.some; few = met.few; sized = met.sized; given_back = met.given_back } in
     let small : c.args.capacity < 2 ^ 32 = search rules in
     may_go code (λ p x h a q. given.F-step g p x h a q) c.args.capacity c.args.owner c.args.id
-    (seen c.args.seat.now) c.args.visit law small (sym c.requires.known)
+    (seen c.args.seat.now) c.args.visit.now law small (sym c.requires.known)
     (seen c.loop-next.seat) c.loop-next.call c.loop-next.room c.loop-next.visit c.loop-next.invariant.2 c.requires.visits
 
 pub loop-next-preserved : goal.loop-next-preserved
@@ -37,12 +37,12 @@ loop-next-preserved g c =
     let called = c.find_next-after in (
       (called.ensures.same.0 ∙ so_far.0.0, called.ensures.same.1 ∙ so_far.0.1, called.ensures.same.2 ∙ so_far.0.2),
       called.ensures.board,
-      subst (λ a. Further code (λ p x h a q. given.F-step g p x h a q) c.args.capacity c.args.owner c.args.id (seen c.args.seat.now) c.args.visit
-          (seen called.new.seat) a called.new.room called.result.1) c.in-GoOn.is
+      subst (λ a. Further code (λ p x h a q. given.F-step g p x h a q) c.args.capacity c.args.owner c.args.id (seen c.args.seat.now) c.args.visit.now
+          (seen called.new.seat) a called.new.room called.new.visit) c.in-GoOn.is
           (further code (λ p x h a q. given.F-step g p x h a q) c.args.capacity c.args.owner c.args.id
-          (seen c.args.seat.now) c.args.visit law small (sym c.requires.known)
+          (seen c.args.seat.now) c.args.visit.now law small (sym c.requires.known)
           (seen c.loop-next.seat) c.loop-next.call c.loop-next.room c.loop-next.visit so_far.2
-          (seen called.new.seat) called.result.0 called.new.room called.result.1 called.ensures.turns called.ensures.moves),
+          (seen called.new.seat) called.result called.new.room called.new.visit called.ensures.turns called.ensures.moves),
     )
 
 pub returns-in-Done-clause-left : goal.returns-in-Done-clause-left
@@ -52,14 +52,14 @@ returns-in-Done-clause-left g c =
     let law : IsCoding code = record { some = met.some; few = met.few; sized = met.sized; given_back = met.given_back } in
     let small : c.args.capacity < 2 ^ 32 = search rules in
     let called = c.find_next-after in
-    let over : Over code (λ p x h a q. given.F-step g p x h a q) c.args.capacity c.args.owner c.args.id (seen c.args.seat.now) c.args.visit
-    (seen called.new.seat) c.in-Done.found called.result.1
-    = subst (λ a. Further code (λ p x h a q. given.F-step g p x h a q) c.args.capacity c.args.owner c.args.id (seen c.args.seat.now) c.args.visit
-    (seen called.new.seat) a called.new.room called.result.1) c.in-Done.is
+    let over : Over code (λ p x h a q. given.F-step g p x h a q) c.args.capacity c.args.owner c.args.id (seen c.args.seat.now) c.args.visit.now
+    (seen called.new.seat) c.in-Done.found called.new.visit
+    = subst (λ a. Further code (λ p x h a q. given.F-step g p x h a q) c.args.capacity c.args.owner c.args.id (seen c.args.seat.now) c.args.visit.now
+    (seen called.new.seat) a called.new.room called.new.visit) c.in-Done.is
     (further code (λ p x h a q. given.F-step g p x h a q) c.args.capacity c.args.owner c.args.id
-    (seen c.args.seat.now) c.args.visit law small (sym c.requires.known)
+    (seen c.args.seat.now) c.args.visit.now law small (sym c.requires.known)
     (seen c.loop-next.seat) c.loop-next.call c.loop-next.room c.loop-next.visit c.loop-next.invariant.2
-    (seen called.new.seat) called.result.0 called.new.room called.result.1 called.ensures.turns called.ensures.moves) in
+    (seen called.new.seat) called.result called.new.room called.new.visit called.ensures.turns called.ensures.moves) in
     over.left
 
 pub returns-in-Done-clause-found : goal.returns-in-Done-clause-found
@@ -69,12 +69,12 @@ returns-in-Done-clause-found g c =
     let law : IsCoding code = record { some = met.some; few = met.few; sized = met.sized; given_back = met.given_back } in
     let small : c.args.capacity < 2 ^ 32 = search rules in
     let called = c.find_next-after in
-    let over : Over code (λ p x h a q. given.F-step g p x h a q) c.args.capacity c.args.owner c.args.id (seen c.args.seat.now) c.args.visit
-    (seen called.new.seat) c.in-Done.found called.result.1
-    = subst (λ a. Further code (λ p x h a q. given.F-step g p x h a q) c.args.capacity c.args.owner c.args.id (seen c.args.seat.now) c.args.visit
-    (seen called.new.seat) a called.new.room called.result.1) c.in-Done.is
+    let over : Over code (λ p x h a q. given.F-step g p x h a q) c.args.capacity c.args.owner c.args.id (seen c.args.seat.now) c.args.visit.now
+    (seen called.new.seat) c.in-Done.found called.new.visit
+    = subst (λ a. Further code (λ p x h a q. given.F-step g p x h a q) c.args.capacity c.args.owner c.args.id (seen c.args.seat.now) c.args.visit.now
+    (seen called.new.seat) a called.new.room called.new.visit) c.in-Done.is
     (further code (λ p x h a q. given.F-step g p x h a q) c.args.capacity c.args.owner c.args.id
-    (seen c.args.seat.now) c.args.visit law small (sym c.requires.known)
+    (seen c.args.seat.now) c.args.visit.now law small (sym c.requires.known)
     (seen c.loop-next.seat) c.loop-next.call c.loop-next.room c.loop-next.visit c.loop-next.invariant.2
-    (seen called.new.seat) called.result.0 called.new.room called.result.1 called.ensures.turns called.ensures.moves) in
+    (seen called.new.seat) called.result called.new.room called.new.visit called.ensures.turns called.ensures.moves) in
     (over.visits, over.bound, over.searched, over.found)

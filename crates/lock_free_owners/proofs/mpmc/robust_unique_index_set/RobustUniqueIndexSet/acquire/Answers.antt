@@ -1,9 +1,11 @@
 use Rattle.lock_free_owners.proofs.Names.{◌≡◌, Err, IfOk, IfErr, rules, subst, Acquired, first_acquire, one_word}
+use Rattle.lock_free_owners.proofs.Names.{◌∙◌, ap, SetId, ◌+◌}
 use Rattle.lock_free_owners.proofs.Names.{seen, acquire_first}
 use Rattle.lock_free_owners.specs.Robust.Turns.{AcquireAt}
 use Rattle.steps.specs.declared.indices.enums.UniqueIndexSetAcquireFailure.TheVariants.{IsLocked as Locked}
 use Rattle.lock_free_owners.specs.Robust.Told.{WasFilled, WasGranted, WasRefused}
-use Rattle.lock_free_owners.proofs.RobustSet.Facts.{filled, granted, refused, shut}
+use Rattle.lock_free_owners.specs.Robust.Steps.{SetTakes}
+use Rattle.lock_free_owners.proofs.RobustSet.Facts.{filled, granted, refused, shut, acquire_takes}
 use Rattle.lock_free_owners.proofs.mpmc.robust_unique_index_set.RobustUniqueIndexSet.acquire.Goals as goal
 
 pub acquire_all-requires-clause-at : goal.acquire_all-requires-clause-at
@@ -46,3 +48,17 @@ returns-in-Err-clause-lock g c locked =
     let w = seen c.acquire_all.new.seat in
     subst (λ (a : Acquired). a ≡ Err Locked) c.in-Err.is (shut v w tt c.args.pass.now.idle c.args.owner c.acquire_all.result c.acquire_all.ensures.ends
     locked)
+
+pub returns-in-Ok-clause-steps : goal.returns-in-Ok-clause-steps
+returns-in-Ok-clause-steps g c =
+    let v = seen c.args.pass.now.seated in
+    let w = seen c.acquire_all.new.seat in
+    subst (λ n. SetTakes n (n + 3) (n + 1) v w) (c.args.pass.now.known ∙ ap (λ (z : SetId). z.capacity) c.requires)
+    (acquire_takes v w c.args.pass.now.idle c.args.owner c.acquire_all.result tt c.acquire_all.ensures.ends)
+
+pub returns-in-Err-clause-steps : goal.returns-in-Err-clause-steps
+returns-in-Err-clause-steps g c =
+    let v = seen c.args.pass.now.seated in
+    let w = seen c.acquire_all.new.seat in
+    subst (λ n. SetTakes n (n + 3) (n + 1) v w) (c.args.pass.now.known ∙ ap (λ (z : SetId). z.capacity) c.requires)
+    (acquire_takes v w c.args.pass.now.idle c.args.owner c.acquire_all.result tt c.acquire_all.ensures.ends)

@@ -1,6 +1,6 @@
 use Rattle.lock_free_owners.proofs.Names.{rules, subst, one_word, seen, Goes, looks_owned, look_keeps, look_first}
 use Rattle.model.specs.declared.turn.Kind.TheVariants as kinds
-use Rattle.lock_free_owners.proofs.RobustSet.Facts.{goes, looked, looked_answered, looked_lock}
+use Rattle.lock_free_owners.proofs.RobustSet.Facts.{goes, looked, looked_answered, looked_lock, look_takes}
 use Rattle.lock_free_owners.proofs.mpmc.robust_unique_index_set.RobustUniqueIndexSet.is_locked.Goals as goal
 
 pub drive-requires-clause-rule : goal.drive-requires-clause-rule
@@ -28,3 +28,6 @@ returns-clause-answered c = looked_answered (seen c.args.pass.now.seated) (seen 
 
 pub returns-clause-lock : goal.returns-clause-lock
 returns-clause-lock c = looked_lock (seen c.args.pass.now.seated) (seen c.drive.new.self) tt c.args.pass.now.idle c.drive.result c.drive.ensures.end
+
+pub returns-clause-steps : goal.returns-clause-steps
+returns-clause-steps c = look_takes (seen c.args.pass.now.seated) (seen c.drive.new.self) c.args.pass.now.idle c.drive.result tt c.drive.ensures.end

@@ -1,54 +1,61 @@
 use Rattle.lock_free_owners.proofs.Names.{[], rules, sym, ap, subst, one_word, seen, SetId, Goes, recovers_owned}
+use Rattle.lock_free_owners.proofs.Names.{◌∙◌, ◌+◌}
 use Rattle.lock_free_owners.proofs.Names.{recover_first}
 use Rattle.steps.specs.Indices.Robust.Recover.{first_recover}
 use Rattle.model.specs.declared.turn.Kind.TheVariants as kinds
 use Rattle.lock_free_owners.specs.Robust.Turns.{RecoverAt}
-use Rattle.lock_free_owners.proofs.RobustSet.Facts.{goes, recovered, recovered_answered, recovered_lock}
+use Rattle.lock_free_owners.specs.Robust.Steps.{RecoverTakes}
+use Rattle.lock_free_owners.proofs.RobustSet.Facts.{goes, recovered, recovered_answered, recovered_lock, recover_takes}
 use Rattle.lock_free_owners.proofs.Rules.Robust.Recovering.{questions_at, freed_at}
 use Rattle.lock_free_owners.proofs.mpmc.robust_unique_index_set.RobustUniqueIndexSet.recover.Goals as goal
 use Rattle.lock_free_owners.proofs.mpmc.robust_unique_index_set.RobustUniqueIndexSet.recover.Given as given
 
-pub recover_all-state-requires-clause-at : goal.recover_all-state-requires-clause-at
-recover_all-state-requires-clause-at g c =
+pub recover_all-requires-clause-at : goal.recover_all-requires-clause-at
+recover_all-requires-clause-at g c =
     let mine = c.args.pass.now in
     let v = seen mine.seated in
     subst (λ n. RecoverAt c.args.mode v v (first_recover n) []) mine.known (recover_first one_word c.args.mode v mine.idle mine.alone mine.some.0)
 
-pub recover_all-state-requires-clause-questions : goal.recover_all-state-requires-clause-questions
-recover_all-state-requires-clause-questions g c free = questions_at (ap (λ (z : SetId). z.capacity) (sym c.requires.pass)) (c.requires.questions free)
+pub recover_all-requires-clause-questions : goal.recover_all-requires-clause-questions
+recover_all-requires-clause-questions g c free = questions_at (ap (λ (z : SetId). z.capacity) (sym c.requires.pass)) (c.requires.questions free)
 
-pub recover_all-state-requires-clause-freed : goal.recover_all-state-requires-clause-freed
-recover_all-state-requires-clause-freed g c free = freed_at (ap (λ (z : SetId). z.capacity) (sym c.requires.pass)) (c.requires.freed free)
+pub recover_all-requires-clause-freed : goal.recover_all-requires-clause-freed
+recover_all-requires-clause-freed g c free = freed_at (ap (λ (z : SetId). z.capacity) (sym c.requires.pass)) (c.requires.freed free)
 
 pub returns-clause-goes_on : goal.returns-clause-goes_on
 returns-clause-goes_on g c =
     let v = seen c.args.pass.now.seated in
-    let w = seen c.recover_all-state.new.seat in
+    let w = seen c.recover_all.new.seat in
     record {
       set = search rules;
       goes = subst (λ n. Goes one_word kinds.Robust n v w) c.args.pass.now.known
-          (goes (recovers_owned c.args.mode) v w c.recover_all-state.result.0 c.recover_all-state.ensures.ends.0 c.recover_all-state.ensures.ends.1);
+          (goes (recovers_owned c.args.mode) v w c.recover_all.result c.recover_all.ensures.ends.0 c.recover_all.ensures.ends.1);
     }
 
 pub returns-clause-recovered : goal.returns-clause-recovered
 returns-clause-recovered g c =
-    let called = c.recover_all-state in
-    let ends = called.ensures.ends in (
-      called.result.1,
-      called.result.2,
-      recovered (seen c.args.pass.now.seated) (seen called.new.seat) c.args.pass.now.idle c.args.mode called.result.0 ends.0 ends.1
-          (λ p o i b q. given.F-step g p o i b q) (λ s o i t. given.S-step g s o i tt t) c.args.predicate called.result.1 c.args.recover_success called.result.2
-          ends.2,
-    )
+    let called = c.recover_all in
+    let ends = called.ensures.ends in
+    recovered (seen c.args.pass.now.seated) (seen called.new.seat) c.args.pass.now.idle c.args.mode called.result ends.0 ends.1
+    (λ p o i b q. given.F-step g p o i b q) (λ s o i t. given.S-step g s o i tt t) c.args.predicate.now called.new.predicate
+    c.args.recover_success.now called.new.recovered ends.2
 
 pub returns-clause-answered : goal.returns-clause-answered
 returns-clause-answered g c =
-    let ends = c.recover_all-state.ensures.ends in
-    recovered_answered (seen c.args.pass.now.seated) (seen c.recover_all-state.new.seat) c.args.pass.now.idle c.args.mode c.recover_all-state.result.0
+    let ends = c.recover_all.ensures.ends in
+    recovered_answered (seen c.args.pass.now.seated) (seen c.recover_all.new.seat) c.args.pass.now.idle c.args.mode c.recover_all.result
     ends.0 ends.1
 
 pub returns-clause-lock : goal.returns-clause-lock
 returns-clause-lock g c =
-    let ends = c.recover_all-state.ensures.ends in
-    recovered_lock (seen c.args.pass.now.seated) (seen c.recover_all-state.new.seat) c.args.pass.now.idle c.args.mode c.recover_all-state.result.0
+    let ends = c.recover_all.ensures.ends in
+    recovered_lock (seen c.args.pass.now.seated) (seen c.recover_all.new.seat) c.args.pass.now.idle c.args.mode c.recover_all.result
     ends.0 ends.1
+
+pub returns-clause-steps : goal.returns-clause-steps
+returns-clause-steps g c =
+    let v = seen c.args.pass.now.seated in
+    let w = seen c.recover_all.new.seat in
+    let ends = c.recover_all.ensures.ends in
+    subst (λ n. RecoverTakes n c.args.mode v w) (c.args.pass.now.known ∙ ap (λ (z : SetId). z.capacity) c.requires.pass)
+    (recover_takes v w c.args.pass.now.idle c.args.mode c.recover_all.result ends.0 ends.1)

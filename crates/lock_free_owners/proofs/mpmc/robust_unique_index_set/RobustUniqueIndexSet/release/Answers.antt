@@ -1,7 +1,9 @@
 use Rattle.lock_free_owners.proofs.Names.{◌<◌, rules, sym, ap, subst, ◌∙◌, first_release, GiveBack, one_word, seen}
+use Rattle.lock_free_owners.proofs.Names.{◌+◌}
 use Rattle.lock_free_owners.proofs.Names.{SetId, Goes, gives_owned, At, release_keeps, release_first}
 use Rattle.model.specs.declared.turn.Kind.TheVariants as kinds
-use Rattle.lock_free_owners.proofs.RobustSet.Facts.{goes, given, given_of, given_answered, freed, released}
+use Rattle.lock_free_owners.specs.Robust.Steps.{ReleaseTakes}
+use Rattle.lock_free_owners.proofs.RobustSet.Facts.{goes, given, given_of, given_answered, freed, released, release_takes}
 use Rattle.lock_free_owners.proofs.mpmc.robust_unique_index_set.RobustUniqueIndexSet.release.Goals as goal
 
 pub drive_on-requires-clause-rule : goal.drive_on-requires-clause-rule
@@ -41,3 +43,10 @@ returns-clause-answered g c = given_answered (seen c.args.pass.now.seated)
 pub returns-clause-released : goal.returns-clause-released
 returns-clause-released g c = released (seen c.args.pass.now.seated)
     (seen c.drive_on.new.self) tt c.args.pass.now.idle c.args.index c.args.owner c.args.mode c.drive_on.result c.drive_on.ensures.end
+
+pub returns-clause-steps : goal.returns-clause-steps
+returns-clause-steps g c =
+    let v = seen c.args.pass.now.seated in
+    let w = seen c.drive_on.new.self in
+    subst (λ n. ReleaseTakes n c.args.mode v w) (c.args.pass.now.known ∙ ap (λ (z : SetId). z.capacity) c.requires.pass)
+    (release_takes v w c.args.pass.now.idle c.args.index c.args.owner c.args.mode c.drive_on.result tt c.drive_on.ensures.end)

@@ -8,36 +8,42 @@ pub loop-next-init : goal.loop-next-init
 loop-next-init g c = (
   (refl, refl, refl),
   c.requires.board,
-  starts (λ p x a q. given.F-step g p x a q) c.args.capacity c.args.owner (seen c.args.seat.now) c.args.visit c.new-call.result c.new-call.ensures
+  starts (λ p x a q. given.F-step g p x a q) c.args.capacity c.args.owner (seen c.args.seat.now) c.args.visit.now c.new-call.result c.new-call.ensures
       c.requires.known c.requires.some c.requires.any,
 )
 
-pub find_next-after-requires-clause-asks : goal.find_next-after-requires-clause-asks
-find_next-after-requires-clause-asks g c =
-    may_go (λ p x a q. given.F-step g p x a q) c.args.capacity c.args.owner (seen c.args.seat.now) c.args.visit (seen c.loop-next.seat) c.loop-next.call
+pub find_next-requires-clause-asks : goal.find_next-requires-clause-asks
+find_next-requires-clause-asks g c =
+    may_go (λ p x a q. given.F-step g p x a q) c.args.capacity c.args.owner (seen c.args.seat.now) c.args.visit.now (seen c.loop-next.seat) c.loop-next.call
     c.loop-next.visit c.requires.asks c.loop-next.invariant.2
 
 pub loop-next-smaller : goal.loop-next-smaller
-loop-next-smaller g c = subst (GoesDown c.args.capacity _) c.in-GoOn.is c.find_next-after.ensures.less
+loop-next-smaller g c = subst (GoesDown c.args.capacity _) c.in-GoOn.is c.find_next.ensures.less
 
 pub loop-next-preserved : goal.loop-next-preserved
 loop-next-preserved g c =
     let so_far = c.loop-next.invariant in
-    let called = c.find_next-after in (
+    let called = c.find_next in (
       (called.ensures.same.0 ∙ so_far.0.0, called.ensures.same.1 ∙ so_far.0.1, called.ensures.same.2 ∙ so_far.0.2),
       called.ensures.board,
-      subst (λ a. Onward (λ p x a q. given.F-step g p x a q) c.args.capacity c.args.owner (seen c.args.seat.now) c.args.visit a (seen called.new.seat)
-          called.result.1) c.in-GoOn.is (called.ensures.goes (seen c.args.seat.now) c.args.visit so_far.2),
+      subst (λ a. Onward (λ p x a q. given.F-step g p x a q) c.args.capacity c.args.owner (seen c.args.seat.now) c.args.visit.now a (seen called.new.seat)
+          called.new.visit) c.in-GoOn.is (called.ensures.goes (seen c.args.seat.now) c.args.visit.now so_far.2),
     )
 
 pub returns-in-Done-clause-looked : goal.returns-in-Done-clause-looked
 returns-in-Done-clause-looked g c =
-    let called = c.find_next-after in
-    (subst (λ a. Onward (λ p x a q. given.F-step g p x a q) c.args.capacity c.args.owner (seen c.args.seat.now) c.args.visit a (seen called.new.seat)
-    called.result.1) c.in-Done.is (called.ensures.goes (seen c.args.seat.now) c.args.visit c.loop-next.invariant.2)).0
+    let called = c.find_next in
+    (subst (λ a. Onward (λ p x a q. given.F-step g p x a q) c.args.capacity c.args.owner (seen c.args.seat.now) c.args.visit.now a (seen called.new.seat)
+    called.new.visit) c.in-Done.is (called.ensures.goes (seen c.args.seat.now) c.args.visit.now c.loop-next.invariant.2)).0
 
 pub returns-in-Done-clause-found : goal.returns-in-Done-clause-found
 returns-in-Done-clause-found g c =
-    let called = c.find_next-after in
-    (subst (λ a. Onward (λ p x a q. given.F-step g p x a q) c.args.capacity c.args.owner (seen c.args.seat.now) c.args.visit a (seen called.new.seat)
-    called.result.1) c.in-Done.is (called.ensures.goes (seen c.args.seat.now) c.args.visit c.loop-next.invariant.2)).1
+    let called = c.find_next in
+    (subst (λ a. Onward (λ p x a q. given.F-step g p x a q) c.args.capacity c.args.owner (seen c.args.seat.now) c.args.visit.now a (seen called.new.seat)
+    called.new.visit) c.in-Done.is (called.ensures.goes (seen c.args.seat.now) c.args.visit.now c.loop-next.invariant.2)).1
+
+pub returns-in-Done-clause-steps : goal.returns-in-Done-clause-steps
+returns-in-Done-clause-steps g c =
+    let called = c.find_next in
+    (subst (λ a. Onward (λ p x a q. given.F-step g p x a q) c.args.capacity c.args.owner (seen c.args.seat.now) c.args.visit.now a (seen called.new.seat)
+    called.new.visit) c.in-Done.is (called.ensures.goes (seen c.args.seat.now) c.args.visit.now c.loop-next.invariant.2)).2

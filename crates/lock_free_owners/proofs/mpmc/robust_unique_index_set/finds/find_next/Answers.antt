@@ -3,7 +3,8 @@ use Rattle.steps.specs.Indices.Robust.Find.{find_takes}
 use Rattle.steps.specs.declared.indices.robust.find.Find.{Find}
 use Rattle.steps.specs.declared.indices.robust.find.FindStage.{FindStage}
 use Rattle.steps.specs.declared.indices.robust.find.FindStage.TheVariants as finds
-use Rattle.lock_free_owners.specs.Robust.Finding.{Onward, Searching, SoFar}
+use Rattle.history.specs.Steps.{TakesAtMost}
+use Rattle.lock_free_owners.specs.Robust.Finding.{Onward, Searching, SoFar, cells_loaded}
 use Rattle.lock_free_owners.proofs.RobustSet.Finding.{heard}
 use Rattle.lock_free_owners.proofs.mpmc.robust_unique_index_set.finds.find_next.Goals as goal
 use Rattle.lock_free_owners.proofs.mpmc.robust_unique_index_set.finds.find_next.Given as given
@@ -11,8 +12,8 @@ use Rattle.lock_free_owners.proofs.mpmc.robust_unique_index_set.finds.find_next.
 pub returns-in-LoadsCell-clause-goes : goal.returns-in-LoadsCell-clause-goes
 returns-in-LoadsCell-clause-goes g c base f began =
     let is : c.args.call ≡ record { capacity = c.args.capacity; stage = _ } = λ i. record { capacity = c.requires.call i; stage = c.in-LoadsCell.is i } in
-    c.pass_over-after.ensures.goes base f c.args.visit
-    (subst (λ (d : Find). Searching (λ q x a r. given.F-step g q x a r) c.args.capacity c.args.owner base f (seen c.args.seat.now) d c.args.visit) is began)
+    c.pass_over.ensures.goes base f c.args.visit.now
+    (subst (λ (d : Find). Searching (λ q x a r. given.F-step g q x a r) c.args.capacity c.args.owner base f (seen c.args.seat.now) d c.args.visit.now) is began)
 
 pub returns-in-Asks-clause-goes : goal.returns-in-Asks-clause-goes
 returns-in-Asks-clause-goes g c base f began =
@@ -21,10 +22,11 @@ returns-in-Asks-clause-goes g c base f began =
     let v = seen c.args.seat.now in
     let heard_there = c.hear-answer.ensures in
     let so_far =
-    subst (λ (s : FindStage). SoFar (λ q x a r. given.F-step g q x a r) c.args.capacity c.args.owner base f s v c.args.visit)
+    subst (λ (s : FindStage). SoFar (λ q x a r. given.F-step g q x a r) c.args.capacity c.args.owner base f s v c.args.visit.now)
     c.in-Asks.is began.so_far in
-    let taken = c.take.ensures.goes ∙ ap (λ (s : FindStage). find_takes c.args.call s c.args.owner c.hear-answer.result.0) c.in-Asks.is
+    let few = subst (λ (s : FindStage). TakesAtMost (cells_loaded s) base v) c.in-Asks.is began.steps in
+    let taken = c.take.ensures.goes ∙ ap (λ (s : FindStage). find_takes c.args.call s c.args.owner c.hear-answer.result) c.in-Asks.is
     ∙ ap (λ k. find_takes c.args.call (finds.Asks c.in-Asks.index c.in-Asks.found) c.args.owner k) heard_there.2 in
-    subst (λ (a : After Find ℕ). Onward (λ q x a r. given.F-step g q x a r) c.args.capacity c.args.owner base f a v c.hear-answer.result.1) (sym taken)
-    (heard (λ q x a r. given.F-step g q x a r) c.args.capacity c.args.owner base f small fits v v c.args.call c.args.visit began
-    c.in-Asks.index c.in-Asks.found heard_there.0 c.hear-answer.result.1 so_far heard_there.1)
+    subst (λ (a : After Find ℕ). Onward (λ q x a r. given.F-step g q x a r) c.args.capacity c.args.owner base f a v c.hear-answer.new.visit) (sym taken)
+    (heard (λ q x a r. given.F-step g q x a r) c.args.capacity c.args.owner base f small fits v v c.args.call c.args.visit.now began
+    c.in-Asks.index c.in-Asks.found heard_there.0 c.hear-answer.new.visit so_far few heard_there.1)

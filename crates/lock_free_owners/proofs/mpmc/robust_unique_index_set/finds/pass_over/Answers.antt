@@ -27,7 +27,7 @@ returns-then-stands-value-clause-goes g c base f p began =
     let taken = c.take.ensures.goes ∙ ap (λ (d : Find). find_after d c.args.owner look.result) c.at_cell-here.ensures in
     subst (λ (a : After Find ℕ). Onward (λ q x a r. given.F-step g q x a r) c.args.capacity c.args.owner base f a (seen look.new.seat) p) (sym taken)
     (loaded (λ q x a r. given.F-step g q x a r) c.args.capacity c.args.owner base f small fits (seen c.cells.seat) (seen look.new.seat) here p searching
-    c.cells.cell c.args.so_many look.result searching.so_far look.ensures.looks)
+    c.cells.cell c.args.so_many look.result searching.so_far look.ensures.looks searching.steps look.ensures.counted)
 
 pub returns-then-cell-capacity-clause-less : goal.returns-then-cell-capacity-clause-less
 returns-then-cell-capacity-clause-less g c =
@@ -59,7 +59,7 @@ returns-then-cell-capacity-clause-goes g c base f p began =
     ∙ ap (λ (d : Find). find_after d c.args.owner look.result) (c.at_cell-last.ensures ∙ ap (at_cell c.args.capacity c.args.so_many) last) in
     subst (λ (a : After Find ℕ). Onward (λ q x a r. given.F-step g q x a r) c.args.capacity c.args.owner base f a (seen look.new.seat) p) (sym taken)
     (loaded (λ q x a r. given.F-step g q x a r) c.args.capacity c.args.owner base f small fits (seen c.cells.seat) (seen look.new.seat) here p searching
-    c.cells.cell c.args.so_many look.result searching.so_far look.ensures.looks)
+    c.cells.cell c.args.so_many look.result searching.so_far look.ensures.looks searching.steps look.ensures.counted)
 
 pub cells-preserved : goal.cells-preserved
 cells-preserved g c =
@@ -80,7 +80,7 @@ cells-preserved g c =
       λ base f p began. let searching = so_far.2 base f p began in
           subst (λ (a : After Find ℕ). Onward (λ q x a r. given.F-step g q x a r) c.args.capacity c.args.owner base f a (seen look.new.seat) p) after
           (loaded (λ q x a r. given.F-step g q x a r) c.args.capacity c.args.owner base f small fits (seen c.cells.seat) (seen look.new.seat) here p searching
-          c.cells.cell c.args.so_many look.result searching.so_far look.ensures.looks),
+          c.cells.cell c.args.so_many look.result searching.so_far look.ensures.looks searching.steps look.ensures.counted),
       subst (λ s. 0 < s.part) (sym look.ensures.looks.looks.share) so_far.3,
       look.ensures.looks.looks.capacity ∙ so_far.4,
       omega arith,

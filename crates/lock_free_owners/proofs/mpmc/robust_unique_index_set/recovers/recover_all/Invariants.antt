@@ -1,6 +1,6 @@
 use Rattle.lock_free_owners.proofs.Names.{seen, IsSame}
+use Rattle.lock_free_owners.specs.Robust.Recovering.{StandsSo}
 use Rattle.lock_free_owners.specs.Robust.Turns.{IsBoard}
-use Rattle.lock_free_owners.proofs.RobustSet.Recoveries.{StandsSo}
 use Rattle.lock_free_owners.proofs.mpmc.robust_unique_index_set.recovers.recover_all.Given as goal
 
 abbrev pub invariant-loop : goal.invariant-loop

@@ -1,5 +1,5 @@
-use Rattle.lock_free_owners.proofs.Names.{◌≡◌, ℕ, ◌<◌, rules, refl, sym, ap, subst, ◌∙◌, empty, at_recover}
-use Rattle.lock_free_owners.proofs.Names.{recover_after, After, ReleaseState, number_of, seen, View, visits_taken}
+use Rattle.lock_free_owners.proofs.Names.{◌≡◌, ℕ, ◌<◌, rules, refl, sym, ap, subst, ◌∙◌, empty}
+use Rattle.lock_free_owners.proofs.Names.{recover_after, After, ReleaseState, number_of, seen, View}
 use Rattle.steps.specs.declared.indices.robust.recover.Recover.{Recover}
 use Rattle.steps.specs.declared.indices.robust.recover.RecoverStage.{RecoverStage}
 use Rattle.threaded.specs.Driver.{Next}
@@ -11,57 +11,35 @@ use Rattle.lock_free_owners.proofs.mpmc.robust_unique_index_set.recovers.recover
 use Rattle.lock_free_owners.proofs.mpmc.robust_unique_index_set.recovers.recover_next.Goals as goal
 use Rattle.lock_free_owners.proofs.mpmc.robust_unique_index_set.recovers.recover_next.Given as given
 
-pub pass_over-after-requires-clause-at : goal.pass_over-after-requires-clause-at
-pass_over-after-requires-clause-at g c =
-    let at = c.requires.at in (
-      at.0,
-      at.1,
-      at.2,
-      subst (λ (stage : RecoverStage). RecoverAt c.args.mode at.0 (seen c.args.seat.now) (at_recover c.args.call stage) at.1) c.in-LoadsCell.is at.3,
-    )
-
 pub returns-after-yes-clause-goes : goal.returns-after-yes-clause-goes
 returns-after-yes-clause-goes g c =
-    let k = number_of c.ask-yes.result.0 in
+    let k = number_of c.ask-yes.result in
     let heard : c.if-yes.take ≡ k = elim c.if-yes.branch [
       | then-yes w ↦ w.take-is ∙ ap number_of (sym w.if-yes.true)
       | else-yes w ↦ w.take-is ∙ ap number_of (sym w.if-yes.false)
     ] in
-    let goes : c.take-after.result ≡ recover_after c.args.call c.args.mode k = c.take-after.ensures.goes
+    let goes : c.take.result ≡ recover_after c.args.call c.args.mode k = c.take.ensures.goes
     ∙ ap (λ (n : ℕ). recover_after c.args.call c.args.mode n) heard in
     let named : c.in-Asks.owner < empty = search rules in
-    let asked : given.F-step g c.args.predicate c.in-Asks.owner c.in-Asks.index c.ask-yes.result.0 c.ask-yes.result.1 = search rules in (
+    let asked : given.F-step g c.args.predicate.now c.in-Asks.owner c.in-Asks.index c.ask-yes.result c.ask-yes.new.predicate = search rules in (
       k,
       λ base visits idle at. subst (λ (a : After Recover ReleaseState). Next (λ (z : View ℕ). z.capacity) (RecoverAt c.args.mode)
           (RecoverEnds c.args.mode) base a (visits_after c.args.call visits k) (seen c.args.seat.now)) (sym goes)
-          (said_goes c.args.mode base (seen c.args.seat.now) c.args.call visits c.in-Asks.index c.in-Asks.owner c.in-Asks.is c.ask-yes.result.0 at),
+          (said_goes c.args.mode base (seen c.args.seat.now) c.args.call visits c.in-Asks.index c.in-Asks.owner c.in-Asks.is c.ask-yes.result at),
       subst (λ (stage : RecoverStage). RecoverMoves (λ p o i b q. given.F-step g p o i b q)
           (λ s o i t. given.S-step g s o i tt t) c.args.call c.args.mode stage k
-          c.args.predicate c.args.recovered c.take-after.result c.ask-yes.result.1 c.args.recovered) (sym c.in-Asks.is)
-          (named, refl, (c.ask-yes.result.0, asked, refl), goes),
+          c.args.predicate.now c.args.recovered.now c.take.result c.ask-yes.new.predicate c.args.recovered.now) (sym c.in-Asks.is)
+          (named, refl, (c.ask-yes.result, asked, refl), goes),
     )
 
 pub returns-in-EmptiesCell-clause-goes : goal.returns-in-EmptiesCell-clause-goes
 returns-in-EmptiesCell-clause-goes g c =
     let step = c.step_recover-after in
-    let told = c.tell_where-recovered in
+    let told = c.tell_where in
     let named : c.in-EmptiesCell.owner < empty = search rules in (
       step.ensures.goes.0,
       step.ensures.goes.2,
       subst (λ (stage : RecoverStage). RecoverMoves (λ p o i b q. given.F-step g p o i b q) (λ s o i t. given.S-step g s o i tt t) c.args.call c.args.mode stage
-          step.ensures.goes.0 c.args.predicate c.args.recovered step.result c.args.predicate told.result) (sym c.in-EmptiesCell.is)
+          step.ensures.goes.0 c.args.predicate.now c.args.recovered.now step.result c.args.predicate.now told.new.recovered) (sym c.in-EmptiesCell.is)
           (named, refl, step.ensures.goes.1, (λ e. told.ensures.told (c.has_freed.ensures ∙ e)), (λ e. told.ensures.passed (c.has_freed.ensures ∙ e))),
-    )
-
-pub returns-in-LoadsCell-clause-goes : goal.returns-in-LoadsCell-clause-goes
-returns-in-LoadsCell-clause-goes g c =
-    let over = c.pass_over-after in (
-      0,
-      λ base visits idle at. subst (λ (stage : RecoverStage). Next (λ (z : View ℕ). z.capacity) (RecoverAt c.args.mode) (RecoverEnds c.args.mode) base
-          over.result (visits_taken stage visits 0) (seen over.new.seat)) (sym c.in-LoadsCell.is)
-          (over.ensures.goes base visits idle
-          (subst (λ (stage : RecoverStage). RecoverAt c.args.mode base (seen c.args.seat.now) (at_recover c.args.call stage) visits) c.in-LoadsCell.is at)),
-      subst (λ (stage : RecoverStage). RecoverMoves (λ p o i b q. given.F-step g p o i b q)
-          (λ s o i t. given.S-step g s o i tt t) c.args.call c.args.mode stage 0
-          c.args.predicate c.args.recovered over.result c.args.predicate c.args.recovered) (sym c.in-LoadsCell.is) (refl, refl, over.ensures.passed),
     )

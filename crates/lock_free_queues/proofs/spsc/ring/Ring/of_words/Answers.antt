@@ -6,8 +6,8 @@ use Rattle.lock_free_queues.specs.Queues.Roles.{LacksRole}
 use Rattle.lock_free_queues.proofs.Queues.Kinds.{opens_bare}
 use Rattle.lock_free_queues.proofs.spsc.ring.Ring.of_words.Goals as goal
 
-pub of_words-requires : goal.of_words-requires
-of_words-requires g c =
+pub open-requires : goal.open-requires
+open-requires g c =
     let code : Coding g.row.T.Denot = coding_of g.T.Words.WORDS g.T.Words.words_of g.T.Words.value_of in
     let kind = g.E.Kind.KIND in
     subst (λ ws. IsMachine code (machine_kind kind) c.args.capacity (opening ws [] (opened_by code kind c.args.capacity c.args.position)))
@@ -18,5 +18,5 @@ invariant_of-result g c =
     let code : Coding g.row.T.Denot = coding_of g.T.Words.WORDS g.T.Words.words_of g.T.Words.value_of in
     let kind = g.E.Kind.KIND in
     let none = opens_bare code kind c.args.capacity c.args.position in
-    let made : c.in_ok-table.seat.me.0.made ≡ (opened_by code kind c.args.capacity c.args.position).made = search rules in
+    let made : c.in_ok-home.seated.seat.me.0.made ≡ (opened_by code kind c.args.capacity c.args.position).made = search rules in
     record { none = (subst (LacksRole Producer) (sym made) none.0, subst (LacksRole Consumer) (sym made) none.1) }

@@ -40,8 +40,8 @@ loop-at-preserved g c =
           c.first_word.result c.loop-at.words.items below inv.4 (omega arith) c.word-word.ensures c.first_word.ensures,
     )
 
-pub of_words-requires : goal.of_words-requires
-of_words-requires g c =
+pub open-requires : goal.open-requires
+open-requires g c =
     let met = g.met.T.Words in
     let code : Coding g.row.T.Denot = coding_of g.T.Words.WORDS g.T.Words.words_of g.T.Words.value_of in
     let law : IsCoding code = record { some = met.some; few = met.few; sized = met.sized; given_back = met.given_back } in
@@ -54,12 +54,12 @@ of_words-requires g c =
     let done : c.loop-at.at ≡ code.size = omega arith in
     value_opens code law x v c.ranges.version.fits c.as_slice.result.now (c.as_slice.ensures.value ∙ (inv.4 ∙ (ap (filling code x v) done ∙ ends code law x v)))
 
-pub invariant_of-token-2-clause-begun : goal.invariant_of-token-2-clause-begun
-invariant_of-token-2-clause-begun g c =
-    let me : c.in_ok-table.seat.me.0 ≡ opened_view c.args.value c.args.version = search rules in
+pub invariant_of-token-clause-begun : goal.invariant_of-token-clause-begun
+invariant_of-token-clause-begun g c =
+    let me : c.in_ok-home.seated.seat.me.0 ≡ opened_view c.args.value c.args.version = search rules in
     subst (λ (w : View g.row.T.Denot). 0 < length (stored w.seen)) (sym me) (opened_some c.args.value c.args.version)
 
 pub invariant_of-result : goal.invariant_of-result
 invariant_of-result g c =
-    let me : c.in_ok-table.seat.me.0 ≡ opened_view c.args.value c.args.version = search rules in
+    let me : c.in_ok-home.seated.seat.me.0 ≡ opened_view c.args.value c.args.version = search rules in
     record { none = subst (λ (w : View g.row.T.Denot). LacksProducer w.made) (sym me) (opened_lacks c.args.value c.args.version) }

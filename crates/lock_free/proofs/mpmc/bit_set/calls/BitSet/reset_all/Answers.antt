@@ -13,8 +13,8 @@ pub returns-then-capacity-eq0-clause-cleared : goal.returns-then-capacity-eq0-cl
 returns-then-capacity-eq0-clause-cleared g c =
     let mine = c.args.pass.now in
     let w = seen c.empty_none.new.seated in
-    subst (λ n. HasCleanedOut (λ p x q. given.F-step g p x tt q) n c.args.visit (seen mine.seated) w) (search rules)
-    (cleared_none (λ p x q. given.F-step g p x tt q) c.args.visit (seen mine.seated) w c.empty_none.ensures.called)
+    subst (λ n. HasCleanedOut (λ p x q. given.F-step g p x tt q) n c.args.visit.now c.args.visit.now (seen mine.seated) w) (search rules)
+    (cleared_none (λ p x q. given.F-step g p x tt q) c.args.visit.now (seen mine.seated) w c.empty_none.ensures.called)
 
 pub returns-then-capacity-eq0-clause-stood : goal.returns-then-capacity-eq0-clause-stood
 returns-then-capacity-eq0-clause-stood g c =

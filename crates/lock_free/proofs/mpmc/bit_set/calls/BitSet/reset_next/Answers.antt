@@ -1,10 +1,11 @@
-use Rattle.lock_free.proofs.Names.{refl, sym, subst, ap, ◌∙◌, one_word, seen, At}
+use Rattle.lock_free.proofs.Names.{refl, sym, subst, ap, ◌∙◌, one_word, seen, At, arith}
 use Rattle.steps.specs.Bits.BitSet.{first_reset}
 use Rattle.model.specs.declared.turn.Kind.TheVariants as kinds
 use Rattle.lock_free.specs.Bits.Stages.{resets_next}
 use Rattle.lock_free.specs.Sets.Calls.{SetId}
-use Rattle.lock_free.specs.Bits.Told.{AllClearOnce}
-use Rattle.lock_free.proofs.Bits.Resetting.{next_keeps, next_first, all_clear}
+use Rattle.lock_free.specs.Bits.Told.{AllClearOnce, CameFromPosition}
+use Rattle.lock_free.proofs.Bits.Resetting.{next_keeps, next_first, all_clear, came_from}
+use Rattle.lock_free.proofs.Steps.{bits_take}
 use Rattle.lock_free.proofs.mpmc.bit_set.calls.BitSet.reset_next.Goals as goal
 
 pub drive_on-end-requires-clause-rule : goal.drive_on-end-requires-clause-rule
@@ -25,3 +26,24 @@ returns-in-None-clause-clear g c none =
     subst (λ n. AllClearOnce n w) (mine.known ∙ ap (λ (z : SetId). z.capacity) c.requires)
     (all_clear base w c.drive_on-end.result c.drive_on-end.new.room mine.idle c.drive_on-end.ensures.end
     (sym c.answer.ensures ∙ c.in-None.is))
+
+pub returns-in-Some-clause-came : goal.returns-in-Some-clause-came
+returns-in-Some-clause-came g c =
+    let mine = c.args.pass.now in
+    let base = seen mine.seated in
+    let w = seen c.drive_on-end.new.self in
+    subst (λ n. CameFromPosition n c.in-Some.place w) (mine.known ∙ ap (λ (z : SetId). z.capacity) c.requires)
+    (came_from base w c.drive_on-end.result c.drive_on-end.new.room mine.idle c.drive_on-end.ensures.end c.in-Some.place
+    (sym c.answer.ensures ∙ c.in-Some.is))
+
+pub returns-in-Some-clause-steps : goal.returns-in-Some-clause-steps
+returns-in-Some-clause-steps g c =
+    let mine = c.args.pass.now in
+    bits_take resets_next (seen mine.seated) (seen c.drive_on-end.new.self) c.drive_on-end.result c.drive_on-end.new.room
+    mine.idle _ (mine.known ∙ ap (λ (z : SetId). z.capacity) c.requires) (omega arith) c.drive_on-end.ensures.end
+
+pub returns-in-None-clause-steps : goal.returns-in-None-clause-steps
+returns-in-None-clause-steps g c =
+    let mine = c.args.pass.now in
+    bits_take resets_next (seen mine.seated) (seen c.drive_on-end.new.self) c.drive_on-end.result c.drive_on-end.new.room
+    mine.idle _ (mine.known ∙ ap (λ (z : SetId). z.capacity) c.requires) (omega arith) c.drive_on-end.ensures.end

@@ -1,9 +1,10 @@
-use Rattle.lock_free.proofs.Names.{rules, ◌<◌, refl, sym, ap, subst, ◌∙◌, one_word, seen, IsHistory, At}
+use Rattle.lock_free.proofs.Names.{rules, ◌<◌, refl, sym, ap, subst, ◌∙◌, one_word, seen, IsHistory, At, arith}
 use Rattle.model.specs.declared.turn.Kind.TheVariants as kinds
 use Rattle.lock_free.specs.Bits.Stages.{sets_place}
 use Rattle.lock_free.specs.Sets.Calls.{SetId}
 use Rattle.lock_free.specs.Bits.Told.{HasSet}
 use Rattle.lock_free.proofs.Bits.Setting.{set_keeps, set_first, added, stood}
+use Rattle.lock_free.proofs.Steps.{bits_take}
 use Rattle.lock_free.proofs.mpmc.bit_set.calls.BitSet.set.Goals as goal
 
 pub drive_on-end-requires-clause-rule : goal.drive_on-end-requires-clause-rule
@@ -39,3 +40,9 @@ returns-clause-stood g c not =
     let base = seen c.args.pass.now.seated in
     let w = seen c.drive_on-end.new.self in
     stood c.args.id base w c.drive_on-end.result c.drive_on-end.new.room c.args.pass.now.idle c.drive_on-end.ensures.end (sym c.answer.ensures ∙ not)
+
+pub returns-clause-steps : goal.returns-clause-steps
+returns-clause-steps g c =
+    let mine = c.args.pass.now in
+    bits_take (sets_place c.args.id) (seen mine.seated) (seen c.drive_on-end.new.self) c.drive_on-end.result c.drive_on-end.new.room
+    mine.idle _ (mine.known ∙ ap (λ (z : SetId). z.capacity) c.requires.pass) (omega arith) c.drive_on-end.ensures.end

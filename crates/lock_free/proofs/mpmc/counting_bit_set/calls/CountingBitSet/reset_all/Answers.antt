@@ -13,8 +13,8 @@ pub returns-then-capacity-eq0-clause-taken : goal.returns-then-capacity-eq0-clau
 returns-then-capacity-eq0-clause-taken g c =
     let mine = c.args.pass.now in
     let w = seen c.empty_none.new.seated in
-    subst (λ n. HasTakenOut (λ p x q. given.F-step g p x tt q) n c.args.visit (seen mine.seated) w) (search rules)
-    (taken_none (λ p x q. given.F-step g p x tt q) c.args.visit (seen mine.seated) w c.empty_none.ensures.called)
+    subst (λ n. HasTakenOut (λ p x q. given.F-step g p x tt q) n c.args.visit.now c.args.visit.now (seen mine.seated) w) (search rules)
+    (taken_none (λ p x q. given.F-step g p x tt q) c.args.visit.now (seen mine.seated) w c.empty_none.ensures.called)
 
 pub returns-then-capacity-eq0-clause-stood : goal.returns-then-capacity-eq0-clause-stood
 returns-then-capacity-eq0-clause-stood g c =

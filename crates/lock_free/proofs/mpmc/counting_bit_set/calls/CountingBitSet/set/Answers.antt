@@ -1,8 +1,10 @@
-use Rattle.lock_free.proofs.Names.{rules, ◌<◌, refl, sym, ap, subst, ◌∙◌, one_word, seen, IsHistory}
+use Rattle.lock_free.proofs.Names.{rules, ◌<◌, refl, sym, ap, subst, ◌∙◌, one_word, seen, IsHistory, arith}
 use Rattle.model.specs.declared.turn.Kind.TheVariants as kinds
 use Rattle.lock_free.specs.Sets.Calls.{SetId}
 use Rattle.lock_free.specs.Counts.Told.{HasCounted, AnswersCount}
 use Rattle.lock_free.proofs.Counts.Counting.{count_keeps, count_first, counted, answers}
+use Rattle.lock_free.specs.Counts.Stages.{counts_place}
+use Rattle.lock_free.proofs.Steps.{counts_take}
 use Rattle.lock_free.proofs.mpmc.counting_bit_set.calls.CountingBitSet.set.Goals as goal
 
 pub drive-old-requires-clause-rule : goal.drive-old-requires-clause-rule
@@ -38,3 +40,9 @@ returns-clause-answers c =
     let w = seen c.drive-old.new.self in
     subst (λ n. AnswersCount c.args.id n w) (sym c.answer.ensures)
     (answers c.args.id base w c.drive-old.result c.drive-old.new.room c.args.pass.now.idle c.drive-old.ensures.end)
+
+pub returns-clause-steps : goal.returns-clause-steps
+returns-clause-steps c =
+    let mine = c.args.pass.now in
+    counts_take (counts_place c.args.id) (seen mine.seated) (seen c.drive-old.new.self) c.drive-old.result c.drive-old.new.room
+    mine.idle _ mine.known (omega arith) c.drive-old.ensures.end

@@ -5,6 +5,7 @@ use Rattle.model.specs.declared.turn.Kind.TheVariants as kinds
 use Rattle.lock_free_queues.proofs.Queues.Ended.{has_popped, taken_if, empty_if}
 use Rattle.lock_free_queues.proofs.Queues.Indices.{index_of, in_room, index_pop}
 use Rattle.lock_free_queues.specs.Queues.Told.{HasPopped, HasTakenOut, WasEmpty}
+use Rattle.lock_free_queues.proofs.Queues.Paid.{pop_takes}
 use Rattle.lock_free_queues.proofs.spsc.index_queue.calls.Held+Numbers+u64+RingRule+Numbers+u64.pop.Goals as goal
 
 pub drive-end-requires-clause-rule : goal.drive-end-requires-clause-rule
@@ -48,3 +49,8 @@ returns-clause-taken c =
     subst (λ z. IfSome z (λ k. HasTakenOut (Index k) x w)) (sym c.answer.ensures)
     (taken_if one_word of_indices index_of x.capacity x w ends.history o
     (has_popped one_word IndexQueue x w mine.idle index_of in_room pops_index index_pop c.drive-end.result c.drive-end.new.room ends))
+
+pub returns-clause-steps : goal.returns-clause-steps
+returns-clause-steps c =
+    let mine = c.args.self.now in
+    pop_takes one_word (seen mine.seated) (seen c.drive-end.new.self) mine.idle c.drive-end.result c.drive-end.new.room c.drive-end.ensures.end

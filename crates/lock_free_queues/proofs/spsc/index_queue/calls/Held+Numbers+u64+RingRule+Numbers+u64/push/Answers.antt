@@ -6,6 +6,7 @@ use Rattle.lock_free_queues.proofs.Queues.Facts.{goes_over}
 use Rattle.lock_free_queues.proofs.Queues.Ended.{pushed, published_if, full}
 use Rattle.lock_free_queues.proofs.Queues.Indices.{index_push}
 use Rattle.lock_free_queues.specs.Queues.Told.{HasPushed, WasFull, WasAtEnd}
+use Rattle.lock_free_queues.proofs.Queues.Paid.{push_takes}
 use Rattle.lock_free_queues.proofs.spsc.index_queue.calls.Held+Numbers+u64+RingRule+Numbers+u64.push.Goals as goal
 
 pub drive-end-requires-clause-rule : goal.drive-end-requires-clause-rule
@@ -59,3 +60,8 @@ returns-clause-same c =
           subst (λ n. Goes one_word kinds.IndexQueue n v w) mine.known
           (goes_over one_word kinds.IndexQueue (pushes_index c.args.value) v w c.drive-end.result tt c.drive-end.ensures.end);
     }
+
+pub returns-clause-steps : goal.returns-clause-steps
+returns-clause-steps c =
+    let mine = c.args.self.now in
+    push_takes one_word (seen mine.seated) (seen c.drive-end.new.self) mine.idle c.args.value c.drive-end.result tt c.drive-end.ensures.end

@@ -1,7 +1,8 @@
 use Rattle.lock_free_queues.proofs.Names.{refl, sym, subst, Index, IndexQueue, one_word}
+use Rattle.model.specs.declared.turn.Kind.TheVariants as kinds
 use Rattle.lock_free_queues.specs.Queues.Calls.{view}
-use Rattle.lock_free_queues.specs.Queues.Closes.{Closes}
-use Rattle.lock_free_queues.proofs.Queues.Closes.{fits, closes}
+use Rattle.lock_free_queues.specs.Queues.Closes.{Closes, IsWhatWaits}
+use Rattle.lock_free_queues.proofs.Queues.Closes.{fits, closes, what_waits}
 use Rattle.lock_free_queues.proofs.Queues.Indices.{is_coding}
 use Rattle.lock_free_queues.proofs.spsc.index_queue.close.IndexQueue.close.Goals as goal
 
@@ -13,3 +14,10 @@ returns-clause-list c =
     let v = view c.args.pass in
     let size = c.args.self.capacity in
     subst (Closes Index size v) (sym c.of_words.ensures) (closes one_word is_coding IndexQueue size v c.in_ok-words.words.items c.in_ok-words.ensures.words)
+
+pub returns-clause-waits : goal.returns-clause-waits
+returns-clause-waits c =
+    let v = view c.args.pass in
+    let size = c.args.self.capacity in
+    subst (IsWhatWaits one_word kinds.IndexQueue Index size v) (sym c.of_words.ensures)
+    (what_waits one_word is_coding IndexQueue size v c.in_ok-words.words.items c.in_ok-words.ensures.words)

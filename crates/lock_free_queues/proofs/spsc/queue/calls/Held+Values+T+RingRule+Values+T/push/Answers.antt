@@ -8,6 +8,7 @@ use Rattle.lock_free_queues.specs.Queues.Told.{HasPushed, WasFull, WasAtEnd}
 use Rattle.lock_free_queues.proofs.Queues.Ended.{pushed, published_if, full}
 use Rattle.lock_free_queues.proofs.Queues.Facts.{goes_over}
 use Rattle.lock_free_queues.proofs.Queues.Values.{value_push}
+use Rattle.lock_free_queues.proofs.Queues.Paid.{value_push_takes}
 use Rattle.lock_free_queues.proofs.spsc.queue.calls.Held+Values+T+RingRule+Values+T.push.Goals as goal
 
 pub drive-end-requires-clause-rule : goal.drive-end-requires-clause-rule
@@ -72,3 +73,9 @@ returns-clause-same g c =
           subst (λ n. Goes code kinds.Queue n v w) mine.known
           (goes_over code kinds.Queue (pushes_value code c.args.value.now) v w c.drive-end.result tt c.drive-end.ensures.end);
     }
+
+pub returns-clause-steps : goal.returns-clause-steps
+returns-clause-steps g c =
+    let mine = c.args.self.now in
+    value_push_takes (coding_of g.T.Words.WORDS g.T.Words.words_of g.T.Words.value_of) (token_view mine)
+    c.drive-end.new.self.seat.me.0 mine.idle c.args.value.now c.drive-end.result tt c.drive-end.ensures.end

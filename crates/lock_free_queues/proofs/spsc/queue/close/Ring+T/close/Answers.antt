@@ -1,7 +1,8 @@
 use Rattle.lock_free_queues.proofs.Names.{refl, sym, subst, Value, Queue, Coding, IsCoding, coding_of}
+use Rattle.model.specs.declared.turn.Kind.TheVariants as kinds
 use Rattle.lock_free_queues.specs.Queues.Values.{view}
-use Rattle.lock_free_queues.specs.Queues.Closes.{Closes}
-use Rattle.lock_free_queues.proofs.Queues.Closes.{fits, closes}
+use Rattle.lock_free_queues.specs.Queues.Closes.{Closes, IsWhatWaits}
+use Rattle.lock_free_queues.proofs.Queues.Closes.{fits, closes, what_waits}
 use Rattle.lock_free_queues.proofs.spsc.queue.close.Ring+T.close.Goals as goal
 
 pub of_words-requires : goal.of_words-requires
@@ -19,3 +20,13 @@ returns-clause-list g c =
     let v = view c.args.pass in
     let size = c.args.self.capacity in
     subst (Closes Value size v) (sym c.of_words.ensures) (closes code law Queue size v c.in_ok-words.words.items c.in_ok-words.ensures.words)
+
+pub returns-clause-waits : goal.returns-clause-waits
+returns-clause-waits g c =
+    let met = g.met.T.Words in
+    let code : Coding g.row.T.Denot = coding_of g.T.Words.WORDS g.T.Words.words_of g.T.Words.value_of in
+    let law : IsCoding code = record { some = met.some; few = met.few; sized = met.sized; given_back = met.given_back } in
+    let v = view c.args.pass in
+    let size = c.args.self.capacity in
+    subst (IsWhatWaits code kinds.Queue Value size v) (sym c.of_words.ensures)
+    (what_waits code law Queue size v c.in_ok-words.words.items c.in_ok-words.ensures.words)

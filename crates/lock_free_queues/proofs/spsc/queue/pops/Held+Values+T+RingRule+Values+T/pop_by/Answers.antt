@@ -9,6 +9,7 @@ use Rattle.lock_free_queues.specs.Queues.Values.{token_view}
 use Rattle.lock_free_queues.specs.Queues.Told.{HasPopped, HasTakenOut, WasEmpty}
 use Rattle.lock_free_queues.proofs.Queues.Ended.{has_popped, taken_if, empty_if}
 use Rattle.lock_free_queues.proofs.Queues.Values.{value_of, value_pop}
+use Rattle.lock_free_queues.proofs.Queues.Paid.{value_pop_takes}
 use Rattle.lock_free_queues.proofs.spsc.queue.pops.Held+Values+T+RingRule+Values+T.pop_by.Goals as goal
 
 pub drive-end-requires-clause-rule : goal.drive-end-requires-clause-rule
@@ -70,3 +71,9 @@ returns-clause-taken g c =
     (has_popped code Queue x w mine.idle (value_of code) (value_there code g.R.Room.words_in)
     (pops_value code g.R.Room.words_in) (value_pop code g.R.Room.words_in) c.drive-end.result c.drive-end.new.room
     ends))
+
+pub returns-clause-steps : goal.returns-clause-steps
+returns-clause-steps g c =
+    let mine = c.args.self.now in
+    value_pop_takes (coding_of g.T.Words.WORDS g.T.Words.words_of g.T.Words.value_of) (token_view mine)
+    c.drive-end.new.self.seat.me.0 mine.idle g.R.Room.words_in c.drive-end.result c.drive-end.new.room c.drive-end.ensures.end

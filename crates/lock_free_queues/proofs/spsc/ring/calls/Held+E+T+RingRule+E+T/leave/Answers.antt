@@ -5,6 +5,7 @@ use Rattle.lock_free_queues.proofs.Queues.Kinds.{releases_keep}
 use Rattle.lock_free_queues.specs.Queues.Rings.{token_view}
 use Rattle.lock_free_queues.proofs.Queues.Facts.{released, left_marked}
 use Rattle.lock_free_queues.proofs.Queues.Sums.{released_moves}
+use Rattle.lock_free_queues.proofs.Queues.Paid.{release_takes}
 use Rattle.lock_free_queues.proofs.spsc.ring.calls.Held+E+T+RingRule+E+T.leave.Goals as goal
 
 pub drive-requires-clause-rule : goal.drive-requires-clause-rule
@@ -40,3 +41,9 @@ returns-clause-mine g c = (released_moves (token_view c.args.self.now) c.drive.n
 
 pub returns-clause-other : goal.returns-clause-other
 returns-clause-other g c = (released_moves (token_view c.args.self.now) c.drive.new.self.seat.me.0 g.R.Side.ROLE (returns-clause-left g c)).1
+
+pub returns-clause-steps : goal.returns-clause-steps
+returns-clause-steps g c =
+    let mine = c.args.self.now in
+    release_takes (coding_of g.T.Words.WORDS g.T.Words.words_of g.T.Words.value_of) (token_view mine)
+    c.drive.new.self.seat.me.0 mine.idle g.E.Kind.KIND g.R.Side.ROLE c.drive.result tt c.drive.ensures.end

@@ -5,6 +5,7 @@ use Rattle.lock_free_queues.proofs.Queues.Kinds.{acquires_keep}
 use Rattle.lock_free_queues.specs.Queues.Rings.{token_view}
 use Rattle.lock_free_queues.proofs.Queues.Facts.{acquired}
 use Rattle.lock_free_queues.proofs.Queues.Sums.{acquired_moves}
+use Rattle.lock_free_queues.proofs.Queues.Paid.{acquire_takes}
 use Rattle.lock_free_queues.proofs.spsc.ring.calls.Held+E+T+RingRule+E+T.take.Goals as goal
 
 pub drive-requires-clause-rule : goal.drive-requires-clause-rule
@@ -39,3 +40,9 @@ returns-clause-refused g c is =
 
 pub returns-clause-other : goal.returns-clause-other
 returns-clause-other g c = (acquired_moves (token_view c.args.self.now) c.drive.new.self.seat.me.0 g.R.Side.ROLE c.drive.result (returns-clause-acquired g c)).2
+
+pub returns-clause-steps : goal.returns-clause-steps
+returns-clause-steps g c =
+    let mine = c.args.self.now in
+    acquire_takes (coding_of g.T.Words.WORDS g.T.Words.words_of g.T.Words.value_of) (token_view mine)
+    c.drive.new.self.seat.me.0 mine.idle g.E.Kind.KIND g.R.Side.ROLE c.drive.result tt c.drive.ensures.end

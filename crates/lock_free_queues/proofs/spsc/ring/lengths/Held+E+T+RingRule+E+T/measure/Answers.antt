@@ -6,6 +6,8 @@ use Rattle.lock_free_queues.specs.Queues.Rings.{token_view}
 use Rattle.lock_free_queues.specs.Queues.Kinds.{most_waiting}
 use Rattle.lock_free_queues.specs.Queues.Told.{HasMeasured}
 use Rattle.lock_free_queues.proofs.Queues.Facts.{measured, few}
+use Rattle.history.specs.Steps.{TakesAlone}
+use Rattle.lock_free_queues.proofs.Queues.Paid.{length_takes}
 use Rattle.lock_free_queues.proofs.spsc.ring.lengths.Held+E+T+RingRule+E+T.measure.Goals as goal
 
 pub drive_on-requires-clause-rule : goal.drive_on-requires-clause-rule
@@ -42,3 +44,12 @@ returns-clause-few g c is =
     subst (λ n. c.drive_on.result ≤ most_waiting g.E.Kind.KIND n) mine.known
     (few (coding_of g.T.Words.WORDS g.T.Words.words_of g.T.Words.value_of) g.E.Kind.KIND (token_view mine)
     c.drive_on.new.self.seat.me.0 mine.idle g.W.Measure.WHICH is c.drive_on.result tt c.drive_on.ensures.end)
+
+pub returns-clause-steps : goal.returns-clause-steps
+returns-clause-steps g c =
+    let mine = c.args.self.now in
+    let code : Coding g.row.T.Denot = coding_of g.T.Words.WORDS g.T.Words.words_of g.T.Words.value_of in
+    let v = token_view mine in
+    let w = c.drive_on.new.self.seat.me.0 in
+    subst (λ n. TakesAlone code (machine_kind g.E.Kind.KIND) n 4 4 v w) mine.known
+    (length_takes code v w mine.idle g.E.Kind.KIND g.W.Measure.WHICH c.drive_on.result tt c.drive_on.ensures.end)

@@ -1,36 +1,35 @@
-use Rattle.lock_free_queues.proofs.Names.{◌≡◌, ◌<◌, rules, sym, subst, ◌∙◌, arith, TableId, coding_of, joined_view}
-use Rattle.lock_free_queues.proofs.Names.{joins}
+use Rattle.lock_free_queues.proofs.Names.{◌≡◌, ◌<◌, ◌+◌, ℕ, List, sym, ap, subst, ◌∙◌, arith, rules, TableId, coding_of, Coding, View, IsMachine}
+use Rattle.lock_free_queues.proofs.Names.{LooksAt, joined_view, joins}
 use Rattle.lock_free_queues.specs.Queues.Bounded.{machine_kind}
+use Rattle.steps.specs.declared.ask.Op.TheVariants.{Load}
+use Rattle.threaded.specs.Driver.{OwesAsk}
+use Rattle.threaded.specs.Seats.{seen, table_of, key_of}
 use Rattle.threaded.proofs.Shares.{positive}
-use Rattle.lock_free_queues.proofs.Queues.Reads.{owed}
+use Rattle.lock_free_queues.proofs.Queues.Reads.{owes_look}
 use Rattle.lock_free_queues.proofs.spsc.ring.passes.Held+E+T+RingRule+E+T.join.Goals as goal
 
-pub join_seat-requires : goal.join_seat-requires
-join_seat-requires g c =
+pub join-requires-clause-joins : goal.join-requires-clause-joins
+join-requires-clause-joins g c =
     let mine = c.args.self.now in
-    let at : mine.seated.seat.table_id ≡ c.deref.result.now.shared.table_id = search rules in (
-      at,
-      search rules,
-      search rules,
-      subst (λ (t : TableId). 0 < t.words) at (let size = mine.sized in omega arith),
-      joins (coding_of g.T.Words.WORDS g.T.Words.words_of g.T.Words.value_of) (machine_kind g.E.Kind.KIND) _
-          mine.seated.seat.id c.args.other.seated.seat.id mine.seated.seat.me.0 c.args.other.seated.seat.me.0
-          mine.some.0 c.args.other.some.0 c.args.other.idle mine.alone c.args.other.alone,
-    )
+    joins (coding_of g.T.Words.WORDS g.T.Words.words_of g.T.Words.value_of) (machine_kind g.E.Kind.KIND) _
+    mine.seated.seat.id c.args.other.seated.seat.id mine.seated.seat.me.0 c.args.other.seated.seat.me.0
+    mine.some.0 c.args.other.some.0 c.args.other.idle mine.alone c.args.other.alone
 
-pub load-requires : goal.load-requires
-load-requires g c =
+pub look-requires-clause-owes : goal.look-requires-clause-owes
+look-requires-clause-owes g c =
     let mine = c.args.self.now in
+    let s = c.join.new.self in
     let v = mine.seated.seat.me.0 in
-    let w = c.args.other.seated.seat.me.0 in
-    let key = c.deref-2.result.now.shared.key.capacity in
-    let at : c.join_seat.new.seat.table_id ≡ c.deref-2.result.now.shared.table_id = search rules in
-    let old : c.join_seat.new.seat.table_id ≡ mine.seated.seat.table_id = search rules in
-    let size : v.capacity ≡ key = search rules in
-    let some = positive v.share.part w.share.parts mine.some.0 c.args.other.some.1 in (
-      at,
-      subst (λ (t : TableId). 0 < t.words) (sym old ∙ at) (let wide = mine.sized in omega arith),
-      owed (coding_of g.T.Words.WORDS g.T.Words.words_of g.T.Words.value_of) g.E.Kind.KIND key
-          c.deref-2.result.now.shared.table_id.slots c.join_seat.new.seat.id 0 (joined_view v w) c.join_seat.new.seat.me
-          (search rules) size mine.idle (omega arith),
-    )
+    let u = c.args.other.seated.seat.me.0 in
+    let w = joined_view v u in
+    let code : Coding g.row.T.Denot = coding_of g.T.Words.WORDS g.T.Words.words_of g.T.Words.value_of in
+    let kind = g.E.Kind.KIND in
+    let same : (table_of s).words ≡ (table_of mine.seated).words = ap (λ (t : TableId). t.words) c.join.ensures.same.0 in
+    let below : 0 < (table_of s).words = (let wide = mine.sized in omega arith) in
+    let key : (key_of s).capacity ≡ (key_of mine.seated).capacity = search rules in
+    let some : 0 < w.share.part = (let more = positive v.share.part u.share.parts mine.some.0 c.args.other.some.1 in omega arith) in
+    subst (λ (x : View g.row.T.Denot). OwesAsk (λ (z : View g.row.T.Denot). z.asked) (IsMachine code (machine_kind kind) (key_of s).capacity)
+    (table_of s).words (table_of s).slots s.seat.id (λ u n w. LooksAt code (machine_kind kind) u.capacity 0 u n w) 0 Load (x, s.seat.me.1))
+    (sym c.join.ensures.joined)
+    (owes_look code kind (key_of s).capacity (table_of s).words (table_of s).slots s.seat.id 0 w s.seat.me.1 below s.bare
+    (mine.known ∙ (sym mine.keyed ∙ sym key)) mine.idle some)

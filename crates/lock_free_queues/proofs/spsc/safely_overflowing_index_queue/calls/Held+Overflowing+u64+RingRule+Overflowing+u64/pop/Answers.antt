@@ -6,6 +6,8 @@ use Rattle.history.proofs.OverflowPops.{over_pop_keeps, over_pop_first}
 use Rattle.lock_free_queues.specs.Queues.Overflowing.{token_view}
 use Rattle.lock_free_queues.specs.Queues.Told.{HasPopped, HasTakenFirst, FoundNone}
 use Rattle.lock_free_queues.proofs.Queues.OverEnded.{over_popped, over_taken_if, over_empty_if}
+use Rattle.history.specs.Steps.{TakesAlone}
+use Rattle.lock_free_queues.proofs.Queues.Paid.{over_pop_takes}
 use Rattle.lock_free_queues.proofs.spsc.safely_overflowing_index_queue.calls.Held+Overflowing+u64+RingRule+Overflowing+u64.pop.Goals as goal
 
 pub drive_on-end-requires-clause-rule : goal.drive_on-end-requires-clause-rule
@@ -47,3 +49,11 @@ returns-clause-empty g c =
     let o = pop_answer c.drive_on-end.new.room.0 c.drive_on-end.result in
     subst (λ z. IfNone z (FoundNone x w)) (sym c.answer.ensures)
     (over_empty_if one_word x w ends.history o (over_popped one_word x w mine.idle c.drive_on-end.result c.drive_on-end.new.room ends))
+
+pub returns-clause-steps : goal.returns-clause-steps
+returns-clause-steps g c =
+    let mine = c.args.self.now in
+    let v = token_view mine in
+    let w = c.drive_on-end.new.self.seat.me.0 in
+    subst (λ n. TakesAlone one_word kinds.Overflow n 4 2 v w) mine.known
+    (over_pop_takes one_word v w mine.idle c.drive_on-end.result c.drive_on-end.new.room c.drive_on-end.ensures.end)

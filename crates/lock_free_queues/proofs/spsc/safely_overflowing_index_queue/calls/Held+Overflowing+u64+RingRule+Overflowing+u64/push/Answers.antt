@@ -7,6 +7,7 @@ use Rattle.lock_free_queues.specs.Queues.Told.{HasPublished, WasAtEnd, HasTakenF
 use Rattle.lock_free_queues.proofs.Queues.Facts.{goes_over}
 use Rattle.lock_free_queues.proofs.Queues.OverEnded.{over_pushed, over_none, over_some}
 use Rattle.lock_free_queues.proofs.Queues.OverPushes.{told_keeps, told_first}
+use Rattle.lock_free_queues.proofs.Queues.Paid.{over_push_takes}
 use Rattle.lock_free_queues.proofs.spsc.safely_overflowing_index_queue.calls.Held+Overflowing+u64+RingRule+Overflowing+u64.push.Goals as goal
 
 pub drive-end-requires-clause-rule : goal.drive-end-requires-clause-rule
@@ -70,3 +71,9 @@ returns-clause-handed_back c =
     (over_some one_word x w mine.idle v goes.history o
     (over_pushed one_word x w mine.idle v mine.alone mine.some.0 c.requires.role c.drive-end.result
     c.drive-end.new.room c.drive-end.ensures.end))
+
+pub returns-clause-steps : goal.returns-clause-steps
+returns-clause-steps c =
+    let mine = c.args.self.now in
+    over_push_takes one_word (token_view mine) c.drive-end.new.self.seat.me.0 mine.idle c.args.value c.drive-end.result
+    c.drive-end.new.room c.drive-end.ensures.end

@@ -1,8 +1,8 @@
 use Rattle.lock_free_queues.proofs.Names.{rules, ◌≡◌, ◌-◌, max, set, slice_index, sym, ap, subst, ◌∙◌, list_in, Index}
 use Rattle.plain.specs.Overflowing.{Represents}
-use Rattle.lock_free_queues.specs.Queues.Closes.{Closes}
+use Rattle.lock_free_queues.specs.Queues.Closes.{Closes, IsNewestThatWaits}
 use Rattle.lock_free_queues.specs.Queues.Overflowing.{view}
-use Rattle.lock_free_queues.proofs.Queues.OverCloses.{over_fits, over_closes}
+use Rattle.lock_free_queues.proofs.Queues.OverCloses.{over_fits, over_closes, newest}
 use Rattle.lock_free_queues.proofs.spsc.safely_overflowing_index_queue.close.SafelyOverflowingIndexQueue.close.Goals as goal
 
 pub of_words-requires : goal.of_words-requires
@@ -25,3 +25,15 @@ returns-clause-list c =
     (subst (λ n. Closes Index size v (list_in size (set words 1 n)))
     (sym (later ∙ ap (λ n. max (slice_index words 1) n) oldest))
     (over_closes size v words c.in_ok-words.ensures.words c.args.pass.none.0))
+
+pub returns-clause-waits : goal.returns-clause-waits
+returns-clause-waits c =
+    let v = view c.args.pass in
+    let size = c.args.self.capacity in
+    let words = c.in_ok-words.words.items in
+    let oldest : c.saturating_sub-oldest.result ≡ slice_index words 0 - size = search rules in
+    let later : c.max.result ≡ max (slice_index words 1) c.saturating_sub-oldest.result = search rules in
+    subst (IsNewestThatWaits size v) (sym c.of_words.ensures)
+    (subst (λ n. IsNewestThatWaits size v (list_in size (set words 1 n)))
+    (sym (later ∙ ap (λ n. max (slice_index words 1) n) oldest))
+    (newest size v words c.in_ok-words.ensures.words c.args.pass.none.0))

@@ -1,7 +1,9 @@
+use Rattle.std.proofs.Common.{arith}
 use Rattle.lock_free_value.proofs.Names.{coding_of}
+use Rattle.history.specs.Value.{releases_producer}
 use Rattle.lock_free_value.specs.Calls.{seen}
 use Rattle.history.proofs.ValueCalls.{release_keeps, release_first}
-use Rattle.lock_free_value.proofs.Facts.{released}
+use Rattle.lock_free_value.proofs.Facts.{released, takes_here}
 use Rattle.lock_free_value.proofs.spmc.unrestricted_atomic.calls.Held+T+ValueRule+T.leave_producer.Goals as goal
 
 pub drive-requires-clause-rule : goal.drive-requires-clause-rule
@@ -17,3 +19,9 @@ returns-clause-left g c =
     let mine = c.args.self.now in
     released (coding_of g.T.Words.WORDS g.T.Words.words_of g.T.Words.value_of) (seen mine)
     c.drive.new.self.seat.me.0 mine.idle mine.known c.drive.result tt c.drive.ensures.end
+
+pub returns-clause-steps : goal.returns-clause-steps
+returns-clause-steps g c =
+    let mine = c.args.self.now in
+    takes_here (coding_of g.T.Words.WORDS g.T.Words.words_of g.T.Words.value_of) (seen mine)
+    c.drive.new.self.seat.me.0 mine.idle mine.known releases_producer c.drive.result tt (omega arith) c.drive.ensures.end

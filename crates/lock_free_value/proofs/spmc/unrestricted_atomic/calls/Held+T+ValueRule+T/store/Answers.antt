@@ -4,7 +4,7 @@ use Rattle.lock_free_value.proofs.Names.{Coding, IsCoding, coding_of, stores_val
 use Rattle.history.specs.Stages.{At}
 use Rattle.history.proofs.ValueCalls.{store_keeps, store_first}
 use Rattle.lock_free_value.specs.Calls.{seen}
-use Rattle.lock_free_value.proofs.Facts.{leaves, stored_if, at_end_if}
+use Rattle.lock_free_value.proofs.Facts.{leaves, stored_if, at_end_if, store_takes}
 use Rattle.lock_free_value.proofs.spmc.unrestricted_atomic.calls.Held+T+ValueRule+T.store.Goals as goal
 
 pub drive-end-requires-clause-rule : goal.drive-end-requires-clause-rule
@@ -48,3 +48,9 @@ returns-clause-same g c =
           (leaves code (seen mine) c.drive-end.new.self.seat.me.0 mine.idle mine.known
           (stores_value code c.args.value.now) c.drive-end.result tt c.drive-end.ensures.end).goes;
     }
+
+pub returns-clause-steps : goal.returns-clause-steps
+returns-clause-steps g c =
+    let mine = c.args.self.now in
+    store_takes (coding_of g.T.Words.WORDS g.T.Words.words_of g.T.Words.value_of) (seen mine)
+    c.drive-end.new.self.seat.me.0 mine.idle mine.known c.args.value.now c.drive-end.result tt c.drive-end.ensures.end

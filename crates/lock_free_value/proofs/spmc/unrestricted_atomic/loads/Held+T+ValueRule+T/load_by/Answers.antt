@@ -1,11 +1,12 @@
-use Rattle.std.proofs.Common.{ap, sym, subst, ◌∙◌}
+use Rattle.std.proofs.Common.{ap, sym, subst, ◌∙◌, arith}
 use Rattle.lock_free_value.proofs.Names.{Coding, IsCoding, coding_of}
 use Rattle.history.specs.Rooms.{room_of}
+use Rattle.history.specs.Value.{loads_value}
 use Rattle.history.proofs.Rooms.{room_fresh}
 use Rattle.history.proofs.ValueCalls.{load_first}
 use Rattle.lock_free_value.specs.Calls.{seen}
 use Rattle.lock_free_value.specs.Told.{HasLoaded}
-use Rattle.lock_free_value.proofs.Facts.{has_loaded}
+use Rattle.lock_free_value.proofs.Facts.{has_loaded, takes_here}
 use Rattle.lock_free_value.proofs.spmc.unrestricted_atomic.loads.Held+T+ValueRule+T.load_by.Goals as goal
 
 pub load_all-end-requires-clause-at : goal.load_all-end-requires-clause-at
@@ -26,3 +27,10 @@ returns-clause-loaded g c =
     subst (λ x. HasLoaded x (seen mine) w) (sym c.answer.ensures)
     (has_loaded code (seen mine) w mine.idle mine.known g.R.Room.words_in mine.begun c.load_all-end.result
     c.load_all-end.new.room c.load_all-end.ensures.ends)
+
+pub returns-clause-steps : goal.returns-clause-steps
+returns-clause-steps g c =
+    let mine = c.args.self.now in
+    let code : Coding g.row.T.Denot = coding_of g.T.Words.WORDS g.T.Words.words_of g.T.Words.value_of in
+    takes_here code (seen mine) c.load_all-end.new.seat.seat.me.0 mine.idle mine.known (loads_value code g.R.Room.words_in)
+    c.load_all-end.result c.load_all-end.new.room (omega arith) c.load_all-end.ensures.ends

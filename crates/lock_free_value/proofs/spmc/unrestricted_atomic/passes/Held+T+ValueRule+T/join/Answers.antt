@@ -1,45 +1,31 @@
-use Rattle.std.proofs.Common.{◌≡◌, ◌<◌, ℕ, [], rules, sym, ap, subst, ◌∙◌, arith}
-use Rattle.lock_free_value.proofs.Names.{TableId, Me, Allows, Coding, coding_of, View, IsMachine, Looks, looks}
+use Rattle.std.proofs.Common.{◌≡◌, ◌<◌, ℕ, List, [], sym, ap, subst, ◌∙◌, arith}
+use Rattle.lock_free_value.proofs.Names.{TableId, Coding, coding_of, View, IsMachine, LooksOnce, OwesAsk, Load, owes_look}
 use Rattle.model.specs.declared.turn.Kind.TheVariants as kinds
 use Rattle.history.specs.Views.{joined_view}
+use Rattle.threaded.specs.Seats.{seen, table_of}
 use Rattle.threaded.proofs.Shares.{positive}
 use Rattle.history.proofs.Passes.{joins}
 use Rattle.lock_free_value.proofs.spmc.unrestricted_atomic.passes.Held+T+ValueRule+T.join.Goals as goal
 
-pub join_seat-requires : goal.join_seat-requires
-join_seat-requires g c =
+pub join-requires-clause-joins : goal.join-requires-clause-joins
+join-requires-clause-joins g c =
     let mine = c.args.self.now in
-    let at : mine.seated.seat.table_id ≡ c.deref.result.now.shared.table_id = search rules in (
-      at,
-      search rules,
-      search rules,
-      subst (λ (t : TableId). 0 < t.words) at (let size = mine.sized in omega arith),
-      joins (coding_of g.T.Words.WORDS g.T.Words.words_of g.T.Words.value_of) kinds.Atomic 1 mine.seated.seat.id
-          c.args.other.seated.seat.id mine.seated.seat.me.0 c.args.other.seated.seat.me.0 mine.some.0
-          c.args.other.some.0 c.args.other.idle mine.alone c.args.other.alone,
-    )
+    joins (coding_of g.T.Words.WORDS g.T.Words.words_of g.T.Words.value_of) kinds.Atomic 1 mine.seated.seat.id
+    c.args.other.seated.seat.id mine.seated.seat.me.0 c.args.other.seated.seat.me.0 mine.some.0
+    c.args.other.some.0 c.args.other.idle mine.alone c.args.other.alone
 
--- what a look owes, where the seat knows this
-abbrev Owed : {T : Type 0} → Coding T → ℕ → ℕ → ℕ → Me (Unit {0}) (View T) → Type 0
-Owed code slots id word me = Allows (IsMachine code kinds.Atomic 1) slots id me word (λ n. n) (λ found new. Looks code kinds.Atomic 1 me.0 new.0 × (new.1 ≡ []))
-
-pub load-requires : goal.load-requires
-load-requires g c =
+pub look-requires-clause-owes : goal.look-requires-clause-owes
+look-requires-clause-owes g c =
     let mine = c.args.self.now in
+    let s = c.join.new.self in
     let w = joined_view mine.seated.seat.me.0 c.args.other.seated.seat.me.0 in
     let code : Coding g.row.T.Denot = coding_of g.T.Words.WORDS g.T.Words.words_of g.T.Words.value_of in
-    let slots = c.deref-2.result.now.shared.table_id.slots in
-    let id = c.join_seat.new.seat.id in
-    let at : c.join_seat.new.seat.table_id ≡ c.deref-2.result.now.shared.table_id = search rules in
-    let me : c.join_seat.new.seat.me ≡ (w, []) = search rules in
-    let owed : Owed code slots id 0 (w, []) =
-    looks code kinds.Atomic 1 slots id 0 w
-    (let more = positive mine.seated.seat.me.0.share.part c.args.other.seated.seat.me.0.share.parts mine.some.0 c.args.other.some.1 in
-    omega arith) in (
-      at,
-      (let wide = mine.sized in
-          let old : c.join_seat.new.seat.table_id ≡ mine.seated.seat.table_id = search rules in
-          let same = ap (λ (t : TableId). t.words) (sym at ∙ old) in
-          omega arith),
-      subst (λ (m : Me (Unit {0}) (View g.row.T.Denot)). Owed code slots id 0 m) (sym me) owed,
-    )
+    let same : (table_of s).words ≡ (table_of mine.seated).words = ap (λ (t : TableId). t.words) c.join.ensures.same.0 in
+    let below : 0 < (table_of s).words = (let size = mine.sized in omega arith) in
+    let some : 0 < w.share.part =
+    (let more = positive mine.seated.seat.me.0.share.part c.args.other.seated.seat.me.0.share.parts mine.some.0 c.args.other.some.1 in omega arith) in
+    subst (λ (xs : List (ℕ × Unit {0})). OwesAsk (λ (z : View g.row.T.Denot). z.asked) (IsMachine code kinds.Atomic 1) (table_of s).words
+    (table_of s).slots s.seat.id (λ u n w. LooksOnce code kinds.Atomic 1 u w) 0 Load (seen s, xs)) (sym s.bare)
+    (subst (λ (v : View g.row.T.Denot). OwesAsk (λ (z : View g.row.T.Denot). z.asked) (IsMachine code kinds.Atomic 1) (table_of s).words
+    (table_of s).slots s.seat.id (λ u n w. LooksOnce code kinds.Atomic 1 u w) 0 Load (v, [])) (sym c.join.ensures.joined)
+    (owes_look code kinds.Atomic 1 (table_of s).words (table_of s).slots s.seat.id 0 w below some (λ late h. h)))

@@ -1,23 +1,15 @@
-use Rattle.std.proofs.Common.{rules, ◌≡◌, ◌<◌, ℕ, [], sym, subst, arith}
-use Rattle.lock_free_value.proofs.Names.{TableId, Me, Allows, Coding, coding_of, View, IsMachine, Looks, looks}
+use Rattle.std.proofs.Common.{◌<◌, ℕ, List, sym, subst, arith}
+use Rattle.lock_free_value.proofs.Names.{Coding, coding_of, View, IsMachine, LooksOnce, OwesAsk, Load, owes_look}
 use Rattle.model.specs.declared.turn.Kind.TheVariants as kinds
+use Rattle.threaded.specs.Seats.{seen, table_of}
 use Rattle.lock_free_value.proofs.spmc.unrestricted_atomic.passes.Held+T+ValueRule+T.look.Goals as goal
 
--- what a look owes, where the seat knows this
-abbrev Owed : {T : Type 0} → Coding T → ℕ → ℕ → ℕ → Me (Unit {0}) (View T) → Type 0
-Owed code slots id word me = Allows (IsMachine code kinds.Atomic 1) slots id me word (λ n. n) (λ found new. Looks code kinds.Atomic 1 me.0 new.0 × (new.1 ≡ []))
-
-pub load-requires : goal.load-requires
-load-requires g c =
+pub look-requires-clause-owes : goal.look-requires-clause-owes
+look-requires-clause-owes g c =
     let mine = c.args.self.now in
-    let v = mine.seated.seat.me.0 in
+    let s = mine.seated in
     let code : Coding g.row.T.Denot = coding_of g.T.Words.WORDS g.T.Words.words_of g.T.Words.value_of in
-    let slots = c.deref.result.now.shared.table_id.slots in
-    let id = mine.seated.seat.id in
-    let at : mine.seated.seat.table_id ≡ c.deref.result.now.shared.table_id = search rules in
-    let me : mine.seated.seat.me ≡ (v, []) = search rules in
-    let owed : Owed code slots id 0 (v, []) = looks code kinds.Atomic 1 slots id 0 v mine.some.0 in (
-      at,
-      subst (λ (t : TableId). 0 < t.words) at (let size = mine.sized in omega arith),
-      subst (λ (m : Me (Unit {0}) (View g.row.T.Denot)). Owed code slots id 0 m) (sym me) owed,
-    )
+    let below : 0 < (table_of s).words = (let size = mine.sized in omega arith) in
+    subst (λ (xs : List (ℕ × Unit {0})). OwesAsk (λ (z : View g.row.T.Denot). z.asked) (IsMachine code kinds.Atomic 1) (table_of s).words
+    (table_of s).slots s.seat.id (λ u n w. LooksOnce code kinds.Atomic 1 u w) 0 Load (seen s, xs)) (sym s.bare)
+    (owes_look code kinds.Atomic 1 (table_of s).words (table_of s).slots s.seat.id 0 (seen s) below mine.some.0 (λ late h. h))

@@ -1,10 +1,10 @@
 use Rattle.lock_free_owners.proofs.Names.{◌+◌, ℕ, List, sym, ap, subst, ◌∙◌, one_word, OwesAsk, seen, table_of}
-use Rattle.lock_free_owners.proofs.Names.{key_of, IsMachine, recover_tells}
+use Rattle.lock_free_owners.proofs.Names.{key_of, View, IsMachine, recover_tells}
 use Rattle.steps.specs.declared.ask.Op.TheVariants.{Load}
 use Rattle.model.specs.declared.turn.Kind.TheVariants as kinds
 use Rattle.lock_free_owners.specs.Robust.Turns.{size, RecoverTells}
 use Rattle.lock_free_owners.proofs.RobustSet.Turns.{passes}
-use Rattle.lock_free_owners.proofs.mpmc.robust_unique_index_set.recovers.load_cell.Goals as goal
+use Rattle.lock_free_owners.proofs.mpmc.robust_unique_index_set.asks.load_cell.Goals as goal
 
 pub load_for-requires-clause-owes : goal.load_for-requires-clause-owes
 load_for-requires-clause-owes c =
@@ -13,5 +13,5 @@ load_for-requires-clause-owes c =
     let call = passes c.args.capacity c.args.cell in
     let owed = recover_tells one_word c.args.mode at.0 (seen s) call at.1 (key_of s) (table_of s).words (table_of s).slots s.seat.id
     (c.requires.board.0 ∙ ap (λ k. size k + 1) (sym c.requires.board.1)) (sym c.requires.board.1) at.2 at.3 in
-    subst (λ (xs : List (ℕ × Unit {0})). OwesAsk (IsMachine one_word kinds.Robust (key_of s)) (table_of s).words (table_of s).slots s.seat.id
+    subst (λ (xs : List (ℕ × Unit {0})). OwesAsk (λ (z : View ℕ). z.asked) (IsMachine one_word kinds.Robust (key_of s)) (table_of s).words (table_of s).slots s.seat.id
     (RecoverTells c.args.mode call) (1 + c.args.cell) Load (seen s, xs)) (sym s.bare) owed

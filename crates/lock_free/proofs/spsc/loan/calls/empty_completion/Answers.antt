@@ -1,0 +1,30 @@
+use Rattle.lock_free.proofs.Names.{rules, ap, refl, subst, one_word}
+use Rattle.model.specs.declared.turn.Kind.TheVariants as kinds
+use Rattle.lock_free_queues.specs.Queues.Calls.{QueueId, GoesOn, consumer_view}
+use Rattle.lock_free.proofs.Loan.Told.{pops_none, pops_on, still_goes, is_emptied, none_waited}
+use Rattle.lock_free.proofs.spsc.loan.calls.empty_completion.Goals as goal
+
+pub loop-init : goal.loop-init
+loop-init g c = record { queue = refl; popping = pops_none (consumer_view c.args.consumer.now) }
+
+pub loop-preserved : goal.loop-preserved
+loop-preserved g c = record {
+  queue = search rules;
+  popping =
+      pops_on one_word kinds.IndexQueue _ (consumer_view c.args.consumer.now) (consumer_view c.loop.consumer)
+      (consumer_view c.pop.new.self) c.loop.invariant.popping c.pop.ensures.goes c.pop.result c.is_none.result
+      c.is_none.ensures c.if-is_none.false c.pop.ensures.called;
+}
+
+pub returns-then-is_none-clause-goes : goal.returns-then-is_none-clause-goes
+returns-then-is_none-clause-goes g c =
+    subst (λ n. GoesOn n (consumer_view c.args.consumer.now) (consumer_view c.pop.new.self))
+    (ap (λ (q : QueueId). q.capacity) c.loop.invariant.queue)
+    (still_goes one_word kinds.IndexQueue _ (consumer_view c.args.consumer.now) (consumer_view c.loop.consumer)
+    (consumer_view c.pop.new.self) c.loop.invariant.popping c.pop.ensures.goes)
+
+pub returns-then-is_none-clause-emptied : goal.returns-then-is_none-clause-emptied
+returns-then-is_none-clause-emptied g c =
+    is_emptied (consumer_view c.args.consumer.now) (consumer_view c.loop.consumer) (consumer_view c.pop.new.self)
+    c.loop.invariant.popping c.pop.result c.is_none.result c.is_none.ensures c.if-is_none.true c.pop.ensures.called
+    (none_waited c.pop.result _ _ c.pop.ensures.empty)

@@ -1,0 +1,45 @@
+use Rattle.lock_free.proofs.Names.{rules, ap, refl, subst, sym, ◌∙◌, ◌<◌, one_word}
+use Rattle.model.specs.declared.turn.Kind.TheVariants as kinds
+use Rattle.lock_free_queues.specs.Queues.Overflowing.{QueueId, GoesOn, consumer_queue, consumer_view}
+use Rattle.lock_free.proofs.Loan.Told.{pops_none, pops_on, still_goes, is_emptied}
+use Rattle.lock_free.proofs.spsc.loan.calls.empty_submission.Goals as goal
+
+pub loop-init : goal.loop-init
+loop-init g c = record {
+  queue = refl;
+  popping = λ wide. pops_none (consumer_view c.args.receiver.now);
+  none = λ none. refl;
+}
+
+pub loop-preserved : goal.loop-preserved
+loop-preserved g c =
+    let room = ap (λ (q : QueueId). q.capacity) c.loop.invariant.queue in
+    record {
+      queue = search rules;
+      popping = λ wide. (let some : 0 < (consumer_queue c.loop.receiver).capacity = subst (λ n. 0 < n) (sym room) wide in
+          pops_on one_word kinds.Overflow _ (consumer_view c.args.receiver.now) (consumer_view c.loop.receiver)
+          (consumer_view c.pop.new.self) (c.loop.invariant.popping wide) (c.pop.ensures.goes some) c.pop.result c.is_none.result
+          c.is_none.ensures c.if-is_none.false (c.pop.ensures.called some));
+      none = λ none. (c.pop.ensures.none (room ∙ none)).1 ∙ c.loop.invariant.none none;
+    }
+
+pub returns-then-is_none-clause-goes : goal.returns-then-is_none-clause-goes
+returns-then-is_none-clause-goes g c wide =
+    let room = ap (λ (q : QueueId). q.capacity) c.loop.invariant.queue in
+    let some : 0 < (consumer_queue c.loop.receiver).capacity = subst (λ n. 0 < n) (sym room) wide in
+    subst (λ n. GoesOn n (consumer_view c.args.receiver.now) (consumer_view c.pop.new.self)) room
+    (still_goes one_word kinds.Overflow _ (consumer_view c.args.receiver.now) (consumer_view c.loop.receiver)
+    (consumer_view c.pop.new.self) (c.loop.invariant.popping wide) (c.pop.ensures.goes some))
+
+pub returns-then-is_none-clause-emptied : goal.returns-then-is_none-clause-emptied
+returns-then-is_none-clause-emptied g c wide =
+    let room = ap (λ (q : QueueId). q.capacity) c.loop.invariant.queue in
+    let some : 0 < (consumer_queue c.loop.receiver).capacity = subst (λ n. 0 < n) (sym room) wide in
+    is_emptied (consumer_view c.args.receiver.now) (consumer_view c.loop.receiver) (consumer_view c.pop.new.self)
+    (c.loop.invariant.popping wide) c.pop.result c.is_none.result c.is_none.ensures c.if-is_none.true
+    (c.pop.ensures.called some) (c.pop.ensures.empty some)
+
+pub returns-then-is_none-clause-none : goal.returns-then-is_none-clause-none
+returns-then-is_none-clause-none g c none =
+    let room = ap (λ (q : QueueId). q.capacity) c.loop.invariant.queue in
+    (c.pop.ensures.none (room ∙ none)).1 ∙ c.loop.invariant.none none

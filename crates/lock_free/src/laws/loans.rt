@@ -1,0 +1,22 @@
+//! Laws of a sender's calls.
+ghost use Rattle.std.specs.Prelude.{◌≡◌, ℕ, ◌+◌, List, sum_by};
+ghost use Rattle.history.specs.declared.view.View.{View};
+ghost use Rattle.history.specs.Held.{claims, frees};
+ghost use Rattle.lock_free_queues.specs.Queues.Told.{FoundNone};
+ghost use Rattle.lock_free.specs.Unique.Held.{times};
+ghost use Rattle.lock_free.specs.Loan.Told.{InTurn, HasFreed, HasEmptied};
+
+/// What a pass frees in turn it frees as often as it stands in the list, and it claims nothing. The lemmas are
+/// `freed_in_turn` and `claims_in_turn` of `proofs/Loan/Told.antt`.
+pub fn frees_are_counted()
+    ensures freed { (is : List ℕ) (old new : View ℕ) → InTurn HasFreed is old new
+        → (i : ℕ) → sum_by (frees i) new.made ≡ sum_by (frees i) old.made + times i is }
+    ensures claimed { (is : List ℕ) (old new : View ℕ) → InTurn HasFreed is old new
+        → (i : ℕ) → sum_by (claims i) new.made ≡ sum_by (claims i) old.made }
+{}
+
+/// In a queue that was emptied nothing waited at one moment behind what its guard had seen before. The lemma is
+/// `emptied_once` there.
+pub fn emptied_queues_were_empty()
+    ensures { (old new : View ℕ) → HasEmptied old new → FoundNone old new }
+{}

@@ -1,0 +1,107 @@
+-- How many operations the calls of a container take, from the bounds of the model.
+use Rattle.std.proofs.Common.{arith}
+use Rattle.lock_free_owners.proofs.Names.{◌≡◌, ◌⊎◌, inl, inr, ℕ, ◌+◌, ◌*◌, ◌≤◌, Bool, refl, sym, ap, subst, ◌∙◌, Coding, View, Calling, Ends}
+use Rattle.lock_free_owners.proofs.Names.{Owned, Added, GiveBack, Removed, Replacement, Replaced, DeadOwner, ReleaseMode, ReleaseState}
+use Rattle.lock_free_owners.proofs.Names.{Default, LockIfLastIndex, CountOf, SettledFrom, adds_value, removes_value, replaces_value}
+use Rattle.lock_free_owners.proofs.Names.{counts_values, sees_lock, looking, RestedLooked, Numbers, Showing}
+use Rattle.model.specs.declared.families.container.calls.CountOf.TheVariants as counts
+use Rattle.model.specs.declared.families.container.calls.LookOf.{LookOf}
+use Rattle.model.specs.declared.families.container.calls.LookOf.TheVariants as which_looks
+use Rattle.model.specs.declared.turn.Kind.TheVariants as kinds
+use Rattle.model.specs.Progress.{Guarantee, WaitFree, ObstructionFree, guarantee_of}
+use Rattle.history.proofs.Containers.{container_pays}
+use Rattle.history.proofs.Paid.{AllowsOne, TakesBy, takes}
+use Rattle.history.specs.Steps.{TakesAtMost, TakesAlone}
+use Rattle.lock_free_owners.specs.Container.RecoverTurns.{Visiting, RecoverEnds, recovering}
+use Rattle.lock_free_owners.specs.Container.Steps.{one_if_some, to_settle, TakesFew, ContainerTakes, RemoveTakes, RecoverTakes, LookTakes}
+use Rattle.lock_free_owners.specs.Container.Turns.{AddEnds, RemoveEnds, ReplaceEnds, CountEnds, LockEnds}
+use Rattle.lock_free_owners.proofs.ContainerSet.Began.{idle_from, capacity_from}
+
+-- what a guarantee says of a call of a pass
+abbrev pub TakesThen : {T : Type 0} → Coding T → ℕ → Guarantee → View T → View T → Type 0
+TakesThen code capacity (WaitFree most) old new = TakesFew most old new
+TakesThen code capacity (ObstructionFree alone retry) old new = ContainerTakes code capacity alone retry old new
+
+module _ {T : Type 0} (code : Coding T) (base from : View T) (settled : SettledFrom code kinds.Container base from) where
+  settling : SettledFrom code kinds.Container base from → from.asked ≤ base.asked + to_settle base
+  settling (inl h) = (let same = ap (λ (z : View T). z.asked) h.0 in omega arith)
+  settling (inr h) = (let few = h.asked in let rests = ap one_if_some h.resting.going in omega arith)
+
+  more : (asked before most after rest : ℕ) → asked ≤ before + most → before ≤ after + rest → asked ≤ after + (most + rest)
+  more asked before most after rest h k = omega arith
+
+  more_alone : (asked before alone paid after rest : ℕ) → asked ≤ before + (alone + paid) → before ≤ after + rest
+      → asked ≤ after + ((alone + rest) + paid)
+  more_alone asked before alone paid after rest h k = omega arith
+
+  pub takes_then : (capacity : ℕ) (g : Guarantee) (w : View T) → TakesBy code kinds.Container capacity g from w → TakesThen code capacity g base w
+  takes_then capacity (WaitFree most) w h = more w.asked from.asked most base.asked (to_settle base) h (settling settled)
+  takes_then capacity (ObstructionFree alone retry) w h =
+      record {
+        trace = h.trace;
+        run = h.run;
+        seen = h.seen;
+        party = h.party;
+        mine = h.mine;
+        progress = h.progress;
+        latest = h.latest;
+        steps = more_alone w.asked from.asked alone (h.progress.others * retry) base.asked (to_settle base) h.steps (settling settled);
+      }
+
+  module _ {C M E : Type 0} (call : Calling T C M E) (w : View T) (e : E) (m : M) where
+    pub takes_so : AllowsOne (guarantee_of kinds.Container base.capacity code.size call.start) → Ends code kinds.Container call from e m w
+        → TakesThen code base.capacity (guarantee_of kinds.Container base.capacity code.size call.start) base w
+    takes_so least ends =
+        takes_then base.capacity (guarantee_of kinds.Container base.capacity code.size call.start) w
+        (subst (λ n. AllowsOne (guarantee_of kinds.Container n code.size call.start)
+        → TakesBy code kinds.Container n (guarantee_of kinds.Container n code.size call.start) from w) (capacity_from code base from settled)
+        (λ one. takes code kinds.Container call from w e m (idle_from code base from settled) (container_pays code from.capacity) one ends) least)
+
+module _ {T : Type 0} (code : Coding T) (base w : View T) where
+  pub add_takes : (given : Owned T) (answer : Added) → AddEnds code given base answer tt w
+      → ContainerTakes code base.capacity (base.capacity + 7 + code.size) (base.capacity + 1) base w
+  add_takes given answer ends = takes_so code base ends.from ends.settled (adds_value code.size given) w answer tt (omega arith) ends.over
+
+  pub remove_takes : (given : GiveBack) (answer : Removed) → RemoveEnds code given base answer tt w → RemoveTakes code base.capacity given.mode base w
+  remove_takes given answer ends = by given.mode refl
+    where
+      of : (mode : ReleaseMode) → Type 0
+      of mode = RemoveTakes code base.capacity mode base w
+
+      with_mode : ReleaseMode → GiveBack
+      with_mode mode = record { index = given.index; owner = given.owner; mode = mode }
+
+      by : (mode : ReleaseMode) → given.mode ≡ mode → of given.mode
+      by Default is =
+          subst of (sym is)
+          (takes_so code base ends.from ends.settled (removes_value (with_mode Default)) w answer tt (omega arith)
+          (subst (λ (z : GiveBack). Ends code kinds.Container (removes_value z) ends.from answer tt w) (ap with_mode is) ends.over))
+      by LockIfLastIndex is =
+          subst of (sym is)
+          (takes_so code base ends.from ends.settled (removes_value (with_mode LockIfLastIndex)) w answer tt (omega arith)
+          (subst (λ (z : GiveBack). Ends code kinds.Container (removes_value z) ends.from answer tt w) (ap with_mode is) ends.over))
+
+  pub replace_takes : (given : Replacement T) (answer : Replaced) → ReplaceEnds code given base answer tt w → TakesFew (5 + code.size) base w
+  replace_takes given answer ends = takes_so code base ends.from ends.settled (replaces_value code.size given) w answer tt (omega arith) ends.over
+
+  pub count_takes : (which : CountOf) (n : ℕ) → CountEnds code which base n tt w
+      → ContainerTakes code base.capacity (base.capacity + 2) (base.capacity + 2) base w
+  count_takes counts.Len n ends = takes_so code base ends.from ends.settled (counts_values counts.Len) w n tt (omega arith) ends.over
+  count_takes counts.IsEmpty n ends = takes_so code base ends.from ends.settled (counts_values counts.IsEmpty) w n tt (omega arith) ends.over
+
+  pub lock_takes : (b : Bool) → LockEnds code base b tt w → TakesFew 1 base w
+  lock_takes b ends = takes_so code base ends.from ends.settled sees_lock w b tt (omega arith) ends.over
+
+  pub recover_takes : (owner : ℕ) (mode : ReleaseMode) (state : ReleaseState) (m : Visiting T)
+      → RecoverEnds code (record { owner = owner; mode = mode }) base state m w → RecoverTakes code base.capacity mode base w
+  recover_takes owner Default state m ends =
+      takes_so code base ends.from ends.settled (recovering code (record { owner = owner; mode = Default })) w state m (omega arith) ends.over
+  recover_takes owner LockIfLastIndex state m ends =
+      takes_so code base ends.from ends.settled (recovering code (record { owner = owner; mode = LockIfLastIndex })) w state m (omega arith) ends.over
+
+  pub look_takes : (which : LookOf) (seen : Numbers) (changed : Bool) (m : Showing T)
+      → RestedLooked code which base.capacity seen base changed m w → LookTakes code base.capacity base w
+  look_takes which_looks.GetState seen changed m ends =
+      takes_so code base ends.from ends.settled (looking code which_looks.GetState base.capacity seen) w changed m (omega arith) ends.over.0
+  look_takes which_looks.UpdateState seen changed m ends =
+      takes_so code base ends.from ends.settled (looking code which_looks.UpdateState base.capacity seen) w changed m (omega arith) ends.over.0

@@ -1,0 +1,5 @@
+use Rattle.lock_free_owners.proofs.ContainerSet.Meeting.{history_meets}
+use Rattle.lock_free_owners.proofs.laws.container_updates_meet_changes.Goals as goal
+
+pub returns : goal.returns
+returns g c code capacity events h few = history_meets code capacity events h few

@@ -1,0 +1,92 @@
+use Rattle.lock_free_owners.proofs.Names.{ℕ, ◌+◌, ◌∙◌, sym, ap, subst, arith, rules, recover_after, After, ReleaseState, seen}
+use Rattle.steps.specs.Indices.Robust.Recover.{recover_comes_to}
+use Rattle.steps.specs.declared.indices.robust.recover.Recover.{Recover}
+use Rattle.lock_free_owners.specs.Robust.Recovering.{LedTo}
+use Rattle.lock_free_owners.proofs.RobustSet.Recoveries.{Heard, asks_at, finds_owner, may_ask_about, yes_leads, no_leads}
+use Rattle.lock_free_owners.proofs.RobustSet.Turns.{passes}
+use Rattle.lock_free_owners.proofs.mpmc.robust_unique_index_set.asks.ask_over.Goals as goal
+use Rattle.lock_free_owners.proofs.mpmc.robust_unique_index_set.asks.ask_over.Given as given
+
+pub load_cell-found-requires-clause-within : goal.load_cell-found-requires-clause-within
+load_cell-found-requires-clause-within g c = c.cells.invariant.within
+
+pub load_cell-found-requires-clause-at : goal.load_cell-found-requires-clause-at
+load_cell-found-requires-clause-at g c =
+    let asks = c.requires.asks in
+    let so = c.cells.invariant.goes asks.base asks.f asks.s asks.q asks.idle asks.stands in
+    (asks.base, so.0, asks.idle, so.1)
+
+pub ask_found-answer-requires : goal.ask_found-answer-requires
+ask_found-answer-requires g c low =
+    let asks = c.requires.asks in
+    let found = c.load_cell-found in
+    let so = c.cells.invariant.goes asks.base asks.f asks.s asks.q asks.idle asks.stands in
+    may_ask_about (λ p o i b r. given.F-step g p o i b r) (λ x o i t. given.S-step g x o i tt t) c.args.mode asks.base asks.idle asks.f asks.s (seen c.cells.seat)
+    (seen found.new.seat) c.args.capacity c.cells.cell found.result found.ensures.goes c.cells.predicate asks.q so asks.takes low
+
+pub passed_next-cell-requires : goal.passed_next-cell-requires
+passed_next-cell-requires g c = c.cells.invariant.within
+
+pub overflow_cast-cell-then-answer-ne0 : goal.overflow_cast-cell-then-answer-ne0
+overflow_cast-cell-then-answer-ne0 g c =
+    let low = c.cells.invariant.within in
+    let small = c.ranges.capacity.fits in
+    omega arith
+
+pub returns-then-answer-ne0-clause-goes : goal.returns-then-answer-ne0-clause-goes
+returns-then-answer-ne0-clause-goes g c base f s q idle began =
+    let mode = c.args.mode in
+    let found = c.load_cell-found in
+    let asked = c.ask_found-answer in
+    let heard : Heard (λ p o i b r. given.F-step g p o i b r) found.result c.cells.cell asked.result c.cells.predicate asked.new.predicate =
+    record { fits = search rules; asked = asked.ensures.asked; passed = asked.ensures.passed } in
+    let so = c.cells.invariant.goes base f s q idle began in
+    let yes = yes_leads (λ p o i b r. given.F-step g p o i b r) (λ x o i t. given.S-step g x o i tt t) mode base idle f s (seen c.cells.seat) (seen found.new.seat)
+    c.args.capacity c.cells.cell found.result found.ensures.goes c.cells.predicate q so
+    asked.result asked.new.predicate heard c.if-answer-ne0.true in
+    let taken = c.answered.ensures (asks_at c.args.capacity c.cells.cell found.result)
+    (ap (λ (d : Recover). recover_after d mode found.result) c.at_cell-here.ensures
+    ∙ finds_owner c.args.capacity c.cells.cell found.result mode yes.0) in
+    subst (λ (a : After Recover ReleaseState). LedTo (λ p o i b r. given.F-step g p o i b r) (λ x o i t. given.S-step g x o i tt t) base.capacity mode base f s (seen found.new.seat)
+    a asked.new.predicate q) (sym taken) yes.1
+
+pub returns-then-cell-capacity-clause-goes : goal.returns-then-cell-capacity-clause-goes
+returns-then-cell-capacity-clause-goes g c base f s q idle began =
+    let mode = c.args.mode in
+    let found = c.load_cell-found in
+    let asked = c.ask_found-answer in
+    let heard : Heard (λ p o i b r. given.F-step g p o i b r) found.result c.cells.cell asked.result c.cells.predicate asked.new.predicate =
+    record { fits = search rules; asked = asked.ensures.asked; passed = asked.ensures.passed } in
+    let so = c.cells.invariant.goes base f s q idle began in
+    let no = no_leads (λ p o i b r. given.F-step g p o i b r) (λ x o i t. given.S-step g x o i tt t) mode base idle f s (seen c.cells.seat) (seen found.new.seat)
+    c.args.capacity c.cells.cell found.result found.ensures.goes c.cells.predicate q so
+    asked.result asked.new.predicate heard c.if-answer-ne0.false in
+    let next = c.passed_next-cell.ensures.next in
+    let past = c.if-cell-capacity.true in
+    subst (λ (a : After Recover ReleaseState). LedTo (λ p o i b r. given.F-step g p o i b r) (λ x o i t. given.S-step g x o i tt t) base.capacity mode base f s (seen found.new.seat)
+    a asked.new.predicate q) (c.past_last.ensures c.cells.cell (c.cells.cell + 1) (omega arith)) no
+
+pub cells-preserved : goal.cells-preserved
+cells-preserved g c =
+    let mode = c.args.mode in
+    let found = c.load_cell-found in
+    let asked = c.ask_found-answer in
+    let so_far = c.cells.invariant in
+    let heard : Heard (λ p o i b r. given.F-step g p o i b r) found.result c.cells.cell asked.result c.cells.predicate asked.new.predicate =
+    record { fits = search rules; asked = asked.ensures.asked; passed = asked.ensures.passed } in
+    let next = c.passed_next-cell.ensures.next in
+    let inside = c.if-cell-capacity.false in
+    let after = c.passed_next-cell.ensures.after (omega arith) in
+    record {
+      same = (found.ensures.same.0 ∙ so_far.same.0, found.ensures.same.1 ∙ so_far.same.1, found.ensures.same.2 ∙ so_far.same.2);
+      board = found.ensures.board;
+      within = omega arith;
+      goes = λ base f s q idle began. let so = so_far.goes base f s q idle began in
+          let no = no_leads (λ p o i b r. given.F-step g p o i b r) (λ x o i t. given.S-step g x o i tt t) mode base idle f s (seen c.cells.seat) (seen found.new.seat)
+          c.args.capacity c.cells.cell found.result found.ensures.goes c.cells.predicate q so
+          asked.result asked.new.predicate heard c.if-answer-ne0.false in
+          subst (λ (a : After Recover ReleaseState). LedTo (λ p o i b r. given.F-step g p o i b r) (λ x o i t. given.S-step g x o i tt t) base.capacity mode base f s (seen found.new.seat)
+          a asked.new.predicate q) after
+          (subst (λ (n : ℕ). LedTo (λ p o i b r. given.F-step g p o i b r) (λ x o i t. given.S-step g x o i tt t) base.capacity mode base f s (seen found.new.seat)
+          (recover_comes_to (passes c.args.capacity c.cells.cell) n) asked.new.predicate q) (sym next) no);
+    }

@@ -1,0 +1,36 @@
+-- How many atomic steps the calls of a container take: so many alone, so many more for each change of a word by others, and
+-- one more where the last call of the pass rested. size is the number of the words of a value.
+use Rattle.std.specs.Prelude.{ℕ, ◌+◌, ◌*◌, Option, Some, None}
+use Rattle.steps.specs.declared.indices.enums.ReleaseMode.{ReleaseMode}
+use Rattle.steps.specs.declared.indices.enums.ReleaseMode.TheVariants.{Default, LockIfLastIndex}
+use Rattle.model.specs.declared.turn.Kind.TheVariants as kinds
+use Rattle.model.specs.Coding.{Coding}
+use Rattle.history.specs.declared.view.View.{View}
+use Rattle.history.specs.Steps.{TakesAtMost, TakesAlone}
+
+abbrev pub one_if_some : {A : Type 0} → Option A → ℕ
+one_if_some None = 0
+one_if_some (Some x) = 1
+
+module _ {T : Type 0} where
+  abbrev pub to_settle : View T → ℕ
+  to_settle v = one_if_some v.going
+
+  abbrev pub TakesFew : ℕ → View T → View T → Type 0
+  TakesFew most old = TakesAtMost (most + to_settle old) old
+
+module _ {T : Type 0} (code : Coding T) (capacity : ℕ) where
+  abbrev pub ContainerTakes : ℕ → ℕ → View T → View T → Type 0
+  ContainerTakes alone retry old = TakesAlone code kinds.Container capacity (alone + to_settle old) retry old
+
+  abbrev pub RemoveTakes : ReleaseMode → View T → View T → Type 0
+  RemoveTakes Default = ContainerTakes 6 1
+  RemoveTakes LockIfLastIndex = ContainerTakes (capacity + 9) (capacity + 3)
+
+  abbrev pub RecoverTakes : ReleaseMode → View T → View T → Type 0
+  RecoverTakes Default = ContainerTakes (3 + capacity * (code.size + 7)) (code.size + 1)
+  RecoverTakes LockIfLastIndex = ContainerTakes (3 + capacity * (code.size + capacity + 10)) (code.size + capacity + 4)
+
+  -- of a look of a state
+  abbrev pub LookTakes : View T → View T → Type 0
+  LookTakes = ContainerTakes (1 + capacity * (code.size + 2)) (code.size + 1)

@@ -1,0 +1,203 @@
+-- For clients of the overflowing queue: that what was pushed is a merge of what the pops took out and of what the pushes did, once the passes are joined.
+use Rattle.std.proofs.Common.{◌≡◌, inl, inr, ℕ, suc, ◌+◌, ◌-◌, ◌^◌, ◌<◌, ◌≤◌, Bool, true, false, true≢false}
+use Rattle.std.proofs.Common.{if◌then◌else◌, List, [], ◌∷◌, ◌++◌, length, map, sym, refl, ap, subst, ◌∙◌, arith}
+use Rattle.std.proofs.Common.{length-append, sum_by}
+use mathlib.Core.List.{map-append}
+use Rattle.lock_free_queues.proofs.Names.{sum_by-append, Event, HandedOut, Acted, events_by, View, IsBeginning, IsAll, Item}
+use Rattle.lock_free_queues.proofs.Names.{Index, Role, Queues, Pop, first_view, publishes, published, handed_out, MissesNothing}
+use Rattle.threaded.specs.declared.share.Share.{Share}
+use Rattle.threaded.specs.Shares.{all_shares, half_of, both_of}
+use Rattle.lock_free_queues.specs.Queues.Merges.{Merges, StandIn, by_pop, by_push, taken, HasPushedAll, HasPushedUpTo}
+use Rattle.lock_free_queues.specs.Queues.Merges.{HasTaken, HasDrained}
+use Rattle.lock_free_queues.specs.Queues.Overflowing.{GoesOn}
+use Rattle.lock_free_queues.specs.Queues.Sums.{puts, gets}
+use Rattle.lock_free_queues.specs.Queues.Told.{HasAcquired, HasSplit, HasJoined}
+use Rattle.lock_free_queues.proofs.Queues.Sent.{length_named, only_these}
+use Rattle.lock_free_queues.proofs.Queues.Sums.{done_acquired, whole_counted}
+use Rattle.lock_free_queues.proofs.Queues.TakenOut.{item, same_list, no_longer, grows, pop_lasts, push_lasts, begins_on, seen_later}
+
+-- ---- all that was taken out is a merge of both
+
+one_of_two : (es : List (Event ℕ)) → by_pop es ≡ true → by_push es ≡ false
+one_of_two [] t = refl
+one_of_two (Acted p (Queues Pop) answer ∷ es) t = refl
+one_of_two (e ∷ es) t = absurd (true≢false (sym t))
+
+few_taken : (es : List (Event ℕ)) → length (taken by_pop es) + length (taken by_push es) ≤ length (handed_out es)
+few_taken [] = omega arith
+few_taken (HandedOut p x ∷ es) = go (by_pop (events_by p es)) (by_push (events_by p es)) refl refl (few_taken es)
+  where
+    go : (a b : Bool) → by_pop (events_by p es) ≡ a → by_push (events_by p es) ≡ b
+        → length (taken by_pop es) + length (taken by_push es) ≤ length (handed_out es)
+        → length (if a then x ∷ taken by_pop es else taken by_pop es) + length (if b then x ∷ taken by_push es else taken by_push es)
+        ≤ suc (length (handed_out es))
+    go true true s t few = absurd (true≢false (sym t ∙ one_of_two (events_by p es) s))
+    go true false s t few = omega arith
+    go false true s t few = omega arith
+    go false false s t few = omega arith
+few_taken (e ∷ es) = few_taken es
+
+merged : (es : List (Event ℕ)) → length (taken by_pop es) + length (taken by_push es) ≡ length (handed_out es)
+    → Merges (taken by_pop es) (taken by_push es) (handed_out es)
+merged [] e = (refl, refl)
+merged (HandedOut p x ∷ es) e = go (by_pop (events_by p es)) (by_push (events_by p es)) refl refl (few_taken es) (λ k. merged es k) e
+  where
+    pops : List (Item ℕ)
+    pops = taken by_pop es
+
+    pushes : List (Item ℕ)
+    pushes = taken by_push es
+
+    go : (a b : Bool) → by_pop (events_by p es) ≡ a → by_push (events_by p es) ≡ b
+        → length pops + length pushes ≤ length (handed_out es)
+        → (length pops + length pushes ≡ length (handed_out es) → Merges pops pushes (handed_out es))
+        → length (if a then x ∷ pops else pops) + length (if b then x ∷ pushes else pushes) ≡ suc (length (handed_out es))
+        → Merges (if a then x ∷ pops else pops) (if b then x ∷ pushes else pushes) (x ∷ handed_out es)
+    go true true s t few later k = absurd (true≢false (sym t ∙ one_of_two (events_by p es) s))
+    go true false s t few later k = inl (pops, refl, later (omega arith))
+    go false true s t few later k = inr (pushes, refl, later (omega arith))
+    go false false s t few later k = absurd (omega arith)
+merged (e ∷ es) k = merged es k
+
+-- numbers for items
+none_of : (xs : List ℕ) → map item xs ≡ [] → xs ≡ []
+none_of [] e = refl
+none_of (x ∷ xs) e = absurd (cc)
+
+first_of_items : (xs : List ℕ) (z : ℕ) (rest : List (Item ℕ)) → map item xs ≡ item z ∷ rest → (ws : List ℕ) × (xs ≡ z ∷ ws) × (rest ≡ map item ws)
+first_of_items [] z rest e = absurd (cc)
+first_of_items (x ∷ xs) z rest e =
+    let here : item x ≡ item z = cc in
+    let same : x ≡ z = cc in
+    let more : map item xs ≡ rest = cc in
+    (xs, ap (λ w. w ∷ xs) same, sym more)
+
+numbers_merge : (xs ys zs : List ℕ) → Merges (map item xs) (map item ys) (map item zs) → Merges xs ys zs
+numbers_merge xs ys [] h = (none_of xs h.0, none_of ys h.1)
+numbers_merge xs ys (z ∷ zs) (inl h) =
+    let it = first_of_items xs z h.0 h.1 in
+    inl (it.0, it.1, numbers_merge it.0 ys zs (subst (λ rest. Merges rest (map item ys) (map item zs)) it.2 h.2))
+numbers_merge xs ys (z ∷ zs) (inr h) =
+    let it = first_of_items ys z h.0 h.1 in
+    inr (it.0, it.1, numbers_merge xs it.0 zs (subst (λ rest. Merges (map item xs) rest (map item zs)) it.2 h.2))
+
+-- ---- both joined, and what waited is popped
+
+module _ (d n : ℕ) (role : Role) (all back came new : List ℕ) (v left right a b z k u : View ℕ)
+    (fits : length all < 2 ^ 64 - 1) (opens : v ≡ first_view n) (cut : HasSplit v left right)
+    (s : HasPushedUpTo all back left a) (r : HasTaken came right b) (h : HasJoined a b z) (none : MissesNothing z)
+    (goes : GoesOn d z k) (acquired : HasAcquired role true z k) (drain : HasDrained came new k u) where
+  whole : IsAll k.share
+  whole =
+      let start : v.share ≡ all_shares = ap (λ (t : View ℕ). t.share) opens in
+      subst IsAll (sym (goes.share ∙ (h.share ∙ ap (λ (t : Share × Share). both_of t.0 t.1) (λ i. (
+        (s.share ∙ (cut.share ∙ ap half_of start)) i,
+        (r.share ∙ (cut.right_share ∙ ap half_of start)) i,
+      ))))) refl
+
+  whole_there : IsAll u.share
+  whole_there = subst IsAll (sym drain.popped.share) whole
+
+  counted : (length (published u.seen) ≡ sum_by puts u.made) × (length (handed_out u.seen) ≡ sum_by gets u.made)
+  counted = whole_counted u whole_there (drain.popped.all goes.all)
+
+  fresh_left : left.seen ≡ []
+  fresh_left = cut.seen ∙ ap (λ (t : View ℕ). t.seen) opens
+
+  since : IsBeginning a.seen u.seen
+  since = begins_on (begins_on h.ours goes.since) drain.popped.since
+
+  -- how much was pushed, and taken out
+  puts_all : sum_by puts u.made ≡ sum_by puts a.made
+  puts_all =
+      let drains = drain.popped.done.puts_more in
+      let takes = (done_acquired z k role true acquired).puts_more in
+      let both : sum_by puts z.made ≡ sum_by puts a.made + sum_by puts b.made = ap (sum_by puts) h.made ∙ sum_by-append puts a.made b.made in
+      let theirs : sum_by puts right.made ≡ 0 = ap (sum_by puts) cut.right_made in
+      let pops = r.done.puts_more in
+      omega arith
+
+  mine : sum_by puts left.made ≡ 0
+  mine = ap (sum_by puts) cut.made ∙ ap (λ (t : View ℕ). sum_by puts t.made) opens
+
+  pushed : HasPushedAll all back left a
+  pushed = s.all (let low = seen_later a u since in let size = counted.0 in let few = s.few in let one = puts_all in let start = mine in omega arith)
+
+  all_published : published u.seen ≡ map Index all
+  all_published =
+      only_these publishes Index all (length all) (length back) left a u.seen (ap published fresh_left) pushed.added since
+      (let size = counted.0 in let one = puts_all in let start = mine in let put = pushed.added.done.puts_more in omega arith)
+
+  emptied : handed_out u.seen ≡ published u.seen
+  emptied = drain.emptied whole goes.all
+
+  gets_all : length (handed_out u.seen) ≡ length back + (length came + length drain.more)
+  gets_all =
+      let size = counted.1 in
+      let drains = drain.popped.done.gets_more in
+      let takes = (done_acquired z k role true acquired).gets_more in
+      let both : sum_by gets z.made ≡ sum_by gets a.made + sum_by gets b.made = ap (sum_by gets) h.made ∙ sum_by-append gets a.made b.made in
+      let ours : sum_by gets left.made ≡ 0 = ap (sum_by gets) cut.made ∙ ap (λ (t : View ℕ). sum_by gets t.made) opens in
+      let theirs : sum_by gets right.made ≡ 0 = ap (sum_by gets) cut.right_made in
+      let pushes = pushed.added.done.gets_more in
+      let pops = r.done.gets_more in
+      omega arith
+
+  -- what each had stands in what its calls took out
+  in_pushes : StandIn (map Index back) (taken by_push u.seen)
+  in_pushes =
+      subst (λ es. StandIn (map Index back) (taken by_push es)) (sym since.is)
+      (grows by_push push_lasts (map Index back) a.seen since.rest (pushed.returned [] tt))
+
+  in_pops : StandIn (map Index came ++ map Index drain.more) (taken by_pop u.seen)
+  in_pops =
+      let on = begins_on h.others goes.since in
+      drain.popped.popped (map Index came)
+      (subst (λ es. StandIn (map Index came) (taken by_pop es)) (sym on.is)
+      (grows by_pop pop_lasts (map Index came) b.seen on.rest (r.popped [] tt)))
+
+  sizes : (length (map {B = Item ℕ} Index back) ≡ length back)
+      × (length (map {B = Item ℕ} Index came ++ map Index drain.more) ≡ length came + length drain.more)
+  sizes = (
+    length_named item back,
+    (let e = length-append (map {B = Item ℕ} Index came) (map Index drain.more) in
+        let x = length_named item came in
+        let y = length_named item drain.more in
+        omega arith),
+  )
+
+  all_pushes : map Index back ≡ taken by_push u.seen
+  all_pushes =
+      same_list (map Index back) (taken by_push u.seen) in_pushes
+      (let x = sizes.0 in
+      let y = sizes.1 in
+      let low = no_longer _ _ in_pops in
+      let few = few_taken u.seen in
+      let all = gets_all in
+      omega arith)
+
+  all_pops : map Index came ++ map Index drain.more ≡ taken by_pop u.seen
+  all_pops =
+      same_list (map Index came ++ map Index drain.more) (taken by_pop u.seen) in_pops
+      (let x = sizes.0 in
+      let y = sizes.1 in
+      let low = no_longer _ _ in_pushes in
+      let few = few_taken u.seen in
+      let all = gets_all in
+      omega arith)
+
+  -- so what was pushed is a merge of both
+  pub overflowed : Merges new back all
+  overflowed =
+      let both =
+      merged u.seen (let x = sizes.0 in
+      let y = sizes.1 in
+      let p = ap length all_pops in
+      let q = ap length all_pushes in
+      let all = gets_all in
+      omega arith) in
+      let pops : taken by_pop u.seen ≡ map item new = sym all_pops ∙ (sym (map-append Index came drain.more) ∙ ap (map item) (sym drain.numbers)) in
+      numbers_merge new back all
+      (subst (λ zs. Merges (map item new) (map item back) zs) (emptied ∙ all_published)
+      (subst (λ ys. Merges (map item new) ys (handed_out u.seen)) (sym all_pushes)
+      (subst (λ xs. Merges xs (taken by_push u.seen) (handed_out u.seen)) pops both)))

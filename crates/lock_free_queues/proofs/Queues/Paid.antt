@@ -1,0 +1,76 @@
+-- How many operations on words the calls on a queue take.
+use Rattle.lock_free_queues.proofs.Names.{◌≡◌, inl, inr, ℕ, ◌+◌, Bool, None, List, arith, Role, Producer, Consumer}
+use Rattle.lock_free_queues.proofs.Names.{OneWord, PushEnd, QueueKind, IndexQueue, Overflow, Queue, LengthOf}
+use Rattle.lock_free_queues.proofs.Names.{Coding, machine_kind, View, Calling, Ends, Over, takes_role, gives_role}
+use Rattle.lock_free_queues.proofs.Names.{counts_waiting, pushes_index, pops_index, pushes_value, pops_value, pops_over}
+use Rattle.model.specs.declared.families.queues.calls.LengthOf.TheVariants as measures
+use Rattle.model.specs.declared.turn.Kind.TheVariants as kinds
+use Rattle.model.specs.Progress.{guarantee_of}
+use Rattle.history.specs.Steps.{TakesAtMost, TakesAlone}
+use Rattle.history.proofs.Paid.{AllowsOne, TakesBy, takes, left_takes}
+use Rattle.history.proofs.Queues.{queue_pays}
+use Rattle.lock_free_queues.specs.Queues.Overflowing.{pushes_told}
+
+module _ {T : Type 0} (code : Coding T) (kd : QueueKind) (base w : View T) (idle : base.going ≡ None) where
+  -- as many as the model says of the call
+  takes_here : {C M E : Type 0} (call : Calling T C M E) (e : E) (m : M)
+      → AllowsOne (guarantee_of (machine_kind kd) base.capacity code.size call.start) → Ends code (machine_kind kd) call base e m w
+      → TakesBy code (machine_kind kd) base.capacity (guarantee_of (machine_kind kd) base.capacity code.size call.start) base w
+  takes_here call e m least ends = takes code (machine_kind kd) call base w e m idle (queue_pays code kd base) least ends
+
+module _ {T : Type 0} (code : Coding T) (base w : View T) (idle : base.going ≡ None) where
+  -- ---- roles and lengths
+
+  pub acquire_takes : (kd : QueueKind) (role : Role) (e : Bool) (m : Unit {0}) → Ends code (machine_kind kd) (takes_role role) base e m w → TakesAtMost 1 base w
+  acquire_takes IndexQueue Producer e m ends = takes_here code IndexQueue base w idle (takes_role Producer) e m (omega arith) ends
+  acquire_takes IndexQueue Consumer e m ends = takes_here code IndexQueue base w idle (takes_role Consumer) e m (omega arith) ends
+  acquire_takes Overflow Producer e m ends = takes_here code Overflow base w idle (takes_role Producer) e m (omega arith) ends
+  acquire_takes Overflow Consumer e m ends = takes_here code Overflow base w idle (takes_role Consumer) e m (omega arith) ends
+  acquire_takes Queue Producer e m ends = takes_here code Queue base w idle (takes_role Producer) e m (omega arith) ends
+  acquire_takes Queue Consumer e m ends = takes_here code Queue base w idle (takes_role Consumer) e m (omega arith) ends
+
+  pub release_takes : (kd : QueueKind) (role : Role) (e m : Unit {0}) → Ends code (machine_kind kd) (gives_role role) base e m w → TakesAtMost 1 base w
+  release_takes IndexQueue Producer e m ends = takes_here code IndexQueue base w idle (gives_role Producer) e m (omega arith) ends
+  release_takes IndexQueue Consumer e m ends = takes_here code IndexQueue base w idle (gives_role Consumer) e m (omega arith) ends
+  release_takes Overflow Producer e m ends = takes_here code Overflow base w idle (gives_role Producer) e m (omega arith) ends
+  release_takes Overflow Consumer e m ends = takes_here code Overflow base w idle (gives_role Consumer) e m (omega arith) ends
+  release_takes Queue Producer e m ends = takes_here code Queue base w idle (gives_role Producer) e m (omega arith) ends
+  release_takes Queue Consumer e m ends = takes_here code Queue base w idle (gives_role Consumer) e m (omega arith) ends
+
+  abbrev Counts : QueueKind → LengthOf → ℕ → Unit {0} → Type 0
+  Counts kd which n m = Ends code (machine_kind kd) (counts_waiting which base.capacity) base n m w
+
+  pub length_takes : (kd : QueueKind) (which : LengthOf) (n : ℕ) (m : Unit {0}) → Counts kd which n m → TakesAlone code (machine_kind kd) base.capacity 4 4 base w
+  length_takes IndexQueue measures.Len n m ends = takes_here code IndexQueue base w idle (counts_waiting measures.Len base.capacity) n m (omega arith) ends
+  length_takes IndexQueue measures.IsEmpty n m ends = takes_here code IndexQueue base w idle (counts_waiting measures.IsEmpty base.capacity) n m (omega arith) ends
+  length_takes IndexQueue measures.IsFull n m ends = takes_here code IndexQueue base w idle (counts_waiting measures.IsFull base.capacity) n m (omega arith) ends
+  length_takes Overflow measures.Len n m ends = takes_here code Overflow base w idle (counts_waiting measures.Len base.capacity) n m (omega arith) ends
+  length_takes Overflow measures.IsEmpty n m ends = takes_here code Overflow base w idle (counts_waiting measures.IsEmpty base.capacity) n m (omega arith) ends
+  length_takes Overflow measures.IsFull n m ends = takes_here code Overflow base w idle (counts_waiting measures.IsFull base.capacity) n m (omega arith) ends
+  length_takes Queue measures.Len n m ends = takes_here code Queue base w idle (counts_waiting measures.Len base.capacity) n m (omega arith) ends
+  length_takes Queue measures.IsEmpty n m ends = takes_here code Queue base w idle (counts_waiting measures.IsEmpty base.capacity) n m (omega arith) ends
+  length_takes Queue measures.IsFull n m ends = takes_here code Queue base w idle (counts_waiting measures.IsFull base.capacity) n m (omega arith) ends
+
+  -- ---- pushes and pops
+
+  pub push_takes : (v : ℕ) (e : Bool) (m : Unit {0}) → Over code kinds.IndexQueue (pushes_index v) base e m w → TakesAtMost 4 base w
+  push_takes v e m (inl ends) = takes_here code IndexQueue base w idle (pushes_index v) e m (omega arith) ends
+  push_takes v e m (inr left) = left_takes code kinds.IndexQueue (pushes_index v) base w e m 4 (omega arith) left
+
+  pub pop_takes : (e : Bool) (m : OneWord) → Ends code kinds.IndexQueue pops_index base e m w → TakesAtMost 4 base w
+  pop_takes e m ends = takes_here code IndexQueue base w idle pops_index e m (omega arith) ends
+
+  pub value_push_takes : (x : T) (e : Bool) (m : Unit {0}) → Over code kinds.Queue (pushes_value code x) base e m w → TakesAtMost (3 + code.size) base w
+  value_push_takes x e m (inl ends) = takes_here code Queue base w idle (pushes_value code x) e m (omega arith) ends
+  value_push_takes x e m (inr left) = left_takes code kinds.Queue (pushes_value code x) base w e m (3 + code.size) (omega arith) left
+
+  pub value_pop_takes : {R : Type 0} (words_in : R → List ℕ) (e : Bool) (m : R) → Ends code kinds.Queue (pops_value code words_in) base e m w
+      → TakesAtMost (3 + code.size) base w
+  value_pop_takes words_in e m ends = takes_here code Queue base w idle (pops_value code words_in) e m (omega arith) ends
+
+  pub over_push_takes : (v : ℕ) (e : PushEnd) (m : OneWord) → Over code kinds.Overflow (pushes_told v) base e m w → TakesAtMost 6 base w
+  over_push_takes v e m (inl ends) = takes_here code Overflow base w idle (pushes_told v) e m (omega arith) ends
+  over_push_takes v e m (inr left) = left_takes code kinds.Overflow (pushes_told v) base w e m 6 (omega arith) left
+
+  pub over_pop_takes : (e : Bool) (m : OneWord) → Ends code kinds.Overflow pops_over base e m w → TakesAlone code kinds.Overflow base.capacity 4 2 base w
+  over_pop_takes e m ends = takes_here code Overflow base w idle pops_over e m (omega arith) ends

@@ -1,0 +1,224 @@
+-- For clients: what passes come to once they are joined, and which calls have to succeed.
+use Rattle.lock_free_queues.proofs.Names.{◌≡◌, ◌⊎◌, inl, inr, ℕ, ◌+◌, ◌-◌, ◌^◌, ◌<◌, ◌≤◌, Bool, true, false, Some, None}
+use Rattle.lock_free_queues.proofs.Names.{Option, List, [], ◌∷◌, ◌++◌, length, map, take, refl, sym, ap, subst, ◌∙◌, arith}
+use Rattle.lock_free_queues.proofs.Names.{append-nil, sum_by, sum_by-append, length-drop, Role, Event, Item, Index, Value}
+use Rattle.lock_free_queues.proofs.Names.{Kind, QueueKind, Coding, publishes, hands_out, published}
+use Rattle.lock_free_queues.proofs.Names.{handed_out, waiting, View, IsBeginning, IsHistory, Goes, MissesNothing, IsAll}
+use Rattle.lock_free_queues.proofs.Names.{machine_kind, first_view, option_map, IfNone, IfSome}
+use Rattle.std.proofs.Common.{length-append, true≢false}
+use Rattle.std.specs.Prelude.{◌↔◌, is_some, not}
+use mathlib.Core.List.{map-append}
+use Rattle.threaded.specs.declared.share.Share.{Share}
+use Rattle.threaded.specs.Shares.{all_shares, half_of, both_of}
+use Rattle.lock_free_queues.specs.Queues.Bounded.{IsBounded}
+use Rattle.lock_free_queues.specs.Queues.Closes.{Closes}
+use Rattle.lock_free_queues.specs.Queues.Sent.{HasSent, HasReceived, HasPassed, TellsApart}
+use Rattle.lock_free_queues.specs.Queues.Sums.{puts, gets}
+use Rattle.lock_free_queues.specs.Queues.Told.{HasAcquired, HasPopped, HasTakenOut, WasEmpty, WasAtEnd, WasFull, HasSplit, HasJoined}
+use Rattle.steps.specs.Objects.Lists.{Bounded}
+use Rattle.lock_free_queues.proofs.Queues.Facts.{listed_always}
+use Rattle.lock_free_queues.proofs.Queues.Positions.{hits_grow}
+use Rattle.lock_free_queues.proofs.Queues.Promised.{sound}
+use Rattle.lock_free_queues.proofs.Queues.Sent.{length_named, only_these}
+use Rattle.lock_free_queues.proofs.Queues.Sums.{whole_counted}
+use Rattle.lock_free_queues.proofs.Queues.Whole.{all_taken, nothing_more}
+
+-- ---- names
+
+pub index_tells : {T : Type 0} → TellsApart {T = T} Index
+index_tells x y e = cc
+
+pub value_tells : {T : Type 0} → TellsApart {T = T} Value
+value_tells x y e = cc
+
+module _ {T V : Type 0} (named : V → Item T) (tells : TellsApart named) where
+  -- a list that begins so begins with these values
+  begins_with : (xs ys : List V) (zs : List (Item T)) → map named ys ≡ map named xs ++ zs → xs ≡ take (length xs) ys
+  begins_with [] ys zs e = refl
+  begins_with (x ∷ xs) [] zs e = absurd (cc)
+  begins_with (x ∷ xs) (y ∷ ys) zs e =
+      let more : map named ys ≡ map named xs ++ zs = cc in
+      let here : named y ≡ named x = cc in
+      ap (λ ws. x ∷ ws) (begins_with xs ys zs more) ∙ ap (λ w. w ∷ take (length xs) ys) (sym (tells y x here))
+
+  pub same_values : (xs ys : List V) → map named xs ≡ map named ys → xs ≡ ys
+  same_values [] [] e = refl
+  same_values [] (y ∷ ys) e = absurd (cc)
+  same_values (x ∷ xs) [] e = absurd (cc)
+  same_values (x ∷ xs) (y ∷ ys) e =
+      let more : map named xs ≡ map named ys = cc in
+      let here : named x ≡ named y = cc in
+      ap (λ ws. x ∷ ws) (same_values xs ys more) ∙ ap (λ w. w ∷ ys) (tells x y here)
+
+-- ---- two passes are joined
+
+-- of passes that began with nothing, one of which sent, and the other received
+pub both_passed : {T V : Type 0} (named : V → Item T) (sent received : List V) (left right a b z : View T) → IsAll z.share → MissesNothing z
+    → (left.seen ≡ []) × (left.made ≡ []) → (right.seen ≡ []) × (right.made ≡ []) → HasSent named sent left a → HasReceived named received right b
+    → ((f : Event T → ℕ) → sum_by f z.made ≡ sum_by f a.made + sum_by f b.made) → IsBeginning a.seen z.seen → IsBeginning b.seen z.seen
+    → HasPassed named sent received z
+both_passed {T} named sent received left right a b z whole all mine theirs s r both ours others =
+    let counted = whole_counted z whole all in
+    let none : (f : Event T → ℕ) → (sum_by f left.made ≡ 0) × (sum_by f right.made ≡ 0) = λ f. (ap (sum_by f) mine.1, ap (sum_by f) theirs.1) in
+    let put = none puts in
+    let got = none gets in
+    let put_both = both puts in
+    let got_both = both gets in
+    record {
+      whole = whole;
+      all = all;
+      published_these =
+          only_these publishes named sent (length sent) 0 left a z.seen (ap published mine.0) s ours
+          (let n = counted.0 in let p = put.0 in let q = put.1 in let x = s.done.puts_more in let y = r.done.puts_more in omega arith);
+      taken_these =
+          only_these hands_out named received 0 (length received) right b z.seen (ap handed_out theirs.0) r others
+          (let n = counted.1 in let p = got.0 in let q = got.1 in let x = s.done.gets_more in let y = r.done.gets_more in omega arith);
+    }
+
+-- of the two halves of a first pass
+pub passed : {T V : Type 0} {named : V → Item T} {sent received : List V} {n : ℕ} {first left right a b z : View T}
+    → first ≡ first_view n → HasSplit first left right → HasSent named sent left a → HasReceived named received right b
+    → HasJoined a b z → MissesNothing z → HasPassed named sent received z
+passed {T} {V} {named} {sent} {received} {n} {first} {left} {right} {a} {b} {z} opens cut s r h none =
+    both_passed named sent received left right a b z whole none
+    (cut.seen ∙ ap (λ (t : View T). t.seen) opens, cut.made ∙ ap (λ (t : View T). t.made) opens)
+    (cut.right_seen ∙ ap (λ (t : View T). t.seen) opens, cut.right_made) s r
+    (λ f. ap (sum_by f) h.made ∙ sum_by-append f a.made b.made) h.ours h.others
+  where
+    whole : IsAll z.share
+    whole =
+        let start : first.share ≡ all_shares = ap (λ (t : View T). t.share) opens in
+        subst IsAll (sym (h.share ∙ ap (λ (t : Share × Share). both_of t.0 t.1) (λ i. (
+          (s.share ∙ (cut.share ∙ ap half_of start)) i,
+          (r.share ∙ (cut.right_share ∙ ap half_of start)) i,
+        )))) refl
+
+-- ---- what the whole says
+
+module _ {T V : Type 0} {named : V → Item T} {sent received : List V} {v : View T} where
+  -- what came is a beginning of what was sent
+  book : (code : Coding T) (kind : QueueKind) (capacity : ℕ) → IsHistory code (machine_kind kind) capacity v.seen
+      → HasPassed named sent received v → map named sent ≡ map named received ++ waiting v.seen
+  book code kind capacity history k =
+      sym k.published_these
+      ∙ ((listed_always code capacity v.seen kind history v.seen [] (sym (append-nil v.seen))).book
+      ∙ ap (λ ys. ys ++ waiting v.seen) k.taken_these)
+
+  pub in_order : (code : Coding T) (kind : QueueKind) (capacity : ℕ) → TellsApart named → IsHistory code (machine_kind kind) capacity v.seen
+      → HasPassed named sent received v → received ≡ take (length received) sent
+  in_order code kind capacity tells history k = begins_with named tells received sent (waiting v.seen) (book code kind capacity history k)
+
+  -- and no more is left than the queue has room for
+  pub few_left : (code : Coding T) (kind : QueueKind) (capacity : ℕ) → IsBounded kind → IsHistory code (machine_kind kind) capacity v.seen
+      → HasPassed named sent received v → length sent ≤ length received + capacity
+  few_left code kind capacity bounded history k =
+      let most = (sound code kind capacity v bounded history).few v.seen [] (sym (append-nil v.seen)) in
+      let long = ap length (book code kind capacity history k) in
+      let one = length-append (map named received) (waiting v.seen) in
+      let two = length_named named received in
+      let three = length_named named sent in
+      omega arith
+
+  -- a queue that is closed has the rest
+  pub rest_waits : (capacity : ℕ) (q : Bounded V) → TellsApart named → HasPassed named sent received v → Closes named capacity v q → sent ≡ received ++ q.values
+  rest_waits capacity q tells k closed =
+      same_values named tells sent (received ++ q.values)
+      (sym k.published_these
+      ∙ ((closed.whole k.whole).1
+      ∙ (ap (λ ys. ys ++ map named q.values) k.taken_these ∙ sym (map-append named received q.values))))
+
+-- ---- calls of who has the whole share
+
+module _ {T V : Type 0} {named : V → Item T} {sent received : List V} {v w : View T} (code : Coding T) where
+  -- taking a role changes nothing
+  pub still_passed : (kind : Kind) (capacity : ℕ) {role : Role} → HasPassed named sent received v → Goes code kind capacity v w
+      → HasAcquired role true v w → HasPassed named sent received w
+  still_passed kind capacity k goes h =
+      record {
+        whole = subst IsAll (sym goes.share) k.whole;
+        all = goes.all;
+        published_these = nothing_more publishes code kind capacity v w _ k.whole k.all goes h.called.made refl ∙ k.published_these;
+        taken_these = nothing_more hands_out code kind capacity v w _ k.whole k.all goes h.called.made refl ∙ k.taken_these;
+      }
+
+  -- a pop takes out one more
+  pub one_passed : (kind : Kind) (capacity : ℕ) (value : V) → HasPassed named sent received v → Goes code kind capacity v w
+      → HasPopped (Some (named value)) v w → HasTakenOut (named value) v w → HasPassed named sent (received ++ value ∷ []) w
+  one_passed kind capacity value k goes h took =
+      record {
+        whole = subst IsAll (sym goes.share) k.whole;
+        all = goes.all;
+        published_these = nothing_more publishes code kind capacity v w _ k.whole k.all goes h.called.made refl ∙ k.published_these;
+        taken_these = took.list ∙ (ap (λ ys. ys ++ named value ∷ []) k.taken_these ∙ sym (map-append named received (value ∷ [])));
+      }
+
+  -- and where it finds none, all came
+  pub all_passed : (kind : QueueKind) (capacity : ℕ) → TellsApart named → HasPassed named sent received v → Goes code (machine_kind kind) capacity v w
+      → HasPopped None v w → received ≡ sent
+  all_passed kind capacity tells k goes h =
+      let it = all_taken code kind capacity v w k.whole k.all goes h in
+      let still = nothing_more hands_out code (machine_kind kind) capacity v w _ k.whole k.all goes h.called.made refl in
+      same_values named tells received sent (sym k.taken_these ∙ (sym still ∙ (it.1 ∙ (it.0 ∙ k.published_these))))
+
+-- by what the pop answered: it finds none just where all came
+pub emptied_is_all : {T V : Type 0} {named : V → Item T} {sent received : List V} {v w : View T} (code : Coding T) (kind : QueueKind) (capacity : ℕ)
+    → TellsApart named → HasPassed named sent received v → Goes code (machine_kind kind) capacity v w → (answer : Option V) (none : Bool)
+    → HasPopped (option_map named answer) v w → IfSome answer (λ x. HasTakenOut (named x) v w) → is_some answer ≡ not none
+    → (none ≡ true) ↔ (received ≡ sent)
+emptied_is_all code kind capacity tells k goes None true h took is = (λ t. all_passed code kind capacity tells k goes h, λ e. refl)
+emptied_is_all code kind capacity tells k goes None false h took is = absurd (true≢false (sym is))
+emptied_is_all code kind capacity tells k goes (Some x) true h took is = absurd (true≢false is)
+emptied_is_all {T} {V} {named} {sent} {received} {v} {w} code kind capacity tells k goes (Some x) false h took is =
+    let more : HasPassed named sent (received ++ x ∷ []) w = one_passed code (machine_kind kind) capacity x k goes h took in
+    let whole = ap length (book code kind capacity goes.history more) in
+    let one = length-append (map named (received ++ x ∷ [])) (waiting w.seen) in
+    let two = length_named named (received ++ x ∷ []) in
+    let three = length_named named sent in
+    let four = length-append received (x ∷ []) in
+    (λ t. absurd (true≢false (sym t)), λ e. (let same = ap length e in absurd (omega arith)))
+
+-- ---- calls that succeed
+
+not_full : {T : Type 0} (capacity : ℕ) (item : Item T) (old new : View T) → length (waiting old.seen) < capacity
+    → length (published old.seen) < 2 ^ 64 - 1 → WasFull capacity item old new ⊎ WasAtEnd old new → ⊥
+not_full capacity item old new room early (inl f) =
+    let more = hits_grow hands_out old.seen f.before f.since in
+    let was = length-drop (length (handed_out old.seen)) (published old.seen) in
+    let now = length-drop (length (handed_out f.before)) (published f.before) in
+    let same = ap length f.next in
+    let full = f.full in
+    omega arith
+not_full capacity item old new room early (inr e) = (let same = ap length e.list in let end = e.end in omega arith)
+
+-- a push succeeds where fewer were seen to wait than the queue has room for
+pub push_succeeds : {T : Type 0} {capacity : ℕ} {item : Item T} {old new : View T} (taken : Bool) → length (waiting old.seen) < capacity
+    → length (published old.seen) < 2 ^ 64 - 1 → (taken ≡ false → WasFull capacity item old new ⊎ WasAtEnd old new) → taken ≡ true
+push_succeeds true room early full = refl
+push_succeeds {T} {capacity} {item} {old} {new} false room early full = absurd (not_full capacity item old new room early (full refl))
+
+-- with the whole share, where it has pushed less than it popped and the queue has room for
+pub counted_push_succeeds : {T : Type 0} {item : Item T} {old new : View T} (code : Coding T) (kind : QueueKind) (capacity : ℕ) (taken : Bool)
+    → IsHistory code (machine_kind kind) capacity old.seen → IsAll old.share → MissesNothing old
+    → sum_by puts old.made < sum_by gets old.made + capacity → sum_by puts old.made < 2 ^ 64 - 1
+    → (taken ≡ false → WasFull capacity item old new ⊎ WasAtEnd old new) → taken ≡ true
+counted_push_succeeds {T} {item} {old} {new} code kind capacity taken history whole all room early full =
+    let counted = whole_counted old whole all in
+    let long = ap length (listed_always code capacity old.seen kind history old.seen [] (sym (append-nil old.seen))).book in
+    let both = length-append (handed_out old.seen) (waiting old.seen) in
+    let p = counted.0 in
+    let q = counted.1 in
+    push_succeeds {capacity = capacity} {item = item} {old = old} {new = new} taken (omega arith) (omega arith) full
+
+none_waited : {T : Type 0} (old new : View T) → 0 < length (waiting old.seen) → WasEmpty old new → ⊥
+none_waited old new some h =
+    let more = hits_grow publishes old.seen h.before h.since in
+    let was = length-drop (length (handed_out old.seen)) (published old.seen) in
+    let now = length-drop (length (handed_out h.before)) (published h.before) in
+    let same = ap length h.next in
+    let empty = ap length h.empty in
+    omega arith
+
+-- a pop succeeds where something was seen to wait
+pub pop_succeeds : {T V : Type 0} (old new : View T) (answer : Option V) → 0 < length (waiting old.seen) → IfNone answer (WasEmpty old new) → is_some answer ≡ true
+pop_succeeds old new None some empty = absurd (none_waited old new some empty)
+pop_succeeds old new (Some x) some empty = refl

@@ -1,0 +1,259 @@
+-- For clients that pass values from one thread to another: each call of a guard, and what the two threads come to.
+use Rattle.lock_free_queues.proofs.Names.{◌≡◌, ◌⊎◌, inl, inr, ℕ, ◌+◌, ◌<◌, ◌≤◌, Bool, true, false, Option, Some, None}
+use Rattle.lock_free_queues.proofs.Names.{List, [], ◌∷◌, ◌++◌, length, map, get_or, take, refl, sym, ap, subst, ◌∙◌, arith}
+use Rattle.lock_free_queues.proofs.Names.{append-nil, append_assoc, Role, Item, Kind, QueueKind, Coding, machine_kind}
+use Rattle.lock_free_queues.proofs.Names.{published, handed_out, Goes, IsHistory, MissesNothing, first_view, option_map, IfSome, IfNone}
+use Rattle.std.proofs.Common.{length-append, true≢false}
+use Rattle.std.proofs.lemmas.List.{take_all, take_more}
+use Rattle.std.specs.Prelude.{is_some, not}
+use mathlib.Core.List.{map-append}
+use Rattle.steps.specs.declared.words.Words.{Ghosts}
+use Rattle.steps.specs.Objects.Lists.{Bounded}
+use Rattle.history.specs.declared.view.View.{View}
+use Rattle.lock_free_queues.specs.declared.spsc.ring.rule.Kind as kinds
+use Rattle.lock_free_queues.specs.declared.spsc.ring.Pass.{Pass}
+use Rattle.lock_free_queues.specs.declared.spsc.ring.Producer.{Producer}
+use Rattle.lock_free_queues.specs.declared.spsc.ring.Consumer.{Consumer}
+use Rattle.lock_free_queues.specs.Queues.Bounded.{IsBounded}
+use Rattle.lock_free_queues.specs.Queues.Closes.{Closes}
+use Rattle.lock_free_queues.specs.Queues.Relays.{Sending, Receiving, Sent, Received, IsRelayed}
+use Rattle.lock_free_queues.specs.Queues.Rings.{queue_of, view, producer_queue, producer_view, consumer_queue, consumer_view}
+use Rattle.lock_free_queues.specs.Queues.Sent.{HasSent, HasReceived, HasPassed, TellsApart}
+use Rattle.lock_free_queues.specs.Queues.Told.{HasPushed, HasPublished, WasAtEnd, WasFull, HasPopped, HasTakenOut, WasEmpty}
+use Rattle.lock_free_queues.specs.Queues.Told.{HasAcquired, HasReleased, HasSplit, HasJoined}
+use Rattle.lock_free_queues.proofs.Queues.Passed.{passed, in_order, few_left, rest_waits, still_passed, emptied_is_all}
+use Rattle.lock_free_queues.proofs.Queues.Sent.{sent_none, received_none}
+use Rattle.lock_free_queues.proofs.Queues.Sums.{done_pushed, done_refused, done_popped, done_none, done_released}
+
+-- ---- a list that grows by one
+
+module _ {T V : Type 0} (named : V → Item T) (start : List (Item T)) (values : List V) (value : V) where
+  grown : (was now : List (Item T)) → was ≡ start ++ map named values → now ≡ was ++ named value ∷ []
+      → now ≡ start ++ map named (values ++ value ∷ [])
+  grown was now list more =
+      more
+      ∙ (ap (λ ys. ys ++ named value ∷ []) list
+      ∙ (append_assoc start (map named values) (named value ∷ []) ∙ ap (λ ys. start ++ ys) (sym (map-append named values (value ∷ [])))))
+
+  one_more : length (values ++ value ∷ []) ≡ length values + 1
+  one_more = length-append values (value ∷ [])
+
+taken_push : {T : Type 0} (item : Item T) (taken : Bool) (was now : View T) → taken ≡ true
+    → HasPushed item taken was now ⊎ (taken ≡ false) × WasAtEnd was now → HasPushed item true was now
+taken_push item taken was now is (inl h) = subst (λ t. HasPushed item t was now) is h
+taken_push item taken was now is (inr h) = absurd (true≢false (sym is ∙ h.0))
+
+same_list : {T : Type 0} (capacity : ℕ) (item : Item T) (was now : View T) → WasFull capacity item was now ⊎ WasAtEnd was now
+    → published now.seen ≡ published was.seen
+same_list capacity item was now (inl h) = h.list
+same_list capacity item was now (inr h) = h.list
+
+module _ {E T V : Type 0} {kind : kinds.Ghosts E} {words : Ghosts T} {named : V → Item T} where
+  -- nothing since it was itself
+  pub sending_none : {first : Producer E T kind words} {values : List V} → values ≡ [] → Sending named first values first
+  sending_none {first} {values} none =
+      subst (λ xs. Sending named first xs first) (sym none)
+      (record {
+        queue = refl;
+        list = sym (append-nil (published (producer_view first).seen));
+        puts_more = omega arith;
+        gets_more = refl;
+        share = refl;
+      })
+
+  pub receiving_none : {first : Consumer E T kind words} {values : List V} → values ≡ [] → Receiving named first values first
+  receiving_none {first} {values} none =
+      subst (λ xs. Receiving named first xs first) (sym none)
+      (record {
+        queue = refl;
+        list = sym (append-nil (handed_out (consumer_view first).seen));
+        puts_more = refl;
+        gets_more = omega arith;
+        share = refl;
+      })
+
+module _ {E T V : Type 0} {kind : kinds.Ghosts E} {words : Ghosts T} {named : V → Item T} {code : Coding T} {machine : Kind} where
+  -- ---- who pushes
+
+  pub sending_one : {first was now : Producer E T kind words} {capacity : ℕ} {taken : Bool} (values : List V) (value : V)
+      → Sending named first values was → producer_queue now ≡ producer_queue was → Goes code machine capacity (producer_view was) (producer_view now)
+      → taken ≡ true → HasPushed (named value) taken (producer_view was) (producer_view now) ⊎ (taken ≡ false) × WasAtEnd (producer_view was) (producer_view now)
+      → (taken ≡ true → HasPublished (named value) (producer_view was) (producer_view now)) → Sending named first (values ++ value ∷ []) now
+  sending_one {first} {was} {now} {capacity} {taken} values value s queue goes is h p =
+      let d = done_pushed (producer_view was) (producer_view now) (named value) (taken_push (named value) taken _ _ is h) in
+      let one = one_more named [] values value in
+      record {
+        queue = queue ∙ s.queue;
+        list = grown named (published (producer_view first).seen) values value _ _ s.list (p is).list;
+        puts_more = (let a = d.puts_more in let b = s.puts_more in omega arith);
+        gets_more = (let a = d.gets_more in let b = s.gets_more in omega arith);
+        share = goes.share ∙ s.share;
+      }
+
+  -- the next one of a list
+  pub sending_next : {first was now : Producer E T kind words} {capacity : ℕ} {taken : Bool} (all : List V) (n : ℕ) (default : V)
+      → Sending named first (take n all) was → n < length all → producer_queue now ≡ producer_queue was
+      → Goes code machine capacity (producer_view was) (producer_view now) → taken ≡ true
+      → HasPushed (named (get_or all n default)) taken (producer_view was) (producer_view now) ⊎ (taken ≡ false) × WasAtEnd (producer_view was) (producer_view now)
+      → (taken ≡ true → HasPublished (named (get_or all n default)) (producer_view was) (producer_view now)) → Sending named first (take (n + 1) all) now
+  sending_next {first} {was} {now} {capacity} {taken} all n default s below queue goes is h p =
+      subst (λ xs. Sending named first xs now) (sym (take_more all n default below))
+      (sending_one {first = first} {was = was} {now = now} {taken = taken} (take n all) (get_or all n default) s queue goes is h p)
+
+  -- a push that was refused
+  pub sending_still : {first was now : Producer E T kind words} {capacity room : ℕ} {taken : Bool} {values : List V} {item : Item T}
+      → Sending named first values was → producer_queue now ≡ producer_queue was → Goes code machine capacity (producer_view was) (producer_view now)
+      → taken ≡ false → HasPushed item taken (producer_view was) (producer_view now) ⊎ (taken ≡ false) × WasAtEnd (producer_view was) (producer_view now)
+      → (taken ≡ false → WasFull room item (producer_view was) (producer_view now) ⊎ WasAtEnd (producer_view was) (producer_view now))
+      → Sending named first values now
+  sending_still {first} {was} {now} {capacity} {room} {taken} {values} {item} s queue goes is h full =
+      let d = done_refused (producer_view was) (producer_view now) item taken is h in
+      record {
+        queue = queue ∙ s.queue;
+        list = same_list room item _ _ (full is) ∙ s.list;
+        puts_more = (let a = d.puts_more in let b = s.puts_more in omega arith);
+        gets_more = (let a = d.gets_more in let b = s.gets_more in omega arith);
+        share = goes.share ∙ s.share;
+      }
+
+  -- the role is given back once all are pushed
+  pub sent_all : {pass new : Pass E T kind words} {first last : Producer E T kind words} {capacity room : ℕ} {role : Role} (all : List V) (n : ℕ)
+      → (producer_queue first ≡ queue_of pass) × Goes code machine room (view pass) (producer_view first) × HasAcquired role true (view pass) (producer_view first)
+      → Sending named first (take n all) last → length all ≤ n → queue_of new ≡ producer_queue last → Goes code machine capacity (producer_view last) (view new)
+      → HasReleased role (producer_view last) (view new) → published (view new).seen ≡ published (producer_view last).seen → Sent named pass all new
+  sent_all {pass} {new} {first} {last} {capacity} {room} {role} all n acquired s past queue goes h is =
+      let start : HasSent named [] (view pass) (producer_view first) = sent_none {old = view pass} {new = producer_view first} acquired.1 acquired.2 in
+      let d = done_released (producer_view last) (view new) role h in
+      let whole : take n all ≡ all = take_all n all past in
+      let size = ap length whole in
+      record {
+        queue = queue ∙ (s.queue ∙ acquired.0);
+        sent =
+            record {
+              others = start.others;
+              list = is
+                  ∙ (s.list
+                  ∙ (ap (λ ys. ys ++ map named (take n all)) (start.list ∙ append-nil (published (view pass).seen ++ start.others))
+                  ∙ ap (λ xs. (published (view pass).seen ++ start.others) ++ map named xs) whole));
+              done =
+                  record {
+                    puts_more = (let a = d.puts_more in let b = s.puts_more in let c = start.done.puts_more in omega arith);
+                    gets_more = (let a = d.gets_more in let b = s.gets_more in let c = start.done.gets_more in omega arith);
+                  };
+              share = goes.share ∙ (s.share ∙ start.share);
+            };
+      }
+
+  -- ---- who pops
+
+  pub receiving_one : {first was now : Consumer E T kind words} {capacity : ℕ} {answer : Option V} (values more : List V) (value : V)
+      → Receiving named first values was → consumer_queue now ≡ consumer_queue was → Goes code machine capacity (consumer_view was) (consumer_view now)
+      → HasPopped (option_map named answer) (consumer_view was) (consumer_view now) → IfSome answer (λ x. HasTakenOut (named x) (consumer_view was) (consumer_view now))
+      → answer ≡ Some value → more ≡ values ++ value ∷ [] → Receiving named first more now
+  receiving_one {first} {was} {now} {capacity} {answer} values more value s queue goes h p some is =
+      let d = done_popped (consumer_view was) (consumer_view now) (named value)
+      (subst (λ o. HasPopped (option_map named o) (consumer_view was) (consumer_view now)) some h) in
+      let took : HasTakenOut (named value) (consumer_view was) (consumer_view now) =
+      subst (λ o. IfSome o (λ x. HasTakenOut (named x) (consumer_view was) (consumer_view now))) some p in
+      let one = one_more named [] values value in
+      subst (λ xs. Receiving named first xs now) (sym is)
+      (record {
+        queue = queue ∙ s.queue;
+        list = grown named (handed_out (consumer_view first).seen) values value _ _ s.list took.list;
+        puts_more = (let a = d.puts_more in let b = s.puts_more in omega arith);
+        gets_more = (let a = d.gets_more in let b = s.gets_more in omega arith);
+        share = goes.share ∙ s.share;
+      })
+
+  -- a pop that found none
+  pub receiving_still : {first was now : Consumer E T kind words} {capacity : ℕ} {answer : Option V} {values : List V}
+      → Receiving named first values was → consumer_queue now ≡ consumer_queue was → Goes code machine capacity (consumer_view was) (consumer_view now)
+      → HasPopped (option_map named answer) (consumer_view was) (consumer_view now) → IfNone answer (WasEmpty (consumer_view was) (consumer_view now))
+      → answer ≡ None → Receiving named first values now
+  receiving_still {first} {was} {now} {capacity} {answer} {values} s queue goes h empty none =
+      let d = done_none (consumer_view was) (consumer_view now)
+      (subst (λ o. HasPopped (option_map named o) (consumer_view was) (consumer_view now)) none h) in
+      let at : WasEmpty (consumer_view was) (consumer_view now) =
+      subst (λ o. IfNone o (WasEmpty (consumer_view was) (consumer_view now))) none empty in
+      record {
+        queue = queue ∙ s.queue;
+        list = at.list ∙ s.list;
+        puts_more = (let a = d.puts_more in let b = s.puts_more in omega arith);
+        gets_more = (let a = d.gets_more in let b = s.gets_more in omega arith);
+        share = goes.share ∙ s.share;
+      }
+
+  -- the role is given back
+  pub received_all : {pass new : Pass E T kind words} {first last : Consumer E T kind words} {capacity room : ℕ} {role : Role} {values : List V}
+      → (consumer_queue first ≡ queue_of pass) × Goes code machine room (view pass) (consumer_view first) × HasAcquired role true (view pass) (consumer_view first)
+      → Receiving named first values last → queue_of new ≡ consumer_queue last → Goes code machine capacity (consumer_view last) (view new)
+      → HasReleased role (consumer_view last) (view new) → handed_out (view new).seen ≡ handed_out (consumer_view last).seen → Received named pass values new
+  received_all {pass} {new} {first} {last} {capacity} {room} {role} {values} acquired s queue goes h is =
+      let start : HasReceived named [] (view pass) (consumer_view first) = received_none {old = view pass} {new = consumer_view first} refl acquired.1 acquired.2 in
+      let d = done_released (consumer_view last) (view new) role h in
+      record {
+        queue = queue ∙ (s.queue ∙ acquired.0);
+        received =
+            record {
+              others = start.others;
+              list = is
+                  ∙ (s.list ∙ ap (λ ys. ys ++ map named values) (start.list ∙ append-nil (handed_out (view pass).seen ++ start.others)));
+              done =
+                  record {
+                    puts_more = (let a = d.puts_more in let b = s.puts_more in let c = start.done.puts_more in omega arith);
+                    gets_more = (let a = d.gets_more in let b = s.gets_more in let c = start.done.gets_more in omega arith);
+                  };
+              share = goes.share ∙ (s.share ∙ start.share);
+            };
+      }
+
+-- ---- both joined, and one pop more
+
+pub views_relayed : {T V : Type 0} (named : V → Item T) (code : Coding T) (queue : QueueKind) (n room most : ℕ) (role : Role)
+    (first left right mine theirs joined taking last : View T) (sent received : List V) (answer : Option V) (emptied : Bool)
+    → TellsApart named → IsBounded queue → first ≡ first_view n → HasSplit first left right → HasSent named sent left mine
+    → HasReceived named received right theirs → HasJoined mine theirs joined → MissesNothing joined
+    → IsHistory code (machine_kind queue) n joined.seen → Goes code (machine_kind queue) room joined taking → HasAcquired role true joined taking
+    → Goes code (machine_kind queue) most taking last → HasPopped (option_map named answer) taking last
+    → IfSome answer (λ x. HasTakenOut (named x) taking last) → is_some answer ≡ not emptied → IsRelayed n sent received emptied
+views_relayed named code queue n room most role first left right mine theirs joined taking last sent received answer emptied
+    tells bounded opens cut s r h none history goes acquired pops popping took is =
+    let whole : HasPassed named sent received joined =
+    passed {named = named} {n = n} {first = first} {left = left} {right = right} {a = mine} {b = theirs} {z = joined} opens cut s r h none in
+    let taken : HasPassed named sent received taking =
+    still_passed {named = named} {v = joined} {w = taking} code (machine_kind queue) room {role = role} whole goes acquired in
+    record {
+      beginning = in_order {v = joined} code queue n tells history whole;
+      all = emptied_is_all {v = taking} {w = last} code queue most tells taken pops answer emptied popping took is;
+      few = few_left {v = joined} code queue n bounded history whole;
+    }
+
+module _ {E T V : Type 0} {kind : kinds.Ghosts E} {words : Ghosts T} {named : V → Item T} {code : Coding T} (queue : QueueKind) where
+  -- the same of passes and a consumer
+  pub relayed : (first left right mine theirs joined : Pass E T kind words) (taking last : Consumer E T kind words) {room capacity most : ℕ}
+      {sent received : List V} (answer : Option V) {emptied : Bool} {role : Role} (n : ℕ) → TellsApart named → IsBounded queue
+      → view first ≡ first_view n → HasSplit (view first) (view left) (view right) → Sent named left sent mine → Received named right received theirs
+      → HasJoined (view mine) (view theirs) (view joined) → MissesNothing (view joined)
+      → IsHistory code (machine_kind queue) capacity (view joined).seen → capacity ≡ n
+      → (consumer_queue taking ≡ queue_of joined) × Goes code (machine_kind queue) room (view joined) (consumer_view taking)
+      × HasAcquired role true (view joined) (consumer_view taking)
+      → Goes code (machine_kind queue) most (consumer_view taking) (consumer_view last)
+      → HasPopped (option_map named answer) (consumer_view taking) (consumer_view last)
+      → IfSome answer (λ x. HasTakenOut (named x) (consumer_view taking) (consumer_view last)) → is_some answer ≡ not emptied
+      → IsRelayed n sent received emptied
+  relayed first left right mine theirs joined taking last {room} {capacity} {most} {sent} {received} answer {emptied} {role}
+      n tells bounded opens cut s r h none history sized acquired pops popping took is =
+      views_relayed named code queue n room most role (view first) (view left) (view right) (view mine) (view theirs) (view joined)
+      (consumer_view taking) (consumer_view last) sent received answer emptied tells bounded opens cut s.sent r.received h none
+      (subst (λ m. IsHistory code (machine_kind queue) m (view joined).seen) sized history) acquired.1 acquired.2 pops popping took is
+
+module _ {E T V : Type 0} {kind : kinds.Ghosts E} {words : Ghosts T} {named : V → Item T} where
+  -- what a queue has that is closed then is the rest of what was sent
+  pub left_over : (first left right mine theirs joined : Pass E T kind words) {sent received : List V} (n : ℕ) (q : Bounded V)
+      → TellsApart named → view first ≡ first_view n → HasSplit (view first) (view left) (view right) → Sent named left sent mine
+      → Received named right received theirs → HasJoined (view mine) (view theirs) (view joined) → MissesNothing (view joined)
+      → Closes named n (view joined) q → sent ≡ received ++ q.values
+  left_over first left right mine theirs joined n q tells opens cut s r h none closed =
+      rest_waits {named = named} {v = view joined} n q tells
+      (passed {named = named} {n = n} {first = view first} {left = view left} {right = view right} {a = view mine} {b = view theirs} {z = view joined}
+      opens cut s.sent r.received h none) closed

@@ -1,0 +1,169 @@
+-- For clients: what each call adds to what a pass has sent and received.
+use Rattle.lock_free_queues.proofs.Names.{◌≡◌, ◌⊎◌, inl, inr, ℕ, ◌+◌, ◌<◌, ◌≤◌, Bool, true, false, Some, None, List, []}
+use Rattle.lock_free_queues.proofs.Names.{◌∷◌, ◌++◌, length, map, get_or, take, refl, sym, ap, subst, ◌∙◌, arith}
+use Rattle.lock_free_queues.proofs.Names.{append-nil, append_assoc, flat_map, flat_map-append, Role, Event, Item}
+use Rattle.lock_free_queues.proofs.Names.{Kind, Coding, publishes, hands_out, published, handed_out, View, IsBeginning, Goes}
+use Rattle.std.proofs.Common.{length-append, true≢false}
+use Rattle.std.proofs.lemmas.List.{take_all, take_more}
+use mathlib.Core.List.{map-append}
+use Rattle.lock_free_queues.specs.Queues.Sent.{HasAppended, HasSent, HasReceived}
+use Rattle.lock_free_queues.specs.Queues.Sums.{HasDone}
+use Rattle.lock_free_queues.specs.Queues.Told.{HasPushed, HasPublished, WasAtEnd, WasFull, HasPopped, HasTakenOut, WasEmpty}
+use Rattle.lock_free_queues.specs.Queues.Told.{HasAcquired, HasReleased}
+use Rattle.lock_free_queues.proofs.Queues.Sums.{done_pushed, done_refused, done_popped, done_none, done_acquired, done_released, done_then}
+
+-- ---- a list that grows
+
+none_there : {A : Type 0} (xs : List A) → length xs ≡ 0 → xs ≡ []
+none_there [] e = refl
+none_there (x ∷ xs) e = absurd (omega arith)
+
+pub length_named : {A B : Type 0} (named : A → B) (xs : List A) → length (map named xs) ≡ length xs
+length_named named [] = refl
+length_named named (x ∷ xs) = (let rest = length_named named xs in omega arith)
+
+module _ {T V : Type 0} (tells : Event T → List (Item T)) (named : V → Item T) where
+  pub appended_none : (v w : View T) → IsBeginning v.seen w.seen → w.share ≡ v.share → HasDone 0 0 v w → HasAppended tells named [] 0 0 v w
+  appended_none v w begins share done =
+      record {
+        others = flat_map tells begins.rest;
+        list =
+            ap (flat_map tells) begins.is
+            ∙ (flat_map-append tells v.seen begins.rest ∙ sym (append-nil (flat_map tells v.seen ++ flat_map tells begins.rest)));
+        done = done;
+        share = share;
+      }
+
+  module _ (xs : List V) (put got : ℕ) (v w u : View T) (k : HasAppended tells named xs put got v w) (share : u.share ≡ w.share) where
+    pub appended_more : (x : V) (p g : ℕ) → HasDone p g w u → flat_map tells u.seen ≡ flat_map tells w.seen ++ named x ∷ []
+        → HasAppended tells named (xs ++ x ∷ []) (put + p) (got + g) v u
+    appended_more x p g done is =
+        record {
+          others = k.others;
+          list = is
+              ∙ (ap (λ ys. ys ++ named x ∷ []) k.list
+              ∙ (append_assoc (flat_map tells v.seen ++ k.others) (map named xs) (named x ∷ [])
+              ∙ ap (λ ys. (flat_map tells v.seen ++ k.others) ++ ys) (sym (map-append named xs (x ∷ [])))));
+          done = done_then put got p g v w u k.done done;
+          share = share ∙ k.share;
+        }
+
+    pub appended_same : HasDone 0 0 w u → flat_map tells u.seen ≡ flat_map tells w.seen → HasAppended tells named xs put got v u
+    appended_same done is =
+        let a = k.done in
+        record {
+          others = k.others;
+          list = is ∙ k.list;
+          done =
+              record {
+                puts_more = (let p = a.puts_more in let q = done.puts_more in omega arith);
+                gets_more = (let p = a.gets_more in let q = done.gets_more in omega arith);
+              };
+          share = share ∙ k.share;
+        }
+
+  -- nothing else was told where the list is no longer
+  pub only_these : (xs : List V) (put got : ℕ) (v w : View T) (seen : List (Event T)) → flat_map tells v.seen ≡ []
+      → HasAppended tells named xs put got v w → IsBeginning w.seen seen → length (flat_map tells seen) ≡ length xs
+      → flat_map tells seen ≡ map named xs
+  only_these xs put got v w seen fresh k begins long =
+      let rest : List (Item T) = flat_map tells begins.rest in
+      let list : flat_map tells seen ≡ (k.others ++ map named xs) ++ rest =
+      ap (flat_map tells) begins.is
+      ∙ (flat_map-append tells w.seen begins.rest
+      ∙ ap (λ ys. ys ++ rest) (k.list ∙ ap (λ ys. (ys ++ k.others) ++ map named xs) fresh)) in
+      let size = ap length list in
+      let one = length-append (k.others ++ map named xs) rest in
+      let two = length-append k.others (map named xs) in
+      let same = length_named named xs in
+      let no_others : k.others ≡ [] = none_there k.others (omega arith) in
+      let no_rest : rest ≡ [] = none_there rest (omega arith) in
+      list ∙ (ap (λ ys. (k.others ++ map named xs) ++ ys) no_rest ∙ (append-nil (k.others ++ map named xs) ∙ ap (λ ys. ys ++ map named xs) no_others))
+
+-- ---- who pushes
+
+was_pushed : {T : Type 0} (item : Item T) (taken : Bool) (was new : View T) → taken ≡ true
+    → HasPushed item taken was new ⊎ (taken ≡ false) × WasAtEnd was new → HasPushed item true was new
+was_pushed item taken was new is (inl h) = subst (λ t. HasPushed item t was new) is h
+was_pushed item taken was new is (inr h) = absurd (true≢false (sym is ∙ h.0))
+
+none_published : {T : Type 0} (capacity : ℕ) (item : Item T) (was new : View T) → WasFull capacity item was new ⊎ WasAtEnd was new
+    → published new.seen ≡ published was.seen
+none_published capacity item was new (inl h) = h.list
+none_published capacity item was new (inr h) = h.list
+
+module _ {T V : Type 0} {code : Coding T} {kind : Kind} {capacity : ℕ} {named : V → Item T} where
+  pub sent_none : {role : Role} {old new : View T} → Goes code kind capacity old new → HasAcquired role true old new → HasSent named [] old new
+  sent_none {role} {old} {new} goes h = appended_none publishes named old new goes.since goes.share (done_acquired old new role true h)
+
+  pub sent_one : {old was new : View T} (values : List V) (value : V) (taken : Bool) → HasSent named values old was
+      → Goes code kind capacity was new → taken ≡ true
+      → HasPushed (named value) taken was new ⊎ (taken ≡ false) × WasAtEnd was new → HasPublished (named value) was new
+      → HasSent named (values ++ value ∷ []) old new
+  sent_one {old} {was} {new} values value taken k goes is h p =
+      subst (λ n. HasAppended publishes named (values ++ value ∷ []) n 0 old new) (sym (length-append values (value ∷ [])))
+      (appended_more publishes named values (length values) 0 old was new k goes.share value 1 0
+      (done_pushed was new (named value) (was_pushed (named value) taken was new is h)) p.list)
+
+  -- the next one of a list
+  pub sent_next : {old was new : View T} (all : List V) (n : ℕ) (default : V) (taken : Bool) → HasSent named (take n all) old was
+      → n < length all → Goes code kind capacity was new → taken ≡ true
+      → HasPushed (named (get_or all n default)) taken was new ⊎ (taken ≡ false) × WasAtEnd was new
+      → HasPublished (named (get_or all n default)) was new → HasSent named (take (n + 1) all) old new
+  sent_next {old} {was} {new} all n default taken k below goes is h p =
+      subst (λ xs. HasSent named xs old new) (sym (take_more all n default below))
+      (sent_one {old = old} {was = was} {new = new} (take n all) (get_or all n default) taken k goes is h p)
+
+  -- a push that was refused
+  pub sent_refused : {old was new : View T} {values : List V} {room : ℕ} {item : Item T} {taken : Bool} → HasSent named values old was
+      → Goes code kind capacity was new → taken ≡ false
+      → HasPushed item taken was new ⊎ (taken ≡ false) × WasAtEnd was new → WasFull room item was new ⊎ WasAtEnd was new
+      → HasSent named values old new
+  sent_refused {old} {was} {new} {values} {room} {item} {taken} k goes is h full =
+      appended_same publishes named values (length values) 0 old was new k goes.share (done_refused was new item taken is h)
+      (none_published room item was new full)
+
+  -- the role is given back
+  pub sent_done : {role : Role} {old was new : View T} {values : List V} → HasSent named values old was → Goes code kind capacity was new
+      → HasReleased role was new → published new.seen ≡ published was.seen → HasSent named values old new
+  sent_done {role} {old} {was} {new} {values} k goes h is =
+      appended_same publishes named values (length values) 0 old was new k goes.share (done_released was new role h) is
+
+  pub sent_all : {role : Role} {old was new : View T} (all : List V) (n : ℕ) → HasSent named (take n all) old was → length all ≤ n
+      → Goes code kind capacity was new → HasReleased role was new → published new.seen ≡ published was.seen → HasSent named all old new
+  sent_all {role} {old} {was} {new} all n k past goes h is =
+      subst (λ xs. HasSent named xs old new) (take_all n all past)
+      (sent_done {role = role} {old = old} {was = was} {new = new} {values = take n all} k goes h is)
+
+  -- ---- who pops
+
+  pub received_none : {role : Role} {old new : View T} {values : List V} → values ≡ [] → Goes code kind capacity old new
+      → HasAcquired role true old new → HasReceived named values old new
+  received_none {role} {old} {new} is goes h =
+      subst (λ xs. HasReceived named xs old new) (sym is)
+      (appended_none hands_out named old new goes.since goes.share (done_acquired old new role true h))
+
+  pub received_one : {old was new : View T} (values : List V) (value : V) → HasReceived named values old was → Goes code kind capacity was new
+      → HasPopped (Some (named value)) was new → HasTakenOut (named value) was new → HasReceived named (values ++ value ∷ []) old new
+  received_one {old} {was} {new} values value k goes h p =
+      subst (λ n. HasAppended hands_out named (values ++ value ∷ []) 0 n old new) (sym (length-append values (value ∷ [])))
+      (appended_more hands_out named values 0 (length values) old was new k goes.share value 0 1 (done_popped was new (named value) h) p.list)
+
+  -- a list that has it at its end
+  pub received_next : {old was new : View T} (values more : List V) (value : V) → HasReceived named values old was
+      → Goes code kind capacity was new → HasPopped (Some (named value)) was new → HasTakenOut (named value) was new
+      → more ≡ values ++ value ∷ [] → HasReceived named more old new
+  received_next {old} {was} {new} values more value k goes h p is =
+      subst (λ xs. HasReceived named xs old new) (sym is)
+      (received_one {old = old} {was = was} {new = new} values value k goes h p)
+
+  -- a pop that found none
+  pub received_still : {old was new : View T} {values : List V} → HasReceived named values old was → Goes code kind capacity was new
+      → HasPopped None was new → WasEmpty was new → HasReceived named values old new
+  received_still {old} {was} {new} {values} k goes h p =
+      appended_same hands_out named values 0 (length values) old was new k goes.share (done_none was new h) p.list
+
+  pub received_done : {role : Role} {old was new : View T} {values : List V} → HasReceived named values old was → Goes code kind capacity was new
+      → HasReleased role was new → handed_out new.seen ≡ handed_out was.seen → HasReceived named values old new
+  received_done {role} {old} {was} {new} {values} k goes h is =
+      appended_same hands_out named values 0 (length values) old was new k goes.share (done_released was new role h) is

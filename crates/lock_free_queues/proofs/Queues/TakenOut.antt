@@ -1,0 +1,354 @@
+-- For clients of the overflowing queue: what the calls of a pass took out, as the history grows, by pops and by pushes.
+use Rattle.std.proofs.Common.{◌≡◌, ◌⊎◌, inl, inr, ℕ, ◌+◌, ◌-◌, ◌^◌, ◌<◌, ◌≤◌, Bool, true, false, true≢false}
+use Rattle.std.proofs.Common.{if◌then◌else◌, List, [], ◌∷◌, ◌++◌, length, map, get_or, take, sym, refl, ap, subst, ◌∙◌}
+use Rattle.std.proofs.Common.{arith, append-nil, append_assoc, length-append, sum_by}
+use Rattle.std.specs.Prelude.{Some, None, Option}
+use Rattle.std.proofs.lemmas.List.{take_all, take_more}
+use mathlib.Core.List.{map-append}
+use Rattle.lock_free_queues.proofs.Names.{sum_by-append, one_word, Event, Published, HandedOut, Acted, Finished, events_by}
+use Rattle.lock_free_queues.proofs.Names.{View, IsBeginning, IsAll, Item, Index, Role, Queues, PushIndex, Pop, PoppedIndex}
+use Rattle.lock_free_queues.proofs.Names.{publishes, published, by_more}
+use Rattle.model.specs.declared.families.queues.QueueKind as kinds
+use Rattle.lock_free_queues.specs.Queues.Merges.{StandIn, by_pop, by_push, taken, TookOut, HasPushedAll, HasPushedUpTo}
+use Rattle.lock_free_queues.specs.Queues.Merges.{HasTaken, HasDrained}
+use Rattle.lock_free_queues.specs.Queues.Overflowing.{GoesOn, HasOverflowed, TookNone}
+use Rattle.lock_free_queues.specs.Queues.Sent.{HasAppended}
+use Rattle.lock_free_queues.specs.Queues.Sums.{puts, HasDone}
+use Rattle.lock_free_queues.specs.Queues.Told.{HasPublished, HasPopped, HasAcquired, HasReleased}
+use Rattle.lock_free_queues.proofs.Queues.Sent.{appended_none, appended_more, appended_same}
+use Rattle.lock_free_queues.proofs.Queues.Sums.{done_added, done_replaced, done_popped, done_none, done_acquired, done_released}
+use Rattle.lock_free_queues.proofs.Queues.Sums.{done_then, all_puts}
+use Rattle.lock_free_queues.proofs.Queues.Whole.{all_taken}
+use Rattle.lock_free_queues.proofs.Queues.Wrote.{find_own, first_wrote}
+
+-- the number as an item of a queue
+abbrev pub item : ℕ → Item ℕ
+item x = Index x
+
+-- ---- lists that stand in others
+
+module _ {A : Type 0} where
+  in_nothing : (zs ys : List A) → StandIn zs [] → StandIn zs ys
+  in_nothing [] ys h = tt
+  in_nothing (z ∷ zs) ys h = absurd h
+
+  in_longer : (zs : List A) (y : A) (ys : List A) → StandIn zs ys → StandIn zs (y ∷ ys)
+  in_longer [] y ys h = tt
+  in_longer (z ∷ zs) y ys h = inr h
+
+  pub no_longer : (zs ys : List A) → StandIn zs ys → length zs ≤ length ys
+  no_longer [] ys h = omega arith
+  no_longer (z ∷ zs) [] h = absurd h
+  no_longer (z ∷ zs) (y ∷ ys) (inl h) = let rest = no_longer zs ys h.1 in omega arith
+  no_longer (z ∷ zs) (y ∷ ys) (inr h) = let rest = no_longer (z ∷ zs) ys h in omega arith
+
+  -- a list in which as many stand is the same
+  pub same_list : (zs ys : List A) → StandIn zs ys → length ys ≤ length zs → zs ≡ ys
+  same_list [] [] h few = refl
+  same_list [] (y ∷ ys) h few = absurd (omega arith)
+  same_list (z ∷ zs) [] h few = absurd h
+  same_list (z ∷ zs) (y ∷ ys) (inl h) few = ap (λ xs. z ∷ xs) (same_list zs ys h.1 (omega arith)) ∙ ap (λ x. x ∷ ys) h.0
+  same_list (z ∷ zs) (y ∷ ys) (inr h) few = (let rest = no_longer (z ∷ zs) ys h in absurd (omega arith))
+
+-- ---- what was taken out, as the history grows
+
+module _ (by : List (Event ℕ) → Bool) (lasts : (xs ys : List (Event ℕ)) → by xs ≡ true → by (xs ++ ys) ≡ true) where
+  next_lasts : (p : ℕ) (es ys : List (Event ℕ)) → by (events_by p es) ≡ true → by (events_by p (es ++ ys)) ≡ true
+  next_lasts p es ys t = ap by (by_more p es ys) ∙ lasts (events_by p es) (events_by p ys) t
+
+  either : (b : Bool) (zs : List (Item ℕ)) (x : Item ℕ) (xs : List (Item ℕ)) → StandIn zs xs → StandIn zs (if b then x ∷ xs else xs)
+  either true zs x xs h = in_longer zs x xs h
+  either false zs x xs h = h
+
+  pub grows : (zs : List (Item ℕ)) (xs ys : List (Event ℕ)) → StandIn zs (taken by xs) → StandIn zs (taken by (xs ++ ys))
+  grows zs [] ys h = in_nothing zs (taken by ys) h
+  grows zs (HandedOut p x ∷ es) ys h = go (by (events_by p es)) refl (λ vs. grows vs es ys) h
+    where
+      here : (us : List (Item ℕ))
+          → ((vs : List (Item ℕ)) → StandIn vs (taken by es) → StandIn vs (taken by (es ++ ys)))
+          → StandIn us (x ∷ taken by es) → StandIn us (x ∷ taken by (es ++ ys))
+      here [] later k = tt
+      here (u ∷ us) later (inl k) = inl (k.0, later us k.1)
+      here (u ∷ us) later (inr k) = inr (later (u ∷ us) k)
+
+      go : (b : Bool) → by (events_by p es) ≡ b
+          → ((vs : List (Item ℕ)) → StandIn vs (taken by es) → StandIn vs (taken by (es ++ ys)))
+          → StandIn zs (if b then x ∷ taken by es else taken by es) → StandIn zs (taken by (HandedOut p x ∷ (es ++ ys)))
+      go true t later k = (let more = next_lasts p es ys t in rw more (here zs later k))
+      go false t later k = either (by (events_by p (es ++ ys))) zs x (taken by (es ++ ys)) (later zs k)
+  grows zs (e ∷ es) ys h = grows zs es ys h
+
+  -- one more that was taken out so stands behind them
+  one_more : (zs : List (Item ℕ)) (p : ℕ) (x : Item ℕ) (xs ys : List (Event ℕ)) → by (events_by p ys) ≡ true
+      → StandIn zs (taken by xs) → StandIn (zs ++ x ∷ []) (taken by (xs ++ HandedOut p x ∷ ys))
+  one_more [] p x [] ys t h = rw t (inl (refl, tt))
+  one_more (z ∷ zs) p x [] ys t h = absurd h
+  one_more zs p x (HandedOut q y ∷ es) ys t h = go (by (events_by q es)) refl (λ vs. one_more vs p x es ys t) h
+    where
+      rest : List (Event ℕ)
+      rest = es ++ HandedOut p x ∷ ys
+
+      here : (us : List (Item ℕ))
+          → ((vs : List (Item ℕ)) → StandIn vs (taken by es) → StandIn (vs ++ x ∷ []) (taken by rest))
+          → StandIn us (y ∷ taken by es) → StandIn (us ++ x ∷ []) (y ∷ taken by rest)
+      here [] later k = inr (later [] tt)
+      here (u ∷ us) later (inl k) = inl (k.0, later us k.1)
+      here (u ∷ us) later (inr k) = inr (later (u ∷ us) k)
+
+      go : (b : Bool) → by (events_by q es) ≡ b
+          → ((vs : List (Item ℕ)) → StandIn vs (taken by es) → StandIn (vs ++ x ∷ []) (taken by rest))
+          → StandIn zs (if b then y ∷ taken by es else taken by es)
+          → StandIn (zs ++ x ∷ []) (taken by (HandedOut q y ∷ rest))
+      go true s later k = (let more = next_lasts q es (HandedOut p x ∷ ys) s in rw more (here zs later k))
+      go false s later k = either (by (events_by q rest)) (zs ++ x ∷ []) y (taken by rest) (later zs k)
+  one_more zs p x (e ∷ es) ys t h = one_more zs p x es ys t h
+
+  took_none : (v w : View ℕ) → IsBeginning v.seen w.seen → TookOut by [] v w
+  took_none v w begins earlier h =
+      subst (λ es. StandIn (earlier ++ []) (taken by es)) (sym begins.is)
+      (subst (λ zs. StandIn zs (taken by (v.seen ++ begins.rest))) (sym (append-nil earlier)) (grows earlier v.seen begins.rest h))
+
+  took_same : (xs : List ℕ) (v w u : View ℕ) → TookOut by xs v w → IsBeginning w.seen u.seen → TookOut by xs v u
+  took_same xs v w u k begins earlier h =
+      subst (λ es. StandIn (earlier ++ map Index xs) (taken by es)) (sym begins.is)
+      (grows (earlier ++ map Index xs) w.seen begins.rest (k earlier h))
+
+  took_more : (xs : List ℕ) (x p : ℕ) (v w u : View ℕ) (before after : List (Event ℕ)) → TookOut by xs v w
+      → IsBeginning w.seen before → u.seen ≡ before ++ HandedOut p (Index x) ∷ after → by (events_by p after) ≡ true
+      → TookOut by (xs ++ x ∷ []) v u
+  took_more xs x p v w u before after k begins is t earlier h =
+      let there : StandIn (earlier ++ map Index xs) (taken by before) =
+      subst (λ es. StandIn (earlier ++ map Index xs) (taken by es)) (sym begins.is)
+      (grows (earlier ++ map Index xs) w.seen begins.rest (k earlier h)) in
+      let more : StandIn ((earlier ++ map Index xs) ++ item x ∷ []) (taken by (before ++ HandedOut p (Index x) ∷ after)) =
+      one_more (earlier ++ map Index xs) p (item x) before after t there in
+      let list : (earlier ++ map Index xs) ++ item x ∷ [] ≡ earlier ++ map Index (xs ++ x ∷ []) =
+      append_assoc earlier (map Index xs) (item x ∷ []) ∙ ap (λ zs. earlier ++ zs) (sym (map-append Index xs (x ∷ []))) in
+      subst (λ es. StandIn (earlier ++ map Index (xs ++ x ∷ [])) (taken by es)) (sym is)
+      (subst (λ zs. StandIn zs (taken by (before ++ HandedOut p (Index x) ∷ after))) list more)
+
+pub pop_lasts : (xs ys : List (Event ℕ)) → by_pop xs ≡ true → by_pop (xs ++ ys) ≡ true
+pop_lasts [] ys t = absurd (true≢false (sym t))
+pop_lasts (Acted p (Queues Pop) answer ∷ es) ys t = refl
+pop_lasts (e ∷ es) ys t = absurd (true≢false (sym t))
+
+pub push_lasts : (xs ys : List (Event ℕ)) → by_push xs ≡ true → by_push (xs ++ ys) ≡ true
+push_lasts [] ys t = absurd (true≢false (sym t))
+push_lasts (Acted p (Queues (PushIndex value)) answer ∷ es) ys t = refl
+push_lasts (e ∷ es) ys t = absurd (true≢false (sym t))
+
+-- ---- pops
+
+pub begins_on : {xs ys zs : List (Event ℕ)} → IsBeginning xs ys → IsBeginning ys zs → IsBeginning xs zs
+begins_on {xs} a b = record { rest = a.rest ++ b.rest; is = b.is ∙ (ap (λ es. es ++ b.rest) a.is ∙ append_assoc xs a.rest b.rest) }
+
+pop_wrote : (xs : List ℕ) (x : ℕ) (v w u : View ℕ) → TookOut by_pop xs v w → HasPopped (Some (Index x)) w u → TookOut by_pop (xs ++ x ∷ []) v u
+pop_wrote xs x v w u k h =
+    let p = h.by in
+    let at = first_wrote p (Queues Pop) (PoppedIndex x) (HandedOut p (Index x)) (Acted p (Queues Pop) (PoppedIndex x) ∷ []) w u h.called in
+    took_more by_pop pop_lasts xs x p v w u at.before at.after k at.since at.is (ap by_pop at.mine)
+
+pub takes_none : (c : ℕ) (role : Role) (v w : View ℕ) → GoesOn c v w → HasAcquired role true v w → HasTaken [] v w
+takes_none c role v w goes h =
+    record {
+      since = goes.since;
+      popped = took_none by_pop pop_lasts v w goes.since;
+      done = done_acquired v w role true h;
+      share = goes.share;
+      all = λ none. goes.all;
+    }
+
+pub takes_one : (c : ℕ) (xs : List ℕ) (x : ℕ) (v w u : View ℕ) → HasTaken xs v w → GoesOn c w u → HasPopped (Some (Index x)) w u → HasTaken (xs ++ x ∷ []) v u
+takes_one c xs x v w u k goes h =
+    record {
+      since = begins_on k.since goes.since;
+      popped = pop_wrote xs x v w u k.popped h;
+      done = subst (λ n. HasDone 0 n v u) (sym (length-append xs (x ∷ []))) (done_then 0 (length xs) 0 1 v w u k.done (done_popped w u (Index x) h));
+      share = goes.share ∙ k.share;
+      all = λ none. goes.all;
+    }
+
+same_done : (a b : ℕ) (v w u : View ℕ) → HasDone a b v w → HasDone 0 0 w u → HasDone a b v u
+same_done a b v w u x y =
+    record {
+      puts_more = (let p = x.puts_more in let q = y.puts_more in omega arith);
+      gets_more = (let p = x.gets_more in let q = y.gets_more in omega arith);
+    }
+
+takes_same : (c : ℕ) (xs : List ℕ) (v w u : View ℕ) → HasTaken xs v w → GoesOn c w u → HasDone 0 0 w u → HasTaken xs v u
+takes_same c xs v w u k goes done =
+    record {
+      since = begins_on k.since goes.since;
+      popped = took_same by_pop pop_lasts xs v w u k.popped goes.since;
+      done = same_done 0 (length xs) v w u k.done done;
+      share = goes.share ∙ k.share;
+      all = λ none. goes.all;
+    }
+
+pub takes_nothing : (c : ℕ) (xs : List ℕ) (v w u : View ℕ) → HasTaken xs v w → GoesOn c w u → HasPopped None w u → HasTaken xs v u
+takes_nothing c xs v w u k goes h = takes_same c xs v w u k goes (done_none w u h)
+
+pub takes_all : (c : ℕ) (xs : List ℕ) (role : Role) (v w u : View ℕ) → HasTaken xs v w → GoesOn c w u → HasReleased role w u → HasTaken xs v u
+takes_all c xs role v w u k goes h = takes_same c xs v w u k goes (done_released w u role h)
+
+pub takes_here : (v : View ℕ) → HasTaken [] v v
+takes_here v =
+    record {
+      since = record { rest = []; is = sym (append-nil v.seen) };
+      popped = took_none by_pop pop_lasts v v (record { rest = []; is = sym (append-nil v.seen) });
+      done = record { puts_more = omega arith; gets_more = omega arith };
+      share = refl;
+      all = λ none. none;
+    }
+
+pub drained : (c : ℕ) (old new more : List ℕ) (v w u : View ℕ) → new ≡ old ++ more → HasTaken more v w
+    → GoesOn c w u → HasPopped None w u → HasDrained old new v u
+drained c old new more v w u is k goes h =
+    record {
+      more = more;
+      numbers = is;
+      popped = takes_nothing c more v w u k goes h;
+      emptied = λ whole none. (let it = all_taken one_word kinds.TheVariants.Overflow c w u (subst IsAll (sym k.share) whole) (k.all none) goes h in it.1);
+    }
+
+-- ---- pushes
+
+push_wrote : (back : List ℕ) (value oldest : ℕ) (v w u : View ℕ) → TookOut by_push back v w
+    → HasOverflowed value (Some oldest) w u → TookOut by_push (back ++ oldest ∷ []) v u
+push_wrote back value oldest v w u k h =
+    let p = h.by in
+    let act : Event ℕ = Acted p (Queues (PushIndex value)) (PoppedIndex oldest) in
+    let last : Event ℕ = Finished p (Queues (PushIndex value)) (PoppedIndex oldest) in
+    let at = first_wrote p (Queues (PushIndex value)) (PoppedIndex oldest) (Published p (Index value)) (HandedOut p (Index oldest) ∷ act ∷ []) w u h.called in
+    let part = find_own p at.after (act ∷ last ∷ []) (HandedOut p (Index oldest)) at.mine in
+    let before : List (Event ℕ) = at.before ++ Published p (Index value) ∷ part.0 in
+    let is : u.seen ≡ before ++ HandedOut p (Index oldest) ∷ part.1 =
+    at.is ∙ (ap (λ es. at.before ++ Published p (Index value) ∷ es) part.2
+    ∙ sym (append_assoc at.before (Published p (Index value) ∷ part.0) (HandedOut p (Index oldest) ∷ part.1))) in
+    let since : IsBeginning w.seen before =
+    record {
+      rest = at.since.rest ++ Published p (Index value) ∷ part.0;
+      is =
+          ap (λ es. es ++ Published p (Index value) ∷ part.0) at.since.is
+          ∙ append_assoc w.seen at.since.rest (Published p (Index value) ∷ part.0);
+    } in
+    took_more by_push push_lasts back oldest p v w u before part.1 k since is (ap by_push part.4)
+
+-- what was published stays so
+pub seen_later : (v w : View ℕ) → IsBeginning v.seen w.seen → length (published v.seen) ≤ length (published w.seen)
+seen_later v w begins =
+    let a = all_puts v.seen in
+    let b = all_puts w.seen in
+    let all : sum_by puts w.seen ≡ sum_by puts (v.seen ++ begins.rest) = ap (sum_by puts) begins.is in
+    let both = sum_by-append puts v.seen begins.rest in
+    omega arith
+
+counted_as : (xs : List ℕ) (put got put' got' : ℕ) (v w : View ℕ) → put ≡ put' → got ≡ got'
+    → HasAppended publishes Index xs put got v w → HasAppended publishes Index xs put' got' v w
+counted_as xs put got put' got' v w p q k = subst (λ (t : ℕ × ℕ). HasAppended publishes Index xs t.0 t.1 v w) (λ i. (p i, q i)) k
+
+pub pushed_none : (c : ℕ) (all : List ℕ) (role : Role) (v w : View ℕ) → GoesOn c v w → HasAcquired role true v w → HasPushedUpTo (take 0 all) [] v w
+pushed_none c all role v w goes h =
+    let done = done_acquired v w role true h in
+    record {
+      few = (let p = done.puts_more in omega arith);
+      share = goes.share;
+      all = λ under. record { added = appended_none publishes Index v w goes.since goes.share done; returned = took_none by_push push_lasts v w goes.since };
+    }
+
+module _ (c : ℕ) (some : 0 < c) (xs back : List ℕ) (x : ℕ) (v w u : View ℕ) (k : HasPushedUpTo xs back v w) (goes : GoesOn c w u) where
+  long : length (xs ++ x ∷ []) ≡ length xs + 1
+  long = length-append xs (x ∷ [])
+
+  earlier : length (published u.seen) < 2 ^ 64 - 1 → HasPushedAll xs back v w
+  earlier under = k.all (let low = seen_later w u goes.since in omega arith)
+
+  pushes_one : HasOverflowed x None w u → HasPublished (Index x) w u → HasPushedUpTo (xs ++ x ∷ []) back v u
+  pushes_one h p =
+      let done = done_added w u x h in
+      record {
+        few = (let f = k.few in let d = done.puts_more in let l = long in omega arith);
+        share = goes.share ∙ k.share;
+        all = λ under. (let was = earlier under in
+            record {
+              added =
+                  counted_as (xs ++ x ∷ []) (length xs + 1) (length back + 0) (length (xs ++ x ∷ [])) (length back) v u
+                  (sym long) (omega arith)
+                  (appended_more publishes Index xs (length xs) (length back) v w u was.added goes.share x 1 0 done p.list);
+              returned = took_same by_push push_lasts back v w u was.returned goes.since;
+            });
+      }
+
+  replaces_one : (oldest : ℕ) → HasOverflowed x (Some oldest) w u → HasPublished (Index x) w u → HasPushedUpTo (xs ++ x ∷ []) (back ++ oldest ∷ []) v u
+  replaces_one oldest h p =
+      let done = done_replaced w u x oldest h in
+      record {
+        few = (let f = k.few in let d = done.puts_more in let l = long in omega arith);
+        share = goes.share ∙ k.share;
+        all = λ under. (let was = earlier under in
+            record {
+              added =
+                  counted_as (xs ++ x ∷ []) (length xs + 1) (length back + 1) (length (xs ++ x ∷ []))
+                  (length (back ++ oldest ∷ [])) v u (sym long) (sym (length-append back (oldest ∷ [])))
+                  (appended_more publishes Index xs (length xs) (length back) v w u was.added goes.share x 1 1 done p.list);
+              returned = push_wrote back x oldest v w u was.returned h;
+            });
+      }
+
+  -- at the last position nothing is said of the order
+  took_none_there : (back' : List ℕ) → TookNone c w u → HasPushedUpTo (xs ++ x ∷ []) back' v u
+  took_none_there back' (inl h) = (let none = h.0 in absurd (omega arith))
+  took_none_there back' (inr h) =
+      record {
+        few = (let f = k.few in let same = ap (sum_by puts) h.made in let l = long in omega arith);
+        share = goes.share ∙ k.share;
+        all = λ under. (let end = h.end in absurd (omega arith));
+      }
+
+  pub adds : HasOverflowed x None w u ⊎ (None ≡ Some x) × TookNone c w u → HasPublished (Index x) w u → HasPushedUpTo (xs ++ x ∷ []) back v u
+  adds (inl h) p = pushes_one h p
+  adds (inr h) p = took_none_there back h.1
+
+  pub returns_one : {Taken : Type 0} (y : ℕ) → HasOverflowed x (Some y) w u ⊎ (Some y ≡ Some x) × TookNone c w u
+      → HasPublished (Index x) w u × Taken ⊎ (y ≡ x) × TookNone c w u
+      → HasPushedUpTo (xs ++ x ∷ []) (back ++ y ∷ []) v u
+  returns_one y (inl h) (inl p) = replaces_one y h p.0
+  returns_one y (inl h) (inr p) = took_none_there (back ++ y ∷ []) p.1
+  returns_one y (inr h) p = took_none_there (back ++ y ∷ []) h.1
+
+module _ (c : ℕ) (some : 0 < c) (all : List ℕ) (n x : ℕ) (back : List ℕ) (v w u : View ℕ) (lt : n < length all)
+    (is : x ≡ get_or all n 0) (k : HasPushedUpTo (take n all) back v w) (goes : GoesOn c w u) where
+  longer : take n all ++ x ∷ [] ≡ take (n + 1) all
+  longer = ap (λ z. take n all ++ z ∷ []) is ∙ sym (take_more all n 0 lt)
+
+  pub pushes_next : (answer : Option ℕ) → answer ≡ None
+      → HasOverflowed x answer w u ⊎ (answer ≡ Some x) × TookNone c w u → HasPublished (Index x) w u
+      → HasPushedUpTo (take (n + 1) all) back v u
+  pushes_next answer none called p =
+      subst (λ xs. HasPushedUpTo xs back v u) longer
+      (adds c some (take n all) back x v w u k goes (subst (λ o. HasOverflowed x o w u ⊎ (o ≡ Some x) × TookNone c w u) none called) p)
+
+  pub returns_next : {Taken : Type 0} (answer : Option ℕ) (y : ℕ) → answer ≡ Some y
+      → HasOverflowed x answer w u ⊎ (answer ≡ Some x) × TookNone c w u
+      → HasPublished (Index x) w u × Taken ⊎ (y ≡ x) × TookNone c w u
+      → HasPushedUpTo (take (n + 1) all) (back ++ y ∷ []) v u
+  returns_next answer y one called p =
+      subst (λ xs. HasPushedUpTo xs (back ++ y ∷ []) v u) longer
+      (returns_one c some (take n all) back x v w u k goes y
+      (subst (λ o. HasOverflowed x o w u ⊎ (o ≡ Some x) × TookNone c w u) one called) p)
+
+pub pushed_all : (c : ℕ) (all : List ℕ) (n : ℕ) (back : List ℕ) (role : Role) (v w u : View ℕ) → length all ≤ n
+    → HasPushedUpTo (take n all) back v w → GoesOn c w u → HasReleased role w u → published u.seen ≡ published w.seen
+    → HasPushedUpTo all back v u
+pushed_all c all n back role v w u past k goes h is =
+    let done = done_released w u role h in
+    subst (λ xs. HasPushedUpTo xs back v u) (take_all n all past)
+    (record {
+      few = (let f = k.few in let d = done.puts_more in omega arith);
+      share = goes.share ∙ k.share;
+      all = λ under. (let was = k.all (let same = ap length is in omega arith) in
+          record {
+            added = appended_same publishes Index (take n all) (length (take n all)) (length back) v w u was.added goes.share done is;
+            returned = took_same by_push push_lasts back v w u was.returned goes.since;
+          });
+    })

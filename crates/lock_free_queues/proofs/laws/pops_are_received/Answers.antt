@@ -1,0 +1,19 @@
+use Rattle.lock_free_queues.proofs.Names.{refl, []}
+use Rattle.lock_free_queues.proofs.Queues.Sent.{received_none, received_one, received_still, received_done}
+use Rattle.lock_free_queues.proofs.laws.pops_are_received.Goals as goal
+
+pub returns-clause-acquired : goal.returns-clause-acquired
+returns-clause-acquired g c named code kind capacity role old new goes h =
+    received_none {code = code} {kind = kind} {capacity = capacity} {named = named} {role = role} {old = old} {new = new} {values = []} refl goes h
+
+pub returns-clause-popped : goal.returns-clause-popped
+returns-clause-popped g c named code kind capacity values value old was new got goes h p =
+    received_one {code = code} {kind = kind} {capacity = capacity} {named = named} {old = old} {was = was} {new = new} values value got goes h p
+
+pub returns-clause-none : goal.returns-clause-none
+returns-clause-none g c named code kind capacity values old was new got goes h p =
+    received_still {code = code} {kind = kind} {capacity = capacity} {named = named} {old = old} {was = was} {new = new} {values = values} got goes h p
+
+pub returns-clause-released : goal.returns-clause-released
+returns-clause-released g c named code kind capacity role values old was new got goes h is =
+    received_done {code = code} {kind = kind} {capacity = capacity} {named = named} {role = role} {old = old} {was = was} {new = new} {values = values} got goes h is
