@@ -139,7 +139,7 @@ fn looks<T: Numbered>(queue: &mut plain::Queue<T>, answer: &mut Answer) {
 impl<T: Numbered> Answers<QueueCall> for plain::Queue<T> {
     fn answer(&mut self, _rt: &impl Wait, call: QueueCall, answer: &mut Answer) {
         match call {
-            QueueCall::Push(number) => answer.truth(self.push(T::of_number(number))),
+            QueueCall::Push(number) => answer.truth(self.push(&T::of_number(number))),
             QueueCall::Pop => popped(self.pop(), answer),
             QueueCall::Len => answer.number(self.len() as u64),
             QueueCall::IsEmpty => answer.truth(self.is_empty()),

@@ -115,7 +115,7 @@ impl<'a> Answers<BitCall> for Handle<'a> {
             BitCall::Next => perhaps(self.reset_next(rt), answer),
             BitCall::All => {
                 answer.word("done");
-                self.reset_all(|place| answer.number(place as u64));
+                self.reset_all(&mut |place| answer.number(place as u64));
             }
             BitCall::Capacity => answer.number(self.capacity() as u64),
         }

@@ -119,7 +119,7 @@ impl<'a> Answers<CountCall> for Handle<'a> {
             }
             CountCall::All => {
                 answer.word("done");
-                self.reset_all(|state| says(state, answer));
+                self.reset_all(&mut |state| says(state, answer));
             }
             CountCall::Capacity => answer.number(self.capacity() as u64),
             CountCall::MaxCount => answer.number(CountingBitSet::max_count()),

@@ -1,11 +1,15 @@
-//! Closures that index an array, which a set's capacity allows.
+//! Closures that index an array, which a set's capacity allows; and closures that set places of the set that they hear
+//! of.
 ghost use Rattle.std.specs.Prelude.{◌≡◌};
 ghost use Rattle.lock_free.specs.RobustUniqueIndexSet.{capacity_of, IsPassOf};
 
+use lock_free::mpmc::bit_set::BitSet;
+use lock_free::mpmc::counting_bit_set::CountingBitSet;
 use lock_free::mpmc::robust_unique_index_set::{
     CallbackProgression, OwnerId, Pass, RobustUniqueIndexSet,
 };
 use lock_free::mpmc::unique_index_set_enums::ReleaseMode;
+use lock_free::mpmc::{bit_set, counting_bit_set};
 use std::sync::Wait;
 use std::test::Fail;
 
@@ -33,7 +37,7 @@ impl<'a> User<'a> {
     fn marks(&mut self, owner: OwnerId, marks: &mut [bool; 100]) -> usize {
         self.set.find(
             owner,
-            |index| {
+            &mut |index| {
                 marks[index] = true;
                 CallbackProgression::Continue
             },
@@ -47,8 +51,8 @@ impl<'a> User<'a> {
         self.set.recover(
             rt,
             ReleaseMode::Default,
-            |owner, index| owner == dead && !marks[index],
-            |_, _| freed = freed.wrapping_add(1),
+            &mut |owner, index| owner == dead && !marks[index],
+            &mut |_, _| freed = freed.wrapping_add(1),
             &mut self.pass,
         );
         freed
@@ -56,8 +60,11 @@ impl<'a> User<'a> {
 
     /// How many indices the owner has.
     fn finds(&mut self, owner: OwnerId) -> usize {
-        self.set
-            .find(owner, |_| CallbackProgression::Continue, &mut self.pass)
+        self.set.find(
+            owner,
+            &mut |_| CallbackProgression::Continue,
+            &mut self.pass,
+        )
     }
 }
 
@@ -87,5 +94,80 @@ fn closures_that_index(rt: HostRuntime) -> Result<(), Fail> {
     let (set, pass) = RobustUniqueIndexSet::new(rt.alloc(), 100)?;
     let mut user = User { set: &set, pass };
     assert!(rt; marks_and_frees(&rt, &mut user, &owners));
+    Ok(())
+}
+
+/// Sets a place of a bit set, where there is one.
+fn sets(rt: &impl Wait, handle: &mut bit_set::Handle<'_>, place: usize) -> bool {
+    place < handle.capacity() && handle.set(rt, place)
+}
+
+/// The places that a reset of all comes to, three digits each. At place 0 others are set: one of the same 64, which the
+/// call has passed, and one of the next.
+fn resets(
+    rt: &impl Wait,
+    handle: &mut bit_set::Handle<'_>,
+    other: &mut bit_set::Handle<'_>,
+) -> u64 {
+    let mut digits = 0u64;
+    handle.reset_all(&mut |place| {
+        digits = digits.wrapping_mul(1000).wrapping_add(place as u64);
+        if place == 0 {
+            sets(rt, other, 1);
+            sets(rt, other, 64);
+        }
+    });
+    digits
+}
+
+/// What is set behind the place is handed out by the same call, and what is set before it stands.
+#[test]
+fn a_closure_that_sets_places(rt: HostRuntime) -> Result<(), Fail> {
+    let (set, pass) = BitSet::new(rt.alloc(), 130)?;
+    let mut handle = set.handle(pass);
+    let mut other = handle.split().ok_or("no further handle")?;
+    assert!(rt; sets(&rt, &mut handle, 0) && sets(&rt, &mut handle, 128));
+    assert!(rt; resets(&rt, &mut handle, &mut other) == 64_128);
+    assert!(rt; handle.reset_next(&rt) == Some(1) && handle.reset_next(&rt).is_none());
+    Ok(())
+}
+
+/// Counts a place of a counting bit set, where there is one.
+fn counts(handle: &mut counting_bit_set::Handle<'_>, place: usize) {
+    if place < handle.capacity() {
+        handle.set(place);
+    }
+}
+
+/// The places and counts that a reset of all comes to, two digits each. At place 1 both others are counted.
+fn takes_out(
+    handle: &mut counting_bit_set::Handle<'_>,
+    other: &mut counting_bit_set::Handle<'_>,
+) -> u64 {
+    let mut digits = 0u64;
+    handle.reset_all(&mut |state| {
+        digits = digits
+            .wrapping_mul(10)
+            .wrapping_add(state.bit() as u64)
+            .wrapping_mul(10)
+            .wrapping_add(state.count());
+        if state.bit() == 1 {
+            counts(other, 0);
+            counts(other, 2);
+        }
+    });
+    digits
+}
+
+/// The same of counts.
+#[test]
+fn a_closure_that_counts_places(rt: HostRuntime) -> Result<(), Fail> {
+    let (set, pass) = CountingBitSet::new(rt.alloc(), 3)?;
+    let mut handle = set.handle(pass);
+    let mut other = handle.split().ok_or("no further handle")?;
+    counts(&mut handle, 1);
+    counts(&mut handle, 2);
+    assert!(rt; takes_out(&mut handle, &mut other) == 1122);
+    assert!(rt; takes_out(&mut handle, &mut other) == 1);
     Ok(())
 }

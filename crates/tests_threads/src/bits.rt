@@ -195,7 +195,7 @@ impl<'a> Places for BitUser<'a> {
 
     fn empty(&mut self, sums: &mut Sums) {
         self.set
-            .reset_all(|place| sums.add(place, 1), &mut self.pass);
+            .reset_all(&mut |place| sums.add(place, 1), &mut self.pass);
     }
 
     /// Resets places in both ways.
@@ -239,7 +239,10 @@ impl<'a> Places for CountUser<'a> {
     }
 
     fn empty(&mut self, sums: &mut Sums) {
-        self.set.reset_all(|state| sums.add(state.bit(), state.count()), &mut self.pass);
+        self.set.reset_all(
+            &mut |state| sums.add(state.bit(), state.count()),
+            &mut self.pass,
+        );
     }
 
     fn take(&mut self, _rt: &impl Wait, sums: &mut Sums) {

@@ -19,7 +19,7 @@ const CHANGES: u64 = 1000;
 
 const FINDS: u64 = 2000;
 
-const TURNS: u64 = 1_000_000;
+const TURNS: u64 = 10_000;
 
 /// Adds a pair, replaces it and removes it, many times.
 #[derive(Drop)]

@@ -1,6 +1,6 @@
 //! Owners that die again and again, and are recovered beside others.
 use crate::limit::{ENOUGH, Limit, SECONDS};
-use crate::tasks::{Task, User, another_turns, four_run};
+use crate::tasks::{Task, Turns, User, another_turns, four_run};
 use std::sync::Wait;
 use std::sync::atomic::{AtomicU64, Ordering};
 use std::thread::Threads;
@@ -46,6 +46,10 @@ impl Notice {
 
     fn tell(&self, dead: u64) {
         self.dead.store(dead, Ordering::SeqCst);
+    }
+
+    fn is_over(&self) -> bool {
+        self.dead.load(Ordering::SeqCst) == OVER
     }
 }
 
@@ -137,19 +141,51 @@ impl<'s, M: Mortal> Task for Buries<'s, M> {
     }
 }
 
-/// Whether all goes well as so many owners die and are recovered beside two who take so many things and give them back.
+/// Takes things and gives them back until nobody dies any more.
+#[derive(Drop)]
+struct Lives<'s, U: User> {
+    turns: Turns<U>,
+    notice: &'s Notice,
+}
+
+/// Whether each thing that it took was its own.
+impl<'s, U: User> Task for Lives<'s, U> {
+    fn run(mut self, rt: &(impl Wait + Clock)) -> bool {
+        let mut limit = Limit::new(rt, SECONDS);
+        let mut last = Limit::new(rt, SECONDS);
+        for at in 0..self.turns.number {
+            if self.turns.next(rt, at, &mut limit) != Some(true) {
+                return false;
+            }
+            if self.notice.is_over() {
+                return true;
+            }
+            if last.is_over(rt) {
+                return false;
+            }
+        }
+        false
+    }
+}
+
+/// Whether all goes well as so many owners die and are recovered beside two who take things and give them back.
 /// None where there are no further passes.
 pub fn deaths_beside<R: Wait + Threads + Clock + Sync, M: Mortal + Send>(
     rt: &R,
     user: &mut M,
     deaths: u64,
-    turns: u64,
 ) -> Option<bool> {
     let notice = Notice {
         dead: AtomicU64::new(0),
     };
-    let one = another_turns(user, 1, turns)?;
-    let two = another_turns(user, 2, turns)?;
+    let one = Lives {
+        turns: another_turns(user, 1, u64::MAX)?,
+        notice: &notice,
+    };
+    let two = Lives {
+        turns: another_turns(user, 2, u64::MAX)?,
+        notice: &notice,
+    };
     let dies = Dies {
         user: user.another(3)?,
         notice: &notice,

@@ -32,7 +32,7 @@ impl Hall {
     pub fn stay(&self, index: usize) -> bool {
         let others = self.inside.fetch_add(1, Ordering::SeqCst);
         let alone = if others == 0 {
-            self.holders.stay(index)
+            self.holders.stay(index, true)
         } else {
             self.holders.enter(index) & self.holders.leave(index)
         };

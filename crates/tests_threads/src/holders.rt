@@ -37,10 +37,12 @@ impl Holders {
         self.swaps(index, 0)
     }
 
-    /// Whether nobody else has this index for a while.
-    pub fn stay(&self, index: usize) -> bool {
+    /// Whether nobody else has this index for a while, in which it lets others run where it rests.
+    pub fn stay(&self, index: usize, rests: bool) -> bool {
         let entered = self.enter(index);
-        thread::yield_now();
+        if rests {
+            thread::yield_now();
+        }
         entered & self.leave(index)
     }
 }

@@ -1,4 +1,5 @@
-//! Threads that run side by side, on what they share: each gives up, and its test fails, after half a minute.
+//! Threads that run side by side, on what they share: each gives up, and its test fails, after half a minute. And further
+//! handles of each structure, for as many threads.
 #![tactic(auto)]
 
 #[cfg(test)]
@@ -15,6 +16,8 @@ mod ends;
 mod hall;
 #[cfg(test)]
 mod holders;
+#[cfg(test)]
+mod inside;
 #[cfg(test)]
 mod last;
 #[cfg(test)]
@@ -37,6 +40,10 @@ mod pairs;
 mod queues;
 #[cfg(test)]
 mod roles;
+#[cfg(test)]
+mod slow;
+#[cfg(test)]
+mod splits;
 #[cfg(test)]
 mod tasks;
 #[cfg(test)]

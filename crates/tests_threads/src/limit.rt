@@ -53,6 +53,42 @@ impl Limit {
     }
 }
 
+/// What one thread tells others, once.
+#[derive(Drop)]
+pub struct Flag {
+    word: AtomicU64,
+}
+
+impl Flag {
+    pub fn new() -> Flag {
+        Flag {
+            word: AtomicU64::new(0),
+        }
+    }
+
+    pub fn raise(&self) {
+        self.word.store(1, Ordering::SeqCst);
+    }
+
+    pub fn is_raised(&self) -> bool {
+        self.word.load(Ordering::SeqCst) == 1
+    }
+
+    /// Waits until it is raised. False at the limit.
+    pub fn wait(&self, rt: &impl Clock) -> bool {
+        let mut limit = Limit::new(rt, SECONDS);
+        for _ in 0..u64::MAX {
+            if self.is_raised() {
+                return true;
+            }
+            if !limit.waits(rt) {
+                return false;
+            }
+        }
+        false
+    }
+}
+
 /// Where threads wait until so many have come.
 #[derive(Drop)]
 pub struct Meeting {

@@ -1,5 +1,7 @@
-//! Queues between threads whose calls are written down, each with the time before and after it: as if one after another.
+//! Queues between threads whose calls are written down, each with the time before and after it: as if one after another,
+//! though many of them overlap.
 use crate::ends::{Gives, Length, Takes};
+use crate::limit::Meeting;
 use crate::log::{Calls, Log, now};
 use crate::tasks::{Task, three_run};
 use std::alloc::Global;
@@ -10,13 +12,69 @@ use std::thread;
 use std::thread::Threads;
 use std::time::Clock;
 
-/// How many calls each thread makes.
+/// How many calls each thread makes in a round.
 const CALLS: usize = 10_000;
 
-/// Lets another thread run, at some of the calls.
-fn rests(at: usize, every: usize) {
-    if every != 0 && at % every == 0 {
-        thread::yield_now();
+/// How many pairs of calls have to overlap, and in how many rounds at most.
+pub const OVERLAPS: u64 = 500;
+
+pub const ROUNDS: u64 = 20;
+
+/// What has come of the rounds so far, each of a new queue.
+#[derive(Clone, Copy)]
+pub struct Rounds {
+    number: u64,
+    /// Whether the calls of each round can have come one after another.
+    pub are_in_turn: bool,
+    /// How many pairs of calls overlapped.
+    pub overlaps: u64,
+}
+
+impl Rounds {
+    pub fn new() -> Rounds {
+        Rounds {
+            number: 0,
+            are_in_turn: true,
+            overlaps: 0,
+        }
+    }
+
+    /// Whether a further round is needed. There are two at least.
+    pub fn go_on(&self) -> bool {
+        self.are_in_turn && (self.number < 2 || self.overlaps < OVERLAPS)
+    }
+
+    fn add(&mut self, are_in_turn: bool, overlaps: u64) {
+        self.number = self.number.wrapping_add(1);
+        self.are_in_turn &= are_in_turn;
+        self.overlaps = self.overlaps.wrapping_add(overlaps);
+    }
+}
+
+/// What the threads of a round share.
+#[derive(Drop)]
+struct Round {
+    clock: AtomicU64,
+    /// Where all meet before the first call.
+    meeting: Meeting,
+    /// Whether each lets others run at some of its calls, so that fewer overlap: in the second round.
+    rests: bool,
+}
+
+impl Round {
+    fn new(rests: bool) -> Round {
+        Round {
+            clock: AtomicU64::new(0),
+            meeting: Meeting::new(3),
+            rests,
+        }
+    }
+
+    /// Lets another thread run, at some of the calls.
+    fn rest(&self, at: usize, every: usize) {
+        if self.rests && every != 0 && at % every == 0 {
+            thread::yield_now();
+        }
     }
 }
 
@@ -24,26 +82,26 @@ fn rests(at: usize, every: usize) {
 #[derive(Drop)]
 struct LogsGives<'s, E: Gives> {
     end: E,
-    clock: &'s AtomicU64,
+    round: &'s Round,
     log: &'s mut Log,
 }
 
 impl<'s, E: Gives> Task for LogsGives<'s, E> {
-    fn run(self, _rt: &(impl Wait + Clock)) -> bool {
+    fn run(self, rt: &(impl Wait + Clock)) -> bool {
         let LogsGives {
             mut end,
-            clock,
+            round,
             log,
         } = self;
-        let (mut well, mut number) = (true, 0u64);
+        let (mut well, mut number) = (round.meeting.wait(rt), 0u64);
         for at in 0..CALLS {
-            let began = now(clock);
+            let began = now(&round.clock);
             let back = end.gives(number);
-            well &= log.note(clock, began, back);
+            well &= log.note(&round.clock, began, back);
             if back != Some(number) {
                 number = number.wrapping_add(1);
             }
-            rests(at, 13);
+            round.rest(at, 13);
         }
         well
     }
@@ -53,7 +111,7 @@ impl<'s, E: Gives> Task for LogsGives<'s, E> {
 #[derive(Drop)]
 struct LogsTakes<'s, E: Takes> {
     end: E,
-    clock: &'s AtomicU64,
+    round: &'s Round,
     log: &'s mut Log,
 }
 
@@ -61,15 +119,15 @@ impl<'s, E: Takes> Task for LogsTakes<'s, E> {
     fn run(self, rt: &(impl Wait + Clock)) -> bool {
         let LogsTakes {
             mut end,
-            clock,
+            round,
             log,
         } = self;
-        let mut well = true;
+        let mut well = round.meeting.wait(rt);
         for at in 0..CALLS {
-            let began = now(clock);
+            let began = now(&round.clock);
             let number = end.takes(rt);
-            well &= log.note(clock, began, number);
-            rests(at, 11);
+            well &= log.note(&round.clock, began, number);
+            round.rest(at, 11);
         }
         well
     }
@@ -79,7 +137,7 @@ impl<'s, E: Takes> Task for LogsTakes<'s, E> {
 #[derive(Drop)]
 struct LogsLengths<'s, L: Length> {
     length: L,
-    clock: &'s AtomicU64,
+    round: &'s Round,
     log: &'s mut Log,
 }
 
@@ -87,30 +145,34 @@ impl<'s, L: Length> Task for LogsLengths<'s, L> {
     fn run(self, rt: &(impl Wait + Clock)) -> bool {
         let LogsLengths {
             mut length,
-            clock,
+            round,
             log,
         } = self;
-        let mut well = true;
+        let mut well = round.meeting.wait(rt);
         for at in 0..CALLS {
-            let began = now(clock);
+            let began = now(&round.clock);
             let answer = length.length(rt);
             if answer.is_some() {
-                well &= log.note(clock, began, answer);
+                well &= log.note(&round.clock, began, answer);
             }
-            rests(at, 7);
+            round.rest(at, 7);
         }
         well
     }
 }
 
-/// Whether the calls of three threads on a queue of this capacity can have come one after another.
-pub fn are_in_turn<
-    R: Wait + Threads + Clock + Sync,
-    G: Gives + Send,
-    T: Takes + Send,
-    L: Length + Send,
->(rt: &R, alloc: Global, capacity: u64, gives: G, takes: T, length: L) -> Result<bool, Fail> {
-    let clock = AtomicU64::new(0);
+/// Logs the calls of three threads on a new queue of this capacity, who begin at once: whether they can have come one after
+/// another, and how many overlapped.
+pub fn runs<R: Wait + Threads + Clock + Sync, G: Gives + Send, T: Takes + Send, L: Length + Send>(
+    rt: &R,
+    alloc: Global,
+    capacity: u64,
+    gives: G,
+    takes: T,
+    length: L,
+    rounds: &mut Rounds,
+) -> Result<(), Fail> {
+    let round = Round::new(rounds.number == 1);
     let mut pushes = Log::new(alloc, CALLS)?;
     let mut pops = Log::new(alloc, CALLS)?;
     let mut lengths = Log::new(alloc, CALLS)?;
@@ -118,17 +180,17 @@ pub fn are_in_turn<
         rt,
         LogsGives {
             end: gives,
-            clock: &clock,
+            round: &round,
             log: &mut pushes,
         },
         LogsTakes {
             end: takes,
-            clock: &clock,
+            round: &round,
             log: &mut pops,
         },
         LogsLengths {
             length,
-            clock: &clock,
+            round: &round,
             log: &mut lengths,
         },
     );
@@ -138,5 +200,7 @@ pub fn are_in_turn<
         pops: &pops,
         lengths: &lengths,
     };
-    Ok(calls.are_in_turn(alloc)? && well)
+    let are_in_turn = calls.are_in_turn(alloc)?;
+    rounds.add(are_in_turn && well, calls.overlaps());
+    Ok(())
 }

@@ -4,7 +4,7 @@ ghost use Rattle.lock_free.specs.Queues.Rings.{queue_of, IsPassOf};
 
 use crate::ends::Nobody;
 use crate::limit::{Limit, SECONDS};
-use crate::logged::are_in_turn;
+use crate::logged::{OVERLAPS, ROUNDS, Rounds, runs};
 use crate::tasks::{Task, two_run};
 use lock_free::spsc::safely_overflowing_index_queue::{
     Consumer, Pass, Producer, SafelyOverflowingIndexQueue,
@@ -148,34 +148,34 @@ fn numbers_come_or_are_handed_back(rt: HostRuntime) -> Result<(), Fail> {
     Ok(())
 }
 
-/// Whether pushes and pops of two threads answer as if one after another. None where the roles are not to be had.
-fn calls_are_in_turn<R: Wait + Threads + Clock + Sync>(
+/// Logs the pushes and pops of two threads on a new queue.
+fn logs<R: Wait + Threads + Clock + Sync>(
     rt: &R,
     alloc: Global,
-    queue: &SafelyOverflowingIndexQueue,
-    pass: Pass,
-) -> Result<Option<bool>, Fail>
-    requires { IsPassOf queue.now pass }
-{
-    let mut pass = pass;
-    let Some(other) = pass.split() else {
-        return Ok(None);
-    };
-    let Ok(producer) = queue.acquire_producer(pass) else {
-        return Ok(None);
-    };
-    let Ok(consumer) = queue.acquire_consumer(other) else {
-        return Ok(None);
-    };
-    let capacity = queue.capacity() as u64;
-    Ok(Some(are_in_turn(rt, alloc, capacity, producer, consumer, Nobody)?))
+    rounds: &mut Rounds,
+) -> Result<(), Fail> {
+    let (queue, mut pass) = SafelyOverflowingIndexQueue::new(alloc, 3)?;
+    let other = pass.split().ok_or("no further pass")?;
+    let producer = queue.acquire_producer(pass).map_err(|_| "taken")?;
+    let consumer = queue.acquire_consumer(other).map_err(|_| "taken")?;
+    runs(rt, alloc, 3, producer, consumer, Nobody, rounds)
 }
 
 /// Each number that comes or is handed back, and each None, is right at some moment between the times before and after
-/// its call.
+/// its call, by one order of all calls, of which many overlap.
 #[test]
 fn calls_as_if_one_after_another(rt: HostRuntime) -> Result<(), Fail> {
-    let (queue, pass) = SafelyOverflowingIndexQueue::new(rt.alloc(), 3)?;
-    assert!(rt; calls_are_in_turn(&rt, rt.alloc(), &queue, pass)? == Some(true));
+    let mut rounds = Rounds::new();
+    for _ in 0..ROUNDS {
+        if rounds.go_on() {
+            logs(&rt, rt.alloc(), &mut rounds)?;
+        }
+    }
+    assert!(rt; rounds.are_in_turn);
+    let overlaps = rounds.overlaps;
+    assert!(rt;
+        overlaps >= OVERLAPS,
+        "only {overlaps} pairs of calls overlapped"
+    );
     Ok(())
 }

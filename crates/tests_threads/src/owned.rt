@@ -6,10 +6,10 @@ use std::sync::Wait;
 use std::thread::Threads;
 use std::time::Clock;
 
-/// How many owners die at most, and how often one turns beside them.
+/// How many owners die at most, and how often one who holds an index changes it beside one who counts.
 const DEATHS: u64 = 100_000;
 
-const TURNS: u64 = 1_000_000;
+const CHANGES: u64 = 1_000_000;
 
 /// How often one is made that is locked, at most.
 pub const ROUNDS: u64 = 1000;
@@ -43,7 +43,7 @@ fn many_die<R: Wait + Threads + Clock + Sync, U: OwnedUser + Send>(
     rt: &R,
     user: &mut U,
 ) -> Option<bool> {
-    let well = deaths_beside(rt, user, DEATHS, TURNS)?;
+    let well = deaths_beside(rt, user, DEATHS)?;
     Some(well && user.number(rt) == 0)
 }
 
@@ -55,7 +55,7 @@ fn counting<R: Wait + Threads + Clock + Sync, U: OwnedUser + Send>(
     let holder = user.another(1)?.holding(rt)?;
     let mut other = user.another(2)?;
     let got = other.gets(rt, BETWEEN);
-    Some(got & counted_beside(rt, holder, other, TURNS))
+    Some(got & counted_beside(rt, holder, other, CHANGES))
 }
 
 /// Whether either it is locked or the other is in. None where there is no further pass.

@@ -29,8 +29,8 @@ enum Play<'s> {
     AsContainers(owned::Play<'s>),
 }
 
-/// How often each of four takes an index.
-const TURNS: u64 = 1_000_000;
+/// How often each takes an index.
+const TURNS: u64 = 10_000;
 
 /// Whether four users go well, and leave nothing behind. None where there are no further passes.
 fn four_go<R: Wait + Threads + Clock + Sync>(
@@ -63,8 +63,8 @@ fn recovers_beside<R: Wait + Threads + Clock + Sync>(
     user: &mut OwnerUser<'_>,
     dead: OwnerId,
 ) -> Option<bool> {
-    let first = another_turns(user, 1, 10_000)?;
-    let second = another_turns(user, 2, 10_000)?;
+    let first = another_turns(user, 1, TURNS)?;
+    let second = another_turns(user, 2, TURNS)?;
     let user = user.another(4)?;
     Some(three_run(rt, first, second, Recovers { user, dead }))
 }

@@ -109,7 +109,7 @@ impl<'a> PairUser<'a> {
         let mut well = true;
         let found = self.container.find(
             owner,
-            |pair, handle| {
+            &mut |pair, handle| {
                 number = number.wrapping_add(1);
                 well &= pair.0 == pair.1 && handle.owner == owner && handle.index() < 5;
                 CallbackProgression::Continue
@@ -125,7 +125,7 @@ impl<'a> PairUser<'a> {
         let state = self.container.recover(
             rt,
             self.owner,
-            |pair| {
+            &mut |pair| {
                 sum = sum.wrapping_add(pair.0);
                 pair.0 == pair.1
             },
@@ -141,7 +141,11 @@ impl<'a> PairUser<'a> {
 
     /// Whether a find of the owner comes to an index.
     fn has_any(&mut self) -> bool {
-        self.container.find(self.owner, |_, _| CallbackProgression::Stop, &mut self.pass) != 0
+        self.container.find(
+            self.owner,
+            &mut |_, _| CallbackProgression::Stop,
+            &mut self.pass,
+        ) != 0
     }
 
     /// How many indices have an owner.

@@ -4,7 +4,7 @@ ghost use Rattle.lock_free.specs.Queues.Rings.{inner, IsPassOf};
 use crate::bounds::are_within;
 use crate::ends::{Gives, GivesAll, QueueLength, TakesAll, next};
 use crate::limit::{Limit, SECONDS};
-use crate::logged::are_in_turn;
+use crate::logged::{OVERLAPS, ROUNDS, Rounds, runs};
 use crate::tasks::{Task, two_run};
 use lock_free::spsc::index_queue::{Consumer, FixedSizeIndexQueue, IndexQueue, Pass, Producer};
 use lock_free::spsc::queue;
@@ -99,36 +99,47 @@ fn three<'a>(
     Some((producer, consumer, QueueLength::new(queue, third)))
 }
 
-/// Whether three who push, pop and ask for the length of a new queue are answered right: as if one after another, where
-/// each call is logged, or else within bounds.
-fn are_right<R: Wait + Threads + Clock + Sync>(
+/// Logs the calls of three who push, pop and ask for the length of a new queue.
+fn logs<R: Wait + Threads + Clock + Sync>(
     rt: &R,
     alloc: Global,
-    is_logged: bool,
-) -> Result<bool, Fail> {
+    rounds: &mut Rounds,
+) -> Result<(), Fail> {
     let (queue, pass) = IndexQueue::new(alloc, 3)?;
-    let Some((producer, consumer, length)) = three(&queue, pass) else {
-        return Ok(false);
-    };
-    if is_logged {
-        are_in_turn(rt, alloc, 3, producer, consumer, length)
-    } else {
-        Ok(are_within(rt, 3, producer, consumer, length))
-    }
+    let (producer, consumer, length) = three(&queue, pass).ok_or("no further pass")?;
+    runs(rt, alloc, 3, producer, consumer, length, rounds)
 }
 
 /// Each refusal, each number and each length is right at some moment between the times before and after its call, by one
-/// order of all calls.
+/// order of all calls, of which many overlap.
 #[test]
 fn calls_as_if_one_after_another(rt: HostRuntime) -> Result<(), Fail> {
-    assert!(rt; are_right(&rt, rt.alloc(), true)?);
+    let mut rounds = Rounds::new();
+    for _ in 0..ROUNDS {
+        if rounds.go_on() {
+            logs(&rt, rt.alloc(), &mut rounds)?;
+        }
+    }
+    assert!(rt; rounds.are_in_turn);
+    let overlaps = rounds.overlaps;
+    assert!(rt;
+        overlaps >= OVERLAPS,
+        "only {overlaps} pairs of calls overlapped"
+    );
     Ok(())
+}
+
+/// Whether three who push, pop and ask for the length of a new queue are answered within bounds.
+fn are_right<R: Wait + Threads + Clock + Sync>(rt: &R, alloc: Global) -> Result<bool, Fail> {
+    let (queue, pass) = IndexQueue::new(alloc, 3)?;
+    let (producer, consumer, length) = three(&queue, pass).ok_or("no further pass")?;
+    Ok(are_within(rt, 3, producer, consumer, length))
 }
 
 /// More calls, each alone: by what had passed the other end before it, and may have passed after it.
 #[test]
 fn calls_within_bounds(rt: HostRuntime) -> Result<(), Fail> {
-    assert!(rt; are_right(&rt, rt.alloc(), false)?);
+    assert!(rt; are_right(&rt, rt.alloc())?);
     Ok(())
 }
 

@@ -1,5 +1,5 @@
 //! What threads do side by side.
-use crate::limit::{ENOUGH, Limit, SECONDS};
+use crate::limit::{Limit, SECONDS};
 use std::sync::Wait;
 use std::sync::atomic::{AtomicU64, Ordering};
 use std::thread;
@@ -74,7 +74,7 @@ pub trait User: Drop + Sized {
     fn turn(&mut self, rt: &impl Wait, at: u64) -> Option<bool>;
 }
 
-/// A user who takes so many things, one after another, or as many as it can until it is enough.
+/// A user who takes so many things, one after another, and gives each back.
 #[derive(Drop)]
 pub struct Turns<U: User> {
     pub user: U,
@@ -83,7 +83,7 @@ pub struct Turns<U: User> {
 
 impl<U: User> Turns<U> {
     /// Whether the thing that comes next is its own. None at the limit.
-    fn next(&mut self, rt: &(impl Wait + Clock), at: u64, limit: &mut Limit) -> Option<bool> {
+    pub fn next(&mut self, rt: &(impl Wait + Clock), at: u64, limit: &mut Limit) -> Option<bool> {
         for _ in 0..u64::MAX {
             if let Some(own) = self.user.turn(rt, at) {
                 return Some(own);
@@ -96,17 +96,13 @@ impl<U: User> Turns<U> {
     }
 }
 
-/// Whether each thing that it took was its own.
+/// Whether it took all of them, and each was its own.
 impl<U: User> Task for Turns<U> {
     fn run(mut self, rt: &(impl Wait + Clock)) -> bool {
         let mut limit = Limit::new(rt, SECONDS);
-        let mut enough = Limit::new(rt, ENOUGH);
         for at in 0..self.number {
             if self.next(rt, at, &mut limit) != Some(true) {
                 return false;
-            }
-            if enough.is_over(rt) {
-                return true;
             }
         }
         true

@@ -23,12 +23,12 @@ struct IndexUser<'a> {
 }
 
 impl<'a> IndexUser<'a> {
-    /// Takes an index and gives it back.
-    fn raw_turn(&mut self, rt: &impl Wait) -> Option<bool> {
+    /// Takes an index and gives it back; it rests each sixteenth time.
+    fn raw_turn(&mut self, rt: &impl Wait, at: u64) -> Option<bool> {
         let Ok(index) = self.set.acquire_raw_index(rt, &mut self.pass) else {
             return None;
         };
-        let alone = self.holders.stay(index as usize);
+        let alone = self.holders.stay(index as usize, at % 16 == 0);
         self.set.release_raw_index(index, &mut self.pass);
         Some(alone)
     }
@@ -39,7 +39,7 @@ impl<'a> IndexUser<'a> {
         let Ok(held) = self.set.acquire(rt, pass) else {
             return None;
         };
-        Some(self.holders.stay(held.value() as usize))
+        Some(self.holders.stay(held.value() as usize, true))
     }
 
     fn borrowed(&mut self) -> usize {
@@ -57,12 +57,12 @@ impl<'a> User for IndexUser<'a> {
         })
     }
 
-    /// Each thousandth time it is a held index that is dropped.
+    /// Each hundredth time it is a held index that is dropped.
     fn turn(&mut self, rt: &impl Wait, at: u64) -> Option<bool> {
-        if at % 1000 == 0 {
+        if at % 100 == 0 {
             self.held_turn(rt)
         } else {
-            self.raw_turn(rt)
+            self.raw_turn(rt, at)
         }
     }
 }
@@ -98,7 +98,7 @@ enum Play<'s> {
 }
 
 /// How often each of four takes an index.
-const TURNS: u64 = 1_000_000;
+const TURNS: u64 = 10_000;
 
 /// How often a set is made that is locked, at most.
 const ROUNDS: u64 = 1000;

@@ -48,7 +48,7 @@ impl<'a, const CALLS: usize> Bits<'a, CALLS> {
     fn reset_all(&mut self) -> u64 {
         let mut sum = 0u64;
         self.set.reset_all(
-            |place| sum = sum.wrapping_add((place as u64).wrapping_add(1)),
+            &mut |place| sum = sum.wrapping_add((place as u64).wrapping_add(1)),
             &mut self.pass,
         );
         sum
@@ -136,7 +136,7 @@ impl<'a> Timed for Counts<'a> {
         }
         let mut sum = 0u64;
         self.set.reset_all(
-            |state: BitState| {
+            &mut |state: BitState| {
                 sum = sum.wrapping_add((state.bit() as u64).wrapping_add(state.count()))
             },
             &mut self.pass,

@@ -134,7 +134,7 @@ impl<'a, const CALLS: usize> Robust<'a, CALLS> {
         let mut sum = 0u64;
         self.set.find(
             self.owner,
-            |index| {
+            &mut |index| {
                 sum = sum.wrapping_add((index as u64).wrapping_add(1));
                 CallbackProgression::Continue
             },
@@ -149,8 +149,8 @@ impl<'a, const CALLS: usize> Robust<'a, CALLS> {
         let state = self.set.recover(
             rt,
             ReleaseMode::Default,
-            |owner, _| owner == dead,
-            |_, _| {},
+            &mut |owner, _| owner == dead,
+            &mut |_, _| {},
             &mut self.pass,
         );
         match state {

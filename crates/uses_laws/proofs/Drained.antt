@@ -20,7 +20,7 @@ use Rattle.lock_free.specs.Event.{Event}
 use Rattle.lock_free.specs.HistoryView.View.{View}
 use Rattle.lock_free.proofs.Counts.Sums.{take_adds}
 use Rattle.lock_free.proofs.Sums.{same_last, reaches}
-use Rattle.history_laws.specs.Counts.{TakesAll}
+use Rattle.lock_free.specs.CountLaws.{TakesAll}
 
 counts_more : (place : ℕ) (xs ys : List (Event ℕ)) → counts place (xs ++ ys) ≡ counts place xs + counts place ys
 counts_more place xs ys = sum_by-append (λ e. cond (is_count_of place e) 1 0) xs ys
@@ -116,8 +116,8 @@ module _ (place p : ℕ) (start : Start ℕ) (end : Event ℕ) (events earlier s
 
 -- ---- a call of a pass with the whole share
 
-module _ {F : Type 0} (step : F → BitState → F → Type 0) (capacity : ℕ) (visit : F) (old new : View ℕ)
-    (taken : HasTakenOut step capacity visit old new) (missed : MissedNoCount capacity new)
+module _ {F : Type 0} (step : F → BitState → F → Type 0) (capacity : ℕ) (visit visited : F) (old new : View ℕ)
+    (taken : HasTakenOut step capacity visit visited old new) (missed : MissedNoCount capacity new)
     (before : (f : Event ℕ → ℕ) → sum_by f old.seen ≡ sum_by f old.made)
     (after : (f : Event ℕ → ℕ) → sum_by f new.seen ≡ sum_by f new.made)
     (each : Each TakesAll new.seen)

@@ -1,7 +1,9 @@
 -- The proofs of the clients.
 pub mod Linear
 pub mod Added
+pub mod Handed
 pub mod Again
 pub mod Shared
 pub mod Drained
 pub mod Full
+pub mod Whole

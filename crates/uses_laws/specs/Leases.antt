@@ -3,7 +3,7 @@ use Rattle.std.specs.Prelude.{◌≡◌, ℕ, ◌-◌, ◌*◌, ◌^◌, ◌<◌
 use Rattle.model.specs.Families.Indices.Robust.Promises.{IsFilled}
 use Rattle.model.specs.Moments.{HeldSometime}
 use Rattle.lock_free.specs.Event.{Event}
-use Rattle.history_laws.specs.Owners.{changes, lock_calls}
+use Rattle.lock_free.specs.OwnerLaws.{changes, lock_calls}
 
 -- no call that may lock was begun, and fewer changes were made than bring a counter to its end
 pub record IsYoung (events : List (Event ℕ)) : Type 0 where

@@ -2,3 +2,5 @@
 pub mod Acts
 pub mod Order
 pub mod Leases
+pub mod Sums
+pub mod Copies

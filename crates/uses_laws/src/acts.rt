@@ -5,7 +5,8 @@ ghost use Rattle.std.specs.Prelude.{◌<◌};
 ghost use Rattle.lock_free.specs.Bits.Calls.{capacity_of, IsPassOf, view};
 ghost use Rattle.uses_laws.specs.Acts.{ActedInOrder};
 
-use history_laws::{calls_are_in_order, calls_stand, histories_act};
+use lock_free::laws::bits::histories_act;
+use lock_free::laws::histories::{calls_are_in_order, calls_stand};
 use lock_free::mpmc::bit_set::{BitSet, Pass};
 use std::sync::Wait;
 

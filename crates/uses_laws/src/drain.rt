@@ -5,7 +5,7 @@ ghost use Rattle.lock_free.specs.Counts.Calls.{capacity_of, IsPassOf, HasHistory
 ghost use Rattle.lock_free.specs.Shares.{IsAll};
 ghost use Rattle.lock_free.specs.Sums.{counts, takes};
 
-use history_laws::counts::{counts_are_conserved, counts_are_taken_whole};
+use lock_free::laws::counts::{counts_are_conserved, counts_are_taken_whole};
 use lock_free::mpmc::counting_bit_set::{CountingBitSet, Pass};
 
 /// Takes all counts out: then what was taken out of a place in all is what was counted there, unless that comes to 2^64.
@@ -19,5 +19,5 @@ pub fn drain(set: &CountingBitSet, pass: &mut Pass)
 {
     counts_are_conserved::<u64>();
     counts_are_taken_whole::<u64>();
-    set.reset_all(|_state| {}, pass);
+    set.reset_all(&mut |_state| {}, pass);
 }

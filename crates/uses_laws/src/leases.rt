@@ -7,7 +7,7 @@ ghost use Rattle.lock_free.specs.RobustUniqueIndexSet.{history, made, set_of, sh
 ghost use Rattle.lock_free.specs.Shares.{IsAll};
 ghost use Rattle.uses_laws.specs.Leases.{IsYoung, WasFull};
 
-use history_laws::owners;
+use lock_free::laws::owners;
 use lock_free::mpmc::robust_unique_index_set::{OwnerId, Pass, RobustUniqueIndexSet};
 use lock_free::mpmc::unique_index_set_enums::UniqueIndexSetAcquireFailure;
 use std::sync::Wait;

@@ -2,6 +2,8 @@
 #![tactic(auto)]
 
 pub mod acts;
+pub mod copies;
+pub mod counted;
 pub mod drain;
 pub mod leases;
 pub mod order;

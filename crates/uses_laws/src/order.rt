@@ -4,9 +4,9 @@ ghost use Rattle.std.specs.Prelude.{IsTrue};
 ghost use Rattle.lock_free.specs.Queues.Calls.{producer_queue, producer_view};
 ghost use Rattle.uses_laws.specs.Order.{PushedInOrder};
 
-use history_laws::{calls_are_in_order, calls_stand};
+use lock_free::laws::histories::{calls_are_in_order, calls_stand};
+use lock_free::laws::queues::histories_are_linearizable;
 use lock_free::spsc::index_queue::Producer;
-use lock_free::spsc_laws::histories_are_linearizable;
 
 /// Pushes two numbers, one after the other: whether both were taken. Then the calls of all threads have a linearization in
 /// which the first push stands before the second.

@@ -5,7 +5,7 @@ ghost use Rattle.lock_free.specs.Shares.{both_of, IsAll};
 ghost use Rattle.lock_free.specs.Unique.Held.{HeldBy, HoldsNothing, IsSound};
 ghost use Rattle.lock_free.specs.UniqueIndexSet.{capacity_of, IsPassOf, made, share, view};
 
-use history_laws::indices::indices_are_conserved;
+use lock_free::laws::indices::indices_are_conserved;
 use lock_free::mpmc::unique_index_set::{Pass, UniqueIndexSet};
 
 /// Takes the last other pass in. What the two held is together at most the capacity, and where this one held all indices,

@@ -6,7 +6,7 @@ ghost use Rattle.lock_free.specs.Counts.Calls.{capacity_of, IsPassOf, HasHistory
 ghost use Rattle.lock_free.specs.Shares.{IsAll};
 ghost use Rattle.lock_free.specs.Sums.{counts, takes};
 
-use history_laws::counts::counts_are_conserved;
+use lock_free::laws::counts::counts_are_conserved;
 use lock_free::mpmc::counting_bit_set::{CountingBitSet, Pass};
 
 /// How often the place was counted before this call: `taken`, which is all that was taken out of it, and what still stands

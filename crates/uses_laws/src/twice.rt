@@ -4,7 +4,7 @@ ghost use Rattle.std.specs.Prelude.{◌≡◌, ◌<◌, IsTrue};
 ghost use Rattle.lock_free.specs.Bits.Calls.{capacity_of, IsPassOf, HasHistory, history};
 ghost use Rattle.lock_free.specs.Sums.{clears};
 
-use history_laws::bits::bits_are_conserved;
+use lock_free::laws::bits::bits_are_conserved;
 use lock_free::mpmc::bit_set::{BitSet, Pass};
 use std::sync::Wait;
 

@@ -38,19 +38,21 @@ pub fn push_pop_and_close(alloc: Global) -> Result<Popped, ClosingError>
 {
     let (queue, mut mine) = IndexQueue::new(alloc, 4)?;
     let other = mine.split().ok_or(ClosingError::NoPass)?;
-    let mut producer = queue
-        .acquire_producer(mine)
-        .map_err(|_| ClosingError::Taken)?;
+    let Ok(mut producer) = queue.acquire_producer(mine) else {
+        return Err(ClosingError::Taken);
+    };
     if !producer.push(1) {
         return Err(ClosingError::Full);
     }
     if !producer.push(2) {
         return Err(ClosingError::Full);
     }
-    let mut consumer = queue
-        .acquire_consumer(other)
-        .map_err(|_| ClosingError::Taken)?;
-    let shared = consumer.pop().ok_or(ClosingError::Empty)?;
+    let Ok(mut consumer) = queue.acquire_consumer(other) else {
+        return Err(ClosingError::Taken);
+    };
+    let Some(shared) = consumer.pop() else {
+        return Err(ClosingError::Empty);
+    };
     let mut pass = producer.release();
     pass.join(consumer.release());
     let mut list = queue.close(pass)?;

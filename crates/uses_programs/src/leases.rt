@@ -47,8 +47,8 @@ fn recover(rt: &impl Wait, pool: &RobustUniqueIndexSet, pass: &mut Pass, dead: O
     pool.recover(
         rt,
         ReleaseMode::Default,
-        |owner, _| owner == dead,
-        |_, _| number = number.wrapping_add(1),
+        &mut |owner, _| owner == dead,
+        &mut |_, _| number = number.wrapping_add(1),
         pass,
     );
     number

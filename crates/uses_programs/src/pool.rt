@@ -1,9 +1,10 @@
-//! Two threads take buffers of one pool at the same time, each as many as it asks for, and fill them. Proved: of all
-//! buffers that both hold then no two are the same one, and once they are given back none is out.
+//! Four threads take buffers of one pool at the same time, each as many as it asks for, and fill them. Proved: of all
+//! buffers that they hold then no two are the same one, and once they are given back none is out.
 
-ghost use Rattle.std.specs.Prelude.{◌≡◌, ◌≢◌, AllPairs, IfSome};
-ghost use Rattle.lock_free.specs.UniqueIndexSet.{view, made, share, set_of, IsPassOf};
-ghost use Rattle.lock_free.specs.Unique.Held.{HeldBy, HoldsNothing, IsSound};
+ghost use Rattle.std.specs.Prelude.{◌≡◌, ◌≢◌, AllPairs, IfSome, []};
+ghost use Rattle.lock_free.specs.UniqueIndexSet.{view, made, IsPassOf};
+ghost use Rattle.lock_free.specs.Unique.Held.{HeldBy, IsSound};
+ghost use Rattle.lock_free.specs.Unique.Pools.{Holding};
 
 use lock_free::mpmc::unique_index_set::{Pass, UniqueIndexSet};
 use std::alloc::Global;
@@ -13,6 +14,13 @@ use std::{io, thread};
 
 /// How many bytes a buffer has.
 const BYTES: usize = 64;
+
+/// How many buffers a thread asks for, and the byte that it fills them with.
+#[derive(Clone, Copy)]
+pub struct Order {
+    pub number: usize,
+    pub byte: u8,
+}
 
 /// A buffer for each index. Nobody waits for its lock, since only who holds the index looks at it.
 fn make_buffers(alloc: Global, number: usize) -> Option<Vec<Mutex<[u8; BYTES]>>> {
@@ -33,30 +41,87 @@ fn fill(buffers: &[Mutex<[u8; BYTES]>], index: u32, byte: u8) -> Option<()> {
     Some(())
 }
 
-/// Takes so many buffers, and fills each with this byte: they are all that the pass holds then. None where fewer are
-/// free.
+/// Takes the buffers of an order, and fills them: they are all that the pass holds then. None where fewer are free.
 fn take(
     rt: &impl Wait,
     alloc: Global,
     set: &UniqueIndexSet,
     buffers: &[Mutex<[u8; BYTES]>],
     mut pass: Pass,
-    number: usize,
-    byte: u8,
+    order: Order,
 ) -> Option<(Pass, Vec<u32>)>
     requires pass { IsPassOf set.now pass }
-    requires none { HoldsNothing (made pass) }
-    ensures set { IfSome result (λ t. set_of t.0 ≡ set_of pass) }
-    ensures share { IfSome result (λ t. share t.0 ≡ share pass) }
-    ensures held { IfSome result (λ t. HeldBy t.1.items (made t.0)) }
+    requires none { made pass ≡ [] }
+    ensures { IfSome result (λ t. Holding pass t.1.items t.0) }
 {
     let mut indices = Vec::new(alloc);
-    for _ in 0..number {
-        let index = set.acquire_raw_index(rt, &mut pass).ok()?;
-        fill(buffers, index, byte)?;
+    for _ in 0..order.number {
+        let Ok(index) = set.acquire_raw_index(rt, &mut pass) else {
+            return None;
+        };
+        fill(buffers, index, order.byte)?;
         indices.push(index).ok()?;
     }
     Some((pass, indices))
+}
+
+/// Takes the buffers of two orders, in a thread each.
+fn take_two<R: Threads + Wait + Sync>(
+    rt: &R,
+    alloc: Global,
+    set: &UniqueIndexSet,
+    buffers: &[Mutex<[u8; BYTES]>],
+    mut pass: Pass,
+    orders: [Order; 2],
+) -> Option<(Pass, Vec<u32>)>
+    requires pass { IsPassOf set.now pass }
+    requires none { made pass ≡ [] }
+    ensures { IfSome result (λ t. Holding pass t.1.items t.0) }
+{
+    let other = pass.split()?;
+    let (first, second) = (orders[0], orders[1]);
+    let (one, two) = thread::join(
+        rt,
+        move || take(rt, alloc, set, buffers, pass, first),
+        move || take(rt, alloc, set, buffers, other, second),
+    );
+    let (mut joined, mut indices) = one?;
+    let (further, those) = two?;
+    joined.join(further);
+    indices.extend_from_slice(&those).ok()?;
+    Some((joined, indices))
+}
+
+/// Takes the buffers of four orders, in a thread each.
+fn take_four<R: Threads + Wait + Sync>(
+    rt: &R,
+    alloc: Global,
+    set: &UniqueIndexSet,
+    buffers: &[Mutex<[u8; BYTES]>],
+    mut pass: Pass,
+    orders: [Order; 4],
+) -> Option<(Pass, Vec<u32>)>
+    requires pass { IsPassOf set.now pass }
+    requires none { made pass ≡ [] }
+    ensures held { IfSome result (λ t. Holding pass t.1.items t.0) }
+    ensures sound { IfSome result (λ t. IsSound (view t.0)) }
+{
+    let other = pass.split()?;
+    let (front, back) = ([orders[0], orders[1]], [orders[2], orders[3]]);
+    let (one, two) = thread::join(
+        rt,
+        move ||
+            requires { IsPassOf set.now pass × (made pass ≡ []) }
+        { take_two(rt, alloc, set, buffers, pass, front) },
+        move ||
+            requires { IsPassOf set.now other × (made other ≡ []) }
+        { take_two(rt, alloc, set, buffers, other, back) },
+    );
+    let (mut joined, mut indices) = one?;
+    let (further, those) = two?;
+    joined.join(further);
+    indices.extend_from_slice(&those).ok()?;
+    Some((joined, indices))
 }
 
 /// Gives these buffers back, which are all that the pass holds.
@@ -64,67 +129,52 @@ fn give_back(set: &UniqueIndexSet, pass: &mut Pass, indices: &[u32])
     requires pass { IsPassOf set.now pass.old }
     requires sound { IsSound (view pass.old) }
     requires held { HeldBy indices.now (made pass.old) }
-    ensures set { set_of pass.new ≡ set_of pass.old }
-    ensures share { share pass.new ≡ share pass.old }
-    ensures held { HoldsNothing (made pass.new) }
+    ensures { Holding pass.old [] pass.new }
 {
     for at in 0..indices.len() {
         set.release_raw_index(indices[at], pass);
     }
 }
 
-/// What two threads held at the same time: so many buffers the first, and then those of the second; and how many were
-/// out once all were given back.
+/// What four threads held at the same time, and how many buffers were out once all were given back.
 #[derive(Drop)]
 pub struct Held {
-    pub first: usize,
     pub indices: Vec<u32>,
     pub left: usize,
 }
 
-/// Two threads take buffers of one pool, so many each, and hold them until both have theirs: no two are the same one.
+/// Four threads take buffers of one pool, as they are asked, and hold them until all have theirs: no two are the same one.
 /// Then all are given back, and none is out. None where there is no memory, or a thread did not get its buffers.
 pub fn hold_buffers<R: Threads + Wait + Sync>(
     rt: &R,
     alloc: Global,
     number: usize,
-    first: usize,
-    second: usize,
+    orders: [Order; 4],
 ) -> Option<Held>
     ensures apart { IfSome result (λ h. AllPairs (λ i j. i ≢ j) h.indices.items) }
     ensures none { IfSome result (λ h. h.left ≡ 0) }
 {
     let buffers = make_buffers(alloc, number)?;
-    let Ok((set, mut mine)) = UniqueIndexSet::new(alloc, number) else {
+    let Ok((set, pass)) = UniqueIndexSet::new(alloc, number) else {
         return None;
     };
-    let other = mine.split()?;
-    let (shared, slots) = (&set, buffers.as_slice());
-    let (one, two) = thread::join(
-        rt,
-        move || take(rt, alloc, shared, slots, mine, first, 1),
-        move || take(rt, alloc, shared, slots, other, second, 2),
-    );
-    let (mut pass, mut indices) = one?;
-    let (further, those) = two?;
-    pass.join(further);
-    let first = indices.len();
-    indices.extend_from_slice(&those).ok()?;
-    give_back(&set, &mut pass, &indices);
-    let left = set.borrowed_indices(&mut pass);
-    Some(Held {
-        first,
-        indices,
-        left,
-    })
+    let (mut held, indices) = take_four(rt, alloc, &set, buffers.as_slice(), pass, orders)?;
+    give_back(&set, &mut held, &indices);
+    let left = set.borrowed_indices(&mut held);
+    Some(Held { indices, left })
 }
 
-/// Holds eight buffers in two threads, and prints how many each had.
+/// Holds eight buffers in four threads, and prints how many they had.
 pub fn report<R: Threads + Wait + Print + Sync>(rt: &R, alloc: Global) -> io::Result<()> {
-    match hold_buffers(rt, alloc, 8, 3, 5) {
+    let order = |number, byte| Order { number, byte };
+    match hold_buffers(
+        rt,
+        alloc,
+        8,
+        [order(3, 1), order(1, 2), order(2, 3), order(2, 4)],
+    ) {
         Some(held) => println!(rt;
-            "the first {} of {} buffers were held by one thread, the rest by the other; {} are out now",
-            held.first,
+            "{} buffers were held by four threads; {} are out now",
             held.indices.len(),
             held.left
         ),

@@ -129,7 +129,7 @@ fn outlive<R: Wait + Print>(
 {
     print(rt, "all have joined", state).ok()?;
     let dead = OwnerId::new(2).ok()?;
-    registry.recover(rt, dead, |_| true, ReleaseMode::Default, pass);
+    registry.recover(rt, dead, &mut |_| true, ReleaseMode::Default, pass);
     registry.update_state(rt, state, pass);
     print(rt, "one that died was taken out", state).ok()?;
     leave(rt, registry, pass, handle)

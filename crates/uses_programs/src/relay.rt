@@ -1,9 +1,10 @@
 //! Sends numbers from one thread to another, through a queue that holds a few of them. Proved: the numbers that came are
 //! the first of those that were sent, in their order, and all of them just where none waits at the end.
 
-ghost use Rattle.std.specs.Prelude.{◌≡◌, ◌<◌, ◌≤◌, ◌+◌, IfOk, IsTrue, IsFalse, length, take};
-ghost use Rattle.lock_free.specs.Queues.Calls.{view, queue_of, IsPassOf};
-ghost use Rattle.uses_programs.specs.Rows.{HasSent, HasReceived};
+ghost use Rattle.std.specs.Prelude.{◌≡◌, IfOk, length};
+ghost use Rattle.lock_free.specs.Queues.Calls.{IsPassOf};
+ghost use Rattle.lock_free.specs.Queues.Item.TheVariants.{Index};
+ghost use Rattle.lock_free_queues.specs.Queues.Relays.{Sent, Received, IsRelayed};
 
 use lock_free::spsc::index_queue::{IndexQueue, Pass};
 use std::alloc::Global;
@@ -22,8 +23,7 @@ pub enum RelayError {
 /// Pushes all numbers, each as soon as there is room.
 fn send(rt: &impl Wait, queue: &IndexQueue, pass: Pass, numbers: &[u64]) -> Result<Pass, RelayError>
     requires { IsPassOf queue.now pass }
-    ensures queue { IfOk result (λ p. queue_of p ≡ queue_of pass) }
-    ensures sent { IfOk result (λ p. HasSent numbers.now (view pass) (view p)) }
+    ensures { IfOk result (λ p. Sent Index pass numbers.now p) }
 {
     let Ok(mut producer) = queue.acquire_producer(pass) else {
         return Err(RelayError::Taken);
@@ -44,7 +44,7 @@ fn send(rt: &impl Wait, queue: &IndexQueue, pass: Pass, numbers: &[u64]) -> Resu
 
 /// What a receiver has.
 #[derive(Drop)]
-struct Received {
+struct Receipt {
     pass: Pass,
     numbers: Vec<u64>,
 }
@@ -56,10 +56,9 @@ fn receive(
     queue: &IndexQueue,
     pass: Pass,
     count: usize,
-) -> Result<Received, RelayError>
+) -> Result<Receipt, RelayError>
     requires { IsPassOf queue.now pass }
-    ensures queue { IfOk result (λ r. queue_of r.pass ≡ queue_of pass) }
-    ensures received { IfOk result (λ r. HasReceived r.numbers.items (view pass) (view r.pass)) }
+    ensures received { IfOk result (λ r. Received Index pass r.numbers.items r.pass) }
     ensures count { IfOk result (λ r. length r.numbers.items ≡ count) }
 {
     let Ok(mut consumer) = queue.acquire_consumer(pass) else {
@@ -67,7 +66,7 @@ fn receive(
     };
     let mut numbers = Vec::new(alloc);
     for _ in rt.forever() {
-        if numbers.len() >= count {
+        if numbers.len() == count {
             break;
         }
         match consumer.pop() {
@@ -80,7 +79,7 @@ fn receive(
         }
     }
     let pass = consumer.release();
-    Ok(Received { pass, numbers })
+    Ok(Receipt { pass, numbers })
 }
 
 /// What came, and whether a last pop found nothing.
@@ -99,10 +98,8 @@ pub fn relay<R: Threads + Wait + Sync>(
     numbers: &[u64],
     count: usize,
 ) -> Result<Relayed, RelayError>
-    ensures beginning { IfOk result (λ r. r.numbers.items ≡ take count numbers.now) }
-    ensures all { IfOk result (λ r. IsTrue r.emptied → r.numbers.items ≡ numbers.now) }
-    ensures some { IfOk result (λ r. IsFalse r.emptied → length r.numbers.items < length numbers.now) }
-    ensures few { IfOk result (λ r. length numbers.now ≤ length r.numbers.items + 4) }
+    ensures relayed { IfOk result (λ r. IsRelayed 4 numbers.now r.numbers.items r.emptied) }
+    ensures count { IfOk result (λ r. length r.numbers.items ≡ count) }
 {
     let Ok((queue, mut mine)) = IndexQueue::new(alloc, 4) else {
         return Err(RelayError::NoMemory);
@@ -115,14 +112,14 @@ pub fn relay<R: Threads + Wait + Sync>(
         move || receive(rt, alloc, shared, other, count),
     );
     let mut pass = sent?;
-    let Received {
+    let Receipt {
         pass: other,
         numbers: came,
     } = received?;
     pass.join(other);
-    let mut consumer = shared
-        .acquire_consumer(pass)
-        .map_err(|_| RelayError::Taken)?;
+    let Ok(mut consumer) = shared.acquire_consumer(pass) else {
+        return Err(RelayError::Taken);
+    };
     let emptied = consumer.pop().is_none();
     Ok(Relayed {
         numbers: came,

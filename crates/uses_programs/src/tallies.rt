@@ -38,7 +38,7 @@ fn take(set: &CountingBitSet, mut pass: Pass, looks: usize) -> Pass
     ensures counted { CountsNone (made pass) (made result) }
 {
     for _ in 0..looks {
-        set.reset_all(|_state| {}, &mut pass);
+        set.reset_all(&mut |_state| {}, &mut pass);
     }
     pass
 }

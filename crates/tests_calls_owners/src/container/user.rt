@@ -114,11 +114,14 @@ impl<'a, T: Numbered> User<'a, T> {
     fn finds(&mut self, owner: OwnerId, stop: u64, answer: &mut Answer) {
         let mut number = 0u64;
         let container = self.number;
-        let came = self.now.find(owner, |value, handle| {
-            number = number.wrapping_add(1);
-            found(value, handle, owner, container, answer);
-            goes_on(number, stop)
-        });
+        let came = self.now.find(
+            owner,
+            &mut |value, handle| {
+                number = number.wrapping_add(1);
+                found(value, handle, owner, container, answer);
+                goes_on(number, stop)
+            },
+        );
         answer.word("found");
         answer.number(came as u64);
     }
@@ -130,7 +133,7 @@ impl<'a, T: Numbered> User<'a, T> {
         let state = self.now.recover(
             rt,
             owner,
-            |value| {
+            &mut |value| {
                 asked.hear(value.number());
                 answers.next(frees, owner)
             },

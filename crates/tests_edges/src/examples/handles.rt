@@ -55,7 +55,7 @@ fn three_ring(rt: HostRuntime) -> Result<(), Fail> {
         },
     );
     let mut heard = 0u64;
-    last.reset_all(|_| heard = heard.wrapping_add(1));
+    last.reset_all(&mut |_| heard = heard.wrapping_add(1));
     assert!(rt; rang == Some(true) && heard == 3);
     Ok(())
 }

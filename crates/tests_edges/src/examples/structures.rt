@@ -28,7 +28,7 @@ fn counts(rt: HostRuntime) -> Result<(), Fail> {
     let mut counts = set.handle(pass);
     assert!(rt; counts.set(3) == 0 && counts.set(3) == 1);
     let mut last = (0, 0);
-    counts.reset_all(|state| last = (state.bit(), state.count()));
+    counts.reset_all(&mut |state| last = (state.bit(), state.count()));
     assert!(rt; last == (3, 2));
     Ok(())
 }
@@ -51,7 +51,12 @@ fn pool_with_owners(rt: HostRuntime) -> Result<(), Fail> {
     let mut pool = set.handle(pass);
     assert!(rt; pool.acquire(&rt, owner).is_ok());
     // The owner has died: another caller frees what it had.
-    pool.recover(&rt, ReleaseMode::Default, |of, _| of == owner, |_, _| {});
+    pool.recover(
+        &rt,
+        ReleaseMode::Default,
+        &mut |of, _| of == owner,
+        &mut |_, _| {},
+    );
     assert!(rt; pool.borrowed_indices(&rt) == 0);
     Ok(())
 }

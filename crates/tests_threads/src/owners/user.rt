@@ -83,8 +83,11 @@ impl<'a> OwnerUser<'a> {
 
     /// How many indices an owner has.
     pub fn finds(&mut self, owner: OwnerId) -> usize {
-        self.set
-            .find(owner, |_| CallbackProgression::Continue, &mut self.pass)
+        self.set.find(
+            owner,
+            &mut |_| CallbackProgression::Continue,
+            &mut self.pass,
+        )
     }
 
     /// Recovers an owner, of whose indices each is left before it is free: how many came back, or None where they did not
@@ -96,14 +99,14 @@ impl<'a> OwnerUser<'a> {
         let state = self.set.recover(
             rt,
             mode,
-            |owner, index| {
+            &mut |owner, index| {
                 if owner != dead {
                     return false;
                 }
                 had &= holders.leave(index);
                 true
             },
-            |owner, index| {
+            &mut |owner, index| {
                 well &= owner == dead && next <= index;
                 next = index.wrapping_add(1);
                 number = number.wrapping_add(1);
@@ -130,9 +133,10 @@ impl<'a> User for OwnerUser<'a> {
         })
     }
 
-    fn turn(&mut self, rt: &impl Wait, _at: u64) -> Option<bool> {
+    /// It rests each sixteenth time.
+    fn turn(&mut self, rt: &impl Wait, at: u64) -> Option<bool> {
         let index = self.acquire(rt)?;
-        let alone = self.holders.stay(index);
+        let alone = self.holders.stay(index, at % 16 == 0);
         let state = self.release(rt, index, ReleaseMode::Default);
         Some(alone && state == Some(ReleaseState::Unlocked))
     }

@@ -1,51 +1,28 @@
-use Rattle.std.proofs.Common.{refl, rules, arith, ◌≡◌, ap, ◌∙◌, [], ◌∷◌, Some, subst}
-use Rattle.uses_programs.proofs.Names.{common_steps, option_map, Closes, HasPopped, first_view}
-use Rattle.steps.specs.Objects.Lists.{front}
-use Rattle.lock_free.specs.Queues.Calls.{view, producer_view, consumer_view}
-use Rattle.lock_free.specs.Queues.Item.TheVariants.{Index}
-use Rattle.lock_free.specs.Queues.Role.TheVariants as roles
-use Rattle.lock_free.specs.Queues.Told.{HasSplit}
-use Rattle.uses_programs.specs.Rows.{HasSent, HasReceived}
-use Rattle.uses_programs.proofs.Left.{left}
-use Rattle.uses_programs.proofs.Rows.{said_of_ok, said_of_some, sent_none, sent_more, sent_all, received_none, gets_one, received_all}
+use Rattle.std.proofs.Common.{refl, rules, arith, ◌≡◌, ap, ◌∙◌, [], ◌∷◌}
+use Rattle.uses_programs.proofs.Names.{common_steps, slice_get, drop, front, index_tells, Index, Sending, Receiving, Sent, Received}
+use Rattle.uses_programs.proofs.Names.{sending_none, sending_one, sent_all, receiving_none, receiving_one, received_all, left_over}
 use Rattle.uses_programs.proofs.closing.push_pop_and_close.Goals as goal
 
 pub returns : goal.returns
 returns c =
-    let p = producer_view c.in_ok-producer.producer in
-    let p₁ = producer_view c.push.new.self in
-    let p₂ = producer_view c.push-2.new.self in
-    let t = consumer_view c.in_ok-consumer.consumer in
-    let t₁ = consumer_view c.pop.new.self in
-    let x = c.in_ok-shared.shared in
-    let first : view c.in_ok-queue.mine ≡ first_view 4 = first_of (search rules, grind (arith, common_steps)) in
-    let cut : HasSplit (view c.in_ok-queue.mine) (view c.split.new.self) (view c.in_ok-other.other) = search rules in
-    let taken =
-    said_of_ok _ _ c.acquire_producer.result c.in_ok-producer.producer c.in_ok-producer.ensures.cases
-    c.in_ok-producer.ensures.variant refl c.acquire_producer.ensures.acquired in
-    let begun : HasSent [] (view c.split.new.self) p = sent_none _ [] roles.Producer _ _ taken.1 taken.2 in
-    let one : HasSent (1 ∷ []) (view c.split.new.self) p₁ =
-    sent_more _ [] 1 _ _ p p₁ begun c.push.ensures.goes (search rules) c.push.ensures.called (c.push.ensures.pushed (search rules)) in
-    let two : HasSent (1 ∷ 2 ∷ []) (view c.split.new.self) p₂ =
-    sent_more _ (1 ∷ []) 2 _ _ p₁ p₂ one c.push-2.ensures.goes (search rules) c.push-2.ensures.called
-    (c.push-2.ensures.pushed (search rules)) in
-    let sent =
-    sent_all _ (1 ∷ 2 ∷ []) 2 roles.Producer _ p₂ _ (omega arith) two c.release-pass.ensures.goes
+    let x = c.in-Some.shared in
+    let list = c.in_ok-list.list in
+    let one : Sending Index c.in-Ok.producer (1 ∷ []) c.push.new.self =
+    sending_one [] 1 (sending_none refl) c.push.ensures.queue c.push.ensures.goes (search rules) c.push.ensures.called c.push.ensures.pushed in
+    let two : Sending Index c.in-Ok.producer (1 ∷ 2 ∷ []) c.push-2.new.self =
+    sending_one (1 ∷ []) 2 one c.push-2.ensures.queue c.push-2.ensures.goes (search rules) c.push-2.ensures.called c.push-2.ensures.pushed in
+    let sent : Sent Index c.split.new.self (1 ∷ 2 ∷ []) c.release-pass.result =
+    sent_all (1 ∷ 2 ∷ []) 2 (c.in-Ok.ensures.acquired.0, c.in-Ok.ensures.acquired.1, c.in-Ok.ensures.acquired.2) two (omega arith) c.release-pass.ensures.queue c.release-pass.ensures.goes
     c.release-pass.ensures.released c.release-pass.ensures.list in
-    let taken' =
-    said_of_ok _ _ c.acquire_consumer.result c.in_ok-consumer.consumer c.in_ok-consumer.ensures.cases
-    c.in_ok-consumer.ensures.variant refl c.acquire_consumer.ensures.acquired in
-    let none : HasReceived [] (view c.in_ok-other.other) t = received_none _ roles.Consumer _ _ taken'.1 taken'.2 in
-    let is : c.pop.result ≡ Some x = first_of (search rules, grind (arith, common_steps)) in
-    let told = subst (λ o. HasPopped (option_map Index o) t t₁) is c.pop.ensures.called in
-    let got : HasReceived (x ∷ []) (view c.in_ok-other.other) t₁ =
-    gets_one _ [] x _ t t₁ none c.pop.ensures.goes told (said_of_some _ c.pop.result x is c.pop.ensures.popped) in
-    let received = received_all _ (x ∷ []) roles.Consumer _ t₁ _ got c.release.ensures.goes c.release.ensures.released c.release.ensures.list in
-    let closed : Closes Index 4 (view c.join.new.self) c.in_ok-list.list = search rules in
-    let r =
-    left _ 4 _ _ _ _ _ (view c.join.new.self) x c.in_ok-list.list first cut sent received c.join.ensures.joined
-    c.join.ensures.history c.join.ensures.all closed in (
-      r.0,
-      c.pop-first.ensures.answer ∙ r.1,
-      c.pop-second.ensures.answer ∙ (ap front c.pop-first.ensures.list ∙ r.2),
+    let got : Receiving Index c.in-Ok-acquire_consumer.consumer (x ∷ []) c.pop.new.self =
+    receiving_one [] (x ∷ []) x (receiving_none refl) c.pop.ensures.queue c.pop.ensures.goes c.pop.ensures.called c.pop.ensures.popped (search rules) refl in
+    let received : Received Index c.in_ok-other.other (x ∷ []) c.release.result =
+    received_all (c.in-Ok-acquire_consumer.ensures.acquired.0, c.in-Ok-acquire_consumer.ensures.acquired.1, c.in-Ok-acquire_consumer.ensures.acquired.2) got c.release.ensures.queue c.release.ensures.goes c.release.ensures.released c.release.ensures.list in
+    let all : 1 ∷ 2 ∷ [] ≡ x ∷ list.values =
+    left_over c.in_ok-queue.mine c.split.new.self c.in_ok-other.other c.release-pass.result c.release.result c.join.new.self 4 list index_tells
+    (first_of (search rules, grind (arith, common_steps))) (search rules) sent received c.join.ensures.joined c.join.ensures.all (search rules) in
+    let rest : list.values ≡ 2 ∷ [] = cc in (
+      cc,
+      c.pop-first.ensures.answer ∙ ap (λ ys. slice_get ys 0) rest,
+      c.pop-second.ensures.answer ∙ (ap front c.pop-first.ensures.list ∙ ap (λ ys. slice_get (drop 1 ys) 0) rest),
     )

@@ -1,7 +1,10 @@
-use Rattle.std.proofs.Common.{refl, sym, subst}
-use Rattle.lock_free.specs.UniqueIndexSet.{made}
-use Rattle.uses_programs.proofs.Names.{HeldBy}
+use Rattle.uses_programs.proofs.Names.{rules, arith, common_steps, holds_none, holds_more}
 use Rattle.uses_programs.proofs.pool.take.Goals as goal
 
 pub loop-init : goal.loop-init
-loop-init g c = (refl, refl, subst (λ xs. HeldBy xs (made c.args.pass)) (sym c.new-indices.ensures.items) c.requires.none)
+loop-init g c = holds_none c.requires.none c.new-indices.ensures.items
+
+pub loop-preserved : goal.loop-preserved
+loop-preserved g c =
+    holds_more c.push.new.self.items c.in-Ok.index c.loop.invariant c.acquire_raw_index.ensures.goes_on c.in-Ok.ensures.acquired
+    (first_of (search rules, grind (arith, common_steps)))

@@ -1,6 +1,6 @@
 use Rattle.std.proofs.Common.{◌≡◌, ◌<◌, ℕ, List, ◌++◌}
 use Rattle.lock_free.specs.Queues.Overflowing.{consumer_view, consumer_queue}
-use Rattle.uses_programs.specs.Overflow.{HasTaken}
+use Rattle.lock_free_queues.specs.Queues.Merges.{HasTaken}
 use Rattle.uses_programs.proofs.relay_overflow.drain.Given as goal
 
 abbrev pub invariant-loop : goal.invariant-loop

@@ -1,10 +1,10 @@
-use Rattle.std.proofs.Common.{rules, arith, ◌≡◌, ◌<◌, ◌-◌, ◌^◌, ◌∙◌, ap, subst, sym, length}
+use Rattle.std.proofs.Common.{rules, arith, ◌≡◌, ◌<◌, ◌-◌, ◌^◌, subst, sym, length}
 use Rattle.uses_programs.proofs.Names.{common_steps, first_view}
 use Rattle.lock_free.specs.Queues.Overflowing.{view, queue_of, consumer_view, consumer_queue}
 use Rattle.lock_free.specs.Queues.Role.TheVariants as roles
 use Rattle.lock_free.specs.Queues.Told.{HasSplit}
-use Rattle.uses_programs.specs.Overflow.{HasPushedUpTo, HasTaken, HasDrained}
-use Rattle.uses_programs.proofs.Merging.{overflowed}
+use Rattle.lock_free_queues.specs.Queues.Merges.{HasPushedUpTo, HasTaken, HasDrained}
+use Rattle.lock_free_queues.proofs.Queues.Merging.{overflowed}
 use Rattle.uses_programs.proofs.relay_overflow.overflow.Goals as goal
 
 pub returns : goal.returns

@@ -3,8 +3,8 @@ use Rattle.uses_programs.proofs.Names.{common_steps, IfOk-at_ok, option_map, Has
 use Rattle.lock_free.specs.Queues.Item.TheVariants.{Index}
 use Rattle.lock_free.specs.Queues.Overflowing.{view, consumer_view, consumer_queue, QueueId}
 use Rattle.lock_free.specs.Queues.Role.TheVariants as roles
-use Rattle.uses_programs.specs.Overflow.{HasTaken}
-use Rattle.uses_programs.proofs.TakenOut.{takes_none, takes_one, takes_nothing, takes_all}
+use Rattle.lock_free_queues.specs.Queues.Merges.{HasTaken}
+use Rattle.lock_free_queues.proofs.Queues.TakenOut.{takes_none, takes_one, takes_nothing, takes_all}
 use Rattle.uses_programs.proofs.relay_overflow.pop_some.Goals as goal
 
 pub loop-init : goal.loop-init

@@ -1,9 +1,9 @@
-use Rattle.std.proofs.Common.{rules, arith, subst, sym, refl, ap, ◌≡◌, ◌+◌, ◌<◌, ◌∙◌, [], ◌∷◌, ◌++◌, take, Ok, Some, None}
+use Rattle.std.proofs.Common.{rules, arith, subst, sym, refl, ap, ◌≡◌, ◌+◌, ◌<◌, [], ◌∷◌, ◌++◌, take, Ok, Some, None}
 use Rattle.uses_programs.proofs.Names.{common_steps, IfOk-at_ok}
 use Rattle.lock_free.specs.Queues.Overflowing.{view, producer_view, producer_queue, QueueId}
 use Rattle.lock_free.specs.Queues.Role.TheVariants as roles
-use Rattle.uses_programs.specs.Overflow.{HasPushedUpTo}
-use Rattle.uses_programs.proofs.TakenOut.{pushed_none, pushes_next, returns_next, pushed_all}
+use Rattle.lock_free_queues.specs.Queues.Merges.{HasPushedUpTo}
+use Rattle.lock_free_queues.proofs.Queues.TakenOut.{pushed_none, pushes_next, returns_next, pushed_all}
 use Rattle.uses_programs.proofs.relay_overflow.push_all.Goals as goal
 
 pub loop-next-init : goal.loop-next-init

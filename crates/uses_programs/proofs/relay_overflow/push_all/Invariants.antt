@@ -1,6 +1,6 @@
 use Rattle.std.proofs.Common.{◌≡◌, ◌<◌, length, take}
 use Rattle.lock_free.specs.Queues.Overflowing.{view, queue_of, producer_view, producer_queue}
-use Rattle.uses_programs.specs.Overflow.{HasPushedUpTo}
+use Rattle.lock_free_queues.specs.Queues.Merges.{HasPushedUpTo}
 use Rattle.uses_programs.proofs.relay_overflow.push_all.Given as goal
 
 abbrev pub invariant-loop-next : goal.invariant-loop-next

@@ -1,0 +1,135 @@
+//! Bit sets and counting bit sets: one stays inside a reset of all places, where it is told of one, and another sets a
+//! place and resets it.
+use crate::inside::{GoesOn, ROUNDS, Stays, goes_on_beside};
+use crate::slow::takes_long;
+use lock_free::mpmc::bit_set::BitSet;
+use lock_free::mpmc::counting_bit_set::CountingBitSet;
+use lock_free::mpmc::{bit_set, counting_bit_set};
+use std::alloc::Global;
+use std::sync::Wait;
+use std::test::Fail;
+use std::thread::Threads;
+use std::time::Clock;
+
+/// How many places there are, of which the first stands, and which one the other sets.
+const PLACES: usize = 130;
+
+const OTHER: usize = 1;
+
+/// Resets all places of a bit set.
+#[derive(Drop)]
+struct ResetsBits<'a> {
+    handle: bit_set::Handle<'a>,
+}
+
+impl<'a> Stays for ResetsBits<'a> {
+    fn stays(&mut self, _rt: &impl Wait) -> bool {
+        let mut found = 0u64;
+        self.handle.reset_all(&mut |_| {
+            takes_long();
+            found = found.wrapping_add(1);
+        });
+        found == 1
+    }
+}
+
+/// Sets a place and resets it, in both ways.
+#[derive(Drop)]
+struct SetsBits<'a> {
+    handle: bit_set::Handle<'a>,
+}
+
+impl<'a> SetsBits<'a> {
+    fn sets(&mut self, rt: &impl Wait) -> bool {
+        OTHER < self.handle.capacity() && self.handle.set(rt, OTHER)
+    }
+
+    /// Whether the place was the only one that stood.
+    fn resets(&mut self) -> bool {
+        let (mut found, mut well) = (0u64, true);
+        self.handle.reset_all(&mut |place| {
+            found = found.wrapping_add(1);
+            well &= place == OTHER;
+        });
+        well && found == 1
+    }
+}
+
+impl<'a> GoesOn for SetsBits<'a> {
+    fn goes_on(&mut self, rt: &impl Wait, _at: u64) -> bool {
+        let first = self.sets(rt) && self.handle.reset_next(rt) == Some(OTHER);
+        first && self.sets(rt) && self.resets()
+    }
+}
+
+/// Takes all counts of a counting bit set out.
+#[derive(Drop)]
+struct ResetsCounts<'a> {
+    handle: counting_bit_set::Handle<'a>,
+}
+
+impl<'a> Stays for ResetsCounts<'a> {
+    fn stays(&mut self, _rt: &impl Wait) -> bool {
+        let mut found = 0u64;
+        self.handle.reset_all(&mut |state| {
+            if state.bit() == 0 {
+                takes_long();
+                found = found.wrapping_add(state.count());
+            }
+        });
+        found == 1
+    }
+}
+
+/// Counts a place.
+#[derive(Drop)]
+struct SetsCounts<'a> {
+    handle: counting_bit_set::Handle<'a>,
+}
+
+impl<'a> GoesOn for SetsCounts<'a> {
+    /// Its count goes up by one with each call, until the other takes it out.
+    fn goes_on(&mut self, _rt: &impl Wait, at: u64) -> bool {
+        OTHER < self.handle.capacity() && self.handle.set(OTHER) == at
+    }
+}
+
+/// Whether one goes on while another is inside a reset of a bit set.
+fn bits_go_on<R: Wait + Threads + Clock + Sync>(rt: &R, alloc: Global) -> Result<bool, Fail> {
+    let (set, pass) = BitSet::new(alloc, PLACES)?;
+    let mut handle = set.handle(pass);
+    let other = handle.split().ok_or("no further handle")?;
+    if handle.capacity() == 0 || !handle.set(rt, 0) {
+        return Ok(false);
+    }
+    let resets = ResetsBits { handle };
+    Ok(goes_on_beside(rt, resets, SetsBits { handle: other }))
+}
+
+/// The same of a counting bit set.
+fn counts_go_on<R: Wait + Threads + Clock + Sync>(rt: &R, alloc: Global) -> Result<bool, Fail> {
+    let (set, pass) = CountingBitSet::new(alloc, PLACES)?;
+    let mut handle = set.handle(pass);
+    let other = handle.split().ok_or("no further handle")?;
+    if handle.capacity() == 0 || handle.set(0) != 0 {
+        return Ok(false);
+    }
+    let resets = ResetsCounts { handle };
+    Ok(goes_on_beside(rt, resets, SetsCounts { handle: other }))
+}
+
+#[test]
+fn beside_a_reset_of_all(rt: HostRuntime) -> Result<(), Fail> {
+    let (mut bits, mut counts) = (false, false);
+    for _ in 0..ROUNDS {
+        if !bits {
+            bits = bits_go_on(&rt, rt.alloc())?;
+        }
+        if !counts {
+            counts = counts_go_on(&rt, rt.alloc())?;
+        }
+    }
+    assert!(rt; bits, "bits");
+    assert!(rt; counts, "counts");
+    Ok(())
+}

@@ -1,0 +1,170 @@
+//! Containers: one stays inside an add, a replace, a look, a find or a recovery, and another owner goes on.
+use crate::inside::{GoesOn, ROUNDS, Stays, goes_on_beside};
+use crate::slow::{SLOW_TO_READ, SLOW_TO_WRITE, Slow, takes_long};
+use lock_free::mpmc::container::{
+    CallbackProgression, Container, ContainerHandle, ContainerState, Handle, OwnerId,
+};
+use lock_free::mpmc::unique_index_set_enums::ReleaseMode;
+use std::alloc::Global;
+use std::sync::Wait;
+use std::test::Fail;
+use std::thread::Threads;
+use std::time::Clock;
+
+/// Inside which call one stays.
+#[derive(Clone, Copy)]
+enum Place {
+    Add,
+    Replace,
+    GetState,
+    UpdateState,
+    Find,
+    Recover,
+}
+
+/// Makes the call.
+#[derive(Drop)]
+struct Calls<'a> {
+    handle: Handle<'a, Slow>,
+    state: ContainerState<Slow>,
+    key: ContainerHandle,
+    owner: OwnerId,
+    place: Place,
+}
+
+impl<'a> Calls<'a> {
+    /// Whether the state is brought up to date.
+    fn updates(&mut self, rt: &impl Wait) -> bool {
+        self.handle.is_state_of(&self.state) && self.handle.update_state(rt, &mut self.state)
+    }
+
+    /// Whether the owner's one value is found.
+    fn finds(&mut self) -> bool {
+        let owner = self.owner;
+        let found = self.handle.find(
+            owner,
+            &mut |_, _| {
+                takes_long();
+                CallbackProgression::Continue
+            },
+        );
+        found == 1
+    }
+
+    /// Whether the owner's one value is recovered.
+    fn recovers(&mut self, rt: &impl Wait) -> bool {
+        let mut asked = 0u64;
+        self.handle.recover(
+            rt,
+            self.owner,
+            &mut |_| {
+                takes_long();
+                asked = asked.wrapping_add(1);
+                true
+            },
+            ReleaseMode::Default,
+        );
+        asked == 1
+    }
+}
+
+impl<'a> Stays for Calls<'a> {
+    fn stays(&mut self, rt: &impl Wait) -> bool {
+        match self.place {
+            Place::Add => self
+                .handle
+                .add(rt, Slow::of(SLOW_TO_WRITE), self.owner)
+                .is_ok(),
+            Place::Replace => self
+                .handle
+                .replace(self.key, Slow::of(SLOW_TO_WRITE))
+                .is_ok(),
+            Place::GetState => self.handle.get_state(rt).is_ok(),
+            Place::UpdateState => self.updates(rt),
+            Place::Find => self.finds(),
+            Place::Recover => self.recovers(rt),
+        }
+    }
+}
+
+/// Adds a value, replaces it, finds it and removes it.
+#[derive(Drop)]
+struct Changes<'a> {
+    handle: Handle<'a, Slow>,
+    owner: OwnerId,
+}
+
+impl<'a> Changes<'a> {
+    /// Whether there is the owner's value, at most two beside it, and no lock.
+    fn asks(&mut self, rt: &impl Wait) -> bool {
+        let number = self.handle.len(rt);
+        let found = self
+            .handle
+            .find(self.owner, &mut |_, _| CallbackProgression::Continue);
+        1 <= number && number <= 3 && found == 1 && !self.handle.is_locked()
+    }
+
+    fn changes(&mut self, rt: &impl Wait, key: ContainerHandle, at: u64) -> bool {
+        let same = key;
+        let is_replaced = self.handle.replace(key, Slow::of(at)).is_ok();
+        let is_there = self.asks(rt);
+        let removed = self.handle.remove(rt, same, ReleaseMode::Default);
+        is_replaced && is_there && removed.is_ok()
+    }
+}
+
+impl<'a> GoesOn for Changes<'a> {
+    fn goes_on(&mut self, rt: &impl Wait, at: u64) -> bool {
+        match self.handle.add(rt, Slow::of(0), self.owner) {
+            Ok(key) => self.changes(rt, key, at),
+            Err(_) => false,
+        }
+    }
+}
+
+/// Whether another owner goes on while one is inside that call, in a container with one value, which takes long to read.
+fn goes_on<R: Wait + Threads + Clock + Sync>(
+    rt: &R,
+    alloc: Global,
+    place: Place,
+) -> Result<bool, Fail> {
+    let (one, owner) = (OwnerId::new(1)?, OwnerId::new(2)?);
+    let (container, pass) = Container::<Slow>::new(alloc, 5, 1)?;
+    let mut handle = container.handle(pass);
+    let other = handle.split().ok_or("no further handle")?;
+    let state = handle.get_state(rt)?;
+    let key = handle.add(rt, Slow::of(SLOW_TO_READ), one)?;
+    let calls = Calls {
+        handle,
+        state,
+        key,
+        owner: one,
+        place,
+    };
+    let changes = Changes {
+        handle: other,
+        owner,
+    };
+    Ok(goes_on_beside(rt, calls, changes))
+}
+
+#[test]
+fn beside_an_add_a_look_a_find_and_a_recovery(rt: HostRuntime) -> Result<(), Fail> {
+    for (place, name) in [
+        (Place::Add, "add"),
+        (Place::Replace, "replace"),
+        (Place::GetState, "get_state"),
+        (Place::UpdateState, "update_state"),
+        (Place::Find, "find"),
+        (Place::Recover, "recover"),
+    ] {
+        let mut well = false;
+        for _ in 0..ROUNDS {
+            if !well {
+                well = goes_on(&rt, rt.alloc(), place)?;
+            }
+        }
+        assert!(rt; well, "inside {name}");
+    }
+    Ok(())
+}

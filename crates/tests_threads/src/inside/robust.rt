@@ -1,0 +1,152 @@
+//! Robust unique index sets: one stays inside a recovery or a find, and another owner goes on.
+use crate::inside::{GoesOn, ROUNDS, Stays, goes_on_beside};
+use crate::slow::takes_long;
+use lock_free::mpmc::robust_unique_index_set::{
+    CallbackProgression, Handle, OwnerId, RobustUniqueIndexSet,
+};
+use lock_free::mpmc::unique_index_set_enums::{ReleaseMode, ReleaseState};
+use std::alloc::Global;
+use std::sync::Wait;
+use std::test::Fail;
+use std::thread::Threads;
+use std::time::Clock;
+
+/// Where one stays.
+#[derive(Clone, Copy)]
+enum Place {
+    /// Where a recovery asks about the index.
+    Asked,
+    /// Where it tells of it.
+    Told,
+    /// Where a find comes to it.
+    Found,
+}
+
+/// Recovers an owner who has one index, or finds it.
+#[derive(Drop)]
+struct Visits<'a> {
+    handle: Handle<'a>,
+    dead: OwnerId,
+    place: Place,
+}
+
+impl<'a> Visits<'a> {
+    /// Whether the index is freed.
+    fn recovers(&mut self, rt: &impl Wait, is_asked: bool) -> bool {
+        let dead = self.dead;
+        let mut freed = 0u64;
+        self.handle.recover(
+            rt,
+            ReleaseMode::Default,
+            &mut |owner, _| {
+                if owner == dead && is_asked {
+                    takes_long();
+                }
+                owner == dead
+            },
+            &mut |_, _| {
+                if !is_asked {
+                    takes_long();
+                }
+                freed = freed.wrapping_add(1);
+            },
+        );
+        freed == 1
+    }
+
+    /// Whether the index is found.
+    fn finds(&mut self) -> bool {
+        let dead = self.dead;
+        let found = self.handle.find(
+            dead,
+            &mut |_| {
+                takes_long();
+                CallbackProgression::Continue
+            },
+        );
+        found == 1
+    }
+}
+
+impl<'a> Stays for Visits<'a> {
+    fn stays(&mut self, rt: &impl Wait) -> bool {
+        match self.place {
+            Place::Asked => self.recovers(rt, true),
+            Place::Told => self.recovers(rt, false),
+            Place::Found => self.finds(),
+        }
+    }
+}
+
+/// Acquires, asks and releases for an owner.
+#[derive(Drop)]
+struct Acquires<'a> {
+    handle: Handle<'a>,
+    owner: OwnerId,
+}
+
+impl<'a> Acquires<'a> {
+    /// Whether there are one or two indices, of which the owner has one, and no lock.
+    fn asks(&mut self, rt: &impl Wait) -> bool {
+        let number = self.handle.borrowed_indices(rt);
+        let found = self
+            .handle
+            .find(self.owner, &mut |_| CallbackProgression::Continue);
+        1 <= number && number <= 2 && found == 1 && !self.handle.is_locked()
+    }
+}
+
+impl<'a> GoesOn for Acquires<'a> {
+    fn goes_on(&mut self, rt: &impl Wait, _at: u64) -> bool {
+        let Ok(index) = self.handle.acquire(rt, self.owner) else {
+            return false;
+        };
+        if !self.asks(rt) || index >= self.handle.capacity() {
+            return false;
+        }
+        let mode = ReleaseMode::Default;
+        let state = self.handle.release(rt, index, self.owner, mode).ok();
+        state == Some(ReleaseState::Unlocked)
+    }
+}
+
+/// Whether another owner goes on while one is inside a call that comes to the one index of an owner, of three.
+fn goes_on<R: Wait + Threads + Clock + Sync>(
+    rt: &R,
+    alloc: Global,
+    place: Place,
+) -> Result<bool, Fail> {
+    let (dead, owner) = (OwnerId::new(1)?, OwnerId::new(2)?);
+    let (set, pass) = RobustUniqueIndexSet::new(alloc, 3)?;
+    let mut handle = set.handle(pass);
+    let other = handle.split().ok_or("no further handle")?;
+    let has_one = handle.acquire(rt, dead).is_ok();
+    let visits = Visits {
+        handle,
+        dead,
+        place,
+    };
+    let acquires = Acquires {
+        handle: other,
+        owner,
+    };
+    Ok(has_one && goes_on_beside(rt, visits, acquires))
+}
+
+#[test]
+fn beside_a_recovery_and_a_find(rt: HostRuntime) -> Result<(), Fail> {
+    for (place, name) in [
+        (Place::Asked, "asked"),
+        (Place::Told, "told"),
+        (Place::Found, "found"),
+    ] {
+        let mut well = false;
+        for _ in 0..ROUNDS {
+            if !well {
+                well = goes_on(&rt, rt.alloc(), place)?;
+            }
+        }
+        assert!(rt; well, "where it is {name}");
+    }
+    Ok(())
+}

@@ -1,0 +1,25 @@
+use Rattle.std.proofs.Common.{rules}
+use Rattle.lock_free.specs.Container.Names.{code_of, container_of, share, view}
+use Rattle.lock_free.specs.Container.Told.{placed}
+use Rattle.lock_free.specs.Shares.{IsAll}
+use Rattle.uses_laws.proofs.Whole.{Laws, whole_after}
+use Rattle.uses_laws.proofs.copies.add_both.Goals as goal
+
+pub returns : goal.returns
+returns g c =
+    let old = c.args.pass.now in
+    let between = c.add-one.new.pass in
+    let new = c.add-two.new.pass in
+    let still : IsAll (share new) = search rules in
+    let laws : Laws =
+    record {
+      whole = c.copies_are_whole.ensures;
+      faithful = c.histories_without_recoveries_are_faithful.ensures;
+      well_formed = c.histories_without_removals_are_well_formed.ensures;
+      apart = c.calls_that_lock_are_apart.ensures;
+    }
+    in
+    whole_after laws (code_of between) (container_of between).capacity (view old) (view between) (view new) c.requires.calm
+    (record { value = c.args.first; owner = c.args.owner }) (record { value = c.args.second; owner = c.args.owner })
+    (placed c.add-one.result) (placed c.add-two.result) c.requires.idle c.add-one.ensures.goes_on.idle
+    c.add-one.ensures.added c.add-two.ensures.added (c.add-two.ensures.goes_on.goes.all still) c.add-two.ensures.goes_on.goes.history

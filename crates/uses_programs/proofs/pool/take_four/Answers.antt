@@ -1,0 +1,8 @@
+use Rattle.uses_programs.proofs.Names.{rules, both_hold}
+use Rattle.uses_programs.proofs.pool.take_four.Goals as goal
+
+pub returns-clause-held : goal.returns-clause-held
+returns-clause-held g c =
+    both_hold c.args.pass c.split.new.self c.in_ok-other.other c.in_ok-joined.joined c.in_ok-further.further c.join.new.self
+    c.in_ok-joined.indices.items c.in_ok-further.those.items (search rules) c.split.ensures.set (search rules) (search rules)
+    c.join.ensures.joined c.join.ensures.set (search rules)
