@@ -87,7 +87,19 @@ module _ {T : Type 0} (code : Coding T) (kind : Kind) (capacity size : ℕ)
 
   -- a pass that has made these events
   abbrev pub maker : List (Event T) → View T
-  maker es = record { capacity = capacity; party = Some 0; share = all_shares; seen = es; other = []; made = es; going = None; state = None; asked = 0; taken = 0 }
+  maker es =
+      record {
+        capacity = capacity;
+        party = Some 0;
+        share = all_shares;
+        seen = es;
+        other = [];
+        made = es;
+        going = None;
+        state = None;
+        asked = 0;
+        taken = 0;
+      }
 
   pub sums : (words : List ℕ) (es : List (Event T)) (going : Option (Start T × Flight T))
       → (h : Here words es going) → (f : Event T → ℕ)
@@ -210,7 +222,18 @@ module _ {T : Type 0} (code : Coding T) (kind : Kind) (capacity size : ℕ)
         asked = 0;
         taken = 0;
       }) h.there
-      ∙ ap (λ z. record { capacity = capacity; party = Some 0; share = all_shares; seen = es; other = []; made = es; going = None; state = z; asked = 0; taken = 0 })
+      ∙ ap (λ z. record {
+        capacity = capacity;
+        party = Some 0;
+        share = all_shares;
+        seen = es;
+        other = [];
+        made = es;
+        going = None;
+        state = z;
+        asked = 0;
+        taken = 0;
+      })
       (stateless_none h.u.world.kept 0 (laws.stateless h.u h.between.run))))
       (settle_with code kind capacity 0 0 same_seat 0 0 words (alone words) first es h.u refl (omega arith)
       (λ call is. (let no : ◌≡◌ {A = Option (Start T × Flight T)} None (Some call) = sym h.there ∙ is in absurd (cc))) h.between)

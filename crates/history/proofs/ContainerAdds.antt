@@ -188,7 +188,8 @@ module _ {T : Type 0} (code : Coding T) (law : IsCoding code) (given : Replaceme
         tells_all = λ capacity p from c end m n es h skip wrote e still new. replace_goes capacity p c n es (Done end) h (wrote new) e;
       }
 
-  pub container_replace_keeps : KeepsRule (λ (z : View T). z.asked) (λ (z : View T). z.capacity) (At code kinds.Container replacing) (Ends code kinds.Container replacing)
+  pub container_replace_keeps : KeepsRule (λ (z : View T). z.asked) (λ (z : View T). z.capacity)
+      (At code kinds.Container replacing) (Ends code kinds.Container replacing)
       (λ key. container_words code key + 1) (λ key. key) (λ key. IsMachine code kinds.Container key) (λ c. replace_want code.words_of code.size c given)
       replace_then (λ c m n. m)
   container_replace_keeps = container_keeps code replacing (λ c m. tt) (λ c. replace_want code.words_of code.size c given) replace_then (λ c m n. m)

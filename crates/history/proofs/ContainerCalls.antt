@@ -79,7 +79,8 @@ module _ {T : Type 0} (code : Coding T) where
   lock_call : IsCallOf code (plain_effects code) (container_words code) (λ c. load 0) locked_after (λ c m n. m) sees_lock
   lock_call = grind arith
 
-  pub container_lock_keeps : KeepsRule (λ (z : View T). z.asked) (λ (z : View T). z.capacity) (At code kinds.Container sees_lock) (Ends code kinds.Container sees_lock)
+  pub container_lock_keeps : KeepsRule (λ (z : View T). z.asked) (λ (z : View T). z.capacity)
+      (At code kinds.Container sees_lock) (Ends code kinds.Container sees_lock)
       (λ key. container_words code key + 1) (λ key. key) (λ key. IsMachine code kinds.Container key) (λ c. load 0) locked_after (λ c m n. m)
   container_lock_keeps = container_keeps code sees_lock (λ c m. tt) (λ c. load 0) locked_after (λ c m n. m) lock_call (λ c n. refl)
 

@@ -316,12 +316,14 @@ module _ {T C M E : Type 0} (code : Coding T) (kind : Kind) (decides : MayDecide
         go base stage (GoOn d) e = hears_said base v c d m false due e stage
         go base stage (Done end) e = ends_said base v c m false end due e stage
 
-    pub keeps_said : KeepsRule (λ (z : View T). z.asked) (λ (z : View T). z.capacity) (AtAsked code kind after kept call) Finished (λ key. size_of key + 1) (λ key. key)
+    pub keeps_said : KeepsRule (λ (z : View T). z.asked) (λ (z : View T). z.capacity)
+        (AtAsked code kind after kept call) Finished (λ key. size_of key + 1) (λ key. key)
         (λ key. IsMachine code kind key) want after kept
     keeps_said base₀ v c m key words slots id wide known at₀ = by_bool (is_question (want c)) (λ due. at_question (want c) refl due)
         (λ still. keeps_word base₀ v c m key words slots id wide known still at₀)
       where
-        at_question : (w : Want (Unit {0})) → want c ≡ w → is_question w ≡ true → Owes (λ (z : View T). z.asked) (IsMachine code kind key) words slots id (ToldAsked c m) w (v, [])
+        at_question : (w : Want (Unit {0})) → want c ≡ w → is_question w ≡ true
+            → Owes (λ (z : View T). z.asked) (IsMachine code kind key) words slots id (ToldAsked c m) w (v, [])
         at_question (wants.Ask a) e due = absurd (cc)
         at_question (wants.Question q) e due = told_no v c m (ap is_question e ∙ due)
         at_question wants.Nothing e due = absurd (cc)
@@ -341,7 +343,8 @@ module _ {T C M E : Type 0} (code : Coding T) (kind : Kind) (decides : MayDecide
       → IsUnderWay code kind call base v c m → Ends code kind call base e (kept c m (number_of said)) v
   never_ends base v c m said end due e under = absurd (is_call.lasts c end (number_of said) due e)
 
-  pub keeps_asked : KeepsRule (λ (z : View T). z.asked) (λ (z : View T). z.capacity) (AtAsked code kind after kept call) (Ends code kind call) (λ key. size_of key + 1) (λ key. key)
+  pub keeps_asked : KeepsRule (λ (z : View T). z.asked) (λ (z : View T). z.capacity)
+      (AtAsked code kind after kept call) (Ends code kind call) (λ key. size_of key + 1) (λ key. key)
       (λ key. IsMachine code kind key) want after kept
   keeps_asked =
       keeps_said code kind decides effects own size_of laws want after kept call acts is_call.asking

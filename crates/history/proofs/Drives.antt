@@ -186,7 +186,8 @@ module _ {T C M E Asks : Type 0} (code : Coding T) (kind : Kind) (effects : Worl
     told_all : (c : C) (m : M) (x : View T) (n : ℕ) (w : View T) → ToldOver c m x n w → ToldEnds c m x n w
     told_all x0 x1 x2 x3 x4 x5 = grind arith
 
-    pub keeps_ends : KeepsRule (λ (z : View T). z.asked) (λ (z : View T). z.capacity) (At code kind call) (Over code kind call) (λ key. size_of key + 1) (λ key. key)
+    pub keeps_ends : KeepsRule (λ (z : View T). z.asked) (λ (z : View T). z.capacity) (At code kind call)
+        (Over code kind call) (λ key. size_of key + 1) (λ key. key)
         (λ key. IsMachine code kind key) want after kept
         → KeepsRule (λ (z : View T). z.asked) (λ (z : View T). z.capacity) (At code kind call) (Ends code kind call) (λ key. size_of key + 1) (λ key. key)
         (λ key. IsMachine code kind key) want after kept
@@ -203,7 +204,8 @@ module _ {T C M E Asks : Type 0} (code : Coding T) (kind : Kind) (effects : Worl
 module _ {T C M E : Type 0} (code : Coding T) (kind : Kind) (effects : World T → ℕ → Flight T → ℕ → List (Event T)) (size_of : ℕ → ℕ)
     (laws : (capacity : ℕ) → KeptLaws code kind capacity (size_of capacity) effects) (want : C → Want (Unit {0})) (after : C → ℕ → After C E)
     (kept : C → M → ℕ → M) (call : Calling T C M E) (is_call : IsCallThere code kind effects size_of want after kept call) where
-  pub keeps_there : KeepsRule (λ (z : View T). z.asked) (λ (z : View T). z.capacity) (At code kind call) (Over code kind call) (λ key. size_of key + 1) (λ key. key)
+  pub keeps_there : KeepsRule (λ (z : View T). z.asked) (λ (z : View T). z.capacity) (At code kind call)
+      (Over code kind call) (λ key. size_of key + 1) (λ key. key)
       (λ key. IsMachine code kind key) want after kept
   keeps_there base₀ v c m key words slots id wide known at₀ =
       keeps_at code kind effects size_of laws want after kept call is_call base₀ v c m key words slots id wide known at₀
@@ -229,7 +231,8 @@ module _ {T C M E : Type 0} (code : Coding T) (kind : Kind) (effects : World T �
       goes_on_alike code kind capacity (size_of capacity) effects (laws capacity) t run p (call.flight c m) n ∙ h.same_after capacity c m n stands) h
 
   module _ (is_call : IsCallIn code kind effects size_of want after kept call) where
-    pub keeps_in : KeepsRule (λ (z : View T). z.asked) (λ (z : View T). z.capacity) (At code kind call) (Over code kind call) (λ key. size_of key + 1) (λ key. key)
+    pub keeps_in : KeepsRule (λ (z : View T). z.asked) (λ (z : View T). z.capacity) (At code kind call)
+        (Over code kind call) (λ key. size_of key + 1) (λ key. key)
         (λ key. IsMachine code kind key) want after kept
     keeps_in = keeps_there code kind effects size_of laws_there want after kept call (steps_there is_call)
 

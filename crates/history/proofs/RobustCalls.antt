@@ -66,7 +66,8 @@ module _ {T : Type 0} (code : Coding T) (owner : ℕ) where
   pub acquire_call : IsCallOf code robust_effects cells_and_counter (λ c. acquire_want c owner) acquire_after (λ c m n. m) (takes_owned owner)
   acquire_call = grind (arith, as_taken, acquire_found, takes_on, acquire_words)
 
-  pub acquire_keeps : KeepsRule (λ (z : View T). z.asked) (λ (z : View T). z.capacity) (At code kinds.Robust (takes_owned owner)) (Ends code kinds.Robust (takes_owned owner))
+  pub acquire_keeps : KeepsRule (λ (z : View T). z.asked) (λ (z : View T). z.capacity)
+      (At code kinds.Robust (takes_owned owner)) (Ends code kinds.Robust (takes_owned owner))
       (λ key. cells_and_counter key + 1) (λ key. key) (λ key. IsMachine code kinds.Robust key) (λ c. acquire_want c owner) acquire_after
       (λ c m n. m)
   acquire_keeps = keeps_all code kinds.Robust robust_effects cells_and_counter (robusts_owe code) (λ c. acquire_want c owner) acquire_after (λ c m n. m)
@@ -123,7 +124,8 @@ module _ {T : Type 0} (code : Coding T) (given : GiveBack) where
       (gives_owned given)
   release_call = grind (arith, as_given, release_found, gives_on, release_words)
 
-  pub release_keeps : KeepsRule (λ (z : View T). z.asked) (λ (z : View T). z.capacity) (At code kinds.Robust (gives_owned given)) (Ends code kinds.Robust (gives_owned given))
+  pub release_keeps : KeepsRule (λ (z : View T). z.asked) (λ (z : View T). z.capacity)
+      (At code kinds.Robust (gives_owned given)) (Ends code kinds.Robust (gives_owned given))
       (λ key. cells_and_counter key + 1) (λ key. key) (λ key. IsMachine code kinds.Robust key) (λ c. release_want c given)
       (λ c n. release_after c given n) (λ c m n. m)
   release_keeps = keeps_all code kinds.Robust robust_effects cells_and_counter (robusts_owe code) (λ c. release_want c given) (λ c n. release_after c given n)

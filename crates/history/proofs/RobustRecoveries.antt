@@ -348,7 +348,8 @@ module _ {T : Type 0} (code : Coding T) (mode : ReleaseMode) where
   ToldSo c m = ToldOf (λ (z : View T). z.capacity) At Ended after visits_after c m
 
   pub recover_tells : (base v : View T) (c : Recovering) (m : List Visit) (key words slots id : ℕ) → words ≡ cells_and_counter key + 1
-      → v.capacity ≡ key → base.going ≡ None → At base v c m → Owes (λ (z : View T). z.asked) (IsMachine code kinds.Robust key) words slots id (Tells c) (recover_want c) (v, [])
+      → v.capacity ≡ key → base.going ≡ None → At base v c m
+      → Owes (λ (z : View T). z.asked) (IsMachine code kinds.Robust key) words slots id (Tells c) (recover_want c) (v, [])
   recover_tells base v c m key words slots id wide known idle at = go (recover_want c) (recover_keeps base v c m key words slots id wide known at)
     where
       all : (n : ℕ) (w : View T) → ToldSo c m v n w → Tells c v n w

@@ -205,7 +205,8 @@ module _ {T : Type 0} (code : Coding T) (kind : Kind) (decides : MayDecide kind)
     onward x0 x1 x2 x3 x4 x5 x6 = grind arith
 
     begun_keeps : (base₀ v : View T) (c : C) (m : M) (key words slots id : ℕ) → Stage base₀ v c m → (w : Want (Unit {0}))
-        → Owes (λ (z : View T). z.asked) (IsMachine code kind key) words slots id (ToldStage c m) w (v, []) → Owes (λ (z : View T). z.asked) (IsMachine code kind key) words slots id (ToldRested c m) w (v, [])
+        → Owes (λ (z : View T). z.asked) (IsMachine code kind key) words slots id (ToldStage c m) w (v, [])
+        → Owes (λ (z : View T). z.asked) (IsMachine code kind key) words slots id (ToldRested c m) w (v, [])
     begun_keeps x0 x1 x2 x3 x4 x5 x6 x7 x8 x9 x10 = grind arith
 
     -- who has still to begin
@@ -236,9 +237,12 @@ module _ {T : Type 0} (code : Coding T) (kind : Kind) (decides : MayDecide kind)
               (told.1 (view_settled s v key id r at known h) (first_then s r at))
 
       owed : (s : State (Unit {0}) (View T)) (r : IsMachine code kind key s) (at : get_elem? s.views id ≡ some v)
-          → OwesAsk (λ (z : View T). z.asked) (IsMachine code kind key) words slots id (ToldStage c m) ask.word ask.op (view_settled s v key id r at known h, [])
+          → OwesAsk (λ (z : View T). z.asked) (IsMachine code kind key) words slots id (ToldStage c m) ask.word
+          ask.op (view_settled s v key id r at known h, [])
       owed s r at =
-          subst (λ w. Owes (λ (z : View T). z.asked) (IsMachine code kind key) words slots id (ToldStage c m) w (view_settled s v key id r at known h, [])) word.2
+          subst (λ w. Owes (λ (z : View T). z.asked) (IsMachine code kind key) words slots id (ToldStage c m) w
+          (view_settled s v key id r at known h, []))
+          word.2
           (keeps (view_settled s v key id r at known h) (view_settled s v key id r at known h) c m key words slots id ok wide known (first_then s r at))
 
       below : ask.word < words
@@ -285,12 +289,14 @@ module _ {T : Type 0} (code : Coding T) (kind : Kind) (decides : MayDecide kind)
 
   module _ {C M E : Type 0} (want : C → Want (Unit {0})) (after : C → ℕ → After C E) (kept : C → M → ℕ → M)
       (Stage : View T → View T → C → M → Type 0) (Over : View T → E → M → View T → Type 0)
-      (keeps : KeepsRule (λ (z : View T). z.asked) (λ (z : View T). z.capacity) Stage Over (λ key. size_of key + 1) (λ key. key) (λ key. IsMachine code kind key) want after kept)
+      (keeps : KeepsRule (λ (z : View T). z.asked) (λ (z : View T). z.capacity) Stage Over (λ key. size_of key + 1)
+      (λ key. key) (λ key. IsMachine code kind key) want after kept)
       (Begins : View T → C → M → Type 0) (asks : (v : View T) (c : C) (m : M) → Begins v c m → AsksFor (size_of v.capacity) (want c))
       (stays : (v w : View T) (c : C) (m : M) → Settles code kind v w → Begins v c m → Begins w c m)
       (first : (v : View T) (c : C) (m : M) → Begins v c m → v.going ≡ None → v.other ≡ [] → 0 < v.share.part → Stage v v c m)
       (apart : (base v : View T) (c : C) (m : M) → IsResting code v → Begins v c m → Stage base v c m → ⊥) where
-    pub keeps_waiting : KeepsRule (λ (z : View T). z.asked) (λ (z : View T). z.capacity) (AtWaiting code kind Begins Stage) (EndsSettled code kind Over) (λ key. size_of key + 1)
+    pub keeps_waiting : KeepsRule (λ (z : View T). z.asked) (λ (z : View T). z.capacity)
+        (AtWaiting code kind Begins Stage) (EndsSettled code kind Over) (λ key. size_of key + 1)
         (λ key. key) (λ key. IsMachine code kind key) want after kept
     keeps_waiting base₀ v c m key words slots id wide known at₀ =
         keeps_waiting_where want after kept Stage Over (λ c. Unit {0})
@@ -300,7 +306,8 @@ module _ {T : Type 0} (code : Coding T) (kind : Kind) (decides : MayDecide kind)
   -- of one whose begin hangs on the capacity
   module _ {C M E : Type 0} (want : C → Want (Unit {0})) (after : C → ℕ → After C E) (kept : C → M → ℕ → M)
       (Stage : View T → View T → C → M → Type 0) (Over : View T → E → M → View T → Type 0)
-      (keeps : KeepsRule (λ (z : View T). z.asked) (λ (z : View T). z.capacity) Stage Over (λ key. size_of key + 1) (λ key. key) (λ key. IsMachine code kind key) want after kept)
+      (keeps : KeepsRule (λ (z : View T). z.asked) (λ (z : View T). z.capacity) Stage Over (λ key. size_of key + 1)
+      (λ key. key) (λ key. IsMachine code kind key) want after kept)
       (Begins : ℕ → C → M → Type 0) (asks : (capacity : ℕ) (c : C) (m : M) → Begins capacity c m → AsksFor (size_of capacity) (want c))
       (first : (v : View T) (c : C) (m : M) → Begins v.capacity c m → v.going ≡ None → v.other ≡ [] → 0 < v.share.part → Stage v v c m)
       (apart : (base v : View T) (c : C) (m : M) → IsResting code v → Begins v.capacity c m → Stage base v c m → ⊥) where

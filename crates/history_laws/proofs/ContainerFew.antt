@@ -23,7 +23,8 @@ use Rattle.model.specs.Families.Container.Promises as promises
 use Rattle.model.specs.Families.Container.Promises.{StandsWellFormed, IsWellFormedRun}
 use Rattle.model.specs.Families.Indices.Reading.{is_locked}
 use Rattle.model.specs.Parties.{party_of}
-use Rattle.model.specs.Turns.{ask_of_doing, old_of, number_of, after_begin, after_answer, after_next, after_decision, events_of_answer, events_of_next, events_of_decision, events_of, after_turn}
+use Rattle.model.specs.Turns.{ask_of_doing, old_of, number_of, after_begin, after_answer, after_next, after_decision}
+use Rattle.model.specs.Turns.{events_of_answer, events_of_next, events_of_decision, events_of, after_turn}
 use Rattle.model.specs.World.{World, Trace, opening, capacity_error}
 use Rattle.model.proofs.Frame as frame
 use Rattle.model.proofs.Readings.{Each-nil}

@@ -106,7 +106,9 @@ module _ {T : Type 0} where
       → Living (events ++ e ∷ [])
   one events e right asks all living q owner acts =
       ⊎_elim
-      (λ was. gone_then owner events e ∙ (ap (λ gone. gone_after owner gone e) (living q owner was) ∙ acts_alive q owner events e was (living q owner was) right asks all))
+      (λ was. gone_then owner events e
+      ∙ (ap (λ gone. gone_after owner gone e) (living q owner was)
+      ∙ acts_alive q owner events e was (living q owner was) right asks all))
       (λ begins. gone_then owner events e ∙ begins_alive owner (is_gone Word owner events) events e begins right refl)
       (by_test owner (is_party q (whose e)) (span_of q events) e (sym (ap (is_acting owner) (span_then q events e)) ∙ acts))
 

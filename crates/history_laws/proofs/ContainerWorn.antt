@@ -243,7 +243,8 @@ module _ {T : Type 0} where
       subst (λ kind. Sound w.coding w.capacity (opening w.coding kind w.capacity w.parties))
       (sym is) (opening_sound shown (terms w.coding w.capacity) w.coding w.capacity w.parties r.coded may.0 may.1)
 
-  pub opens_bounded : (t : Trace T) → t.world.kind ≡ kinds.TheVariants.Container → Bounded (opening t.world.coding t.world.kind t.world.capacity t.world.parties)
+  pub opens_bounded : (t : Trace T) → t.world.kind ≡ kinds.TheVariants.Container
+      → Bounded (opening t.world.coding t.world.kind t.world.capacity t.world.parties)
   opens_bounded t is =
       let w = t.world in
       subst (λ kind. Bounded (opening w.coding kind w.capacity w.parties)) (sym is)

@@ -106,13 +106,15 @@ module _ {T : Type 0} (i : ℕ) where
 
     container_one : (p j o : ℕ) (before : List (Event T)) (span : Span T) → Stands container.promise c (FreedOf p j o) span
         → MayFree p j before span → OneOf p j o before span
-    container_one p j o before (Open (Container (containers.TheVariants.Remove k owner mode)) wrote) h may = inl (grind arith, subst (λ n. SinceBegin p (λ part since. settled_of j part ≡ Some n) before) (sym h.1) may)
+    container_one p j o before (Open (Container (containers.TheVariants.Remove k owner mode)) wrote) h may =
+        inl (grind arith, subst (λ n. SinceBegin p (λ part since. settled_of j part ≡ Some n) before) (sym h.1) may)
     container_one p j o before (Open (Container (containers.TheVariants.Recover owner mode)) wrote) h may = inr may
     container_one p j o before span h may = absurd h
 
     robust_one : (p j o : ℕ) (before : List (Event T)) (span : Span T) → Stands robust.promise c (FreedOf p j o) span
         → MayFree p j before span → OneOf p j o before span
-    robust_one p j o before (Open (Robust (robusts.TheVariants.Release k owner mode)) wrote) h may = inl (grind arith, subst (λ n. SinceBegin p (λ part since. settled_of j part ≡ Some n) before) (sym h.1) may)
+    robust_one p j o before (Open (Robust (robusts.TheVariants.Release k owner mode)) wrote) h may =
+        inl (grind arith, subst (λ n. SinceBegin p (λ part since. settled_of j part ≡ Some n) before) (sym h.1) may)
     robust_one p j o before (Open (Robust (robusts.TheVariants.Recover mode)) wrote) h may = inr may
     robust_one p j o before span h may = absurd h
 
@@ -164,7 +166,8 @@ module _ {T : Type 0} (i : ℕ) where
   longer_same (Open start wrote) (Filled p j o) x y = absurd (x p j o refl)
   longer_same (Open start wrote) (Granted p j o) x y = absurd (y p j o refl)
   longer_same (Open start wrote) (FreedOf p j o) x y =
-      inl (ap (claim_by i start) (flat_map-append set_act wrote (FreedOf p j o ∷ [])) ∙ claim_more start (set_acts wrote) (Frees j o) (λ a b e. cc) (λ a b e. cc))
+      inl (ap (claim_by i start) (flat_map-append set_act wrote (FreedOf p j o ∷ []))
+      ∙ claim_more start (set_acts wrote) (Frees j o) (λ a b e. cc) (λ a b e. cc))
   longer_same (Open start wrote) (Asked p j o) x y =
       inl (ap (claim_by i start) (flat_map-append set_act wrote (Asked p j o ∷ [])) ∙ claim_more start (set_acts wrote) (Asks j o) (λ a b e. cc) (λ a b e. cc))
   longer_same (Open start wrote) (Told p j o) x y =
@@ -365,7 +368,8 @@ module _ {T : Type 0} (i : ℕ) where
     step c (Finished p (Robust (robusts.TheVariants.Acquire o)) (Index j)) does says may =
         step_end p j o (Finished p (Robust (robusts.TheVariants.Acquire o)) (Index j)) refl (ended_apart (span_of p events) (Index j)) says (j == i) refl
     step c (Finished p (Container (containers.TheVariants.Add value o)) (Index j)) does says may =
-        step_end p j o (Finished p (Container (containers.TheVariants.Add value o)) (Index j)) refl (ended_apart (span_of p events) (Index j)) says (j == i) refl
+        step_end p j o (Finished p (Container (containers.TheVariants.Add value o)) (Index j)) refl
+        (ended_apart (span_of p events) (Index j)) says (j == i) refl
     step c (Begun p (Robust (robusts.TheVariants.Release j o mode))) does says may =
         step_begin p j o (Robust (robusts.TheVariants.Release j o mode)) refl (j == i) refl
     step c (Begun p (Container (containers.TheVariants.Remove j o mode))) does says may =
@@ -387,10 +391,18 @@ module _ {T : Type 0} (i : ℕ) where
         let moved =
         quiet _ _ _ _ (claims_then e) (λ q. claim i (span_of q (events ++ e ∷ []))) (Began (events ++ e ∷ [])) (Began (events ++ e ∷ [])) new
         (λ q. inr (ap (claim i) (spans q), λ o h. h)) in
-        subst (λ x. Good x (holder_of i (events ++ e ∷ [])) (settled_of i (events ++ e ∷ [])) (right_of i (events ++ e ∷ [])) (λ q. claim i (span_of q (events ++ e ∷ []))) (Began (events ++ e ∷ []))) (sym was_filled)
-        (subst (λ x. Good (filled_after i filled e) x (settled_of i (events ++ e ∷ [])) (right_of i (events ++ e ∷ [])) (λ q. claim i (span_of q (events ++ e ∷ []))) (Began (events ++ e ∷ []))) (sym was_holder)
-        (subst (λ x. Good (filled_after i filled e) (holder_after i holder e) x (right_of i (events ++ e ∷ [])) (λ q. claim i (span_of q (events ++ e ∷ []))) (Began (events ++ e ∷ []))) (sym was_settled)
-        (subst (λ x. Good (filled_after i filled e) (holder_after i holder e) (settled_after i settled e) x (λ q. claim i (span_of q (events ++ e ∷ []))) (Began (events ++ e ∷ []))) (sym was_right) moved)))
+        subst (λ x. Good x (holder_of i (events ++ e ∷ [])) (settled_of i (events ++ e ∷ []))
+        (right_of i (events ++ e ∷ [])) (λ q. claim i (span_of q (events ++ e ∷ []))) (Began (events ++ e ∷ [])))
+        (sym was_filled)
+        (subst (λ x. Good (filled_after i filled e) x (settled_of i (events ++ e ∷ [])) (right_of i (events ++ e ∷ []))
+        (λ q. claim i (span_of q (events ++ e ∷ []))) (Began (events ++ e ∷ [])))
+        (sym was_holder)
+        (subst (λ x. Good (filled_after i filled e) (holder_after i holder e) x (right_of i (events ++ e ∷ []))
+        (λ q. claim i (span_of q (events ++ e ∷ []))) (Began (events ++ e ∷ [])))
+        (sym was_settled)
+        (subst (λ x. Good (filled_after i filled e) (holder_after i holder e) (settled_after i settled e) x
+        (λ q. claim i (span_of q (events ++ e ∷ []))) (Began (events ++ e ∷ [])))
+        (sym was_right) moved)))
 
   -- ---- all events
 

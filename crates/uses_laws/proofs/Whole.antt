@@ -24,7 +24,8 @@ use Rattle.uses_laws.specs.Copies.{HasOnlyAdded}
 
 -- the laws
 pub record Laws : Type 0 where
-  pub whole : (code : Coding ℕ) (capacity : ℕ) (events : List (Event ℕ)) → IsHistory code kinds.Container capacity events → IsOrderly events → IsContained events
+  pub whole : (code : Coding ℕ) (capacity : ℕ) (events : List (Event ℕ))
+      → IsHistory code kinds.Container capacity events → IsOrderly events → IsContained events
   pub faithful : (events : List (Event ℕ)) → recoveries events ≡ 0 → IsFaithful events
   pub well_formed : (events : List (Event ℕ)) → removals events ≡ 0 → IsWellFormed events
   pub apart : (events : List (Event ℕ)) → lock_calls events ≡ 0 → LocksApart events

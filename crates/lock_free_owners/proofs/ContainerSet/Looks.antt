@@ -74,7 +74,8 @@ module _ {T : Type 0} (code : Coding T) (law : IsCoding code) (which : LookOf) (
 
   look_keeps_by : Decided On → Keeps code At Over want after kept
   look_keeps_by (inl on) base v c m key words slots id wide known at =
-      weaker_owes (λ (z : View T). z.asked) (IsMachine code kinds.Container key) words slots id (ToldOn c m) (Told (λ (z : View T). z.capacity) At Over after kept c m) (want c) (v, [])
+      weaker_owes (λ (z : View T). z.asked) (IsMachine code kinds.Container key) words slots id (ToldOn c m)
+      (Told (λ (z : View T). z.capacity) At Over after kept c m) (want c) (v, [])
       (λ n w h. (h.0, λ b here. joins on b (after c n) (kept c m n) w (h.1 from (here.0 on))))
       (state_rests_keep code law which from.capacity seen from v c m key words slots id wide known (at.0 on))
   look_keeps_by (inr other) base v c m key words slots id wide known at =

@@ -268,7 +268,8 @@ module _ (base w : View ℕ) (idle : base.going ≡ None) where
 
   pub release_takes : (index owner : ℕ) (mode : ReleaseMode) (e : Released) (m : Unit {0})
       → Ends one_word kinds.Robust (gives_owned (record { index = index; owner = owner; mode = mode })) base e m w → ReleaseTakes base.capacity mode base w
-  release_takes index owner Default e m ends = takes_so (gives_owned (record { index = index; owner = owner; mode = Default })) base w e m idle (omega arith) ends
+  release_takes index owner Default e m ends =
+      takes_so (gives_owned (record { index = index; owner = owner; mode = Default })) base w e m idle (omega arith) ends
   release_takes index owner LockIfLastIndex e m ends =
       takes_so (gives_owned (record { index = index; owner = owner; mode = LockIfLastIndex })) base w e m idle (omega arith) ends
 

@@ -40,10 +40,13 @@ module _ {T : Type 0} (code : Coding T) (base w : View T) (idle : base.going ≡
   abbrev Counts : QueueKind → LengthOf → ℕ → Unit {0} → Type 0
   Counts kd which n m = Ends code (machine_kind kd) (counts_waiting which base.capacity) base n m w
 
-  pub length_takes : (kd : QueueKind) (which : LengthOf) (n : ℕ) (m : Unit {0}) → Counts kd which n m → TakesAlone code (machine_kind kd) base.capacity 4 4 base w
+  pub length_takes : (kd : QueueKind) (which : LengthOf) (n : ℕ) (m : Unit {0}) → Counts kd which n m
+      → TakesAlone code (machine_kind kd) base.capacity 4 4 base w
   length_takes IndexQueue measures.Len n m ends = takes_here code IndexQueue base w idle (counts_waiting measures.Len base.capacity) n m (omega arith) ends
-  length_takes IndexQueue measures.IsEmpty n m ends = takes_here code IndexQueue base w idle (counts_waiting measures.IsEmpty base.capacity) n m (omega arith) ends
-  length_takes IndexQueue measures.IsFull n m ends = takes_here code IndexQueue base w idle (counts_waiting measures.IsFull base.capacity) n m (omega arith) ends
+  length_takes IndexQueue measures.IsEmpty n m ends =
+      takes_here code IndexQueue base w idle (counts_waiting measures.IsEmpty base.capacity) n m (omega arith) ends
+  length_takes IndexQueue measures.IsFull n m ends =
+      takes_here code IndexQueue base w idle (counts_waiting measures.IsFull base.capacity) n m (omega arith) ends
   length_takes Overflow measures.Len n m ends = takes_here code Overflow base w idle (counts_waiting measures.Len base.capacity) n m (omega arith) ends
   length_takes Overflow measures.IsEmpty n m ends = takes_here code Overflow base w idle (counts_waiting measures.IsEmpty base.capacity) n m (omega arith) ends
   length_takes Overflow measures.IsFull n m ends = takes_here code Overflow base w idle (counts_waiting measures.IsFull base.capacity) n m (omega arith) ends

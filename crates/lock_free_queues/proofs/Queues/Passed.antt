@@ -219,6 +219,7 @@ none_waited old new some h =
     omega arith
 
 -- a pop succeeds where something was seen to wait
-pub pop_succeeds : {T V : Type 0} (old new : View T) (answer : Option V) → 0 < length (waiting old.seen) → IfNone answer (WasEmpty old new) → is_some answer ≡ true
+pub pop_succeeds : {T V : Type 0} (old new : View T) (answer : Option V) → 0 < length (waiting old.seen)
+    → IfNone answer (WasEmpty old new) → is_some answer ≡ true
 pop_succeeds old new None some empty = absurd (none_waited old new some empty)
 pop_succeeds old new (Some x) some empty = refl

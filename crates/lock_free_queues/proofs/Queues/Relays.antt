@@ -77,7 +77,8 @@ module _ {E T V : Type 0} {kind : kinds.Ghosts E} {words : Ghosts T} {named : V 
 
   pub sending_one : {first was now : Producer E T kind words} {capacity : ℕ} {taken : Bool} (values : List V) (value : V)
       → Sending named first values was → producer_queue now ≡ producer_queue was → Goes code machine capacity (producer_view was) (producer_view now)
-      → taken ≡ true → HasPushed (named value) taken (producer_view was) (producer_view now) ⊎ (taken ≡ false) × WasAtEnd (producer_view was) (producer_view now)
+      → taken ≡ true → HasPushed (named value) taken (producer_view was) (producer_view now)
+      ⊎ (taken ≡ false) × WasAtEnd (producer_view was) (producer_view now)
       → (taken ≡ true → HasPublished (named value) (producer_view was) (producer_view now)) → Sending named first (values ++ value ∷ []) now
   sending_one {first} {was} {now} {capacity} {taken} values value s queue goes is h p =
       let d = done_pushed (producer_view was) (producer_view now) (named value) (taken_push (named value) taken _ _ is h) in
@@ -94,7 +95,8 @@ module _ {E T V : Type 0} {kind : kinds.Ghosts E} {words : Ghosts T} {named : V 
   pub sending_next : {first was now : Producer E T kind words} {capacity : ℕ} {taken : Bool} (all : List V) (n : ℕ) (default : V)
       → Sending named first (take n all) was → n < length all → producer_queue now ≡ producer_queue was
       → Goes code machine capacity (producer_view was) (producer_view now) → taken ≡ true
-      → HasPushed (named (get_or all n default)) taken (producer_view was) (producer_view now) ⊎ (taken ≡ false) × WasAtEnd (producer_view was) (producer_view now)
+      → HasPushed (named (get_or all n default)) taken (producer_view was) (producer_view now)
+      ⊎ (taken ≡ false) × WasAtEnd (producer_view was) (producer_view now)
       → (taken ≡ true → HasPublished (named (get_or all n default)) (producer_view was) (producer_view now)) → Sending named first (take (n + 1) all) now
   sending_next {first} {was} {now} {capacity} {taken} all n default s below queue goes is h p =
       subst (λ xs. Sending named first xs now) (sym (take_more all n default below))
@@ -118,7 +120,8 @@ module _ {E T V : Type 0} {kind : kinds.Ghosts E} {words : Ghosts T} {named : V 
 
   -- the role is given back once all are pushed
   pub sent_all : {pass new : Pass E T kind words} {first last : Producer E T kind words} {capacity room : ℕ} {role : Role} (all : List V) (n : ℕ)
-      → (producer_queue first ≡ queue_of pass) × Goes code machine room (view pass) (producer_view first) × HasAcquired role true (view pass) (producer_view first)
+      → (producer_queue first ≡ queue_of pass) × Goes code machine room (view pass) (producer_view first)
+      × HasAcquired role true (view pass) (producer_view first)
       → Sending named first (take n all) last → length all ≤ n → queue_of new ≡ producer_queue last → Goes code machine capacity (producer_view last) (view new)
       → HasReleased role (producer_view last) (view new) → published (view new).seen ≡ published (producer_view last).seen → Sent named pass all new
   sent_all {pass} {new} {first} {last} {capacity} {room} {role} all n acquired s past queue goes h is =
@@ -148,7 +151,8 @@ module _ {E T V : Type 0} {kind : kinds.Ghosts E} {words : Ghosts T} {named : V 
 
   pub receiving_one : {first was now : Consumer E T kind words} {capacity : ℕ} {answer : Option V} (values more : List V) (value : V)
       → Receiving named first values was → consumer_queue now ≡ consumer_queue was → Goes code machine capacity (consumer_view was) (consumer_view now)
-      → HasPopped (option_map named answer) (consumer_view was) (consumer_view now) → IfSome answer (λ x. HasTakenOut (named x) (consumer_view was) (consumer_view now))
+      → HasPopped (option_map named answer) (consumer_view was) (consumer_view now)
+      → IfSome answer (λ x. HasTakenOut (named x) (consumer_view was) (consumer_view now))
       → answer ≡ Some value → more ≡ values ++ value ∷ [] → Receiving named first more now
   receiving_one {first} {was} {now} {capacity} {answer} values more value s queue goes h p some is =
       let d = done_popped (consumer_view was) (consumer_view now) (named value)
@@ -185,11 +189,13 @@ module _ {E T V : Type 0} {kind : kinds.Ghosts E} {words : Ghosts T} {named : V 
 
   -- the role is given back
   pub received_all : {pass new : Pass E T kind words} {first last : Consumer E T kind words} {capacity room : ℕ} {role : Role} {values : List V}
-      → (consumer_queue first ≡ queue_of pass) × Goes code machine room (view pass) (consumer_view first) × HasAcquired role true (view pass) (consumer_view first)
+      → (consumer_queue first ≡ queue_of pass) × Goes code machine room (view pass) (consumer_view first)
+      × HasAcquired role true (view pass) (consumer_view first)
       → Receiving named first values last → queue_of new ≡ consumer_queue last → Goes code machine capacity (consumer_view last) (view new)
       → HasReleased role (consumer_view last) (view new) → handed_out (view new).seen ≡ handed_out (consumer_view last).seen → Received named pass values new
   received_all {pass} {new} {first} {last} {capacity} {room} {role} {values} acquired s queue goes h is =
-      let start : HasReceived named [] (view pass) (consumer_view first) = received_none {old = view pass} {new = consumer_view first} refl acquired.1 acquired.2 in
+      let start : HasReceived named [] (view pass) (consumer_view first) =
+      received_none {old = view pass} {new = consumer_view first} refl acquired.1 acquired.2 in
       let d = done_released (consumer_view last) (view new) role h in
       record {
         queue = queue ∙ (s.queue ∙ acquired.0);

@@ -16,4 +16,5 @@ returns-clause-none g c named code kind capacity values old was new got goes h p
 
 pub returns-clause-released : goal.returns-clause-released
 returns-clause-released g c named code kind capacity role values old was new got goes h is =
-    received_done {code = code} {kind = kind} {capacity = capacity} {named = named} {role = role} {old = old} {was = was} {new = new} {values = values} got goes h is
+    received_done {code = code} {kind = kind} {capacity = capacity} {named = named} {role = role} {old = old}
+    {was = was} {new = new} {values = values} got goes h is

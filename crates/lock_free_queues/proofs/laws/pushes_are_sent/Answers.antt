@@ -12,8 +12,10 @@ returns-clause-pushed g c named code kind capacity values value old was new sent
 
 pub returns-clause-refused : goal.returns-clause-refused
 returns-clause-refused g c named code kind capacity room values item taken old was new sent goes is h full =
-    sent_refused {code = code} {kind = kind} {capacity = capacity} {named = named} {old = old} {was = was} {new = new} {values = values} {room = room} {item = item} {taken = taken} sent goes is h full
+    sent_refused {code = code} {kind = kind} {capacity = capacity} {named = named} {old = old} {was = was}
+    {new = new} {values = values} {room = room} {item = item} {taken = taken} sent goes is h full
 
 pub returns-clause-released : goal.returns-clause-released
 returns-clause-released g c named code kind capacity role values old was new sent goes h is =
-    sent_done {code = code} {kind = kind} {capacity = capacity} {named = named} {role = role} {old = old} {was = was} {new = new} {values = values} sent goes h is
+    sent_done {code = code} {kind = kind} {capacity = capacity} {named = named} {role = role} {old = old}
+    {was = was} {new = new} {values = values} sent goes h is

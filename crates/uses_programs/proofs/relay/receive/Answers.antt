@@ -9,5 +9,7 @@ pub loop-preserved : goal.loop-preserved
 loop-preserved g c = search (rules, receiving_still, c.loop.invariant, c.pop.ensures)
 
 pub returns-clause-received : goal.returns-clause-received
-returns-clause-received g c = received_all (c.in-Ok.ensures.acquired.0, c.in-Ok.ensures.acquired.1, c.in-Ok.ensures.acquired.2) c.loop.invariant c.release-pass.ensures.queue c.release-pass.ensures.goes
+returns-clause-received g c =
+    received_all (c.in-Ok.ensures.acquired.0, c.in-Ok.ensures.acquired.1, c.in-Ok.ensures.acquired.2) c.loop.invariant
+    c.release-pass.ensures.queue c.release-pass.ensures.goes
     c.release-pass.ensures.released c.release-pass.ensures.list

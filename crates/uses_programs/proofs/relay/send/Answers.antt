@@ -8,5 +8,8 @@ pub loop-preserved : goal.loop-preserved
 loop-preserved g c = sending_still c.loop.invariant c.push.ensures.queue c.push.ensures.goes c.if-push.false c.push.ensures.called c.push.ensures.full
 
 pub returns-then-next-numbers : goal.returns-then-next-numbers
-returns-then-next-numbers g c = sent_all c.args.numbers.now c.loop.next (c.in-Ok.ensures.acquired.0, c.in-Ok.ensures.acquired.1, c.in-Ok.ensures.acquired.2) c.loop.invariant c.if-next-numbers.true
+returns-then-next-numbers g c =
+    sent_all c.args.numbers.now c.loop.next
+    (c.in-Ok.ensures.acquired.0, c.in-Ok.ensures.acquired.1, c.in-Ok.ensures.acquired.2) c.loop.invariant
+    c.if-next-numbers.true
     c.release.ensures.queue c.release.ensures.goes c.release.ensures.released c.release.ensures.list

@@ -21,7 +21,8 @@ step_telling-requires-clause-owes g c =
     Told (λ (z : View g.row.T.Denot). z.capacity) (RecoverAt code given) (RecoverEnds code given)
     (recover_goes code given) (recover_visiting code given) call (room, at.1) in
     let more : View g.row.T.Denot → ℕ → View g.row.T.Denot → Type 0 = λ v n w. (w.capacity ≡ v.capacity) × RecoverTells code given call room v n w in
-    subst (λ (xs : List (ℕ × Unit {0})). Owes (λ (z : View g.row.T.Denot). z.asked) (IsMachine code kinds.Container (key_of s)) (table_of s).words (table_of s).slots s.seat.id more
+    subst (λ (xs : List (ℕ × Unit {0})). Owes (λ (z : View g.row.T.Denot). z.asked)
+    (IsMachine code kinds.Container (key_of s)) (table_of s).words (table_of s).slots s.seat.id more
     (recover_want code.size call given) (seen s, xs)) (sym s.bare)
     (weaker_owes (λ (z : View g.row.T.Denot). z.asked) (IsMachine code kinds.Container (key_of s)) (table_of s).words (table_of s).slots s.seat.id told
     more (recover_want code.size call given) (seen s, [])

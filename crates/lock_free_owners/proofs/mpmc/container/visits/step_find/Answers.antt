@@ -20,9 +20,11 @@ step_telling-requires-clause-owes g c =
     Told (λ (z : View g.row.T.Denot). z.capacity) (FindAt code c.args.owner) (FindDone code c.args.owner)
     (find_goes code c.args.owner) (find_copying code c.args.owner) call (room, at.1) in
     let more : View g.row.T.Denot → ℕ → View g.row.T.Denot → Type 0 = λ v n w. (w.capacity ≡ v.capacity) × FindTells code c.args.owner call room v n w in
-    subst (λ (xs : List (ℕ × Unit {0})). Owes (λ (z : View g.row.T.Denot). z.asked) (IsMachine code kinds.Container (key_of s)) (table_of s).words (table_of s).slots s.seat.id more
+    subst (λ (xs : List (ℕ × Unit {0})). Owes (λ (z : View g.row.T.Denot). z.asked)
+    (IsMachine code kinds.Container (key_of s)) (table_of s).words (table_of s).slots s.seat.id more
     (find_want code.size call) (seen s, xs)) (sym s.bare)
-    (weaker_owes (λ (z : View g.row.T.Denot). z.asked) (IsMachine code kinds.Container (key_of s)) (table_of s).words (table_of s).slots s.seat.id told more (find_want code.size call) (seen s, [])
+    (weaker_owes (λ (z : View g.row.T.Denot). z.asked) (IsMachine code kinds.Container (key_of s))
+    (table_of s).words (table_of s).slots s.seat.id told more (find_want code.size call) (seen s, [])
     (λ n w h. find_tells code law c.args.owner at.0 (seen s) call room at.1 at.2 n w h)
     (find_keeps code law c.args.owner at.0 (seen s) call (room, at.1) (key_of s) (table_of s).words (table_of s).slots s.seat.id
     (at_its_word code law c.args.owner call.capacity call.stage c.requires.word)

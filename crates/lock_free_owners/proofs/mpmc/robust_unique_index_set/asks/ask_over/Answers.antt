@@ -21,7 +21,8 @@ ask_found-answer-requires g c low =
     let asks = c.requires.asks in
     let found = c.load_cell-found in
     let so = c.cells.invariant.goes asks.base asks.f asks.s asks.q asks.idle asks.stands in
-    may_ask_about (λ p o i b r. given.F-step g p o i b r) (λ x o i t. given.S-step g x o i tt t) c.args.mode asks.base asks.idle asks.f asks.s (seen c.cells.seat)
+    may_ask_about (λ p o i b r. given.F-step g p o i b r) (λ x o i t. given.S-step g x o i tt t) c.args.mode
+    asks.base asks.idle asks.f asks.s (seen c.cells.seat)
     (seen found.new.seat) c.args.capacity c.cells.cell found.result found.ensures.goes c.cells.predicate asks.q so asks.takes low
 
 pub passed_next-cell-requires : goal.passed_next-cell-requires
@@ -41,13 +42,16 @@ returns-then-answer-ne0-clause-goes g c base f s q idle began =
     let heard : Heard (λ p o i b r. given.F-step g p o i b r) found.result c.cells.cell asked.result c.cells.predicate asked.new.predicate =
     record { fits = search rules; asked = asked.ensures.asked; passed = asked.ensures.passed } in
     let so = c.cells.invariant.goes base f s q idle began in
-    let yes = yes_leads (λ p o i b r. given.F-step g p o i b r) (λ x o i t. given.S-step g x o i tt t) mode base idle f s (seen c.cells.seat) (seen found.new.seat)
+    let yes =
+    yes_leads (λ p o i b r. given.F-step g p o i b r) (λ x o i t. given.S-step g x o i tt t) mode base idle f s
+    (seen c.cells.seat) (seen found.new.seat)
     c.args.capacity c.cells.cell found.result found.ensures.goes c.cells.predicate q so
     asked.result asked.new.predicate heard c.if-answer-ne0.true in
     let taken = c.answered.ensures (asks_at c.args.capacity c.cells.cell found.result)
     (ap (λ (d : Recover). recover_after d mode found.result) c.at_cell-here.ensures
     ∙ finds_owner c.args.capacity c.cells.cell found.result mode yes.0) in
-    subst (λ (a : After Recover ReleaseState). LedTo (λ p o i b r. given.F-step g p o i b r) (λ x o i t. given.S-step g x o i tt t) base.capacity mode base f s (seen found.new.seat)
+    subst (λ (a : After Recover ReleaseState). LedTo (λ p o i b r. given.F-step g p o i b r)
+    (λ x o i t. given.S-step g x o i tt t) base.capacity mode base f s (seen found.new.seat)
     a asked.new.predicate q) (sym taken) yes.1
 
 pub returns-then-cell-capacity-clause-goes : goal.returns-then-cell-capacity-clause-goes
@@ -58,12 +62,15 @@ returns-then-cell-capacity-clause-goes g c base f s q idle began =
     let heard : Heard (λ p o i b r. given.F-step g p o i b r) found.result c.cells.cell asked.result c.cells.predicate asked.new.predicate =
     record { fits = search rules; asked = asked.ensures.asked; passed = asked.ensures.passed } in
     let so = c.cells.invariant.goes base f s q idle began in
-    let no = no_leads (λ p o i b r. given.F-step g p o i b r) (λ x o i t. given.S-step g x o i tt t) mode base idle f s (seen c.cells.seat) (seen found.new.seat)
+    let no =
+    no_leads (λ p o i b r. given.F-step g p o i b r) (λ x o i t. given.S-step g x o i tt t) mode base idle f s
+    (seen c.cells.seat) (seen found.new.seat)
     c.args.capacity c.cells.cell found.result found.ensures.goes c.cells.predicate q so
     asked.result asked.new.predicate heard c.if-answer-ne0.false in
     let next = c.passed_next-cell.ensures.next in
     let past = c.if-cell-capacity.true in
-    subst (λ (a : After Recover ReleaseState). LedTo (λ p o i b r. given.F-step g p o i b r) (λ x o i t. given.S-step g x o i tt t) base.capacity mode base f s (seen found.new.seat)
+    subst (λ (a : After Recover ReleaseState). LedTo (λ p o i b r. given.F-step g p o i b r)
+    (λ x o i t. given.S-step g x o i tt t) base.capacity mode base f s (seen found.new.seat)
     a asked.new.predicate q) (c.past_last.ensures c.cells.cell (c.cells.cell + 1) (omega arith)) no
 
 pub cells-preserved : goal.cells-preserved
@@ -82,11 +89,15 @@ cells-preserved g c =
       board = found.ensures.board;
       within = omega arith;
       goes = λ base f s q idle began. let so = so_far.goes base f s q idle began in
-          let no = no_leads (λ p o i b r. given.F-step g p o i b r) (λ x o i t. given.S-step g x o i tt t) mode base idle f s (seen c.cells.seat) (seen found.new.seat)
+          let no =
+          no_leads (λ p o i b r. given.F-step g p o i b r) (λ x o i t. given.S-step g x o i tt t) mode base idle f s
+          (seen c.cells.seat) (seen found.new.seat)
           c.args.capacity c.cells.cell found.result found.ensures.goes c.cells.predicate q so
           asked.result asked.new.predicate heard c.if-answer-ne0.false in
-          subst (λ (a : After Recover ReleaseState). LedTo (λ p o i b r. given.F-step g p o i b r) (λ x o i t. given.S-step g x o i tt t) base.capacity mode base f s (seen found.new.seat)
+          subst (λ (a : After Recover ReleaseState). LedTo (λ p o i b r. given.F-step g p o i b r)
+          (λ x o i t. given.S-step g x o i tt t) base.capacity mode base f s (seen found.new.seat)
           a asked.new.predicate q) after
-          (subst (λ (n : ℕ). LedTo (λ p o i b r. given.F-step g p o i b r) (λ x o i t. given.S-step g x o i tt t) base.capacity mode base f s (seen found.new.seat)
+          (subst (λ (n : ℕ). LedTo (λ p o i b r. given.F-step g p o i b r) (λ x o i t. given.S-step g x o i tt t)
+          base.capacity mode base f s (seen found.new.seat)
           (recover_comes_to (passes c.args.capacity c.cells.cell) n) asked.new.predicate q) (sym next) no);
     }

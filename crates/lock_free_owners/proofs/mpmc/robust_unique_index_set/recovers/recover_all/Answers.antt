@@ -152,7 +152,8 @@ returns-in-Done-after-clause-ends g c =
     moves_end (λ p o i b q. given.F-step g p o i b q) (λ s o i t. given.S-step g s o i tt t) c.args.capacity
     c.args.mode base c.requires.idle c.requires.known c.args.predicate.now c.args.recovered.now
     (seen c.loop.seat) (seen called.new.seat) c.loop.call called.result called.ensures.goes.0 called.ensures.goes.1
-    c.loop.predicate called.new.predicate c.loop.recovered called.new.recovered c.loop.invariant.2 called.ensures.goes.2 c.in-Done-after.state c.in-Done-after.is
+    c.loop.predicate called.new.predicate c.loop.recovered called.new.recovered c.loop.invariant.2
+    called.ensures.goes.2 c.in-Done-after.state c.in-Done-after.is
 
 pub ask_first-cells-requires-clause-asks : goal.ask_first-cells-requires-clause-asks
 ask_first-cells-requires-clause-asks g c =
@@ -161,7 +162,8 @@ ask_first-cells-requires-clause-asks g c =
     let stepped = moves_on (λ p o i b q. given.F-step g p o i b q) (λ s o i t. given.S-step g s o i tt t) c.args.capacity
     c.args.mode base c.requires.idle c.requires.known c.args.predicate.now c.args.recovered.now
     (seen c.loop.seat) (seen called.new.seat) c.loop.call called.result called.ensures.goes.0 called.ensures.goes.1
-    c.loop.predicate called.new.predicate c.loop.recovered called.new.recovered c.loop.invariant.2 called.ensures.goes.2 c.in-GoOn-after.next c.in-GoOn-after.is in
+    c.loop.predicate called.new.predicate c.loop.recovered called.new.recovered c.loop.invariant.2
+    called.ensures.goes.2 c.in-GoOn-after.next c.in-GoOn-after.is in
     may_ask_on (λ p o i b q. given.F-step g p o i b q) (λ s o i t. given.S-step g s o i tt t) c.args.capacity
     c.args.mode base c.requires.idle c.requires.known c.args.predicate.now c.args.recovered.now
     (seen called.new.seat) c.in-GoOn-after.next called.new.predicate called.new.recovered c.requires.questions stepped
@@ -173,7 +175,8 @@ returns-in-Done-cells-clause-ends g c =
     let stepped = moves_on (λ p o i b q. given.F-step g p o i b q) (λ s o i t. given.S-step g s o i tt t) c.args.capacity
     c.args.mode base c.requires.idle c.requires.known c.args.predicate.now c.args.recovered.now
     (seen c.loop.seat) (seen called.new.seat) c.loop.call called.result called.ensures.goes.0 called.ensures.goes.1
-    c.loop.predicate called.new.predicate c.loop.recovered called.new.recovered c.loop.invariant.2 called.ensures.goes.2 c.in-GoOn-after.next c.in-GoOn-after.is in
+    c.loop.predicate called.new.predicate c.loop.recovered called.new.recovered c.loop.invariant.2
+    called.ensures.goes.2 c.in-GoOn-after.next c.in-GoOn-after.is in
     let asked = c.ask_first-cells in
     leads_end (λ p o i b q. given.F-step g p o i b q) (λ s o i t. given.S-step g s o i tt t) c.args.capacity
     c.args.mode base c.requires.idle c.requires.known c.args.predicate.now c.args.recovered.now
@@ -187,7 +190,8 @@ loop-preserved g c =
     let stepped = moves_on (λ p o i b q. given.F-step g p o i b q) (λ s o i t. given.S-step g s o i tt t) c.args.capacity
     c.args.mode base c.requires.idle c.requires.known c.args.predicate.now c.args.recovered.now
     (seen c.loop.seat) (seen called.new.seat) c.loop.call called.result called.ensures.goes.0 called.ensures.goes.1
-    c.loop.predicate called.new.predicate c.loop.recovered called.new.recovered c.loop.invariant.2 called.ensures.goes.2 c.in-GoOn-after.next c.in-GoOn-after.is in
+    c.loop.predicate called.new.predicate c.loop.recovered called.new.recovered c.loop.invariant.2
+    called.ensures.goes.2 c.in-GoOn-after.next c.in-GoOn-after.is in
     let asked = c.ask_first-cells in
     let so_far = c.loop.invariant.0 in
     let a = called.ensures.same in

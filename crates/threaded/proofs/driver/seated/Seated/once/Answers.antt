@@ -17,7 +17,10 @@ answer-old-requires-clause-owes g c =
     let owed =
     c.requires.rule c.requires.at.0 (seen t) call room (key_of t) (table_of t).words (table_of t).slots t.seat.id
     c.requires.table.0 c.requires.table.1 c.requires.at.1 in
-    let mine = subst (λ (xs : List (ℕ × Unit {0})). Owes g.Q.Rule.asked holds (table_of t).words (table_of t).slots t.seat.id told want (seen t, xs)) (sym t.bare) owed in
+    let mine =
+    subst
+    (λ (xs : List (ℕ × Unit {0})). Owes g.Q.Rule.asked holds (table_of t).words (table_of t).slots t.seat.id told want (seen t, xs))
+    (sym t.bare) owed in
     weaker_owes g.Q.Rule.asked holds (table_of t).words (table_of t).slots t.seat.id told g.M.Tells.told want t.seat.me (λ n w. c.requires.takes _ _ w) mine
 
 pub returns-clause-told : goal.returns-clause-told
