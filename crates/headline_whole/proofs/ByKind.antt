@@ -8,6 +8,7 @@ use Rattle.headline_whole.specs.Dialogues.{calls_of}
 use Rattle.headline_whole.specs.Kinds.{AnswersWhole}
 use Rattle.headline_whole.specs.Whole.{RunsWhole, AnswersAs}
 use Rattle.headline_whole.proofs.BitSets as bit_sets
+use Rattle.headline_whole.proofs.ContainerRules as container_rules
 use Rattle.headline_whole.proofs.Containers as containers
 use Rattle.headline_whole.proofs.Courses.{Course, Holding, Rules}
 use Rattle.headline_whole.proofs.Indices as indices
@@ -50,5 +51,5 @@ module _ {T : Type 0} (t : Trace T) (r : IsReached t) (runs : RunsWhole t.events
       (owners.rules t.world.coding t.world.capacity)).1.legal
   by_kind kinds.Container is =
       (by_rules (containers.map_course t.world.coding r.coded t.world.capacity) (containers.holding t.world.coding r.coded t.world.capacity)
-      kinds.Container is (containers.rules t.world.coding r.coded t.world.capacity)).1.legal
+      kinds.Container is (container_rules.rules t.world.coding r.coded t.world.capacity)).1.legal
   by_kind kind is = tt

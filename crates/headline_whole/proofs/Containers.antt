@@ -1,9 +1,7 @@
 -- The calls of a container, run whole, are those of a map from index to owner and value, with what the state of each party shows.
-use Rattle.std.proofs.Common.{◌≡◌, ◌⊎◌, inl, inr, ℕ, zero, suc, ◌+◌, ◌*◌, ◌==◌, Bool, true, false, Option, Some, None, is_some, option_map, List, []}
-use Rattle.std.proofs.Common.{◌++◌, replicate, length-append, refl, sym, ap, subst, ◌∙◌, arith, if◌then◌else◌}
-use Rattle.std.proofs.lemmas.List.{length-replicate}
-use Rattle.steps.specs.Container.Look.{first_look, look_want, look_after, look_kept}
-use Rattle.steps.specs.Indices.Robust.Parts.{empty}
+use Rattle.std.proofs.Common.{◌≡◌, ◌⊎◌, inl, inr, ℕ, zero, suc, ◌==◌, Bool, true, false, Option, Some, List, []}
+use Rattle.std.proofs.Common.{◌++◌, refl, sym, ap, subst, ◌∙◌, if◌then◌else◌}
+use Rattle.steps.specs.Container.Look.{look_want, look_after, look_kept}
 use Rattle.steps.specs.declared.ask.After.{After}
 use Rattle.steps.specs.declared.ask.After.TheVariants.{GoOn, Done}
 use Rattle.steps.specs.declared.container.look.Look.{Look}
@@ -15,41 +13,28 @@ use Rattle.model.specs.declared.families.Flight.{Flight}
 use Rattle.model.specs.declared.families.Flight.TheVariants as flights
 use Rattle.model.specs.declared.families.Registry.{Registry}
 use Rattle.model.specs.declared.families.Registry.TheVariants as registries
-use Rattle.model.specs.declared.families.container.ContainerStart.{ContainerStart}
-use Rattle.model.specs.declared.families.container.ContainerStart.TheVariants as calls
 use Rattle.model.specs.declared.families.container.calls.ContainerFlight.TheVariants as under_way
 use Rattle.model.specs.declared.families.container.calls.LookOf.{LookOf}
 use Rattle.model.specs.declared.families.container.calls.LookOf.TheVariants.{GetState, UpdateState}
-use Rattle.model.specs.declared.turn.Kind.TheVariants as kinds
-use Rattle.model.specs.declared.turn.Turn.TheVariants.{Begin}
 use Rattle.model.specs.Coding.{Coding, IsCoding}
-use Rattle.model.specs.Families.{first_of, want_of, ask_of, is_question, after_of, step_of, kept_after_begin, kept_after_death}
-use Rattle.model.specs.Families.Container.Calls.{first, look_came, look_goes, settled_if, writes_state}
-use Rattle.model.specs.Families.Container.Opening.{opening_words, names_owner, kept_rows}
-use Rattle.model.specs.Families.Container.States.{state_of, with_state, set_state, fresh}
+use Rattle.model.specs.Families.{want_of, ask_of, is_question, after_of, step_of, kept_after_death}
+use Rattle.model.specs.Families.Container.Calls.{look_came, look_goes, settled_if, writes_state}
+use Rattle.model.specs.Families.Container.States.{set_state}
 use Rattle.model.specs.Families.Indices.Robust.Dead.{dead_with}
-use Rattle.model.specs.Refusals.{refusal_of}
-use Rattle.model.specs.Rows.{first_row}
 use Rattle.model.specs.Step.{as_call}
-use Rattle.model.specs.Turns.{IsReached, old_of, words_after, number_of}
-use Rattle.model.specs.World.{Trace, capacity_error}
-use Rattle.model.proofs.Rows.{passes, may_begin}
-use Rattle.plain.specs.Contents as contents
-use Rattle.plain.specs.Contents.{Contents, contents_in, IsFilled, Holds}
-use Rattle.plain.specs.States.{Snapshot, snapshot_of}
-use Rattle.plain.proofs.Elements.Filled.{filled_opened}
-use Rattle.plain.proofs.Elements.Opens.{opens_so}
+use Rattle.model.specs.Turns.{old_of, words_after, number_of}
+use Rattle.plain.specs.Contents.{Contents, Holds}
+use Rattle.plain.specs.States.{Snapshot}
 use Rattle.headline_whole.specs.Dialogues.{Decision, decided, as_request}
-use Rattle.headline_whole.specs.Objects.{Viewed, view_of, view_after, whole_map}
+use Rattle.headline_whole.specs.Objects.{Viewed, view_after, whole_map}
 use Rattle.headline_whole.proofs.Agree.{Agree, goes_so, agrees_then, agrees_still, writes_none, container_writes}
-use Rattle.headline_whole.proofs.Courses.{Course, IsMadeSo, Holding, Came, Steps, Rules}
+use Rattle.headline_whole.proofs.Courses.{Course, Holding, Came, Steps}
 use Rattle.headline_whole.proofs.Flights.{Turns, Talks, talk_goes, talk_hears, RunsOn, run_goes}
-use Rattle.headline_whole.proofs.Looks.{never_asks, start_of, views_in, AllRight, Looking, begins_fresh, begins_on, goes_on, shows}
+use Rattle.headline_whole.proofs.Looks.{never_asks, start_of, views_in, AllRight, Looking, goes_on, shows}
 use Rattle.headline_whole.proofs.Looks.{words_are, views_then, said}
 use Rattle.headline_whole.proofs.Looks as looks
-use Rattle.headline_whole.proofs.Maps.{map_in, admitted, every}
+use Rattle.headline_whole.proofs.Maps.{map_in}
 use Rattle.headline_whole.proofs.Maps as maps
-use Rattle.headline_whole.proofs.Owners.{named_if}
 use Rattle.headline_whole.proofs.Replies.{course}
 
 module _ {T : Type 0} where
@@ -58,7 +43,7 @@ module _ {T : Type 0} where
   states_in (registries.Container dead states) = states
   states_in kept = []
 
-  states_stay : (kept : Registry T) (owner : ℕ) → states_in (kept_after_death kept owner) ≡ states_in kept
+  pub states_stay : (kept : Registry T) (owner : ℕ) → states_in (kept_after_death kept owner) ≡ states_in kept
   states_stay (registries.Owners dead) owner = refl
   states_stay (registries.Container dead states) owner = refl
   states_stay (registries.Loan book) owner = refl
@@ -86,7 +71,7 @@ module _ {T : Type 0} (code : Coding T) (coded : IsCoding code) (capacity : ℕ)
   abbrev pub map_course : Course T
   map_course = course (whole_map {T = T} capacity)
 
-  abbrev seen : List ℕ → (ℕ → Option (Snapshot T)) → Viewed T
+  abbrev pub seen : List ℕ → (ℕ → Option (Snapshot T)) → Viewed T
   seen words views = record { contents = map_in code capacity words; views = views }
 
   -- a call that goes on from its words alone
@@ -324,7 +309,7 @@ module _ {T : Type 0} (code : Coding T) (coded : IsCoding code) (capacity : ℕ)
   none_asked : {A : Type 0} (b : Bool) → b ≡ true → b ≡ false → A
   none_asked b t f = absurd (cc)
 
-  goes : (s : Viewed T) (turns p : ℕ) (start : Start T) (told : List (Decision T)) (flight : Flight T) (words : List ℕ)
+  pub goes : (s : Viewed T) (turns p : ℕ) (start : Start T) (told : List (Decision T)) (flight : Flight T) (words : List ℕ)
       (kept : Registry T) (beside : Option (ℕ × ℕ)) → Begun s p start told flight words kept → is_question (want_of code flight) ≡ false
       → Steps map_course holding s turns p start told (words_after words (ask_of (want_of code flight)))
       (step_of code words beside p start flight (old_of words (ask_of (want_of code flight))) kept)
@@ -338,7 +323,7 @@ module _ {T : Type 0} (code : Coding T) (coded : IsCoding code) (capacity : ℕ)
       go (inl k) = talk_on turns p u.first_words u.holds u.views start told flight words kept beside k calm
       go (inr k) = view_on turns p u.first_words u.holds u.views start told flight words kept beside k
 
-  decides : (s : Viewed T) (turns p : ℕ) (start : Start T) (told : List (Decision T)) (flight : Flight T) (words : List ℕ)
+  pub decides : (s : Viewed T) (turns p : ℕ) (start : Start T) (told : List (Decision T)) (flight : Flight T) (words : List ℕ)
       (kept : Registry T) (beside : Option (ℕ × ℕ)) (said : Bool) → Begun s p start told flight words kept
       → is_question (want_of code flight) ≡ true
       → Steps map_course holding s turns p start (told ++ decided code (Some flight) said) words
@@ -354,7 +339,7 @@ module _ {T : Type 0} (code : Coding T) (coded : IsCoding code) (capacity : ℕ)
       go (inr k) =
           none_asked (is_question (want_of code flight)) is (view_asks_none turns p u.first_words u.holds u.views start told flight words kept k)
 
-  stays : (s : Viewed T) (p : ℕ) (start : Start T) (told : List (Decision T)) (flight : Flight T) (words : List ℕ) (kept : Registry T) (owner : ℕ)
+  pub stays : (s : Viewed T) (p : ℕ) (start : Start T) (told : List (Decision T)) (flight : Flight T) (words : List ℕ) (kept : Registry T) (owner : ℕ)
       → Begun s p start told flight words kept → Begun s p start told flight words (kept_after_death kept owner)
   stays s p start told flight words kept owner u =
       record { first_words = u.first_words; views = u.views; is = u.is; holds = u.holds; under = go u.under }
@@ -383,135 +368,3 @@ module _ {T : Type 0} (code : Coding T) (coded : IsCoding code) (capacity : ℕ)
             kept_is = ap (λ (z : Registry T). kept_after_death z owner) k.kept_is;
             looking = k.looking;
           })
-
-  -- ---- a call begins
-
-  module _ (p : ℕ) (words : List ℕ) (h : Holds code.value_of code.size capacity 0 words) (dead : List ℕ) (states : List (ℕ × ContainerState T))
-      (right : AllRight code coded capacity states) where
-    abbrev BegunAt : ContainerStart T → Type 0
-    BegunAt start =
-        Begun (seen words (views_in states)) p (starts.Container start) [] (flights.Container (first capacity start)) words
-        (kept_after_begin code capacity (starts.Container start) p (registries.Container dead states))
-
-    begins_update : (o : Option (ContainerState T)) → state_of p states ≡ o
-        → Looking code coded capacity words h (views_in states) p UpdateState (first_look capacity) words
-        (if is_some o then states else with_state p (fresh code capacity) states)
-    begins_update None e =
-        begins_fresh code coded capacity words h (views_in states) p UpdateState states
-        (ap (λ o. view_of (map_in code capacity words) (option_map snapshot_of o)) e) right (λ q. refl)
-    begins_update (Some state) e = begins_on code coded capacity words h (views_in states) p states state e right (λ q. refl)
-
-    begun_at : (start : ContainerStart T) → names_owner start ≡ true → BegunAt start
-    begun_at calls.GetState names =
-        record {
-          first_words = words;
-          views = views_in states;
-          is = refl;
-          holds = h;
-          under = inr (record {
-            which = GetState;
-            call = first_look capacity;
-            dead = dead;
-            states = with_state p (fresh code capacity) states;
-            start_is = refl;
-            told_is = refl;
-            flight_is = refl;
-            kept_is = refl;
-            looking = begins_fresh code coded capacity words h (views_in states) p GetState states refl right (λ q. refl);
-          });
-        }
-    begun_at calls.UpdateState names =
-        record {
-          first_words = words;
-          views = views_in states;
-          is = refl;
-          holds = h;
-          under = inr (record {
-            which = UpdateState;
-            call = first_look capacity;
-            dead = dead;
-            states = if is_some (state_of p states) then states else with_state p (fresh code capacity) states;
-            start_is = refl;
-            told_is = refl;
-            flight_is = refl;
-            kept_is = refl;
-            looking = begins_update (state_of p states) refl;
-          });
-        }
-    begun_at start names =
-        let talk = every code capacity coded (views_in states) p words h start tt names in
-        record {
-          first_words = words;
-          views = views_in states;
-          is = refl;
-          holds = h;
-          under = inl (record {
-            agrees = tt;
-            most = talk.0;
-            talks = talk.1;
-            right = right;
-            same = λ q. refl;
-            still = λ s view. refl;
-          });
-        }
-
-  begun_on : (p : ℕ) (start : ContainerStart T) (kept : Registry T) (words : List ℕ) → Holds code.value_of code.size capacity 0 words
-      → AllRight code coded capacity (states_in kept) → names_owner start ≡ true → first_row (kept_rows start kept p) ≡ None
-      → Begun (seen words (views_in (states_in kept))) p (starts.Container start) [] (flights.Container (first capacity start)) words
-      (kept_after_begin code capacity (starts.Container start) p kept)
-  begun_on p start (registries.Container dead states) words h right names rows = begun_at p words h dead states right start names
-  begun_on p start kept words h right names rows = absurd (cc)
-
-  begins : (t : Trace T) (p : ℕ) (start : Start T) (flight : Flight T) → IsReached t → IsMadeSo code kinds.Container capacity t
-      → refusal_of t.world (Begin p start) ≡ None
-      → Holds code.value_of code.size capacity 0 t.world.words × AllRight code coded capacity (states_in t.world.kept)
-      → first_of kinds.Container capacity start t.world.kept ≡ Some flight
-      → Begun (seen t.world.words (views_in (states_in t.world.kept))) p start [] flight t.world.words
-      (kept_after_begin t.world.coding t.world.capacity start p t.world.kept)
-  begins t p (starts.Container start) flight r made free h named =
-      let is = named_if flights.Container (first capacity start) flight (names_owner start) named in
-      subst (λ (x : Flight T × Coding T × ℕ).
-      Begun (seen t.world.words (views_in (states_in t.world.kept))) p (starts.Container start) [] x.0 t.world.words
-      (kept_after_begin x.1 x.2 (starts.Container start) p t.world.kept))
-      (λ i. (is.1 i, sym made.coding i, sym made.capacity i))
-      (begun_on p start t.world.kept t.world.words h.0 h.1 is.0
-      (may_begin t.world p (starts.Container start) (passes t.world (Begin p (starts.Container start)) free).on).rows)
-  begins t p start flight r made free h named = absurd (cc)
-
-  -- ---- the rules
-
-  opening_map : contents_in code.value_of code.size capacity 0 (opening_words code.size capacity) ≡ contents.opened capacity 0
-  opening_map =
-      let one_more : suc capacity ≡ 1 + capacity = omega arith in
-      opens_so code.value_of code.size capacity 0 (replicate {A = ℕ} (suc capacity) empty) (opening_words code.size capacity)
-      (1 + capacity + code.size * capacity) (ap (λ n. replicate {A = ℕ} n empty) one_more) refl
-
-  no_state : {A : Type 0} (x : ContainerState T) → ◌≡◌ {A = Option (ContainerState T)} None (Some x) → A
-  no_state x e = absurd (cc)
-
-  pub rules : capacity_error kinds.Container capacity ≡ None → Rules map_course holding code kinds.Container capacity
-  rules may =
-      let some = (admitted capacity may).0 in
-      let few = (admitted capacity may).1 in
-      let cells = length-replicate {A = ℕ} capacity empty in
-      let rest = length-replicate {A = ℕ} (1 + capacity + code.size * capacity) 0 in
-      let both = length-append (replicate {A = ℕ} capacity empty) (replicate {A = ℕ} (1 + capacity + code.size * capacity) 0) in
-      record {
-        later = λ m n words kept less h. h;
-        opens = λ queue. (
-          (
-            record { long = omega arith; some = some; few = few; small = omega arith },
-            subst IsFilled (sym opening_map) (filled_opened capacity 0),
-          ),
-          λ q x e. no_state x e,
-        );
-        mourns = λ turns words kept owner h. (
-          (h.0, subst (AllRight code coded capacity) (sym (states_stay kept owner)) h.1),
-          λ i. record { contents = map_in code capacity words; views = views_in (states_stay kept owner i) },
-        );
-        stays = λ s turns p start told flight words kept owner u. stays s p start told flight words kept owner u;
-        begins = begins;
-        goes = goes;
-        decides = decides;
-        first = λ queue. record { legal = refl; stands = λ i. record { contents = sym opening_map i; views = λ q. None } };
-      }

@@ -2,6 +2,7 @@ pub mod Agree
 pub mod AnyQueue
 pub mod BitSets
 pub mod ByKind
+pub mod ContainerRules
 pub mod Containers
 pub mod Courses
 pub mod Finished
@@ -9,6 +10,7 @@ pub mod Flights
 pub mod Indices
 pub mod Law
 pub mod Looks
+pub mod MapQuestions
 pub mod Maps
 pub mod Overflows
 pub mod Owners

@@ -1,81 +1,46 @@
--- The calls of a container that are no look, run whole, are those of a map from index to owner and value.
-use Rattle.std.proofs.Common.{◌≡◌, ℕ, zero, suc, ◌+◌, ◌-◌, ◌^◌, ◌<◌, ◌≤◌, ◌==◌, Bool, true, Option, Some, None, Ok, Err, List, [], ◌∷◌, ◌++◌}
-use Rattle.std.proofs.Common.{length, map, slice_index, slice_set, refl, sym, ap, subst, ◌∙◌, arith, length-append}
-use Rattle.std.proofs.lemmas.List.{length-replicate}
+-- The calls of a container that are no look and ask about no value, run whole, are those of a map from index to owner and value.
+use Rattle.std.proofs.Common.{◌≡◌, ℕ, ◌^◌, ◌<◌, ◌≤◌, Option, None, Ok, Err, List, []}
+use Rattle.std.proofs.Common.{map, refl, ap, ◌∙◌, arith}
 use Rattle.steps.specs.Container.Add.{Added, first_add, add_want, add_after}
-use Rattle.steps.specs.Container.Find.{first_find, find_want, find_after, find_kept}
-use Rattle.steps.specs.Container.Recover.{first_recover, recover_want, recover_after, recover_kept}
 use Rattle.steps.specs.Container.Remove.{first_remove, remove_want, remove_after}
 use Rattle.steps.specs.Container.Replace.{first_replace, replace_want, replace_after}
 use Rattle.steps.specs.Indices.Robust.Looks.{first_borrowed, borrowed_want, borrowed_after, locked_after}
 use Rattle.steps.specs.Indices.Robust.Parts.{empty}
-use Rattle.steps.specs.Objects.Owners.{Owned, indices_of, state_of}
 use Rattle.steps.specs.Queues.Ring.{load}
-use Rattle.steps.specs.declared.ask.After.{After}
-use Rattle.steps.specs.declared.ask.After.TheVariants.{GoOn, Done}
-use Rattle.steps.specs.declared.ask.Question.{Question}
-use Rattle.steps.specs.declared.ask.Question.TheVariants as questions
-use Rattle.steps.specs.declared.ask.Want.{Want}
-use Rattle.steps.specs.declared.ask.Want.TheVariants as wants
 use Rattle.steps.specs.declared.container.add.Owned.{Owned as Adding}
-use Rattle.steps.specs.declared.container.find.Find.{Find}
-use Rattle.steps.specs.declared.container.handle.ContainerHandle.{ContainerHandle}
-use Rattle.steps.specs.declared.container.recover.DeadOwner.{DeadOwner}
-use Rattle.steps.specs.declared.container.recover.Recover.{Recover}
-use Rattle.steps.specs.declared.copied.Buffer.{Buffer}
-use Rattle.steps.specs.declared.enums.CallbackProgression.{CallbackProgression}
 use Rattle.steps.specs.declared.indices.enums.ReleaseMode.{ReleaseMode}
-use Rattle.steps.specs.declared.indices.enums.ReleaseState.{ReleaseState}
 use Rattle.steps.specs.declared.indices.robust.looks.BorrowedIndices.{BorrowedIndices}
 use Rattle.steps.specs.declared.indices.robust.looks.IsLocked.{IsLocked}
 use Rattle.model.specs.declared.event.Answer.{Answer}
 use Rattle.model.specs.declared.event.Answer.TheVariants as answers
 use Rattle.model.specs.declared.event.Start.{Start}
 use Rattle.model.specs.declared.event.Start.TheVariants as starts
-use Rattle.model.specs.declared.families.Flight.{Flight}
 use Rattle.model.specs.declared.families.Flight.TheVariants as flights
 use Rattle.model.specs.declared.families.container.ContainerStart.{ContainerStart}
 use Rattle.model.specs.declared.families.container.ContainerStart.TheVariants as calls
 use Rattle.model.specs.declared.families.container.calls.ContainerFlight.TheVariants as under_way
 use Rattle.model.specs.declared.families.container.calls.CountOf.{CountOf}
-use Rattle.model.specs.declared.families.container.calls.CountOf.TheVariants as measures
 use Rattle.model.specs.declared.turn.Kind.TheVariants as kinds
 use Rattle.model.specs.Coding.{Coding, IsCoding}
-use Rattle.model.specs.Families.{after_of}
 use Rattle.model.specs.Families.Container.Calls.{first, place_of, added, removed, replaced, counted}
-use Rattle.model.specs.Families.Container.Opening.{names_owner}
-use Rattle.model.specs.Families.Queues.Calls.{as_it_is, fresh_cell, kept_at, read_in}
-use Rattle.model.specs.Step.{as_call}
-use Rattle.model.specs.Turns.{number_of}
+use Rattle.model.specs.Families.Queues.Calls.{as_it_is}
 use Rattle.model.specs.World.{capacity_error}
-use Rattle.plain.specs.declared.drive.Stop.{Stop}
-use Rattle.plain.specs.declared.drive.Stop.TheVariants as stops
-use Rattle.plain.specs.Alone.{StopsAlike}
-use Rattle.plain.specs.Callable.{HasFound, Asked, index_in}
-use Rattle.plain.specs.Callable.{questions as asked_questions}
 use Rattle.plain.specs.Contents as contents
 use Rattle.plain.specs.Contents.{Contents, contents_in, Holds}
 use Rattle.plain.specs.States.{Snapshot}
-use Rattle.plain.specs.Visited.{Sees, to_ask, Says, all_freed, one_change}
-use Rattle.plain.proofs.Alone.{stops_so}
 use Rattle.plain.proofs.Elements.Adds as adds
 use Rattle.plain.proofs.Elements.Adds.{add_at}
 use Rattle.plain.proofs.Elements.Filled.{still, values_long, filled_add, filled_counted, filled_remove, filled_replace}
-use Rattle.plain.proofs.Elements.Finding as finding
-use Rattle.plain.proofs.Elements.Finds.{Ready}
 use Rattle.plain.proofs.Elements.Looks.{Counted, count_at, Looked, look_at}
-use Rattle.plain.proofs.Elements.Recovering as recovering
 use Rattle.plain.proofs.Elements.Removes as removes
 use Rattle.plain.proofs.Elements.Removes.{remove_at}
 use Rattle.plain.proofs.Elements.Replaces as replaces
 use Rattle.plain.proofs.Elements.Replaces.{replace_at}
 use Rattle.plain.proofs.Walks.{any_low}
-use Rattle.headline_whole.specs.Dialogues.{Decision, showing, decided, decided_at, as_request, as_reply}
-use Rattle.headline_whole.specs.Objects.{handle_to, add_answer, about, map_freed, map_after, map_questions, map_answer, whole_map}
-use Rattle.headline_whole.proofs.Agree.{IsNoLook}
-use Rattle.headline_whole.proofs.Flights.{FlightRuns, IsFlight, Turns, AtStop, Talks, talks_once, lift_stop, runs_as, talks_as, alike, twice}
-use Rattle.headline_whole.proofs.Owners.{below}
-use Rattle.headline_whole.proofs.Told.{goes_on, progression, same_decision, same_number, yes_number, yes_of, decision, folds_long, found_so, asked_so}
+use Rattle.headline_whole.specs.Dialogues.{Decision, as_request, as_reply}
+use Rattle.headline_whole.specs.Objects.{handle_to, add_answer, map_after, map_answer, whole_map}
+use Rattle.headline_whole.proofs.Flights.{FlightRuns, runs_as, twice}
+use Rattle.headline_whole.proofs.Told.{yes_of}
 
 pub admitted : (c : ℕ) → capacity_error kinds.Container c ≡ None → (1 ≤ c) × (c < 2 ^ 32)
 admitted x0 x1 = grind arith
@@ -102,21 +67,8 @@ module _ {T : Type 0} (code : Coding T) (capacity : ℕ) where
 
   module _ (coded : IsCoding code) (views : ℕ → Option (Snapshot T)) (p : ℕ) (words : List ℕ)
       (h : Holds code.value_of code.size capacity 0 words) where
-    abbrev Whole : ContainerStart T → Type 0
+    abbrev pub Whole : ContainerStart T → Type 0
     Whole start = FlightRuns code (Answers words (views p) start) (flights.Container (first capacity start)) words
-
-    abbrev At : ContainerStart T → List (Decision T) → Answer T → List ℕ → Type 0
-    At start told answer last = Ends words views p (starts.Container start) told answer last
-
-    abbrev Said : ContainerStart T → Type 0
-    Said start = (n : ℕ) × Talks code (At start) n [] (flights.Container (first capacity start)) words
-
-    speaks : (start : ContainerStart T) → map_questions (map_in words) (starts.Container start) [] ≡ [] → Whole start → Said start
-    speaks start none whole = (
-      1,
-      talks_once code (At start) (Answers words (views p) start) [] (flights.Container (first capacity start)) words
-          (λ answer last h. record { said = λ i. record { questions = sym none i; answer = h.said i }; holds = h.holds; object = h.object }) whole,
-    )
 
     module _ (value : T) (owner : ℕ) (lives : owner < empty) where
       abbrev given : Adding T
@@ -128,7 +80,7 @@ module _ {T : Type 0} (code : Coding T) (capacity : ℕ) where
       say_added (Ok index) = refl
       say_added (Err failure) = refl
 
-      adds_one : Whole (calls.Add value owner)
+      pub adds_one : Whole (calls.Add value owner)
       adds_one =
           runs_as code (add_want code.words_of code.size) (λ c given old. add_after code.size c old) (λ c (room : Unit {0}) old. room)
           (record { value = value; owner = owner })
@@ -153,7 +105,7 @@ module _ {T : Type 0} (code : Coding T) (capacity : ℕ) where
           (add_at code.words_of code.value_of code.size coded.sized coded.given_back coded.some coded.few capacity 0
           (record { value = value; owner = owner }) owner refl lives (first_add capacity) refl words h.0)
 
-    removes_one : (index owner : ℕ) (mode : ReleaseMode) → owner < empty → Whole (calls.Remove index owner mode)
+    pub removes_one : (index owner : ℕ) (mode : ReleaseMode) → owner < empty → Whole (calls.Remove index owner mode)
     removes_one index owner mode lives =
         runs_as code remove_want remove_after (λ c (room : Unit {0}) old. room)
         (record { index = place_of capacity index; owner = owner; mode = mode })
@@ -179,7 +131,7 @@ module _ {T : Type 0} (code : Coding T) (capacity : ℕ) where
         (remove_at code.value_of code.size coded.few capacity 0 (place_of capacity index) owner mode owner refl lives
         (first_remove capacity (place_of capacity index)) refl words h.0)
 
-    replaces_one : (index : ℕ) (value : T) (owner : ℕ) → owner < empty → Whole (calls.Replace index value owner)
+    pub replaces_one : (index : ℕ) (value : T) (owner : ℕ) → owner < empty → Whole (calls.Replace index value owner)
     replaces_one index value owner lives =
         runs_as code (replace_want code.words_of code.size) (replace_after code.size) (λ c (room : Unit {0}) old. room)
         (record { index = place_of capacity index; owner = owner; value = value })
@@ -207,7 +159,7 @@ module _ {T : Type 0} (code : Coding T) (capacity : ℕ) where
         (record { index = place_of capacity index; owner = owner; value = value }) owner refl lives
         (first_replace capacity (place_of capacity index)) refl words h.0)
 
-    counts_so : (which : CountOf) (start : ContainerStart T)
+    pub counts_so : (which : CountOf) (start : ContainerStart T)
         → ((e : ℕ) (last : List ℕ) → e ≡ contents.number (map_in words) → Holds code.value_of code.size capacity 0 last
         → map_in last ≡ contents.counted (map_in words) → Answers words (views p) start (counted which e) last)
         → FlightRuns code (Answers words (views p) start)
@@ -229,7 +181,7 @@ module _ {T : Type 0} (code : Coding T) (capacity : ℕ) where
         so e last s.1 s.0 s.2)
         (first_borrowed capacity) tt words tt (count_at code.value_of code.size capacity 0 (first_borrowed capacity) refl words h.0)
 
-    looks : Whole calls.IsLocked
+    pub looks : Whole calls.IsLocked
     looks =
         runs_as code (λ (c : IsLocked) (given : Unit {0}). load 0) (λ c given old. locked_after c old) (λ c (room : Unit {0}) old. room) tt
         (λ c. Unit {0}) (λ c room. flights.Container (under_way.IsLocked (record { call = c; given = tt; room = room }))) (λ e room. answers.Truth e)
@@ -244,282 +196,3 @@ module _ {T : Type 0} (code : Coding T) (capacity : ℕ) where
         let so = still code.value_of code.size capacity 0 (contents.is_locked {V = T}) (λ s. s) words h.1 e last p in
         record { said = ap answers.Truth so.1; holds = so.0; object = so.2 })
         (record {}) tt words tt (look_at code.value_of code.size capacity 0 (record {}) words h.0)
-
-    -- ---- a find
-
-    abbrev room_words : Buffer 128 → List ℕ
-    room_words room = room.words
-
-    put_in : (x : Buffer 128) (at word : ℕ) → room_words (kept_at x at word) ≡ slice_set (room_words x) at word
-    put_in x at word = refl
-
-    roomy : code.size ≤ length (room_words fresh_cell)
-    roomy = let long = length-replicate {A = ℕ} 128 0 in let few = coded.few in omega arith
-
-    ready : (owner : ℕ) → owner < empty → Ready code.value_of code.size capacity 0 owner words
-    ready owner lives = record { some = coded.some; wide = coded.few; lives = lives; holds = h }
-
-    module _ (owner : ℕ) (lives : owner < empty) where
-      abbrev finds : List (Decision T) → T → ContainerHandle → CallbackProgression → List (Decision T) → Type 0
-      finds p value handle said q = q ≡ p ++ decision (questions.Value handle.index value) (goes_on said) ∷ []
-
-      abbrev sees : List (Decision T) → ℕ → CallbackProgression → List (Decision T) → Type 0
-      sees p index said q = Sees finds (map_in words) owner p index said q
-
-      abbrev find_flight : Find T (Buffer 128) → Buffer 128 → Flight T
-      find_flight c room = flights.Container (under_way.Find (record { call = c; given = owner; room = room }))
-
-      abbrev wants_find : Find T (Buffer 128) → ℕ → Want (Unit {0})
-      wants_find c _ = find_want code.size c
-
-      find_is : IsFlight code wants_find (find_after code.size) (find_kept kept_at) owner (λ c. Unit {0}) find_flight (λ e room. answers.Number e)
-      find_is =
-          record {
-            wants = λ c room low. refl;
-            goes = λ c room old low.
-                twice flights.Container under_way.Find answers.Number as_it_is owner (find_kept kept_at c room old) (find_after code.size c owner old);
-            stays = λ c old low. any_low (find_after code.size c owner old);
-          }
-
-      seen_so : (p : List (Decision T)) (index : ℕ) (said : CallbackProgression) (q : List (Decision T)) → sees p index said q
-          → q ≡ p ++ decision (about (map_in words) index) (goes_on said) ∷ []
-      seen_so p index said q t =
-          t.2 ∙ ap (λ (o : Option T). p ++ decision (showing o (questions.Value index tt)) (goes_on said) ∷ []) (sym t.1)
-
-      found : (told : List (Decision T)) (n : ℕ) (last : List ℕ) → HasFound sees (indices_of (map_in words).owners owner) [] n told
-          → last ≡ words → At (calls.Find owner) told (answers.Number n) last
-      found told n last f same =
-          let was = found_so (about (map_in words)) sees seen_so (indices_of (map_in words).owners owner) n told f in
-          record {
-            said = λ i. record { questions = was.asked i; answer = answers.Number (was.number i) };
-            holds = subst (Holds code.value_of code.size capacity 0) (sym same) h;
-            object = ap map_in same;
-          }
-
-      abbrev Searches : ℕ → Find T (Buffer 128) → Buffer 128 → List (Decision T) → List ℕ → Type 0
-      Searches done call room now ws =
-          finding.Searching code.value_of room_words kept_at put_in finds [] code.size capacity 0 owner words done call room now ws
-
-      module _ (m done : ℕ) (call : Find T (Buffer 128)) (room : Buffer 128) (now : List (Decision T)) (ws : List ℕ)
-          (t : Searches done call room now ws)
-          (rest : (d : Find T (Buffer 128)) (room : Buffer 128) (later : List (Decision T)) (last : List ℕ) → Searches (done + 1) d room later last
-          → Talks code (At (calls.Find owner)) m later (find_flight d room) last) where
-        further : (a : After (Find T (Buffer 128)) ℕ) (r : Buffer 128) (later : List (Decision T)) (last : List ℕ)
-            → finding.Further code.value_of room_words kept_at put_in finds [] code.size capacity 0 owner words (done + 1) a r later last
-            → Turns code (At (calls.Find owner)) (Talks code (At (calls.Find owner)) m) later
-            (as_call (λ c. find_flight c r) (λ e. answers.Number e) a) last
-        further (GoOn d) r later last u = rest d r later last u
-        further (Done n) r later last u = found later n last u.0 u.1
-
-        find_asks : (question : Question (Unit {0})) (asks : Find T (Buffer 128)) (r : Buffer 128) (last : List ℕ)
-            → StopsAlike wants_find (find_after code.size) (find_kept kept_at) owner call room ws (stops.Asked question asks) r last
-            → find_want code.size asks ≡ wants.Question (questions.Value (index_in question) tt)
-        find_asks question asks r last alone =
-            let at = stops_so wants_find (find_after code.size) (find_kept kept_at) owner _ call room words t.2.run (stops.Asked question asks) r last
-            (subst (λ vs. StopsAlike wants_find (find_after code.size) (find_kept kept_at) owner call room vs (stops.Asked question asks) r last)
-            t.1 alone) in
-            ap (find_want code.size) at.stands ∙ ap (λ q. wants.Question (questions.Value (index_in q) tt)) (sym at.asks)
-
-        find_stops : (s : Stop (Find T (Buffer 128)) ℕ) (r : Buffer 128) (last : List ℕ)
-            → StopsAlike wants_find (find_after code.size) (find_kept kept_at) owner call room ws s r last
-            → AtStop code (At (calls.Find owner)) (Talks code (At (calls.Find owner)) m) now
-            (lift_stop code wants_find (find_after code.size) (find_kept kept_at) owner (λ c. Unit {0}) find_flight (λ e room. answers.Number e) s r) last
-        find_stops (stops.Ended n) r last alone =
-            let end = finding.ended_so code.value_of room_words kept_at put_in finds [] code.size capacity 0 owner words done call room now ws t
-            n r last alone in
-            found now n last end.0 end.1
-        find_stops (stops.Asked question asks) r last alone = λ said.
-            let later : List (Decision T) = now ++ decision (questions.Value (index_in question) (read_in code r)) said ∷ [] in
-            let next = finding.further_so code.value_of room_words kept_at put_in finds [] code.size capacity 0 owner words done call room now ws t
-            question asks r last alone (read_in code r) refl (index_in question) refl (progression said) later
-            (ap (λ b. now ++ decision (questions.Value (index_in question) (read_in code r)) b ∷ []) (sym (same_decision said)))
-            (number_of said) (same_number said) (find_after code.size asks owner (number_of said)) refl
-            (find_kept kept_at asks r (number_of said)) refl in
-            let told : now ++ decided code (Some (find_flight asks r)) said ≡ later =
-            ap (λ w. now ++ decided_at (Some (read_in code r)) w said) (find_asks question asks r last alone) in
-            subst (λ ds. Turns code (At (calls.Find owner)) (Talks code (At (calls.Find owner)) m) ds
-            (after_of code (find_flight asks r) (number_of said)) last)
-            (sym told)
-            (subst (λ a. Turns code (At (calls.Find owner)) (Talks code (At (calls.Find owner)) m) later a last)
-            (sym (find_is.goes asks r (number_of said) tt))
-            (further (find_after code.size asks owner (number_of said)) (find_kept kept_at asks r (number_of said)) later last next))
-
-      find_talks : (m done : ℕ) (call : Find T (Buffer 128)) (room : Buffer 128) (now : List (Decision T)) (ws : List ℕ) → done + m ≡ 2 ^ 64 - 1
-          → Searches done call room now ws → Talks code (At (calls.Find owner)) m now (find_flight call room) ws
-      find_talks zero done call room now ws sum t =
-          let few = finding.few_rounds code.value_of room_words kept_at put_in finds [] code.size capacity 0 owner words done call room now ws t in
-          absurd (omega arith)
-      find_talks (suc m) done call room now ws sum t =
-          let can = finding.can_go code.value_of room_words kept_at put_in finds [] code.size capacity 0 owner words done call room now ws t in
-          talks_as code wants_find (find_after code.size) (find_kept kept_at) owner (λ c. Unit {0}) find_flight (λ e room. answers.Number e) find_is
-          (At (calls.Find owner)) m now call room ws tt can
-          (find_stops m done call room now ws t (λ d r later last u. find_talks m (done + 1) d r later last (omega arith) u)
-          can.stop can.last_room can.last_words (alike wants_find (find_after code.size) (find_kept kept_at) owner call room ws can))
-
-      finds_all : Said (calls.Find owner)
-      finds_all = (
-        2 ^ 64 - 1,
-        find_talks (2 ^ 64 - 1) 0 (first_find capacity) fresh_cell [] words (omega arith)
-            (finding.starts code.value_of room_words kept_at put_in finds [] code.size capacity 0 owner words (first_find capacity) refl fresh_cell
-            roomy (ready owner lives)),
-      )
-
-    -- ---- a recovery
-
-    module _ (owner : ℕ) (mode : ReleaseMode) (lives : owner < empty) where
-      -- the index of the question that comes after so many
-      abbrev asked_at : ℕ → ℕ
-      asked_at n = slice_index (map (λ (o : Owned). o.index) (to_ask (map_in words) owner)) n
-
-      abbrev asks : List (Decision T) → T → Bool → List (Decision T) → Type 0
-      asks p value said q = q ≡ p ++ decision (questions.Value (asked_at (length p)) value) said ∷ []
-
-      abbrev says : List (Decision T) → Asked → List (Decision T) → Type 0
-      says p a q = Says asks (map_in words) p a.of.owner a.of.index a.yes q
-
-      abbrev dead : DeadOwner
-      dead = record { owner = owner; mode = mode }
-
-      abbrev recover_flight : Recover T (Buffer 128) → Buffer 128 → Flight T
-      recover_flight c room = flights.Container (under_way.Recover (record { call = c; given = record { owner = owner; mode = mode }; room = room }))
-
-      recover_is : IsFlight code (recover_want code.size) (recover_after code.size) (recover_kept kept_at) dead (λ c. Unit {0}) recover_flight
-          (λ e room. answers.State e)
-      recover_is =
-          record {
-            wants = λ c room low. refl;
-            goes = λ c room old low.
-                twice flights.Container under_way.Recover answers.State as_it_is dead (recover_kept kept_at c room old) (recover_after code.size c dead old);
-            stays = λ c old low. any_low (recover_after code.size c dead old);
-          }
-
-      in_place : (before : List Asked) (a : Asked) (rest : List Asked)
-          → slice_index (map (λ (o : Owned). o.index) (asked_questions (before ++ a ∷ rest))) (length before) ≡ a.of.index
-      in_place [] a rest = refl
-      in_place (b ∷ before) a rest = in_place before a rest
-
-      placed : (before : List Asked) (o : Owned) (rest : List Owned)
-          → slice_index (map (λ (o : Owned). o.index) (asked_questions before ++ o ∷ rest)) (length before) ≡ o.index
-      placed [] o rest = refl
-      placed (b ∷ before) o rest = placed before o rest
-
-      said_so : (before : List Asked) (a : Asked) (rest : List Asked) (p q : List (Decision T)) → length p ≡ length before
-          → asked_questions (before ++ a ∷ rest) ≡ to_ask (map_in words) owner → says p a q
-          → q ≡ p ++ decision (about (map_in words) a.of.index) a.yes ∷ []
-      said_so before a rest p q long is t =
-          let place : asked_at (length p) ≡ a.of.index =
-          (λ i. slice_index (map (λ (o : Owned). o.index) (sym is i)) (long i)) ∙ in_place before a rest in
-          t.2
-          ∙ (ap (λ (n : ℕ). p ++ decision (questions.Value n t.0) a.yes ∷ []) place
-          ∙ ap (λ (o : Option T). p ++ decision (showing o (questions.Value a.of.index tt)) a.yes ∷ []) (sym t.1))
-
-      gone : (told : List (Decision T)) (state : ReleaseState) (last : List ℕ)
-          → recovering.Gone code.value_of room_words kept_at put_in asks [] code.size capacity 0 owner mode words state told last
-          → At (calls.Recover owner mode) told (answers.State state) last
-      gone told state last g =
-          let was = asked_so (to_ask (map_in words) owner) (λ o. about (map_in words) o.index) says said_so g.calls.asked told g.calls.all g.calls.answers in
-          let is : map_in last ≡ map_freed (map_in words) owner mode (map yes_of told) =
-          g.calls.next ∙ ap (λ which. one_change (all_freed mode (map_in words) which)) (sym was.agreed_are) in
-          record {
-            said = λ i. record {
-              questions = was.questions_are i;
-              answer = answers.State ((g.state_is ∙ ap (λ (s : Contents T). state_of s.owners) is) i);
-            };
-            holds = g.fit;
-            object = is;
-          }
-
-      abbrev Recovers : ℕ → Recover T (Buffer 128) → Buffer 128 → List (Decision T) → List ℕ → Type 0
-      Recovers done call room now ws =
-          recovering.Searching code.value_of room_words kept_at put_in asks [] code.size capacity 0 owner mode words done call room now ws
-
-      module _ (m done : ℕ) (call : Recover T (Buffer 128)) (room : Buffer 128) (now : List (Decision T)) (ws : List ℕ)
-          (t : Recovers done call room now ws)
-          (rest : (d : Recover T (Buffer 128)) (room : Buffer 128) (later : List (Decision T)) (last : List ℕ) → Recovers (done + 1) d room later last
-          → Talks code (At (calls.Recover owner mode)) m later (recover_flight d room) last) where
-        -- it asks about the index that comes next
-        recover_asks : (question : Question (Unit {0})) (put : Recover T (Buffer 128)) (r : Buffer 128) (last : List ℕ)
-            → StopsAlike (recover_want code.size) (recover_after code.size) (recover_kept kept_at) dead call room ws (stops.Asked question put) r last
-            → recover_want code.size put dead ≡ wants.Question (questions.Value (asked_at (length now)) tt)
-        recover_asks question put r last alone =
-            let at = stops_so (recover_want code.size) (recover_after code.size) (recover_kept kept_at) dead _ call room ws t.1.run
-            (stops.Asked question put) r last alone in
-            let long : length now ≡ length t.1.asked =
-            (let all = folds_long says
-            (λ p a q w. ap length w.2 ∙ length-append p (decision (questions.Value (asked_at (length p)) w.0) a.yes ∷ []))
-            t.1.asked [] now t.1.answers in omega arith) in
-            let place : asked_at (length now) ≡ at.index =
-            (λ i. slice_index (map (λ (o : Owned). o.index) ((sym t.1.joined ∙ ap (λ l. asked_questions t.1.asked ++ l) at.left_is) i)) (long i))
-            ∙ placed t.1.asked (record { owner = owner; index = at.index }) _ in
-            ap (λ c. recover_want code.size c dead) at.stands ∙ ap (λ n. wants.Question (questions.Value n tt)) (sym place)
-
-        recover_stops : (s : Stop (Recover T (Buffer 128)) ReleaseState) (r : Buffer 128) (last : List ℕ)
-            → StopsAlike (recover_want code.size) (recover_after code.size) (recover_kept kept_at) dead call room ws s r last
-            → AtStop code (At (calls.Recover owner mode)) (Talks code (At (calls.Recover owner mode)) m) now
-            (lift_stop code (recover_want code.size) (recover_after code.size) (recover_kept kept_at) dead (λ c. Unit {0}) recover_flight
-            (λ e room. answers.State e) s r) last
-        recover_stops (stops.Ended state) r last alone =
-            gone now state last
-            (recovering.ended_so code.value_of room_words kept_at put_in asks [] code.size capacity 0 owner mode words done call room now ws t
-            state r last alone)
-        recover_stops (stops.Asked question put) r last alone = λ said.
-            let later : List (Decision T) = now ++ decision (questions.Value (asked_at (length now)) (read_in code r)) said ∷ [] in
-            let told : now ++ decided code (Some (recover_flight put r)) said ≡ later =
-            ap (λ w. now ++ decided_at (Some (read_in code r)) w said) (recover_asks question put r last alone) in
-            subst (λ ds. Turns code (At (calls.Recover owner mode)) (Talks code (At (calls.Recover owner mode)) m) ds
-            (after_of code (recover_flight put r) (number_of said)) last)
-            (sym told)
-            (subst (λ a. Turns code (At (calls.Recover owner mode)) (Talks code (At (calls.Recover owner mode)) m) later a last)
-            (sym (recover_is.goes put r (number_of said) tt))
-            (onward (recover_after code.size put dead (number_of said)) said later
-            (recovering.further_so code.value_of room_words kept_at put_in asks [] code.size capacity 0 owner mode words done call room now ws t
-            question put r last alone (read_in code r) refl said later refl (number_of said) (yes_number said)
-            (recover_after code.size put dead (number_of said)) refl (recover_kept kept_at put r (number_of said)) refl)))
-          where
-            onward : (a : After (Recover T (Buffer 128)) ReleaseState) (said : Bool) (later : List (Decision T))
-                → recovering.Further code.value_of room_words kept_at put_in asks [] code.size capacity 0 owner mode words done call room now ws t
-                question put r last alone (read_in code r) refl a (recover_kept kept_at put r (number_of said)) later
-                → Turns code (At (calls.Recover owner mode)) (Talks code (At (calls.Recover owner mode)) m) later
-                (as_call (λ c. recover_flight c (recover_kept kept_at put r (number_of said))) (λ e. answers.State e) a) last
-            onward (GoOn d) said later u = rest d (recover_kept kept_at put r (number_of said)) later last u
-            onward (Done state) said later u = absurd u
-
-      recover_talks : (m done : ℕ) (call : Recover T (Buffer 128)) (room : Buffer 128) (now : List (Decision T)) (ws : List ℕ)
-          → done + m ≡ 2 ^ 64 - 1 → Recovers done call room now ws → Talks code (At (calls.Recover owner mode)) m now (recover_flight call room) ws
-      recover_talks zero done call room now ws sum t =
-          let few = recovering.few_rounds code.value_of room_words kept_at put_in asks [] code.size capacity 0 owner mode words done call room now ws t in
-          absurd (omega arith)
-      recover_talks (suc m) done call room now ws sum t =
-          let can = recovering.can_go code.value_of room_words kept_at put_in asks [] code.size capacity 0 owner mode words done call room now ws t in
-          talks_as code (recover_want code.size) (recover_after code.size) (recover_kept kept_at) dead (λ c. Unit {0}) recover_flight
-          (λ e room. answers.State e) recover_is (At (calls.Recover owner mode)) m now call room ws tt can
-          (recover_stops m done call room now ws t (λ d r later last u. recover_talks m (done + 1) d r later last (omega arith) u)
-          can.stop can.last_room can.last_words
-          (alike (recover_want code.size) (recover_after code.size) (recover_kept kept_at) dead call room ws can))
-
-      recovers_all : Said (calls.Recover owner mode)
-      recovers_all = (
-        2 ^ 64 - 1,
-        recover_talks (2 ^ 64 - 1) 0 (first_recover capacity) fresh_cell [] words (omega arith)
-            (recovering.starts code.value_of room_words kept_at put_in asks [] code.size capacity 0 owner mode words (first_recover capacity) refl
-            fresh_cell roomy (ready owner lives)),
-      )
-
-    pub every : (start : ContainerStart T) → IsNoLook (first capacity start) → names_owner start ≡ true → Said start
-    every (calls.Add value owner) such names = speaks (calls.Add value owner) refl (adds_one value owner (below owner empty names))
-    every (calls.Remove index owner mode) such names =
-        speaks (calls.Remove index owner mode) refl (removes_one index owner mode (below owner empty names))
-    every (calls.Replace index value owner) such names =
-        speaks (calls.Replace index value owner) refl (replaces_one index value owner (below owner empty names))
-    every (calls.Find owner) such names = finds_all owner (below owner empty names)
-    every (calls.Recover owner mode) such names = recovers_all owner mode (below owner empty names)
-    every calls.GetState such names = absurd such
-    every calls.UpdateState such names = absurd such
-    every calls.Len such names =
-        speaks calls.Len refl
-        (counts_so measures.Len calls.Len (λ e last said holds object. record { said = ap answers.Number said; holds = holds; object = object }))
-    every calls.IsEmpty such names =
-        speaks calls.IsEmpty refl
-        (counts_so measures.IsEmpty calls.IsEmpty
-        (λ e last said holds object. record { said = ap (λ n. answers.Truth (n == 0)) said; holds = holds; object = object }))
-    every calls.IsLocked such names = speaks calls.IsLocked refl looks

@@ -11,6 +11,7 @@ use Rattle.headline_whole.specs.Dialogues.{stands_after, story_of, calls_of}
 use Rattle.headline_whole.specs.Objects.{Viewed, whole_map}
 use Rattle.headline_whole.specs.States.{is_look, kept_view, ShowsViews}
 use Rattle.headline_whole.specs.Whole.{RunsWhole}
+use Rattle.headline_whole.proofs.ContainerRules as container_rules
 use Rattle.headline_whole.proofs.Containers as containers
 use Rattle.headline_whole.proofs.Containers.{states_in, Talking, Viewing}
 use Rattle.headline_whole.proofs.Courses.{Course, Holding, Rules}
@@ -36,7 +37,7 @@ module _ {T : Type 0} where
 
     rules : Rules course holding t.world.coding kinds.Container t.world.capacity
     rules =
-        containers.rules t.world.coding r.coded t.world.capacity (subst (λ k. capacity_error k t.world.capacity ≡ None) is r.admitted)
+        container_rules.rules t.world.coding r.coded t.world.capacity (subst (λ k. capacity_error k t.world.capacity ≡ None) is r.admitted)
 
     stands : Stands course holding t (story_of t r)
     stands =

@@ -6,6 +6,7 @@ pub mod CountSteps
 pub mod CountWalks
 pub mod Counting
 pub mod Finding
+pub mod Leaving
 pub mod LockCalls
 pub mod LockKnows
 pub mod LockSteps
@@ -20,6 +21,7 @@ pub mod SeenLooks
 pub mod SeenTurns
 pub mod Showing
 pub mod Standing
+pub mod Taken
 pub mod Waiting
 pub mod Worked
 pub mod WorkedStates

@@ -6,7 +6,7 @@ pub use Rattle.laws_container.proofs.KeptLocks.{filled_locked, filled_none, fill
 pub use Rattle.laws_container.proofs.Looks.{looks_as, written_same}
 pub use Rattle.laws_container.proofs.Sound.{IsOwn, begins_own, may_go_on}
 pub use Rattle.laws_container.proofs.Terms.{dying}
-pub use Rattle.laws_container.proofs.Writing.{adds_one, adds_to_change, stores_to}
+pub use Rattle.laws_container.proofs.Writing.{adds_one, stores_to}
 pub use Rattle.laws_container.proofs.Written.{all_effects}
 pub use Rattle.laws_robust.proofs.Core.{cell, counter_of}
 pub use Rattle.laws_robust.proofs.Effects.{both_ways, is_shut, unlocked}

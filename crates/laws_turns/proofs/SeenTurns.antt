@@ -1,4 +1,4 @@
--- What the turns of a call under way leave known of the changes of a container.
+-- What the turns of a call under way leave known of the changes of a container, whatever it is by that an owner is gone.
 use Rattle.std.proofs.Common.{arith}
 use Rattle.laws_turns.proofs.Names.{◌≡◌, ◌≢◌, ⊎_elim, ℕ, ◌==◌, ◌&&◌, Bool, true, false, Option, Some, None, is_some}
 use Rattle.laws_turns.proofs.Names.{IfSome, List, [], ◌∷◌, ◌++◌, refl, sym, ap, subst, ◌∙◌, ne_eqb, eq-eqb, cases_eq}
@@ -7,34 +7,35 @@ use Rattle.laws_turns.proofs.Names.{Acted, Finished, is_look_of, Act, questions,
 use Rattle.laws_turns.proofs.Names.{Registry, ContainerStart, ContainerFlight, LookOf, Party, Turn, Next, Decide}
 use Rattle.laws_turns.proofs.Names.{want_of, ask_of, is_question, goes_of, beside_of, step_of, look_shows, settled_if}
 use Rattle.laws_turns.proofs.Names.{writes_state, state_in, is_looking, state_of, party_of, IsParty, IsEffectOf, Each}
-use Rattle.laws_turns.proofs.Names.{whose, refusal_of, is_due, answer_in, old_of, number_of, ending_of, events_of}
+use Rattle.laws_turns.proofs.Names.{whose, answer_in, old_of, number_of, ending_of, events_of}
 use Rattle.laws_turns.proofs.Names.{events_of_answer, events_of_next, events_of_decision, events_of_step}
 use Rattle.laws_turns.proofs.Names.{ask_of_doing, step_in, after_answer, after_next, after_decision, world_after}
-use Rattle.laws_turns.proofs.Names.{after_turn, IsReached, Trace, flight_in, AreOwn, AreRight, Each-append, passes}
-use Rattle.laws_turns.proofs.Names.{may_next, may_decide, must_be_due, StandsThere, both_ways, shown, container_keeps}
-use Rattle.laws_turns.proofs.Names.{looks_as, written_same, may_go_on, all_effects, dying}
+use Rattle.laws_turns.proofs.Names.{after_turn, Trace, flight_in, AreOwn, AreRight, Each-append}
+use Rattle.laws_turns.proofs.Names.{may_next, StandsThere, both_ways, shown}
+use Rattle.laws_turns.proofs.Names.{looks_as, written_same, all_effects}
 use Rattle.steps.specs.declared.container.look.LookStage as stages
 use Rattle.steps.specs.Container.Look as look_steps
 use Rattle.model.specs.Families.Container.Steps.{effects}
-use Rattle.laws_container.proofs.Allowed.{allowed_by}
+use Rattle.laws_container.proofs.Allowed.{IsAllowed}
 use Rattle.laws_container.proofs.KeptStates.{keeps_states}
 use Rattle.laws_container.proofs.Stages.{any_call}
 use Rattle.model.specs.declared.families.Flight as flights
 use Rattle.model.specs.declared.families.Registry as registries
 use Rattle.model.specs.declared.families.container.ContainerStart as starts
 use Rattle.model.specs.declared.families.container.calls.ContainerFlight as calls
-use Rattle.model.specs.declared.turn.Kind as kinds
 use Rattle.model.specs.Families.Container.Calls.{want, after}
 use Rattle.model.proofs.Frame as frame
-use Rattle.laws_container.proofs.Invariant.{family}
-use Rattle.laws_container.proofs.Sound.{kept_is, reached_sound, is_there}
+use Rattle.laws_container.proofs.Invariant.{family_by}
+use Rattle.laws_container.proofs.Sound.{MayGoOn, kept_is, is_there}
 use Rattle.laws_container.proofs.Standing.{At}
-use Rattle.laws_turns.specs.Changes.{Seen, seen_by, MeetsChanges}
-use Rattle.laws_turns.proofs.Counting.{counts_changes}
+use Rattle.laws_container.proofs.Terms.{Terms}
+use Rattle.laws_turns.specs.Changes.{Seen, seen_by, CountsChanges, MeetsChanges}
+use Rattle.laws_turns.proofs.Leaving.{next_leaves, decision_leaves}
 use Rattle.laws_turns.proofs.Others.{others_stay}
 use Rattle.laws_turns.proofs.SeenCalls.{Leaves, wrote_by, others_leave, look_leaves, look_stays}
 use Rattle.laws_turns.proofs.SeenKnows.{Within, Grows, LookSees, CallSees, FlightSees, seen_number, changes_are, others_grow, sees_later, IsNoLook}
-use Rattle.laws_turns.proofs.Standing.{left_by, next_left, decision_left, under_way}
+use Rattle.laws_turns.proofs.Standing.{left_by, under_way}
+use Rattle.laws_turns.proofs.Taken.{decides}
 use Rattle.laws_turns.proofs.Waiting.{look_asks_none}
 
 -- what each party's state and look know of the changes, and that the updates that have ended met them
@@ -43,12 +44,10 @@ module _ {T : Type 0} where
     pub known : (p : ℕ) → FlightSees (flight_in t.world p) (seen_by p t.events) (state_in t.world.kept p)
     pub right : Each MeetsChanges t.events
 
-module _ {T : Type 0} (t : Trace T) (is : t.world.kind ≡ kinds.TheVariants.Container) (r : IsReached t) (h : Extra t) where
+module _ {T : Type 0} (terms : Terms) (t : Trace T) (s : frame.Sound (family_by terms t.world.coding t.world.capacity) t)
+    (may : MayGoOn terms t) (counts : CountsChanges t) (h : Extra t) where
   abbrev fam : frame.Family T
-  fam = family t.world.coding t.world.capacity
-
-  abbrev pub s : frame.Sound (family t.world.coding t.world.capacity) t
-  s = reached_sound shown t is r
+  fam = family_by terms t.world.coding t.world.capacity
 
   abbrev pub now_kept : Registry T
   now_kept = registries.TheVariants.Container s.state.dead s.state.states
@@ -61,12 +60,9 @@ module _ {T : Type 0} (t : Trace T) (is : t.world.kind ≡ kinds.TheVariants.Con
 
   -- ---- the other parties
 
-  module _ (turn : Turn T) (free : refusal_of t.world turn ≡ None) where
+  module _ (turn : Turn T) (free : IsAllowed t.world turn) where
     moves : (q : ℕ) → is_look_of t.world q turn ≡ false → state_in (world_after t.world turn).kept q ≡ state_in t.world.kept q
-    moves =
-        let passed = passes t.world turn free in
-        (keeps_states shown dying t.world.coding t turn (allowed_by t.world turn passed.on) s
-        (may_go_on dying t.world.coding t.world.capacity t s passed.turns)).moves
+    moves = (keeps_states shown terms t.world.coding t turn free s may).moves
 
     abbrev pub SeesThen : List (Event T) → ℕ → Type 0
     SeesThen es q = FlightSees (flight_in (world_after t.world turn) q) (seen_by q (t.events ++ es)) (state_in (world_after t.world turn).kept q)
@@ -110,7 +106,7 @@ module _ {T : Type 0} (t : Trace T) (is : t.world.kind ≡ kinds.TheVariants.Con
       effect_own (Died o) h = absurd h
       effect_own e h = by_whose (whose e) h refl
 
-  module _ (turn : Turn T) (free : refusal_of t.world turn ≡ None) (p : ℕ) (its : IsParty turn p)
+  module _ (turn : Turn T) (free : IsAllowed t.world turn) (p : ℕ) (its : IsParty turn p)
       (mine : (q : ℕ) → IsParty turn q → q ≡ p) (still : (q : ℕ) → q ≢ p → is_look_of t.world q turn ≡ false)
       (answer : ℕ) where
     -- by the party's name and call
@@ -200,7 +196,7 @@ module _ {T : Type 0} (t : Trace T) (is : t.world.kind ≡ kinds.TheVariants.Con
 
   -- ---- a step
 
-  module _ (p : ℕ) (free : refusal_of t.world (Next p) ≡ None) where
+  module _ (p : ℕ) (free : IsAllowed t.world (Next p)) where
     abbrev on_next : (q : ℕ) → q ≢ p → is_look_of t.world q (Next p) ≡ false
     on_next q ne = not_its p q (is_looking (flight_in t.world p)) ne
 
@@ -213,7 +209,7 @@ module _ {T : Type 0} (t : Trace T) (is : t.world.kind ≡ kinds.TheVariants.Con
     loads_changes : (which : LookOf) (call : Look T) → call.capacity ≡ t.world.capacity
         → call.stage ≡ stages.TheVariants.LoadsChange
         → old_of s.state.words (ask_of (want t.world.coding (calls.TheVariants.Look which call))) ≡ (seen_by p t.events).changes
-    loads_changes x0 x1 x2 x3 = grind (arith, same_words, counts_changes, changes_are)
+    loads_changes x0 x1 x2 x3 = grind (arith, same_words, counts, changes_are)
 
     step_other : (start : ContainerStart T) (flight : ContainerFlight T) (all : List SetAct) (done : List (Act T))
         → At t.world.capacity t.world.coding.size all done start flight
@@ -260,10 +256,10 @@ module _ {T : Type 0} (t : Trace T) (is : t.world.kind ≡ kinds.TheVariants.Con
 
     pub next_kept : Extra (after_turn t (Next p))
     next_kept =
-        let flies = may_next t.world p (passes t.world (Next p) free).on in
+        let flies = may_next t.world p free in
         let call = under_way fam t s p flies.flight flies.is in
         let x = call.party in
-        let left = next_left t.world (world_after t.world (Next p)) p flies.flight flies.is (container_keeps.turn t (Next p) is free r).call in
+        let left = next_leaves terms t s p flies.flight call in
         let wrote : events_of t.world (Next p)
         ≡ events_of_step p x.start
         (step_in t.world p x flies.flight (old_of t.world.words (ask_of (want_of t.world.coding flies.flight)))) =
@@ -286,7 +282,7 @@ module _ {T : Type 0} (t : Trace T) (is : t.world.kind ≡ kinds.TheVariants.Con
 
   -- ---- a decision
 
-  module _ (p : ℕ) (said : Bool) (free : refusal_of t.world (Decide p said) ≡ None) where
+  module _ (p : ℕ) (said : Bool) (free : IsAllowed t.world (Decide p said)) where
     abbrev DecisionComes : Registry T → Start T → Flight T → Type 0
     DecisionComes kept start flight = Comes (Decide p said) free p refl (λ q its. its) (λ q ne. refl) (number_of said) kept start flight
 
@@ -316,21 +312,15 @@ module _ {T : Type 0} (t : Trace T) (is : t.world.kind ≡ kinds.TheVariants.Con
 
     pub decision_kept : Extra (after_turn t (Decide p said))
     decision_kept =
-        let allowed = passes t.world (Decide p said) free in
-        let flies = may_decide t.world p said allowed.on in
+        let flies = decides t.world p free in
         let call = under_way fam t s p flies.flight flies.is in
         let x = call.party in
-        let left =
-        decision_left t.world (world_after t.world (Decide p said)) p flies.flight flies.is said
-        (container_keeps.turn t (Decide p said) is free r).call in
+        let left = decision_leaves terms t s p said flies.flight call in
         let wrote : events_of t.world (Decide p said) ≡ events_of_step p x.start (step_in t.world p x flies.flight (number_of said)) =
         ap (events_of_decision t.world p said) call.found ∙ ap (events_of_answer t.world p x (number_of said)) call.doing
         in
         let kept : (world_after t.world (Decide p said)).kept ≡ (step_in t.world p x flies.flight (number_of said)).kept =
         ap (λ o. (after_decision t.world p said o).kept) call.found ∙ ap (λ d. (after_answer t.world p x None (number_of said) d).kept) call.doing
         in
-        let due =
-        subst (λ o. is_due t.world.coding o ≡ true) flies.is
-        (frame.is_true (is_due t.world.coding (flight_in t.world p)) (must_be_due t.world p said allowed.on)) in
-        by_decision x call.since call.found x.start flies.flight call.there flies.is due
+        by_decision x call.since call.found x.start flies.flight call.there flies.is flies.due
         (subst (λ k. DecisionComes k x.start flies.flight) same_kept (left, wrote, kept))
