@@ -2,6 +2,7 @@ mod Names
 pub mod Alone
 pub mod Elements
 pub mod Emptied
+pub mod FirstSteps
 pub mod Fronts
 pub mod Lists
 pub mod Places

@@ -1,8 +1,8 @@
 -- The words of a bit set, read as a set of places.
 use Rattle.std.specs.Prelude.{◌≡◌, ◌≤◌, ◌<◌, ℕ, ◌+◌, ◌^◌, Bool, List, length, map, slice_index}
 use Rattle.std.specs.List.{range_with_len}
-use Rattle.steps.specs.Bits.Words.{elements, stands}
-use Rattle.steps.specs.Objects.Places.{Places}
+use Rattle.steps.specs.Bits.Words.{elements, has_flag, stands}
+use Rattle.steps.specs.Objects.Places.{Places, standing_from}
 
 abbrev pub flags_in : ℕ → List ℕ → List Bool
 flags_in capacity words = map (stands words) (range_with_len 0 capacity)
@@ -10,6 +10,11 @@ flags_in capacity words = map (stands words) (range_with_len 0 capacity)
 abbrev pub places_in : ℕ → List ℕ → Places
 places_in capacity words =
     record { flags = flags_in capacity words; start = slice_index words 0 }
+
+-- of so many places, from the first on, those whose flags stand in the element
+abbrev pub standing_in : ℕ → ℕ → ℕ → List ℕ
+standing_in element first n =
+    standing_from first (map (has_flag element) (range_with_len first n))
 
 pub record Represents (capacity : ℕ) (words : List ℕ) : Type 0 where
   pub long : length words ≡ 1 + elements capacity

@@ -2,6 +2,7 @@ pub mod Alone
 pub mod Bits
 pub mod Callable
 pub mod Contents
+pub mod FirstSteps
 pub mod Overflowing
 pub mod Queues
 pub mod Robust

@@ -5,7 +5,7 @@ ghost use Rattle.plain.specs.Callable.{index_in, as_answer};
 use steps::ask::Question;
 use steps::enums::CallbackProgression;
 
-/// The index that a question is about.
+/// Returns the index that a question is about.
 pub fn index_in(question: Question<()>) -> usize
     ensures { result ≡ index_in question }
 {
@@ -16,7 +16,7 @@ pub fn index_in(question: Question<()>) -> usize
     }
 }
 
-/// What a closure says, as the answer to a call.
+/// Turns what a closure says into the answer to a call.
 pub fn as_answer(progression: CallbackProgression) -> u64
     ensures { result ≡ as_answer progression }
 {
@@ -26,7 +26,7 @@ pub fn as_answer(progression: CallbackProgression) -> u64
     }
 }
 
-/// Yes or no, as the answer to a call.
+/// Turns yes or no into the answer to a call.
 pub fn as_yes(yes: bool) -> u64
     ensures { result ≡ if yes then 1 else 0 }
 {

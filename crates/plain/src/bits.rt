@@ -8,15 +8,21 @@ ghost use Rattle.plain.specs.Bits.{places_in, Represents};
 ghost use Rattle.plain.specs.Visits.{Takes, WasCalled};
 
 use crate::drive::drive;
-use crate::swaps::{call_standing, refill};
+use crate::swaps::{end_of_element, swap_next, visit_element};
 use std::alloc::Global;
 use std::marker::Model;
 use steps::bits::bit_set::{ResetNext, Set};
-use steps::bits::flags::{FIRST_ELEMENT, elements, has_flag};
+use steps::bits::flags::{FIRST_ELEMENT, elements};
 use steps::bits::reset_all::ResetAll;
 use steps::enums::{UniqueIndexCreationError, capacity_refusal};
 
-/// A set of places below a capacity. After `BitSet` of the Rust crate, for one caller.
+/// A bit set that one caller uses: places below a capacity, each set or clear. After `BitSet` of the Rust crate.
+///
+/// ```rust
+/// let mut flags = BitSet::new(rt.alloc(), 64)?;
+/// assert!(rt; flags.set(5) && !flags.set(5));
+/// assert!(rt; flags.reset_next() == Some(5) && flags.reset_next().is_none());
+/// ```
 #[derive(Drop)]
 pub struct BitSet {
     words: Vec<u64>,
@@ -62,15 +68,17 @@ fn empty<F: FnMut(usize)>(words: &mut Vec<u64>, capacity: u32, mut visit: F)
     ensures calls { WasCalled F.step (standing (places_in capacity words.old.items)) visit }
 {
     let mut call = ResetAll::bits(capacity);
-    let mut found = 0;
-    for place in 0..capacity {
-        found = refill(words, &mut call, place, found);
-        visit = call_standing(visit, has_flag(found, place as u64), place);
+    let mut first = 0;
+    for _ in 0..elements(capacity) {
+        let found = swap_next(words, &mut call);
+        let end = end_of_element(first, capacity as u64);
+        visit = visit_element(visit, found, first, end);
+        first = end;
     }
 }
 
 impl BitSet {
-    /// Sets the place, and answers whether it was not set.
+    /// Sets the place, and returns whether it was clear.
     pub fn set(&mut self, place: usize) -> bool
         requires { place < length self.old.flags }
         ensures answer { result ≡ not (has self.old place) }
@@ -79,8 +87,8 @@ impl BitSet {
         set(&mut self.words, self.capacity, place as u64)
     }
 
-    /// Resets the least place that stands and is not below the start, else the least that stands; the start is then
-    /// the place after it. None where no place stands.
+    /// Resets the least place that stands and is not below the start, else the least that stands, and returns it. The
+    /// start is then the place after it. None if no place stands.
     pub fn reset_next(&mut self) -> Option<usize>
         ensures answer { result ≡ next_place self.old }
         ensures places { self.new ≡ after_next self.old }
@@ -100,14 +108,14 @@ impl BitSet {
         empty(&mut self.words, self.capacity, visit);
     }
 
-    /// How many places there are.
+    /// Returns how many places there are.
     pub fn capacity(&self) -> usize
         ensures { result ≡ length self.now.flags }
     {
         self.capacity as usize
     }
 
-    /// A set of which no place stands.
+    /// Makes a set of which no place stands.
     ///
     /// Refused are, in this order, a capacity above 2^32 - 1 (`ProvidedCapacityGreaterThanMaxCapacity`) and memory
     /// (`NoMemory`).

@@ -28,7 +28,16 @@ use steps::words::Words;
 mod recovery;
 mod visits;
 
-/// Values, each at an index that has an owner, and a lock. After `Container` of the Rust crate, for one caller.
+/// A container that one caller uses: values, each at an index that has an owner, and a lock. After `Container` of the
+/// Rust crate.
+///
+/// ```rust
+/// let owner = OwnerId::new(7)?;
+/// let mut values = Container::new(rt.alloc(), 4, 1)?;
+/// let key = values.add(50u64, owner)?;
+/// let state = values.get_state()?;
+/// assert!(rt; state.get(key.index()) == Some(&50));
+/// ```
 ///
 /// Its generation and its lock are those of a `RobustUniqueIndexSet`. It counts its changes, modulo 2^64: each add,
 /// replace and remove that is not refused is one, and each recovery, whatever it frees.
@@ -177,9 +186,11 @@ fn bring_up<T: Words>(
 }
 
 impl<T: Words> Container<T> {
-    /// Adds `value` for `owner` at the lowest index without an owner, and answers its handle; that is a change.
-    /// `IsLocked` where the container is locked, `OutOfSpace` where each index has an owner or the generation is at
-    /// its end; then nothing changes.
+    /// Adds `value` for `owner` at the lowest index without an owner, and returns its handle. That is a change.
+    /// Refused, without a change, are
+    ///
+    /// - `IsLocked` if the container is locked, and
+    /// - `OutOfSpace` if each index has an owner or the generation is at its end.
     pub fn add(&mut self, value: T, owner: OwnerId) -> Result<ContainerHandle, ContainerAddFailure>
         ensures answer { result ≡ added self.old owner }
         ensures map { self.new ≡ after_add self.old owner value }
@@ -188,11 +199,12 @@ impl<T: Words> Container<T> {
         add::<T>(&mut self.words, self.capacity, self.id, &given)
     }
 
-    /// Removes the value of `handle`, where its index is that of its owner, and gives the index back; that is a
-    /// change. Else, and where it is the handle of another container or its index is not below the capacity,
-    /// `ContainerHandleNotOwnedByContainer`, and nothing changes. In mode `LockIfLastIndex` it locks the container
-    /// where no index has an owner then, unless its generation comes to its end: `Locked` where it is locked, else
-    /// `Unlocked`.
+    /// Removes the value of `handle`, if its owner has its index, and gives the index back. That is a change. In mode
+    /// `LockIfLastIndex` it locks the container if no index has an owner then, unless its generation comes to its end.
+    /// Returns `Locked` if that mode finds it locked, else `Unlocked`.
+    ///
+    /// `ContainerHandleNotOwnedByContainer`, without a change, if its owner has not the index, if the handle is of
+    /// another container, or if its index is not below the capacity.
     pub fn remove(
         &mut self,
         handle: ContainerHandle,
@@ -207,7 +219,7 @@ impl<T: Words> Container<T> {
         remove::<T>(&mut self.words, self.capacity, handle, mode)
     }
 
-    /// Puts `value` in the place of that of `handle`; that is a change. It is refused as a remove is; then nothing
+    /// Puts `value` in the place of that of `handle`. That is a change. It is refused as a remove is; then nothing
     /// changes.
     pub fn replace(&mut self, handle: ContainerHandle, value: T) -> Result<(), ContainerRemoveError>
         ensures answer { result ≡ replaced self.old handle }
@@ -219,7 +231,8 @@ impl<T: Words> Container<T> {
         replace::<T>(&mut self.words, self.capacity, handle, value)
     }
 
-    /// How many indices have an owner, 0 where the container is locked. It raises the generation, and is no change.
+    /// Returns how many indices have an owner, or 0 if the container is locked. It raises the generation, and is no
+    /// change.
     pub fn len(&mut self) -> usize
         ensures answer { result ≡ number self.old }
         ensures map { self.new ≡ counted self.old }
@@ -227,7 +240,7 @@ impl<T: Words> Container<T> {
         count::<T>(&mut self.words, self.capacity, self.id)
     }
 
-    /// Whether no index has an owner, as `len` says. It raises the generation.
+    /// Returns whether `len` is 0. It raises the generation.
     pub fn is_empty(&mut self) -> bool
         ensures answer { result ≡ (number self.old == 0) }
         ensures map { self.new ≡ counted self.old }
@@ -235,7 +248,7 @@ impl<T: Words> Container<T> {
         self.len() == 0
     }
 
-    /// Whether the container is locked.
+    /// Returns whether the container is locked.
     pub fn is_locked(&mut self) -> bool
         ensures answer { result ≡ is_locked self.old }
         ensures map { self.new ≡ self.old }
@@ -243,8 +256,8 @@ impl<T: Words> Container<T> {
         look::<T>(&mut self.words, self.capacity, self.id)
     }
 
-    /// A state of the container: it shows the value at each index where one stands, or nothing where the number of
-    /// changes is 0. `NoMemory` where a state has no memory; then nothing was asked of the container.
+    /// Returns a state that shows the value at each index where one stands. It shows nothing if the number of changes
+    /// is 0. `NoMemory` if a state has no memory; then nothing was asked of the container.
     pub fn get_state(&mut self) -> Result<ContainerState<T>, ContainerStateError>
         ensures of { IfOk result (λ s. IsStateOf self.old s × IsSettled s) }
         ensures shows { IfOk result
@@ -256,10 +269,10 @@ impl<T: Words> Container<T> {
         Ok(state)
     }
 
-    /// Brings a state of this container up to date. False where the number of changes, counted modulo 2^64, is the
-    /// one that the state has seen; it then shows what it showed. Else, of a settled state, each index under another
-    /// number than the state has seen shows the value that stands there, or none. A state is settled when `get_state`
-    /// has made it, and stays so.
+    /// Brings a state of this container up to date, and returns whether the number of changes is another one. False if
+    /// that number, counted modulo 2^64, is the one that the state has seen; it then shows what it showed. Else, of a
+    /// settled state, each index under another number than the state has seen shows the value that stands there, or
+    /// none. A state is settled when `get_state` has made it, and stays so.
     pub fn update_state(&mut self, state: &mut ContainerState<T>) -> bool
         requires { IsStateOf self.old state.old }
         ensures answer { result ≡ not (self.old.changes == state.old.seen.change) }
@@ -272,22 +285,22 @@ impl<T: Words> Container<T> {
         bring_up::<T>(&mut self.words, self.capacity, self.id, state)
     }
 
-    /// Whether it is a state of this container: of its number and its capacity.
+    /// Returns whether it is a state of this container, by its number and its capacity.
     pub fn is_state_of(&self, state: &ContainerState<T>) -> bool
         ensures { IsTrue result ↔ IsStateOf self.now state.now }
     {
         state.is_of(self.id, self.capacity)
     }
 
-    /// The capacity that it was made with.
+    /// Returns the capacity that it was made with.
     pub fn capacity(&self) -> usize
         ensures { result ≡ capacity self.now }
     {
         self.capacity as usize
     }
 
-    /// A container of this capacity and number, with no value, and of generation 0. Its handles carry the number, by
-    /// which it tells them from those of others.
+    /// Makes a container of this capacity and number, with no value, and of generation 0. Its handles carry the number,
+    /// by which it tells them from those of others.
     ///
     /// Refused are, in this order, a capacity above 2^32 - 1 (`ProvidedCapacityGreaterThanMaxCapacity`), 0
     /// (`ProvidedCapacityIsZero`) and memory (`NoMemory`).

@@ -13,7 +13,16 @@ use steps::bits::counting_bit_set::{BitState, MAX_COUNT, Set};
 use steps::bits::reset_all::ResetAll;
 use steps::enums::{UniqueIndexCreationError, capacity_refusal};
 
-/// A count of 64 bits for each place. After `CountingBitSet` of the Rust crate, for one caller.
+/// A counting bit set that one caller uses: places, each of which has a count of 64 bits. After `CountingBitSet` of the
+/// Rust crate.
+///
+/// ```rust
+/// let mut counts = CountingBitSet::new(rt.alloc(), 8)?;
+/// assert!(rt; counts.set(3) == 0 && counts.set(3) == 1);
+/// let mut last = (0, 0);
+/// counts.reset_all(|state| last = (state.bit(), state.count()));
+/// assert!(rt; last == (3, 2));
+/// ```
 #[derive(Drop)]
 pub struct CountingBitSet {
     words: Vec<u64>,
@@ -52,7 +61,7 @@ fn empty<F: FnMut(BitState)>(words: &mut Vec<u64>, capacity: u32, mut visit: F)
 }
 
 impl CountingBitSet {
-    /// Adds 1 to the count of the place, which wraps, and answers what it was.
+    /// Adds 1 to the count of the place, modulo 2^64, and returns what it was.
     pub fn set(&mut self, place: usize) -> u64
         requires { place < length self.old }
         ensures answer { result ≡ slice_index self.old place }
@@ -70,21 +79,21 @@ impl CountingBitSet {
         empty(&mut self.words, self.capacity, visit);
     }
 
-    /// How many places there are.
+    /// Returns how many places there are.
     pub fn capacity(&self) -> usize
         ensures { result ≡ length self.now }
     {
         self.capacity as usize
     }
 
-    /// The greatest count.
+    /// Returns the greatest count.
     pub fn max_count() -> u64
         ensures { result ≡ 2 ^ 64 - 1 }
     {
         MAX_COUNT
     }
 
-    /// A set of which no place has a count.
+    /// Makes a set of which no place has a count.
     ///
     /// Refused are, in this order, a capacity above 2^32 - 1 (`ProvidedCapacityGreaterThanMaxCapacity`) and memory
     /// (`NoMemory`).

@@ -1,11 +1,12 @@
 //! Whole calls over words that nobody else touches.
 ghost use Rattle.std.specs.Prelude.{◌≡◌, slice_index};
 ghost use Rattle.plain.specs.Alone.{written_at, answer_in, words_then, room_then, stepped, CanStop, StopsAlike, CanEnd, EndsAlike};
+ghost use Rattle.plain.specs.FirstSteps.{StopsOn};
 
 use steps::ask::{After, Ask, Op, Question, Want};
 use steps::routine::Routine;
 
-/// Where a driver stops: at a question, with the call that puts it, or at the end.
+/// Says where a driver stops: at a question, with the call that puts it, or at the end.
 #[derive(Clone, Copy)]
 pub enum Stop<C, E> {
     Asked(Question<()>, C),
@@ -36,7 +37,7 @@ fn perform(words: &mut Vec<u64>, ask: Ask) -> u64
     }
 }
 
-/// One step of a call. It stops at a question, which changes nothing.
+/// Takes one step of a call. It stops at a question, which changes nothing.
 #[inline(always)]
 pub fn step<C: Routine>(
     words: &mut Vec<u64>,
@@ -61,6 +62,40 @@ pub fn step<C: Routine>(
     }
 }
 
+/// Two steps, or one where it stops at that.
+#[inline(always)]
+fn two_steps<C: Routine>(
+    words: &mut Vec<u64>,
+    call: C,
+    given: &C::Given,
+    room: &mut C::Room,
+) -> After<C, Stop<C, C::End>>
+    ensures { StopsOn C.want_of C.after C.kept given.now call room.old words.old.items
+        result room.new words.new.items }
+{
+    match step(words, call, given, room) {
+        After::GoOn(next) => step(words, next, given, room),
+        After::Done(stop) => After::Done(stop),
+    }
+}
+
+/// Four steps, or fewer where it stops at one of them.
+#[inline(always)]
+fn four_steps<C: Routine>(
+    words: &mut Vec<u64>,
+    call: C,
+    given: &C::Given,
+    room: &mut C::Room,
+) -> After<C, Stop<C, C::End>>
+    ensures { StopsOn C.want_of C.after C.kept given.now call room.old words.old.items
+        result room.new words.new.items }
+{
+    match two_steps(words, call, given, room) {
+        After::GoOn(next) => two_steps(words, next, given, room),
+        After::Done(stop) => After::Done(stop),
+    }
+}
+
 /// Drives a call to its next question or to its end: it stops just as the call alone stops.
 #[inline(always)]
 pub fn drive_to_stop<C: Routine>(
@@ -73,7 +108,11 @@ pub fn drive_to_stop<C: Routine>(
     ensures alone { StopsAlike C.want_of C.after C.kept given.now call room.old words.old.items
         result room.new words.new.items }
 {
-    let mut call = call;
+    // The first steps stand by themselves, so that a compiler sees at each of them at which stage the call is.
+    let mut call = match four_steps(words, call, given, room) {
+        After::GoOn(next) => next,
+        After::Done(stop) => return stop,
+    };
     for _ in 0..u64::MAX {
         match step(words, call, given, room) {
             After::GoOn(next) => call = next,

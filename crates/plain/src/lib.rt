@@ -1,5 +1,6 @@
-//! The containers for one caller alone: the same calls, driven over a vector of words. Whole calls answer as a list,
-//! a stack of free indices and the like do, and the contracts say so by equations.
+//! The containers for one caller alone. They are what a closed queue becomes, the oracle of tests, and the Rust crate's
+//! unsafe calls for one caller made safe. The calls are the same, driven over a vector of words. Whole calls answer as a
+//! list, a stack of free indices and the like do, and the contracts say so by equations.
 #![tactic(auto)]
 
 mod answers;

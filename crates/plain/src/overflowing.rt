@@ -16,8 +16,14 @@ use steps::queues::overflow::{Pop, Push};
 use steps::queues::ring::{CONSUMER, FIRST_CELL, PRODUCER, READ, WRITE};
 use steps::routine::Routine;
 
-/// A list of at most so many numbers of 64 bits: where it is full, a push hands the oldest one back.
-/// After `SafelyOverflowingIndexQueue` of the Rust crate, for one caller.
+/// An overflowing queue that one caller uses: a list of at most so many numbers. Where it is full, a push hands the
+/// oldest one back. After `SafelyOverflowingIndexQueue` of the Rust crate.
+///
+/// ```rust
+/// let mut queue = SafelyOverflowingIndexQueue::new(rt.alloc(), 1)?;
+/// assert!(rt; queue.push(3).is_none());
+/// assert!(rt; queue.push(4) == Some(3));
+/// ```
 #[derive(Drop)]
 pub struct SafelyOverflowingIndexQueue {
     words: Vec<u64>,
@@ -65,8 +71,8 @@ fn len(words: &mut Vec<u64>, capacity: u32) -> u64
 }
 
 impl SafelyOverflowingIndexQueue {
-    /// Appends the number: None, or the oldest one where there was no room. Where there is no position, or the capacity
-    /// is 0, it hands the number itself back, and nothing changes.
+    /// Appends the number and returns None, or the oldest number if there was no room. Where there is no position, or
+    /// the capacity is 0, it hands the number itself back, and nothing changes.
     pub fn push(&mut self, value: u64) -> Option<u64>
         ensures answer { result ≡ handed_back self.old value }
         ensures list { self.new ≡ pushed_over self.old value }
@@ -74,7 +80,7 @@ impl SafelyOverflowingIndexQueue {
         push(&mut self.words, self.capacity, value)
     }
 
-    /// Takes the oldest number, or None where there is none.
+    /// Takes the oldest number and returns it, or returns None if there is none.
     pub fn pop(&mut self) -> Option<u64>
         ensures answer { result ≡ front self.old }
         ensures list { self.new ≡ popped self.old }
@@ -82,7 +88,7 @@ impl SafelyOverflowingIndexQueue {
         pop(&mut self.words, self.capacity)
     }
 
-    /// How many numbers there are.
+    /// Returns how many numbers there are.
     pub fn len(&mut self) -> usize
         ensures answer { result ≡ length self.old.values }
         ensures list { self.new ≡ self.old }
@@ -90,7 +96,7 @@ impl SafelyOverflowingIndexQueue {
         len(&mut self.words, self.capacity) as usize
     }
 
-    /// Whether there is no number.
+    /// Returns whether there is no number.
     pub fn is_empty(&mut self) -> bool
         ensures answer { result ≡ nat_eq (length self.old.values) 0 }
         ensures list { self.new ≡ self.old }
@@ -98,7 +104,7 @@ impl SafelyOverflowingIndexQueue {
         self.len() == 0
     }
 
-    /// Whether there are as many numbers as the capacity.
+    /// Returns whether there are as many numbers as the capacity.
     pub fn is_full(&mut self) -> bool
         ensures answer { result ≡ nat_eq (length self.old.values) self.old.capacity }
         ensures list { self.new ≡ self.old }
@@ -107,14 +113,14 @@ impl SafelyOverflowingIndexQueue {
         len == self.capacity()
     }
 
-    /// The greatest number of numbers.
+    /// Returns the greatest number of numbers.
     pub fn capacity(&self) -> usize
         ensures { result ≡ self.now.capacity }
     {
         self.capacity as usize
     }
 
-    /// An empty list, whose first number has position 0.
+    /// Makes an empty list, whose first number has position 0.
     ///
     /// Refused are, in this order, a capacity above 2^32 - 1 (`ProvidedCapacityGreaterThanMaxCapacity`) and memory
     /// (`NoMemory`).
@@ -130,7 +136,7 @@ impl SafelyOverflowingIndexQueue {
         SafelyOverflowingIndexQueue::new_at(alloc, capacity, 0)
     }
 
-    /// An empty list, whose first number has this position. It is refused as `new` is.
+    /// Makes an empty list, whose first number has this position. It is refused as `new` is.
     pub fn new_at(
         alloc: Global,
         capacity: usize,
@@ -156,7 +162,7 @@ impl SafelyOverflowingIndexQueue {
         Ok(SafelyOverflowingIndexQueue { words, capacity })
     }
 
-    /// The list that these words of a queue are.
+    /// Returns the list that these words of a queue are.
     pub fn of_words(words: Vec<u64>, capacity: u32) -> SafelyOverflowingIndexQueue
         requires { Represents capacity words.items }
         ensures { result ≡ list_in capacity words.items }

@@ -16,8 +16,14 @@ use steps::queues::ring::{CONSUMER, FIRST_CELL, PRODUCER, Pop, Push, READ, WRITE
 use steps::routine::Routine;
 use steps::words::Words;
 
-/// A list of at most so many values: what goes in first comes out first. After `Queue` of the Rust crate, for one
-/// caller.
+/// A bounded queue that one caller uses, and that holds at most so many values. What goes in first comes out first.
+/// After `Queue` of the Rust crate.
+///
+/// ```rust
+/// let mut queue = Queue::new(rt.alloc(), 2)?;
+/// assert!(rt; queue.push(&7u32) && queue.len() == 1);
+/// assert!(rt; queue.pop() == Some(7) && queue.pop().is_none());
+/// ```
 #[derive(Drop)]
 pub struct Queue<T: Words> {
     words: Vec<u64>,
@@ -25,7 +31,13 @@ pub struct Queue<T: Words> {
     of: PhantomData<T>,
 }
 
-/// The same for numbers of 64 bits. After `IndexQueue` of the Rust crate, for one caller.
+/// A bounded queue that one caller uses, and that holds numbers of 64 bits. After `IndexQueue` of the Rust crate.
+///
+/// ```rust
+/// let mut queue = IndexQueue::new(rt.alloc(), 1)?;
+/// assert!(rt; queue.push(&3) && !queue.push(&4));
+/// assert!(rt; queue.pop() == Some(3));
+/// ```
 pub type IndexQueue = Queue<u64>;
 
 impl<T: Words> Model for Queue<T> {
@@ -68,7 +80,7 @@ fn len<T: Words>(words: &mut Vec<u64>, capacity: u32) -> u64
 }
 
 impl<T: Words> Queue<T> {
-    /// Appends the value, and answers true; where there is no room, or no position, false.
+    /// Appends the value and returns true, or returns false where there is no room, or no position.
     pub fn push(&mut self, value: &T) -> bool
         ensures answer { result ≡ takes_more self.old }
         ensures list { self.new ≡ pushed self.old value.now }
@@ -76,7 +88,7 @@ impl<T: Words> Queue<T> {
         push(&mut self.words, self.capacity, value)
     }
 
-    /// Takes the oldest value, or None where there is none.
+    /// Takes the oldest value and returns it, or returns None if there is none.
     pub fn pop(&mut self) -> Option<T>
         ensures answer { result ≡ front self.old }
         ensures list { self.new ≡ popped self.old }
@@ -84,7 +96,7 @@ impl<T: Words> Queue<T> {
         pop::<T>(&mut self.words, self.capacity)
     }
 
-    /// The number of values.
+    /// Returns the number of values.
     pub fn len(&mut self) -> usize
         ensures answer { result ≡ length self.old.values }
         ensures list { self.new ≡ self.old }
@@ -92,7 +104,7 @@ impl<T: Words> Queue<T> {
         len::<T>(&mut self.words, self.capacity) as usize
     }
 
-    /// Whether there is no value.
+    /// Returns whether there is no value.
     pub fn is_empty(&mut self) -> bool
         ensures answer { result ≡ nat_eq (length self.old.values) 0 }
         ensures list { self.new ≡ self.old }
@@ -100,7 +112,7 @@ impl<T: Words> Queue<T> {
         self.len() == 0
     }
 
-    /// Whether there are as many values as the capacity.
+    /// Returns whether there are as many values as the capacity.
     pub fn is_full(&mut self) -> bool
         ensures answer { result ≡ nat_eq (length self.old.values) self.old.capacity }
         ensures list { self.new ≡ self.old }
@@ -109,14 +121,14 @@ impl<T: Words> Queue<T> {
         len == self.capacity()
     }
 
-    /// The greatest number of values.
+    /// Returns the greatest number of values.
     pub fn capacity(&self) -> usize
         ensures { result ≡ self.now.capacity }
     {
         self.capacity as usize
     }
 
-    /// An empty list, whose first value has position 0.
+    /// Makes an empty list, whose first value has position 0.
     ///
     /// Refused are, in this order, a capacity above 2^32 - 1 (`ProvidedCapacityGreaterThanMaxCapacity`) and memory
     /// (`NoMemory`).
@@ -129,7 +141,7 @@ impl<T: Words> Queue<T> {
         Queue::new_at(alloc, capacity, 0)
     }
 
-    /// An empty list, whose first value has this position. It is refused as `new` is.
+    /// Makes an empty list, whose first value has this position. It is refused as `new` is.
     pub fn new_at(
         alloc: Global,
         capacity: usize,
@@ -162,7 +174,7 @@ impl<T: Words> Queue<T> {
         })
     }
 
-    /// The list that these words of a queue are.
+    /// Returns the list that these words of a queue are.
     pub fn of_words(words: Vec<u64>, capacity: u32) -> Queue<T>
         requires { Represents T.WORDS capacity words.items }
         ensures { result ≡ list_in T.value_of T.WORDS capacity words.items }

@@ -25,8 +25,15 @@ use steps::indices::robust::recover::Recover;
 use steps::indices::robust::release::{GiveBack, Release};
 use steps::routine::Routine;
 
-/// A map from index to owner, and a lock. The indices of an owner that is dead are recovered. After
-/// `RobustUniqueIndexSet` of the Rust crate, for one caller.
+/// A robust index set that one caller uses: a map from index to owner, and a lock. The indices of an owner that is dead
+/// are recovered. After `RobustUniqueIndexSet` of the Rust crate.
+///
+/// ```rust
+/// let owner = OwnerId::new(7)?;
+/// let mut pool = RobustUniqueIndexSet::new(rt.alloc(), 4)?;
+/// assert!(rt; pool.acquire(owner).is_ok());
+/// assert!(rt; pool.borrowed_indices() == 1);
+/// ```
 ///
 /// Its generation goes up with each change and with each count, up to `u64::MAX - 1`: from there on no index is handed
 /// out, and the set can no longer be locked.
@@ -217,8 +224,10 @@ fn recover<F: FnMut(OwnerId, usize) -> bool, S: FnMut(OwnerId, usize)>(
 }
 
 impl RobustUniqueIndexSet {
-    /// Takes the lowest index without an owner for `owner`. `IsLocked` where the set is locked, `OutOfIndices` where
-    /// each index has an owner or the generation is at its end; then nothing changes.
+    /// Takes the lowest index without an owner for `owner`, and returns it. Refused, without a change, are
+    ///
+    /// - `IsLocked` if the set is locked, and
+    /// - `OutOfIndices` if each index has an owner or the generation is at its end.
     pub fn acquire(&mut self, owner: OwnerId) -> Result<usize, UniqueIndexSetAcquireFailure>
         ensures answer { result ≡ acquired self.old }
         ensures map { self.new ≡ after_acquire self.old owner }
@@ -245,8 +254,8 @@ impl RobustUniqueIndexSet {
         release(&mut self.words, self.capacity, index as u32, owner, mode)
     }
 
-    /// Comes to the indices of `owner`, ascending, and calls `visit` with each, until it says `Stop`: how many it
-    /// came to, the one on which it was told to stop among them.
+    /// Calls `visit` with the indices of `owner`, ascending, until `visit` returns `Stop`. Returns how many it came to,
+    /// the one on which it was told to stop among them.
     pub fn find<F: FnMut(usize) -> CallbackProgression>(
         &mut self,
         owner: OwnerId,
@@ -263,10 +272,10 @@ impl RobustUniqueIndexSet {
         found
     }
 
-    /// Asks `predicate` about each index that has an owner, ascending, tells `recover_success` of those about which
-    /// it said true, and gives these back. In mode `LockIfLastIndex` it locks the set where no index has an owner
-    /// after one was given back, unless its generation comes to its end. `Locked` where the set is locked then, else
-    /// `Unlocked`. Of a locked set it asks nothing.
+    /// Asks `predicate` about each index that has an owner, ascending, and gives it back if the answer is true. Then it
+    /// calls `recover_success`. In mode `LockIfLastIndex` it locks the set if no index has an owner after one was given
+    /// back, unless its generation comes to its end. Returns `Locked` if the set is locked then, else `Unlocked`. Of a
+    /// locked set it asks nothing.
     pub fn recover<F: FnMut(OwnerId, usize) -> bool, S: FnMut(OwnerId, usize)>(
         &mut self,
         mode: ReleaseMode,
@@ -292,7 +301,7 @@ impl RobustUniqueIndexSet {
         state
     }
 
-    /// How many indices have an owner, 0 where the set is locked. It raises the generation.
+    /// Returns how many indices have an owner, or 0 if the set is locked. It raises the generation.
     pub fn borrowed_indices(&mut self) -> usize
         ensures answer { result ≡ borrowed self.old }
         ensures map { self.new ≡ raised self.old }
@@ -300,7 +309,7 @@ impl RobustUniqueIndexSet {
         borrowed_indices(&mut self.words, self.capacity)
     }
 
-    /// Whether the set is locked.
+    /// Returns whether the set is locked.
     pub fn is_locked(&mut self) -> bool
         ensures answer { result ≡ is_locked self.old }
         ensures map { self.new ≡ self.old }
@@ -308,14 +317,14 @@ impl RobustUniqueIndexSet {
         is_locked(&mut self.words, self.capacity)
     }
 
-    /// The capacity that it was made with.
+    /// Returns the capacity that it was made with.
     pub fn capacity(&self) -> usize
         ensures { result ≡ capacity self.now }
     {
         self.capacity as usize
     }
 
-    /// A set of the indices below `capacity`, none of which has an owner, with generation 0.
+    /// Makes a set of the indices below `capacity`, none of which has an owner, with generation 0.
     ///
     /// Refused are, in this order, a capacity above 2^32 - 1 (`ProvidedCapacityGreaterThanMaxCapacity`), 0
     /// (`ProvidedCapacityIsZero`) and memory (`NoMemory`).
@@ -331,7 +340,7 @@ impl RobustUniqueIndexSet {
         RobustUniqueIndexSet::new_at(alloc, capacity, 0)
     }
 
-    /// The same with this generation, hence locked for `u64::MAX`. It is refused as `new` is.
+    /// Makes a set of this generation, which is locked for `u64::MAX`. It is refused as `new` is.
     pub fn new_at(
         alloc: Global,
         capacity: usize,

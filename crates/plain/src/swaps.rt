@@ -1,9 +1,13 @@
-//! The steps of the call that empties the words of a set, and the closure that is handed what stood there.
-ghost use Rattle.std.specs.Prelude.{◌≡◌, ◌≢◌, ◌+◌, ◌<◌, ◌%◌, IsTrue, IsFalse, slice_index, slice_set};
+//! The steps of the call that empties the words of a set. Its closure is handed what stood there.
+ghost use Rattle.std.specs.Prelude.{◌≡◌, ◌+◌, ◌-◌, ◌<◌, ◌≤◌, IsTrue, IsFalse, slice_index, slice_set};
+ghost use Rattle.std.specs.List.{FoldsTo};
+ghost use Rattle.plain.specs.Bits.{standing_in};
+ghost use Rattle.plain.specs.Visits.{Takes};
 
 use crate::drive::step;
 use steps::ask::After;
 use steps::bits::counting_bit_set::BitState;
+use steps::bits::flags::{has_flag, without_flag};
 use steps::bits::reset_all::ResetAll;
 use steps::copied::OneWord;
 
@@ -22,32 +26,48 @@ pub fn swap_next(words: &mut Vec<u64>, call: &mut ResetAll) -> u64
     room.0
 }
 
-/// Swaps the next word with 0 where the place is the first of its element, and answers what stood there, else what was
-/// found before.
-pub fn refill(words: &mut Vec<u64>, call: &mut ResetAll, place: u32, found: u64) -> u64
-    requires { place % 64 ≡ 0 → call.old.word < call.old.end }
-    ensures edge { place % 64 ≡ 0
-        → (result ≡ slice_index words.old.items call.old.word)
-        × (words.new.items ≡ slice_set words.old.items call.old.word 0)
-        × (call.old.word + 1 < call.old.end
-        → call.new ≡ record { word = call.old.word + 1; end = call.old.end }) }
-    ensures inside { place % 64 ≢ 0
-        → (result ≡ found) × (words.new.items ≡ words.old.items) × (call.new ≡ call.old) }
+/// The place after those of the element whose first place this is.
+pub fn end_of_element(first: u64, capacity: u64) -> u64
+    requires { first ≤ capacity }
+    ensures order { first ≤ result }
+    ensures below { result ≤ capacity }
+    ensures near { result ≤ first + 64 }
+    ensures far { result < capacity → result ≡ first + 64 }
 {
-    if place % 64 == 0 {
-        return swap_next(words, call);
+    if capacity - first < 64 {
+        capacity
+    } else {
+        first + 64
     }
-    found
 }
 
 /// Calls the closure with the place where it stood, and hands the closure back.
-pub fn call_standing<F: FnMut(usize)>(mut visit: F, stood: bool, place: u32) -> F
+fn call_standing<F: FnMut(usize)>(mut visit: F, stood: bool, place: u64) -> F
     requires { IsTrue stood → F.pre visit place }
     ensures called { IsTrue stood → F.step visit place tt result }
     ensures passed { IsFalse stood → result ≡ visit }
 {
     if stood {
         visit(place as usize);
+    }
+    visit
+}
+
+/// Calls the closure with each place of one element whose flag was found, ascending, and hands it back. It ends at
+/// the last flag.
+pub fn visit_element<F: FnMut(usize)>(mut visit: F, found: u64, first: u64, end: u64) -> F
+    requires order { first ≤ end }
+    requires near { end ≤ first + 64 }
+    requires takes { Takes F.pre F.step (standing_in found first (end - first)) visit }
+    ensures { FoldsTo (λ p x q. F.step p x tt q) visit (standing_in found first (end - first)) result }
+{
+    let mut left = found;
+    for place in first..end {
+        if left == 0 {
+            return visit;
+        }
+        visit = call_standing(visit, has_flag(found, place), place);
+        left = without_flag(left, place);
     }
     visit
 }

@@ -16,8 +16,14 @@ use steps::indices::layout::{FIRST_NEXT, flag_word, has_flag, next_word};
 use steps::indices::looks::{BorrowedIndices, IsLocked};
 use steps::indices::unique::{Acquire, DefaultMode, LockMode, Release};
 
-/// The numbers from 0 to below the capacity, of which the free ones lie on a stack. After `UniqueIndexSet` of the Rust
-/// crate, for one caller.
+/// A unique index set that one caller uses: the free ones of its indices lie on a stack. They are the numbers from 0 to
+/// below the capacity. After `UniqueIndexSet` of the Rust crate.
+///
+/// ```rust
+/// let mut pool = UniqueIndexSet::new(rt.alloc(), 1)?;
+/// assert!(rt; pool.acquire_raw_index().is_ok());
+/// assert!(rt; pool.acquire_raw_index().is_err() && pool.borrowed_indices() == 1);
+/// ```
 #[derive(Drop)]
 pub struct UniqueIndexSet {
     words: Vec<u64>,
@@ -117,7 +123,7 @@ fn is_claimed(words: &Vec<u64>, capacity: u32, index: u32) -> bool
 }
 
 impl UniqueIndexSet {
-    /// A set of which all indices are free, 0 on top.
+    /// Makes a set of which all indices are free, 0 on top.
     ///
     /// Refused are, in this order, a capacity above 2^24 - 2 (`ProvidedCapacityGreaterThanMaxCapacity`), 0
     /// (`ProvidedCapacityIsZero`) and memory (`NoMemory`).
@@ -137,8 +143,8 @@ impl UniqueIndexSet {
         }
     }
 
-    /// Takes the index on top of the stack. `IsLocked` where the set is locked, `OutOfIndices` where the stack is
-    /// empty.
+    /// Takes the index on top of the stack, and returns it. Refused are `IsLocked` if the set is locked, and
+    /// `OutOfIndices` if the stack is empty.
     pub fn acquire_raw_index(&mut self) -> Result<u32, UniqueIndexSetAcquireFailure>
         ensures answer { result ≡ acquired self.old }
         ensures stack { self.new ≡ after_acquire self.old }
@@ -155,7 +161,7 @@ impl UniqueIndexSet {
         release(&mut self.words, self.capacity, index)
     }
 
-    /// Puts an index that is out on the stack, and locks the set for good where it was the only one out.
+    /// Puts an index that is out on the stack. If it was the last one out, it locks the set for good.
     pub fn release_or_lock(&mut self, index: u32) -> ReleaseState
         requires { IsOut self.old index }
         ensures answer { result ≡ release_state self.old }
@@ -164,7 +170,7 @@ impl UniqueIndexSet {
         release_or_lock(&mut self.words, self.capacity, index)
     }
 
-    /// Whether the index is one that is out, as a release requires.
+    /// Returns whether the index is one that is out, as a release requires.
     pub fn is_out(&self, index: u32) -> bool
         ensures out { IsTrue result → IsOut self.now index }
         ensures all { IsOut self.now index → IsTrue result }
@@ -172,7 +178,7 @@ impl UniqueIndexSet {
         index < self.capacity && is_claimed(&self.words, self.capacity, index)
     }
 
-    /// How many indices are out.
+    /// Returns how many indices are out.
     pub fn borrowed_indices(&mut self) -> usize
         ensures answer { result ≡ out self.old }
         ensures stack { self.new ≡ self.old }
@@ -180,7 +186,7 @@ impl UniqueIndexSet {
         count(&mut self.words, self.capacity)
     }
 
-    /// Whether the set is locked.
+    /// Returns whether the set is locked.
     pub fn is_locked(&mut self) -> bool
         ensures answer { result ≡ self.old.locked }
         ensures stack { self.new ≡ self.old }
@@ -188,7 +194,7 @@ impl UniqueIndexSet {
         look(&mut self.words, self.capacity)
     }
 
-    /// How many indices the set has.
+    /// Returns how many indices the set has.
     pub fn capacity(&self) -> u32
         ensures { result ≡ self.now.capacity }
     {

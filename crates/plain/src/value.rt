@@ -14,8 +14,14 @@ use steps::enums::UniqueIndexCreationError;
 use steps::routine::Routine;
 use steps::words::Words;
 
-/// One value, with a version that counts the values there have been. After `UnrestrictedAtomic` of the Rust crate, for
-/// one caller.
+/// A value that one caller uses, whose version counts the values there have been. After `UnrestrictedAtomic` of the
+/// Rust crate.
+///
+/// ```rust
+/// let mut value = UnrestrictedAtomic::new(rt.alloc(), (7u64, 1u64))?;
+/// assert!(rt; value.store((8, 2)));
+/// assert!(rt; value.load() == (8, 2));
+/// ```
 #[derive(Drop)]
 pub struct UnrestrictedAtomic<T: Words> {
     words: Vec<u64>,
@@ -52,7 +58,7 @@ fn load<T: Words>(words: &mut Vec<u64>) -> T
 }
 
 impl<T: Words> UnrestrictedAtomic<T> {
-    /// Replaces the value, and answers true; at the last version, false.
+    /// Replaces the value and returns true, or returns false at the last version.
     pub fn store(&mut self, value: T) -> bool
         ensures answer { result ≡ has_version self.old }
         ensures value { self.new ≡ stored self.old value }
@@ -60,7 +66,7 @@ impl<T: Words> UnrestrictedAtomic<T> {
         store(&mut self.words, &value)
     }
 
-    /// The value.
+    /// Returns the value.
     pub fn load(&mut self) -> T
         ensures answer { result ≡ self.old.value }
         ensures value { self.new ≡ self.old }
@@ -68,7 +74,7 @@ impl<T: Words> UnrestrictedAtomic<T> {
         load::<T>(&mut self.words)
     }
 
-    /// This value, of version 1. Refused is memory (`NoMemory`).
+    /// Makes a value of version 1. Refused is memory (`NoMemory`).
     pub fn new(alloc: Global, value: T) -> Result<UnrestrictedAtomic<T>, UniqueIndexCreationError>
         ensures value { IfOk result (λ s. s ≡ record { value = value; version = 1 }) }
         ensures refused { IfErr result (λ e. e ≡ NoMemory) }
@@ -76,7 +82,7 @@ impl<T: Words> UnrestrictedAtomic<T> {
         UnrestrictedAtomic::new_at(alloc, value, 1)
     }
 
-    /// This value, of this version, which is at least 1. It is refused as `new` is.
+    /// Makes a value of this version, which is at least 1. It is refused as `new` is.
     pub fn new_at(
         alloc: Global,
         value: T,

@@ -1,20 +1,16 @@
 -- The words of a bit set that is emptied, one word after another, while its places are handed out.
-use Rattle.std.proofs.Common.{◌≡◌, ◌≢◌, ℕ, zero, suc, ◌+◌, ◌/◌, ◌%◌, ◌<◌, ◌≤◌, Bool, true, false, List}
-use Rattle.std.proofs.Common.{[], ◌∷◌, length, drop, replicate, refl, sym, ap, subst, ◌∙◌, arith, slice_index}
+use Rattle.std.proofs.Common.{◌≡◌, ◌≢◌, ℕ, zero, suc, ◌+◌, ◌-◌, ◌*◌, ◌<◌, ◌≤◌, ⊎_elim, Bool, true, false, List}
+use Rattle.std.proofs.Common.{[], ◌∷◌, ◌++◌, length, drop, replicate, refl, sym, ap, subst, ◌∙◌, arith, slice_index}
 use Rattle.std.proofs.Common.{slice_set, get_or-set_same, get_or-set_other, length-set, if◌then◌else◌}
-use Rattle.plain.proofs.Names.{FoldsTo, range_with_len, dite, ℕ_discrete, eqb_tells, standing_from, standing, ResetAll}
+use Rattle.plain.proofs.Names.{FoldsTo, range_with_len, cases_lt, standing_from, standing, ResetAll}
 use Rattle.std.specs.Prelude.{map, slice_index_or}
-use Rattle.steps.specs.Bits.Words.{element_of, elements, has_flag, stands}
+use Rattle.steps.specs.Bits.Words.{bit_of, element_of, elements, has_flag, stands}
 use Rattle.steps.specs.Bits.ResetAll.{all_bits}
 use Rattle.steps.specs.Objects.Places.{emptied, unset}
 use Rattle.steps.proofs.Flags.Words.{none_stands}
-use Rattle.plain.specs.Bits.{flags_in, places_in, Represents}
+use Rattle.plain.specs.Bits.{flags_in, places_in, standing_in, Represents}
 use Rattle.plain.specs.Visits.{Takes, WasCalled}
 use Rattle.plain.proofs.Places.Flags.{flag_at, flags_length}
-
--- the word that is swapped once so many places have been handed out
-abbrev pub next_word : ℕ → ℕ
-next_word place = 1 + (place + 63) / 64
 
 rest_of : (n : ℕ) (xs : List Bool) → n < length xs
     → drop n xs ≡ slice_index_or xs n false ∷ drop (suc n) xs
@@ -44,151 +40,258 @@ pub opened : (capacity n : ℕ) (words : List ℕ) → words ≡ replicate n 0
     → places_in capacity words ≡ unset capacity
 opened x0 x1 x2 x3 = grind (arith, none_of, stands, has_flag, zero_at, none_stands)
 
-module _ {F : Type 0} (pre : F → ℕ → Type 0) (step : F → ℕ → Unit {0} → F → Type 0)
-    (capacity : ℕ) (before : List ℕ) (first : F) where
-  abbrev left : ℕ → List ℕ
+-- ---- the places of one element
+
+none_in : (found place n : ℕ) → ((q : ℕ) → place ≤ q → q < place + n → has_flag found q ≡ false)
+    → standing_in found place n ≡ []
+none_in found place zero clear = refl
+none_in found place (suc n) clear =
+    ap (λ b. if b then place ∷ standing_in found (place + 1) n else standing_in found (place + 1) n)
+    (clear place (omega arith) (omega arith))
+    ∙ none_in found (place + 1) n (λ q low high. clear q (omega arith) (omega arith))
+
+next_in : (found place end : ℕ) → place < end
+    → standing_in found place (end - place)
+    ≡ (if has_flag found place then place ∷ standing_in found (place + 1) (end - (place + 1)) else standing_in found (place + 1) (end - (place + 1)))
+next_in found place end low =
+    ap (standing_in found place) (let e : end - place ≡ suc (end - (place + 1)) = omega arith in e)
+
+put_before : (b : Bool) (place : ℕ) (xs ys : List ℕ)
+    → (if b then place ∷ (xs ++ ys) else xs ++ ys) ≡ (if b then place ∷ xs else xs) ++ ys
+put_before true place xs ys = refl
+put_before false place xs ys = refl
+
+module _ (capacity : ℕ) (before : List ℕ) where
+  abbrev pub left : ℕ → List ℕ
   left place = standing_from place (drop place (flags_in capacity before))
 
-  -- so many places have been handed out; their words, and no others, are 0
-  pub record Emptying (place : ℕ) (call : ResetAll) (found : ℕ) (words : List ℕ) (visit : F) : Type 0 where
-    pub fits : Represents capacity before
-    pub at : next_word place < 1 + elements capacity
-        → call ≡ record { word = next_word place; end = 1 + elements capacity }
-    pub long : length words ≡ length before
-    pub swept : (j : ℕ) → 0 < j → j < next_word place → slice_index words j ≡ 0
-    pub kept : (j : ℕ) → next_word place ≤ j → slice_index words j ≡ slice_index before j
-    pub head : slice_index words 0 ≡ slice_index before 0
-    pub read : place % 64 ≢ 0 → found ≡ slice_index before (element_of place)
-    pub takes : Takes pre step (standing_from place (drop place (flags_in capacity before))) visit
-    pub calls : (last : F)
-        → FoldsTo (λ p x q. step p x tt q) visit (standing_from place (drop place (flags_in capacity before))) last
-        → FoldsTo (λ p x q. step p x tt q) first (standing (places_in capacity before)) last
+  left_is : (place : ℕ) → place < capacity
+      → left place ≡ (if stands before place then place ∷ left (place + 1) else left (place + 1))
+  left_is place low =
+      ap (standing_from place)
+      (rest_of place (flags_in capacity before) (let n = flags_length capacity before in omega arith))
+      ∙ (ap (λ m. if slice_index_or (flags_in capacity before) place false
+      then place ∷ standing_from (place + 1) (drop m (flags_in capacity before))
+      else standing_from (place + 1) (drop m (flags_in capacity before)))
+      (let e : suc place ≡ place + 1 = omega arith in e)
+      ∙ ap (λ b. if b then place ∷ left (place + 1) else left (place + 1)) (flag_at capacity before place low))
 
-  pub begins : Represents capacity before → Takes pre step (standing (places_in capacity before)) first
-      → (call : ResetAll) → call ≡ all_bits capacity → Emptying 0 call 0 before first
-  begins x0 x1 x2 x3 = grind arith
+  nothing_left : left capacity ≡ []
+  nothing_left =
+      ap (λ n. standing_from capacity (drop n (flags_in capacity before))) (sym (flags_length capacity before))
+      ∙ ap (standing_from capacity) (drop_all (flags_in capacity before))
 
-  -- ---- the word of a place has been swapped
+  -- so many places from here on lie in one element
+  pub left_splits : (found place n : ℕ) → place + n ≤ capacity
+      → ((q : ℕ) → place ≤ q → q < place + n → slice_index before (element_of q) ≡ found)
+      → left place ≡ standing_in found place n ++ left (place + n)
+  left_splits found place zero within is = ap left (let e : place ≡ place + 0 = omega arith in e)
+  left_splits found place (suc n) within is =
+      left_is place (omega arith)
+      ∙ (ap (λ w. if has_flag w place then place ∷ left (place + 1) else left (place + 1)) (is place (omega arith) (omega arith))
+      ∙ (ap (λ xs. if has_flag found place then place ∷ xs else xs)
+      (left_splits found (place + 1) n (omega arith) (λ q low high. is q (omega arith) (omega arith))
+      ∙ ap (λ m. standing_in found (place + 1) n ++ left m) (let e : place + 1 + n ≡ place + suc n = omega arith in e))
+      ∙ put_before (has_flag found place) place (standing_in found (place + 1) n) (left (place + suc n))))
 
-  pub record Swapped (place : ℕ) (call : ResetAll) (found : ℕ) (words : List ℕ) (visit : F) : Type 0 where
-    pub fits : Represents capacity before
-    pub at : next_word (place + 1) < 1 + elements capacity
-        → call ≡ record { word = next_word (place + 1); end = 1 + elements capacity }
-    pub long : length words ≡ length before
-    pub swept : (j : ℕ) → 0 < j → j < next_word (place + 1) → slice_index words j ≡ 0
-    pub kept : (j : ℕ) → next_word (place + 1) ≤ j → slice_index words j ≡ slice_index before j
-    pub head : slice_index words 0 ≡ slice_index before 0
-    pub read : found ≡ slice_index before (element_of place)
-    pub takes : Takes pre step (standing_from place (drop place (flags_in capacity before))) visit
-    pub calls : (last : F)
-        → FoldsTo (λ p x q. step p x tt q) visit (standing_from place (drop place (flags_in capacity before))) last
-        → FoldsTo (λ p x q. step p x tt q) first (standing (places_in capacity before)) last
+module _ {F : Type 0} (pre : F → ℕ → Type 0) (step : F → ℕ → Unit {0} → F → Type 0) where
+  abbrev Folds : F → List ℕ → F → Type 0
+  Folds f xs last = FoldsTo (λ p x q. step p x tt q) f xs last
 
-  pub goes_in : (place : ℕ) (call : ResetAll) (found : ℕ) (words : List ℕ) (visit : F) → place % 64 ≢ 0
-      → Emptying place call found words visit → Swapped place call found words visit
-  goes_in x0 x1 x2 x3 x4 x5 x6 = grind (arith, elements)
+  takes_first : (xs ys : List ℕ) (f : F) → Takes pre step (xs ++ ys) f → Takes pre step xs f
+  takes_first [] ys f t = tt
+  takes_first (x ∷ xs) ys f t = (t.0, λ next did. takes_first xs ys next (t.1 next did))
 
-  module _ (place : ℕ) (low : place < capacity) (call next : ResetAll) (found : ℕ) (words now : List ℕ) (visit : F)
-      (edge : place % 64 ≡ 0) (h : Emptying place call found words visit) where
-    pub word_is : call ≡ record { word = element_of place; end = 1 + elements capacity }
-    word_is = grind (arith, elements)
+  takes_rest : (xs ys : List ℕ) (f last : F) → Takes pre step (xs ++ ys) f → Folds f xs last → Takes pre step ys last
+  takes_rest [] ys f last t is = subst (Takes pre step ys) is t
+  takes_rest (x ∷ xs) ys f last t went = takes_rest xs ys went.0 last (t.1 went.0 went.1) went.2
 
-    pub swaps : (new : ℕ) → new ≡ slice_index words (element_of place)
-        → now ≡ slice_set words (element_of place) 0
-        → (element_of place + 1 < 1 + elements capacity → next ≡ record { word = element_of place + 1; end = 1 + elements capacity })
-        → Swapped place next new now visit
-    swaps x0 x1 x2 x3 = grind (arith, elements, length, length-set, get_or-set_same, false, get_or-set_other, eqb_tells)
+  goes_further : (xs ys : List ℕ) (f mid last : F) → Folds f xs mid → Folds mid ys last → Folds f (xs ++ ys) last
+  goes_further [] ys f mid last is went = subst (λ m. Folds m ys last) (sym is) went
+  goes_further (x ∷ xs) ys f mid last went on = (went.0, went.1, goes_further xs ys went.0 mid last went.2 on)
 
-  module _ (place : ℕ) (low : place < capacity) (call : ResetAll) (found : ℕ) (words : List ℕ) (visit : F)
-      (h : Emptying place call found words visit) where
-    pub may_swap : place % 64 ≡ 0 → call.word < call.end
-    may_swap x0 = grind (arith, word_is)
+  -- ---- one element is handed out
 
-    pub refilled : (next : ResetAll) (new : ℕ) (now : List ℕ)
-        → (place % 64 ≡ 0 → (new ≡ slice_index words call.word) × (now ≡ slice_set words call.word 0)
-        × (call.word + 1 < call.end → next ≡ record { word = call.word + 1; end = call.end }))
-        → (place % 64 ≢ 0 → (new ≡ found) × (now ≡ words) × (next ≡ call))
-        → Swapped place next new now visit
-    refilled next new now edge inside =
-        dite (ℕ_discrete (place % 64) 0)
-        (λ at_edge.
-        let is = word_is place low call next found words now visit at_edge h in
-        let e = edge at_edge in
-        swaps place low call next found words now visit at_edge h new
-        (e.0 ∙ ap (λ (c : ResetAll). slice_index words c.word) is)
-        (e.1 ∙ ap (λ (c : ResetAll). slice_set words c.word 0) is)
-        (subst (λ (c : ResetAll). c.word + 1 < c.end → next ≡ record { word = c.word + 1; end = c.end }) is e.2))
-        (λ within.
-        let e = inside within in
-        subst (λ (z : ResetAll × ℕ × List ℕ). Swapped place z.0 z.1 z.2 visit)
-        (λ i. (sym e.2 i, sym e.0 i, sym e.1 i)) (goes_in place call found words visit within h))
+  module _ (found end : ℕ) (at : ℕ) (first : F) where
+    -- the places before this one have been
+    pub record Visiting (place left : ℕ) (visit : F) : Type 0 where
+      pub same : (q : ℕ) → place ≤ q → q < end → has_flag left q ≡ has_flag found q
+      pub takes : Takes pre step (standing_in found place (end - place)) visit
+      pub calls : (last : F) → Folds visit (standing_in found place (end - place)) last
+          → Folds first (standing_in found at (end - at)) last
 
-  -- ---- the place is handed out where it stands
+    both : (place left : ℕ) (visit : F) → place < end → Visiting place left visit → has_flag found place ≡ true
+        → Takes pre step (place ∷ standing_in found (place + 1) (end - (place + 1))) visit
+    both place left visit low h some =
+        subst (λ xs. Takes pre step xs visit)
+        (next_in found place end low
+        ∙ ap (λ b. if b then place ∷ standing_in found (place + 1) (end - (place + 1)) else standing_in found (place + 1) (end - (place + 1))) some)
+        h.takes
 
-  module _ (place : ℕ) (low : place < capacity) (call : ResetAll) (found : ℕ) (words : List ℕ) (visit : F)
-      (h : Swapped place call found words visit) where
-    flag : slice_index_or (flags_in capacity before) place false ≡ has_flag found place
-    flag = flag_at capacity before place low ∙ sym (ap (λ w. has_flag w place) h.read)
+    pub may_visit : (place left : ℕ) (visit : F) → place < end → Visiting place left visit → (stood : Bool)
+        → stood ≡ has_flag found place → stood ≡ true → pre visit place
+    may_visit place left visit low h stood is some =
+        (both place left visit low h (sym is ∙ some)).0
 
-    left_is : (b : Bool) → has_flag found place ≡ b
-        → left place ≡ (if b then place ∷ left (place + 1) else left (place + 1))
-    left_is x0 x1 = grind (arith, suc, rest_of, flags_length, flag, drop)
-
-    both : has_flag found place ≡ true → Takes pre step (place ∷ left (place + 1)) visit
-    both some = subst (λ xs. Takes pre step xs visit) (left_is true some) h.takes
-
-    pub callable : (stood : Bool) → stood ≡ has_flag found place → stood ≡ true → pre visit place
-    callable stood is some = (both (sym is ∙ some)).0
-
-    pub hands_out : (stood : Bool) → stood ≡ has_flag found place → (later : F)
+    pub visits_one : (place left next : ℕ) (visit : F) → place < end → end ≤ at + 64 → at ≤ place
+        → Visiting place left visit → (stood : Bool) → stood ≡ has_flag found place → (later : F)
         → (stood ≡ true → step visit place tt later) → (stood ≡ false → later ≡ visit)
-        → Emptying (place + 1) call found words later
-    hands_out true is later did same =
+        → ((q : ℕ) → bit_of q ≢ bit_of place → has_flag next q ≡ has_flag left q)
+        → Visiting (place + 1) next later
+    visits_one place left next visit low near from h true is later did same others =
+        let some : has_flag found place ≡ true = sym is in
+        let list = next_in found place end low
+        ∙ ap (λ b. if b then place ∷ standing_in found (place + 1) (end - (place + 1)) else standing_in found (place + 1) (end - (place + 1))) some in
         record {
-          fits = h.fits;
-          at = h.at;
-          long = h.long;
-          swept = h.swept;
-          kept = h.kept;
-          head = h.head;
-          read = λ inside. h.read ∙ ap (slice_index before) (omega (arith, inside));
-          takes = (both (sym is)).1 later (did refl);
-          calls = λ last f. h.calls last
-              (subst (λ xs. FoldsTo (λ p x q. step p x tt q) visit xs last) (sym (left_is true (sym is))) (later, did refl, f));
+          same = λ q below high. others q (λ e. let f = e in absurd (omega arith)) ∙ h.same q (omega arith) high;
+          takes = (both place left visit low h some).1 later (did refl);
+          calls = λ last f. h.calls last (subst (λ xs. Folds visit xs last) (sym list) (later, did refl, f));
         }
-    hands_out false is later did same =
-        let rest = left_is false (sym is) in
-        subst (λ f. Emptying (place + 1) call found words f) (sym (same refl))
+    visits_one place left next visit low near from h false is later did same others =
+        let none : has_flag found place ≡ false = sym is in
+        let list = next_in found place end low
+        ∙ ap (λ b. if b then place ∷ standing_in found (place + 1) (end - (place + 1)) else standing_in found (place + 1) (end - (place + 1))) none in
+        subst (Visiting (place + 1) next) (sym (same refl))
         (record {
-          fits = h.fits;
-          at = h.at;
-          long = h.long;
-          swept = h.swept;
-          kept = h.kept;
-          head = h.head;
-          read = λ inside. h.read ∙ ap (slice_index before) (omega (arith, inside));
-          takes = subst (λ xs. Takes pre step xs visit) rest h.takes;
-          calls = λ last f. h.calls last (subst (λ xs. FoldsTo (λ p x q. step p x tt q) visit xs last) (sym rest) f);
+          same = λ q below high. others q (λ e. let f = e in absurd (omega arith)) ∙ h.same q (omega arith) high;
+          takes = subst (λ xs. Takes pre step xs visit) list h.takes;
+          calls = λ last f. h.calls last (subst (λ xs. Folds visit xs last) (sym list) f);
         })
 
-  -- ---- all have been
+    -- no flag is left, or no place
+    pub visited : (place left : ℕ) (visit : F) → Visiting place left visit
+        → ((q : ℕ) → place ≤ q → q < end → has_flag left q ≡ false)
+        → Folds first (standing_in found at (end - at)) visit
+    visited place left visit h none =
+        h.calls visit
+        (subst (λ xs. Folds visit xs visit)
+        (sym (none_in found place (end - place) (λ q low high. sym (h.same q low (omega arith)) ∙ none q low (omega arith))))
+        refl)
 
-  module _ (call : ResetAll) (found : ℕ) (words : List ℕ) (visit : F) (h : Emptying capacity call found words visit) where
-    none : (q : ℕ) → 0 ≤ q → q < 0 + capacity → stands words q ≡ false
-    none x0 x1 x2 = grind (arith, has_flag, none_stands)
+  -- ---- all elements
 
-    flags_are : flags_in capacity words ≡ replicate (length (flags_in capacity before)) false
-    flags_are = grind (arith, none_of, stands, none, false, flags_length)
+  module _ (capacity : ℕ) (before : List ℕ) (first : F) where
+    -- so many words with flags, and no others, are 0, and the places up to this one have been handed out
+    pub record Emptying (element place : ℕ) (call : ResetAll) (words : List ℕ) (visit : F) : Type 0 where
+      pub fits : Represents capacity before
+      pub within : place ≤ capacity
+      pub near : place ≤ element * 64
+      pub far : place < capacity → place ≡ element * 64
+      pub at : element < elements capacity → call ≡ record { word = 1 + element; end = 1 + elements capacity }
+      pub long : length words ≡ length before
+      pub swept : (j : ℕ) → 0 < j → j ≤ element → slice_index words j ≡ 0
+      pub kept : (j : ℕ) → element < j → slice_index words j ≡ slice_index before j
+      pub head : slice_index words 0 ≡ slice_index before 0
+      pub takes : Takes pre step (left capacity before place) visit
+      pub calls : (last : F) → Folds visit (left capacity before place) last
+          → Folds first (standing (places_in capacity before)) last
 
-    pub all_emptied : places_in capacity words ≡ emptied (places_in capacity before)
-    all_emptied = λ i. record { flags = flags_are i; start = h.head i }
+    pub begins : Represents capacity before → Takes pre step (standing (places_in capacity before)) first
+        → (call : ResetAll) → call ≡ all_bits capacity → Emptying 0 0 call before first
+    begins fits takes call is =
+        record {
+          fits = fits;
+          within = omega arith;
+          near = omega arith;
+          far = λ low. refl;
+          at = λ some. is;
+          long = refl;
+          swept = λ j low high. absurd (omega arith);
+          kept = λ j high. refl;
+          head = refl;
+          takes = takes;
+          calls = λ last f. f;
+        }
 
-    pub still_fits : Represents capacity words
-    still_fits = grind arith
+    module _ (element place : ℕ) (call : ResetAll) (words : List ℕ) (visit : F) (h : Emptying element place call words visit)
+        (some : element < elements capacity) where
+      pub may_swap : call.word < call.end
+      may_swap = subst (λ (c : ResetAll). c.word < c.end) (sym (h.at some)) (omega arith)
 
-    pub all_called : WasCalled step (standing (places_in capacity before)) first
-    all_called =
-        let nothing : left capacity ≡ [] =
-        ap (λ n. standing_from capacity (drop n (flags_in capacity before))) (sym (flags_length capacity before))
-        ∙ ap (standing_from capacity) (drop_all (flags_in capacity before)) in
-        (visit, h.calls visit (subst (λ xs. FoldsTo (λ p x q. step p x tt q) visit xs visit) (sym nothing) refl))
+      module _ (found : ℕ) (is : found ≡ slice_index words call.word) (end : ℕ) (order : place ≤ end) (below : end ≤ capacity)
+          (near : end ≤ place + 64) (far : end < capacity → end ≡ place + 64) where
+        here : place ≡ element * 64
+        here = let n = h.near in let f = h.far in let w = h.within in
+            ⊎_elim (λ (low : place < capacity). f low) (λ (high : capacity ≤ place). absurd (omega arith)) (cases_lt place capacity)
+
+        found_is : found ≡ slice_index before (1 + element)
+        found_is = is ∙ (ap (λ (c : ResetAll). slice_index words c.word) (h.at some) ∙ h.kept (1 + element) (omega arith))
+
+        splits : left capacity before place ≡ standing_in found place (end - place) ++ left capacity before end
+        splits =
+            left_splits capacity before found place (end - place) (omega arith)
+            (λ q low high.
+            let e = here in
+            ap (slice_index before) (let z : element_of q ≡ 1 + element = omega arith in z) ∙ sym found_is)
+            ∙ ap (λ m. standing_in found place (end - place) ++ left capacity before m) (let z : place + (end - place) ≡ end = omega arith in z)
+
+        pub takes_element : Takes pre step (standing_in found place (end - place)) visit
+        takes_element =
+            takes_first (standing_in found place (end - place)) (left capacity before end) visit
+            (subst (λ xs. Takes pre step xs visit) splits h.takes)
+
+        pub empties_one : (next : ResetAll) (now : List ℕ) (later : F) → now ≡ slice_set words call.word 0
+            → (call.word + 1 < call.end → next ≡ record { word = call.word + 1; end = call.end })
+            → Folds visit (standing_in found place (end - place)) later → Emptying (element + 1) end next now later
+        empties_one next now later writes goes went =
+            let e = here in
+            let long : 1 + element < length words = let l = h.long in let f = h.fits.long in omega arith in
+            let wrote : now ≡ slice_set words (1 + element) 0 = writes ∙ ap (λ (c : ResetAll). slice_set words c.word 0) (h.at some) in
+            record {
+              fits = h.fits;
+              within = below;
+              near = omega arith;
+              far = λ low. far low ∙ omega arith;
+              at = λ more.
+                  subst (λ (c : ResetAll). c.word + 1 < c.end → next ≡ record { word = c.word + 1; end = c.end }) (h.at some) goes (omega arith)
+                  ∙ ap (λ w. record { word = w; end = 1 + elements capacity }) (let z : 1 + element + 1 ≡ 1 + (element + 1) = omega arith in z);
+              long = ap length wrote ∙ (length-set words (1 + element) 0 ∙ h.long);
+              swept = λ j low high.
+                  ap (λ ws. slice_index ws j) wrote
+                  ∙ ⊎_elim (λ (before : j < 1 + element).
+                  get_or-set_other words (1 + element) j 0 0 (λ e. absurd (omega arith)) ∙ h.swept j low (omega arith))
+                  (λ (last : 1 + element ≤ j).
+                  ap (slice_index (slice_set words (1 + element) 0)) (let z : j ≡ 1 + element = omega arith in z)
+                  ∙ get_or-set_same words (1 + element) 0 0 long)
+                  (cases_lt j (1 + element));
+              kept = λ j high.
+                  ap (λ ws. slice_index ws j) wrote
+                  ∙ (get_or-set_other words (1 + element) j 0 0 (λ e. absurd (omega arith)) ∙ h.kept j (omega arith));
+              head = ap (λ ws. slice_index ws 0) wrote
+                  ∙ (get_or-set_other words (1 + element) 0 0 0 (λ e. absurd (omega arith)) ∙ h.head);
+              takes = takes_rest (standing_in found place (end - place)) (left capacity before end) visit later
+                  (subst (λ xs. Takes pre step xs visit) splits h.takes) went;
+              calls = λ last f.
+                  h.calls last
+                  (subst (λ xs. Folds visit xs last) (sym splits)
+                  (goes_further (standing_in found place (end - place)) (left capacity before end) visit later last went f));
+            }
+
+    -- ---- all have been
+
+    module _ (place : ℕ) (call : ResetAll) (words : List ℕ) (visit : F)
+        (h : Emptying (elements capacity) place call words visit) where
+      at_end : place ≡ capacity
+      at_end = let w = h.within in let f = h.far in
+          ⊎_elim (λ (low : place < capacity). let e = f low in absurd (omega arith)) (λ (high : capacity ≤ place). omega arith) (cases_lt place capacity)
+
+      none : (q : ℕ) → q < capacity → stands words q ≡ false
+      none q low =
+          ap (λ w. has_flag w q) (h.swept (element_of q) (omega arith) (omega arith)) ∙ none_stands q
+
+      pub all_emptied : places_in capacity words ≡ emptied (places_in capacity before)
+      all_emptied =
+          let clear : flags_in capacity words ≡ replicate (length (flags_in capacity before)) false =
+          none_of (stands words) capacity 0 (λ q low high. none q (omega arith))
+          ∙ ap (λ n. replicate n false) (sym (flags_length capacity before)) in
+          λ i. record { flags = clear i; start = h.head i }
+
+      pub still_fits : Represents capacity words
+      still_fits = grind arith
+
+      pub all_called : WasCalled step (standing (places_in capacity before)) first
+      all_called = (
+        visit,
+        h.calls visit
+            (subst (λ xs. Folds visit xs visit) (sym (ap (left capacity before) at_end ∙ nothing_left capacity before)) refl),
+      )

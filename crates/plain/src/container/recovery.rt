@@ -70,12 +70,10 @@ fn recover<T: Words, F: FnMut(T) -> bool>(
 }
 
 impl<T: Words> Container<T> {
-    /// Asks `predicate` about a copy of the value at each index of `owner`, ascending, and frees the indices of those
-    /// about which it said true: they have no owner and no value then. In mode `LockIfLastIndex` it locks the
-    /// container where no index has an owner after one was freed, unless its generation comes to its end. `Locked`
-    /// where the container is locked then, else `Unlocked`. Of a locked container it asks nothing. Whatever it frees,
-    /// it is one change. That `owner` is dead is the caller's concern. After `recover` of the Rust crate's
-    /// `Container`.
+    /// Asks `predicate` about a copy of each value of `owner`, and frees the index if the answer is true. By ascending
+    /// index; what is freed has no owner and value then. In mode `LockIfLastIndex` it locks the container if no index
+    /// has an owner after one was freed, unless its generation comes to its end. Returns `Locked` if it is locked, else
+    /// `Unlocked`. It asks nothing of a locked one. It is one change. After `recover` of the Rust crate.
     pub fn recover<F: FnMut(T) -> bool>(
         &mut self,
         owner: OwnerId,

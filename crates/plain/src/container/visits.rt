@@ -78,9 +78,9 @@ fn find<T: Words, F: FnMut(T, ContainerHandle) -> CallbackProgression>(
 }
 
 impl<T: Words> Container<T> {
-    /// Comes to the indices of `owner`, ascending, and calls `visit` with a copy of the value that stands there and
-    /// the handle that names it, until it says `Stop`: how many it came to, the one on which it was told to stop
-    /// among them. After `find` of the Rust crate's `Container`, which hands out a pointer to the value.
+    /// Calls `visit` with a copy of each value of `owner`, and its handle, until `visit` returns `Stop`. By ascending
+    /// index. It returns how many it came to, the one on which it was told to stop among them. After `find` of the Rust
+    /// crate's `Container`, which hands out a pointer to the value.
     pub fn find<F: FnMut(T, ContainerHandle) -> CallbackProgression>(
         &mut self,
         owner: OwnerId,

@@ -1,48 +1,45 @@
 use Rattle.std.proofs.Common.{◌≡◌, subst, arith}
-use Rattle.plain.proofs.Places.Empties.{Emptying, may_swap, refilled, callable, hands_out, all_emptied, all_called}
+use Rattle.steps.specs.Bits.Words.{elements}
+use Rattle.plain.proofs.Places.Empties.{Emptying, takes_element, empties_one, all_emptied, all_called}
 use Rattle.plain.proofs.bits.empty.Given as given
 use Rattle.plain.proofs.bits.empty.Goals as goal
 
-pub refill-found-requires : goal.refill-found-requires
-refill-found-requires x0 x1 x2 = grind (arith, may_swap)
+pub visit_element-visit-requires-clause-takes : goal.visit_element-visit-requires-clause-takes
+visit_element-visit-requires-clause-takes g c =
+    takes_element (given.F-pre g) (given.F-step g) c.args.capacity c.args.words.now.items c.args.visit c.loop.counter
+    c.loop.first c.loop.call c.loop.words.items c.loop.visit c.loop.invariant
+    (let test = c.loop-test.true in let e = c.elements-end.ensures in omega arith)
+    c.swap_next-found.result c.swap_next-found.ensures.answer c.end_of_element-end.result
+    c.end_of_element-end.ensures.order c.end_of_element-end.ensures.below c.end_of_element-end.ensures.near
+    c.end_of_element-end.ensures.far
 
-pub call_standing-visit-requires : goal.call_standing-visit-requires
-call_standing-visit-requires g c stood =
-    let test = c.loop-place-test.true in
-    callable (given.F-pre g) (given.F-step g) c.args.capacity c.args.words.now.items c.args.visit c.loop-place.place
-    (omega arith) c.refill-found.new.call c.refill-found.result c.refill-found.new.words.items c.loop-place.visit
-    (refilled (given.F-pre g) (given.F-step g) c.args.capacity c.args.words.now.items c.args.visit
-    c.loop-place.place (omega arith) c.loop-place.call c.loop-place.found c.loop-place.words.items
-    c.loop-place.visit c.loop-place.invariant
-    c.refill-found.new.call c.refill-found.result c.refill-found.new.words.items c.refill-found.ensures.edge c.refill-found.ensures.inside)
-    c.has_flag.result c.has_flag.ensures stood
-
-pub loop-place-preserved : goal.loop-place-preserved
-loop-place-preserved g c =
-    let test = c.loop-place-test.true in
-    hands_out (given.F-pre g) (given.F-step g) c.args.capacity c.args.words.now.items c.args.visit
-    c.loop-place.place (omega arith) c.refill-found.new.call c.refill-found.result c.refill-found.new.words.items
-    c.loop-place.visit
-    (refilled (given.F-pre g) (given.F-step g) c.args.capacity c.args.words.now.items c.args.visit
-    c.loop-place.place (omega arith) c.loop-place.call c.loop-place.found c.loop-place.words.items
-    c.loop-place.visit c.loop-place.invariant
-    c.refill-found.new.call c.refill-found.result c.refill-found.new.words.items c.refill-found.ensures.edge c.refill-found.ensures.inside)
-    c.has_flag.result c.has_flag.ensures c.call_standing-visit.result c.call_standing-visit.ensures.called c.call_standing-visit.ensures.passed
+pub loop-preserved : goal.loop-preserved
+loop-preserved g c =
+    empties_one (given.F-pre g) (given.F-step g) c.args.capacity c.args.words.now.items c.args.visit c.loop.counter
+    c.loop.first c.loop.call c.loop.words.items c.loop.visit c.loop.invariant
+    (let test = c.loop-test.true in let e = c.elements-end.ensures in omega arith)
+    c.swap_next-found.result c.swap_next-found.ensures.answer c.end_of_element-end.result
+    c.end_of_element-end.ensures.order c.end_of_element-end.ensures.below c.end_of_element-end.ensures.near
+    c.end_of_element-end.ensures.far c.swap_next-found.new.call c.swap_next-found.new.words.items
+    c.visit_element-visit.result c.swap_next-found.ensures.words c.swap_next-found.ensures.call
+    c.visit_element-visit.ensures
 
 pub returns-clause-places : goal.returns-clause-places
 returns-clause-places g c =
-    let end : c.loop-place.place ≡ c.args.capacity = let test = c.loop-place-test.false in omega arith in
+    let end : c.loop.counter ≡ elements c.args.capacity =
+    let test = c.loop-test.false in let e = c.elements-end.ensures in let most = c.loop.auto.counter-end in omega arith in
     all_emptied (given.F-pre g) (given.F-step g) c.args.capacity c.args.words.now.items c.args.visit
-    c.loop-place.call c.loop-place.found c.loop-place.words.items c.loop-place.visit
+    c.loop.first c.loop.call c.loop.words.items c.loop.visit
     (subst (λ n. Emptying (given.F-pre g) (given.F-step g) c.args.capacity c.args.words.now.items c.args.visit n
-    c.loop-place.call c.loop-place.found c.loop-place.words.items c.loop-place.visit)
-    end c.loop-place.invariant)
+    c.loop.first c.loop.call c.loop.words.items c.loop.visit)
+    end c.loop.invariant)
 
 pub returns-clause-calls : goal.returns-clause-calls
 returns-clause-calls g c =
-    let end : c.loop-place.place ≡ c.args.capacity = let test = c.loop-place-test.false in omega arith in
+    let end : c.loop.counter ≡ elements c.args.capacity =
+    let test = c.loop-test.false in let e = c.elements-end.ensures in let most = c.loop.auto.counter-end in omega arith in
     all_called (given.F-pre g) (given.F-step g) c.args.capacity c.args.words.now.items c.args.visit
-    c.loop-place.call c.loop-place.found c.loop-place.words.items c.loop-place.visit
+    c.loop.first c.loop.call c.loop.words.items c.loop.visit
     (subst (λ n. Emptying (given.F-pre g) (given.F-step g) c.args.capacity c.args.words.now.items c.args.visit n
-    c.loop-place.call c.loop-place.found c.loop-place.words.items c.loop-place.visit)
-    end c.loop-place.invariant)
+    c.loop.first c.loop.call c.loop.words.items c.loop.visit)
+    end c.loop.invariant)
