@@ -1,12 +1,15 @@
 -- The laws of one index, of every history.
-use Rattle.std.proofs.Common.{ℕ, List, sym, subst}
+use Rattle.std.proofs.Common.{◌≡◌, ℕ, ◌==◌, ◌∷◌, ◌++◌, List, true, refl, sym, ap, subst, ◌∙◌, arith}
+use Rattle.std.proofs.lemmas.Bool.Decides.{nat_tests}
+use Rattle.std.proofs.lemmas.List.Sums.{sum_by-append, sum_by-cons}
 use Rattle.model.specs.declared.event.Event.{Event}
+use Rattle.model.specs.declared.event.Event.TheVariants.{FreedOf}
 use Rattle.model.specs.declared.turn.Kind.TheVariants as kinds
 use Rattle.model.specs.Coding.{Coding, one_word}
 use Rattle.history.specs.History.{IsHistory}
 use Rattle.laws_container.proofs.OpenRuns as container
 use Rattle.laws_robust.proofs.OpenRuns as robust
-use Rattle.history_laws.specs.Grants.{IsFreedRight, IsHeldByOne}
+use Rattle.history_laws.specs.Grants.{IsFreedRight, IsHeldByOne, freeing, times_freed}
 use Rattle.history_laws.proofs.GrantsEvents.{container_held, set_held}
 
 pub set_grants : (index capacity : ℕ) (events : List (Event ℕ)) → IsHistory one_word kinds.Robust capacity events → IsFreedRight index events
@@ -22,3 +25,15 @@ container_grants index code capacity events h freed =
     let s = container.reached_open_sound h.trace h.run.of_kind h.run.reached in
     subst (IsHeldByOne index) (sym h.is)
     (container_held index h.trace.world.capacity h.trace.events s.holds.good.does s.inv.spans (subst (IsFreedRight index) h.is freed))
+
+-- where it was never freed, each that freed it might
+pub never_freed : {T : Type 0} (i : ℕ) (events : List (Event T)) → times_freed i events ≡ 0 → IsFreedRight i events
+never_freed {T} i events none before after (FreedOf p index owner) is = λ same.
+    (let e : Event T = FreedOf p index owner in
+    let all = sum_by-append (freeing i) before (e ∷ after) in
+    let here = sum_by-cons (freeing i) e after in
+    let this : (index == i) ≡ true = grind (arith, nat_tests) in
+    let one : freeing i e ≡ 1 = rw this refl in
+    let zero : times_freed i (before ++ e ∷ after) ≡ 0 = ap (times_freed i) (sym is) ∙ none in
+    absurd (omega arith))
+never_freed i events none before after e is = tt

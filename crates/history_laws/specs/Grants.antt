@@ -1,5 +1,5 @@
 -- Who holds one index of a robust index set, or of a container, where each that frees that index may.
-use Rattle.std.specs.Prelude.{◌≡◌, ℕ, ◌==◌, ◌&&◌, Bool, true, false, None, List, [], ◌∷◌}
+use Rattle.std.specs.Prelude.{◌≡◌, ℕ, ◌==◌, ◌&&◌, Bool, true, false, None, List, [], ◌∷◌, if◌then◌else◌, sum_by}
 use Rattle.model.specs.declared.event.Event.{Event}
 use Rattle.model.specs.declared.event.Event.TheVariants.{Granted, FreedOf}
 use Rattle.model.specs.declared.event.Start.TheVariants.{Robust, Container}
@@ -42,6 +42,14 @@ module _ {T : Type 0} where
 
   abbrev pub IsFreedRight : ℕ → List (Event T) → Type 0
   IsFreedRight i events = Each (FreesRightAt i) events
+
+  -- how often the index was freed
+  abbrev pub freeing : ℕ → Event T → ℕ
+  freeing i (FreedOf p index owner) = if index == i then 1 else 0
+  freeing i e = 0
+
+  abbrev pub times_freed : ℕ → List (Event T) → ℕ
+  times_freed i events = sum_by (freeing i) events
 
   -- this index is granted where nobody holds it
   abbrev pub GrantsRightAt : ℕ → List (Event T) → Event T → Type 0

@@ -1,5 +1,6 @@
 pub mod Idle
 pub mod Begins
+pub mod Settling
 pub mod Opens
 pub mod Sound
 pub mod Facts
@@ -7,6 +8,7 @@ pub mod Passes
 pub mod Began
 pub mod SameStates
 pub mod Looks
+pub mod Counted
 pub mod FindCounts
 pub mod FindTurns
 pub mod Finds

@@ -5,7 +5,7 @@ pub use Rattle.history.proofs.Called.{called}
 pub use Rattle.history.proofs.CallsIn.{AsksFor, by_bool, span_since}
 pub use Rattle.history.proofs.ContainerRecoveries.{container_recover_first, container_recover_hears}
 pub use Rattle.history.proofs.ContainerRecoveries.{container_recover_keeps, recover_call, recover_did}
-pub use Rattle.history.proofs.ContainerRests.{Keeps, apart_asked, container_settles, rested_asks, rested_keeps}
+pub use Rattle.history.proofs.ContainerRests.{Keeps, apart_asked, rested_asks, rested_keeps}
 pub use Rattle.history.proofs.ContainerRests.{rested_words}
 pub use Rattle.history.proofs.Containers.{container_effects, container_words, containers_owe, is_open_container}
 pub use Rattle.history.proofs.PassLooks.{looks, looks_word}
@@ -33,70 +33,36 @@ pub use Rattle.history.specs.Stages.{At, Calling, Ends, IsFirst, IsUnderWay, Lea
 pub use Rattle.history.specs.Value.{value_of_room}
 pub use Rattle.history.specs.Views.{Looks, LooksAt, first_view, joined_view}
 pub use Rattle.history.specs.declared.view.View.{View}
-pub use Rattle.laws_container.proofs.Core.{change_at, change_set}
-pub use Rattle.laws_container.proofs.Everything.{shown}
-pub use Rattle.laws_container.proofs.Looks.{looks_as, written_same}
-pub use Rattle.laws_container.proofs.Sound.{IsOwn, begins_own}
-pub use Rattle.laws_container.proofs.Terms.{dying}
-pub use Rattle.laws_container.proofs.Writing.{adds_one}
-pub use Rattle.laws_container.proofs.Written.{all_effects}
 pub use Rattle.laws_robust.proofs.Counting.{count_later, count_most}
-pub use Rattle.laws_robust.proofs.Effects.{both_ways}
 pub use Rattle.laws_robust.specs.Gone.{IsHonest, Word}
-pub use Rattle.model.proofs.Parties.{found_put_same, party_put_same}
 pub use Rattle.model.proofs.Reached.{turn_making}
-pub use Rattle.model.proofs.Readings.{Each-nil, AreOwn, AreRight, Each-append}
-pub use Rattle.model.proofs.Rows.{may_next, may_begin}
-pub use Rattle.model.proofs.Scenes.{StandsThere}
 pub use Rattle.model.specs.Coding.{Coding, IsCoding, coding_of, one_word}
 pub use Rattle.model.specs.Families.Container.Calls.{added, looked, removed, replaced, settled_if}
-pub use Rattle.model.specs.Families.Container.Calls.{look_shows, first, writes_state}
-pub use Rattle.model.specs.Families.Container.Keeping.{is_look_of}
-pub use Rattle.model.specs.Families.Container.Looks.{state_in, is_looking}
-pub use Rattle.model.specs.Families.Container.Reading.{Act}
-pub use Rattle.model.specs.Families.Container.States.{state_of, fresh, with_state}
-pub use Rattle.model.specs.Families.Container.Steps.{questions}
 pub use Rattle.model.specs.Families.Indices.Reading.{is_locked}
 pub use Rattle.model.specs.Families.Indices.Robust.Promises.{HoldsRight, IsCount, IsFilledWith, IsUnlocked}
 pub use Rattle.model.specs.Families.Indices.Robust.Promises.{IsWellFormed, SetDoes}
-pub use Rattle.model.specs.Families.Indices.Robust.Reading.{SetAct}
 pub use Rattle.model.specs.Families.Queues.Calls.{fresh_cell, kept_at, read_in}
-pub use Rattle.model.specs.Families.{ask_of, beside_of, step_of, first_of, kept_after_begin}
 pub use Rattle.model.specs.Families.{goes_of, is_question, want_of}
 pub use Rattle.model.specs.Moments.{BeginsNone, HeldSometime}
-pub use Rattle.model.specs.Parties.{party_of, flight_of, doing_of}
-pub use Rattle.model.specs.Promises.Turns.{IsParty, ask_in, ask_of_flight, IsEffectOf}
 pub use Rattle.model.specs.Reading.{Each, Open, Span, is_party, own_after, span_of, whose}
-pub use Rattle.model.specs.Refusals.{is_due}
-pub use Rattle.model.specs.Step.{answer_in}
-pub use Rattle.model.specs.Turns.{after_begin, world_after, doing_after}
 pub use Rattle.model.specs.Turns.{after_turn, ending_of, events_of, number_of}
-pub use Rattle.model.specs.Turns.{events_of_step, ask_of_doing, step_in, after_answer, after_next, after_decision}
-pub use Rattle.model.specs.Turns.{old_of, words_after, events_of_answer, events_of_next, events_of_decision}
-pub use Rattle.model.specs.World.{Trace, capacity_error, World, flight_in}
+pub use Rattle.model.specs.World.{Trace, capacity_error}
 pub use Rattle.model.specs.declared.event.Answer.TheVariants.{NoIndex, Number, State, Truth}
 pub use Rattle.model.specs.declared.event.Answer.{Answer}
 pub use Rattle.model.specs.declared.event.Event.TheVariants.{Asked, Begun, Copied, Filled, Finished, FreedOf, Granted}
-pub use Rattle.model.specs.declared.event.Event.TheVariants.{Died, Acted}
 pub use Rattle.model.specs.declared.event.Event.TheVariants.{Hidden}
 pub use Rattle.model.specs.declared.event.Event.{Event}
 pub use Rattle.model.specs.declared.event.Start.TheVariants.{Container, Robust}
 pub use Rattle.model.specs.declared.event.Start.{Start}
 pub use Rattle.model.specs.declared.families.Flight.{Flight}
-pub use Rattle.model.specs.declared.families.Registry.{Registry}
 pub use Rattle.model.specs.declared.families.container.ContainerStart.TheVariants.{Add, IsEmpty, Len, Remove, Replace}
 pub use Rattle.model.specs.declared.families.container.ContainerStart.{ContainerStart}
-pub use Rattle.model.specs.declared.families.container.calls.ContainerFlight.{ContainerFlight}
 pub use Rattle.model.specs.declared.families.container.calls.CountOf.{CountOf}
 pub use Rattle.model.specs.declared.families.container.calls.LookOf.TheVariants.{GetState, UpdateState}
-pub use Rattle.model.specs.declared.families.container.calls.LookOf.{LookOf}
 pub use Rattle.model.specs.declared.families.indices.robust.RobustStart.TheVariants.{Release}
-pub use Rattle.model.specs.declared.party.Party.{Party}
-pub use Rattle.model.specs.declared.turn.Turn.TheVariants.{Begin, Next, Decide, Die}
 pub use Rattle.model.specs.declared.turn.Turn.{Turn}
 pub use Rattle.std.proofs.Common.{Bool, Err, IfErr, IfOk, IfSome, List, None, Ok, OnOk, Option, Some, [], ap}
 pub use Rattle.std.proofs.Common.{append-nil, append_assoc, arith, false, filter, fold, if◌then◌else◌, inl, inr, length}
-pub use Rattle.std.proofs.Common.{is_none, is_some, ◌&&◌, ne_eqb, eq-eqb}
 pub use Rattle.std.proofs.Common.{length-append, map, nat_lt, refl, rules, set, slice_index, slice_index_or, slice_set}
 pub use Rattle.std.proofs.Common.{subst, suc, sym, take, true, true≢false, zero, ℕ, ⊎_elim, ◌*◌, ◌++◌, ◌+◌, ◌-◌, ◌<◌}
 pub use Rattle.std.proofs.Common.{◌==◌, ◌^◌, ◌∙◌, ◌∷◌, ◌≡◌, ◌≢◌, ◌≤◌, ◌⊎◌}
@@ -110,7 +76,6 @@ pub use Rattle.std.proofs.lemmas.List.Sums.{fold-append}
 pub use Rattle.std.proofs.lemmas.List.{append_cancel_left, get_or-map, length-map, length-replicate, map-append}
 pub use Rattle.std.proofs.lemmas.List.{same_from_push, take_all}
 pub use Rattle.std.specs.List.{All, FoldsTo}
-pub use Rattle.std.specs.List.{AllByRecursion}
 pub use Rattle.std.specs.Prelude.{Contains, vec_len}
 pub use Rattle.steps.specs.Ask.{written}
 pub use Rattle.steps.specs.Container.Add.{Added, add_after, add_want, first_add}
@@ -132,10 +97,8 @@ pub use Rattle.steps.specs.Indices.Robust.Release.{Released, first_release}
 pub use Rattle.steps.specs.Picks.{by_eq, by_test}
 pub use Rattle.steps.specs.declared.ask.After.TheVariants.{Done, GoOn}
 pub use Rattle.steps.specs.declared.ask.After.{After}
-pub use Rattle.steps.specs.declared.ask.Ask.{Ask}
 pub use Rattle.steps.specs.declared.container.add.Owned.{Owned}
 pub use Rattle.steps.specs.declared.container.handle.ContainerHandle.{ContainerHandle}
-pub use Rattle.steps.specs.declared.container.look.Look.{Look}
 pub use Rattle.steps.specs.declared.container.recover.DeadOwner.{DeadOwner}
 pub use Rattle.steps.specs.declared.container.replace.Replacement.{Replacement}
 pub use Rattle.steps.specs.declared.container.state.ContainerState.{ContainerState}

@@ -3,6 +3,7 @@ pub mod Idle
 pub mod Told
 pub mod Turns
 pub mod Bare
+pub mod Settling
 pub mod LookTurns
 pub mod FindTurns
 pub mod FindTold

@@ -1,5 +1,5 @@
-//! What one history of a robust unique index set says, and of a container: laws of every history that a pass has seen. The
-//! functions do nothing: the contract of each is the law, whose proof is a lemma that a client's proof can cite.
+//! Laws of every history of a robust unique index set, and of a container, that a pass has seen. The functions do
+//! nothing: the contract of each is the law, whose proof is a lemma that a client's proof can cite.
 ghost use Rattle.std.specs.Prelude.{ℕ, ◌<◌, ◌-◌, ◌^◌, List};
 ghost use Rattle.model.specs.declared.event.Event.{Event};
 ghost use Rattle.model.specs.declared.turn.Kind.TheVariants as kinds;
@@ -12,32 +12,34 @@ ghost use Rattle.history.specs.History.{IsHistory};
 ghost use Rattle.lock_free_owners.specs.Robust.Told.{IsSound};
 ghost use Rattle.lock_free_owners.specs.Container.Told as containers;
 
-/// Each event does to the set what it may, a recovery asks about what has the owner named, and each answer is right; and
-/// where nobody acts for an owner who is gone nor gives back what is not his, no index is granted that somebody holds.
+/// Each event does to the set what it may, and each answer is right. A recovery asks about what has the owner named.
+/// Where nobody acts for an owner who is gone nor gives back what is not his, no index is granted that somebody holds.
 pub fn histories_are_sound()
     ensures { (capacity : ℕ) (events : List (Event ℕ)) → IsHistory one_word kinds.Robust capacity events
         → IsSound capacity events }
 {}
 
-/// The same of a container: each event does to its set of indices what it may, a recovery asks about what its owner had and
-/// frees what it was told to or was shown, and each answer is right; and where nobody acts for an owner who is gone nor
-/// gives back what is not his, no index is granted that somebody holds.
+/// Each event of a container does to its set of indices what it may, and each answer is right. A recovery asks about
+/// what its owner had, and frees what it was told to or was shown. Where nobody acts for an owner who is gone nor gives
+/// back what is not his, no index is granted that somebody holds.
 pub fn container_histories_are_sound<T>()
     ensures { (code : Coding T) (capacity : ℕ) (events : List (Event T))
         → IsHistory code kinds.Container capacity events → containers.IsSound code capacity events }
 {}
 
-/// And what stands in it: where a remove that frees, and a replace, is begun as it may be, and nobody takes a step for an
-/// owner who is gone, in so few turns that no number of an element has come round, each add and replace that succeeded has
-/// placed its value, and what is copied stands there, whole.
+/// Each add and replace that succeeded has placed its value, and what is copied stands there, whole. It is so where
+///
+/// - a remove that frees, and a replace, is begun as it may be,
+/// - nobody takes a step for an owner who is gone, and
+/// - so few turns are taken that no number of an element has come round.
 pub fn container_histories_are_contained<T>()
     ensures { (code : Coding T) (capacity : ℕ) (events : List (Event T))
         → (h : IsHistory code kinds.Container capacity events)
         → IsWellFormedRun h.trace → IsFaithfulRun h.trace h.run.reached → IsContained h.trace }
 {}
 
-/// And what an update of the state that a pass has answers, in a history of fewer than 2^64 - 1 changes: true where one was
-/// counted since the look began that last brought that state up to date, and false where none was since that look ended.
+/// An update of a pass's state answers whether a change was counted since the look before. It is true where one was
+/// counted since that look began, and false where none was since it ended, in a history of fewer than 2^64 - 1 changes.
 pub fn container_updates_meet_changes<T>()
     ensures { (code : Coding T) (capacity : ℕ) (events : List (Event T))
         → IsHistory code kinds.Container capacity events → changes_of events < 2 ^ 64 - 1

@@ -1,4 +1,4 @@
-//! Many producers and many consumers.
+//! Structures that have many producers and many consumers.
 
 pub mod container;
 pub mod robust_unique_index_set;

@@ -44,16 +44,17 @@ pub fn histories_are_linearizable<T>()
         → IsLinearizable (as_list kind capacity) v.seen }
 {}
 
-/// At any time what was handed out is a beginning of what was published, and at most the capacity waits; a push answers
-/// false only where the capacity waits, a pop None only where nothing does, and lengths are those of a moment of the
-/// call; roles are granted to one at a time, who alone publishes, or takes out. The lemma is `sound` there.
+/// Pops take out what was published, in order, and no more waits than the capacity. A push answers false only where the
+/// capacity waits, a pop None only where nothing does, and lengths are those of a moment of the call. Roles are granted
+/// to one at a time, who alone publishes, or takes out. The lemma is `sound` there.
 pub fn histories_are_sound<T>()
     ensures { (code : Coding T) (kind : QueueKind) (capacity : ℕ) (v : View T) → IsBounded kind
         → IsHistory code (machine_kind kind) capacity v.seen → IsSound capacity v.seen }
 {}
 
-/// The same of an overflowing queue, of which at most one more than the capacity waits, while a push is under way: each
-/// value that leaves it, by a push or by a pop, is the oldest that waits. The lemma is `over_sound` there.
+/// Each value that leaves an overflowing queue, by a push or by a pop, is the oldest that waits. At most one more than
+/// the capacity waits, while a push is under way. All else is as in `histories_are_sound`. The lemma is `over_sound`
+/// there.
 pub fn overflowing_histories_are_sound<T>()
     ensures { (code : Coding T) (capacity : ℕ) (v : View T) → IsHistory code kinds.Overflow capacity v.seen
         → IsOverSound capacity v.seen }
@@ -91,9 +92,9 @@ pub fn positions_stay<T>()
         → IsTaken p i x new }
 {}
 
-/// A push publishes at a position above all that its guard had seen published, and a pop takes from one above all that
-/// its guard had seen taken: right after the last of them. The lemmas are `published_low` and `taken_low` there,
-/// `published_next` and `taken_next` of `proofs/Queues/Promised.antt`.
+/// A push publishes right after all that its guard had seen published. A pop takes from right after all that its guard
+/// had seen taken. The lemmas are `published_low` and `taken_low` there, `published_next` and `taken_next` of
+/// `proofs/Queues/Promised.antt`.
 pub fn positions_rise<T>()
     ensures published { (item : Item T) (old new : View T) → HasPublished item old new
         → (p : ℕ) × IsPublished p (length (published old.seen)) item new.seen }
@@ -104,9 +105,9 @@ pub fn positions_rise<T>()
     ensures below { (old : View T) (q j : ℕ) (y : Item T) → IsTaken q j y old.seen → j < length (handed_out old.seen) }
 {}
 
-/// What a push or a pop took out of an overflowing queue stood at a position above all that its guard had seen taken;
-/// and where a pop found nothing, each position that its guard had seen published had been taken. The lemmas are
-/// `taken_first` and `none_waited` there.
+/// What leaves an overflowing queue stood at a position above all that its guard had seen taken. Where a pop found
+/// nothing, each position that its guard had seen published had been taken. The lemmas are `taken_first` and
+/// `none_waited` there.
 pub fn overflowing_takes_in_order<T>()
     ensures taken { (item : Item T) (old new : View T) → HasTakenFirst item old new
         → (p i : ℕ) × IsTaken p i item new.seen × (length (handed_out old.seen) ≤ i) }
@@ -114,9 +115,9 @@ pub fn overflowing_takes_in_order<T>()
         → (i : ℕ) × (j < i) × (i ≤ length (handed_out new.seen)) }
 {}
 
-/// Where a pop found nothing, each position that its guard had seen published lies below the next to be taken; where a
-/// push found the queue full, each that its guard had seen taken lies more than the capacity below the next to be
-/// published. The lemmas are `none_later_than` and `full_above` there.
+/// Where a pop found nothing, each position that its guard had seen published had been taken. Where a push found the
+/// queue full, each that its guard had seen taken lies more than the capacity below the next to be published. The
+/// lemmas are `none_later_than` and `full_above` there.
 pub fn refusals_are_right<T>()
     ensures empty { (old new : View T) → WasEmpty old new → (q j : ℕ) (y : Item T) → IsPublished q j y old.seen
         → j < length (handed_out old.seen) }
@@ -137,8 +138,8 @@ pub fn emptied_is_all<T>()
         × (handed_out new.seen ≡ published new.seen) }
 {}
 
-/// What each call adds to how much its pass has published and taken out itself. The lemmas are `done_pushed` and those
-/// beside it in `proofs/Queues/Sums.antt`.
+/// The answer of a call says how much it adds to what its pass has published and taken out itself. The lemmas are
+/// `done_pushed` and those beside it in `proofs/Queues/Sums.antt`.
 pub fn calls_are_counted<T>()
     ensures pushed { (item : Item T) (old new : View T) → HasPushed item true old new → HasDone 1 0 old new }
     ensures refused { (item : Item T) (taken : Bool) (old new : View T) → taken ≡ false
@@ -155,8 +156,8 @@ pub fn calls_are_counted<T>()
         → HasMeasured which capacity answer old new → HasDone 0 0 old new }
 {}
 
-/// Who has the whole share knows how much was published and taken out: what its own calls, and those of the passes that
-/// it took in, have. The lemma is `whole_counted` there.
+/// Who has the whole share knows how much was published and taken out. It is what its own calls, and those of the
+/// passes that it took in, have. The lemma is `whole_counted` there.
 pub fn whole_is_counted<T>()
     ensures { (v : View T) → IsAll v.share → MissesNothing v
         → (length (published v.seen) ≡ sum_by puts v.made) × (length (handed_out v.seen) ≡ sum_by gets v.made) }

@@ -1,5 +1,5 @@
-//! The queues that threads share, on one history: each call of a thread is a call of a machine of the model, and all of
-//! them stand in one list. So what is proved of every machine is a fact about what the threads did.
+//! Queues that threads share. All calls of all threads form one history, which is one of a machine of the model. So
+//! what is proved of every machine is a fact about what the threads did.
 #![tactic(auto)]
 
 pub mod laws;

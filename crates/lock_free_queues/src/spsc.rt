@@ -1,4 +1,4 @@
-//! One producer and one consumer at a time.
+//! Queues that have one producer and one consumer at a time.
 pub mod index_queue;
 mod places;
 pub mod queue;

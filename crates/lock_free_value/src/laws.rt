@@ -28,8 +28,8 @@ pub fn histories_are_sound<T>()
         → IsSound code events }
 {}
 
-/// Each call is wait-free, or obstruction-free, as docs/FIELD.md says: in the machine that has the history, whatever the
-/// number of turns, no call has taken more steps than that. The clause `steps` of each call says the same of what the
+/// Each call is wait-free, or obstruction-free, as docs/FIELD.md says. In the machine that has the history no call has
+/// taken more steps than that, whatever the number of turns. The clause `steps` of each call says the same of what the
 /// thread's pass has counted.
 pub fn calls_keep_guarantees<T>()
     ensures { (code : Coding T) (events : List (Event T))
@@ -60,7 +60,7 @@ pub fn versions_stay<T>()
         → IsLoaded p v x old → IsLoaded p v x new }
 {}
 
-/// A store is at a version above all that its guard knew, and a load at one that is not below any that its pass knew.
+/// A store is at a version above all that its guard knew. A load is at one that is not below any that its pass knew.
 pub fn versions_rise<T>()
     ensures stored { (x : T) (old new : View T) → (h : HasStored x old new)
         → IsStored h.by (length (stored old.seen) + 2) x new.seen

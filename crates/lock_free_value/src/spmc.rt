@@ -1,2 +1,2 @@
-//! One producer and any number of readers at a time.
+//! Structures that have one producer and any number of readers at a time.
 pub mod unrestricted_atomic;

@@ -1,12 +1,11 @@
 -- Each call on a container, also one that begins where the last of its pass rests: its steps, and its begin.
-use Rattle.lock_free_owners.proofs.Names.{◌≡◌, ◌⊎◌, inl, inr, ℕ, ◌+◌, ◌<◌, None, [], refl, sym, subst, arith, nat_lt}
-use Rattle.lock_free_owners.proofs.Names.{true, nat_tests, Allows, first_add, add_want, add_after, first_remove}
+use Rattle.lock_free_owners.proofs.Names.{◌≡◌, ◌⊎◌, ℕ, ◌+◌, ◌<◌, None, [], refl, sym, subst, arith, nat_lt}
+use Rattle.lock_free_owners.proofs.Names.{true, nat_tests, first_add, add_want, add_after, first_remove}
 use Rattle.lock_free_owners.proofs.Names.{remove_want, remove_after, first_replace, replace_want, replace_after}
 use Rattle.lock_free_owners.proofs.Names.{empty, first_borrowed, borrowed_want, borrowed_after, Owned, Replacement}
 use Rattle.lock_free_owners.proofs.Names.{GiveBack, CountOf, Coding, IsCoding, View, adds_value, removes_value}
-use Rattle.lock_free_owners.proofs.Names.{replaces_value, counts_values, sees_lock, IsMachine, SettledFrom, IsResting}
+use Rattle.lock_free_owners.proofs.Names.{replaces_value, counts_values, sees_lock, IsResting}
 use Rattle.lock_free_owners.proofs.Names.{Calling, At, AsksFor, container_words, Keeps, rested_keeps}
-use Rattle.lock_free_owners.proofs.Names.{container_settles}
 use Rattle.steps.specs.Indices.Robust.Looks.{locked_after}
 use Rattle.steps.specs.Queues.Ring.{load}
 use Rattle.steps.specs.declared.ask.Op.TheVariants as ops
@@ -26,7 +25,6 @@ use Rattle.lock_free_owners.specs.Container.Turns.{CallAt, BeginsAdd, BeginsRemo
 use Rattle.lock_free_owners.specs.Container.Turns.{BeginsLock, AddAt, AddEnds, RemoveAt, RemoveEnds, ReplaceAt}
 use Rattle.lock_free_owners.specs.Container.Turns.{ReplaceEnds, CountAt, CountEnds, LockAt, LockEnds}
 use Rattle.lock_free_owners.proofs.ContainerSet.Idle.{rests}
-use Rattle.lock_free_owners.proofs.Rules.Container.Bare.{stays}
 
 module _ {T : Type 0} (code : Coding T) where
   -- ---- a call that begins
@@ -39,22 +37,6 @@ module _ {T : Type 0} (code : Coding T) where
     pub begins_at : (v : View T) (c : C) → begins v.capacity c → (v.going ≡ None → At code kinds.Container call v v c tt) → IsIdle v → v.other ≡ []
         → 0 < v.share.part → CallAt code begins call v v c tt
     begins_at v c first at idle alone any = begins_by v c first at (rests code v alone any idle)
-
-  -- ---- a load that leaves what is known, or with which a call that rests has ended
-
-  abbrev Settling : (key slots id word : ℕ) → View T → Type 0
-  Settling key slots id word v =
-      Allows (IsMachine code kinds.Container key) slots id (v, []) word (λ n. n) (λ found me. SettledFrom code kinds.Container v me.0 × (me.1 ≡ []))
-
-  settles_by : (key slots id word : ℕ) (v : View T) → v.capacity ≡ key → (v.going ≡ None) ⊎ IsResting code v → Settling key slots id word v
-  settles_by key slots id word v known (inl idle) =
-      stays code key slots id v word (λ u w. SettledFrom code kinds.Container u w) (inl (refl, idle))
-  settles_by key slots id word v known (inr resting) = λ s r long at small.
-      (let x = container_settles code key slots id word v known resting s r long at small in (x.0, x.1, x.2, x.3, (inr x.4.0, x.4.1)))
-
-  pub settles_or_stays : (key slots id word : ℕ) (v : View T) → v.capacity ≡ key → IsIdle v → v.other ≡ [] → 0 < v.share.part
-      → Allows (IsMachine code kinds.Container key) slots id (v, []) word (λ n. n) (λ found me. SettledFrom code kinds.Container v me.0 × (me.1 ≡ []))
-  settles_or_stays key slots id word v known idle alone any = settles_by key slots id word v known (rests code v alone any idle)
 
   -- ---- add
 

@@ -1,4 +1,5 @@
--- A find of a container between two turns: where it stands on the history, and what its closure was called with.
+-- A find of a container between two turns: where it stands on the history, what its closure was called with, and how many
+-- operations it has performed.
 use Rattle.lock_free_owners.proofs.Names.{◌≡◌, ℕ, ◌+◌, ◌^◌, ◌<◌, ◌≤◌, nat_lt, if◌then◌else◌, true, false, List, []}
 use Rattle.lock_free_owners.proofs.Names.{refl, sym, ap, subst, ◌∙◌, arith, nat_tests, find_kept, by_bool, After}
 use Rattle.lock_free_owners.proofs.Names.{GoOn, Done, ContainerHandle, Buffer, CallbackProgression, Continue, Stop}
@@ -8,14 +9,16 @@ use Rattle.steps.specs.declared.container.find.Find.{Find}
 use Rattle.steps.specs.declared.container.find.FindStage.{FindStage}
 use Rattle.steps.specs.declared.container.find.FindStage.TheVariants as finds
 use Rattle.threaded.specs.Driver.{Next}
+use Rattle.history.specs.Steps.{TakesAtMost}
 use Rattle.lock_free_owners.specs.Robust.Stages.{says}
 use Rattle.lock_free_owners.specs.Container.Callable.{Visit, TakesVisits, HasFound}
 use Rattle.lock_free_owners.specs.Container.FindTold.{HasSearched}
-use Rattle.lock_free_owners.specs.Container.FindTurns.{words_in, find_goes, find_copying, FindAt, FindDone, FindGoes, FindTurns, IsLeft}
+use Rattle.lock_free_owners.specs.Container.Steps.{FindTakes}
+use Rattle.lock_free_owners.specs.Container.FindTurns.{words_in, find_goes, find_copying, FindAt, FindDone, FindGoes, FindTurns, IsAtWord, IsLeft}
 use Rattle.lock_free_owners.specs.Container.Visits as visits
 use Rattle.lock_free_owners.specs.Container.Visits.{FindStands, FindAsks, FindMoves, IsNamed, visits_of}
 use Rattle.lock_free_owners.proofs.ContainerSet.FindTurns.{over_so, heard_on, answer_over}
-use Rattle.lock_free_owners.proofs.Rules.Container.FindRuns.{StillStands, still_stands}
+use Rattle.lock_free_owners.proofs.Rules.Container.FindRuns.{StillStands, still_stands, taken_at, taken_after, one_taken, none_taken}
 use Rattle.lock_free_owners.proofs.Rules.Container.Finding.{SoFar, Onward, StepsOnward, IsQuiet, came_none, quietly, told_on, told_to_stop, may_ask}
 
 module _ {T F : Type 0} (code : Coding T) (step : F → T → ContainerHandle → CallbackProgression → F → Type 0)
@@ -28,6 +31,7 @@ module _ {T F : Type 0} (code : Coding T) (step : F → T → ContainerHandle �
     pub at : FindAt code owner base v c (m, copies)
     pub stands : FindStands code.size cap c
     pub so_far : SoFar step cap owner id f c.stage copies (value_in_room m) p
+    pub steps : TakesAtMost (taken_at code.size c.stage) base v
 
   pub record Over (w : View T) (n : ℕ) (q : F) : Type 0 where
     pub left : IsLeft code base w
@@ -35,6 +39,7 @@ module _ {T F : Type 0} (code : Coding T) (step : F → T → ContainerHandle �
     pub visits : List (Visit T)
     pub searched : HasSearched code cap owner n bound visits base w
     pub found : HasFound step cap (IsNamed cap owner id) f n bound visits q
+    pub steps : FindTakes code cap base w
 
   abbrev pub Further : View T → After (Find T (Buffer 128)) ℕ → Buffer 128 → F → Type 0
   Further w (GoOn d) m q = Searching w d m q
@@ -42,8 +47,8 @@ module _ {T F : Type 0} (code : Coding T) (step : F → T → ContainerHandle �
 
   whole : (w : View T) (n bound : ℕ) (q : F) (copies : List (ℕ × T))
       → IsLeft code base w × HasSearched code cap owner n bound (visits_of owner id copies) base w
-      → HasFound step cap (IsNamed cap owner id) f n bound (visits_of owner id copies) q → Over w n q
-  whole x0 x1 x2 x3 x4 x5 x6 = grind (arith, visits_of)
+      → HasFound step cap (IsNamed cap owner id) f n bound (visits_of owner id copies) q → FindTakes code cap base w → Over w n q
+  whole x0 x1 x2 x3 x4 x5 x6 x7 = grind (arith, visits_of)
 
   module _ (law : IsCoding code) (small : cap < 2 ^ 32) (size : cap ≡ base.capacity) (v : View T) (c : Find T (Buffer 128)) (m : Buffer 128)
       (p : F) (h : Searching v c m p) where
@@ -54,9 +59,15 @@ module _ {T F : Type 0} (code : Coding T) (step : F → T → ContainerHandle �
 
     stepped : (w : View T) (a : After (Find T (Buffer 128)) ℕ) (left : Buffer 128) (copies : List (ℕ × T)) → StillStands code.size cap a
         → Next (λ (z : View T). z.capacity) (FindAt code owner) (FindDone code owner) base a (left, copies) w
-        → Onward step cap owner id f a copies (value_in_room left) p → Further w a left p
-    stepped w (GoOn d) left copies stands at so = record { copies = copies; at = at; stands = stands; so_far = so }
-    stepped w (Done n) left copies stands ends found = whole w n cap p copies (over_so code law owner cap base w n (left, copies) id size ends) found
+        → Onward step cap owner id f a copies (value_in_room left) p → TakesAtMost (taken_after code.size cap a) base w → Further w a left p
+    stepped w (GoOn d) left copies stands at so few = record { copies = copies; at = at; stands = stands; so_far = so; steps = few }
+    stepped w (Done n) left copies stands ends found few = whole w n cap p copies (over_so code law owner cap base w n (left, copies) id size ends) found few
+
+    at_word : (stage : FindStage) → IsQuiet step cap owner id f stage → IsAtWord stage
+    at_word x0 x1 = grind arith
+
+    few_then : (most before : ℕ) (w : View T) → before + 1 ≤ most → TakesAtMost before base v → TakesAtMost 1 v w → TakesAtMost most base w
+    few_then most before w more few one = omega arith
 
     by_step : (stage : FindStage) → c.stage ≡ stage → (still : IsQuiet step cap owner id f stage)
         → (w : View T) (a : After (Find T (Buffer 128)) ℕ) (left : Buffer 128)
@@ -68,7 +79,11 @@ module _ {T F : Type 0} (code : Coding T) (step : F → T → ContainerHandle �
         (subst (λ z. StepsOnward step cap owner id f code.size c value_in_room kept_at z h.copies m goes.0 p) (sym is)
         (quietly step cap owner id f code.size c value_in_room kept_at small stage still
         (subst (visits.FindStage code.size cap) is h.stands.1) h.copies m p goes.0
-        (subst (λ z. SoFar step cap owner id f z h.copies (value_in_room m) p) is h.so_far))))
+        (subst (λ z. SoFar step cap owner id f z h.copies (value_in_room m) p) is h.so_far)))
+        (few_then (taken_after code.size cap (find_goes code owner c goes.0)) (taken_at code.size c.stage) w
+        (subst (λ z. taken_at code.size z + 1 ≤ taken_after code.size cap (find_takes code.size c z owner goes.0)) (sym is)
+        (one_taken code.size cap c h.stands.0 stage owner goes.0 (at_word stage still) (subst (visits.FindStage code.size cap) is h.stands.1)))
+        h.steps goes.4))
 
     -- ---- an answer
 
@@ -95,14 +110,29 @@ module _ {T F : Type 0} (code : Coding T) (step : F → T → ContainerHandle �
           not_less : nat_lt (index + 1) c.capacity ≡ false → c.capacity ≤ index + 1
           not_less t = grind (arith, nat_tests)
 
+      -- and performs no operation
+      few_still : (k : ℕ) → TakesAtMost (taken_after code.size cap (find_goes code owner c k)) base v
+      few_still k =
+          let none =
+          subst (λ z. taken_at code.size z ≤ taken_after code.size cap (find_takes code.size c z owner k)) (sym is)
+          (none_taken code.size cap c h.stands.0 index found owner k within) in
+          let few = h.steps in
+          omega arith
+
       answered : (q : F) (r : After (Find T (Buffer 128)) ℕ) → find_goes code owner c 1 ≡ r → StillStands code.size cap r
-          → Onward step cap owner id f r h.copies (value_in_room m) q → Further v r m q
-      answered q (GoOn d) goes stands so =
-          record { copies = h.copies; at = heard_on code law owner base v c (m, h.copies) index found is d true goes h.at; stands = stands; so_far = so }
-      answered q (Done n) goes stands found_all =
+          → Onward step cap owner id f r h.copies (value_in_room m) q → TakesAtMost (taken_after code.size cap r) base v → Further v r m q
+      answered q (GoOn d) goes stands so few =
+          record {
+            copies = h.copies;
+            at = heard_on code law owner base v c (m, h.copies) index found is d true goes h.at;
+            stands = stands;
+            so_far = so;
+            steps = few;
+          }
+      answered q (Done n) goes stands found_all few =
           let x = answer_over code law owner cap base v c (m, h.copies) index found is h.at n id true goes in
           whole v n cap q h.copies
-          (x.0, subst (λ k. HasSearched code cap owner n k (visits_of owner id h.copies) base v) (last_is n goes) x.1) found_all
+          (x.0, subst (λ k. HasSearched code cap owner n k (visits_of owner id h.copies) base v) (last_is n goes) x.1) found_all few
 
       by_answer : (q : F) (answer : CallbackProgression) → step p (value_in_room m) (visits.named index owner id) answer q
           → Further v (find_goes code owner c (says answer)) m q
@@ -110,11 +140,13 @@ module _ {T F : Type 0} (code : Coding T) (step : F → T → ContainerHandle �
           answered q (find_goes code owner c 1) refl (stood 1)
           (subst (λ z. Onward step cap owner id f (find_takes code.size c z owner 1) h.copies (value_in_room m) q) (sym is)
           (told_on step cap owner id f code.size c index found h.copies (value_in_room m) p q within hit so_here))
+          (few_still 1)
       by_answer q Stop hit =
           let goes : find_goes code owner c 0 ≡ Done found = ap (λ z. find_takes code.size c z owner 0) is in
           subst (λ r. Further v r m q) (sym goes)
           (whole v found (index + 1) q h.copies (answer_over code law owner cap base v c (m, h.copies) index found is h.at found id false goes)
-          (told_to_stop step cap owner id f index found h.copies (value_in_room m) p q within hit so_here))
+          (told_to_stop step cap owner id f index found h.copies (value_in_room m) p q within hit so_here)
+          (subst (λ r. TakesAtMost (taken_after code.size cap r) base v) goes (few_still 0)))
 
     -- ---- a turn
 

@@ -1,7 +1,7 @@
 -- How many operations the calls of a container take, from the bounds of the model.
 use Rattle.std.proofs.Common.{arith}
-use Rattle.lock_free_owners.proofs.Names.{◌≡◌, ◌⊎◌, inl, inr, ℕ, ◌+◌, ◌*◌, ◌≤◌, Bool, refl, sym, ap, subst, ◌∙◌, Coding, View, Calling, Ends}
-use Rattle.lock_free_owners.proofs.Names.{Owned, Added, GiveBack, Removed, Replacement, Replaced, DeadOwner, ReleaseMode, ReleaseState}
+use Rattle.lock_free_owners.proofs.Names.{◌≡◌, inl, inr, ℕ, ◌+◌, ◌*◌, ◌≤◌, Bool, refl, sym, ap, subst, Coding, View, Calling, Ends}
+use Rattle.lock_free_owners.proofs.Names.{Owned, Added, GiveBack, Removed, Replacement, Replaced, ReleaseMode, ReleaseState}
 use Rattle.lock_free_owners.proofs.Names.{Default, LockIfLastIndex, CountOf, SettledFrom, adds_value, removes_value, replaces_value}
 use Rattle.lock_free_owners.proofs.Names.{counts_values, sees_lock, looking, RestedLooked, Numbers, Showing}
 use Rattle.model.specs.declared.families.container.calls.CountOf.TheVariants as counts
@@ -11,7 +11,6 @@ use Rattle.model.specs.declared.turn.Kind.TheVariants as kinds
 use Rattle.model.specs.Progress.{Guarantee, WaitFree, ObstructionFree, guarantee_of}
 use Rattle.history.proofs.Containers.{container_pays}
 use Rattle.history.proofs.Paid.{AllowsOne, TakesBy, takes}
-use Rattle.history.specs.Steps.{TakesAtMost, TakesAlone}
 use Rattle.lock_free_owners.specs.Container.RecoverTurns.{Visiting, RecoverEnds, recovering}
 use Rattle.lock_free_owners.specs.Container.Steps.{one_if_some, to_settle, TakesFew, ContainerTakes, RemoveTakes, RecoverTakes, LookTakes}
 use Rattle.lock_free_owners.specs.Container.Turns.{AddEnds, RemoveEnds, ReplaceEnds, CountEnds, LockEnds}

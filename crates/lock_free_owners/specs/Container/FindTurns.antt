@@ -16,6 +16,7 @@ use Rattle.history.specs.ContainerLooks.{KeepsState}
 use Rattle.history.specs.Passes.{Goes}
 use Rattle.history.specs.Settled.{AtRested, EndsRested, EndsAsked}
 use Rattle.history.specs.Stages.{Calling, AtAsked, Ends}
+use Rattle.history.specs.Steps.{TakesAtMost}
 use Rattle.lock_free_owners.specs.Container.Idle.{IsIdle}
 
 -- the words of a room
@@ -67,11 +68,12 @@ module _ {T : Type 0} (code : Coding T) (owner : ℕ) where
       → Next (λ (z : View T). z.capacity) FindAt FindDone base (find_goes call n)
       (find_copying call (room, copies) n) w
 
-  -- how it has gone on since
+  -- how it has gone on since, by one operation
   abbrev pub FindGoes : View T → Find T (Buffer 128) → Buffer 128 → After (Find T (Buffer 128)) ℕ
       → Buffer 128 → View T → Type 0
   FindGoes v call room after left w =
       (n : ℕ) × (after ≡ find_goes call n) × (left ≡ find_kept kept_at call room n) × FindTells call room v n w
+      × TakesAtMost 1 v w
 
   -- what a turn does: at a question it takes an answer, and nothing is known anew
   abbrev pub FindTurns : finds.FindStage → View T → Find T (Buffer 128) → Buffer 128

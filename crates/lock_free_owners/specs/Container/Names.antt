@@ -1,7 +1,6 @@
 -- The words of the contracts of a container: what names it, which pass, handle and state are for it,
 -- and what a pass knows. T is the type of its values.
 use Rattle.std.specs.Prelude.{◌≡◌, ℕ, ◌-◌, ◌^◌, ◌<◌, Option, Some, None, List}
-use Rattle.std.specs.Arc.{arc_value}
 use Rattle.steps.specs.Enums.{capacity_refusal}
 use Rattle.steps.specs.declared.enums.UniqueIndexCreationError.{UniqueIndexCreationError}
 use Rattle.steps.specs.declared.words.Words.{Ghosts}
@@ -10,6 +9,7 @@ use Rattle.steps.specs.declared.container.state.ContainerState.{ContainerState}
 use Rattle.model.specs.declared.event.Event.{Event}
 use Rattle.model.specs.declared.turn.Kind.TheVariants as kinds
 use Rattle.model.specs.Coding.{Coding, coding_of}
+use Rattle.threaded.specs.Seats.{home_id}
 use Rattle.threaded.specs.Sets.{SetId}
 use Rattle.threaded.specs.declared.share.Share.{Share}
 use Rattle.history.specs.declared.view.View.{View}
@@ -26,7 +26,7 @@ container_refusal capacity = capacity_refusal 1 (2 ^ 32 - 1) capacity
 module _ {T : Type 0} where
   -- what names a container
   abbrev pub container_id : Container T → SetId
-  container_id s = record { table = (arc_value s.table).shared.table_id; capacity = s.capacity }
+  container_id s = record { table = home_id s.home; capacity = s.capacity }
 
   abbrev pub capacity_of : Container T → ℕ
   capacity_of s = s.capacity

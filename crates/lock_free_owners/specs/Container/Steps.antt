@@ -31,6 +31,10 @@ module _ {T : Type 0} (code : Coding T) (capacity : ℕ) where
   RecoverTakes Default = ContainerTakes (3 + capacity * (code.size + 7)) (code.size + 1)
   RecoverTakes LockIfLastIndex = ContainerTakes (3 + capacity * (code.size + capacity + 10)) (code.size + capacity + 4)
 
+  -- of a find, whose first operation also ends one that rests
+  abbrev pub FindTakes : View T → View T → Type 0
+  FindTakes = TakesAtMost (capacity * (code.size + 3))
+
   -- of a look of a state
   abbrev pub LookTakes : View T → View T → Type 0
   LookTakes = ContainerTakes (1 + capacity * (code.size + 2)) (code.size + 1)

@@ -1,24 +1,14 @@
-//! Values at indices that have owners, shared between threads. A state of a container shows values that were copied from
-//! it. A container can be locked. The indices of an owner that is dead are recovered.
+//! Values at indices that have owners, which threads share. The indices of a dead owner are recovered.
 //!
-//! Each call but `capacity` and `is_state_of` is made with a pass of its container, which is the caller's concern. A pass
-//! knows a beginning of the container's one history, and what of it is its own doing. Once it has seen the lock its adds
-//! answer `IsLocked`, its lengths 0 and its `is_locked` true, and its recoveries ask about nothing.
-//!
-//! Three things are the caller's concern besides, which no contract asks for: a handle is given back at most once, by
-//! its holder; no remove and no replace of a handle is begun while a replace of it is under way; and nobody acts for an
-//! owner once its recovery has begun. Where a caller breaks them each call still answers as its contract says, but a
-//! value can be torn, stay hidden, or be that of another.
-//!
-//! How many atomic steps a call takes is what its clause `steps` says: the operations on words that its pass has counted,
-//! at most so many alone, so many more for each change of a word by others, and by the clause one more where the last call
-//! of the pass rested. Of a find, of a join and of an update of a state that the pass has not, the comments say it, and no
-//! clause does. What is proved of threads is what the contracts say. No contract says that an index taken is the lowest.
-use self::rule::Board;
+//! How many atomic steps a call takes is what its clause `steps` says (not of an update of another state): operations
+//! that its pass has counted, at most so many *alone*, so many more for each change by others of any word of the
+//! container during the call, and, but of `find`, one more where the last call of the pass rested.
+use self::rule::ContainerRule;
 use self::token::Token;
+use history::view::View;
 use std::alloc::Global;
-use std::sync::Arc;
 use steps::words::Words;
+use threaded::driver::seated::Home;
 
 mod calls;
 mod counts;
@@ -39,10 +29,25 @@ pub use steps::container::handle::ContainerHandle;
 pub use steps::container::state::ContainerState;
 pub use steps::enums::{CallbackProgression, OwnerId, OwnerIdNewError};
 
-/// A container of values, at indices below its capacity, which threads share by reference. After `Container` of the Rust
-/// crate.
+/// A container of values, at indices below its capacity, which threads share by reference. After `Container` of the
+/// Rust crate.
+///
+/// ```rust
+/// let owner = OwnerId::new(7)?;
+/// let (container, pass) = Container::new(rt.alloc(), 4, 1)?;
+/// let mut values = container.handle(pass);
+/// let key = values.add(&rt, 50u64, owner)?;
+/// let state = values.get_state(&rt)?;
+/// assert!(rt; state.get(key.index()) == Some(&50));
+/// ```
+///
+/// No contract asks for these rules. If one is broken a value can be torn, hidden, or another's:
+///
+/// - A handle is given back at most once, by its holder.
+/// - No remove and no replace of a handle begins while a replace of it is under way.
+/// - Nobody acts for an owner once its recovery has begun.
 pub struct Container<T: Words> {
-    table: Arc<Board<T>, Global>,
+    home: Home<View<T>, u64, ContainerRule<T>>,
     capacity: u32,
     id: u64,
     alloc: Global,
@@ -51,7 +56,7 @@ pub struct Container<T: Words> {
 impl<T: Words> Drop for Container<T> {
     fn drop(self) {
         let Self {
-            table: _table,
+            home: _home,
             capacity: _,
             id: _,
             alloc: _,
@@ -59,8 +64,8 @@ impl<T: Words> Drop for Container<T> {
     }
 }
 
-/// The same with its capacity in the type, which is from 1 to 2^32 - 1. It is used as the container that it has. After
-/// `FixedSizeContainer` of the Rust crate.
+/// A `Container` whose type names its capacity: CAPACITY, from 1 to 2^32 - 1. It is used as the container that it has.
+/// After `FixedSizeContainer` of the Rust crate.
 pub struct FixedSizeContainer<T: Words, const CAPACITY: usize> {
     container: Container<T>,
 }
@@ -73,9 +78,10 @@ impl<T: Words, const CAPACITY: usize> Drop for FixedSizeContainer<T, CAPACITY> {
     }
 }
 
-/// What a caller makes each call on a container with: it says which container it is for, how much of the container's
-/// history it has seen, and what of it is its own doing. Each call is made with a pass of its container, which is the
-/// caller's concern. This project's own.
+/// A pass permits its owner to call a container. It knows which container it is for, how much of the container's one
+/// history it has seen, and what of it is its own doing. Each call but `capacity` and `is_state_of` is made with a pass
+/// of its container, which is the caller's concern. Once it has seen the lock its adds answer `IsLocked`, its lengths 0
+/// and its `is_locked` true, and its recoveries ask about nothing. This project's own.
 pub struct Pass<T: Words> {
     token: Token<T>,
 }

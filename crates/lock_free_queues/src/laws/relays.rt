@@ -16,9 +16,9 @@ ghost use Rattle.lock_free_queues.specs.Queues.Relays.{IsRelayed};
 ghost use Rattle.lock_free_queues.specs.Queues.Sent.{HasSent, HasReceived, TellsApart};
 ghost use Rattle.lock_free_queues.specs.Queues.Told.{HasAcquired, HasSplit, HasJoined, HasPopped, HasTakenOut};
 
-/// Where the one half of a first pass sent these values and the other received those, both are joined, and one pop more
-/// finds nothing or not: what came is a beginning of what was sent, all of it just where the pop found nothing, and no more
-/// is left than the queue has room for. The lemma is `views_relayed` of `proofs/Queues/Relays.antt`.
+/// What one half of a first pass received is a beginning of what the other half sent. It holds once both are joined and
+/// one pop more was made. All of it came just where that pop found nothing, and no more is left than the queue has room
+/// for. The lemma is `views_relayed` of `proofs/Queues/Relays.antt`.
 pub fn halves_relay<T, V>()
     ensures { (named : V → Item T) (code : Coding T) (queue : QueueKind) (n room most : ℕ) (role : Role)
         (first left right mine theirs joined taking last : View T) (sent received : List V) (answer : Option V) (emptied : Bool)

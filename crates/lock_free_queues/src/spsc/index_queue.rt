@@ -1,9 +1,8 @@
-//! The bounded queue of numbers of 64 bits with one producer and one consumer, shared between threads.
+//! A bounded queue of numbers of 64 bits, which one producer and one consumer share between threads.
 //!
 //! How many atomic steps a call takes is what its clause `steps` says: the operations on words that its pass has
-//! counted. The driver counts each one that it performs. A split, a join and a look go by the table itself, and count
-//! theirs by their contracts. A `close` has no such clause, since no pass is left. What is proved of threads is what
-//! the contracts say.
+//! counted. Each that it performs is counted, by the driver. A `close` has no such clause, since no pass is left. What
+//! is proved of threads is what the contracts say.
 use super::ring;
 use super::ring::rule::Numbers;
 
@@ -15,20 +14,31 @@ mod make;
 
 /// A bounded queue of numbers, which threads share by reference. One producer pushes and one consumer pops at a time.
 /// After `IndexQueue` of the Rust crate.
+///
+/// ```rust
+/// let (queue, pass) = IndexQueue::new(alloc, 4).ok()?;
+/// let mut handle = queue.handle(pass);
+/// let other = handle.split()?;
+/// let mut producer = handle.acquire_producer().ok()?;
+/// let mut consumer = other.acquire_consumer().ok()?;
+/// producer.push(3);
+/// producer.push(1);
+/// Some([consumer.pop(), consumer.pop(), consumer.pop()])
+/// ```
 pub type IndexQueue = ring::Ring<Numbers, u64>;
 
-/// The same for at most CAPACITY numbers; CAPACITY is from 0 to 2^32 - 1. It is used as the queue that it has.
+/// An `IndexQueue` whose type names its capacity: CAPACITY, from 0 to 2^32 - 1. It is used as the queue that it has.
 /// After `FixedSizeIndexQueue` of the Rust crate.
 pub type FixedSizeIndexQueue<const CAPACITY: usize> = ring::FixedSize<Numbers, u64, CAPACITY>;
 
-/// What a caller makes each call on a queue of numbers with.
+/// A pass permits its owner to call a queue of numbers.
 pub type Pass = ring::Pass<Numbers, u64>;
 
-/// The end of a queue of numbers that pushes.
+/// The guard that pushes numbers, and owns a pass.
 pub type Producer<'a> = ring::Producer<'a, Numbers, u64>;
 
-/// The end of a queue of numbers that pops.
+/// The guard that pops numbers, and owns a pass.
 pub type Consumer<'a> = ring::Consumer<'a, Numbers, u64>;
 
-/// A queue of numbers with a pass of it, whose calls ask for no proof.
+/// A handle has a queue of numbers and a pass of it, so its calls ask for no proof.
 pub type Handle<'a> = ring::Handle<'a, Numbers, u64>;

@@ -5,14 +5,14 @@ ghost use Rattle.lock_free_queues.specs.Queues.Opened.{position_at};
 use std::alloc::{AllocError, Global};
 use steps::queues::ring::{CONSUMER, FIRST_CELL, PRODUCER, READ, WRITE};
 
-/// Where both positions stand. Without capacity nothing was pushed.
+/// Returns where both positions stand at the opening. Without capacity nothing was pushed.
 pub fn start_at(capacity: u32, position: u64) -> u64
     ensures { result ≡ position_at capacity position }
 {
     if capacity == 0 { 0 } else { position }
 }
 
-/// How many cells the pushes have used.
+/// Returns how many cells the pushes have used.
 pub fn cells_used(capacity: u32, position: u64) -> u64
     ensures { result ≡ min position capacity }
 {
@@ -24,8 +24,8 @@ pub fn cells_used(capacity: u32, position: u64) -> u64
     }
 }
 
-/// The words of a queue with both positions here, both roles free and zeros in so many words of cells, and one word
-/// more.
+/// Returns the words of a queue that opens with both positions at `start`. Both roles are free, and the cells, so many
+/// words, are zeros, with one word more.
 pub fn empty_words(alloc: Global, cells: usize, start: u64) -> Result<Vec<u64>, AllocError>
     requires { cells < 2 ^ 63 }
     ensures { IfOk result (λ words. words.items ≡ start ∷ start ∷ 1 ∷ 1 ∷ (replicate cells 0 ++ 0 ∷ [])) }

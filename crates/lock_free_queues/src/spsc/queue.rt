@@ -1,9 +1,8 @@
-//! The bounded queue of values with words, with one producer and one consumer, shared between threads.
+//! A bounded queue of values with words, which one producer and one consumer share between threads.
 //!
 //! How many atomic steps a call takes is what its clause `steps` says: the operations on words that its pass has
-//! counted. The driver counts each one that it performs. A split, a join and a look go by the table itself, and count
-//! theirs by their contracts. A `close` has no such clause, since no pass is left. What is proved of threads is what
-//! the contracts say.
+//! counted. Each that it performs is counted, by the driver. A `close` has no such clause, since no pass is left. What
+//! is proved of threads is what the contracts say.
 use super::ring;
 use super::ring::rule::Values;
 
@@ -14,22 +13,32 @@ mod ends;
 mod make;
 mod pops;
 
-/// A bounded queue of at most CAPACITY values, which threads share by reference; CAPACITY is from 0 to 2^32 - 1. One
-/// producer pushes and one consumer pops at a time. It is used as the ring that it has. After `Queue` of the Rust
+/// A bounded queue of values, which threads share by reference. It holds at most CAPACITY values, from 0 to 2^32 - 1.
+/// One producer pushes and one consumer pops at a time. It is used as the ring that it has. After `Queue` of the Rust
 /// crate.
+///
+/// ```rust
+/// let (queue, pass) = Queue::<u32, 2>::new(rt.alloc())?;
+/// let mut handle = queue.handle(pass);
+/// let other = handle.split().ok_or("no further handle")?;
+/// let mut producer = handle.acquire_producer().map_err(|_| "taken")?;
+/// let mut consumer = other.acquire_consumer().map_err(|_| "taken")?;
+/// assert!(rt; producer.push(&7) && consumer.pop() == Some(7));
+/// ```
 pub type Queue<T, const CAPACITY: usize> = ring::FixedSize<Values, T, CAPACITY>;
 
-/// The same, with a capacity that is no part of its type. This project's own.
+/// A bounded queue of values whose capacity is no part of its type, which threads share by reference. This project's
+/// own.
 pub type Ring<T> = ring::Ring<Values, T>;
 
-/// What a caller makes each call on a queue of values with.
+/// A pass permits its owner to call a queue of values.
 pub type Pass<T> = ring::Pass<Values, T>;
 
-/// The end of a queue of values that pushes.
+/// The guard that pushes values, and owns a pass.
 pub type Producer<'a, T> = ring::Producer<'a, Values, T>;
 
-/// The end of a queue of values that pops.
+/// The guard that pops values, and owns a pass.
 pub type Consumer<'a, T> = ring::Consumer<'a, Values, T>;
 
-/// A queue of values with a pass of it, whose calls ask for no proof.
+/// A handle has a queue of values and a pass of it, so its calls ask for no proof.
 pub type Handle<'a, T> = ring::Handle<'a, Values, T>;

@@ -1,8 +1,8 @@
-//! What the queues have in common: what threads share, what each of them holds, and the calls but pushes and pops. The
-//! queues are this with a kind E and values T; each module of `spsc` has its own names for them.
+//! What all queues share: their types, and the calls but pushes and pops. Each module of `spsc` has its own names for
+//! them, with a kind E and values T.
 //!
 //! How many atomic steps a call takes is what its clause `steps` says: the operations on words that its pass has
-//! counted. Each that it performs is counted, by the driver. A `close` has no such clause, since no pass is left. What is proved of threads is what
+//! counted, each by the driver. A `close` has no such clause, since no pass is left. What is proved of threads is what
 //! the contracts say.
 ghost use Rattle.std.specs.Prelude.{◌≡◌, ◌<◌, ◌+◌, ◌^◌, [], None};
 ghost use Rattle.steps.specs.declared.queues.roles.Role.TheVariants as roles;
@@ -63,17 +63,17 @@ pub struct Held<E: Kind, T: Words, Q: TableRule<(), View<T>, Origin>> {
 
 pub type Token<E, T> = Held<E, T, RingRule<E, T>>;
 
-/// What a caller makes each call with: it says which queue it is for, how much of the queue's history it has seen, and
-/// what of it is its own doing. Each call is made with a pass of its queue, which is the caller's concern. It has no
-/// role. This project's own.
+/// A pass permits its owner to call a queue. It knows which queue it is for, how much of the queue's history it has
+/// seen, and what of it is its own doing. Each call is made with a pass of its queue, which is the caller's concern. It
+/// has no role. This project's own.
 pub struct Pass<E: Kind, T: Words> {
     pub(crate) token: Token<E, T>,
     ghost none: { LacksRole roles.Producer token.seated.seat.me.0.made
         × LacksRole roles.Consumer token.seated.seat.me.0.made },
 }
 
-/// The end of a queue that pushes. There is one at a time. It owns the pass that it was acquired with, and gives the
-/// role back when it is dropped. After `Producer` of the Rust crate.
+/// The guard that pushes. There is one at a time. It owns the pass that it was acquired with, and gives the role back
+/// when it is dropped. After `Producer` of the Rust crate.
 pub struct Producer<'a, E: Kind, T: Words> {
     ring: &'a Ring<E, T>,
     pub(crate) token: Token<E, T>,
@@ -81,8 +81,8 @@ pub struct Producer<'a, E: Kind, T: Words> {
         × LacksRole roles.Consumer token.seated.seat.me.0.made },
 }
 
-/// The end of a queue that pops. There is one at a time. It owns the pass that it was acquired with, and gives the
-/// role back when it is dropped. After `Consumer` of the Rust crate.
+/// The guard that pops. There is one at a time. It owns the pass that it was acquired with, and gives the role back
+/// when it is dropped. After `Consumer` of the Rust crate.
 pub struct Consumer<'a, E: Kind, T: Words> {
     ring: &'a Ring<E, T>,
     pub(crate) token: Token<E, T>,

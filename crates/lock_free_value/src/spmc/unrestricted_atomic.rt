@@ -1,7 +1,7 @@
-//! One value of any type with words, with one producer and any number of readers, shared between threads.
+//! One value of any type with words, which one producer and any number of readers share between threads.
 //!
-//! How many atomic steps a call takes is what its clause `steps` says: the operations on words that its pass has counted. Each
-//! that it performs is counted, by the driver. What is proved of threads is what the contracts say.
+//! How many atomic steps a call takes is what its clause `steps` says: the operations on words that its pass has
+//! counted. Each that it performs is counted, by the driver. What is proved of threads is what the contracts say.
 ghost use Rattle.std.specs.Prelude.{◌≡◌, ◌<◌, ◌+◌, ◌*◌, [], None, length};
 ghost use Rattle.laws_value.specs.Stored.{stored};
 ghost use Rattle.history.specs.Value.{HasProducer};
@@ -26,6 +26,14 @@ pub use handles::Handle;
 
 /// A value that threads share by reference. One producer at a time stores it, and any number of readers load it whole.
 /// After `UnrestrictedAtomic` of the Rust crate.
+///
+/// ```rust
+/// let (value, pass) = UnrestrictedAtomic::new(rt.alloc(), (7u64, 1u64))?;
+/// let mut reader = value.handle(pass);
+/// let writer = reader.split().ok_or("no further handle")?;
+/// let mut producer = writer.acquire_producer().map_err(|_| "taken")?;
+/// assert!(rt; producer.store((8, 2)) && reader.load(&rt) == (8, 2));
+/// ```
 pub struct UnrestrictedAtomic<T: Words> {
     home: Home<View<T>, Origin<T>, ValueRule<T>>,
 }
@@ -57,9 +65,9 @@ impl<T: Words, Q: TableRule<(), View<T>, Origin<T>>> Drop for Held<T, Q> {
 
 pub type Token<T> = Held<T, ValueRule<T>>;
 
-/// What a caller makes each call with: it says which value it is for, how much of the value's history it has seen, and
-/// what of it is its own doing. Each call is made with a pass of its value, which is the caller's concern. It has no
-/// role. This project's own.
+/// A pass permits its owner to call a value. It knows which value it is for, how much of the value's history it has
+/// seen, and what of it is its own doing. Each call is made with a pass of its value, which is the caller's concern. It
+/// has no role. This project's own.
 pub struct Pass<T: Words> {
     token: Token<T>,
     ghost none: { LacksProducer token.seated.seat.me.0.made },
@@ -81,8 +89,8 @@ impl<T: Words> Drop for Pass<T> {
     }
 }
 
-/// The end of a value that stores. There is one at a time. It owns the pass that it was acquired with, and gives the
-/// role back when it is dropped. After `Producer` of the Rust crate.
+/// The guard that stores. There is one at a time. It owns the pass that it was acquired with, and gives the role back
+/// when it is dropped. After `Producer` of the Rust crate.
 pub struct Producer<'a, T: Words> {
     value: &'a UnrestrictedAtomic<T>,
     token: Token<T>,

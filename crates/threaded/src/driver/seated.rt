@@ -6,11 +6,12 @@ use atomic_table::{Seat, Table, TableRule};
 use std::alloc::Global;
 use std::sync::Arc;
 
-/// What a caller steps with: a seat, and the one reference to its table that its steps go through.
+/// What a caller steps with: a seat, and the one reference to its table that its steps go through. The table is this
+/// crate's alone, so that nobody else can read or write a word by it.
 #[derive(Drop)]
 pub struct Seated<V, K, Q: TableRule<(), V, K>> {
     pub seat: Seat<(), V>,
-    pub table: Arc<Table<(), V, K, Q, Global>, Global>,
+    pub(crate) table: Arc<Table<(), V, K, Q, Global>, Global>,
     ghost seated: { seat.table_id ≡ (arc_value table).shared.table_id },
     ghost bare: { seat.me.1 ≡ [] },
 }

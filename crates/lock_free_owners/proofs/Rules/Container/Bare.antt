@@ -1,8 +1,8 @@
 -- A step of a container's table that leaves each word as it is may leave what its seat knows.
 use Rattle.std.proofs.Common.{arith}
-use Rattle.lock_free_owners.proofs.Names.{◌≡◌, ℕ, zero, suc, List, [], ◌∷◌, set, slice_index, refl, sym, ap, subst}
+use Rattle.lock_free_owners.proofs.Names.{◌≡◌, ℕ, List, [], set, slice_index, refl, sym, ap, subst}
 use Rattle.lock_free_owners.proofs.Names.{◌∙◌, Allows, keeps, written, by_eq, After, Coding, moves, View, IsMachine}
-use Rattle.lock_free_owners.proofs.Names.{set_same, cases_eq, ⊎_elim, ◌≢◌, ◌+◌, ◌<◌, ◌⊎◌, None, GoOn, Done, Event}
+use Rattle.lock_free_owners.proofs.Names.{set_same, cases_eq, ⊎_elim, ◌≢◌, ◌+◌, ◌<◌, None, GoOn, Done, Event}
 use mathlib.Core.Option.{some, some-injective}
 use lib.ListN.{get_elem?}
 use Rattle.steps.specs.declared.ask.Op.TheVariants as ops
@@ -14,12 +14,6 @@ use Rattle.history.proofs.PassLooks.{reseat}
 use Rattle.atomic_table.proofs.Lists.{at_set, set_else, set_here}
 use Rattle.threaded.proofs.Shares.{shares_stay}
 use Rattle.lock_free_owners.specs.Container.Bare.{IsCounted, Still}
-
--- a list in which what stands there is put there
-set_there : {A : Type 0} (xs : List A) (i : ℕ) (x : A) → get_elem? xs i ≡ some x → set xs i x ≡ xs
-set_there [] i x e = refl
-set_there (y ∷ ys) zero x e = ap (λ z. z ∷ ys) (sym (some-injective y x e))
-set_there (y ∷ ys) (suc i) x e = ap (λ zs. y ∷ zs) (set_there ys i x e)
 
 -- an exchange of a number for itself
 pub unchanged : (count found : ℕ) → written (ops.Exchange count count) found ≡ found
@@ -70,20 +64,6 @@ module _ {T : Type 0} (views : List (View T)) (events : List (Event T)) (id : �
           }
 
 module _ {T : Type 0} (code : Coding T) (key slots id : ℕ) (v : View T) where
-  -- a load beside the driver may count nothing
-  pub stays : (word : ℕ) (Says : View T → View T → Type 0) → Says v v
-      → Allows (IsMachine code kinds.Container key) slots id (v, []) word (λ n. n) (λ found new. Says v new.0 × (new.1 ≡ []))
-  stays word Says says s r wide at small = (
-    v,
-    keeps,
-    tt,
-    subst (λ vs. IsMachine code kinds.Container key (record { words = set s.words word (slice_index s.words word); homes = s.homes; views = vs }))
-        (sym (set_there s.views id v at))
-        (subst (λ ws. IsMachine code kinds.Container key (record { words = ws; homes = s.homes; views = s.views }))
-        (sym (set_same s.words word)) r),
-    (says, refl),
-  )
-
   pub leaves : (word : ℕ) (f : ℕ → ℕ) → ((k : ℕ) → f k ≡ k) → (Says : View T → ℕ → View T → Type 0) → ((k : ℕ) → Says v k (one_more v))
       → Allows (IsMachine code kinds.Container key) slots id (v, []) word f (λ found new. moves (λ (z : View T). z.asked) Says (v, []) found new)
   leaves word f same Says says s r wide at small =

@@ -1,13 +1,13 @@
 -- A look of a state keeps the rule of a container at each of its stages.
 use Rattle.lock_free_owners.proofs.Names.{◌≡◌, ℕ, ◌+◌, ◌<◌, ◌≤◌, nat_lt, Bool, false, List, [], slice_index_or}
 use Rattle.lock_free_owners.proofs.Names.{refl, sym, subst, ◌∙◌, arith, nat_tests, written, by_test, by_eq, After}
-use Rattle.lock_free_owners.proofs.Names.{GoOn, Done, change_word, count_word, element_word, total_words, is_even}
+use Rattle.lock_free_owners.proofs.Names.{Done, change_word, count_word, element_word, total_words, is_even}
 use Rattle.lock_free_owners.proofs.Names.{Numbers, Showing, at_look, look_asks, look_want, look_comes_to, look_finds}
 use Rattle.lock_free_owners.proofs.Names.{look_takes, look_after, look_kept, Owes, KeepsRule, View, IsMachine, Coding}
 use Rattle.steps.specs.declared.ask.Op.TheVariants as ops
 use Rattle.steps.specs.declared.container.look.Look.{Look}
 use Rattle.steps.specs.declared.container.look.LookStage as looks
-use Rattle.threaded.specs.Driver.{Next, Told}
+use Rattle.threaded.specs.Driver.{Told}
 use Rattle.model.specs.declared.turn.Kind.TheVariants as kinds
 use Rattle.lock_free_owners.specs.Container.Bare.{Still, LookStage, LookStands, LookEnds}
 use Rattle.lock_free_owners.proofs.Rules.Container.Bare.{Stays, one_more, counted_on, still_tells, leaves, unchanged}

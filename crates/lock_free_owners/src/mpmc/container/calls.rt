@@ -1,4 +1,7 @@
-//! The calls on a container by a pass that ask nothing of their caller, but those of states.
+//! The calls on a container by a pass, but those of states. No contract says that an index taken is the lowest. At the
+//! end of the generation counter nothing is added and nothing locks any more. An add that meets the lock after it has
+//! given the index its owner leaves it that owner and places no value; what an earlier owner's remove has not hidden
+//! yet stands there still.
 ghost use Rattle.std.specs.Prelude.{◌≡◌, ◌+◌, ◌≤◌, true, Err, IfOk, IfErr, OnOk};
 ghost use Rattle.steps.specs.declared.container.enums.ContainerAddFailure.TheVariants.{IsLocked as Locked};
 ghost use Rattle.steps.specs.declared.container.enums.ContainerRemoveError.TheVariants.{ContainerHandleNotOwnedByContainer as NotOwned};
@@ -25,15 +28,13 @@ use steps::indices::robust::release::GiveBack;
 use steps::words::Words;
 
 impl<T: Words> Container<T> {
-    /// Adds `value` for `owner`, at the lowest index that it finds without an owner: one that had none when the call
-    /// filled it, and that nobody held when it was granted, where nobody acts for an owner who is gone nor gives back what
-    /// is not his. It answers the handle that names it. `OutOfSpace` where each index had an owner at a moment of the call,
-    /// or the generation counter is at its end; then nothing has changed. `IsLocked` where the container is locked.
+    /// Adds `value` for `owner` at the lowest index that it finds without an owner, and returns its handle.
     ///
-    /// A pass that has seen the lock gets `IsLocked`. A call that meets the lock only after it has given the index its
-    /// owner answers `IsLocked` too: the index keeps that owner, and `value` is placed nowhere; what an earlier owner's
-    /// remove has not hidden yet stands there still. At most 7 + `T::WORDS` atomic steps more than the capacity where
-    /// nobody else steps in between; else it may try again for as long as others step. After `add` of the Rust crate.
+    /// - `OutOfSpace`, without a change, if each index had an owner at a moment of the call, or the generation counter
+    ///   is at its end.
+    /// - `IsLocked` if the container is locked. If it meets the lock late, the index keeps the owner without the value.
+    ///
+    /// Alone at most capacity + 7 + `T::WORDS` atomic steps. After `add` of the Rust crate.
     pub fn add(
         &self,
         rt: &impl Wait,
@@ -71,15 +72,13 @@ impl<T: Words> Container<T> {
         }
     }
 
-    /// Removes the value that `handle` names. `ContainerHandleNotOwnedByContainer` where the handle is of another
-    /// container, where its index is not below the capacity (both without an atomic step, and no call of the history), or
-    /// where its owner does not have the index; then nothing has changed.
+    /// Removes the value that `handle` names, and frees its index. `Locked` only in mode `LockIfLastIndex`, if the
+    /// container is locked, also by this call if no index has an owner then; else `Unlocked`.
     ///
-    /// In mode `Default` the answer is `Unlocked`, also where the container is locked. In mode `LockIfLastIndex` the
-    /// container is locked where no index has an owner by then, unless the generation counter is at its end, where
-    /// nothing locks any more; `Locked` says that it is locked, by this call or an earlier one. A pass that has seen the
-    /// lock gets no `Unlocked` in that mode. In mode `Default` at most 6 atomic steps where nobody else steps in between,
-    /// in mode `LockIfLastIndex` at most 9 more than the capacity; else it may try again for as long as others step. After `remove` of the Rust crate.
+    /// `ContainerHandleNotOwnedByContainer`, without a change, if the handle is of another container or past the
+    /// capacity (no step, no call of the history), or its owner does not have the index.
+    ///
+    /// Alone at most 6 steps, in mode `LockIfLastIndex` capacity + 9. After `remove` of the Rust crate.
     pub fn remove(
         &self,
         rt: &impl Wait,
@@ -117,12 +116,12 @@ impl<T: Words> Container<T> {
             .drive_on::<Remove, Removes>(rt, call, &given, &mut ())
     }
 
-    /// Puts `value` in the place of the one that `handle` names. `ContainerHandleNotOwnedByContainer` where the handle is
-    /// of another container, where its index is not below the capacity (both without an atomic step, and no call of the
-    /// history), or where its owner does not have the index; then nothing has changed.
+    /// Puts `value` in the place of the one that `handle` names. From its third step, which hides the value that stood
+    /// there, to the last but one, behind the new value's words, the index shows no value.
     ///
-    /// From its third step, which hides the value that stood there, to the last but one, behind the new value's words,
-    /// the index shows no value. At most 5 + `T::WORDS` atomic steps. This project's own.
+    /// `ContainerHandleNotOwnedByContainer`, without a change, where `remove` has it.
+    ///
+    /// At most 5 + `T::WORDS` atomic steps. This project's own.
     pub fn replace(
         &self,
         handle: ContainerHandle,
@@ -157,13 +156,11 @@ impl<T: Words> Container<T> {
             .drive::<Replace<T>, Replaces>(call, &given, &mut ())
     }
 
-    /// How many indices have an owner: some number of which each that had one through the whole call is among them, and
-    /// none that had one at no moment of it; at most the capacity, and 0 where the container is locked: so where the pass
-    /// has seen the lock.
+    /// Returns how many indices have an owner, or 0 if the container is locked. It counts each that has one through the
+    /// whole call, and none that has one at no moment of it. At the end of the generation counter it is the number of
+    /// one pass over the indices, whatever has changed meanwhile.
     ///
-    /// At most 2 atomic steps more than the capacity where nobody else steps in between; else it may try again for as
-    /// long as others step. Where the generation counter is at its end the number is that of one pass over the indices,
-    /// whatever has changed meanwhile. After `len` of the Rust crate.
+    /// Alone at most capacity + 2 atomic steps. After `len` of the Rust crate.
     pub fn len(&self, rt: &impl Wait, pass: &mut Pass<T>) -> usize
         requires { IsPassOf self.now pass.old }
         ensures goes_on { GoesOn pass.old pass.new }
@@ -178,7 +175,8 @@ impl<T: Words> Container<T> {
         count_all::<T, HowMany>(&mut pass.token.seated, rt, pass.token.capacity)
     }
 
-    /// Whether `len` is 0: so where the pass has seen the lock. As many atomic steps. After `is_empty` of the Rust crate.
+    /// Returns whether `len` is 0: so where the pass has seen the lock. As many atomic steps. After `is_empty` of the
+    /// Rust crate.
     pub fn is_empty(&self, rt: &impl Wait, pass: &mut Pass<T>) -> bool
         requires { IsPassOf self.now pass.old }
         ensures goes_on { GoesOn pass.old pass.new }
@@ -192,8 +190,8 @@ impl<T: Words> Container<T> {
         count_all::<T, WhetherNone>(&mut pass.token.seated, rt, pass.token.capacity) == 0
     }
 
-    /// Whether the container is locked. True is the answer to each pass that has seen it. One atomic step. After
-    /// `is_locked` of the Rust crate.
+    /// Returns whether the container is locked. True is the answer to each pass that has seen it. At most one atomic
+    /// step. After `is_locked` of the Rust crate.
     pub fn is_locked(&self, pass: &mut Pass<T>) -> bool
         requires { IsPassOf self.now pass.old }
         ensures goes_on { GoesOn pass.old pass.new }
@@ -208,7 +206,7 @@ impl<T: Words> Container<T> {
             .drive::<IsLocked, LooksLocked>(IsLocked, &(), &mut ())
     }
 
-    /// The capacity that it was made with. After `capacity` of the Rust crate.
+    /// Returns the capacity that it was made with. After `capacity` of the Rust crate.
     pub fn capacity(&self) -> usize
         ensures { result ≡ capacity_of self.now }
     {

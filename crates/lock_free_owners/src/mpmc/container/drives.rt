@@ -1,9 +1,8 @@
 //! What the calls and the looks say of the views at their steps. These types are for the proofs alone.
-ghost use Rattle.std.specs.Prelude.{◌≡◌, []};
+ghost use Rattle.std.specs.Prelude.{[]};
 ghost use Rattle.model.specs.Coding.{coding_of};
 ghost use Rattle.model.specs.declared.turn.Kind.TheVariants as kinds;
 
-use atomic_table::Play;
 use history::view::View;
 use std::marker::{Brand, PhantomData};
 use steps::container::add::{Add, AddStage};
@@ -13,7 +12,7 @@ use steps::container::replace::Replace;
 use steps::indices::robust::acquire::AcquireStage;
 use steps::indices::robust::looks::{BorrowedIndices, IsLocked};
 use steps::words::Words;
-use threaded::driver::rule::Drives;
+use threaded::driver::rule::{Drives, Tells};
 
 /// Adding a value.
 pub struct Adds;
@@ -161,19 +160,18 @@ impl<T: Words, B: Beginning<T>> Drives<View<T>, Look<T>> for LooksOn<B> {
 /// The end of a call that rests, or a load that leaves what is known.
 pub struct Settle;
 
-impl<T: Words> Play<(), View<T>> for Settle {
-    ghost use Rattle.history.specs.Settled.{SettledFrom};
+impl<T: Words> Tells<View<T>> for Settle {
+    ghost use Rattle.lock_free_owners.specs.Container.Settling.{HasSettled};
 
-    ghost then = { λ step old found new.
-        SettledFrom (coding_of T.WORDS T.words_of T.value_of) kinds.Container old.0 new.0 × (new.1 ≡ []) };
+    ghost told = { λ old found new. HasSettled (coding_of T.WORDS T.words_of T.value_of) old new };
 }
 
 /// A look at the whole history.
 pub struct Glance;
 
-impl<T: Words> Play<(), View<T>> for Glance {
-    ghost use Rattle.history.specs.Views.{Looks};
+impl<T: Words> Tells<View<T>> for Glance {
+    ghost use Rattle.history.specs.Views.{LooksOnce};
 
-    ghost then = { λ step old found new.
-        Looks (coding_of T.WORDS T.words_of T.value_of) kinds.Container old.0.capacity old.0 new.0 × (new.1 ≡ []) };
+    ghost told = { λ old found new.
+        LooksOnce (coding_of T.WORDS T.words_of T.value_of) kinds.Container old.capacity old new };
 }

@@ -24,9 +24,8 @@ impl<T: Words, const CAPACITY: usize> Deref for FixedSizeContainer<T, CAPACITY> 
 }
 
 impl<T: Words, const CAPACITY: usize> FixedSizeContainer<T, CAPACITY> {
-    /// A container with the number `id` of values at the indices below CAPACITY, where no value stands, and its first
-    /// pass, which has the whole share and has seen nothing. That no other container has this `id` is the caller's
-    /// concern: handles and states tell containers apart by it.
+    /// Makes a container with the number `id` and no value at the indices below CAPACITY, and its first pass. That no
+    /// other container has this `id` is the caller's concern: handles and states tell containers apart by it.
     ///
     /// Refused are, in this order, a CAPACITY above 2^32 - 1 (`ProvidedCapacityGreaterThanMaxCapacity`), 0
     /// (`ProvidedCapacityIsZero`) and memory (`NoMemory`). After `FixedSizeContainer` of the Rust crate.

@@ -8,8 +8,9 @@ mod calls;
 mod states;
 mod visits;
 
-/// A container with a pass of it. Its calls are those of the container, and ask for nothing but a state of it, which an
-/// `if` with `is_state_of` shows, and closures that may be called. Each thread has a handle of its own, by `split`. This project's own.
+/// A handle has a container and a pass of it. Its calls are those of the container. They ask for nothing but a state of
+/// it, which an `if` with `is_state_of` shows, and closures that may be called. Each thread has a handle of its own, by
+/// `split`. This project's own.
 pub struct Handle<'a, T: Words> {
     container: &'a Container<T>,
     pass: Pass<T>,

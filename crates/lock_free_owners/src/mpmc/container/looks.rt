@@ -1,4 +1,7 @@
-//! The states of a container: how one is taken, and brought up to date.
+//! The states of a container: how one is got, and updated. Each value is copied whole in a well-formed
+//! faithful history of few turns (`laws`), as it stands when the call comes to its index (tests). The state of the last
+//! `get_state` is the pass's: its update is a call of the history. An update of any other only counts its steps, without
+//! bound, as the pass sees no change by others; a find that rests rests on.
 ghost use Rattle.std.specs.Prelude.{◌≡◌, ◌⊎◌, ◌<◌, ◌↔◌, IsTrue, IsFalse, IfOk, IfErr};
 ghost use Rattle.steps.specs.Container.Look.{first_look};
 ghost use Rattle.steps.specs.declared.ask.After.TheVariants.{Done};
@@ -57,18 +60,13 @@ fn bring_up<T: Words, B: Beginning<T>>(
 }
 
 impl<T: Words> Container<T> {
-    /// A state that shows the values that stand in the container: each whole, as it stood when the call came to it
-    /// (whole in a well-formed faithful history of few turns, `laws`; that it stood then tests say). It shows nothing while
-    /// the number of changes is 0: so until the first add, replace, remove or recovery has counted its change, which is
-    /// its last step. It is a call of the history, which copies at most one value at each index, ascending, and answers
-    /// how many the state shows; each of these the party of the pass has copied from its index. From now on the state is
-    /// the one that the pass has, after its other calls too (`keeps`), and `update_state` of it is a call of the history.
-    /// `NoMemory` where a state has no memory; then it is no call of the history, and the container is as it was (a test
-    /// finds its values and its number of changes so).
+    /// Returns a state with a copy of each value that it finds, by ascending index. It shows nothing while the number
+    /// of changes is 0: each add, replace, remove and recovery counts its change as its last step. The pass has this
+    /// state from now on (`update_state`).
     ///
-    /// It asks for memory twice, before its first atomic step, and only then may it refuse (no clause says so). At most
-    /// 1 and for each index 2 + `T::WORDS` atomic steps where nobody else steps in between; else it may try again for
-    /// as long as others step. After `get_state` of the Rust crate.
+    /// `NoMemory` if a state has no memory: no atomic step was taken.
+    ///
+    /// Alone at most 1 and for each index 2 + `T::WORDS` atomic steps. After `get_state` of the Rust crate.
     pub fn get_state(
         &self,
         rt: &impl Wait,
@@ -89,25 +87,12 @@ impl<T: Words> Container<T> {
         Ok(state)
     }
 
-    /// Brings a state of this container up to date. False where no add, replace, remove or recovery has counted a
-    /// change since the look ended that brought the state up to date last; the state then stays as it is. True where one
-    /// has since that look began, also where all values are the same as before (both `met`, of the state that the pass
-    /// has): the state then shows at each index what stood there when the call came to it (tests say so, no clause does). A change that is counted while it goes on is told by the
-    /// next call as well, though its value may be shown by then.
+    /// Brings a state of this container up to date, and returns whether a change was counted since the look before.
+    /// True if since it began, even to the same value; false, and the state stays, if none since it ended. The count
+    /// wraps at 2^64: a full round reads as none.
     ///
-    /// Of the state that the pass has it is a call of the history, which copies at most one value at each index,
-    /// ascending, where the answer is true, and else nothing. The pass has the state then, too, and its party has copied
-    /// each value that the state shows from its index. Of any other state, as of one that another pass has got, it is
-    /// none, and leaves what the pass knows, but for how many steps it has counted; a find that rests goes on resting.
-    ///
-    /// The number of changes has 64 bits and wraps, as that of each value does: where it has come round to the one that
-    /// the state has seen the answer is false. A state of another container with the same number and capacity is taken
-    /// for one of this container, which no call can tell: at an index where both have counted as many changes it goes
-    /// on to show the value of the other. That containers have different numbers is the caller's concern.
-    ///
-    /// It takes no memory. At most 1 atomic step and for each index 2 + `T::WORDS` where nobody else steps in between,
-    /// 1 where the answer is false; else it may try again for as long as others step. After `update_state` of the Rust
-    /// crate.
+    /// No memory. Of the pass's state alone at most 1 and for each index 2 + `T::WORDS` steps; a false takes 1 (tests).
+    /// After `update_state` of the Rust crate.
     pub fn update_state(
         &self,
         rt: &impl Wait,
@@ -132,7 +117,9 @@ impl<T: Words> Container<T> {
         bring_up::<T, Brand>(&mut pass.token.seated, rt, state, pass.token.capacity)
     }
 
-    /// Whether it is a state of this container: of its `id` and its capacity. No atomic step. This project's own.
+    /// Returns whether it is a state of this container, by its `id` and its capacity. A state of another one with the
+    /// same two is taken for one of this, which no call can tell: at an index where both have counted as many changes
+    /// it goes on to show the value of the other. No atomic step. This project's own.
     pub fn is_state_of(&self, state: &ContainerState<T>) -> bool
         ensures { IsTrue result ↔ IsStateOf self.now state.now }
     {

@@ -4,11 +4,11 @@ ghost use Rattle.steps.specs.declared.enums.UniqueIndexCreationError.TheVariants
 ghost use Rattle.history.specs.Views.{first_view};
 ghost use Rattle.lock_free_owners.specs.Container.Names.{view, number_of, capacity_of, IsPassOf, container_refusal};
 
+use super::rule::ContainerRule;
 use super::token::Held;
 use super::{Container, Pass};
-use atomic_table::Table;
+use history::view::View;
 use std::alloc::{AllocError, Global};
-use std::sync::Arc;
 use steps::container::layout::total_words;
 use steps::enums::{UniqueIndexCreationError, capacity_refusal};
 use steps::indices::robust::parts::{EMPTY, FIRST_CELL};
@@ -32,16 +32,14 @@ fn open<T: Words>(
     words.push_reserved(0u64);
     words.resize(FIRST_CELL + capacity as usize, EMPTY)?;
     words.resize(total + 1, 0)?;
-    let (table, seat) = Table::of_words(alloc, words.as_slice(), &(capacity as u64))?;
-    let table = Arc::new(alloc, table)?;
-    let shared = Arc::try_clone(&table)?;
-    let seated = Seated {
-        seat,
-        table: shared,
-    };
+    let (home, seated) = Seated::<View<T>, u64, ContainerRule<T>>::open(
+        alloc,
+        words.as_slice(),
+        &(capacity as u64),
+    )?;
     Ok((
         Container {
-            table,
+            home,
             capacity,
             id,
             alloc,
@@ -53,13 +51,12 @@ fn open<T: Words>(
 }
 
 impl<T: Words> Container<T> {
-    /// A container with the number `id` of values at the indices below `capacity`, where no value stands, and its first
-    /// pass, which has the whole share and has seen nothing: the history is empty. That no other container has this `id`
-    /// is the caller's concern: handles and states tell containers apart by it.
+    /// Makes a container with the number `id` and no value at the indices below `capacity`, and its first pass. That no
+    /// other container has this `id` is the caller's concern: handles and states tell containers apart by it.
     ///
     /// Refused are, in this order, a capacity above 2^32 - 1 (`ProvidedCapacityGreaterThanMaxCapacity`), 0
-    /// (`ProvidedCapacityIsZero`) and memory (`NoMemory`). This project's own, after `Container` of the Rust crate, which
-    /// is made in memory that it is given and takes its number from a global counter.
+    /// (`ProvidedCapacityIsZero`) and memory (`NoMemory`). This project's own, after `Container` of the Rust crate,
+    /// which takes memory that it is given and a number from a global counter.
     pub fn new(
         alloc: Global,
         capacity: usize,

@@ -10,14 +10,12 @@ use super::Pass;
 use super::drives::{Glance, Settle};
 use super::token::Held;
 use history::plays::{Both, Cut};
-use std::sync::Arc;
 use steps::words::Words;
-use threaded::driver::seated::Seated;
 
 impl<T: Words> Pass<T> {
-    /// A new pass of the same container, which has seen the same and made nothing; this one keeps all that it made, and
-    /// each has half of the share; the state that it has stays its. None, and nothing changes, where no further pass can be counted (no clause says
-    /// when). No step on a word of the container. This project's own.
+    /// Makes a new pass of the same container, which has seen the same and made nothing. This one keeps all that it
+    /// made, and the state that it has; each has half of the share. At most one step. None, and nothing changes, where
+    /// no further pass can be counted (no clause says when). This project's own.
     pub fn split(&mut self) -> Option<Pass<T>>
         ensures container { container_of self.new ≡ container_of self.old }
         ensures new { IfSome result (λ p. container_of p ≡ container_of self.old) }
@@ -28,21 +26,18 @@ impl<T: Words> Pass<T> {
         ensures none { IfNone result (view self.new ≡ view self.old) }
         ensures steps { TakesAtMost 1 (view self.old) (view self.new) }
     {
-        let seated = &mut self.token.seated;
-        let Ok(table) = Arc::try_clone(&seated.table) else {
-            return None;
-        };
-        let seat = seated.table.shared.split_seat::<Cut>(&mut seated.seat);
+        let seated = self.token.seated.split::<Cut>()?;
         Some(Pass {
             token: Held {
-                seated: Seated { seat, table },
+                seated,
                 capacity: self.token.capacity,
             },
         })
     }
 
-    /// Takes in what the other pass of the container has made and has seen, with its share. Where the last call of the
-    /// other one rests it ends first. The state that this one has stays its; the other's is no longer a pass's. Two loads. This project's own.
+    /// Takes in what the other pass of the container has made and has seen, with its share. Three steps: a load by the
+    /// other one, with which its last call ends if it rests, and at most two that this one counts (`steps`). The state that
+    /// this one has stays its; the other's is no longer a pass's. This project's own.
     pub fn join(&mut self, other: Pass<T>)
         requires { container_of other ≡ container_of self.old }
         ensures container { container_of self.new ≡ container_of self.old }
@@ -50,16 +45,16 @@ impl<T: Words> Pass<T> {
         ensures keeps { KeepsState (view self.old) (view self.new) }
         ensures history { HasHistory self.new }
         ensures all { MissesNothing self.new }
+        ensures steps { TakesAtMost 2 (view self.old) (view self.new) }
     {
         let Pass { token } = other;
-        let Held { seated: other, .. } = token;
-        let Seated { mut seat, .. } = other;
+        let Held {
+            seated: mut other,
+            ..
+        } = token;
+        let _ = other.look::<Settle>(0);
         let seated = &mut self.token.seated;
-        let _ = seated.table.shared.load::<Settle>(&mut seat, 0);
-        seated
-            .table
-            .shared
-            .join_seat::<Both>(&mut seated.seat, seat);
-        let _ = seated.table.shared.load::<Glance>(&mut seated.seat, 0);
+        seated.join::<Both>(other);
+        let _ = seated.look::<Glance>(0);
     }
 }

@@ -1,4 +1,7 @@
-//! The call on a container that frees the indices of a dead owner.
+//! The call that frees the indices of an owner who is dead for good, which is the caller's concern. It asks nothing of
+//! a container that is locked at first, and ends if it meets the lock after a free. In mode `LockIfLastIndex` it locks
+//! the container if no index has an owner after a free. It always counts as a change. That it asks about values of the
+//! owner alone is tested; `laws` says when each copy is whole.
 ghost use Rattle.std.specs.Prelude.{◌≡◌, false, []};
 ghost use Rattle.steps.specs.Container.Recover.{first_recover};
 ghost use Rattle.steps.specs.Copied.{value_in};
@@ -131,25 +134,12 @@ fn free_all<T: Words, F: FnMut(T) -> bool>(
 }
 
 impl<T: Words> Container<T> {
-    /// Asks `predicate` about a copy of each value of `owner`, by ascending index, at most once for each, and frees the
-    /// index where the answer is true and `owner` still has it. An index of `owner` without a value is freed without a
-    /// question. In mode `LockIfLastIndex` the container is locked where no index has an owner after one was freed,
-    /// unless the generation counter is at its end, where nothing locks any more. `Unlocked`, or `Locked` where the
-    /// container is locked, which leaves the lock seen.
+    /// Asks `predicate` about a copy of each value of a dead `owner`, and frees the index if told to. By ascending
+    /// index, if `owner` still has it; one without a value is freed unasked.
     ///
-    /// Where the container is locked at the beginning `predicate` is not called: so where the pass has seen the lock. A
-    /// recovery that meets the lock right after it has freed an index comes to no further index, counts its change and
-    /// answers `Locked`. Whatever it answers, it counts as a change for `update_state`. That `owner` is dead for good is the
-    /// caller's concern; nobody acts for it from then on. It is a call of the history, in which it copied and asked about
-    /// just what `predicate` was asked, in turn, and was told to free, and freed, just indices about which it said yes,
-    /// or at which it found no value. Where it answers `Unlocked` it asked about each index that `owner` had through the
-    /// whole call, but those at which it found no value (`answered`); in a well-formed faithful history of few turns each copy
-    /// is whole (`laws`). That only values of `owner` are asked about is tested. Where a remove stopped before it hid the
-    /// value, and `owner` was given the index, it is the value of an earlier owner.
-    ///
-    /// At most 3 atomic steps and for each index 7 + `T::WORDS` where nobody else steps in between, in mode
-    /// `LockIfLastIndex` for each index that is freed as many more as the capacity and 3; else it may try again for as
-    /// long as others step. It takes no memory. After `recover` of the Rust crate.
+    /// `Locked` if the container is locked; else `Unlocked`: it came to each index that he had through the call. Alone
+    /// at most 3 and for each index 7 + `T::WORDS` steps, in mode `LockIfLastIndex` capacity + 3 more for each. After
+    /// `recover` of the Rust crate.
     pub fn recover<F: FnMut(T) -> bool>(
         &self,
         rt: &impl Wait,

@@ -2,9 +2,8 @@
 ghost use Rattle.model.specs.Coding.{coding_of};
 ghost use Rattle.model.specs.declared.turn.Kind.TheVariants as kinds;
 
-use atomic_table::{Table, TableRule};
+use atomic_table::TableRule;
 use history::view::View;
-use std::alloc::Global;
 use std::marker::PhantomData;
 use steps::words::Words;
 use threaded::driver::rule::Rule;
@@ -36,7 +35,5 @@ impl<T: Words> Rule<View<T>, u64> for ContainerRule<T> {
 
     ghost asked = { λ v. v.asked };
 }
-
-pub type Board<T> = Table<(), View<T>, u64, ContainerRule<T>, Global>;
 
 pub type Seat<T> = Seated<View<T>, u64, ContainerRule<T>>;

@@ -1,7 +1,7 @@
 //! A seat at a container's table.
 ghost use Rattle.std.specs.Prelude.{◌≡◌, ◌<◌, ◌+◌, []};
-ghost use Rattle.std.specs.Arc.{arc_value};
 ghost use Rattle.steps.specs.Container.Layout.{total_words};
+ghost use Rattle.threaded.specs.Seats.{key_of};
 ghost use Rattle.lock_free_owners.specs.Container.Idle.{IsIdle};
 
 use super::rule::ContainerRule;
@@ -10,14 +10,14 @@ use history::view::View;
 use steps::words::Words;
 use threaded::driver::seated::Seated;
 
-/// What a caller steps with: a seat with no call under way, but for a find that an answer has ended, which rests at its
-/// question. Its rule is a parameter: only so can its size be told by `T::WORDS`.
+/// A seat with no call under way, but for a find that rests. That one was ended by an answer to its question. Its rule
+/// is a parameter: only so can its size be told by `T::WORDS`.
 #[derive(Drop)]
 pub struct Held<T: Words, Q: TableRule<(), View<T>, u64>> {
     pub seated: Seated<View<T>, u64, Q>,
     pub capacity: u32,
     ghost sized: { seated.seat.table_id.words ≡ total_words capacity T.WORDS + 1 },
-    ghost keyed: { (arc_value seated.table).shared.key ≡ capacity },
+    ghost keyed: { key_of seated ≡ capacity },
     ghost known: { seated.seat.me.0.capacity ≡ capacity },
     ghost places: { 0 < capacity },
     ghost idle: { IsIdle seated.seat.me.0 },

@@ -1,4 +1,7 @@
-//! The call on a container that comes to the values of an owner.
+//! The call that comes to the values of an owner. If an answer ends it, a `Stop` or the one at the last index, it
+//! rests: its end is an event of the history before anything else that the pass does, with the first step of its next
+//! call or of a join. Each copy is whole in a well-formed faithful history of few turns (`laws`), and of an earlier
+//! owner if his remove stopped before it hid the value.
 ghost use Rattle.std.specs.Prelude.{◌≡◌, ◌<◌, ℕ, List, []};
 ghost use Rattle.steps.specs.Container.Find.{first_find};
 ghost use Rattle.steps.specs.Copied.{value_in};
@@ -11,6 +14,7 @@ ghost use Rattle.history.specs.Passes.{Goes};
 ghost use Rattle.lock_free_owners.specs.Container.Callable.{Visit, TakesVisits, HasFound};
 ghost use Rattle.lock_free_owners.specs.Container.FindTold.{HasSearched};
 ghost use Rattle.lock_free_owners.specs.Container.FindTurns.{FindAt, FindMay, FindGoes, FindTurns, IsAtWord, IsLeft};
+ghost use Rattle.lock_free_owners.specs.Container.Steps.{FindTakes};
 ghost use Rattle.lock_free_owners.specs.Container.Turns.{IsBoard};
 ghost use Rattle.lock_free_owners.specs.Container.Visits.{IsNamed, FindAsks, FindMoves};
 ghost use Rattle.lock_free_owners.specs.Container.Names.{view, code_of, container_of, capacity_of, IsPassOf, IsHandleFor};
@@ -106,6 +110,7 @@ fn find_all<T: Words, F: FnMut(T, ContainerHandle) -> CallbackProgression>(
         (seen seat.old) (seen seat.new)
         × HasFound (λ p x h a q. F.step p x h a q) capacity (IsNamed capacity owner id) visit.old
         result bound visits visit.new }
+    ensures steps { FindTakes (coding_of T.WORDS T.words_of T.value_of) capacity (seen seat.old) (seen seat.new) }
 {
     let mut room = Copied { words: [0; 128] };
     let mut call = Find::new(capacity);
@@ -119,22 +124,11 @@ fn find_all<T: Words, F: FnMut(T, ContainerHandle) -> CallbackProgression>(
 }
 
 impl<T: Words> Container<T> {
-    /// Comes to the indices of `owner`, ascending, each at most once and below the capacity, and calls `visit` with a
-    /// copy of the value that stands there and the handle that names it, until it says `Stop`: how many indices it came
-    /// to, the one on which it was told to stop among them. An index without a value, or whose value has changed while
-    /// it was copied, counts too, but `visit` is not called there. Up to the one on which it is told to stop, or of all, it
-    /// counts each that `owner` has through the whole call, and none that he has at no moment of it. Told to go on at
-    /// each, it has ended in the history, or rests where it asked about the last index.
+    /// Calls `visit` with a copy of each value of `owner` that it finds, and its handle, until it returns `Stop`.
+    /// Returns how many indices it came to: up to a `Stop` each that he has through the whole call, and none that he
+    /// has at no moment. One without a value, or whose value changes meanwhile, counts without a visit.
     ///
-    /// It is a call of the history, in which it copied just what `visit` was called with, in turn; in a well-formed faithful
-    /// history of few turns each copy is whole (`laws`). A find that an answer ends, a `Stop` or the one at the last
-    /// index, rests: its end is an event of the history before anything else that the pass does, with the first step of
-    /// its next call, or once another pass takes it in.
-    ///
-    /// It counts also the indices whose add met the lock, since they keep their owner. Each value may have been removed
-    /// by the time that `visit` is called with it. Where a remove stopped before it hid the value, and the index was
-    /// given to `owner`, it is the value of an earlier owner. At most 3 + `T::WORDS` atomic steps for each index. It
-    /// takes no memory. After `find` of the Rust crate, which hands out a pointer to the value.
+    /// At most 3 + `T::WORDS` atomic steps for each index. After `find` of the Rust crate, which hands out pointers.
     pub fn find<F: FnMut(T, ContainerHandle) -> CallbackProgression>(
         &self,
         owner: OwnerId,
@@ -153,6 +147,7 @@ impl<T: Words> Container<T> {
             (view pass.old) (view pass.new)
             × HasFound (λ p x h a q. F.step p x h a q) (capacity_of self.now)
             (IsHandleFor self.now owner) visit.old result bound visits visit.new }
+        ensures steps { FindTakes (code_of pass.old) (capacity_of self.now) (view pass.old) (view pass.new) }
     {
         find_all(
             &mut pass.token.seated,

@@ -1,4 +1,4 @@
-//! The loop of a recovery on a set over the cells: their loads, and the questions about the owners found there.
+//! The loop of a recovery on a set over the cells. It loads them, and asks about the owners that it finds there.
 ghost use Rattle.std.specs.Prelude.{◌≡◌, ◌+◌, ◌<◌, ◌≤◌, ℕ, Bool};
 ghost use Rattle.steps.specs.Indices.Robust.Parts.{empty};
 ghost use Rattle.steps.specs.Indices.Robust.Recover.{recover_after, recover_comes_to};
@@ -17,7 +17,7 @@ ghost use Rattle.lock_free_owners.specs.Robust.Recovering.{MayAsk, LeadsOn};
 ghost use Rattle.lock_free_owners.specs.Robust.Turns.{IsBoard, RecoverStands, RecoverGoes};
 
 use super::OwnerId;
-use super::rule::{RobustRule, Seat};
+use super::rule::Seat;
 use history::view::View;
 use std::marker::Brand;
 use steps::ask::After;
@@ -25,7 +25,6 @@ use steps::indices::enums::{ReleaseMode, ReleaseState};
 use steps::indices::robust::parts::FIRST_CELL;
 use steps::indices::robust::recover::{Recover, RecoverStage};
 use steps::routine::Routine;
-use threaded::driver::drive::Says;
 use threaded::driver::rule::Tells;
 
 /// Loads a cell, for a call that has come to it. What that tells is picked where it is called.
@@ -39,17 +38,15 @@ fn load_for<M: Tells<View<u64>>>(
     requires within { cell < _capacity }
     requires owes { OwesAsk (λ (v : View ℕ). v.asked) (IsMachine one_word kinds.Robust (key_of seat.old))
         (table_of seat.old).words (table_of seat.old).slots seat.old.seat.id M.told (1 + cell) Load seat.old.seat.me }
+    requires capacity { (v : View ℕ) (n : ℕ) (w : View ℕ) → M.told v n w → w.capacity ≡ v.capacity }
     ensures same { IsSame seat.old seat.new }
     ensures told { M.told (seen seat.old) result (seen seat.new) }
 {
-    let table = &seat.table;
-    table
-        .shared
-        .load::<Says<M, u64, RobustRule>>(&mut seat.seat, FIRST_CELL + cell)
+    seat.look::<M>(FIRST_CELL + cell)
 }
 
-/// Takes the step of a call that has come to this cell, but for what the call makes of what it finds there. An index is a
-/// `usize` here, so that no turn of a loop has to widen it.
+/// Takes the step of a call that has come to this cell, but for what the call makes of it. An index is a `usize` here,
+/// so that no turn of a loop has to widen it.
 #[inline(always)]
 fn load_cell(seat: &mut Seat, capacity: u32, cell: usize, mode: ReleaseMode) -> u64
     requires board { IsBoard seat.old }
@@ -64,8 +61,8 @@ fn load_cell(seat: &mut Seat, capacity: u32, cell: usize, mode: ReleaseMode) -> 
     load_for::<Brand>(seat, capacity, cell, mode)
 }
 
-/// Takes the steps of the call from this cell on, past those without an owner, and past those about whose owner the first
-/// closure says no. Their loop keeps the index alone, and makes a call of it where it ends. S is the type of the
+/// Takes the steps of the call from this cell on. It passes cells without an owner, and those about whose owner the
+/// first closure says no. Their loop keeps the index alone, and makes a call of it where it ends. S is the type of the
 /// second closure, for what is told of the call.
 #[inline(always)]
 fn ask_over<F: FnMut(OwnerId, usize) -> bool, S: FnMut(OwnerId, usize)>(
@@ -147,7 +144,7 @@ fn past_last(capacity: u32) -> After<Recover, ReleaseState>
     })
 }
 
-/// How a call that has come to a cell goes on once it has found this there, and has heard this answer about it.
+/// Returns how a call goes on that has found this at its cell, and has heard this answer about it.
 #[inline(always)]
 fn answered(
     call: Recover,

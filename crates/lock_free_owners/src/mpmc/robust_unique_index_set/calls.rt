@@ -1,4 +1,4 @@
-//! The calls on a set by a pass that ask nothing of their caller.
+//! The calls on a set by a pass that ask nothing of their caller. No contract says that an index taken is the lowest.
 ghost use Rattle.std.specs.Prelude.{◌≡◌, ◌+◌, ◌<◌, ◌≤◌, true, Ok, Err, IfOk, IfErr, OnOk};
 ghost use Rattle.steps.specs.declared.indices.enums.UniqueIndexSetAcquireFailure.TheVariants.{IsLocked as Locked};
 ghost use Rattle.model.specs.declared.event.Answer.TheVariants.{Number, Truth};
@@ -21,15 +21,14 @@ use steps::indices::robust::looks::IsLocked;
 use steps::indices::robust::release::{GiveBack, Release};
 
 impl RobustUniqueIndexSet {
-    /// Takes an index below the capacity for `owner`, the lowest that it finds without an owner: one that had none when
-    /// the call filled it, and that nobody held when it was granted, where nobody acts for an owner who is gone nor gives
-    /// back what is not his. `OutOfIndices` where each index had an owner at a moment of the call, or the generation
-    /// counter is at its end; then nothing has changed. `IsLocked` where the set is locked.
+    /// Takes the lowest index that it finds without an owner for `owner`, and returns it.
     ///
-    /// A pass that has seen the lock gets `IsLocked`. A call that meets the lock only after it has given the index its
-    /// owner answers `IsLocked` too, and the index keeps that owner: `find` of the owner comes to it, and so may a recovery
-    /// that began before the lock. At most 3 atomic steps more than the capacity where nobody else steps in between; else
-    /// it may try again for as long as others step. After `acquire` of the Rust crate.
+    /// - `OutOfIndices`, without a change, if each index had an owner at some moment, or the generation counter is at
+    ///   its end.
+    /// - `IsLocked` if the set is locked. If it meets the lock after it has given the index its owner, the index keeps
+    ///   him, so `find` comes to it.
+    ///
+    /// Alone at most capacity + 3 atomic steps. After `acquire` of the Rust crate.
     pub fn acquire(
         &self,
         rt: &impl Wait,
@@ -53,15 +52,13 @@ impl RobustUniqueIndexSet {
         }
     }
 
-    /// Gives `index`, which is below the capacity, back for `owner`, who has it then.
-    /// `IndexIsNotOwnedByProvidedOwner` where another owner has it, or none; then nothing has changed.
+    /// Gives `index`, below the capacity, back for `owner`. It returns `Locked` only in mode `LockIfLastIndex`, if the
+    /// set is locked, by this call or an earlier one. That mode locks the set if no index has an owner by then, unless
+    /// the generation counter is at its end.
     ///
-    /// In mode `Default` the answer is `Unlocked`, also where the set is locked. In mode `LockIfLastIndex` the set is
-    /// locked where no index has an owner by then, unless the generation counter is at its end, where nothing locks any
-    /// more; `Locked` says that the set is locked, by this call or an earlier one. A pass that has seen the lock gets no
-    /// `Unlocked` in that mode. In mode `Default` 3 atomic steps where nobody else steps in between, in mode
-    /// `LockIfLastIndex` at most 6 more than the capacity; else it may try again for as long as others step. After
-    /// `release` of the Rust crate.
+    /// `IndexIsNotOwnedByProvidedOwner`, without a change, if another owner has it, or none.
+    ///
+    /// Alone at most 3 atomic steps, in mode `LockIfLastIndex` capacity + 6. After `release` of the Rust crate.
     pub fn release(
         &self,
         rt: &impl Wait,
@@ -91,13 +88,11 @@ impl RobustUniqueIndexSet {
             .drive_on::<Release, Gives>(rt, call, &given, &mut ())
     }
 
-    /// How many indices have an owner: some number of which each that had one through the whole call is among them, and
-    /// none that had one at no moment of it; at most the capacity, and 0 where the set is locked: so where the pass has
-    /// seen the lock.
+    /// Returns how many indices have an owner, or 0 if the set is locked. It counts each that has one through the whole
+    /// call, and none that has one at no moment of it. At the end of the generation counter it is the number of one
+    /// pass over the indices, whatever has changed meanwhile.
     ///
-    /// At most 2 atomic steps more than the capacity where nobody else steps in between; else it may try again for as
-    /// long as others step. Where the generation counter is at its end the number is that of one pass over the indices,
-    /// whatever has changed meanwhile. After `borrowed_indices` of the Rust crate.
+    /// Alone at most capacity + 2 atomic steps. After `borrowed_indices` of the Rust crate.
     pub fn borrowed_indices(&self, rt: &impl Wait, pass: &mut Pass) -> usize
         requires { IsPassOf self.now pass.old }
         ensures goes_on { GoesOn pass.old pass.new }
@@ -111,8 +106,8 @@ impl RobustUniqueIndexSet {
         count_all(&mut pass.seated, rt, pass.capacity)
     }
 
-    /// Whether the set is locked. True is the answer to each pass that has seen it. One atomic step. After `is_locked` of
-    /// the Rust crate.
+    /// Returns whether the set is locked. True is the answer to each pass that has seen it. At most one atomic step.
+    /// After `is_locked` of the Rust crate.
     pub fn is_locked(&self, pass: &mut Pass) -> bool
         requires { IsPassOf self.now pass.old }
         ensures goes_on { GoesOn pass.old pass.new }
@@ -125,7 +120,7 @@ impl RobustUniqueIndexSet {
             .drive::<IsLocked, LooksLocked>(IsLocked, &(), &mut ())
     }
 
-    /// The capacity that it was made with. After `capacity` of the Rust crate.
+    /// Returns the capacity that it was made with. After `capacity` of the Rust crate.
     pub fn capacity(&self) -> usize
         ensures { result ≡ capacity_of self.now }
     {

@@ -1,14 +1,12 @@
 //! What the calls and the looks say of the views at their steps.
-ghost use Rattle.std.specs.Prelude.{◌≡◌, ◌+◌, []};
 ghost use Rattle.model.specs.Coding.{one_word};
 ghost use Rattle.model.specs.declared.turn.Kind.TheVariants as kinds;
 
-use atomic_table::Play;
 use history::view::View;
 use steps::indices::robust::acquire::Acquire;
 use steps::indices::robust::looks::{BorrowedIndices, IsLocked};
 use steps::indices::robust::release::Release;
-use threaded::driver::rule::Drives;
+use threaded::driver::rule::{Drives, Tells};
 
 /// Taking an index for an owner.
 pub struct Takes;
@@ -59,20 +57,8 @@ impl Drives<View<u64>, IsLocked> for LooksLocked {
 /// A look at the whole history.
 pub struct Look;
 
-impl Play<(), View<u64>> for Look {
+impl Tells<View<u64>> for Look {
     ghost use Rattle.history.specs.Views.{LooksOnce};
 
-    ghost then = { λ step old found new.
-        LooksOnce one_word kinds.Robust old.0.capacity old.0 new.0 × (new.1 ≡ []) };
-}
-
-/// A look at the whole history and at one word.
-pub struct LookAt;
-
-impl Play<(), View<u64>> for LookAt {
-    ghost use Rattle.history.specs.Views.{LooksAt};
-
-    ghost then = { λ step old found new.
-        LooksAt one_word kinds.Robust old.0.capacity step.word old.0 found new.0
-        × (new.0.asked ≡ old.0.asked + 1) × (new.1 ≡ []) };
+    ghost told = { λ old found new. LooksOnce one_word kinds.Robust old.capacity old new };
 }

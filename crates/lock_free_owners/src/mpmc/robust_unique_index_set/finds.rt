@@ -1,4 +1,6 @@
-//! The find on a set: it comes to the indices of an owner. The loads of cells have a loop of their own.
+//! The find on a set: it comes to the indices of an owner. The loads of cells have a loop of their own. It begins with
+//! a look at the lock, which is a call of the history and marks there where the find begins; the rest of it is none. It
+//! finds also the indices whose acquire met the lock, since they keep their owner.
 ghost use Rattle.std.specs.Prelude.{◌≡◌, ◌+◌, ◌<◌, ◌≢◌, ℕ};
 ghost use Rattle.steps.specs.Indices.Robust.Find.{find_after, find_left};
 ghost use Rattle.steps.specs.Indices.Robust.Parts.{cell_word};
@@ -20,9 +22,9 @@ ghost use Rattle.lock_free_owners.specs.Robust.Told.{HasSearched};
 ghost use Rattle.lock_free_owners.specs.Robust.Turns.{IsBoard};
 ghost use Rattle.lock_free_owners.specs.RobustUniqueIndexSet.{view, capacity_of, IsPassOf, GoesOn};
 
-use super::drives::LookAt;
 use super::rule::Seat;
 use super::{CallbackProgression, OwnerId, Pass, RobustUniqueIndexSet};
+use std::marker::Brand;
 use steps::ask::After;
 use steps::indices::robust::find::{Find, FindStage};
 use steps::indices::robust::parts::FIRST_CELL;
@@ -41,9 +43,7 @@ fn look_at(seat: &mut Seat, _capacity: u32, cell: usize) -> u64
     ensures looks { LooksAt one_word kinds.Robust _capacity (cell_word cell) (seen seat.old) result (seen seat.new) }
     ensures counted { (seen seat.new).asked ≡ (seen seat.old).asked + 1 }
 {
-    seat.table
-        .shared
-        .load::<LookAt>(&mut seat.seat, FIRST_CELL + cell)
+    seat.look::<Brand>(FIRST_CELL + cell)
 }
 
 /// Takes the steps of the call that load cells, from this one on, past those without the owner. Their loop keeps the
@@ -182,15 +182,12 @@ fn find_all<F: FnMut(usize) -> CallbackProgression>(
 }
 
 impl RobustUniqueIndexSet {
-    /// Comes to the indices of `owner`, ascending, each at most once and below the capacity, and calls `visit` with
-    /// each, until it says `Stop`: how many it came to, the one on which it was told to stop among them. Each of these had
-    /// the owner at a moment of the call. Of the others, up to the one on which it was told to stop, or of all, each had
-    /// another owner or none at some moment of it: so it comes to each that has the owner through the whole call.
+    /// Calls `visit` with indices of `owner` until `visit` returns `Stop`, and returns how many it visited. They
+    /// ascend, each at most once and below the capacity. Each had the owner at a moment of the call, and each that has
+    /// him through the whole call is visited, up to a `Stop`. An index may have been given back by the time of its
+    /// visit.
     ///
-    /// It begins with a look at the lock, which is a call of the history and marks where the find begins there: these moments
-    /// come after that. The rest of it is no call of the history. It finds also the indices whose acquire met the lock, since
-    /// they keep their owner. Each index may have been given back by the time that `visit` is called with it. At most 1
-    /// atomic step more than the capacity. After `find` of the Rust crate.
+    /// At most capacity + 1 atomic steps. After `find` of the Rust crate.
     pub fn find<F: FnMut(usize) -> CallbackProgression>(
         &self,
         owner: OwnerId,

@@ -23,7 +23,7 @@ impl<const CAPACITY: usize> Deref for StaticRobustUniqueIndexSet<CAPACITY> {
 }
 
 impl<const CAPACITY: usize> StaticRobustUniqueIndexSet<CAPACITY> {
-    /// A set of the indices below CAPACITY, and its first pass, which has seen nothing.
+    /// Makes a set of the indices below CAPACITY, and its first pass, which has seen nothing.
     ///
     /// Refused are, in this order, a CAPACITY above 2^32 - 1 (`ProvidedCapacityGreaterThanMaxCapacity`), 0
     /// (`ProvidedCapacityIsZero`) and memory (`NoMemory`). After `StaticRobustUniqueIndexSet` of the Rust crate.
@@ -43,7 +43,7 @@ impl<const CAPACITY: usize> StaticRobustUniqueIndexSet<CAPACITY> {
         Ok((StaticRobustUniqueIndexSet { set }, pass))
     }
 
-    /// A set of the indices below `capacity`, and its first pass, which has seen nothing.
+    /// Makes a set of the indices below `capacity`, and its first pass, which has seen nothing.
     ///
     /// Refused are, in this order, a CAPACITY above 2^32 - 1 or a `capacity` above CAPACITY
     /// (`ProvidedCapacityGreaterThanMaxCapacity`), a `capacity` of 0 (`ProvidedCapacityIsZero`) and memory

@@ -6,8 +6,9 @@ use super::{Pass, RobustUniqueIndexSet};
 mod calls;
 mod visits;
 
-/// A set with a pass of it. Its calls are those of the set, and ask for nothing but an index below the capacity, which
-/// an `if` shows, and closures that may be called. Each thread has a handle of its own, by `split`. This project's own.
+/// A handle has a set and a pass of it. Its calls are those of the set, and ask for nothing but an index below the
+/// capacity, which an `if` shows, and closures that may be called. Each thread has a handle of its own, by `split`.
+/// This project's own.
 pub struct Handle<'a> {
     set: &'a RobustUniqueIndexSet,
     pass: Pass,

@@ -4,10 +4,10 @@ ghost use Rattle.steps.specs.declared.enums.UniqueIndexCreationError.TheVariants
 ghost use Rattle.threaded.specs.Shares.{all_shares};
 ghost use Rattle.lock_free_owners.specs.RobustUniqueIndexSet.{capacity_of, IsPassOf, history, made, share, set_refusal};
 
+use super::rule::RobustRule;
 use super::{Pass, RobustUniqueIndexSet};
-use atomic_table::Table;
+use history::view::View;
 use std::alloc::{AllocError, Global};
-use std::sync::Arc;
 use steps::enums::{UniqueIndexCreationError, capacity_refusal};
 use steps::indices::robust::parts::{EMPTY, FIRST_CELL};
 use threaded::driver::seated::Seated;
@@ -26,21 +26,19 @@ fn open(alloc: Global, capacity: u32) -> Result<(RobustUniqueIndexSet, Pass), Al
     words.push_reserved(0u64);
     words.resize(FIRST_CELL + cells, EMPTY)?;
     words.push_reserved(0);
-    let (table, seat) = Table::of_words(alloc, words.as_slice(), &(capacity as u64))?;
-    let table = Arc::new(alloc, table)?;
-    let shared = Arc::try_clone(&table)?;
-    let seated = Seated {
-        seat,
-        table: shared,
-    };
+    let (home, seated) = Seated::<View<u64>, u64, RobustRule>::open(
+        alloc,
+        words.as_slice(),
+        &(capacity as u64),
+    )?;
     Ok((
-        RobustUniqueIndexSet { table, capacity },
+        RobustUniqueIndexSet { home, capacity },
         Pass { seated, capacity },
     ))
 }
 
 impl RobustUniqueIndexSet {
-    /// A set of the indices below `capacity`, none of which is out, and its first pass, which has the whole share and has
+    /// Makes a set of the indices below `capacity`, all free, and its first pass. The pass has the whole share and has
     /// seen nothing: the history is empty.
     ///
     /// Refused are, in this order, a capacity above 2^32 - 1 (`ProvidedCapacityGreaterThanMaxCapacity`), 0

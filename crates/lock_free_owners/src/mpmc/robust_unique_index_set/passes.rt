@@ -7,13 +7,11 @@ ghost use Rattle.lock_free_owners.specs.RobustUniqueIndexSet.{set_of, view, HasH
 use super::Pass;
 use super::drives::Look;
 use history::plays::{Both, Cut};
-use std::sync::Arc;
-use threaded::driver::seated::Seated;
 
 impl Pass {
-    /// A new pass of the same set, which has seen the same and made nothing; this one keeps all that it made, and each has
-    /// half of the share. None, and nothing changes, where no further pass can be counted (no clause says when). This
-    /// project's own.
+    /// Makes a new pass of the same set, which has seen the same and made nothing. This one keeps all that it made, and
+    /// each has half of the share. None, and nothing changes, where no further pass can be counted (no clause says
+    /// when). At most one step. This project's own.
     pub fn split(&mut self) -> Option<Pass>
         ensures set { set_of self.new ≡ set_of self.old }
         ensures new { IfSome result (λ p. set_of p ≡ set_of self.old) }
@@ -21,13 +19,9 @@ impl Pass {
         ensures none { IfNone result (view self.new ≡ view self.old) }
         ensures steps { TakesAtMost 1 (view self.old) (view self.new) }
     {
-        let seated = &mut self.seated;
-        let Ok(table) = Arc::try_clone(&seated.table) else {
-            return None;
-        };
-        let seat = seated.table.shared.split_seat::<Cut>(&mut seated.seat);
+        let seated = self.seated.split::<Cut>()?;
         Some(Pass {
-            seated: Seated { seat, table },
+            seated,
             capacity: self.capacity,
         })
     }
@@ -45,12 +39,7 @@ impl Pass {
             seated: other,
             capacity: _,
         } = other;
-        let Seated { seat, .. } = other;
-        let seated = &mut self.seated;
-        seated
-            .table
-            .shared
-            .join_seat::<Both>(&mut seated.seat, seat);
-        let _ = seated.table.shared.load::<Look>(&mut seated.seat, 0);
+        self.seated.join::<Both>(other);
+        let _ = self.seated.look::<Look>(0);
     }
 }

@@ -1,4 +1,7 @@
-//! The recovery on a set: it frees the indices of dead owners.
+//! The recovery on a set: it frees indices of owners who are dead for good, which is the caller's concern. It asks
+//! nothing of a set that is locked at the beginning. If it meets the lock right after it has freed an index, and told
+//! of it, it comes to no further index. In mode `LockIfLastIndex` it locks the set if no index has an owner after one
+//! was freed. Its questions, answers and frees stand in the history.
 ghost use Rattle.std.specs.Prelude.{◌≡◌, ℕ, false, None, List, [], IsTrue, IsFalse};
 ghost use Rattle.steps.specs.Indices.Robust.Recover.{first_recover, recover_after};
 ghost use Rattle.model.specs.declared.event.Answer.TheVariants.{State};
@@ -53,8 +56,8 @@ fn look_again(seat: &mut Seat, call: Recover, mode: ReleaseMode) -> After<Recove
     }
 }
 
-/// Takes steps of the call, or asks the first closure about the owner and the index that it has come to. After the step
-/// that frees an index it tells the second closure.
+/// Takes steps of the call, or asks the first closure about what it has come to. After the step that frees an index it
+/// tells the second closure.
 #[inline(always)]
 fn recover_next<F: FnMut(OwnerId, usize) -> bool, S: FnMut(OwnerId, usize)>(
     seat: &mut Seat,
@@ -183,21 +186,12 @@ fn tell_where<S: FnMut(OwnerId, usize)>(recovered: &mut S, freed: bool, owner: O
 }
 
 impl RobustUniqueIndexSet {
-    /// Asks `predicate` about each index that has an owner, ascending, each at most once and below the capacity, and
-    /// frees the index where the answer is true and that owner still has it. Then it tells `recover_success` of the
-    /// owner and the index: of just those that it freed. The history has these questions, answers and frees, and no other
-    /// of the call. In mode `LockIfLastIndex` the set is locked where no index has an owner after one was freed, unless the
-    /// generation counter is at its end, where nothing locks any more. `Unlocked`, or `Locked` where the set is locked.
+    /// Asks `predicate` about each index that has an owner, and frees it if the answer is true. Indices ascend, each at
+    /// most once. If that owner still has the index it is freed, and `recover_success` called.
     ///
-    /// Where the set is locked at the beginning neither closure is called: so where the pass has seen the lock. A recovery
-    /// that meets the lock right after it has freed an index, and told of it, answers `Locked` at once, and comes to no
-    /// further index. That the owner of an index is dead for good is the concern of who says true; nobody acts for that
-    /// owner from then on. One that answers `Unlocked` has asked about each index that one owner had through the whole
-    /// call; where nobody acts for an owner who is gone, no index that it was told to free has that owner.
-    ///
-    /// At most 2 atomic steps more than 4 times the capacity where nobody else steps in between, in mode
-    /// `LockIfLastIndex` for each index that is freed as many more as the capacity and 3; else it may try again for as
-    /// long as others step. After `recover` of the Rust crate.
+    /// `Locked` if the set is locked; else `Unlocked`: each index with one owner throughout was asked about. Alone at
+    /// most 2 + 4·capacity steps, in mode `LockIfLastIndex` 2 + capacity·(capacity + 7). After `recover` of the Rust
+    /// crate.
     pub fn recover<F: FnMut(OwnerId, usize) -> bool, S: FnMut(OwnerId, usize)>(
         &self,
         rt: &impl Wait,

@@ -2,9 +2,8 @@
 ghost use Rattle.model.specs.Coding.{one_word};
 ghost use Rattle.model.specs.declared.turn.Kind.TheVariants as kinds;
 
-use atomic_table::{Table, TableRule};
+use atomic_table::TableRule;
 use history::view::View;
-use std::alloc::Global;
 use threaded::driver::rule::Rule;
 use threaded::driver::seated::Seated;
 
@@ -32,7 +31,5 @@ impl Rule<View<u64>, u64> for RobustRule {
 
     ghost asked = { λ v. v.asked };
 }
-
-pub type Board = Table<(), View<u64>, u64, RobustRule, Global>;
 
 pub type Seat = Seated<View<u64>, u64, RobustRule>;

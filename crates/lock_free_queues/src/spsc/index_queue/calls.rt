@@ -18,7 +18,7 @@ use steps::queues::ring::{Pop, Push};
 use steps::routine::Routine;
 
 impl Held<Numbers, u64, RingRule<Numbers, u64>> {
-    /// Appends a number: true, or false where the queue is full or its write position at its end.
+    /// Appends a number and returns true, or false where the queue is full or its write position at its end.
     pub fn push(&mut self, value: u64) -> bool
         requires { HasRole roles.Producer (token_view self.old).made }
         ensures same { IsSameQueue self.old self.new }
@@ -38,7 +38,7 @@ impl Held<Numbers, u64, RingRule<Numbers, u64>> {
         Push::<u64>::answer(end, &value, &())
     }
 
-    /// Takes the oldest number, or None where the queue is empty.
+    /// Takes the oldest number and returns it, or returns None where the queue is empty.
     pub fn pop(&mut self) -> Option<u64>
         requires { HasRole roles.Consumer (token_view self.old).made }
         ensures same { IsSameQueue self.old self.new }

@@ -9,8 +9,8 @@ ghost use Rattle.lock_free_queues.specs.Queues.Told.{HasPushed, HasPublished, Ha
 use super::{Consumer, Producer};
 
 impl<'a> Producer<'a> {
-    /// Appends a number: true, or false where the queue is full or its write position at u64::MAX. At most 4 atomic
-    /// steps. After `Producer::push` of the Rust crate.
+    /// Appends a number and returns true, or false if the queue is full or its write position u64::MAX. At most 4
+    /// atomic steps. After `Producer::push` of the Rust crate.
     pub fn push(&mut self, value: u64) -> bool
         ensures queue { producer_queue self.new ≡ producer_queue self.old }
         ensures goes { GoesOn (producer_queue self.old).capacity (producer_view self.old) (producer_view self.new) }
@@ -27,8 +27,8 @@ impl<'a> Producer<'a> {
 }
 
 impl<'a> Consumer<'a> {
-    /// Takes the oldest number, or None where the queue is empty. At most 4 atomic steps. After `Consumer::pop` of the
-    /// Rust crate.
+    /// Takes the oldest number and returns it, or returns None where the queue is empty. At most 4 atomic steps. After
+    /// `Consumer::pop` of the Rust crate.
     pub fn pop(&mut self) -> Option<u64>
         ensures queue { consumer_queue self.new ≡ consumer_queue self.old }
         ensures goes { GoesOn (consumer_queue self.old).capacity (consumer_view self.old) (consumer_view self.new) }

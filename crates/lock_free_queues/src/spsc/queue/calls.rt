@@ -17,7 +17,7 @@ use steps::routine::Routine;
 use steps::words::Words;
 
 impl<T: Words> Held<Values, T, RingRule<Values, T>> {
-    /// Appends a value: true, or false where the queue is full or its write position at its end.
+    /// Appends a value and returns true, or false where the queue is full or its write position at its end.
     pub fn push(&mut self, value: &T) -> bool
         requires { HasRole roles.Producer (token_view self.old).made }
         ensures same { IsSameQueue self.old self.new }

@@ -11,7 +11,7 @@ use super::{Consumer, Producer};
 use steps::words::Words;
 
 impl<'a, T: Words> Producer<'a, T> {
-    /// Appends a value: true, or false where the queue is full or its write position at u64::MAX. At most 3 +
+    /// Appends a value and returns true, or false if the queue is full or its write position u64::MAX. At most 3 +
     /// `T::WORDS` atomic steps. After `Producer::push` of the Rust crate.
     pub fn push(&mut self, value: &T) -> bool
         ensures queue { producer_queue self.new ≡ producer_queue self.old }
@@ -32,8 +32,8 @@ impl<'a, T: Words> Producer<'a, T> {
 }
 
 impl<'a, T: Words> Consumer<'a, T> {
-    /// Takes the oldest value, or None where the queue is empty. At most 3 + `T::WORDS` atomic steps. After
-    /// `Consumer::pop` of the Rust crate.
+    /// Takes the oldest value and returns it, or returns None where the queue is empty. At most 3 + `T::WORDS` atomic
+    /// steps. After `Consumer::pop` of the Rust crate.
     pub fn pop(&mut self) -> Option<T>
         ensures queue { consumer_queue self.new ≡ consumer_queue self.old }
         ensures goes { GoesOn (coding_of T.WORDS T.words_of T.value_of) (consumer_queue self.old).capacity

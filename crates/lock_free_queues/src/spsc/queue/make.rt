@@ -67,7 +67,7 @@ impl<T: Words> Ring<T> {
 }
 
 impl<T: Words, const CAPACITY: usize> Queue<T, CAPACITY> {
-    /// An empty queue and its first pass, which has the whole share and has seen nothing: the history is empty.
+    /// Makes an empty queue and its first pass, which has the whole share and has seen nothing. The history is empty.
     ///
     /// Refused are, in this order, a CAPACITY above 2^32 - 1 (`ProvidedCapacityGreaterThanMaxCapacity`) and memory
     /// (`NoMemory`). After `Queue::new` of the Rust crate.
@@ -80,8 +80,9 @@ impl<T: Words, const CAPACITY: usize> Queue<T, CAPACITY> {
         Queue::<T, CAPACITY>::new_at(alloc, 0)
     }
 
-    /// The same with both positions at `position`, as after so many pushes and pops of the value that words of zeros
-    /// make, which its history begins with; without capacity there are none. This project's own.
+    /// Makes an empty queue with both positions at `position`, and its first pass. Its history begins with so many
+    /// pushes and pops of the value that words of zeros make; without capacity there are none. Refused as `new`. This
+    /// project's own.
     pub fn new_at(
         alloc: Global,
         position: u64,

@@ -19,7 +19,7 @@ use steps::routine::Routine;
 use steps::words::Words;
 
 impl<T: Words> Held<Values, T, RingRule<Values, T>> {
-    /// Takes the oldest value, or None where the queue is empty.
+    /// Takes the oldest value and returns it, or returns None where the queue is empty.
     pub fn pop(&mut self) -> Option<T>
         requires { HasRole roles.Consumer (token_view self.old).made }
         ensures same { IsSameQueue self.old self.new }
@@ -39,7 +39,7 @@ impl<T: Words> Held<Values, T, RingRule<Values, T>> {
         }
     }
 
-    /// The same by way of this room.
+    /// Pops by way of this room.
     #[inline(always)]
     pub fn pop_by<R: Room<T> + Drop>(&mut self, room: R) -> Option<T>
         requires role { HasRole roles.Consumer (token_view self.old).made }

@@ -14,7 +14,7 @@ use steps::queues::roles::{AcquireRole, ReleaseRole};
 use steps::words::Words;
 
 impl<E: Kind, T: Words> Held<E, T, RingRule<E, T>> {
-    /// Takes a role: true where it was free.
+    /// Takes a role, and returns whether it was free.
     pub fn take<R: Side>(&mut self) -> bool
         ensures same { IsSameQueue self.old self.new }
         ensures acquired { HasAcquired R.ROLE result (token_view self.old) (token_view self.new) }

@@ -14,8 +14,8 @@ use super::{Consumer, Pass, Producer, Ring};
 use steps::words::Words;
 
 impl<E: Kind, T: Words> Ring<E, T> {
-    /// Takes the producer's role, or hands the pass back where another has it. One atomic step. After
-    /// `acquire_producer` of the Rust crate.
+    /// Takes the producer's role and returns its guard, or returns the pass if another has the role. At most one atomic
+    /// step. After `acquire_producer` of the Rust crate.
     pub fn acquire_producer(&self, pass: Pass<E, T>) -> Result<Producer<'_, E, T>, Pass<E, T>>
         requires { IsPassOf self.now pass }
         ensures acquired { IfOk result (λ p. (producer_queue p ≡ queue_of pass)
@@ -36,8 +36,8 @@ impl<E: Kind, T: Words> Ring<E, T> {
         }
     }
 
-    /// Takes the consumer's role, or hands the pass back where another has it. One atomic step. After
-    /// `acquire_consumer` of the Rust crate.
+    /// Takes the consumer's role and returns its guard, or returns the pass if another has the role. At most one atomic
+    /// step. After `acquire_consumer` of the Rust crate.
     pub fn acquire_consumer(&self, pass: Pass<E, T>) -> Result<Consumer<'_, E, T>, Pass<E, T>>
         requires { IsPassOf self.now pass }
         ensures acquired { IfOk result (λ c. (consumer_queue c ≡ queue_of pass)
@@ -60,7 +60,7 @@ impl<E: Kind, T: Words> Ring<E, T> {
 }
 
 impl<'a, E: Kind, T: Words> Producer<'a, E, T> {
-    /// Gives the role back and hands the pass out. One atomic step. This project's own, beside the drop.
+    /// Gives the role back and hands the pass out. At most one atomic step. This project's own, beside the drop.
     pub fn release(self) -> Pass<E, T>
         ensures queue { queue_of result ≡ producer_queue self.entry }
         ensures goes { GoesOn (coding_of T.WORDS T.words_of T.value_of) E.KIND (producer_queue self.entry).capacity
@@ -76,7 +76,7 @@ impl<'a, E: Kind, T: Words> Producer<'a, E, T> {
 }
 
 impl<'a, E: Kind, T: Words> Consumer<'a, E, T> {
-    /// Gives the role back and hands the pass out. One atomic step. This project's own, beside the drop.
+    /// Gives the role back and hands the pass out. At most one atomic step. This project's own, beside the drop.
     pub fn release(self) -> Pass<E, T>
         ensures queue { queue_of result ≡ consumer_queue self.entry }
         ensures goes { GoesOn (coding_of T.WORDS T.words_of T.value_of) E.KIND (consumer_queue self.entry).capacity

@@ -20,7 +20,7 @@ impl<E: Kind, T: Words, const CAPACITY: usize> Deref for FixedSize<E, T, CAPACIT
 }
 
 impl<E: Kind, T: Words, const CAPACITY: usize> FixedSize<E, T, CAPACITY> {
-    /// CAPACITY.
+    /// Returns CAPACITY.
     pub fn capacity(&self) -> usize
         ensures { result ≡ CAPACITY }
     {

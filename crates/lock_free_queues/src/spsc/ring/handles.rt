@@ -7,8 +7,8 @@ use steps::words::Words;
 
 mod calls;
 
-/// A queue with a pass of it. Its calls are those of the queue, and ask for nothing; `Producer` pushes and `Consumer`
-/// pops. Each thread has a handle of its own, by `split`. This project's own.
+/// A handle has a queue and a pass of it. Its calls are those of the queue, and ask for nothing; `Producer` pushes and
+/// `Consumer` pops. Each thread has a handle of its own, by `split`. This project's own.
 pub struct Handle<'a, E: Kind, T: Words> {
     ring: &'a Ring<E, T>,
     pass: Pass<E, T>,

@@ -38,7 +38,7 @@ impl<E: Kind, T: Words> Held<E, T, RingRule<E, T>> {
             .drive_on::<Len, Measures<E, W>>(rt, call, &(), &mut ())
     }
 
-    /// How many values waited at one moment of the call.
+    /// Returns how many values waited at one moment of the call.
     pub fn len(&mut self, rt: &impl Wait) -> u64
         ensures same { IsSameQueue self.old self.new }
         ensures counted { HasMeasured measures.Len (token_queue self.old).capacity (Number result)
@@ -52,7 +52,7 @@ impl<E: Kind, T: Words> Held<E, T, RingRule<E, T>> {
         self.measure::<Length>(rt)
     }
 
-    /// Whether none waited.
+    /// Returns whether none waited at one moment of the call.
     pub fn is_empty(&mut self, rt: &impl Wait) -> bool
         ensures same { IsSameQueue self.old self.new }
         ensures told { HasMeasured measures.IsEmpty (token_queue self.old).capacity (Truth result)
@@ -65,7 +65,7 @@ impl<E: Kind, T: Words> Held<E, T, RingRule<E, T>> {
         self.measure::<Emptiness>(rt) == 0
     }
 
-    /// Whether as many waited as the capacity.
+    /// Returns whether as many waited as the capacity, at one moment of the call.
     pub fn is_full(&mut self, rt: &impl Wait) -> bool
         ensures same { IsSameQueue self.old self.new }
         ensures told { HasMeasured measures.IsFull (token_queue self.old).capacity (Truth result)
@@ -80,9 +80,9 @@ impl<E: Kind, T: Words> Held<E, T, RingRule<E, T>> {
 }
 
 impl<E: Kind, T: Words> Ring<E, T> {
-    /// The number of values that waited at one moment of the call; at most the capacity, or one more in an
-    /// overflowing queue while a push is under way. Four atomic steps, and at most 4 more for each time that a position
-    /// moved between two of its loads. After `len` of the Rust crate.
+    /// Returns how many values waited at one moment of the call. At most the capacity, or one more in an overflowing
+    /// queue while a push is under way. At most 4 atomic steps, and 4 more for each change of a word of the queue by
+    /// others during the call. After `len` of the Rust crate.
     pub fn len(&self, rt: &impl Wait, pass: &mut Pass<E, T>) -> usize
         requires { IsPassOf self.now pass.old }
         ensures queue { queue_of pass.new ≡ queue_of pass.old }
@@ -98,7 +98,8 @@ impl<E: Kind, T: Words> Ring<E, T> {
         pass.token.len(rt) as usize
     }
 
-    /// Whether that number was 0. As many atomic steps. After `is_empty` of the Rust crate.
+    /// Returns whether no value waited at one moment of the call. As many atomic steps as `len`. After `is_empty` of
+    /// the Rust crate.
     pub fn is_empty(&self, rt: &impl Wait, pass: &mut Pass<E, T>) -> bool
         requires { IsPassOf self.now pass.old }
         ensures queue { queue_of pass.new ≡ queue_of pass.old }
@@ -113,7 +114,8 @@ impl<E: Kind, T: Words> Ring<E, T> {
         pass.token.is_empty(rt)
     }
 
-    /// Whether that number was the capacity. As many atomic steps. After `is_full` of the Rust crate.
+    /// Returns whether as many values as the capacity waited at one moment of the call. As many atomic steps as `len`.
+    /// After `is_full` of the Rust crate.
     pub fn is_full(&self, rt: &impl Wait, pass: &mut Pass<E, T>) -> bool
         requires { IsPassOf self.now pass.old }
         ensures queue { queue_of pass.new ≡ queue_of pass.old }
@@ -128,7 +130,7 @@ impl<E: Kind, T: Words> Ring<E, T> {
         pass.token.is_full(rt)
     }
 
-    /// The capacity that it was made with. After `capacity` of the Rust crate.
+    /// Returns the capacity that it was made with. After `capacity` of the Rust crate.
     pub fn capacity(&self) -> usize
         ensures { result ≡ capacity_of self.now }
     {
@@ -137,7 +139,7 @@ impl<E: Kind, T: Words> Ring<E, T> {
 }
 
 impl<'a, E: Kind, T: Words> Producer<'a, E, T> {
-    /// As `len` of its queue, with as many atomic steps. This project's own.
+    /// Does as `len` of its queue, in as many atomic steps. This project's own.
     pub fn len(&mut self, rt: &impl Wait) -> usize
         ensures queue { producer_queue self.new ≡ producer_queue self.old }
         ensures goes { GoesOn (coding_of T.WORDS T.words_of T.value_of) E.KIND (producer_queue self.old).capacity
@@ -152,7 +154,7 @@ impl<'a, E: Kind, T: Words> Producer<'a, E, T> {
         self.token.len(rt) as usize
     }
 
-    /// As `is_empty` of its queue, with as many atomic steps. This project's own.
+    /// Does as `is_empty` of its queue, in as many atomic steps. This project's own.
     pub fn is_empty(&mut self, rt: &impl Wait) -> bool
         ensures queue { producer_queue self.new ≡ producer_queue self.old }
         ensures goes { GoesOn (coding_of T.WORDS T.words_of T.value_of) E.KIND (producer_queue self.old).capacity
@@ -166,7 +168,7 @@ impl<'a, E: Kind, T: Words> Producer<'a, E, T> {
         self.token.is_empty(rt)
     }
 
-    /// As `is_full` of its queue, with as many atomic steps. This project's own.
+    /// Does as `is_full` of its queue, in as many atomic steps. This project's own.
     pub fn is_full(&mut self, rt: &impl Wait) -> bool
         ensures queue { producer_queue self.new ≡ producer_queue self.old }
         ensures goes { GoesOn (coding_of T.WORDS T.words_of T.value_of) E.KIND (producer_queue self.old).capacity
@@ -180,7 +182,7 @@ impl<'a, E: Kind, T: Words> Producer<'a, E, T> {
         self.token.is_full(rt)
     }
 
-    /// The capacity of its queue. This project's own.
+    /// Returns the capacity of its queue. This project's own.
     pub fn capacity(&self) -> usize
         ensures { result ≡ (producer_queue self.now).capacity }
     {
@@ -189,7 +191,7 @@ impl<'a, E: Kind, T: Words> Producer<'a, E, T> {
 }
 
 impl<'a, E: Kind, T: Words> Consumer<'a, E, T> {
-    /// As `len` of its queue, with as many atomic steps. This project's own.
+    /// Does as `len` of its queue, in as many atomic steps. This project's own.
     pub fn len(&mut self, rt: &impl Wait) -> usize
         ensures queue { consumer_queue self.new ≡ consumer_queue self.old }
         ensures goes { GoesOn (coding_of T.WORDS T.words_of T.value_of) E.KIND (consumer_queue self.old).capacity
@@ -204,7 +206,7 @@ impl<'a, E: Kind, T: Words> Consumer<'a, E, T> {
         self.token.len(rt) as usize
     }
 
-    /// As `is_empty` of its queue, with as many atomic steps. This project's own.
+    /// Does as `is_empty` of its queue, in as many atomic steps. This project's own.
     pub fn is_empty(&mut self, rt: &impl Wait) -> bool
         ensures queue { consumer_queue self.new ≡ consumer_queue self.old }
         ensures goes { GoesOn (coding_of T.WORDS T.words_of T.value_of) E.KIND (consumer_queue self.old).capacity
@@ -218,7 +220,7 @@ impl<'a, E: Kind, T: Words> Consumer<'a, E, T> {
         self.token.is_empty(rt)
     }
 
-    /// As `is_full` of its queue, with as many atomic steps. This project's own.
+    /// Does as `is_full` of its queue, in as many atomic steps. This project's own.
     pub fn is_full(&mut self, rt: &impl Wait) -> bool
         ensures queue { consumer_queue self.new ≡ consumer_queue self.old }
         ensures goes { GoesOn (coding_of T.WORDS T.words_of T.value_of) E.KIND (consumer_queue self.old).capacity
@@ -232,7 +234,7 @@ impl<'a, E: Kind, T: Words> Consumer<'a, E, T> {
         self.token.is_full(rt)
     }
 
-    /// The capacity of its queue. This project's own.
+    /// Returns the capacity of its queue. This project's own.
     pub fn capacity(&self) -> usize
         ensures { result ≡ (consumer_queue self.now).capacity }
     {

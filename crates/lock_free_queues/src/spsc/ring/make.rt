@@ -59,8 +59,8 @@ impl<E: Kind, T: Words> Ring<E, T> {
 }
 
 impl<E: Kind> Ring<E, u64> {
-    /// An empty queue of numbers, which has so many cells beyond its capacity, with both positions here, and its first
-    /// pass.
+    /// An empty queue of numbers with both positions here, and its first pass. It has so many cells beyond its
+    /// capacity.
     pub(crate) fn of_numbers(
         alloc: Global,
         capacity: usize,

@@ -15,8 +15,8 @@ use steps::queues::ring::WRITE;
 use steps::words::Words;
 
 impl<E: Kind, T: Words> Held<E, T, RingRule<E, T>> {
-    /// A new seat of the same queue, which has seen the same and made nothing. None where no further reference can be
-    /// counted (no clause says when).
+    /// Makes a new seat of the same queue, which has seen the same and made nothing. None where no further reference
+    /// can be counted (no clause says when).
     pub fn split(&mut self) -> Option<Token<E, T>>
         ensures queue { token_queue self.new ≡ token_queue self.old }
         ensures new { IfSome result (λ t. token_queue t ≡ token_queue self.old) }
@@ -52,7 +52,7 @@ impl<E: Kind, T: Words> Held<E, T, RingRule<E, T>> {
         let _ = self.seated.look::<Brand>(WRITE);
     }
 
-    /// A look at the whole history: one load.
+    /// Looks at the whole history, by at most one load.
     pub fn look(&mut self)
         ensures same { IsSameQueue self.old self.new }
         ensures looked { HasLooked (token_view self.old) (token_view self.new) }
@@ -63,9 +63,9 @@ impl<E: Kind, T: Words> Held<E, T, RingRule<E, T>> {
 }
 
 impl<E: Kind, T: Words> Pass<E, T> {
-    /// A new pass of the same queue, which has seen the same and made nothing. Each has half of this one's share of the
-    /// right to know the whole. None, and nothing changes, where no further pass can be counted (no clause says when).
-    /// One load. This project's own.
+    /// Makes a new pass of the same queue, which has seen the same and made nothing. Each has half of this one's share
+    /// of the right to know the whole. None, and nothing changes, where no further pass can be counted (no clause says
+    /// when). At most one step. This project's own.
     pub fn split(&mut self) -> Option<Pass<E, T>>
         ensures queue { queue_of self.new ≡ queue_of self.old }
         ensures new { IfSome result (λ p. queue_of p ≡ queue_of self.old) }
@@ -78,7 +78,7 @@ impl<E: Kind, T: Words> Pass<E, T> {
     }
 
     /// Takes in the other pass of the queue, and sees a history that goes on from both. With the whole share one of the
-    /// two had seen all of it, and each event in it was made by one of them. Two loads. This project's own.
+    /// two had seen all of it, and each event in it was made by one of them. At most two steps. This project's own.
     pub fn join(&mut self, other: Pass<E, T>)
         requires { queue_of other ≡ queue_of self.old }
         ensures queue { queue_of self.new ≡ queue_of self.old }
@@ -92,7 +92,8 @@ impl<E: Kind, T: Words> Pass<E, T> {
         self.token.join(token);
     }
 
-    /// A look at the history, by one load. With the whole share there is nothing more to see. This project's own.
+    /// Looks at the history, by at most one load. With the whole share there is nothing more to see. This project's
+    /// own.
     pub fn look(&mut self)
         ensures queue { queue_of self.new ≡ queue_of self.old }
         ensures goes { GoesOn (coding_of T.WORDS T.words_of T.value_of) E.KIND (queue_of self.old).capacity
@@ -105,7 +106,7 @@ impl<E: Kind, T: Words> Pass<E, T> {
 }
 
 impl<'a, E: Kind, T: Words> Producer<'a, E, T> {
-    /// Takes in a pass of the queue, as a pass does. Two loads. This project's own.
+    /// Takes in a pass of the queue, as a pass does. At most two steps. This project's own.
     pub fn join(&mut self, other: Pass<E, T>)
         requires { queue_of other ≡ producer_queue self.old }
         ensures queue { producer_queue self.new ≡ producer_queue self.old }
@@ -121,7 +122,7 @@ impl<'a, E: Kind, T: Words> Producer<'a, E, T> {
 }
 
 impl<'a, E: Kind, T: Words> Consumer<'a, E, T> {
-    /// Takes in a pass of the queue, as a pass does. Two loads. This project's own.
+    /// Takes in a pass of the queue, as a pass does. At most two steps. This project's own.
     pub fn join(&mut self, other: Pass<E, T>)
         requires { queue_of other ≡ consumer_queue self.old }
         ensures queue { consumer_queue self.new ≡ consumer_queue self.old }

@@ -16,7 +16,7 @@ use steps::queues::ring::{CONSUMER, FIRST_CELL, PRODUCER, READ, WRITE};
 use steps::words::Words;
 
 impl<E: Kind, T: Words> Held<E, T, RingRule<E, T>> {
-    /// One load, which shows the whole history as it stands there.
+    /// Loads one word, which shows the whole history as it stands there.
     pub fn read(&mut self, word: usize) -> u64
         requires { word < 4 + words_in_cells T.WORDS E.KIND (token_queue self.old).capacity }
         ensures queue { token_queue self.new ≡ token_queue self.old }
@@ -49,8 +49,9 @@ impl<E: Kind, T: Words> Held<E, T, RingRule<E, T>> {
         }
     }
 
-    /// The words of the list that the queue is in the end, so many of them: three loads, and one for each word of the
-    /// cells. If something was published between the first load and the last, it loads all but the first again.
+    /// Returns the words, `count` of them, of the list that the queue is in the end. It takes three loads, and one for
+    /// each word of the cells. If something was published between the first load and the last, it loads all but the
+    /// first again.
     pub fn last_words(&mut self, alloc: Global, count: usize) -> Result<Vec<u64>, AllocError>
         requires { count ≡ 4 + words_in_cells T.WORDS E.KIND (token_queue self.old).capacity }
         ensures { IfOk result (λ words. LastWords (coding_of T.WORDS T.words_of T.value_of) (machine_kind E.KIND)

@@ -28,15 +28,14 @@ impl Kind for Values {
     ghost KIND = { queues.Queue };
 }
 
-/// The queue of numbers that hands its oldest number back where it is full. It keeps a cell for the number that pushes
-/// it out.
+/// The queue of numbers that hands its oldest number back where it is full.
 pub struct Overflowing;
 
 impl Kind for Overflowing {
     ghost KIND = { queues.Overflow };
 }
 
-/// What a queue is made with, and so its key: its capacity, and after how many pushes and pops it opens.
+/// What a queue is made with, and so its key. It has its capacity, and after how many pushes and pops it opens.
 #[derive(Clone, Copy)]
 pub struct Origin {
     pub capacity: u64,

@@ -21,8 +21,8 @@ use steps::queues::overflow::{Pop, Push};
 use steps::routine::Routine;
 
 impl Held<Overflowing, u64, RingRule<Overflowing, u64>> {
-    /// Appends a number: None, or the oldest where the queue is full, or the number itself where the write position is
-    /// at its end.
+    /// Appends a number and returns what leaves the queue: None, or the oldest number if it is full. It returns the
+    /// number itself where the write position is at its end.
     pub fn push(&mut self, value: u64) -> Option<u64>
         requires role { HasRole roles.Producer (token_view self.old).made }
         requires some { 0 < self.old.capacity }
@@ -42,7 +42,7 @@ impl Held<Overflowing, u64, RingRule<Overflowing, u64>> {
         Push::answer(end, &value, &room)
     }
 
-    /// Takes the oldest number, or None where the queue is empty.
+    /// Takes the oldest number and returns it, or returns None where the queue is empty.
     pub fn pop(&mut self, rt: &impl Wait) -> Option<u64>
         requires role { HasRole roles.Consumer (token_view self.old).made }
         requires some { 0 < self.old.capacity }

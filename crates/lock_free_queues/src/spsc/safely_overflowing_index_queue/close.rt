@@ -1,4 +1,7 @@
-//! How a queue ends: what waits in it goes on as the queue of one caller.
+//! How a queue ends: `close` returns the queue of one caller that it is at one moment. Each number that the pass has
+//! seen published waits there at its place, or lies before with what was taken out. If one more than the capacity
+//! waits, as in the middle of a push, the oldest is left out. With the whole share nothing came after what the pass had
+//! seen, and none is left out.
 ghost use Rattle.std.specs.Prelude.{◌≡◌, IfOk, IfErr};
 ghost use Rattle.steps.specs.declared.enums.UniqueIndexCreationError.TheVariants.{NoMemory};
 ghost use Rattle.model.specs.declared.event.Item.TheVariants.{Index};
@@ -12,15 +15,12 @@ use steps::enums::UniqueIndexCreationError;
 use steps::queues::ring::{FIRST_CELL, READ, WRITE};
 
 impl SafelyOverflowingIndexQueue {
-    /// The queue of one caller that this one is in the end: it has what waits at one moment of the call, whoever pushed
-    /// it, and before it lies what was taken out until then. So each number that the pass has seen published waits in
-    /// it at its place or lies before it. Who has the whole share knows that nothing came after what the pass had seen.
-    /// Other passes may still live, but no producer and no consumer. If one more than the capacity waits, as while a
-    /// push is under way, the oldest is left out; who has the whole share knows that none is.
+    /// Turns the queue into one of a single caller (`plain`), with the numbers that are still in it. Other passes may
+    /// live on, but no producer and no consumer.
     ///
-    /// Refused is memory (`NoMemory`), for which it asks before the first atomic step; the queue and the pass are gone
-    /// then too. Else one growth, and 4 atomic steps more than the capacity. If something was published between the
-    /// first of them and the last, it repeats all but the first; without a producer nothing is. This project's own.
+    /// Refused is memory (`NoMemory`), before the first atomic step; the queue and the pass are gone then too. Else one
+    /// growth, and capacity + 4 atomic steps, and all but the first again if something was published meanwhile. This
+    /// project's own.
     pub fn close(self, pass: Pass) -> Result<List, UniqueIndexCreationError>
         requires { IsPassOf self pass }
         ensures list { IfOk result (λ q. Closes Index (capacity_of self) (view pass) q) }
@@ -39,8 +39,7 @@ impl SafelyOverflowingIndexQueue {
 }
 
 impl<const CAPACITY: usize> FixedSizeSafelyOverflowingIndexQueue<CAPACITY> {
-    /// The queue of one caller that the queue which it has is in the end: as `close` of that says, with the same
-    /// memory, refusal and atomic steps. This project's own.
+    /// Calls `close` of the queue that it has. This project's own.
     pub fn close(self, pass: Pass) -> Result<List, UniqueIndexCreationError>
         requires { IsPassOf (inner self) pass }
         ensures list { IfOk result (λ q. Closes Index CAPACITY (view pass) q) }

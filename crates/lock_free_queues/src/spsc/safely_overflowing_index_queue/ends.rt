@@ -12,7 +12,7 @@ use super::{Consumer, Producer};
 use std::sync::Wait;
 
 impl<'a> Producer<'a> {
-    /// Appends a number: None, or the oldest number where the queue is full, so that at most the capacity waits. The
+    /// Appends a number, and returns the oldest one if the queue is full, else None. So at most the capacity waits. The
     /// number itself comes back, and nothing is published, without capacity or where the write position is u64::MAX. At
     /// most 6 atomic steps. After `Producer::push` of the Rust crate.
     pub fn push(&mut self, value: u64) -> Option<u64>
@@ -42,8 +42,8 @@ impl<'a> Producer<'a> {
 }
 
 impl<'a> Consumer<'a> {
-    /// Takes the oldest number, or None where the queue is empty. At most 4 atomic steps, and 2 more for each time that
-    /// a push moved the read position between its load and the exchange. After `Consumer::pop` of the Rust crate.
+    /// Takes the oldest number and returns it, or returns None where the queue is empty. At most 4 atomic steps, and 2
+    /// more for each change of a word of the queue by others during the call. After `Consumer::pop` of the Rust crate.
     pub fn pop(&mut self, rt: &impl Wait) -> Option<u64>
         ensures queue { consumer_queue self.new ≡ consumer_queue self.old }
         ensures goes { 0 < (consumer_queue self.old).capacity

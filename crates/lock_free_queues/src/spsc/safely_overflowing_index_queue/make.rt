@@ -12,8 +12,8 @@ use std::alloc::Global;
 use steps::enums::UniqueIndexCreationError;
 
 impl SafelyOverflowingIndexQueue {
-    /// An empty queue for at most `capacity` numbers, and its first pass, which has the whole share and has seen
-    /// nothing: the history is empty.
+    /// Makes an empty queue for at most `capacity` numbers, and its first pass. The pass has the whole share and has
+    /// seen nothing: the history is empty.
     ///
     /// Refused are, in this order, a capacity above 2^32 - 1 (`ProvidedCapacityGreaterThanMaxCapacity`) and memory
     /// (`NoMemory`). After `SafelyOverflowingIndexQueue::new` of the Rust crate.
@@ -30,8 +30,8 @@ impl SafelyOverflowingIndexQueue {
         SafelyOverflowingIndexQueue::of_numbers(alloc, capacity, 1, 0)
     }
 
-    /// The same with both positions at `position`, as after so many pushes and pops of the number 0, which its history
-    /// begins with; without capacity there are none. This project's own.
+    /// Makes an empty queue with both positions at `position`, and its first pass. Its history begins with so many
+    /// pushes and pops of the number 0; without capacity there are none. Refused as `new`. This project's own.
     pub fn new_at(
         alloc: Global,
         capacity: usize,
@@ -49,7 +49,7 @@ impl SafelyOverflowingIndexQueue {
 }
 
 impl<const CAPACITY: usize> FixedSizeSafelyOverflowingIndexQueue<CAPACITY> {
-    /// An empty queue and its first pass, as of a `SafelyOverflowingIndexQueue`.
+    /// Makes an empty queue and its first pass, as `SafelyOverflowingIndexQueue::new` does.
     ///
     /// Refused are, in this order, a CAPACITY above 2^32 - 1 (`ProvidedCapacityGreaterThanMaxCapacity`) and memory
     /// (`NoMemory`). After `FixedSizeSafelyOverflowingIndexQueue::new` of the Rust crate.

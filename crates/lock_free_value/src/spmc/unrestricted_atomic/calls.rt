@@ -15,7 +15,7 @@ use steps::routine::Routine;
 use steps::words::Words;
 
 impl<T: Words> Held<T, ValueRule<T>> {
-    /// Takes the producer's role: true where it was free.
+    /// Takes the producer's role, and returns whether it was free.
     pub fn take_producer(&mut self) -> bool
         ensures same { IsSame self.old self.new }
         ensures acquired { HasAcquired result (seen self.old) (seen self.new) }
@@ -41,7 +41,7 @@ impl<T: Words> Held<T, ValueRule<T>> {
             .drive::<ReleaseRole, LeavesProducer>(call, &(), &mut ());
     }
 
-    /// Stores a value: true, or false where the version is at its end.
+    /// Stores a value and returns true, or returns false where the version is at its end.
     pub fn store(&mut self, value: &T) -> bool
         requires { HasProducer (seen self.old).made }
         ensures same { IsSame self.old self.new }

@@ -11,8 +11,8 @@ use std::sync::Wait;
 use steps::words::Words;
 
 impl<T: Words> UnrestrictedAtomic<T> {
-    /// Takes the producer's role, or hands the pass back where another has it. One atomic step. After
-    /// `acquire_producer` of the Rust crate.
+    /// Takes the producer's role and returns its guard, or returns the pass if another has the role. At most one atomic
+    /// step. After `acquire_producer` of the Rust crate.
     pub fn acquire_producer(&self, pass: Pass<T>) -> Result<Producer<'_, T>, Pass<T>>
         requires { IsPassOf self.now pass }
         ensures acquired { IfOk result (λ p. (value_of_producer p ≡ value_of_pass pass)
@@ -32,9 +32,9 @@ impl<T: Words> UnrestrictedAtomic<T> {
         }
     }
 
-    /// The value at one moment of the call: the last that was stored before it. At most 2 + `T::WORDS` atomic steps, and
-    /// 1 + `T::WORDS` more for each time that the version moved between its load and the exchange. After `load` of the
-    /// Rust crate.
+    /// Returns the value at one moment of the call, which is the last that was stored before it. At most 2 + `T::WORDS`
+    /// atomic steps, and 1 + `T::WORDS` more for each change of a word of the value by others during the call. After
+    /// `load` of the Rust crate.
     pub fn load(&self, rt: &impl Wait, pass: &mut Pass<T>) -> T
         requires { IsPassOf self.now pass.old }
         ensures value { value_of_pass pass.new ≡ value_of_pass pass.old }
@@ -48,8 +48,8 @@ impl<T: Words> UnrestrictedAtomic<T> {
 }
 
 impl<'a, T: Words> Producer<'a, T> {
-    /// Stores a value: true, or false where the version is u64::MAX, and then nothing changes. At most 2 + `T::WORDS`
-    /// atomic steps. After `Producer::store` of the Rust crate.
+    /// Stores a value and returns true, or returns false without a change if the version is u64::MAX. At most 2 +
+    /// `T::WORDS` atomic steps. After `Producer::store` of the Rust crate.
     pub fn store(&mut self, value: T) -> bool
         ensures value { value_of_producer self.new ≡ value_of_producer self.old }
         ensures goes { GoesOn (coding_of T.WORDS T.words_of T.value_of) (producer_view self.old) (producer_view self.new) }
@@ -61,7 +61,7 @@ impl<'a, T: Words> Producer<'a, T> {
         self.token.store(&value)
     }
 
-    /// Gives the role back and hands the pass out. One atomic step. This project's own, beside the drop.
+    /// Gives the role back and hands the pass out. At most one atomic step. This project's own, beside the drop.
     pub fn release(self) -> Pass<T>
         ensures value { value_of_pass result ≡ value_of_producer self.entry }
         ensures goes { GoesOn (coding_of T.WORDS T.words_of T.value_of) (producer_view self.entry) (view result) }

@@ -6,8 +6,8 @@ use steps::words::Words;
 
 mod calls;
 
-/// A value with a pass of it. Its calls are those of the value, and ask for nothing; `Producer` stores. Each thread has a
-/// handle of its own, by `split`. This project's own.
+/// A handle has a value and a pass of it. Its calls are those of the value, and ask for nothing; `Producer` stores.
+/// Each thread has a handle of its own, by `split`. This project's own.
 pub struct Handle<'a, T: Words> {
     value: &'a UnrestrictedAtomic<T>,
     pass: Pass<T>,

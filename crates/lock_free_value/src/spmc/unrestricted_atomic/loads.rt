@@ -136,7 +136,7 @@ fn load_all<T: Words, R: Room<T> + Drop>(seat: &mut Seat<T>, rt: &impl Wait, roo
 }
 
 impl<T: Words> Held<T, ValueRule<T>> {
-    /// The value at one moment of the call.
+    /// Returns the value at one moment of the call.
     pub fn load(&mut self, rt: &impl Wait) -> T
         ensures same { IsSame self.old self.new }
         ensures loaded { HasLoaded result (seen self.old) (seen self.new) }
@@ -154,7 +154,7 @@ impl<T: Words> Held<T, ValueRule<T>> {
         }
     }
 
-    /// The same by way of this room.
+    /// Loads by way of this room.
     #[inline(always)]
     pub fn load_by<R: Room<T> + Drop>(&mut self, rt: &impl Wait, room: R) -> T
         requires room { (n : ℕ) × (T.WORDS ≤ n) × (n ≤ 128) × (R.words_in room ≡ replicate n 0) }

@@ -55,8 +55,8 @@ impl<T: Words> UnrestrictedAtomic<T> {
         Ok((UnrestrictedAtomic { home }, Pass { token }))
     }
 
-    /// A value, and its first pass, which has the whole share and has seen its history: one party has taken the role,
-    /// stored the value once and given the role back.
+    /// Makes a value, stored once, and its first pass. The pass has the whole share and has seen the history: one party
+    /// has taken the role, stored the value once and given the role back.
     ///
     /// Refused is memory alone (`NoMemory`). After `UnrestrictedAtomic::new` of the Rust crate.
     pub fn new(
@@ -69,8 +69,8 @@ impl<T: Words> UnrestrictedAtomic<T> {
         UnrestrictedAtomic::new_at(alloc, value, 1)
     }
 
-    /// The same at this version, as after so many stores of the value, which its history begins with; a version below 2
-    /// is 2, since there is one store at least. This project's own.
+    /// Makes a value at this version, and its first pass. Its history begins with so many stores of the value; a
+    /// version below 2 is 2, since there is one store at least. Refused as `new`. This project's own.
     pub fn new_at(
         alloc: Global,
         value: T,

@@ -14,8 +14,8 @@ use steps::atomic::VERSION;
 use steps::words::Words;
 
 impl<T: Words> Held<T, ValueRule<T>> {
-    /// A new seat of the same value, which has seen the same and made nothing. None where no further reference can be
-    /// counted (no clause says when).
+    /// Makes a new seat of the same value, which has seen the same and made nothing. None where no further reference
+    /// can be counted (no clause says when).
     pub fn split(&mut self) -> Option<Token<T>>
         ensures table { table_of self.new ≡ table_of self.old }
         ensures new { IfSome result (λ t. table_of t ≡ table_of self.old) }
@@ -42,7 +42,7 @@ impl<T: Words> Held<T, ValueRule<T>> {
         let _ = self.seated.look::<Look>(VERSION);
     }
 
-    /// A look at the whole history: one load.
+    /// Looks at the whole history, by at most one load.
     pub fn look(&mut self)
         ensures same { IsSame self.old self.new }
         ensures made { (seen self.new).made ≡ (seen self.old).made }
@@ -53,9 +53,9 @@ impl<T: Words> Held<T, ValueRule<T>> {
 }
 
 impl<T: Words> Pass<T> {
-    /// A new pass of the same value that has seen the same and made nothing; this one keeps what it made. Each has half of
-    /// this one's share. None, and nothing changes, where no further pass can be counted (no clause says when). One load.
-    /// This project's own.
+    /// Makes a new pass of the same value, which has seen the same and made nothing. This one keeps what it made, and
+    /// each has half of this one's share. None, and nothing changes, where no further pass can be counted (no clause
+    /// says when). At most one step. This project's own.
     pub fn split(&mut self) -> Option<Pass<T>>
         ensures value { value_of_pass self.new ≡ value_of_pass self.old }
         ensures new { IfSome result (λ p. value_of_pass p ≡ value_of_pass self.old) }
@@ -68,7 +68,7 @@ impl<T: Words> Pass<T> {
     }
 
     /// Takes in what the other pass of the value made, and its share. What both had seen are beginnings of one history.
-    /// Who then has the whole share has made all of it. Two loads. This project's own.
+    /// Who then has the whole share has made all of it. At most two steps. This project's own.
     pub fn join(&mut self, other: Pass<T>)
         requires { value_of_pass other ≡ value_of_pass self.old }
         ensures value { value_of_pass self.new ≡ value_of_pass self.old }
@@ -81,7 +81,7 @@ impl<T: Words> Pass<T> {
         self.token.join(token);
     }
 
-    /// A look at the whole history, by one load: who has the whole share has made all of it. This project's own.
+    /// Looks at the whole history, by at most one load. Who has the whole share has made all of it. This project's own.
     pub fn look(&mut self)
         ensures value { value_of_pass self.new ≡ value_of_pass self.old }
         ensures goes { GoesOn (coding_of T.WORDS T.words_of T.value_of) (view self.old) (view self.new) }
@@ -93,7 +93,7 @@ impl<T: Words> Pass<T> {
 }
 
 impl<'a, T: Words> Producer<'a, T> {
-    /// Takes in what a pass of the value made, and its share. Two loads. This project's own.
+    /// Takes in what a pass of the value made, and its share. At most two steps. This project's own.
     pub fn join(&mut self, other: Pass<T>)
         requires { value_of_pass other ≡ value_of_producer self.old }
         ensures value { value_of_producer self.new ≡ value_of_producer self.old }

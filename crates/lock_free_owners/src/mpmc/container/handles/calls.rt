@@ -12,6 +12,7 @@ ghost use Rattle.lock_free_owners.specs.Container.Told.{placed, HasAdded, HasRem
 ghost use Rattle.lock_free_owners.specs.Container.Names.{history, code_of, capacity_of, IsPassOf, IsHandleFor, IsOwn, GoesOn};
 ghost use Rattle.history.specs.ContainerLooks.{KeepsState};
 ghost use Rattle.history.specs.Passes.{HasSplit};
+ghost use Rattle.history.specs.Steps.{TakesAtMost};
 ghost use Rattle.lock_free_owners.specs.Container.Handles.{container_in, pass_in, knows};
 
 use super::Handle;
@@ -23,7 +24,7 @@ use steps::indices::enums::{ReleaseMode, ReleaseState};
 use steps::words::Words;
 
 impl<T: Words> Container<T> {
-    /// A handle: this container with a pass of it. No atomic step. This project's own.
+    /// Makes a handle of this container and a pass of it. No atomic step. This project's own.
     pub fn handle(&self, pass: Pass<T>) -> Handle<'_, T>
         requires { IsPassOf self.now pass }
         ensures container { container_in result ≡ self.now }
@@ -37,7 +38,7 @@ impl<T: Words> Container<T> {
 }
 
 impl<'a, T: Words> Handle<'a, T> {
-    /// The pass. No atomic step.
+    /// Returns the pass. No atomic step.
     pub fn into_pass(self) -> Pass<T>
         ensures { result ≡ pass_in self.entry }
     {
@@ -45,7 +46,7 @@ impl<'a, T: Words> Handle<'a, T> {
         pass
     }
 
-    /// A further handle of the container, with a pass that has seen the same and made nothing, as by `Pass::split`.
+    /// Makes a further handle of the container, with a pass that it gets by `Pass::split`.
     pub fn split(&mut self) -> Option<Handle<'a, T>>
         ensures container { container_in self.new ≡ container_in self.old }
         ensures new { IfSome result (λ h. container_in h ≡ container_in self.old) }
@@ -54,6 +55,7 @@ impl<'a, T: Words> Handle<'a, T> {
         ensures keeps { KeepsState (knows self.old) (knows self.new) }
         ensures idle { IfSome result (λ h. (knows h).going ≡ None) }
         ensures none { IfNone result (knows self.new ≡ knows self.old) }
+        ensures steps { TakesAtMost 1 (knows self.old) (knows self.new) }
     {
         let pass = self.pass.split()?;
         Some(Handle {
@@ -62,14 +64,14 @@ impl<'a, T: Words> Handle<'a, T> {
         })
     }
 
-    /// As `Container::capacity`.
+    /// Calls `Container::capacity`.
     pub fn capacity(&self) -> usize
         ensures { result ≡ capacity_of (container_in self.now) }
     {
         self.container.capacity()
     }
 
-    /// As `Container::add`.
+    /// Calls `Container::add`, with its pass.
     pub fn add(
         &mut self,
         rt: &impl Wait,
@@ -95,7 +97,7 @@ impl<'a, T: Words> Handle<'a, T> {
         self.container.add(rt, value, owner, &mut self.pass)
     }
 
-    /// As `Container::remove`.
+    /// Calls `Container::remove`, with its pass.
     pub fn remove(
         &mut self,
         rt: &impl Wait,
@@ -121,7 +123,7 @@ impl<'a, T: Words> Handle<'a, T> {
         self.container.remove(rt, handle, mode, &mut self.pass)
     }
 
-    /// As `Container::replace`.
+    /// Calls `Container::replace`, with its pass.
     pub fn replace(&mut self, handle: ContainerHandle, value: T) -> Result<(), ContainerRemoveError>
         ensures container { container_in self.new ≡ container_in self.old }
         ensures foreign { (IsOwn (container_in self.old) handle → ⊥)
@@ -139,7 +141,7 @@ impl<'a, T: Words> Handle<'a, T> {
         self.container.replace(handle, value, &mut self.pass)
     }
 
-    /// As `Container::len`.
+    /// Calls `Container::len`, with its pass.
     pub fn len(&mut self, rt: &impl Wait) -> usize
         ensures container { container_in self.new ≡ container_in self.old }
         ensures goes_on { GoesOn (pass_in self.old) (pass_in self.new) }
@@ -155,7 +157,7 @@ impl<'a, T: Words> Handle<'a, T> {
         self.container.len(rt, &mut self.pass)
     }
 
-    /// As `Container::is_empty`.
+    /// Calls `Container::is_empty`, with its pass.
     pub fn is_empty(&mut self, rt: &impl Wait) -> bool
         ensures container { container_in self.new ≡ container_in self.old }
         ensures goes_on { GoesOn (pass_in self.old) (pass_in self.new) }
@@ -170,7 +172,7 @@ impl<'a, T: Words> Handle<'a, T> {
         self.container.is_empty(rt, &mut self.pass)
     }
 
-    /// As `Container::is_locked`.
+    /// Calls `Container::is_locked`, with its pass.
     pub fn is_locked(&mut self) -> bool
         ensures container { container_in self.new ≡ container_in self.old }
         ensures goes_on { GoesOn (pass_in self.old) (pass_in self.new) }

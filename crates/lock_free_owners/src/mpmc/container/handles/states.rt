@@ -13,7 +13,7 @@ use std::sync::Wait;
 use steps::words::Words;
 
 impl<'a, T: Words> Handle<'a, T> {
-    /// As `Container::get_state`.
+    /// Calls `Container::get_state`, with its pass.
     pub fn get_state(&mut self, rt: &impl Wait) -> Result<ContainerState<T>, ContainerStateError>
         ensures container { container_in self.new ≡ container_in self.old }
         ensures goes_on { IfOk result (λ s. GoesOn (pass_in self.old) (pass_in self.new)) }
@@ -28,7 +28,7 @@ impl<'a, T: Words> Handle<'a, T> {
         self.container.get_state(rt, &mut self.pass)
     }
 
-    /// As `Container::update_state`.
+    /// Calls `Container::update_state`, with its pass.
     pub fn update_state(&mut self, rt: &impl Wait, state: &mut ContainerState<T>) -> bool
         requires { IsStateOf (container_in self.old) state.old }
         ensures container { container_in self.new ≡ container_in self.old }
@@ -47,7 +47,7 @@ impl<'a, T: Words> Handle<'a, T> {
         self.container.update_state(rt, state, &mut self.pass)
     }
 
-    /// As `Container::is_state_of`.
+    /// Calls `Container::is_state_of`.
     pub fn is_state_of(&self, state: &ContainerState<T>) -> bool
         ensures { IsTrue result ↔ IsStateOf (container_in self.now) state.now }
     {

@@ -11,7 +11,7 @@ ghost use Rattle.lock_free_owners.specs.Container.Callable.{Visit, TakesVisits, 
 ghost use Rattle.lock_free_owners.specs.Container.FindTold.{HasSearched};
 ghost use Rattle.lock_free_owners.specs.Container.Questions.{TakesValues};
 ghost use Rattle.lock_free_owners.specs.Container.RecoverTold.{HasRecovered};
-ghost use Rattle.lock_free_owners.specs.Container.Steps.{RecoverTakes};
+ghost use Rattle.lock_free_owners.specs.Container.Steps.{FindTakes, RecoverTakes};
 ghost use Rattle.lock_free_owners.specs.Container.Told.{Answered};
 ghost use Rattle.lock_free_owners.specs.Container.Names.{history, code_of, capacity_of, IsHandleFor, GoesOn};
 ghost use Rattle.lock_free_owners.specs.Container.Handles.{container_in, pass_in, knows};
@@ -23,7 +23,7 @@ use steps::indices::enums::{ReleaseMode, ReleaseState};
 use steps::words::Words;
 
 impl<'a, T: Words> Handle<'a, T> {
-    /// As `Container::find`.
+    /// Calls `Container::find`, with its pass.
     pub fn find<F: FnMut(T, ContainerHandle) -> CallbackProgression>(
         &mut self,
         owner: OwnerId,
@@ -40,11 +40,12 @@ impl<'a, T: Words> Handle<'a, T> {
             bound visits (knows self.old) (knows self.new)
             × HasFound (λ p x h a q. F.step p x h a q) (capacity_of (container_in self.old))
             (IsHandleFor (container_in self.old) owner) visit.old result bound visits visit.new }
+        ensures steps { FindTakes (code_of (pass_in self.old)) (capacity_of (container_in self.old)) (knows self.old) (knows self.new) }
     {
         self.container.find(owner, visit, &mut self.pass)
     }
 
-    /// As `Container::recover`.
+    /// Calls `Container::recover`, with its pass.
     pub fn recover<F: FnMut(T) -> bool>(
         &mut self,
         rt: &impl Wait,

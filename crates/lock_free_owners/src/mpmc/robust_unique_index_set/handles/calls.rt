@@ -21,7 +21,7 @@ use std::sync::Wait;
 use steps::indices::enums::{ReleaseMode, ReleaseState, UniqueIndexSetAcquireFailure};
 
 impl RobustUniqueIndexSet {
-    /// A handle: this set with a pass of it. No atomic step. This project's own.
+    /// Makes a handle of this set and a pass of it. No atomic step. This project's own.
     pub fn handle(&self, pass: Pass) -> Handle<'_>
         requires { IsPassOf self.now pass }
         ensures set { set_in result ≡ self.now }
@@ -32,7 +32,7 @@ impl RobustUniqueIndexSet {
 }
 
 impl<'a> Handle<'a> {
-    /// The pass. No atomic step.
+    /// Returns the pass. No atomic step.
     pub fn into_pass(self) -> Pass
         ensures { result ≡ pass_in self.entry }
     {
@@ -40,7 +40,7 @@ impl<'a> Handle<'a> {
         pass
     }
 
-    /// A further handle of the set, with a pass that has seen the same and made nothing, as by `Pass::split`.
+    /// Makes a further handle of the set, with a pass that it gets by `Pass::split`.
     pub fn split(&mut self) -> Option<Handle<'a>>
         ensures set { set_in self.new ≡ set_in self.old }
         ensures new { IfSome result (λ h. set_in h ≡ set_in self.old) }
@@ -55,14 +55,14 @@ impl<'a> Handle<'a> {
         })
     }
 
-    /// As `RobustUniqueIndexSet::capacity`.
+    /// Calls `RobustUniqueIndexSet::capacity`.
     pub fn capacity(&self) -> usize
         ensures { result ≡ capacity_of (set_in self.now) }
     {
         self.set.capacity()
     }
 
-    /// As `RobustUniqueIndexSet::acquire`.
+    /// Calls `RobustUniqueIndexSet::acquire`, with its pass.
     pub fn acquire(
         &mut self,
         rt: &impl Wait,
@@ -82,7 +82,7 @@ impl<'a> Handle<'a> {
         self.set.acquire(rt, owner, &mut self.pass)
     }
 
-    /// As `RobustUniqueIndexSet::release`.
+    /// Calls `RobustUniqueIndexSet::release`, with its pass.
     pub fn release(
         &mut self,
         rt: &impl Wait,
@@ -104,7 +104,7 @@ impl<'a> Handle<'a> {
         self.set.release(rt, index, owner, mode, &mut self.pass)
     }
 
-    /// As `RobustUniqueIndexSet::is_locked`.
+    /// Calls `RobustUniqueIndexSet::is_locked`, with its pass.
     pub fn is_locked(&mut self) -> bool
         ensures set { set_in self.new ≡ set_in self.old }
         ensures goes_on { GoesOn (pass_in self.old) (pass_in self.new) }
@@ -116,7 +116,7 @@ impl<'a> Handle<'a> {
         self.set.is_locked(&mut self.pass)
     }
 
-    /// As `RobustUniqueIndexSet::borrowed_indices`.
+    /// Calls `RobustUniqueIndexSet::borrowed_indices`, with its pass.
     pub fn borrowed_indices(&mut self, rt: &impl Wait) -> usize
         ensures set { set_in self.new ≡ set_in self.old }
         ensures goes_on { GoesOn (pass_in self.old) (pass_in self.new) }

@@ -18,7 +18,7 @@ use std::sync::Wait;
 use steps::indices::enums::{ReleaseMode, ReleaseState};
 
 impl<'a> Handle<'a> {
-    /// As `RobustUniqueIndexSet::find`.
+    /// Calls `RobustUniqueIndexSet::find`, with its pass.
     pub fn find<F: FnMut(usize) -> CallbackProgression>(
         &mut self,
         owner: OwnerId,
@@ -34,7 +34,7 @@ impl<'a> Handle<'a> {
         self.set.find(owner, visit, &mut self.pass)
     }
 
-    /// As `RobustUniqueIndexSet::recover`.
+    /// Calls `RobustUniqueIndexSet::recover`, with its pass.
     pub fn recover<F: FnMut(OwnerId, usize) -> bool, S: FnMut(OwnerId, usize)>(
         &mut self,
         rt: &impl Wait,

@@ -18,7 +18,7 @@ use std::sync::Wait;
 use steps::words::Words;
 
 impl<E: Kind, T: Words> Ring<E, T> {
-    /// A handle: this queue with a pass of it. No atomic step. This project's own.
+    /// Makes a handle of this queue and a pass of it. No atomic step. This project's own.
     pub fn handle(&self, pass: Pass<E, T>) -> Handle<'_, E, T>
         requires { IsPassOf self.now pass }
         ensures queue { ring_in result ≡ self.now }
@@ -29,7 +29,7 @@ impl<E: Kind, T: Words> Ring<E, T> {
 }
 
 impl<'a, E: Kind, T: Words> Handle<'a, E, T> {
-    /// The pass. No atomic step.
+    /// Returns the pass. No atomic step.
     pub fn into_pass(self) -> Pass<E, T>
         ensures { result ≡ pass_in self.entry }
     {
@@ -37,7 +37,7 @@ impl<'a, E: Kind, T: Words> Handle<'a, E, T> {
         pass
     }
 
-    /// A further handle of the queue, with a pass that has seen the same and made nothing, as by `Pass::split`.
+    /// Makes a further handle of the queue, with a pass that it gets by `Pass::split`.
     pub fn split(&mut self) -> Option<Handle<'a, E, T>>
         ensures queue { ring_in self.new ≡ ring_in self.old }
         ensures pass { queue_of (pass_in self.new) ≡ queue_of (pass_in self.old) }
@@ -53,7 +53,7 @@ impl<'a, E: Kind, T: Words> Handle<'a, E, T> {
         })
     }
 
-    /// As `acquire_producer` of its queue: the producer, which owns the pass, or the handle where another has the role.
+    /// Calls `acquire_producer` of its queue, and returns the guard, which owns the pass, or the handle.
     pub fn acquire_producer(self) -> Result<Producer<'a, E, T>, Handle<'a, E, T>>
         ensures acquired { IfOk result (λ p. (producer_queue p ≡ queue_of (pass_in self.entry))
             × GoesOn (coding_of T.WORDS T.words_of T.value_of) E.KIND (queue_of (pass_in self.entry)).capacity
@@ -73,7 +73,7 @@ impl<'a, E: Kind, T: Words> Handle<'a, E, T> {
         }
     }
 
-    /// As `acquire_consumer` of its queue: the consumer, which owns the pass, or the handle where another has the role.
+    /// Calls `acquire_consumer` of its queue, and returns the guard, which owns the pass, or the handle.
     pub fn acquire_consumer(self) -> Result<Consumer<'a, E, T>, Handle<'a, E, T>>
         ensures acquired { IfOk result (λ c. (consumer_queue c ≡ queue_of (pass_in self.entry))
             × GoesOn (coding_of T.WORDS T.words_of T.value_of) E.KIND (queue_of (pass_in self.entry)).capacity
@@ -93,14 +93,14 @@ impl<'a, E: Kind, T: Words> Handle<'a, E, T> {
         }
     }
 
-    /// As `capacity` of its queue.
+    /// Calls `capacity` of its queue.
     pub fn capacity(&self) -> usize
         ensures { result ≡ capacity_of (ring_in self.now) }
     {
         self.ring.capacity()
     }
 
-    /// As `len` of its queue.
+    /// Calls `len` of its queue, with its pass.
     pub fn len(&mut self, rt: &impl Wait) -> usize
         ensures queue { ring_in self.new ≡ ring_in self.old }
         ensures goes { GoesOn (coding_of T.WORDS T.words_of T.value_of) E.KIND (queue_of (pass_in self.old)).capacity
@@ -115,7 +115,7 @@ impl<'a, E: Kind, T: Words> Handle<'a, E, T> {
         self.ring.len(rt, &mut self.pass)
     }
 
-    /// As `is_empty` of its queue.
+    /// Calls `is_empty` of its queue, with its pass.
     pub fn is_empty(&mut self, rt: &impl Wait) -> bool
         ensures queue { ring_in self.new ≡ ring_in self.old }
         ensures goes { GoesOn (coding_of T.WORDS T.words_of T.value_of) E.KIND (queue_of (pass_in self.old)).capacity
@@ -129,7 +129,7 @@ impl<'a, E: Kind, T: Words> Handle<'a, E, T> {
         self.ring.is_empty(rt, &mut self.pass)
     }
 
-    /// As `is_full` of its queue.
+    /// Calls `is_full` of its queue, with its pass.
     pub fn is_full(&mut self, rt: &impl Wait) -> bool
         ensures queue { ring_in self.new ≡ ring_in self.old }
         ensures goes { GoesOn (coding_of T.WORDS T.words_of T.value_of) E.KIND (queue_of (pass_in self.old)).capacity
@@ -143,7 +143,7 @@ impl<'a, E: Kind, T: Words> Handle<'a, E, T> {
         self.ring.is_full(rt, &mut self.pass)
     }
 
-    /// As `Pass::look`.
+    /// Calls `Pass::look`, with its pass.
     pub fn look(&mut self)
         ensures queue { ring_in self.new ≡ ring_in self.old }
         ensures goes { GoesOn (coding_of T.WORDS T.words_of T.value_of) E.KIND (queue_of (pass_in self.old)).capacity

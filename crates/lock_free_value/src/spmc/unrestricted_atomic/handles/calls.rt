@@ -13,7 +13,7 @@ use std::sync::Wait;
 use steps::words::Words;
 
 impl<T: Words> UnrestrictedAtomic<T> {
-    /// A handle: this value with a pass of it. No atomic step. This project's own.
+    /// Makes a handle of this value and a pass of it. No atomic step. This project's own.
     pub fn handle(&self, pass: Pass<T>) -> Handle<'_, T>
         requires { IsPassOf self.now pass }
         ensures value { value_in result ≡ self.now }
@@ -24,7 +24,7 @@ impl<T: Words> UnrestrictedAtomic<T> {
 }
 
 impl<'a, T: Words> Handle<'a, T> {
-    /// The pass. No atomic step.
+    /// Returns the pass. No atomic step.
     pub fn into_pass(self) -> Pass<T>
         ensures { result ≡ pass_in self.entry }
     {
@@ -32,7 +32,7 @@ impl<'a, T: Words> Handle<'a, T> {
         pass
     }
 
-    /// A further handle of the value, with a pass that has seen the same and made nothing, as by `Pass::split`.
+    /// Makes a further handle of the value, with a pass that it gets by `Pass::split`.
     pub fn split(&mut self) -> Option<Handle<'a, T>>
         ensures value { value_in self.new ≡ value_in self.old }
         ensures pass { value_of_pass (pass_in self.new) ≡ value_of_pass (pass_in self.old) }
@@ -48,8 +48,7 @@ impl<'a, T: Words> Handle<'a, T> {
         })
     }
 
-    /// As `UnrestrictedAtomic::acquire_producer`: the producer, which owns the pass, or the handle where another has the
-    /// role.
+    /// Calls `UnrestrictedAtomic::acquire_producer`, and returns the guard, which owns the pass, or the handle.
     pub fn acquire_producer(self) -> Result<Producer<'a, T>, Handle<'a, T>>
         ensures acquired { IfOk result (λ p. (value_of_producer p ≡ value_of_pass (pass_in self.entry))
             × GoesOn (coding_of T.WORDS T.words_of T.value_of) (knows self.entry) (producer_view p)
@@ -67,7 +66,7 @@ impl<'a, T: Words> Handle<'a, T> {
         }
     }
 
-    /// As `UnrestrictedAtomic::load`.
+    /// Calls `UnrestrictedAtomic::load`, with its pass.
     pub fn load(&mut self, rt: &impl Wait) -> T
         ensures value { value_in self.new ≡ value_in self.old }
         ensures goes { GoesOn (coding_of T.WORDS T.words_of T.value_of) (knows self.old) (knows self.new) }
@@ -78,7 +77,7 @@ impl<'a, T: Words> Handle<'a, T> {
         self.value.load(rt, &mut self.pass)
     }
 
-    /// As `Pass::look`.
+    /// Calls `Pass::look`, with its pass.
     pub fn look(&mut self)
         ensures value { value_in self.new ≡ value_in self.old }
         ensures goes { GoesOn (coding_of T.WORDS T.words_of T.value_of) (knows self.old) (knows self.new) }

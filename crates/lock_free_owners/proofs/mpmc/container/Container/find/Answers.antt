@@ -6,6 +6,7 @@ use Rattle.lock_free_owners.specs.Container.Callable.{TakesVisits, HasFound}
 use Rattle.lock_free_owners.specs.Container.FindTold.{HasSearched}
 use Rattle.lock_free_owners.specs.Container.FindTurns.{FindAt}
 use Rattle.lock_free_owners.specs.Container.Names.{number_of}
+use Rattle.lock_free_owners.specs.Container.Steps.{FindTakes}
 use Rattle.lock_free_owners.specs.Container.Visits.{IsNamed}
 use Rattle.lock_free_owners.proofs.ContainerSet.FindTurns.{find_begins}
 use Rattle.lock_free_owners.proofs.mpmc.container.Container.find.Goals as goal
@@ -49,3 +50,9 @@ returns-clause-found g c =
 
 pub returns-clause-keeps : goal.returns-clause-keeps
 returns-clause-keeps g c = c.find_all.ensures.left.keeps
+
+pub returns-clause-steps : goal.returns-clause-steps
+returns-clause-steps g c =
+    let code : Coding g.row.T.Denot = coding_of g.T.Words.WORDS g.T.Words.words_of g.T.Words.value_of in
+    subst (λ n. FindTakes code n (seen c.args.pass.now.token.seated) (seen c.find_all.new.seat)) (ap (λ (z : SetId). z.capacity) c.requires.pass)
+    c.find_all.ensures.steps

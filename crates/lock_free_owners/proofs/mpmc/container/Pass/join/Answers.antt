@@ -1,93 +1,98 @@
-use Rattle.lock_free_owners.proofs.Names.{◌≡◌, ◌<◌, ℕ, List, [], rules, sym, ap, subst, ◌∙◌, arith, TableId, Me}
-use Rattle.lock_free_owners.proofs.Names.{Allows, Coding, coding_of, View, IsAll, IsMachine, IsHistory, SettledFrom}
-use Rattle.lock_free_owners.proofs.Names.{joined_view, Looks, positive, joins, looks}
+use Rattle.lock_free_owners.proofs.Names.{◌≡◌, ◌<◌, ◌⊎◌, ◌++◌, ℕ, List, [], rules, sym, ap, subst, ◌∙◌, arith, TableId, OwesAsk}
+use Rattle.lock_free_owners.proofs.Names.{Coding, coding_of, View, IsAll, IsBeginning, IsMachine, IsHistory, seen, table_of, key_of}
+use Rattle.lock_free_owners.proofs.Names.{joined_view, Looks, positive, joins}
+use Rattle.steps.specs.declared.ask.Op.TheVariants.{Load}
 use Rattle.model.specs.declared.turn.Kind.TheVariants as kinds
-use Rattle.lock_free_owners.proofs.ContainerSet.Begins.{settles_or_stays}
-use Rattle.lock_free_owners.proofs.ContainerSet.Passes.{settled}
+use Rattle.threaded.specs.Shares.{both_of}
+use Rattle.history.specs.Views.{LooksOnce}
+use Rattle.history.proofs.PassLooks.{owes_look}
+use Rattle.lock_free_owners.specs.Container.Settling.{HasSettled}
+use Rattle.lock_free_owners.proofs.ContainerSet.Passes.{settled_once}
+use Rattle.lock_free_owners.proofs.ContainerSet.Settling.{owes_settling, settled_capacity}
 use Rattle.lock_free_owners.proofs.mpmc.container.Pass.join.Goals as goal
 
--- what the load at the other owes, where its seat knows this
-abbrev Settles : {T : Type 0} → Coding T → ℕ → ℕ → ℕ → Me (Unit {0}) (View T) → Type 0
-Settles code key slots id me =
-    Allows (IsMachine code kinds.Container key) slots id me 0 (λ n. n) (λ found new. SettledFrom code kinds.Container me.0 new.0 × (new.1 ≡ []))
+-- what the last look tells, of the view that the join made
+on_joined : {T : Type 0} (code : Coding T) (v x joined new : View T) → joined ≡ joined_view v x → LooksOnce code kinds.Container joined.capacity joined new
+    → Looks code kinds.Container v.capacity (joined_view v x) new
+on_joined code v x joined new is told = subst (λ (z : View _). Looks code kinds.Container z.capacity z new) is told.0
 
-pub load-requires : goal.load-requires
-load-requires g c =
+-- what the load at the other owes, where its seat knows this
+abbrev Settles : {T : Type 0} → Coding T → ℕ → ℕ → ℕ → ℕ → View T → List (ℕ × Unit {0}) → Type 0
+Settles {T} code key words slots id v xs =
+    OwesAsk (λ (z : View T). z.asked) (IsMachine code kinds.Container key) words slots id (λ u n w. HasSettled code u w) 0 Load (v, xs)
+
+pub look-requires-clause-owes : goal.look-requires-clause-owes
+look-requires-clause-owes g c =
     let code : Coding g.row.T.Denot = coding_of g.T.Words.WORDS g.T.Words.words_of g.T.Words.value_of in
     let other = c.args.other.token in
-    let table = c.deref.result.now.shared in
-    let seat = other.seated.seat in
-    let v = seat.me.0 in
-    let at : seat.table_id ≡ table.table_id = search rules in
-    let known : v.capacity ≡ table.key = search rules in (
-      at,
-      subst (λ (t : TableId). 0 < t.words) at (let size = other.sized in omega arith),
-      subst (λ (xs : List (ℕ × Unit {0})). Settles code table.key table.table_id.slots seat.id (v, xs)) (sym other.seated.bare)
-          (settles_or_stays code table.key table.table_id.slots seat.id 0 v known other.idle other.alone other.some.0),
-    )
+    let s = other.seated in
+    let below : 0 < (table_of s).words = (let size = other.sized in omega arith) in
+    subst (λ (xs : List (ℕ × Unit {0})). Settles code (key_of s) (table_of s).words (table_of s).slots s.seat.id (seen s) xs) (sym s.bare)
+    (owes_settling code (key_of s) (table_of s).words (table_of s).slots s.seat.id 0 (seen s) below (other.known ∙ sym other.keyed) other.idle
+    other.alone other.some.0)
 
-pub join_seat-requires : goal.join_seat-requires
-join_seat-requires g c =
+pub look-requires-clause-capacity : goal.look-requires-clause-capacity
+look-requires-clause-capacity g c v n w told =
+    settled_capacity (coding_of g.T.Words.WORDS g.T.Words.words_of g.T.Words.value_of) v w told
+
+pub join-requires-clause-joins : goal.join-requires-clause-joins
+join-requires-clause-joins g c =
     let code : Coding g.row.T.Denot = coding_of g.T.Words.WORDS g.T.Words.words_of g.T.Words.value_of in
     let mine = c.args.self.now.token in
     let other = c.args.other.token in
-    let w = c.load.new.seat.me.0 in
-    let s = settled code other.seated.seat.me.0 w other.alone other.some.0 other.some.1 c.load.ensures.2.0 in
-    let at : mine.seated.seat.table_id ≡ c.deref-2.result.now.shared.table_id = search rules in (
-      at,
-      search rules,
-      c.load.ensures.2.1,
-      subst (λ (t : TableId). 0 < t.words) at (let size = mine.sized in omega arith),
-      joins code kinds.Container _ mine.seated.seat.id c.load.new.seat.id mine.seated.seat.me.0 w mine.some.0 s.part s.idle mine.alone s.fresh,
-    )
+    let x = c.look.new.self.seat.me.0 in
+    let s = settled_once code other.seated.seat.me.0 x other.alone other.some.0 other.some.1 c.look.ensures.told in
+    joins code kinds.Container _ mine.seated.seat.id c.look.new.self.seat.id mine.seated.seat.me.0 x mine.some.0 s.part s.idle mine.alone s.fresh
 
 -- what a look owes, where the seat knows this
-abbrev Owed : {T : Type 0} → Coding T → ℕ → ℕ → ℕ → ℕ → Me (Unit {0}) (View T) → Type 0
-Owed code key slots id word me =
-    Allows (IsMachine code kinds.Container key) slots id me word (λ n. n)
-    (λ found new. Looks code kinds.Container me.0.capacity me.0 new.0 × (new.1 ≡ []))
+abbrev Owed : {T : Type 0} → Coding T → ℕ → ℕ → ℕ → ℕ → View T → List (ℕ × Unit {0}) → Type 0
+Owed {T} code key words slots id v xs =
+    OwesAsk (λ (z : View T). z.asked) (IsMachine code kinds.Container key) words slots id
+    (λ u n w. LooksOnce code kinds.Container u.capacity u w) 0 Load (v, xs)
 
-pub load-requires-2 : goal.load-requires-2
-load-requires-2 g c =
+pub look-requires-2-clause-owes : goal.look-requires-2-clause-owes
+look-requires-2-clause-owes g c =
     let code : Coding g.row.T.Denot = coding_of g.T.Words.WORDS g.T.Words.words_of g.T.Words.value_of in
     let mine = c.args.self.now.token in
     let other = c.args.other.token in
-    let x = c.load.new.seat.me.0 in
-    let s = settled code other.seated.seat.me.0 x other.alone other.some.0 other.some.1 c.load.ensures.2.0 in
-    let w = joined_view mine.seated.seat.me.0 x in
-    let table = c.deref-3.result.now.shared in
-    let slots = table.table_id.slots in
-    let id = c.join_seat.new.seat.id in
-    let at : c.join_seat.new.seat.table_id ≡ table.table_id = search rules in
-    let size : w.capacity ≡ table.key = search rules in
-    let me : c.join_seat.new.seat.me ≡ (w, []) = search rules in
-    let part = positive mine.seated.seat.me.0.share.part x.share.parts mine.some.0 s.parts in
-    let owed : Owed code w.capacity slots id 0 (w, []) = looks code kinds.Container w.capacity slots id 0 w (omega arith) in (
-      at,
-      (let wide = mine.sized in let old : c.join_seat.new.seat.table_id ≡ mine.seated.seat.table_id = search rules in
-          let same = ap (λ (t : TableId). t.words) (sym at ∙ old) in omega arith),
-      subst (λ (m : Me (Unit {0}) (View g.row.T.Denot)). Owed code table.key slots id 0 m) (sym me)
-          (subst (λ k. Owed code k slots id 0 (w, [])) size owed),
-    )
+    let x = c.look.new.self.seat.me.0 in
+    let h = settled_once code other.seated.seat.me.0 x other.alone other.some.0 other.some.1 c.look.ensures.told in
+    let s = c.join.new.self in
+    let v = mine.seated.seat.me.0 in
+    let w = joined_view v x in
+    let words = (table_of s).words in
+    let slots = (table_of s).slots in
+    let id = s.seat.id in
+    let same : (table_of s).words ≡ (table_of mine.seated).words = ap (λ (t : TableId). t.words) c.join.ensures.same.0 in
+    let below : 0 < words = (let wide = mine.sized in omega arith) in
+    let key : key_of s ≡ key_of mine.seated = search rules in
+    let size : w.capacity ≡ key_of s = mine.known ∙ (sym mine.keyed ∙ sym key) in
+    let more = positive v.share.part x.share.parts mine.some.0 h.parts in
+    let some : 0 < w.share.part = omega arith in
+    let owed : Owed code w.capacity words slots id w [] = owes_look code kinds.Container w.capacity words slots id 0 w below some (λ late h. h) in
+    subst (λ (xs : List (ℕ × Unit {0})). Owed code (key_of s) words slots id (seen s) xs) (sym s.bare)
+    (subst (λ (z : View g.row.T.Denot). Owed code (key_of s) words slots id z []) (sym c.join.ensures.joined)
+    (subst (λ k. Owed code k words slots id w []) size owed))
 
 pub returns-clause-joined : goal.returns-clause-joined
 returns-clause-joined g c =
     let code : Coding g.row.T.Denot = coding_of g.T.Words.WORDS g.T.Words.words_of g.T.Words.value_of in
-    let w = joined_view c.args.self.now.token.seated.seat.me.0 c.load.new.seat.me.0 in
-    let me : c.join_seat.new.seat.me ≡ (w, []) = search rules in
-    let seen : Looks code kinds.Container w.capacity w c.load-2.new.seat.me.0 =
-    subst (λ (m : Me (Unit {0}) (View g.row.T.Denot)). Looks code kinds.Container m.0.capacity m.0 c.load-2.new.seat.me.0) me c.load-2.ensures.2.0
-    in
+    let h = c.look.ensures.told in
+    let mine = c.args.self.now.token.seated.seat.me.0 in
+    let new = c.look-2.new.self.seat.me.0 in
+    let looked = on_joined code mine c.look.new.self.seat.me.0 c.join.new.self.seat.me.0 new c.join.ensures.joined c.look-2.ensures.told in
     record {
-      from = c.load.new.seat.me.0;
-      settled = c.load.ensures.2.0;
+      from = h.from;
+      settled = h.settled;
       joined = record {
-        made = seen.made;
-        party = seen.party;
-        share = seen.share;
-        ours = seen.mine;
-        others = seen.theirs;
-        whole = λ all. seen.whole (subst IsAll seen.share all);
+        made = looked.made ∙ ap (λ (z : View g.row.T.Denot). mine.made ++ z.made) h.counted;
+        party = looked.party;
+        share = looked.share ∙ ap (λ (z : View g.row.T.Denot). both_of mine.share z.share) h.counted;
+        ours = looked.mine;
+        others = subst (λ (z : View g.row.T.Denot). IsBeginning z.seen new.seen) h.counted looked.theirs;
+        whole = λ all.
+            subst (λ (z : View g.row.T.Denot). (new.seen ≡ mine.seen) ⊎ (new.seen ≡ z.seen)) h.counted
+            (looked.whole (subst IsAll looked.share all));
       };
     }
 
@@ -95,28 +100,23 @@ pub returns-clause-history : goal.returns-clause-history
 returns-clause-history g c =
     let code : Coding g.row.T.Denot = coding_of g.T.Words.WORDS g.T.Words.words_of g.T.Words.value_of in
     let mine = c.args.self.now.token in
-    let w = joined_view mine.seated.seat.me.0 c.load.new.seat.me.0 in
-    let me : c.join_seat.new.seat.me ≡ (w, []) = search rules in
-    let seen : Looks code kinds.Container w.capacity w c.load-2.new.seat.me.0 =
-    subst (λ (m : Me (Unit {0}) (View g.row.T.Denot)). Looks code kinds.Container m.0.capacity m.0 c.load-2.new.seat.me.0) me c.load-2.ensures.2.0
-    in
-    subst (λ n. IsHistory code kinds.Container n c.load-2.new.seat.me.0.seen) mine.known seen.history
+    let new = c.look-2.new.self.seat.me.0 in
+    let looked =
+    on_joined code mine.seated.seat.me.0 c.look.new.self.seat.me.0 c.join.new.self.seat.me.0 new c.join.ensures.joined c.look-2.ensures.told in
+    subst (λ n. IsHistory code kinds.Container n new.seen) mine.known looked.history
 
 pub returns-clause-all : goal.returns-clause-all
 returns-clause-all g c whole =
     let code : Coding g.row.T.Denot = coding_of g.T.Words.WORDS g.T.Words.words_of g.T.Words.value_of in
-    let w = joined_view c.args.self.now.token.seated.seat.me.0 c.load.new.seat.me.0 in
-    let me : c.join_seat.new.seat.me ≡ (w, []) = search rules in
-    let seen : Looks code kinds.Container w.capacity w c.load-2.new.seat.me.0 =
-    subst (λ (m : Me (Unit {0}) (View g.row.T.Denot)). Looks code kinds.Container m.0.capacity m.0 c.load-2.new.seat.me.0) me c.load-2.ensures.2.0
-    in
-    seen.all (subst IsAll seen.share whole)
+    let looked =
+    on_joined code c.args.self.now.token.seated.seat.me.0 c.look.new.self.seat.me.0 c.join.new.self.seat.me.0 c.look-2.new.self.seat.me.0
+    c.join.ensures.joined c.look-2.ensures.told in
+    looked.all (subst IsAll looked.share whole)
 
 pub returns-clause-keeps : goal.returns-clause-keeps
 returns-clause-keeps g c p is =
     let code : Coding g.row.T.Denot = coding_of g.T.Words.WORDS g.T.Words.words_of g.T.Words.value_of in
-    let w = joined_view c.args.self.now.token.seated.seat.me.0 c.load.new.seat.me.0 in
-    let me : c.join_seat.new.seat.me ≡ (w, []) = search rules in
-    let seen : Looks code kinds.Container w.capacity w c.load-2.new.seat.me.0 =
-    subst (λ (m : Me (Unit {0}) (View g.row.T.Denot)). Looks code kinds.Container m.0.capacity m.0 c.load-2.new.seat.me.0) me c.load-2.ensures.2.0
-    in (seen.party ∙ is, seen.state)
+    let looked =
+    on_joined code c.args.self.now.token.seated.seat.me.0 c.look.new.self.seat.me.0 c.join.new.self.seat.me.0 c.look-2.new.self.seat.me.0
+    c.join.ensures.joined c.look-2.ensures.told in
+    (looked.party ∙ is, looked.state)

@@ -1,12 +1,8 @@
-use Rattle.lock_free_owners.proofs.Names.{◌≡◌, ◌<◌, rules, subst, arith, TableId, coding_of, splits}
+use Rattle.lock_free_owners.proofs.Names.{coding_of, splits}
 use Rattle.model.specs.declared.turn.Kind.TheVariants as kinds
 use Rattle.lock_free_owners.proofs.mpmc.container.Pass.split.Goals as goal
 
-pub split_seat-seat-requires : goal.split_seat-seat-requires
-split_seat-seat-requires g c =
+pub split-requires-clause-splits : goal.split-requires-clause-splits
+split-requires-clause-splits g c =
     let mine = c.args.self.now.token in
-    let at : mine.seated.seat.table_id ≡ c.deref.result.now.shared.table_id = search rules in (
-      at,
-      subst (λ (t : TableId). 0 < t.words) at (let size = mine.sized in omega arith),
-      splits (coding_of g.T.Words.WORDS g.T.Words.words_of g.T.Words.value_of) kinds.Container _ mine.seated.seat.id mine.seated.seat.me.0,
-    )
+    splits (coding_of g.T.Words.WORDS g.T.Words.words_of g.T.Words.value_of) kinds.Container _ mine.seated.seat.id mine.seated.seat.me.0

@@ -5,8 +5,8 @@ use Rattle.std.specs.Prelude.{replicate}
 use Rattle.lock_free_owners.proofs.ContainerSet.Opens.{container_opens, filled}
 use Rattle.lock_free_owners.proofs.mpmc.container.make.open.Goals as goal
 
-pub of_words-requires : goal.of_words-requires
-of_words-requires g c =
+pub open-requires : goal.open-requires
+open-requires g c =
     let met = g.met.T.Words in
     let code : Coding g.row.T.Denot = coding_of g.T.Words.WORDS g.T.Words.words_of g.T.Words.value_of in
     let law : IsCoding code = record { some = met.some; few = met.few; sized = met.sized; given_back = met.given_back } in

@@ -78,3 +78,20 @@ returns-in-Done-clause-found g c =
     (seen c.loop-next.seat) c.loop-next.call c.loop-next.room c.loop-next.visit c.loop-next.invariant.2
     (seen called.new.seat) called.result called.new.room called.new.visit called.ensures.turns called.ensures.moves) in
     (over.visits, over.bound, over.searched, over.found)
+
+pub returns-in-Done-clause-steps : goal.returns-in-Done-clause-steps
+returns-in-Done-clause-steps g c =
+    let met = g.met.T.Words in
+    let code : Coding g.row.T.Denot = coding_of g.T.Words.WORDS g.T.Words.words_of g.T.Words.value_of in
+    let law : IsCoding code = record { some = met.some; few = met.few; sized = met.sized; given_back = met.given_back } in
+    let small : c.args.capacity < 2 ^ 32 = search rules in
+    let called = c.find_next-after in
+    let over : Over code (λ p x h a q. given.F-step g p x h a q) c.args.capacity c.args.owner c.args.id (seen c.args.seat.now) c.args.visit.now
+    (seen called.new.seat) c.in-Done.found called.new.visit
+    = subst (λ a. Further code (λ p x h a q. given.F-step g p x h a q) c.args.capacity c.args.owner c.args.id (seen c.args.seat.now) c.args.visit.now
+    (seen called.new.seat) a called.new.room called.new.visit) c.in-Done.is
+    (further code (λ p x h a q. given.F-step g p x h a q) c.args.capacity c.args.owner c.args.id
+    (seen c.args.seat.now) c.args.visit.now law small (sym c.requires.known)
+    (seen c.loop-next.seat) c.loop-next.call c.loop-next.room c.loop-next.visit c.loop-next.invariant.2
+    (seen called.new.seat) called.result called.new.room called.new.visit called.ensures.turns called.ensures.moves) in
+    over.steps

@@ -3,7 +3,9 @@ use Rattle.lock_free_owners.proofs.Names.{IsCoding, coding_of, Owes, seen, table
 use Rattle.lock_free_owners.proofs.Names.{IsMachine}
 use Rattle.model.specs.declared.turn.Kind.TheVariants as kinds
 use Rattle.threaded.specs.Driver.{Told}
+use Rattle.history.specs.Steps.{TakesAtMost}
 use Rattle.lock_free_owners.specs.Container.FindTurns.{FindAt, FindDone, find_goes, find_copying, FindTells}
+use Rattle.lock_free_owners.proofs.ContainerSet.Counted.{counted_owes}
 use Rattle.lock_free_owners.proofs.ContainerSet.FindTurns.{find_keeps, find_tells, at_its_word}
 use Rattle.lock_free_owners.proofs.mpmc.container.visits.step_find.Goals as goal
 
@@ -19,13 +21,16 @@ step_telling-requires-clause-owes g c =
     let told : View g.row.T.Denot → ℕ → View g.row.T.Denot → Type 0 =
     Told (λ (z : View g.row.T.Denot). z.capacity) (FindAt code c.args.owner) (FindDone code c.args.owner)
     (find_goes code c.args.owner) (find_copying code c.args.owner) call (room, at.1) in
-    let more : View g.row.T.Denot → ℕ → View g.row.T.Denot → Type 0 = λ v n w. (w.capacity ≡ v.capacity) × FindTells code c.args.owner call room v n w in
+    let more : View g.row.T.Denot → ℕ → View g.row.T.Denot → Type 0 = λ v n w. (w.capacity ≡ v.capacity) × FindTells code c.args.owner call room v n w
+    × TakesAtMost 1 v w in
     subst (λ (xs : List (ℕ × Unit {0})). Owes (λ (z : View g.row.T.Denot). z.asked)
     (IsMachine code kinds.Container (key_of s)) (table_of s).words (table_of s).slots s.seat.id more
     (find_want code.size call) (seen s, xs)) (sym s.bare)
     (weaker_owes (λ (z : View g.row.T.Denot). z.asked) (IsMachine code kinds.Container (key_of s))
-    (table_of s).words (table_of s).slots s.seat.id told more (find_want code.size call) (seen s, [])
-    (λ n w h. find_tells code law c.args.owner at.0 (seen s) call room at.1 at.2 n w h)
+    (table_of s).words (table_of s).slots s.seat.id (λ v n w. told v n w × TakesAtMost 1 v w) more (find_want code.size call) (seen s, [])
+    (λ n w h. let tells = find_tells code law c.args.owner at.0 (seen s) call room at.1 at.2 n w h.0 in (tells.0, tells.1, h.1))
+    (counted_owes (λ (z : View g.row.T.Denot). z.asked) (IsMachine code kinds.Container (key_of s))
+    (table_of s).words (table_of s).slots s.seat.id told (find_want code.size call) (seen s, [])
     (find_keeps code law c.args.owner at.0 (seen s) call (room, at.1) (key_of s) (table_of s).words (table_of s).slots s.seat.id
     (at_its_word code law c.args.owner call.capacity call.stage c.requires.word)
-    (c.requires.board.0 ∙ ap (λ k. total_words k code.size + 1) (sym c.requires.board.1)) (sym c.requires.board.1) at.2))
+    (c.requires.board.0 ∙ ap (λ k. total_words k code.size + 1) (sym c.requires.board.1)) (sym c.requires.board.1) at.2)))

@@ -1,43 +1,40 @@
-use Rattle.lock_free_owners.proofs.Names.{◌≡◌, ◌<◌, ℕ, [], rules, sym, ap, subst, ◌∙◌, arith, TableId, Me, Allows}
-use Rattle.lock_free_owners.proofs.Names.{one_word, View, IsMachine, joined_view, positive, joins}
-use Rattle.history.proofs.PassLooks.{looks_once}
+use Rattle.lock_free_owners.proofs.Names.{◌≡◌, ◌<◌, ℕ, List, [], rules, sym, ap, subst, ◌∙◌, arith, TableId, OwesAsk}
+use Rattle.lock_free_owners.proofs.Names.{one_word, View, IsMachine, joined_view, positive, joins, seen, table_of, key_of}
+use Rattle.steps.specs.declared.ask.Op.TheVariants.{Load}
+use Rattle.history.proofs.PassLooks.{owes_look}
 use Rattle.history.specs.Views.{LooksOnce}
 use Rattle.model.specs.declared.turn.Kind.TheVariants as kinds
 use Rattle.lock_free_owners.proofs.mpmc.robust_unique_index_set.Pass.join.Goals as goal
 
-pub join_seat-requires : goal.join_seat-requires
-join_seat-requires c =
+pub join-requires-clause-joins : goal.join-requires-clause-joins
+join-requires-clause-joins c =
     let mine = c.args.self.now in
-    let at : mine.seated.seat.table_id ≡ c.deref.result.now.shared.table_id = search rules in (
-      at,
-      search rules,
-      search rules,
-      subst (λ (t : TableId). 0 < t.words) at (let size = mine.sized in omega arith),
-      joins one_word kinds.Robust _ mine.seated.seat.id c.args.other.seated.seat.id mine.seated.seat.me.0 c.args.other.seated.seat.me.0 mine.some.0
-          c.args.other.some.0 c.args.other.idle mine.alone c.args.other.alone,
-    )
+    joins one_word kinds.Robust _ mine.seated.seat.id c.args.other.seated.seat.id mine.seated.seat.me.0 c.args.other.seated.seat.me.0 mine.some.0
+    c.args.other.some.0 c.args.other.idle mine.alone c.args.other.alone
 
 -- what a look owes, where the seat knows this
-abbrev Owed : ℕ → ℕ → ℕ → ℕ → Me (Unit {0}) (View ℕ) → Type 0
-Owed key slots id word me =
-    Allows (IsMachine one_word kinds.Robust key) slots id me word (λ n. n)
-    (λ found new. LooksOnce one_word kinds.Robust me.0.capacity me.0 new.0 × (new.1 ≡ []))
+abbrev Owed : ℕ → ℕ → ℕ → ℕ → View ℕ → List (ℕ × Unit {0}) → Type 0
+Owed key words slots id v xs =
+    OwesAsk (λ (z : View ℕ). z.asked) (IsMachine one_word kinds.Robust key) words slots id
+    (λ u n w. LooksOnce one_word kinds.Robust u.capacity u w) 0 Load (v, xs)
 
-pub load-requires : goal.load-requires
-load-requires c =
+pub look-requires-clause-owes : goal.look-requires-clause-owes
+look-requires-clause-owes c =
     let mine = c.args.self.now in
-    let other = c.args.other.seated.seat.me.0 in
-    let w = joined_view mine.seated.seat.me.0 other in
-    let slots = c.deref-2.result.now.shared.table_id.slots in
-    let id = c.join_seat.new.seat.id in
-    let at : c.join_seat.new.seat.table_id ≡ c.deref-2.result.now.shared.table_id = search rules in
-    let size : w.capacity ≡ c.deref-2.result.now.shared.key = search rules in
-    let me : c.join_seat.new.seat.me ≡ (w, []) = search rules in
-    let owed : Owed w.capacity slots id 0 (w, []) = looks_once one_word kinds.Robust w.capacity slots id 0 w
-    (let more = positive mine.seated.seat.me.0.share.part other.share.parts mine.some.0 c.args.other.some.1 in omega arith) (λ late h. h) in (
-      at,
-      (let wide = mine.sized in let old : c.join_seat.new.seat.table_id ≡ mine.seated.seat.table_id = search rules in
-          let same = ap (λ (t : TableId). t.words) (sym at ∙ old) in omega arith),
-      subst (λ (m : Me (Unit {0}) (View ℕ)). Owed c.deref-2.result.now.shared.key slots id 0 m) (sym me)
-          (subst (λ k. Owed k slots id 0 (w, [])) size owed),
-    )
+    let s = c.join.new.self in
+    let v = mine.seated.seat.me.0 in
+    let u = c.args.other.seated.seat.me.0 in
+    let w = joined_view v u in
+    let words = (table_of s).words in
+    let slots = (table_of s).slots in
+    let id = s.seat.id in
+    let same : (table_of s).words ≡ (table_of mine.seated).words = ap (λ (t : TableId). t.words) c.join.ensures.same.0 in
+    let below : 0 < words = (let wide = mine.sized in omega arith) in
+    let key : key_of s ≡ key_of mine.seated = search rules in
+    let size : w.capacity ≡ key_of s = mine.known ∙ (sym mine.keyed ∙ sym key) in
+    let more = positive v.share.part u.share.parts mine.some.0 c.args.other.some.1 in
+    let some : 0 < w.share.part = omega arith in
+    let owed : Owed w.capacity words slots id w [] = owes_look one_word kinds.Robust w.capacity words slots id 0 w below some (λ late h. h) in
+    subst (λ (xs : List (ℕ × Unit {0})). Owed (key_of s) words slots id (seen s) xs) (sym s.bare)
+    (subst (λ (z : View ℕ). Owed (key_of s) words slots id z []) (sym c.join.ensures.joined)
+    (subst (λ k. Owed k words slots id w []) size owed))

@@ -1,4 +1,4 @@
-use Rattle.lock_free_owners.proofs.Names.{◌+◌, ◌≤◌, arith, rules, sym, ap, subst, one_word, seen, ◌∙◌, SetId, Looks}
+use Rattle.lock_free_owners.proofs.Names.{arith, rules, sym, ap, subst, one_word, seen, ◌∙◌, SetId, Looks}
 use Rattle.model.specs.declared.turn.Kind.TheVariants as kinds
 use Rattle.threaded.proofs.Callable.{takes_places_at}
 use Rattle.history.specs.Steps.{TakesAtMost}

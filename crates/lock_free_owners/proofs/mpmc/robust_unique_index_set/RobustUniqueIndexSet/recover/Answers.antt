@@ -1,5 +1,5 @@
 use Rattle.lock_free_owners.proofs.Names.{[], rules, sym, ap, subst, one_word, seen, SetId, Goes, recovers_owned}
-use Rattle.lock_free_owners.proofs.Names.{◌∙◌, ◌+◌}
+use Rattle.lock_free_owners.proofs.Names.{◌∙◌}
 use Rattle.lock_free_owners.proofs.Names.{recover_first}
 use Rattle.steps.specs.Indices.Robust.Recover.{first_recover}
 use Rattle.model.specs.declared.turn.Kind.TheVariants as kinds

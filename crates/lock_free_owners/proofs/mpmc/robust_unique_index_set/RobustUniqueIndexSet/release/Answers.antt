@@ -1,5 +1,4 @@
 use Rattle.lock_free_owners.proofs.Names.{◌<◌, rules, sym, ap, subst, ◌∙◌, first_release, GiveBack, one_word, seen}
-use Rattle.lock_free_owners.proofs.Names.{◌+◌}
 use Rattle.lock_free_owners.proofs.Names.{SetId, Goes, gives_owned, At, release_keeps, release_first}
 use Rattle.model.specs.declared.turn.Kind.TheVariants as kinds
 use Rattle.lock_free_owners.specs.Robust.Steps.{ReleaseTakes}

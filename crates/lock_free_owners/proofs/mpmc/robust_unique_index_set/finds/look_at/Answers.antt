@@ -1,28 +1,26 @@
-use Rattle.lock_free_owners.proofs.Names.{◌≡◌, ◌<◌, ◌+◌, ℕ, List, [], rules, sym, subst, arith, TableId, Me, Allows}
-use Rattle.lock_free_owners.proofs.Names.{one_word, seen, View, IsMachine, LooksAt}
+use Rattle.lock_free_owners.proofs.Names.{◌<◌, ◌+◌, ℕ, List, [], sym, subst, arith, OwesAsk}
+use Rattle.lock_free_owners.proofs.Names.{one_word, seen, table_of, key_of, View, IsMachine, LooksAt}
+use Rattle.steps.specs.declared.ask.Op.TheVariants.{Load}
 use Rattle.model.specs.declared.turn.Kind.TheVariants as kinds
-use Rattle.lock_free_owners.proofs.RobustSet.Looking.{looks_word_once}
+use Rattle.lock_free_owners.proofs.RobustSet.Looking.{owes_word}
 use Rattle.lock_free_owners.proofs.mpmc.robust_unique_index_set.finds.look_at.Goals as goal
 
 -- what the load owes, where the seat knows this
-abbrev Owed : ℕ → ℕ → ℕ → ℕ → Me (Unit {0}) (View ℕ) → Type 0
-Owed key slots id word me =
-    Allows (IsMachine one_word kinds.Robust key) slots id me word (λ n. n)
-    (λ found new. LooksAt one_word kinds.Robust me.0.capacity word me.0 found new.0 × (new.0.asked ≡ me.0.asked + 1) × (new.1 ≡ []))
+abbrev Owed : ℕ → ℕ → ℕ → ℕ → ℕ → View ℕ → List (ℕ × Unit {0}) → Type 0
+Owed key words slots id word v xs =
+    OwesAsk (λ (z : View ℕ). z.asked) (IsMachine one_word kinds.Robust key) words slots id
+    (λ u n w. LooksAt one_word kinds.Robust u.capacity word u n w) word Load (v, xs)
 
-pub load-requires : goal.load-requires
-load-requires c =
-    let seat = c.args.seat.now.seat in
-    let v = seen c.args.seat.now in
-    let table = c.deref.result.now.shared in
+pub look-requires-clause-owes : goal.look-requires-clause-owes
+look-requires-clause-owes c =
+    let s = c.args.seat.now in
+    let v = seen s in
     let word = 1 + c.args.cell in
-    let at : seat.table_id ≡ table.table_id = search rules in
-    let size : v.capacity ≡ table.key = search rules in
-    let owed : Owed v.capacity table.table_id.slots seat.id word (v, []) =
-    looks_word_once v.capacity table.table_id.slots seat.id word v c.requires.some in (
-      at,
-      subst (λ (t : TableId). word < t.words) at
-          (let wide = c.requires.board.0 in let cell = c.requires.within in let known = c.requires.known in omega arith),
-      subst (λ (xs : List (ℕ × Unit {0})). Owed table.key table.table_id.slots seat.id word (v, xs)) (sym c.args.seat.now.bare)
-          (subst (λ k. Owed k table.table_id.slots seat.id word (v, [])) size owed),
-    )
+    let words = (table_of s).words in
+    let slots = (table_of s).slots in
+    let id = s.seat.id in
+    let below : word < words =
+    (let wide = c.requires.board.0 in let cell = c.requires.within in let known = c.requires.known in omega arith) in
+    let owed : Owed v.capacity words slots id word v [] = owes_word v.capacity words slots id word v below c.requires.some in
+    subst (λ (xs : List (ℕ × Unit {0})). Owed (key_of s) words slots id word v xs) (sym s.bare)
+    (subst (λ k. Owed k words slots id word v []) (sym c.requires.board.1) owed)

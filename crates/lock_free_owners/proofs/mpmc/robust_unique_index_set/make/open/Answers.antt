@@ -4,8 +4,8 @@ use Rattle.std.specs.Prelude.{replicate}
 use Rattle.lock_free_owners.proofs.RobustSet.Opens.{robust_opens}
 use Rattle.lock_free_owners.proofs.mpmc.robust_unique_index_set.make.open.Goals as goal
 
-pub of_words-requires : goal.of_words-requires
-of_words-requires c =
+pub open-requires : goal.open-requires
+open-requires c =
     let size = 1 + c.args.capacity in
     let pushed = c.push_reserved.new.self in
     let none = c.in_ok-words.ensures.len in

@@ -1,0 +1,5 @@
+use Rattle.history_laws.proofs.GrantsLaws.{never_freed}
+use Rattle.history_laws.proofs.grants.indices_never_freed_are_freed_right.Goals as goal
+
+pub returns : goal.returns
+returns g c index events none = never_freed index events none

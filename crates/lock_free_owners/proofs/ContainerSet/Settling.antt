@@ -1,0 +1,79 @@
+-- A load with which a call that rests ends, or that leaves what is known, as a seat owes it.
+use Rattle.lock_free_owners.proofs.Names.{◌≡◌, ◌⊎◌, inl, inr, ℕ, ◌<◌, None, [], refl, ap, subst, ◌∙◌, slice_index}
+use Rattle.lock_free_owners.proofs.Names.{set, Coding, View, OwesAsk, IsMachine, IsResting, SettledFrom}
+use Rattle.lock_free_owners.proofs.Names.{container_effects, container_words, containers_owe}
+use Rattle.std.proofs.Common.{set-set}
+use Rattle.atomic_table.specs.Table as table
+use Rattle.atomic_table.proofs.Lists.{set_here}
+use Rattle.steps.specs.declared.ask.Op.TheVariants.{Load}
+use Rattle.model.specs.declared.turn.Kind.TheVariants as kinds
+use Rattle.history.proofs.ContainerRests.{never_late, ends_quiet}
+use Rattle.history.proofs.Known.{within}
+use Rattle.history.proofs.Settling.{view_settled, table_settled, machine_settled, settles}
+use Rattle.lock_free_owners.specs.Container.Idle.{IsIdle}
+use Rattle.lock_free_owners.specs.Container.Settling.{HasSettled}
+use Rattle.lock_free_owners.proofs.ContainerSet.Idle.{rests}
+use Rattle.lock_free_owners.proofs.Rules.Container.Bare.{leaves}
+
+module _ {T : Type 0} (code : Coding T) where
+  abbrev Owed : (key words slots id word : ℕ) → View T → Type 0
+  Owed key words slots id word v =
+      OwesAsk (λ (z : View T). z.asked) (IsMachine code kinds.Container key) words slots id
+      (λ u n w. HasSettled code u w) word Load (v, [])
+
+  settles_by : (key words slots id word : ℕ) (v : View T) → word < words → v.capacity ≡ key → (v.going ≡ None) ⊎ IsResting code v
+      → Owed key words slots id word v
+  settles_by key words slots id word v below known (inl idle) = (
+    below,
+    λ s r long at small.
+        leaves code key slots id v word (λ n. n) (λ k. refl) (λ u n w. HasSettled code u w)
+        (λ k. record { from = v; settled = inl (refl, idle); counted = refl }) s r long at small,
+  )
+  settles_by key words slots id word v below known (inr h) = (
+    below,
+    λ s r long at small. (
+        let vh : View T =
+        view_settled code kinds.Container tt container_effects (container_words code) (containers_owe code) (never_late code) (ends_quiet code)
+        s v key id r at known h in
+        let x =
+        leaves code key slots id vh word (λ n. n) (λ k. refl) (λ u n w. w ≡ record u { asked = w.asked }) (λ k. refl)
+        (table_settled code kinds.Container tt container_effects (container_words code) (containers_owe code) (never_late code) (ends_quiet code)
+        s v key id r at known h)
+        (machine_settled code kinds.Container tt container_effects (container_words code) (containers_owe code) (never_late code) (ends_quiet code)
+        s v key id r at known h)
+        long (set_here s.views id vh (within s.views id v at)) small in (
+          x.0,
+          x.1,
+          x.2,
+          subst (λ vs. IsMachine code kinds.Container key
+              (record {
+                words = set s.words word (slice_index s.words word);
+                homes = table.homes_after s.homes [] x.1;
+                views = vs;
+              }))
+              (set-set s.views id vh x.0) x.3,
+          (
+            record {
+              from = vh;
+              settled =
+                  inr (settles code kinds.Container tt container_effects (container_words code) (containers_owe code) (never_late code) (ends_quiet code)
+                  s v key id r at known h);
+              counted = x.4.0;
+            },
+            x.4.1,
+            x.4.2,
+          ),
+        )),
+  )
+
+  pub owes_settling : (key words slots id word : ℕ) (v : View T) → word < words → v.capacity ≡ key → IsIdle v → v.other ≡ [] → 0 < v.share.part
+      → Owed key words slots id word v
+  owes_settling key words slots id word v below known idle alone any = settles_by key words slots id word v below known (rests code v alone any idle)
+
+  -- the capacity stays
+  of_from : (v from : View T) → SettledFrom code kinds.Container v from → from.capacity ≡ v.capacity
+  of_from v from (inl same) = ap (λ (z : View T). z.capacity) same.0
+  of_from v from (inr s) = s.capacity
+
+  pub settled_capacity : (v w : View T) → HasSettled code v w → w.capacity ≡ v.capacity
+  settled_capacity v w h = ap (λ (z : View T). z.capacity) h.counted ∙ of_from v h.from h.settled
