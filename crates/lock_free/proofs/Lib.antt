@@ -11,6 +11,7 @@ pub use Rattle.threaded.proofs.Fractions
 pub use Rattle.threaded.proofs.Shares
 mod Names
 pub mod Sums
+pub mod Whole
 mod Looks
 mod Steps
 pub mod Ends

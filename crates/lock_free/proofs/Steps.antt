@@ -4,7 +4,7 @@ use Rattle.lock_free.proofs.Names.{Calling, Ends, Kind, Bits, ResetAll, Start, O
 use Rattle.model.specs.declared.party.Party.{Party}
 use Rattle.model.specs.declared.turn.Kind.TheVariants as kinds
 use Rattle.model.specs.Parties.{party_of}
-use Rattle.model.specs.Progress.{Guarantee, WaitFree, IsWithin, guarantee_of}
+use Rattle.model.specs.Progress.{WaitFree, IsWithin, guarantee_of}
 use Rattle.history.specs.History.{started, steps_of}
 use Rattle.history.specs.Stages.{StepsOnly, taken_by}
 use Rattle.history.specs.Steps.{TakesAtMost}

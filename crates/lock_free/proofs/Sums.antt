@@ -6,7 +6,8 @@ use Rattle.std.specs.List.{sum_by}
 use Rattle.model.specs.Reading.{whose, is_party}
 
 -- what a call adds: its begin, what it wrote, its end
-pub sum_made : (f : Event ℕ → ℕ) (p : ℕ) (start : Start ℕ) (answer : Answer ℕ) (wrote : List (Event ℕ)) (old new : View ℕ) → Called p start answer wrote old new
+pub sum_made : {T : Type 0} → (f : Event T → ℕ) (p : ℕ) (start : Start T) (answer : Answer T) (wrote : List (Event T)) (old new : View T)
+    → Called p start answer wrote old new
     → sum_by f new.made ≡ sum_by f old.made + (f (Begun p start) + (sum_by f wrote + f (Finished p start answer)))
 sum_made x0 x1 x2 x3 x4 x5 x6 x7 = grind (arith, sum_by, sum_by-append, sum_by-cons, sum_by_push)
 

@@ -19,6 +19,11 @@ pub use Rattle.history_laws.specs.Counts as CountLaws
 pub use Rattle.history_laws.specs.Owners as OwnerLaws
 pub use Rattle.history_laws.specs.Containers as ContainerLaws
 pub use Rattle.history_laws.specs.Grants as GrantLaws
+-- What these laws ask of whoever acts for an owner.
+pub use Rattle.laws_robust.specs.Gone as OwnersGone
+pub use Rattle.model.specs.Families.Indices.Robust.Promises as RobustPromises
+pub use Rattle.model.specs.Families.Container.Promises as ContainerPromises
+pub use Rattle.laws_container.specs.Open as ContainerRuns
 pub use Rattle.history.specs.Acts as HistoryActs
 pub use Rattle.history.specs.Order as HistoryOrder
 pub use Rattle.model.specs.Linearizable
@@ -42,6 +47,7 @@ pub use Rattle.steps.specs.declared.bits.counting_bit_set.BitState
 pub use Rattle.steps.specs.declared.words.Words
 pub mod Value
 pub mod Queues
+pub mod Whole
 pub mod Driven
 pub mod Unique
 pub mod UniqueIndexSet

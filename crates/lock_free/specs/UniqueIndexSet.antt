@@ -1,7 +1,6 @@
 -- The words of the contracts of a unique index set: what names it, which pass is for it, and
 -- what a pass or a held index knows of the set's history.
 use Rattle.std.specs.Prelude.{◌≡◌, ℕ, ◌-◌, ◌^◌, ◌||◌, Option, Some, List, if◌then◌else◌, nat_lt}
-use Rattle.std.specs.Arc.{arc_value}
 use Rattle.steps.specs.Enums.{capacity_refusal}
 use Rattle.steps.specs.declared.enums.UniqueIndexCreationError.{UniqueIndexCreationError}
 use Rattle.steps.specs.declared.enums.UniqueIndexCreationError.TheVariants.{ProvidedCapacityGreaterThanMaxCapacity}
@@ -9,6 +8,7 @@ use Rattle.model.specs.declared.event.Event.{Event}
 use Rattle.model.specs.declared.turn.Kind.TheVariants as kinds
 use Rattle.model.specs.Coding.{one_word}
 use Rattle.threaded.specs.declared.share.Share.{Share}
+use Rattle.threaded.specs.Seats.{home_id}
 pub use Rattle.threaded.specs.Sets.{SetId}
 use Rattle.history.specs.declared.view.View.{View}
 use Rattle.history.specs.History.{IsHistory}
@@ -21,7 +21,7 @@ use Rattle.lock_free.specs.declared.mpmc.unique_index_set.UniqueIndex.{UniqueInd
 
 -- what names a set
 abbrev pub set_id : UniqueIndexSet → SetId
-set_id s = record { table = (arc_value s.table).shared.table_id; capacity = s.capacity }
+set_id s = record { table = home_id s.home; capacity = s.capacity }
 
 abbrev pub capacity_of : UniqueIndexSet → ℕ
 capacity_of s = s.capacity

@@ -1,10 +1,9 @@
-//! The laws of what threads have seen, by structure. Each function does nothing: its contract is a law, whose proof is a
+//! The laws of what threads have seen, by structure. Each function does nothing: its contract is a law, proved by a
 //! lemma that a client's proof can cite.
 //!
-//! `histories` has those of every structure: where the calls of passes stand in one history, and when joined shares are
-//! the whole. The other modules are each of one structure: `indices` of unique index sets and `pools` of those who hold
-//! their indices, `owners` of robust sets, `queues` of queues of any kind, `overflowing` of overflowing ones alone, and
-//! `value` of the single value.
+//! `histories` has those of every structure. Each other module is of one: `bits` and `counts` of bit sets, `indices` of
+//! unique index sets and `pools` of those who hold their indices, `owners` of robust sets, `overflowing` of overflowing
+//! queues alone, `queues` of any, and `loans` of a sender's calls.
 
 pub mod bits;
 pub mod containers;

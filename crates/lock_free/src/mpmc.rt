@@ -1,4 +1,4 @@
-//! Many producers and many consumers.
+//! Structures that have many producers and many consumers.
 
 pub use lock_free_owners::mpmc::{container, robust_unique_index_set};
 

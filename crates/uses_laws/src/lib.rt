@@ -2,6 +2,7 @@
 #![tactic(auto)]
 
 pub mod acts;
+pub mod alone;
 pub mod copies;
 pub mod counted;
 pub mod drain;

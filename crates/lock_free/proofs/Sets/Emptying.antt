@@ -2,11 +2,11 @@
 use Rattle.lock_free.proofs.Names.{◌≡◌, ℕ, ◌+◌, ◌<◌, ◌≤◌, nat_lt, Bool, true, false, Option, Some}
 use Rattle.lock_free.proofs.Names.{None, IfSome, List, [], ◌++◌, map, refl, ap, subst, ◌∙◌, arith, nat_tests}
 use Rattle.lock_free.proofs.Names.{by_test, elements, Ask, Emptying, OneWord, Event, Cleared, Bits, ResetAll}
-use Rattle.lock_free.proofs.Names.{one_word, Trace, after_of, opening_of, first_of, fresh, Allows, answered, KeepsRule}
-use Rattle.lock_free.proofs.Names.{View, IsMachine, Calling, At, Ends, IsCallOf, goes, keeps_all}
+use Rattle.lock_free.proofs.Names.{one_word, Trace, after_of, opening_of, first_of, fresh, answered, KeepsRule}
+use Rattle.lock_free.proofs.Names.{View, IsMachine, Calling, At, Ends, IsCallOf, goes, keeps_all, OwesAsk}
 use Rattle.std.specs.List.{sum_by}
 use Rattle.steps.specs.Bits.ResetAll.{reset_all_want, reset_all_after, reset_all_kept}
-use Rattle.steps.specs.declared.ask.Op.TheVariants.{Swap}
+use Rattle.steps.specs.declared.ask.Op.TheVariants.{Load, Swap}
 use Rattle.steps.specs.declared.ask.After.TheVariants.{GoOn, Done}
 use Rattle.steps.specs.declared.ask.Want.{Want}
 use Rattle.steps.specs.declared.ask.Want.TheVariants as wants
@@ -16,12 +16,13 @@ use Rattle.laws_bits.proofs.Bits.Lists.{no_places}
 use Rattle.history.specs.History.{IsRun}
 use Rattle.history.specs.Known.{owned}
 use Rattle.history.specs.Stages.{Starts, IsFirst}
-use Rattle.history.proofs.Drives.{NeverPushes, at_once}
+use Rattle.history.proofs.Drives.{NeverPushes}
 use Rattle.history.proofs.Sets.{bits_starts, counts_starts, set_effects, bits_owe, counts_owe}
 use Rattle.history.proofs.Turns.{KindLaws}
 use Rattle.lock_free.specs.Driven.{IsIdle}
 use Rattle.lock_free.specs.Sets.Kinds.{SetKind, Flags, Counts, machine_kind, first_word, words_of}
 use Rattle.lock_free.specs.Sets.Stages.{all_words, word_of, flight_at, emptied, empties, empties_none}
+use Rattle.lock_free.proofs.Sets.AtOnce.{owes_once}
 
 -- ---- how it goes on
 
@@ -168,12 +169,14 @@ module _ (kind : SetKind) (v : View ℕ) (idle : IsIdle v.capacity v) where
   none_first : IsFirst one_word (machine_kind kind) (empties_none kind) v v (all_words kind v.capacity) fresh
   none_first = grind (arith, begins, starts, empties_none, all_words, fresh, may)
 
-  pub none_at : v.capacity ≡ 0 → (slots id word : ℕ) → Allows (IsMachine one_word (machine_kind kind) v.capacity) slots id (v, []) word (λ n. n)
-      (λ found me. Ends one_word (machine_kind kind) (empties_none kind) v tt (record { 0 = 0 }) me.0 × (me.1 ≡ []))
-  none_at none slots id word =
-      at_once one_word (machine_kind kind) set_effects (words_of kind) (owes kind) (empties_none kind) v
-      (all_words kind v.capacity) fresh fresh tt v.capacity slots id word refl none_first
-      (asks_none kind) (never kind (all_words kind v.capacity) fresh 0) (ends_so kind) (writes_none kind) (λ p wrote h. h)
+  -- as what a seat owes for it
+  pub owes_none : v.capacity ≡ 0 → (words slots id word : ℕ) → word < words
+      → OwesAsk (λ (z : View ℕ). z.asked) (IsMachine one_word (machine_kind kind) v.capacity) words slots id
+      (λ u n w. Ends one_word (machine_kind kind) (empties_none kind) u tt (record { 0 = 0 }) w) word Load (v, [])
+  owes_none none =
+      owes_once one_word (machine_kind kind) set_effects (words_of kind) (owes kind) (empties_none kind) v
+      (all_words kind v.capacity) fresh fresh tt none_first (asks_none kind) (never kind)
+      (ends_so kind) (writes_none kind) (λ p wrote h. h)
     where
       asks_none : (k : SetKind) → want_of one_word (flight_at {T = ℕ} k (all_words k v.capacity) fresh) ≡ wants.Nothing
       asks_none Flags =

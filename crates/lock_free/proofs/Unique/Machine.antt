@@ -2,22 +2,18 @@
 -- begun has ended and a pass made all of it, what is in use is what that pass holds.
 use Rattle.lock_free.proofs.Names.{◌≡◌, ◌≢◌, ⊎_elim, ℕ, zero, suc, ◌+◌, ◌<◌, ◌≤◌, ◌==◌, Bool, true, false, Option, Some}
 use Rattle.lock_free.proofs.Names.{None, List, [], ◌∷◌, ◌++◌, length, fold, refl, sym, ap, subst, ◌∙◌, append_assoc}
-use Rattle.lock_free.proofs.Names.{append-nil, arith, if◌then◌else◌, cases_lt, nat_tests, fold-append, sum_by-cons}
-use Rattle.lock_free.proofs.Names.{Event, Begun, Claimed, Freed, Finished, one_word, Trace, claims, frees, View}
+use Rattle.lock_free.proofs.Names.{append-nil, arith, cases_lt, nat_tests, fold-append, sum_by-cons}
+use Rattle.lock_free.proofs.Names.{Event, Claimed, Freed, one_word, Trace, claims, frees, View}
 use Rattle.lock_free.proofs.Names.{IsHistory, IsOfParties, held_by, holds_once}
 use Rattle.std.proofs.Common.{sum_by}
 use Rattle.std.proofs.lemmas.List.{get_or_past}
 use Rattle.steps.specs.Indices.Head.{locked, says_locked}
 use Rattle.model.specs.declared.families.Flight.{Flight}
-use Rattle.model.specs.declared.party.Doing.{Doing}
-use Rattle.model.specs.declared.party.Doing.TheVariants.{Going, Over}
-use Rattle.model.specs.declared.party.Party.{Party}
 use Rattle.model.specs.declared.turn.Kind.TheVariants as kinds
-use Rattle.model.specs.Families.Indices.Promises.{HoldsRight, promise}
+use Rattle.model.specs.Families.Indices.Promises.{HoldsRight}
 use Rattle.model.specs.Families.Indices.Reading.{holder_after, holder_of, is_locked, Tally, tally_of}
 use Rattle.model.specs.Parties.{party_of, doing_of, flight_of}
-use Rattle.model.specs.Promises.Spans.{Stands, StandsRight}
-use Rattle.model.specs.Reading.{Each, whose, is_party, Span, Never, Open, Ended, longer, own_after, span_after, span_of}
+use Rattle.model.specs.Reading.{Each}
 use Rattle.model.proofs.Frame as frame
 use Rattle.laws_indices.proofs.Core.{head_of, counted_in, holder, one_held, held_below, none_if_zero}
 use Rattle.laws_indices.proofs.Count.{counts_none}
@@ -27,7 +23,9 @@ use Rattle.laws_indices.proofs.Sound.{reached_on_sound}
 use Rattle.laws_indices.proofs.Stages.{same_tally}
 use Rattle.laws_indices.proofs.Sums.{sum_below, sum_moved, sum_same, sum_one, sum_none}
 use Rattle.laws_indices.proofs.Totals.{weight_of, weight_at, total}
-use Rattle.lock_free.specs.Unique.Held.{one_if, times, HeldBy, begins, ends, IsDone}
+use Rattle.lock_free.specs.Unique.Held.{one_if, times, HeldBy}
+use Rattle.lock_free.specs.Whole.{begins, ends, IsDone}
+use Rattle.lock_free.proofs.Whole.Passed.{counted_as, goes_none}
 
 -- ---- sums beside what a fold makes of the events
 
@@ -52,55 +50,6 @@ module _ {S : Type 0} (a b : Event ℕ → ℕ) (after : S → Event ℕ → S) 
       let one = sum_by-cons a e es in
       let two = sum_by-cons b e es in
       omega arith
-
--- ---- a call that has ended is not under way
-
-abbrev is_open : Span ℕ → ℕ
-is_open Never = 0
-is_open (Open start wrote) = 1
-is_open (Ended start answer wrote) = 0
-
-longer_same : (span : Span ℕ) (e : Event ℕ) → is_open (longer span e) ≡ is_open span
-longer_same x0 x1 = grind arith
-
-module _ (c p : ℕ) (before : List (Event ℕ)) where
-  abbrev span : Span ℕ
-  span = span_of p before
-
-  still : (b : Bool) (s : Span ℕ) (e : Event ℕ) → is_open (if b then longer s e else s) ≡ is_open s
-  still true s e = longer_same s e
-  still false s e = refl
-
-  opens : (e : Event ℕ) → StandsRight promise c before e → begins p e + is_open span ≡ ends p e + is_open (span_after p span e)
-  opens (Begun q start) h = go (q == p) refl
-    where
-      shut : (s : Span ℕ) → Stands promise c (Begun q start) s → is_open s ≡ 0
-      shut Never x = refl
-      shut (Open call es) x = absurd x
-      shut (Ended call answer es) x = refl
-
-      go : (b : Bool) → (q == p) ≡ b → begins p (Begun q start) + is_open span ≡ 0 + is_open (span_after p span (Begun q start))
-      go true t =
-          let same : q ≡ p = grind (arith, nat_tests) in
-          let none = shut span (subst (λ n. Stands promise c (Begun q start) (span_of n before)) same h) in
-          rw t (omega arith)
-      go false t = rw t refl
-  opens (Finished q start answer) h = go (q == p) refl
-    where
-      under : (s : Span ℕ) → Stands promise c (Finished q start answer) s → (is_open s ≡ 1) × (is_open (own_after s (Finished q start answer)) ≡ 0)
-      under Never x = absurd x
-      under (Open call es) x = (refl, refl)
-      under (Ended call other es) x = absurd x
-
-      go : (b : Bool) → (q == p) ≡ b → 0 + is_open span ≡ ends p (Finished q start answer) + is_open (span_after p span (Finished q start answer))
-      go true t =
-          let same : q ≡ p = grind (arith, nat_tests) in
-          let one = under span (subst (λ n. Stands promise c (Finished q start answer) (span_of n before)) same h) in
-          let a = one.0 in
-          let b = one.1 in
-          rw t (omega arith)
-      go false t = rw t (omega arith)
-  opens e h = let same = still (is_party p (whose e)) span e in omega arith
 
 -- ---- an index is claimed once more than it is freed where it has a holder
 
@@ -154,16 +103,6 @@ sum_less f g (suc n) less = let here = less n in let rest = sum_less f g n less 
 
 -- ---- the machine of a history
 
--- a call whose span is not open is not under way
-not_going : (F : frame.Family ℕ) (s : F.State) (p : ℕ) (o : Option (Party ℕ)) (span : Span ℕ) → is_open span ≡ 0
-    → frame.Fits F s p o span → flight_of (doing_of o) ≡ None
-not_going F s p None span shut h = refl
-not_going F s p (Some x) span shut h = go x.doing h
-  where
-    go : (doing : Doing ℕ) → frame.FitsDoing F s p x doing span → flight_of (Some doing) ≡ None
-    go (Going flight since) under = let one = ap is_open under.span in absurd (omega arith)
-    go (Over others) ended = refl
-
 module _ (capacity : ℕ) (seen : List (Event ℕ)) (h : IsHistory one_word kinds.Indices capacity seen) where
   abbrev t : Trace ℕ
   t = h.trace
@@ -185,9 +124,6 @@ module _ (capacity : ℕ) (seen : List (Event ℕ)) (h : IsHistory one_word kind
 
   pub holds_right : Each (HoldsRight c) seen
   holds_right = subst (Each (HoldsRight c)) (sym h.is) laws.holds
-
-  stands_right : Each (StandsRight promise c) seen
-  stands_right = subst (Each (StandsRight promise c)) (sym h.is) machine.inv.spans
 
   holder_is : (i : ℕ) → holder_of i seen ≡ holder hs i
   holder_is i = ap (holder_of i) h.is ∙ laws.holders i
@@ -228,13 +164,11 @@ module _ (capacity : ℕ) (seen : List (Event ℕ)) (h : IsHistory one_word kind
   module _ (made : List (Event ℕ)) (all : (f : Event ℕ → ℕ) → sum_by f seen ≡ sum_by f made) (done : IsDone made) (is : List ℕ) (held : HeldBy is made) where
     idle : (p : ℕ) → flight_of (doing_of (party_of p t.world.latest)) ≡ None
     idle p =
-        let sums = adds (begins p) (ends p) (span_after p) Never is_open [] seen (λ before after e at. opens c p before e (stands_right before after e at)) in
-        let a = all (begins p) in
-        let b = all (ends p) in
+        let calls = (counted_as kinds.Indices t h.run.reached).calls p in
+        let a = sym (all (begins p)) ∙ ap (sum_by (begins p)) h.is in
+        let b = sym (all (ends p)) ∙ ap (sum_by (ends p)) h.is in
         let d = done p in
-        let shut : is_open (span_of p seen) ≡ 0 = omega arith in
-        not_going of_set machine.state p (party_of p t.world.latest) (span_of p t.events)
-        (sym (ap (λ es. is_open (span_of p es)) h.is) ∙ shut) (machine.inv.calls p)
+        goes_none (party_of p t.world.latest) (omega arith)
 
     none_under : (weight : Flight ℕ → ℕ) → total weight t.world.latest machine.state.seats ≡ 0
     none_under weight = sum_none (weight_at weight t.world.latest) machine.state.seats (λ p below. ap (weight_of weight) (idle p))

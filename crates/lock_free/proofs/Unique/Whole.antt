@@ -1,8 +1,8 @@
 -- What the answers of calls say of what passes hold: of any pass, and of one that has the whole share.
-use Rattle.lock_free.proofs.Names.{◌≡◌, ℕ, ◌<◌, ◌≤◌, Bool, true, false, None, Ok, Err, List, [], ◌∷◌, ◌++◌, length}
-use Rattle.lock_free.proofs.Names.{refl, sym, ap, subst, ◌∙◌, arith, fold-append, sum_by-append, Acquired, ReleaseState}
+use Rattle.lock_free.proofs.Names.{◌≡◌, ℕ, ◌<◌, ◌≤◌, Bool, true, false, None, Ok, Err, List, [], ◌∷◌, length}
+use Rattle.lock_free.proofs.Names.{refl, sym, ap, subst, ◌∙◌, arith, fold-append, Acquired, ReleaseState}
 use Rattle.lock_free.proofs.Names.{Locked, Unlocked, UniqueIndexSetAcquireFailure, Answer, NoIndex, State, Number}
-use Rattle.lock_free.proofs.Names.{Truth, Event, Finished, Start, Indices, one_word, IsAll, View, Called, IsBeginning}
+use Rattle.lock_free.proofs.Names.{Truth, Event, Finished, Indices, one_word, IsAll, View, IsBeginning}
 use Rattle.lock_free.proofs.Names.{takes_index, gives_or_locks, counts_out, looks_locked, Ends}
 use Rattle.std.proofs.Common.{IfOk, IfErr}
 use Rattle.std.proofs.Common.{sum_by}
@@ -12,9 +12,9 @@ use Rattle.model.specs.declared.families.indices.IndexStart.{IndexStart}
 use Rattle.model.specs.declared.families.indices.IndexStart.TheVariants.{Acquire, Release, BorrowedIndices, IsLocked}
 use Rattle.model.specs.declared.turn.Kind.TheVariants as kinds
 use Rattle.model.specs.Families.Indices.Reading.{is_locked, locked_after, Tally, tally_after, tally_of}
-use Rattle.lock_free.specs.Unique.Held.{HeldBy, HoldsNothing, HoldsAll, HoldsSome, IsSound, begins, ends as finishes, IsDone}
+use Rattle.lock_free.specs.Unique.Held.{HeldBy, HoldsNothing, HoldsAll, HoldsSome, IsSound, IsDone}
 use Rattle.lock_free.specs.Unique.Told.{HasTaken, HasGiven, HasGivenOrLocked, HasCounted, HasLooked, Answered, HasAcquired, WasRefused}
-use Rattle.lock_free.proofs.Sums.{sum_made}
+use Rattle.lock_free.proofs.Whole.Alone.{still_done}
 use Rattle.lock_free.proofs.Unique.Facts.{lock_stays, not_locked, taken, taken_answered, free, holds, open_still}
 use Rattle.lock_free.proofs.Unique.Facts.{given_or_locked, locked_answered, counted, counted_answered, looked_answered}
 use Rattle.lock_free.proofs.Unique.Facts.{sound}
@@ -22,41 +22,23 @@ use Rattle.lock_free.proofs.Unique.Machine.{tally_is, few, none_left, own_few}
 
 -- ---- a call that was begun has ended
 
-module _ (base w : View ℕ) (p : ℕ) (start : Start ℕ) (answer : Answer ℕ) (wrote : List (Event ℕ)) (c : Called p start answer wrote base w) where
-  still_done : ((q : ℕ) → sum_by (begins q) wrote ≡ 0) → ((q : ℕ) → sum_by (finishes q) wrote ≡ 0) → IsDone base.made → IsDone w.made
-  still_done none none' done q =
-      let a = sum_made (begins q) p start answer wrote base w c in
-      let b = sum_made (finishes q) p start answer wrote base w c in
-      let d = none q in
-      let e = none' q in
-      let was = done q in
-      omega arith
-
 module _ (base w : View ℕ) where
   pub taken_done : (answer : Acquired) → HasTaken answer base w → IsDone base.made → IsDone w.made
-  taken_done (Ok i) h = still_done base w h.by _ _ _ h.called (λ q. refl) (λ q. refl)
-  taken_done (Err e) h = still_done base w h.by _ _ _ h.called (λ q. refl) (λ q. refl)
+  taken_done (Ok i) h = still_done h.by _ _ _ base w h.called (tt, tt)
+  taken_done (Err e) h = still_done h.by _ _ _ base w h.called tt
 
   pub given_done : (index : ℕ) (state : ReleaseState) → HasGiven index state base w → IsDone base.made → IsDone w.made
-  given_done index state h = still_done base w h.by _ _ _ h.called (λ q. refl) (λ q. refl)
+  given_done index state h = still_done h.by _ _ _ base w h.called (tt, tt)
 
   pub locked_done : (index : ℕ) (state : ReleaseState) → HasGivenOrLocked index state base w → IsDone base.made → IsDone w.made
-  locked_done index Unlocked h = still_done base w h.by _ _ _ h.called (λ q. refl) (λ q. refl)
-  locked_done index Locked h = still_done base w h.by _ _ _ h.called (λ q. refl) (λ q. refl)
+  locked_done index Unlocked h = still_done h.by _ _ _ base w h.called (tt, tt)
+  locked_done index Locked h = still_done h.by _ _ _ base w h.called (tt, (tt, tt))
 
   pub counted_done : (n : ℕ) → HasCounted n base w → IsDone base.made → IsDone w.made
-  counted_done n h = still_done base w h.by _ _ _ h.called (λ q. refl) (λ q. refl)
+  counted_done n h = still_done h.by _ _ _ base w h.called tt
 
   pub looked_done : (b : Bool) → HasLooked b base w → IsDone base.made → IsDone w.made
-  looked_done b h = still_done base w h.by _ _ _ h.called (λ q. refl) (λ q. refl)
-
-pub joined_done : (mine theirs : List (Event ℕ)) → IsDone mine → IsDone theirs → IsDone (mine ++ theirs)
-joined_done mine theirs one two p =
-    let a = one p in
-    let b = two p in
-    let c = sum_by-append (begins p) mine theirs in
-    let d = sum_by-append (finishes p) mine theirs in
-    omega arith
+  looked_done b h = still_done h.by _ _ _ base w h.called tt
 
 -- ---- what an answer says of what is held
 

@@ -1,9 +1,9 @@
 -- Which set a pass is for, and what it knows of the set's history.
 use Rattle.std.specs.Prelude.{◌≡◌, ℕ, Option, Some, IfSome, List}
-use Rattle.std.specs.Arc.{arc_value}
 use Rattle.model.specs.declared.event.Event.{Event}
 use Rattle.model.specs.Coding.{one_word}
 use Rattle.threaded.specs.declared.share.Share.{Share}
+use Rattle.threaded.specs.Seats.{home_id}
 pub use Rattle.threaded.specs.Sets.{SetId}
 use Rattle.history.specs.declared.view.View.{View}
 use Rattle.history.specs.History.{IsHistory}
@@ -17,7 +17,7 @@ use Rattle.lock_free.specs.declared.mpmc.sets.Held.{Held}
 
 module _ {E : Type 0} where
   abbrev pub set_id : Set E → SetId
-  set_id s = record { table = (arc_value s.table).shared.table_id; capacity = s.capacity }
+  set_id s = record { table = home_id s.home; capacity = s.capacity }
 
   abbrev pub capacity_of : Set E → ℕ
   capacity_of s = s.capacity

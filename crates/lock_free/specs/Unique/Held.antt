@@ -2,11 +2,11 @@
 -- holds what both held.
 use Rattle.std.specs.Prelude.{◌≡◌, ℕ, ◌+◌, ◌/◌, ◌<◌, ◌≤◌, ◌==◌, true, List, [], length, sum_by, if◌then◌else◌}
 use Rattle.model.specs.declared.event.Event.{Event}
-use Rattle.model.specs.declared.event.Event.TheVariants.{Begun, Finished}
 use Rattle.model.specs.Families.Indices.Reading.{is_locked}
 use Rattle.threaded.specs.Shares.{IsAll}
 use Rattle.history.specs.declared.view.View.{View}
 use Rattle.history.specs.Held.{claims, frees, Holds}
+pub use Rattle.lock_free.specs.Whole.{IsDone}
 
 -- the head, the next indices and the flags
 abbrev pub size : ℕ → ℕ
@@ -40,15 +40,3 @@ HoldsAll number v = IsAll v.share → (is : List ℕ) → HeldBy is v.made → l
 -- whose share is the whole holds some
 abbrev pub HoldsSome : View ℕ → Type 0
 HoldsSome v = IsAll v.share → HoldsNothing v.made → ⊥
-
-abbrev pub begins : ℕ → Event ℕ → ℕ
-begins p (Begun q start) = if q == p then 1 else 0
-begins p e = 0
-
-abbrev pub ends : ℕ → Event ℕ → ℕ
-ends p (Finished q start answer) = if q == p then 1 else 0
-ends p e = 0
-
--- each call that was begun has ended
-abbrev pub IsDone : List (Event ℕ) → Type 0
-IsDone made = (p : ℕ) → sum_by (begins p) made ≡ sum_by (ends p) made

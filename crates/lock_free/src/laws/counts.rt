@@ -1,5 +1,5 @@
-//! Laws of counting bit sets: what one history says of its counts, and that calls act place by place in it, in every
-//! run and in every machine.
+//! Laws of counting bit sets: what one history says of its counts. Calls act place by place in it, in every run and in
+//! every machine.
 
 pub use history::laws::{histories_act, machines_act, runs_act};
 pub use history_laws::counts::{

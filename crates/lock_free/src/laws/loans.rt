@@ -6,8 +6,8 @@ ghost use Rattle.lock_free_queues.specs.Queues.Told.{FoundNone};
 ghost use Rattle.lock_free.specs.Unique.Held.{times};
 ghost use Rattle.lock_free.specs.Loan.Told.{InTurn, HasFreed, HasEmptied};
 
-/// What a pass frees in turn it frees as often as it stands in the list, and it claims nothing. The lemmas are
-/// `freed_in_turn` and `claims_in_turn` of `proofs/Loan/Told.antt`.
+/// A pass that frees a list of indices in turn frees each as often as it stands there. It claims nothing. The lemmas
+/// are `freed_in_turn` and `claims_in_turn` of `proofs/Loan/Told.antt`.
 pub fn frees_are_counted()
     ensures freed { (is : List ℕ) (old new : View ℕ) → InTurn HasFreed is old new
         → (i : ℕ) → sum_by (frees i) new.made ≡ sum_by (frees i) old.made + times i is }
@@ -15,8 +15,8 @@ pub fn frees_are_counted()
         → (i : ℕ) → sum_by (claims i) new.made ≡ sum_by (claims i) old.made }
 {}
 
-/// In a queue that was emptied nothing waited at one moment behind what its guard had seen before. The lemma is
-/// `emptied_once` there.
+/// In a queue that was emptied nothing waited at one moment behind what its guard had seen. The lemma is `emptied_once`
+/// there.
 pub fn emptied_queues_were_empty()
     ensures { (old new : View ℕ) → HasEmptied old new → FoundNone old new }
 {}

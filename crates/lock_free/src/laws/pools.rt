@@ -8,8 +8,8 @@ ghost use Rattle.lock_free.specs.Unique.Pools.{Holding};
 ghost use Rattle.lock_free.specs.Unique.Told.{HasCounted};
 ghost use Rattle.lock_free.specs.UniqueIndexSet.{GoesOn, set_of, share, view};
 
-/// Two halves of a pass, which two threads had, hold once they are joined what both held, with as much of the right to know
-/// the whole as the pass had. So it goes on by halves of halves, to any number of threads. The lemma is `both_hold` of
+/// Two halves of a pass, once they are joined, hold what both held. They have as much of the right to know the whole as
+/// the pass had. So it goes on by halves of halves, to any number of threads. The lemma is `both_hold` of
 /// `proofs/Unique/Pools.antt`, beside those on single calls.
 pub fn halves_hold_both()
     ensures { (start mine other one two joined : Pass) (is js : List ℕ) → HasSplit (view start) (view mine) (view other)

@@ -1,8 +1,7 @@
 //! A set of places that any number of threads set and reset.
 //!
 //! How many atomic steps a call takes is what its clause `steps` says: the operations on words that its pass has
-//! counted. The driver counts each one that it performs; a split, a join and a look go by the table itself, and count
-//! theirs by their contracts. What is proved of threads is what the contracts say.
+//! counted. Each that it performs is counted, by the driver. What is proved of threads is what the contracts say.
 use super::sets;
 use super::sets::rule::Flags;
 
@@ -10,19 +9,26 @@ mod calls;
 mod drives;
 mod handles;
 
-/// A set of places, each set or clear, which threads share by reference. The flags stand 64 to a word.
-/// After `BitSet` of the Rust crate.
+/// A set of places, each set or clear, which threads share by reference. The flags stand 64 to a word. After `BitSet`
+/// of the Rust crate.
+///
+/// ```rust
+/// let (set, pass) = BitSet::new(rt.alloc(), 64)?;
+/// let mut flags = set.handle(pass);
+/// assert!(rt; flags.set(&rt, 5) && !flags.set(&rt, 5));
+/// assert!(rt; flags.reset_next(&rt) == Some(5) && flags.reset_next(&rt).is_none());
+/// ```
 pub type BitSet = sets::Set<Flags>;
 
-/// The same for CAPACITY places; CAPACITY is from 0 to 2^32 - 1. It is used as the set that it has. After
+/// A `BitSet` whose type names its capacity: CAPACITY, from 0 to 2^32 - 1. It is used as the set that it has. After
 /// `FixedSizeBitSet` of the Rust crate.
 pub type FixedSizeBitSet<const CAPACITY: usize> = sets::FixedSize<Flags, CAPACITY>;
 
-/// What a caller makes each call on a bit set with: it says which set it is for, how much of the set's history it has
-/// seen, and what of it is its own doing. Each call is made with a pass of its set, which is the caller's concern. This
+/// A pass permits its owner to call a bit set. It knows which set it is for, how much of the set's history it has seen,
+/// and what of it is its own doing. Each call is made with a pass of its set, which is the caller's concern. This
 /// project's own.
 pub type Pass = sets::Pass<Flags>;
 
-/// A bit set with a pass of it, whose calls ask for no proof. Each thread has one of its own, by `split`. This project's
-/// own.
+/// A handle has a bit set and a pass of it, so its calls ask for no proof. Each thread has one of its own, by `split`.
+/// This project's own.
 pub type Handle<'a> = sets::Handle<'a, Flags>;

@@ -1,16 +1,14 @@
-//! What bit sets and counting bit sets have in common: what threads share, what each of them holds, how both are made.
-//! Both are this with a kind E; the modules `bit_set` and `counting_bit_set` have names for it, and the calls on places.
+//! What bit sets and counting bit sets have in common: their types, and how both are made. Both are this with a kind E;
+//! the modules `bit_set` and `counting_bit_set` have names for it, and the calls on places.
 ghost use Rattle.std.specs.Prelude.{◌≡◌, ◌<◌, ◌+◌, [], None};
-ghost use Rattle.std.specs.Arc.{arc_value};
+ghost use Rattle.threaded.specs.Seats.{key_of};
 ghost use Rattle.lock_free.specs.Sets.Kinds.{words_of};
 
 use self::rule::{Kind, SetRule};
-use atomic_table::{Table, TableRule};
+use atomic_table::TableRule;
 use history::view::View;
-use std::alloc::Global;
 use std::marker::PhantomData;
-use std::sync::Arc;
-use threaded::driver::seated::Seated;
+use threaded::driver::seated::{Home, Seated};
 
 pub(crate) mod calls;
 pub(crate) mod drives;
@@ -24,20 +22,20 @@ pub use handles::Handle;
 
 /// A set of places, which threads share by reference.
 pub struct Set<E: Kind> {
-    table: Arc<Table<(), View<u64>, u32, SetRule<E>, Global>, Global>,
+    home: Home<View<u64>, u32, SetRule<E>>,
     capacity: u32,
 }
 
 impl<E: Kind> Drop for Set<E> {
     fn drop(self) {
         let Self {
-            table: _table,
+            home: _home,
             capacity: _,
         } = self;
     }
 }
 
-/// The same for CAPACITY places. It is used as the set that it has.
+/// A set whose type names its capacity, CAPACITY. It is used as the set that it has.
 pub struct FixedSize<E: Kind, const CAPACITY: usize> {
     set: Set<E>,
     ghost sized: { set.capacity ≡ CAPACITY },
@@ -49,15 +47,15 @@ impl<E: Kind, const CAPACITY: usize> Drop for FixedSize<E, CAPACITY> {
     }
 }
 
-/// What a caller makes each call on a set with: it says which set it is for, how much of the set's history it has seen,
-/// and what of it is its own doing. Each call is made with a pass of its set, which is the caller's concern. This
-/// project's own. (T and Q are parameters, though only u64 and `SetRule<E>` are used: else `sized` could not name the kind.)
+/// A pass permits its owner to call a set. It knows which set it is for, how much of the set's history it has seen, and
+/// what of it is its own doing. Each call is made with a pass of its set, which is the caller's concern. This project's
+/// own. (T and Q are parameters, though only u64 and `SetRule<E>` are used: else `sized` could not name the kind.)
 pub struct Held<E: Kind, T, Q: TableRule<(), View<T>, u32>> {
     pub of: PhantomData<E>,
     pub(crate) seated: Seated<View<T>, u32, Q>,
     pub(crate) capacity: u32,
     ghost sized: { seated.seat.table_id.words ≡ words_of E.KIND capacity + 1 },
-    ghost keyed: { (arc_value seated.table).shared.key ≡ capacity },
+    ghost keyed: { key_of seated ≡ capacity },
     ghost known: { seated.seat.me.0.capacity ≡ capacity },
     ghost idle: { seated.seat.me.0.going ≡ None },
     ghost alone: { seated.seat.me.0.other ≡ [] },

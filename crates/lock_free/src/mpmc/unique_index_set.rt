@@ -1,22 +1,16 @@
-//! A set of indices of which each is handed out to one caller at a time, shared between threads.
-//!
-//! Each call but `capacity` is made with a pass, and what a caller holds is told by what its pass made. Passes of one set
-//! never hold the same index, and once any of them has seen the lock, none holds one.
+//! A set of indices that threads share, each of which is handed out to one caller at a time. Passes of one set never
+//! hold the same index, and once any of them has seen the lock, none holds one.
 //!
 //! How many atomic steps a call takes is what its clause `steps` says: the operations on words that its pass has
-//! counted. The driver counts each one that it performs; a split, a join and a look go by the table itself, and count
-//! theirs by their contracts. What is proved of threads is what the contracts say.
+//! counted, each by the driver. What is proved of threads is what the contracts say.
 ghost use Rattle.std.specs.Prelude.{◌≡◌, ◌<◌, ◌+◌, [], None};
-ghost use Rattle.std.specs.Arc.{arc_value};
+ghost use Rattle.threaded.specs.Seats.{key_of, home_id};
 ghost use Rattle.history.specs.Held.{Holds};
 ghost use Rattle.lock_free.specs.Unique.Held.{size, IsSound, IsDone};
 
 use self::rule::IndicesRule;
-use atomic_table::Table;
 use history::view::View;
-use std::alloc::Global;
-use std::sync::Arc;
-use threaded::driver::seated::Seated;
+use threaded::driver::seated::{Home, Seated};
 
 mod calls;
 mod drives;
@@ -30,22 +24,31 @@ pub mod rule;
 pub use handles::Handle;
 
 /// A set of the indices below its capacity, which threads share by reference. After `UniqueIndexSet` of the Rust crate.
+///
+/// ```rust
+/// let (set, pass) = UniqueIndexSet::new(rt.alloc(), 2)?;
+/// let handle = set.handle(pass);
+/// let index = handle.acquire(&rt).map_err(|_| "none is free")?;
+/// assert!(rt; index.value() < 2);
+/// let mut handle = index.give_back();
+/// assert!(rt; handle.borrowed_indices() == 0);
+/// ```
 pub struct UniqueIndexSet {
-    table: Arc<Table<(), View<u64>, u64, IndicesRule, Global>, Global>,
+    home: Home<View<u64>, u64, IndicesRule>,
     capacity: u32,
 }
 
 impl Drop for UniqueIndexSet {
     fn drop(self) {
         let Self {
-            table: _table,
+            home: _home,
             capacity: _,
         } = self;
     }
 }
 
-/// The same with a capacity of at most CAPACITY, which is from 1 to 2^24 - 2. It is used as the set that it has. After
-/// `FixedSizeUniqueIndexSet` of the Rust crate.
+/// A `UniqueIndexSet` whose type names its greatest capacity: CAPACITY, from 1 to 2^24 - 2. It is used as the set that
+/// it has. After `FixedSizeUniqueIndexSet` of the Rust crate.
 pub struct FixedSizeUniqueIndexSet<const CAPACITY: usize> {
     set: UniqueIndexSet,
 }
@@ -56,14 +59,15 @@ impl<const CAPACITY: usize> Drop for FixedSizeUniqueIndexSet<CAPACITY> {
     }
 }
 
-/// What a caller makes each call on a set with: it says which set it is for, how much of the set's history it has seen,
-/// and what of it is its own doing, so which indices it holds. Each call is made with a pass of its set, which is the
-/// caller's concern. An index that a dropped pass holds stays out for good. This project's own.
+/// A pass permits its owner to call a set, and to give back indices that it holds. It knows which set it is for, how
+/// much of the set's history it has seen, and what of it is its own doing, so which indices it holds. Each call is made
+/// with a pass of its set, which is the caller's concern. An index that a dropped pass holds stays out for good. This
+/// project's own.
 pub struct Pass {
     seated: Seated<View<u64>, u64, IndicesRule>,
     capacity: u32,
     ghost sized: { seated.seat.table_id.words ≡ size capacity + 1 },
-    ghost keyed: { (arc_value seated.table).shared.key ≡ capacity },
+    ghost keyed: { key_of seated ≡ capacity },
     ghost known: { seated.seat.me.0.capacity ≡ capacity },
     ghost places: { 0 < capacity },
     ghost idle: { seated.seat.me.0.going ≡ None },
@@ -88,7 +92,7 @@ pub struct UniqueIndex<'a> {
     set: &'a UniqueIndexSet,
     pass: Pass,
     index: u32,
-    ghost table: { pass.seated.seat.table_id ≡ (arc_value set.now.table).shared.table_id },
+    ghost table: { pass.seated.seat.table_id ≡ home_id set.now.home },
     ghost size: { pass.capacity ≡ set.now.capacity },
     ghost held: { Holds index pass.seated.seat.me.0.made },
 }

@@ -1,3 +1,3 @@
-//! Why a set is not made, why no index is handed out, and how one is given back.
+//! The enums that say why no set is made or no index granted, and how one is given back.
 pub use steps::enums::UniqueIndexCreationError;
 pub use steps::indices::enums::{ReleaseMode, ReleaseState, UniqueIndexSetAcquireFailure};

@@ -1,9 +1,9 @@
-//! A loan channel: a sender loans indices of a set, sends them through an overflowing queue, and gets them back through
-//! an index queue as long as the set. The receiver's end is the two other guards: it pops what is sent, and pushes it
-//! back. Not of the Rust crate.
+//! A loan channel, this project's own. Its sender loans indices of a set, sends them through an overflowing queue, and
+//! gets them back through an index queue. The receiver has the two other guards. Make the index queue as long as the
+//! set, which `new` does not ask: else a receiver's push may find it full.
 //!
-//! How many atomic steps a call takes is what its clauses `steps`, of its pass, and `queue_steps`, of its end of a
-//! queue, say: the operations on words that these have counted. What is proved of threads is what the contracts say.
+//! Clauses `steps` and `queue_steps` say how many atomic steps a call takes, but not of `new`, `finish` and the pops of
+//! `reclaim`.
 ghost use Rattle.lock_free.specs.UniqueIndexSet.{view, IsPassOf};
 ghost use Rattle.lock_free.specs.Loan.Places.{IsBookOf};
 
@@ -17,6 +17,15 @@ mod places;
 
 /// The end of a loan channel that loans and sends. It keeps a table of where each index is: Free, Loaned, which is
 /// here, or Sent. Its pass holds exactly the indices that are Loaned or Sent, each once (`holds` says so).
+///
+/// ```rust
+/// let slot = sender.loan(&rt)?;
+/// // .. the sender writes its data into the buffer of this number
+/// sender.send(slot);
+/// let came = receiver.pop(&rt).ok_or("nothing came")?;
+/// // .. the receiver reads them there
+/// assert!(rt; returner.push(came) && sender.take_back() == Some(slot as u64));
+/// ```
 pub struct LoanSender<'a> {
     set: &'a UniqueIndexSet,
     pass: Pass,

@@ -1,4 +1,7 @@
-//! The calls on a bit set: the calls of `steps`, driven.
+//! The calls on a bit set: the calls of `steps`, driven. `reset_next` looks from the reset position to the greatest
+//! place, and then from 0 on. The position is 0 at first, and a call that resets a place stores the one after it, as
+//! its last step: if two calls overlap, the later store stands, whichever place it is of. A call that returns None
+//! leaves the position.
 ghost use Rattle.std.specs.Prelude.{◌≡◌, ◌+◌, ◌<◌, ◌^◌, ℕ, None, IfSome, IsTrue, IsFalse};
 ghost use Rattle.steps.specs.Bits.Words.{elements, has_flag as flag_of};
 ghost use Rattle.model.specs.declared.turn.Kind.TheVariants as kinds;
@@ -88,9 +91,9 @@ fn clear_all<F: FnMut(usize)>(
 }
 
 impl BitSet {
-    /// Sets the place `id`, which is below the capacity: true where this call set it, false only where it stood at a
-    /// moment of the call. At most 2 steps, and 1 more for each time that another call changed its word
-    /// between them. After `set` of the Rust crate.
+    /// Sets the place `id`, which is below the capacity, and returns whether this call set it. False only where it
+    /// stood at a moment of the call. At most 2 steps, and 1 more for each change of a word of the set by others during
+    /// the call. After `set` of the Rust crate.
     pub fn set(&self, rt: &impl Wait, id: usize, pass: &mut Pass) -> bool
         requires pass { IsPassOf self.now pass.old }
         requires place { id < capacity_of self.now }
@@ -106,15 +109,10 @@ impl BitSet {
         Set::answer(end, &place, &())
     }
 
-    /// Resets the next place that stands, and answers it: a place below the capacity. Each place that it passed on the
-    /// way from the reset position was clear at a moment of the call. None only where each place was clear at a moment
-    /// of it.
-    ///
-    /// It looks from the reset position to the greatest place, and then from 0 on. The position is 0 at first, and a
-    /// call that resets a place stores the one after it, as its last step: where two calls overlap, the later store
-    /// stands, whichever place it is of. A call that answers None leaves the position. At most 3 + capacity steps, and
-    /// 1 more for each time that another call changed the word of a place between its load and its reset; one step in a
-    /// set of no place. After `reset_next` of the Rust crate.
+    /// Resets the next place that stands and returns it, or None if each was clear at some moment. It looks from the
+    /// reset position on, and each place that it passed on the way was clear at a moment of the call. At most 3 +
+    /// capacity steps, and 1 more for each change of a word of the set by others during the call. After `reset_next` of
+    /// the Rust crate.
     pub fn reset_next(&self, rt: &impl Wait, pass: &mut Pass) -> Option<usize>
         requires { IsPassOf self.now pass.old }
         ensures goes_on { GoesOn pass.old pass.new }
@@ -135,14 +133,12 @@ impl BitSet {
         }
     }
 
-    /// Resets all places, and calls `visit` with each one that it cleared: ascending, each at most once and below the
-    /// capacity. Each one that stood as the call began was cleared in its span, by it or by another. What `visit`
-    /// counts or keeps is what these calls make of it.
+    /// Resets all places, and calls `visit` with each one that it cleared. They ascend, each at most once. Each that
+    /// stood as the call began was cleared before its end.
     ///
-    /// It takes one step for each 64 places, which resets them together; `visit` is called after that step and before
-    /// the next. What `visit` itself sets is handed out by this call where it lies at a place of a later step, and
-    /// stands afterwards else. It leaves the position from which `reset_next` looks. In a set of no place it takes
-    /// one step, a look at a word. After `reset_all` of the Rust crate, where each word has 8 places.
+    /// At most one step for each 64 places, before their visits, and one look in a set of no place. What `visit` sets
+    /// at a place of a later step is visited too. The position of `reset_next` stays. After `reset_all` of the Rust
+    /// crate, where each word has 8 places.
     pub fn reset_all<F: FnMut(usize)>(&self, visit: &mut F, pass: &mut Pass)
         requires pass { IsPassOf self.now pass.old }
         requires places { TakesPlaces F.pre (λ p x q. F.step p x tt q)

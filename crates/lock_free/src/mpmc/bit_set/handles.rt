@@ -14,7 +14,7 @@ use super::Handle;
 use std::sync::Wait;
 
 impl<'a> Handle<'a> {
-    /// As `BitSet::set`.
+    /// Calls `BitSet::set`, with its pass.
     pub fn set(&mut self, rt: &impl Wait, id: usize) -> bool
         requires { id < capacity_of (set_in self.old) }
         ensures set { set_in self.new ≡ set_in self.old }
@@ -27,7 +27,7 @@ impl<'a> Handle<'a> {
         self.set.set(rt, id, &mut self.pass)
     }
 
-    /// As `BitSet::reset_next`.
+    /// Calls `BitSet::reset_next`, with its pass.
     pub fn reset_next(&mut self, rt: &impl Wait) -> Option<usize>
         ensures set { set_in self.new ≡ set_in self.old }
         ensures goes_on { GoesOn (pass_in self.old) (pass_in self.new) }
@@ -42,7 +42,7 @@ impl<'a> Handle<'a> {
         self.set.reset_next(rt, &mut self.pass)
     }
 
-    /// As `BitSet::reset_all`.
+    /// Calls `BitSet::reset_all`, with its pass.
     pub fn reset_all<F: FnMut(usize)>(&mut self, visit: &mut F)
         requires { TakesPlaces F.pre (λ p x q. F.step p x tt q) (capacity_of (set_in self.old)) visit.old }
         ensures set { set_in self.new ≡ set_in self.old }

@@ -67,15 +67,15 @@ fn take_all<F: FnMut(BitState)>(
 }
 
 impl CountingBitSet {
-    /// The greatest count: u64::MAX. After `max_count` of the Rust crate.
+    /// Returns the greatest count, u64::MAX. After `max_count` of the Rust crate.
     pub fn max_count() -> u64
         ensures { result ≡ 2 ^ 64 - 1 }
     {
         MAX_COUNT
     }
 
-    /// Adds 1 to the count of the place `id`, which is below the capacity, and answers what it was just before: it wraps
-    /// at 2^64. One step. After `set` of the Rust crate.
+    /// Adds 1 to the count of the place `id`, modulo 2^64, and returns the count before. The place is below the
+    /// capacity. At most one step. After `set` of the Rust crate.
     pub fn set(&self, id: usize, pass: &mut Pass) -> u64
         requires pass { IsPassOf self.now pass.old }
         requires place { id < capacity_of self.now }
@@ -89,13 +89,12 @@ impl CountingBitSet {
         Set::answer(old, &place, &())
     }
 
-    /// Takes all counts out, and calls `visit` with each one above 0 and its place: ascending, each at most once and
-    /// below the capacity. Of each place that counted as the call began something was taken out in its span, by it or
-    /// by another, unless it was counted 2^64 times in all. What `visit` adds up or keeps is what these calls make of
-    /// it.
+    /// Takes all counts out, and calls `visit` with each place whose count was above 0, and the count. The places
+    /// ascend, each at most once. Of each that counted as the call began something was taken out in its span, by it or
+    /// by another, unless it was counted 2^64 times in all.
     ///
-    /// It takes one step for each place, which sets its count to 0; `visit` is called after that step and before the
-    /// next. A set of no place takes one look at a word. After `reset_all` of the Rust crate.
+    /// At most one step for each place, then its visit, and one look in a set of no place. After `reset_all` of the
+    /// Rust crate.
     pub fn reset_all<F: FnMut(BitState)>(&self, visit: &mut F, pass: &mut Pass)
         requires pass { IsPassOf self.now pass.old }
         requires states { TakesCounts F.pre (λ p x q. F.step p x tt q)

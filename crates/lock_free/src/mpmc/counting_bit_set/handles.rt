@@ -9,7 +9,7 @@ ghost use Rattle.history.specs.Steps.{TakesAtMost};
 use super::{BitState, Handle};
 
 impl<'a> Handle<'a> {
-    /// As `CountingBitSet::set`.
+    /// Calls `CountingBitSet::set`, with its pass.
     pub fn set(&mut self, id: usize) -> u64
         requires { id < capacity_of (set_in self.old) }
         ensures set { set_in self.new ≡ set_in self.old }
@@ -21,7 +21,7 @@ impl<'a> Handle<'a> {
         self.set.set(id, &mut self.pass)
     }
 
-    /// As `CountingBitSet::reset_all`.
+    /// Calls `CountingBitSet::reset_all`, with its pass.
     pub fn reset_all<F: FnMut(BitState)>(&mut self, visit: &mut F)
         requires { TakesCounts F.pre (λ p x q. F.step p x tt q) (capacity_of (set_in self.old)) visit.old }
         ensures set { set_in self.new ≡ set_in self.old }

@@ -24,8 +24,5 @@ pub(crate) fn empty_none<E: Kind>(seated: &mut Seated<View<u64>, u32, SetRule<E>
     ensures called { HasMade (Bits ResetAll) Done (λ by. []) (seen seated.old) (seen seated.new) }
     ensures steps { TakesAtMost 1 (seen seated.old) (seen seated.new) }
 {
-    let _ = seated
-        .table
-        .shared
-        .load::<EmptiesNone<E>>(&mut seated.seat, 0);
+    let _ = seated.look::<EmptiesNone<E>>(0);
 }

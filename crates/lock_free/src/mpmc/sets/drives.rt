@@ -1,14 +1,12 @@
 //! What the calls that both sets have say of the views at their steps. These types are for the proofs alone.
-ghost use Rattle.std.specs.Prelude.{◌≡◌, []};
 ghost use Rattle.model.specs.Coding.{one_word};
 ghost use Rattle.lock_free.specs.Sets.Kinds.{machine_kind};
 
 use super::rule::Kind;
-use atomic_table::Play;
 use history::view::View;
 use std::marker::PhantomData;
 use steps::bits::reset_all::ResetAll;
-use threaded::driver::rule::Drives;
+use threaded::driver::rule::{Drives, Tells};
 
 /// Emptying the words.
 pub struct Empties<E> {
@@ -29,13 +27,12 @@ pub struct EmptiesNone<E> {
     of: PhantomData<E>,
 }
 
-impl<E: Kind> Play<(), View<u64>> for EmptiesNone<E> {
+impl<E: Kind> Tells<View<u64>> for EmptiesNone<E> {
     ghost use Rattle.history.specs.Stages.{Ends};
     ghost use Rattle.lock_free.specs.Sets.Stages.{empties_none};
 
-    ghost then = { λ step old found new.
-        Ends one_word (machine_kind E.KIND) (empties_none E.KIND) old.0 tt (record { 0 = 0 }) new.0
-        × (new.1 ≡ []) };
+    ghost told = { λ old found new.
+        Ends one_word (machine_kind E.KIND) (empties_none E.KIND) old tt (record { 0 = 0 }) new };
 }
 
 /// A look at the whole history.
@@ -43,9 +40,8 @@ pub struct Look<E> {
     of: PhantomData<E>,
 }
 
-impl<E: Kind> Play<(), View<u64>> for Look<E> {
+impl<E: Kind> Tells<View<u64>> for Look<E> {
     ghost use Rattle.history.specs.Views.{LooksOnce};
 
-    ghost then = { λ step old found new.
-        LooksOnce one_word (machine_kind E.KIND) old.0.capacity old.0 new.0 × (new.1 ≡ []) };
+    ghost told = { λ old found new. LooksOnce one_word (machine_kind E.KIND) old.capacity old new };
 }

@@ -6,8 +6,9 @@ use super::{Pass, Set};
 
 mod calls;
 
-/// A set with a pass of it. Its calls are those of the set, and ask for nothing but a place below the capacity, which
-/// an `if` shows, and a closure that may be called with each place. Each thread has a handle of its own, by `split`. This project's own.
+/// A handle has a set and a pass of it. Its calls are those of the set. They ask for nothing but a place below the
+/// capacity, which an `if` shows, and a closure that may be called with each place. Each thread has a handle of its
+/// own, by `split`. This project's own.
 pub struct Handle<'a, E: Kind> {
     pub(crate) set: &'a Set<E>,
     pub(crate) pass: Pass<E>,

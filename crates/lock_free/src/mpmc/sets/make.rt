@@ -5,12 +5,11 @@ ghost use Rattle.steps.specs.declared.enums.UniqueIndexCreationError.TheVariants
 ghost use Rattle.threaded.specs.Shares.{all_shares};
 ghost use Rattle.lock_free.specs.Sets.Calls.{capacity_of, IsPassOf, inner, history, made, party, share};
 
-use super::rule::Kind;
+use super::rule::{Kind, SetRule};
 use super::{FixedSize, Held, Pass, Set};
-use atomic_table::Table;
+use history::view::View;
 use std::alloc::{AllocError, Global};
 use std::marker::PhantomData;
-use std::sync::Arc;
 use steps::enums::{UniqueIndexCreationError, capacity_refusal};
 use threaded::driver::seated::Seated;
 
@@ -25,23 +24,21 @@ impl<E: Kind> Set<E> {
         ensures share { IfOk result (λ r. share r.1 ≡ all_shares) }
     {
         let words = Vec::from_elem(alloc, 0u64, E::words(capacity) + 1)?;
-        let (table, seat) = Table::of_words(alloc, words.as_slice(), &capacity)?;
-        let table = Arc::new(alloc, table)?;
-        let shared = Arc::try_clone(&table)?;
-        let seated = Seated {
-            seat,
-            table: shared,
-        };
+        let (home, seated) = Seated::<View<u64>, u32, SetRule<E>>::open(
+            alloc,
+            words.as_slice(),
+            &capacity,
+        )?;
         let pass = Held {
             of: PhantomData,
             seated,
             capacity,
         };
-        Ok((Set { table, capacity }, pass))
+        Ok((Set { home, capacity }, pass))
     }
 
-    /// A set of `capacity` places, all clear or with the count 0, and its first pass, which has the whole share and has
-    /// seen nothing: the history is empty.
+    /// Makes a set of `capacity` places, all clear or with the count 0, and its first pass. The pass has the whole
+    /// share and has seen nothing: the history is empty.
     ///
     /// Refused are, in this order, a capacity above 2^32 - 1 (`ProvidedCapacityGreaterThanMaxCapacity`) and memory
     /// (`NoMemory`). After `BitSet::new` and `CountingBitSet::new` of the Rust crate.
@@ -68,7 +65,7 @@ impl<E: Kind> Set<E> {
         }
     }
 
-    /// The capacity that it was made with. After `capacity` of the Rust crate.
+    /// Returns the capacity that it was made with. After `capacity` of the Rust crate.
     pub fn capacity(&self) -> usize
         ensures { result ≡ capacity_of self.now }
     {
@@ -77,7 +74,7 @@ impl<E: Kind> Set<E> {
 }
 
 impl<E: Kind, const CAPACITY: usize> FixedSize<E, CAPACITY> {
-    /// A set of CAPACITY places, all clear or with the count 0, and its first pass, as by `new` of the set.
+    /// Makes a set of CAPACITY places, and its first pass, as `new` of the set does.
     ///
     /// Refused are, in this order, a CAPACITY above 2^32 - 1 (`ProvidedCapacityGreaterThanMaxCapacity`) and memory
     /// (`NoMemory`). After `FixedSizeBitSet::new` and `FixedSizeCountingBitSet::new` of the Rust crate.
@@ -95,7 +92,7 @@ impl<E: Kind, const CAPACITY: usize> FixedSize<E, CAPACITY> {
         Ok((FixedSize { set }, pass))
     }
 
-    /// CAPACITY.
+    /// Returns CAPACITY.
     pub fn capacity(&self) -> usize
         ensures { result ≡ CAPACITY }
     {

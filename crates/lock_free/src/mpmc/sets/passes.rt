@@ -9,12 +9,10 @@ use super::rule::{Kind, SetRule};
 use super::{Held, Pass};
 use history::plays::{Both, Cut};
 use std::marker::PhantomData;
-use std::sync::Arc;
-use threaded::driver::seated::Seated;
 
 impl<E: Kind> Held<E, u64, SetRule<E>> {
-    /// A new pass of the same set, which has seen the same and made nothing. None, and nothing changes, where no further
-    /// pass can be counted (no clause says when). This project's own.
+    /// Makes a new pass of the same set, which has seen the same and made nothing. None, and nothing changes, where no
+    /// further pass can be counted (no clause says when). At most one step. This project's own.
     pub fn split(&mut self) -> Option<Pass<E>>
         ensures set { set_of self.new ≡ set_of self.old }
         ensures new { IfSome result (λ p. set_of p ≡ set_of self.old) }
@@ -22,20 +20,16 @@ impl<E: Kind> Held<E, u64, SetRule<E>> {
         ensures none { IfNone result (view self.new ≡ view self.old) }
         ensures steps { TakesAtMost 1 (view self.old) (view self.new) }
     {
-        let seated = &mut self.seated;
-        let Ok(table) = Arc::try_clone(&seated.table) else {
-            return None;
-        };
-        let seat = seated.table.shared.split_seat::<Cut>(&mut seated.seat);
+        let seated = self.seated.split::<Cut>()?;
         Some(Held {
             of: PhantomData,
-            seated: Seated { seat, table },
+            seated,
             capacity: self.capacity,
         })
     }
 
-    /// Takes in the other pass of the set, and sees a history that goes on from both. With the whole share one of the two
-    /// had seen all of it, and each event in it was made by one of them. This project's own.
+    /// Takes in the other pass of the set, and sees a history that goes on from both. With the whole share one of the
+    /// two had seen all of it, and each event in it was made by one of them. At most two steps. This project's own.
     pub fn join(&mut self, other: Pass<E>)
         requires { set_of other ≡ set_of self.old }
         ensures set { set_of self.new ≡ set_of self.old }
@@ -49,14 +43,8 @@ impl<E: Kind> Held<E, u64, SetRule<E>> {
             seated: other,
             capacity: _,
         } = other;
-        let Seated { seat, .. } = other;
-        let capacity = self.capacity;
-        let seated = &mut self.seated;
-        seated
-            .table
-            .shared
-            .join_seat::<Both>(&mut seated.seat, seat);
-        let last = E::words(capacity);
-        let _ = seated.table.shared.load::<Look<E>>(&mut seated.seat, last);
+        self.seated.join::<Both>(other);
+        let last = E::words(self.capacity);
+        let _ = self.seated.look::<Look<E>>(last);
     }
 }

@@ -21,12 +21,14 @@ use steps::indices::looks::{BorrowedIndices, IsLocked};
 use steps::indices::unique::{Acquire, DefaultMode, LockMode, Release};
 
 impl UniqueIndexSet {
-    /// Takes an index that nobody holds at its claim; the answer owns the pass. Else the pass comes back: `OutOfIndices`
-    /// where without this call as many are in use, at one moment of it, as the capacity, or `IsLocked`.
+    /// Takes an index that nobody holds at its claim; the answer owns the pass. Else the pass comes back with the
+    /// refusal:
     ///
-    /// A pass that has seen the lock gets `IsLocked`. Four atomic steps where nobody else steps in between and no
-    /// release has fallen back to a subtraction; else it may try again for as long as others step. After `acquire` of
-    /// the Rust crate.
+    /// - `OutOfIndices` if at one moment as many indices as the capacity are in use without this call.
+    /// - `IsLocked` if the set is locked.
+    ///
+    /// At most capacity + 4 atomic steps, and the greater of 2 and the capacity more for each change of a word by
+    /// others during the call. After `acquire` of the Rust crate.
     pub fn acquire(
         &self,
         rt: &impl Wait,
@@ -53,7 +55,7 @@ impl UniqueIndexSet {
         }
     }
 
-    /// As `acquire`, but the pass holds the index until `release_raw_index` or `release_or_lock`. After
+    /// Acquires as `acquire` does, but the pass holds the index until `release_raw_index` or `release_or_lock`. After
     /// `acquire_raw_index` of the Rust crate.
     pub fn acquire_raw_index(
         &self,
@@ -73,8 +75,8 @@ impl UniqueIndexSet {
             .drive_on::<Acquire, Takes>(rt, call, &(), &mut ())
     }
 
-    /// Gives an index back that the pass holds, by whichever of the passes that it took in it was taken, in mode
-    /// `Default`: always `Unlocked`. At most 5 atomic steps. After `release_raw_index` of the Rust crate.
+    /// Gives back an index that the pass holds, in mode `Default`, and returns `Unlocked`. Any of the passes that it
+    /// took in may have acquired the index. At most 5 atomic steps. After `release_raw_index` of the Rust crate.
     pub fn release_raw_index(&self, index: u32, pass: &mut Pass) -> ReleaseState
         requires pass { IsPassOf self.now pass.old }
         requires held { Holds index (made pass.old) }
@@ -88,9 +90,10 @@ impl UniqueIndexSet {
             .drive::<Release<DefaultMode>, Gives>(call, &index, &mut ())
     }
 
-    /// Gives an index back that the pass holds, in mode `LockIfLastIndex`: `Locked` where it was the last one out, else
-    /// `Unlocked`, where without it another is in use at one moment of the call. Four atomic steps where nobody else
-    /// steps in between; else it may try again for as long as others step. After `release_raw_index` of the Rust crate.
+    /// Gives back an index that the pass holds, in mode `LockIfLastIndex`. It returns `Locked` where it was the last
+    /// one out, else `Unlocked`, where without it another is in use at one moment of the call. At most 4 atomic steps,
+    /// and 2 more for each change of a word of the set by others during the call. After `release_raw_index` of the Rust
+    /// crate.
     pub fn release_or_lock(&self, rt: &impl Wait, index: u32, pass: &mut Pass) -> ReleaseState
         requires pass { IsPassOf self.now pass.old }
         requires held { Holds index (made pass.old) }
@@ -107,9 +110,9 @@ impl UniqueIndexSet {
             .drive_on::<Release<LockMode>, GivesOrLocks>(rt, call, &index, &mut ())
     }
 
-    /// How many indices are borrowed: at one moment of the call at least those that are held and at most those in use,
-    /// at most the capacity, and 0 where the set is locked. One atomic step. After `borrowed_indices` of the Rust
-    /// crate.
+    /// Returns how many indices were borrowed at one moment of the call. At least those held, and at most those in use,
+    /// at most the capacity, and 0 where the set is locked. At most one atomic step. After `borrowed_indices` of the
+    /// Rust crate.
     pub fn borrowed_indices(&self, pass: &mut Pass) -> usize
         requires { IsPassOf self.now pass.old }
         ensures goes_on { GoesOn pass.old pass.new }
@@ -124,7 +127,7 @@ impl UniqueIndexSet {
             .drive::<BorrowedIndices, CountsOut>(BorrowedIndices, &(), &mut ())
     }
 
-    /// Whether the set is locked. One atomic step. After `is_locked` of the Rust crate.
+    /// Returns whether the set is locked. At most one atomic step. After `is_locked` of the Rust crate.
     pub fn is_locked(&self, pass: &mut Pass) -> bool
         requires { IsPassOf self.now pass.old }
         ensures goes_on { GoesOn pass.old pass.new }
@@ -138,14 +141,14 @@ impl UniqueIndexSet {
             .drive::<IsLocked, LooksLocked>(IsLocked, &(), &mut ())
     }
 
-    /// The capacity that it was made with. After `capacity` of the Rust crate.
+    /// Returns the capacity that it was made with. After `capacity` of the Rust crate.
     pub fn capacity(&self) -> u32
         ensures { result ≡ capacity_of self.now }
     {
         self.capacity
     }
 
-    /// A pass of the set has its capacity: for a caller's proof. It does nothing. This project's own.
+    /// Tells a caller's proof that a pass of the set has its capacity. It does nothing. This project's own.
     pub fn sizes(&self, pass: &Pass)
         requires { IsPassOf self.now pass.now }
         ensures { (view pass.now).capacity ≡ capacity_of self.now }

@@ -1,13 +1,11 @@
 //! What the calls say of the views at their steps.
-ghost use Rattle.std.specs.Prelude.{◌≡◌, []};
 ghost use Rattle.model.specs.Coding.{one_word};
 ghost use Rattle.model.specs.declared.turn.Kind.TheVariants as kinds;
 
-use atomic_table::Play;
 use history::view::View;
 use steps::indices::looks::{BorrowedIndices, IsLocked};
 use steps::indices::unique::{Acquire, DefaultMode, LockMode, Release};
-use threaded::driver::rule::Drives;
+use threaded::driver::rule::{Drives, Tells};
 
 /// Taking an index.
 pub struct Takes;
@@ -72,9 +70,8 @@ impl Drives<View<u64>, IsLocked> for LooksLocked {
 /// A look at the whole history.
 pub struct Look;
 
-impl Play<(), View<u64>> for Look {
+impl Tells<View<u64>> for Look {
     ghost use Rattle.history.specs.Views.{LooksOnce};
 
-    ghost then = { λ step old found new.
-        LooksOnce one_word kinds.Indices old.0.capacity old.0 new.0 × (new.1 ≡ []) };
+    ghost told = { λ old found new. LooksOnce one_word kinds.Indices old.capacity old new };
 }

@@ -25,7 +25,7 @@ impl<const CAPACITY: usize> Deref for FixedSizeUniqueIndexSet<CAPACITY> {
 }
 
 impl<const CAPACITY: usize> FixedSizeUniqueIndexSet<CAPACITY> {
-    /// A set of the indices below CAPACITY, and its first pass, which holds nothing.
+    /// Makes a set of the indices below CAPACITY, and its first pass, which holds nothing.
     ///
     /// Refused are, in this order, a CAPACITY above 2^24 - 2 (`ProvidedCapacityGreaterThanMaxCapacity`), 0
     /// (`ProvidedCapacityIsZero`) and memory (`NoMemory`). After `FixedSizeUniqueIndexSet` of the Rust crate.
@@ -46,7 +46,7 @@ impl<const CAPACITY: usize> FixedSizeUniqueIndexSet<CAPACITY> {
         Ok((FixedSizeUniqueIndexSet { set }, pass))
     }
 
-    /// A set of the indices below `capacity`, and its first pass, which holds nothing.
+    /// Makes a set of the indices below `capacity`, and its first pass, which holds nothing.
     ///
     /// Refused are, in this order, a CAPACITY above 2^24 - 2 or a `capacity` above CAPACITY
     /// (`ProvidedCapacityGreaterThanMaxCapacity`), a `capacity` of 0 (`ProvidedCapacityIsZero`) and memory

@@ -11,7 +11,7 @@ ghost use Rattle.history.specs.Steps.{TakesAtMost};
 use super::{Pass, UniqueIndex};
 
 impl<'a> UniqueIndex<'a> {
-    /// The index, which is below the capacity. After `value` of the Rust crate.
+    /// Returns the index, which is below the capacity. After `value` of the Rust crate.
     pub fn value(&self) -> u32
         ensures value { result ≡ value_of self.now }
         ensures below { result < (index_set self.now).capacity }

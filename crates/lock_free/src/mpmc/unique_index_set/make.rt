@@ -5,10 +5,10 @@ ghost use Rattle.threaded.specs.Shares.{all_shares};
 ghost use Rattle.lock_free.specs.Unique.Held.{HoldsNothing};
 ghost use Rattle.lock_free.specs.UniqueIndexSet.{capacity_of, IsPassOf, history, made, share, set_refusal};
 
+use super::rule::IndicesRule;
 use super::{Pass, UniqueIndexSet};
-use atomic_table::Table;
+use history::view::View;
 use std::alloc::{AllocError, Global};
-use std::sync::Arc;
 use steps::enums::{UniqueIndexCreationError, capacity_refusal};
 use threaded::driver::seated::Seated;
 
@@ -34,21 +34,16 @@ impl UniqueIndexSet {
             words.push_reserved(index as u64 + 1);
         }
         words.resize(1 + capacity as usize + flags + 1, 0)?;
-        let (table, seat) = Table::of_words(alloc, words.as_slice(), &(capacity as u64))?;
-        let table = Arc::new(alloc, table)?;
-        let shared = Arc::try_clone(&table)?;
-        let seated = Seated {
-            seat,
-            table: shared,
-        };
-        Ok((
-            UniqueIndexSet { table, capacity },
-            Pass { seated, capacity },
-        ))
+        let (home, seated) = Seated::<View<u64>, u64, IndicesRule>::open(
+            alloc,
+            words.as_slice(),
+            &(capacity as u64),
+        )?;
+        Ok((UniqueIndexSet { home, capacity }, Pass { seated, capacity }))
     }
 
-    /// A set of the indices below `capacity`, none of which is out, and its first pass, which has the whole share and
-    /// has seen nothing: the history is empty.
+    /// Makes a set of the indices below `capacity`, all free, and its first pass. The pass has the whole share and has
+    /// seen nothing: the history is empty.
     ///
     /// Refused are, in this order, a capacity above 2^24 - 2 (`ProvidedCapacityGreaterThanMaxCapacity`), 0
     /// (`ProvidedCapacityIsZero`) and memory (`NoMemory`). This project's own, after `UniqueIndexSet` of the Rust

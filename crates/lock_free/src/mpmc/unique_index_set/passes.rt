@@ -9,13 +9,11 @@ ghost use Rattle.history.specs.Steps.{TakesAtMost};
 use super::Pass;
 use super::drives::Look;
 use history::plays::{Both, Cut};
-use std::sync::Arc;
-use threaded::driver::seated::Seated;
 
 impl Pass {
-    /// A new pass of the same set, which has seen the same and holds nothing; this one keeps all that it holds, and each
-    /// has half of the share. None, and nothing changes, where no further pass can be counted (no clause says when). This
-    /// project's own.
+    /// Makes a new pass of the same set, which has seen the same and holds nothing. This one keeps all that it holds,
+    /// and each has half of the share. None, and nothing changes, where no further pass can be counted (no clause says
+    /// when). At most one step. This project's own.
     pub fn split(&mut self) -> Option<Pass>
         ensures set { set_of self.new ≡ set_of self.old }
         ensures new { IfSome result (λ p. set_of p ≡ set_of self.old) }
@@ -24,19 +22,15 @@ impl Pass {
         ensures none { IfNone result (view self.new ≡ view self.old) }
         ensures steps { TakesAtMost 1 (view self.old) (view self.new) }
     {
-        let seated = &mut self.seated;
-        let Ok(table) = Arc::try_clone(&seated.table) else {
-            return None;
-        };
-        let seat = seated.table.shared.split_seat::<Cut>(&mut seated.seat);
+        let seated = self.seated.split::<Cut>()?;
         Some(Pass {
-            seated: Seated { seat, table },
+            seated,
             capacity: self.capacity,
         })
     }
 
-    /// Takes in what the other pass of the set holds and has seen, with its share: no index was held by both, and each
-    /// that either took may be released. This project's own.
+    /// Takes in what the other pass of the set holds and has seen, with its share. No index was held by both, and each
+    /// that either took may be released. At most two steps. This project's own.
     pub fn join(&mut self, other: Pass)
         requires { set_of other ≡ set_of self.old }
         ensures set { set_of self.new ≡ set_of self.old }
@@ -51,12 +45,7 @@ impl Pass {
             seated: other,
             capacity: _,
         } = other;
-        let Seated { seat, .. } = other;
-        let seated = &mut self.seated;
-        seated
-            .table
-            .shared
-            .join_seat::<Both>(&mut seated.seat, seat);
-        let _ = seated.table.shared.load::<Look>(&mut seated.seat, 0);
+        self.seated.join::<Both>(other);
+        let _ = self.seated.look::<Look>(0);
     }
 }

@@ -64,10 +64,10 @@ fn empty_completion(rt: &impl Wait, consumer: &mut index_queue::Consumer<'_>)
 }
 
 impl<'a> LoanSender<'a> {
-    /// A sender with nothing loaned, over a pass of the set that holds nothing and the guards of the two queues.
+    /// Makes a sender with nothing loaned, of a pass that holds nothing and the guards of two queues.
     ///
-    /// Refused is memory alone (`NoMemory`): then the guards are dropped, so that both roles are free, and the pass comes
-    /// back as it was. No atomic step, but one for each guard that is dropped.
+    /// Refused is memory alone (`NoMemory`): then the guards are dropped, so that both roles are free, and the pass
+    /// comes back as it was.
     pub fn new(
         alloc: Global,
         set: &'a UniqueIndexSet,
@@ -126,7 +126,7 @@ impl<'a> LoanSender<'a> {
         Ok(index)
     }
 
-    /// Whether the index is Loaned, which `send` and `give_up` ask for. No atomic step.
+    /// Returns whether the index is Loaned, which `send` and `give_up` ask for. No atomic step.
     pub fn is_loaned(&self, index: u32) -> bool
         ensures { IsTrue result ↔ IsLoaned index self.now }
     {
@@ -231,7 +231,7 @@ impl<'a> LoanSender<'a> {
         answer
     }
 
-    /// Takes the oldest value that the receiver gave back: it is Free again where it is an index that is Sent, and else
+    /// Takes the oldest value that the receiver gave back, and makes the index Free if it is Sent. Any other value
     /// changes nothing. None where nothing waits, and then nothing changes. At most 9 atomic steps.
     pub fn take_back(&mut self) -> Option<u64>
         ensures back { IfSome result
@@ -259,12 +259,12 @@ impl<'a> LoanSender<'a> {
         Some(back)
     }
 
-    /// Empties both queues, and then frees each index that is Sent, in ascending order: how many. For a sender whose
-    /// receiver is gone, with the receiver's guard of the same queue. What is Loaned stays. The last pop of each queue
-    /// finds that nothing waits, and the frees never lock the set.
+    /// Empties both queues, frees each index that is Sent, in ascending order, and returns how many it freed. It is for
+    /// a sender whose receiver is gone, with the receiver's guard of the same queue. What is Loaned stays, and the set
+    /// is never locked by it.
     ///
-    /// Both queues are popped until they are empty, so no bound stands where another thread gives back at the same time;
-    /// at most 5 atomic steps for each index that is freed.
+    /// Both queues are popped until nothing waits, so no bound stands where another thread gives back at the same time.
+    /// At most 5 atomic steps for each index that is freed.
     pub fn reclaim(&mut self, rt: &impl Wait, receiver: &mut overflow::Consumer<'_>) -> usize
         requires { sends.consumer_queue receiver.old ≡ submission_of self.old }
         ensures places { places_of self.new ≡ map reclaimed (places_of self.old) }
@@ -298,7 +298,7 @@ impl<'a> LoanSender<'a> {
         number
     }
 
-    /// Hands the pass out, which holds what is Loaned or Sent, and gives both roles back. Two atomic steps.
+    /// Hands out the pass, which holds what is Loaned or Sent, and gives both roles back.
     pub fn finish(self) -> Pass
         ensures view { view result ≡ pass_view self.entry }
         ensures set { set_of result ≡ set_of_sender self.entry }
@@ -313,7 +313,8 @@ impl<'a> LoanSender<'a> {
         pass
     }
 
-    /// The pass holds exactly the indices that are Loaned or Sent, each once: for a caller's proof. It does nothing.
+    /// Tells a caller's proof that the pass holds exactly the indices that are Loaned or Sent, each once. It does
+    /// nothing.
     pub fn holds(&self)
         ensures { IsBookOf (pass_view self.now) (places_of self.now) }
     {}

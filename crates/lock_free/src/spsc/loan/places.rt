@@ -1,6 +1,6 @@
 //! Where an index is.
 
-/// Where an index is, as its sender knows.
+/// Says where an index is, as its sender knows.
 #[derive(Clone, Copy, PartialEq, Eq, Debug)]
 pub enum Place {
     Free,

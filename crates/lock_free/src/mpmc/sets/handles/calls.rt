@@ -10,7 +10,7 @@ use crate::mpmc::sets::rule::Kind;
 use crate::mpmc::sets::{Pass, Set};
 
 impl<E: Kind> Set<E> {
-    /// A handle: this set with a pass of it. No atomic step. This project's own.
+    /// Makes a handle of this set and a pass of it. No atomic step. This project's own.
     pub fn handle(&self, pass: Pass<E>) -> Handle<'_, E>
         requires { IsPassOf self.now pass }
         ensures set { set_in result ≡ self.now }
@@ -21,7 +21,7 @@ impl<E: Kind> Set<E> {
 }
 
 impl<'a, E: Kind> Handle<'a, E> {
-    /// The pass. No atomic step.
+    /// Returns the pass. No atomic step.
     pub fn into_pass(self) -> Pass<E>
         ensures { result ≡ pass_in self.entry }
     {
@@ -29,7 +29,7 @@ impl<'a, E: Kind> Handle<'a, E> {
         pass
     }
 
-    /// A further handle of the set, with a pass that has seen the same and made nothing, as by `Pass::split`.
+    /// Makes a further handle of the set, with a pass that it gets by `Pass::split`.
     pub fn split(&mut self) -> Option<Handle<'a, E>>
         ensures set { set_in self.new ≡ set_in self.old }
         ensures new { IfSome result (λ h. set_in h ≡ set_in self.old) }
@@ -44,7 +44,7 @@ impl<'a, E: Kind> Handle<'a, E> {
         })
     }
 
-    /// As `capacity` of its set.
+    /// Calls `capacity` of its set.
     pub fn capacity(&self) -> usize
         ensures { result ≡ capacity_of (set_in self.now) }
     {

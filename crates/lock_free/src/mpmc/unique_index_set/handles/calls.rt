@@ -19,7 +19,7 @@ use std::sync::Wait;
 use steps::indices::enums::UniqueIndexSetAcquireFailure;
 
 impl UniqueIndexSet {
-    /// A handle: this set with a pass of it. No atomic step. This project's own.
+    /// Makes a handle of this set and a pass of it. No atomic step. This project's own.
     pub fn handle(&self, pass: Pass) -> Handle<'_>
         requires { IsPassOf self.now pass }
         ensures set { set_in result ≡ self.now }
@@ -30,7 +30,7 @@ impl UniqueIndexSet {
 }
 
 impl<'a> Handle<'a> {
-    /// The pass. No atomic step.
+    /// Returns the pass. No atomic step.
     pub fn into_pass(self) -> Pass
         ensures { result ≡ pass_in self.entry }
     {
@@ -38,7 +38,7 @@ impl<'a> Handle<'a> {
         pass
     }
 
-    /// A further handle of the set, with a pass that has seen the same and holds nothing, as by `Pass::split`.
+    /// Makes a further handle of the set, with a pass that it gets by `Pass::split`.
     pub fn split(&mut self) -> Option<Handle<'a>>
         ensures set { set_in self.new ≡ set_in self.old }
         ensures new { IfSome result (λ h. set_in h ≡ set_in self.old) }
@@ -53,15 +53,15 @@ impl<'a> Handle<'a> {
         })
     }
 
-    /// As `UniqueIndexSet::capacity`.
+    /// Calls `UniqueIndexSet::capacity`.
     pub fn capacity(&self) -> u32
         ensures { result ≡ capacity_of (set_in self.now) }
     {
         self.set.capacity()
     }
 
-    /// As `UniqueIndexSet::acquire`: the index, which owns the pass, or the failure with the handle. `give_back` of the
-    /// index gives the handle again.
+    /// Calls `UniqueIndexSet::acquire`, and returns the index, which owns the pass, or the failure with the handle.
+    /// `give_back` of the index gives the handle again.
     pub fn acquire(
         self,
         rt: &impl Wait,
@@ -84,7 +84,7 @@ impl<'a> Handle<'a> {
         }
     }
 
-    /// As `UniqueIndexSet::borrowed_indices`.
+    /// Calls `UniqueIndexSet::borrowed_indices`, with its pass.
     pub fn borrowed_indices(&mut self) -> usize
         ensures set { set_in self.new ≡ set_in self.old }
         ensures goes_on { GoesOn (pass_in self.old) (pass_in self.new) }
@@ -98,7 +98,7 @@ impl<'a> Handle<'a> {
         self.set.borrowed_indices(&mut self.pass)
     }
 
-    /// As `UniqueIndexSet::is_locked`.
+    /// Calls `UniqueIndexSet::is_locked`, with its pass.
     pub fn is_locked(&mut self) -> bool
         ensures set { set_in self.new ≡ set_in self.old }
         ensures goes_on { GoesOn (pass_in self.old) (pass_in self.new) }

@@ -18,7 +18,7 @@ use std::sync::Wait;
 use steps::indices::enums::ReleaseState;
 
 impl<'a> UniqueIndex<'a> {
-    /// As `release`, with the handle in place of the pass. This project's own.
+    /// Gives the index back as `release` does, and returns the handle. This project's own.
     pub fn give_back(self) -> Handle<'a>
         ensures goes_on { GoesOn (index_pass self.entry) (pass_in result) }
         ensures given { HasGiven (value_of self.entry) Unlocked (index_view self.entry) (knows result) }
@@ -33,7 +33,8 @@ impl<'a> UniqueIndex<'a> {
         set.handle(pass)
     }
 
-    /// Gives the index back as `UniqueIndexSet::release_or_lock` does: its answer, and the handle. This project's own.
+    /// Gives the index back as `UniqueIndexSet::release_or_lock` does, and returns its answer and the handle. This
+    /// project's own.
     pub fn give_back_or_lock(self, rt: &impl Wait) -> (ReleaseState, Handle<'a>)
         ensures goes_on { GoesOn (index_pass self.entry) (pass_in result.1) }
         ensures given { HasGivenOrLocked (value_of self.entry) result.0 (index_view self.entry) (knows result.1) }

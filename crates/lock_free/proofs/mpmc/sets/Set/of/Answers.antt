@@ -2,5 +2,5 @@ use Rattle.lock_free.proofs.Names.{rules, arith}
 use Rattle.lock_free.proofs.Sets.Opens.{opens}
 use Rattle.lock_free.proofs.mpmc.sets.Set.of.Goals as goal
 
-pub of_words-requires : goal.of_words-requires
-of_words-requires g c = opens g.E.Kind.KIND c.args.capacity (omega arith) c.as_slice.result.now (search rules)
+pub open-requires : goal.open-requires
+open-requires g c = opens g.E.Kind.KIND c.args.capacity (omega arith) c.as_slice.result.now (search rules)

@@ -1,47 +1,44 @@
-use Rattle.lock_free.proofs.Names.{◌≡◌, ◌<◌, ℕ, [], rules, refl, sym, subst, ◌∙◌, arith, Me, Allows, TableId, one_word}
+use Rattle.lock_free.proofs.Names.{◌<◌, ℕ, List, [], refl, sym, subst, ◌∙◌, arith, Me, one_word, OwesAsk}
 use Rattle.lock_free.proofs.Names.{seen, View, IsMachine, Ends}
+use Rattle.steps.specs.declared.ask.Op.TheVariants.{Load}
+use Rattle.threaded.specs.Seats.{table_of, key_of}
 use Rattle.lock_free.specs.Sets.Kinds.{SetKind, machine_kind}
 use Rattle.lock_free.specs.Sets.Stages.{empties_none}
 use Rattle.lock_free.proofs.Ends.{done, has_made}
-use Rattle.lock_free.proofs.Sets.Emptying.{none_at}
+use Rattle.lock_free.proofs.Sets.Emptying.{owes_none}
 use Rattle.lock_free.proofs.Steps.{none_takes}
 use Rattle.lock_free.proofs.mpmc.sets.calls.empty_none.Goals as goal
 
 -- what one look owes, where the seat knows this
-abbrev Owed : SetKind → ℕ → ℕ → ℕ → Me (Unit {0}) (View ℕ) → Type 0
-Owed kind key slots id me =
-    Allows (IsMachine one_word (machine_kind kind) key) slots id me 0 (λ n. n)
-    (λ found new. Ends one_word (machine_kind kind) (empties_none kind) me.0 tt (record { 0 = 0 }) new.0 × (new.1 ≡ []))
+abbrev Owed : SetKind → ℕ → ℕ → ℕ → ℕ → Me (Unit {0}) (View ℕ) → Type 0
+Owed kind key words slots id me =
+    OwesAsk (λ (z : View ℕ). z.asked) (IsMachine one_word (machine_kind kind) key) words slots id
+    (λ u n w. Ends one_word (machine_kind kind) (empties_none kind) u tt (record { 0 = 0 }) w) 0 Load me
 
-pub load-requires : goal.load-requires
-load-requires g c =
+pub look-requires-clause-owes : goal.look-requires-clause-owes
+look-requires-clause-owes g c =
     let kind = g.E.Kind.KIND in
     let t = c.args.seated.now in
     let v = seen t in
-    let table = c.deref.result.now.shared in
-    let size : v.capacity ≡ table.key = search rules in
-    let me : t.seat.me ≡ (v, []) = λ i. (v, t.bare i) in
-    let owed : Owed kind v.capacity table.table_id.slots t.seat.id (v, []) =
-    none_at kind v (record { known = refl; idle = c.requires.idle.idle; alone = c.requires.idle.alone; some = c.requires.idle.some })
-    (c.requires.idle.known ∙ c.requires.places) table.table_id.slots t.seat.id 0 in (
-      search rules,
-      (let wide = c.requires.table.0 in let at : t.seat.table_id ≡ table.table_id = search rules in subst (λ (z : TableId). 0 < z.words) at (omega arith)),
-      subst (λ (m : Me (Unit {0}) (View ℕ)). Owed kind table.key table.table_id.slots t.seat.id m) (sym me)
-          (subst (λ k. Owed kind k table.table_id.slots t.seat.id (v, [])) size owed),
-    )
+    let below : 0 < (table_of t).words = (let wide = c.requires.table.0 in omega arith) in
+    let owed : Owed kind v.capacity (table_of t).words (table_of t).slots t.seat.id (v, []) =
+    owes_none kind v (record { known = refl; idle = c.requires.idle.idle; alone = c.requires.idle.alone; some = c.requires.idle.some })
+    (c.requires.idle.known ∙ c.requires.places) (table_of t).words (table_of t).slots t.seat.id 0 below in
+    subst (λ (xs : List (ℕ × Unit {0})). Owed kind (key_of t) (table_of t).words (table_of t).slots t.seat.id (v, xs)) (sym t.bare)
+    (subst (λ k. Owed kind k (table_of t).words (table_of t).slots t.seat.id (v, [])) c.requires.table.1 owed)
 
 pub returns-clause-done : goal.returns-clause-done
 returns-clause-done g c =
-    done (machine_kind g.E.Kind.KIND) (empties_none g.E.Kind.KIND) (λ o p h. h) (seen c.args.seated.now) c.load.new.seat.me.0 tt
-    (record { 0 = 0 }) c.load.ensures.2.0
+    done (machine_kind g.E.Kind.KIND) (empties_none g.E.Kind.KIND) (λ o p h. h) (seen c.args.seated.now) c.look.new.self.seat.me.0 tt
+    (record { 0 = 0 }) c.look.ensures.told
 
 pub returns-clause-called : goal.returns-clause-called
 returns-clause-called g c =
-    let ends = c.load.ensures.2.0 in
-    has_made (machine_kind g.E.Kind.KIND) (empties_none g.E.Kind.KIND) (seen c.args.seated.now) c.load.new.seat.me.0 tt
+    let ends = c.look.ensures.told in
+    has_made (machine_kind g.E.Kind.KIND) (empties_none g.E.Kind.KIND) (seen c.args.seated.now) c.look.new.self.seat.me.0 tt
     (record { 0 = 0 }) ends c.requires.idle.idle (λ by. []) ends.tells
 
 pub returns-clause-steps : goal.returns-clause-steps
 returns-clause-steps g c =
-    none_takes g.E.Kind.KIND (seen c.args.seated.now) c.load.new.seat.me.0 (record { 0 = 0 }) c.requires.idle.idle
-    (c.requires.idle.known ∙ c.requires.places) c.load.ensures.2.0
+    none_takes g.E.Kind.KIND (seen c.args.seated.now) c.look.new.self.seat.me.0 (record { 0 = 0 }) c.requires.idle.idle
+    (c.requires.idle.known ∙ c.requires.places) c.look.ensures.told

@@ -1,27 +1,27 @@
-use Rattle.lock_free.proofs.Names.{◌≡◌, ◌<◌, ℕ, rules, refl, sym, subst, arith, TableId, one_word, View, splits}
+use Rattle.lock_free.proofs.Names.{ℕ, Option, Some, None, IfSome, refl, sym, subst, one_word, View, splits}
+use Rattle.std.specs.Prelude.{IfNone}
 use Rattle.model.specs.declared.turn.Kind.TheVariants as kinds
 use Rattle.history.specs.Views.{left_view}
 use Rattle.lock_free.specs.Unique.Held.{IsSound, IsDone}
 use Rattle.lock_free.proofs.Unique.Facts.{sound_same}
 use Rattle.lock_free.proofs.mpmc.unique_index_set.Pass.split.Goals as goal
 
-pub split_seat-seat-requires : goal.split_seat-seat-requires
-split_seat-seat-requires c =
-    let mine = c.args.self.now in
-    let at : mine.seated.seat.table_id ≡ c.deref.result.now.shared.table_id = search rules in (
-      at,
-      subst (λ (t : TableId). 0 < t.words) at (let size = mine.sized in omega arith),
-      splits one_word kinds.Indices _ mine.seated.seat.id mine.seated.seat.me.0,
-    )
+pub split-requires-clause-splits : goal.split-requires-clause-splits
+split-requires-clause-splits c = splits one_word kinds.Indices _ c.args.self.now.seated.seat.id c.args.self.now.seated.seat.me.0
 
-pub invariant_of-self-2-clause-sound : goal.invariant_of-self-2-clause-sound
-invariant_of-self-2-clause-sound c =
-    let mine = c.args.self.now in
-    let is : c.split_seat-seat.new.seat.me.0 ≡ left_view mine.seated.seat.me.0 = search rules in
-    subst IsSound (sym is) (sound_same mine.seated.seat.me.0 (left_view mine.seated.seat.me.0) refl refl refl mine.sound)
+by_result : {A : Type 0} {P : A → Type 0} {Q R : Type 0} (o : Option A) → IfSome o P → IfNone o Q → ((x : A) → P x → R) → (Q → R) → R
+by_result (Some x) some none f g = f x some
+by_result None some none f g = g none
 
-pub invariant_of-self-2-clause-done : goal.invariant_of-self-2-clause-done
-invariant_of-self-2-clause-done c =
-    let mine = c.args.self.now in
-    let is : c.split_seat-seat.new.seat.me.0 ≡ left_view mine.seated.seat.me.0 = search rules in
-    subst (λ (z : View ℕ). IsDone z.made) (sym is) mine.done
+pub invariant_of-self-clause-sound : goal.invariant_of-self-clause-sound
+invariant_of-self-clause-sound c =
+    let v = c.args.self.now.seated.seat.me.0 in
+    by_result c.split.result c.split.ensures.cut c.split.ensures.none
+    (λ t h. subst IsSound (sym h.2) (sound_same v (left_view v) refl refl refl c.args.self.now.sound))
+    (λ same. subst IsSound (sym same) c.args.self.now.sound)
+
+pub invariant_of-self-clause-done : goal.invariant_of-self-clause-done
+invariant_of-self-clause-done c =
+    by_result c.split.result c.split.ensures.cut c.split.ensures.none
+    (λ t h. subst (λ (z : View ℕ). IsDone z.made) (sym h.2) c.args.self.now.done)
+    (λ same. subst (λ (z : View ℕ). IsDone z.made) (sym same) c.args.self.now.done)

@@ -29,8 +29,8 @@ loop-index-preserved c =
     ap (range_with_len 1) (sym suc_is) ∙ longer c.loop-index.index 1 in
     (here ∙ ap (λ ws. 0 ∷ ws) (sym grown), omega arith, omega arith)
 
-pub of_words-requires : goal.of_words-requires
-of_words-requires c =
+pub open-requires : goal.open-requires
+open-requires c =
     let end : c.loop-index.index ≡ c.args.capacity = omega arith in
     let len = c.loop-index.invariant.1 in
     let flags = (c.args.capacity + 63) / 64 in
