@@ -66,7 +66,7 @@ const NUMBERS: [&str; 5] = [
     "16777214",
 ];
 
-/// What is tried: the words of a line, or one word of a first line whose capacity is refused.
+/// What is tried: a next word of a line, or one number of a first line whose capacity is refused.
 #[derive(Clone, Copy)]
 pub enum Tried<'a> {
     Words(Grammar, &'a [u8]),
@@ -75,18 +75,22 @@ pub enum Tried<'a> {
 }
 
 impl Tried<'_> {
-    /// Whether this word may stand there.
-    pub fn takes(self, alloc: Global, word: &str) -> Result<bool, AllocError> {
+    /// Why this word may not stand there, if it may not. More words can be missing behind it.
+    pub fn cause(self, alloc: Global, word: &[u8]) -> Result<Option<Cause>, AllocError> {
         match self {
             Tried::Words(grammar, before) => {
-                let line = line_of(alloc, before, word, b"")?;
-                let cause = grammar.cause(&line);
-                Ok(matches!(cause, None | Some(Cause::MissingValue)))
+                let cause = grammar.cause(&line_of(alloc, before, word, b"")?);
+                Ok(cause.filter(|cause| *cause != Cause::MissingValue))
             }
             Tried::Capacity(before, behind) => {
-                Ok(read_setup(&line_of(alloc, before, word, behind)?).is_ok())
+                Ok(read_setup(&line_of(alloc, before, word, behind)?).err())
             }
         }
+    }
+
+    // Whether this word may stand there.
+    fn takes(self, alloc: Global, word: &str) -> Result<bool, AllocError> {
+        Ok(self.cause(alloc, word.as_bytes())?.is_none())
     }
 
     // Whether the line may end there.
@@ -154,9 +158,14 @@ impl List<'_> {
 }
 
 // A line with this word between what stands before it and behind it.
-fn line_of(alloc: Global, before: &[u8], word: &str, behind: &[u8]) -> Result<Vec<u8>, AllocError> {
+fn line_of(
+    alloc: Global,
+    before: &[u8],
+    word: &[u8],
+    behind: &[u8],
+) -> Result<Vec<u8>, AllocError> {
     let mut line = Vec::from_slice(alloc, before)?;
-    line.extend_from_slice(word.as_bytes())?;
+    line.extend_from_slice(word)?;
     line.extend_from_slice(behind)?;
     Ok(line)
 }

@@ -8,6 +8,7 @@ pub mod explained;
 pub mod input;
 pub mod output;
 pub mod runs;
+mod shown;
 mod told;
 pub mod wrong;
 

@@ -33,13 +33,18 @@ pub fn put<W: Write>(writer: &mut W, bytes: &[u8]) -> Result<(), ScheduleError>
     Err(ScheduleError::WriteFailed)
 }
 
-/// Writes the lines of the events, or a beginning of them where a write fails.
-pub fn put_events<W: Write>(writer: &mut W, events: &[Event<u128>]) -> Result<(), ScheduleError>
+/// Writes the lines of the events, or a beginning of them where a write fails. Each is made in the room of `line`.
+pub fn put_events<W: Write>(
+    writer: &mut W,
+    line: &mut Line,
+    events: &[Event<u128>],
+) -> Result<(), ScheduleError>
     ensures { Writes (W.contents writer.old) (W.contents writer.new) result
         (events_text events.now) }
 {
     for event in events {
-        match put(writer, Line::of_event(event).as_bytes()) {
+        line.print_event(event);
+        match put(writer, line.as_bytes()) {
             Ok(()) => {}
             Err(e) => return Err(e),
         }

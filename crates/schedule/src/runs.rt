@@ -20,12 +20,15 @@ use std::io::{BufWriter, Read, Write};
 use steps::enums::UniqueIndexCreationError;
 use texts::error::{Cause, ScheduleError};
 use texts::grammar::{Command, Setup, command_of, setup_of};
+use texts::line::Line;
 use texts::text::{Rest, lines};
 
-// One turn. Whether it was taken.
+// One turn, whose events are printed in the room of `line`. Whether it was taken.
+#[inline(always)]
 fn take_turn<W: Write>(
     machine: &mut Machine<u128>,
     turn: Turn<u128>,
+    line: &mut Line,
     writer: &mut W,
 ) -> Result<bool, ScheduleError>
     ensures { (short : Bool) × IsTurn (outcome short (world_of machine.old) turn)
@@ -33,7 +36,7 @@ fn take_turn<W: Write>(
 {
     let before = machine.events().len();
     match machine.step(turn) {
-        Ok(()) => match put_events(writer, &machine.events()[before..]) {
+        Ok(()) => match put_events(writer, line, &machine.events()[before..]) {
             Ok(()) => Ok(true),
             Err(e) => Err(e),
         },
@@ -45,15 +48,17 @@ fn take_turn<W: Write>(
 }
 
 // One turn of the party's call. Whether the call goes on.
+#[inline(always)]
 fn take_next<W: Write>(
     machine: &mut Machine<u128>,
     party: u32,
+    line: &mut Line,
     writer: &mut W,
 ) -> Result<bool, ScheduleError>
     ensures { (short : Bool) × IsStep party (outcome short (world_of machine.old) (Next party))
         (world_of machine.new) (W.contents writer.old) (W.contents writer.new) result }
 {
-    match take_turn(machine, Turn::Next(party), writer) {
+    match take_turn(machine, Turn::Next(party), line, writer) {
         Ok(taken) => Ok(taken && machine.is_going(party)),
         Err(e) => Err(e),
     }
@@ -64,13 +69,14 @@ fn take_nexts<W: Write>(
     machine: &mut Machine<u128>,
     party: u32,
     most: u64,
+    line: &mut Line,
     writer: &mut W,
 ) -> Result<(), ScheduleError>
     ensures { Prints (nexts most party) (world_of machine.old) (world_of machine.new)
         (W.contents writer.old) (W.contents writer.new) result }
 {
     for _ in 0..most {
-        match take_next(machine, party, writer) {
+        match take_next(machine, party, line, writer) {
             Ok(true) => {}
             Ok(false) => return Ok(()),
             Err(e) => return Err(e),
@@ -83,17 +89,18 @@ fn take_nexts<W: Write>(
 fn do_command<W: Write>(
     machine: &mut Machine<u128>,
     command: Command,
+    line: &mut Line,
     writer: &mut W,
 ) -> Result<(), ScheduleError>
     ensures { Prints (commanded command) (world_of machine.old) (world_of machine.new)
         (W.contents writer.old) (W.contents writer.new) result }
 {
     match command {
-        Command::Once(turn) => match take_turn(machine, turn, writer) {
+        Command::Once(turn) => match take_turn(machine, turn, line, writer) {
             Ok(_) => Ok(()),
             Err(e) => Err(e),
         },
-        Command::Times(party, most) => take_nexts(machine, party, most, writer),
+        Command::Times(party, most) => take_nexts(machine, party, most, line, writer),
     }
 }
 
@@ -110,12 +117,13 @@ fn do_lines<W: Write>(
         (record { world = world_of machine.old; memory = memory }))
         (W.contents writer.old) (W.contents writer.new) result }
 {
+    let mut printed = Line::new();
     let mut left = lines;
     let mut number = 2u64;
     while let Some((line, rest)) = left.first() {
         if !line.is_empty() {
             match command_of(kind, line) {
-                Ok(command) => match do_command(machine, command, writer) {
+                Ok(command) => match do_command(machine, command, &mut printed, writer) {
                     Ok(()) => {}
                     Err(e) => return Err(e),
                 },

@@ -31,14 +31,14 @@ impl Grammar {
     }
 
     /// Where the line ceases to make sense, and why: at the first word that none behind it could mend, or behind the last
-    /// one where more is missing.
+    /// one where more is missing. A line that begins with a space has an empty word before it.
     pub fn wrong(self, line: &[u8]) -> Option<(usize, Cause)>
         ensures { MatchOption result (cause_of self line.now ≡ None)
             (λ x. IsWrong self line.now x.0 x.1) }
     {
         let mut start = 0;
         for (at, byte) in line.iter().enumerate() {
-            if *byte == b' ' {
+            if *byte == b' ' && at > 0 {
                 match self.cause(&line[..at]) {
                     None | Some(Cause::MissingValue) => start = at + 1,
                     Some(cause) => return Some((start, cause)),

@@ -106,14 +106,22 @@ impl Line {
     }
 
     /// The line of an event, with its line feed.
-    #[tactic(auto, unfolding(crate::specs::Print::event_text))]
     pub fn of_event(event: &Event<u128>) -> Line
         ensures { result ≡ event_text event.now }
     {
         let mut line = Line::new();
-        families::print_event(&mut line, event);
-        line.push("\n");
+        line.print_event(event);
         line
+    }
+
+    /// Becomes the line of this event, with its line feed: one room serves for event after event.
+    #[tactic(auto, unfolding(crate::specs::Print::event_text))]
+    pub fn print_event(&mut self, event: &Event<u128>)
+        ensures { self.new ≡ event_text event.now }
+    {
+        self.len = 0;
+        families::print_event(self, event);
+        self.push("\n");
     }
 
     /// The line of a refused turn, with its line feed.

@@ -10,7 +10,7 @@ returns-in-Err g c =
     let e = c.in-Err.ensures in
     let more =
     events_more c.args.events.now c.loop-event.event-index c.event-item.result i.0 c.as_bytes.result.now
-    (omega arith) i.1 (c.as_bytes.ensures ∙ c.of_event.ensures ∙ ap event_text c.event-item.is) in
+    (omega arith) i.1 (c.as_bytes.ensures ∙ c.print_event.ensures ∙ ap event_text c.event-item.is) in
     (e.0, part_within _ _ _ i.0 c.as_bytes.result.now _ _ i.2 e.1 more)
 
 pub loop-event-preserved : goal.loop-event-preserved
@@ -18,5 +18,5 @@ loop-event-preserved g c =
     let i = c.loop-event.invariant in
     let more =
     events_more c.args.events.now c.loop-event.event-index c.event-item.result i.0 c.as_bytes.result.now
-    (omega arith) i.1 (c.as_bytes.ensures ∙ c.of_event.ensures ∙ ap event_text c.event-item.is) in
+    (omega arith) i.1 (c.as_bytes.ensures ∙ c.print_event.ensures ∙ ap event_text c.event-item.is) in
     (i.0 ++ c.as_bytes.result.now, more, Appends-trans _ _ _ i.0 c.as_bytes.result.now i.2 c.in-Ok.ensures)
