@@ -123,12 +123,14 @@ fn resets(
 /// What is set behind the place is handed out by the same call, and what is set before it stands.
 #[test]
 fn a_closure_that_sets_places(rt: HostRuntime) -> Result<(), Fail> {
-    let (set, pass) = BitSet::new(rt.alloc(), 130)?;
-    let mut handle = set.handle(pass);
-    let mut other = handle.split().ok_or("no further handle")?;
-    assert!(rt; sets(&rt, &mut handle, 0) && sets(&rt, &mut handle, 128));
-    assert!(rt; resets(&rt, &mut handle, &mut other) == 64_128);
-    assert!(rt; handle.reset_next(&rt) == Some(1) && handle.reset_next(&rt).is_none());
+    for last in [65, 129, 999usize] {
+        let (set, pass) = BitSet::new(rt.alloc(), last.wrapping_add(1))?;
+        let mut handle = set.handle(pass);
+        let mut other = handle.split().ok_or("no further handle")?;
+        assert!(rt; sets(&rt, &mut handle, 0) && sets(&rt, &mut handle, last));
+        assert!(rt; resets(&rt, &mut handle, &mut other) == 64_000u64.wrapping_add(last as u64));
+        assert!(rt; handle.reset_next(&rt) == Some(1) && handle.reset_next(&rt).is_none());
+    }
     Ok(())
 }
 
@@ -139,7 +141,8 @@ fn counts(handle: &mut counting_bit_set::Handle<'_>, place: usize) {
     }
 }
 
-/// The places and counts that a reset of all comes to, two digits each. At place 1 both others are counted.
+/// The places and counts that a reset of all comes to, two digits each. At places 0 and 1 the next one is counted, and at
+/// place 1 place 0 too.
 fn takes_out(
     handle: &mut counting_bit_set::Handle<'_>,
     other: &mut counting_bit_set::Handle<'_>,
@@ -153,7 +156,9 @@ fn takes_out(
             .wrapping_add(state.count());
         if state.bit() == 1 {
             counts(other, 0);
-            counts(other, 2);
+        }
+        if state.bit() < 2 {
+            counts(other, state.bit().wrapping_add(1));
         }
     });
     digits
@@ -162,12 +167,15 @@ fn takes_out(
 /// The same of counts.
 #[test]
 fn a_closure_that_counts_places(rt: HostRuntime) -> Result<(), Fail> {
-    let (set, pass) = CountingBitSet::new(rt.alloc(), 3)?;
-    let mut handle = set.handle(pass);
-    let mut other = handle.split().ok_or("no further handle")?;
-    counts(&mut handle, 1);
-    counts(&mut handle, 2);
-    assert!(rt; takes_out(&mut handle, &mut other) == 1122);
-    assert!(rt; takes_out(&mut handle, &mut other) == 1);
+    for capacity in [3, 140, 1000] {
+        let (set, pass) = CountingBitSet::new(rt.alloc(), capacity)?;
+        let mut handle = set.handle(pass);
+        let mut other = handle.split().ok_or("no further handle")?;
+        for place in 0..3usize {
+            counts(&mut handle, place);
+        }
+        assert!(rt; takes_out(&mut handle, &mut other) == 11_222);
+        assert!(rt; takes_out(&mut handle, &mut other) == 11_121);
+    }
     Ok(())
 }
