@@ -12,6 +12,10 @@ module _ {T : Type 0} where
   abbrev pub TakesAtMost : ℕ → View T → View T → Type 0
   TakesAtMost most old new = new.asked ≤ old.asked + most
 
+  -- at most so many beside those that both have counted
+  abbrev pub JoinsWithin : ℕ → View T → View T → View T → Type 0
+  JoinsWithin most mine other new = new.asked ≤ mine.asked + other.asked + most
+
   -- At most so many alone, and so many more for each change of a word that other parties made while the call was under
   -- way, in a run that has the history. The party's latest call there is this one.
   pub record TakesAlone (code : Coding T) (kind : Kind) (capacity alone retry : ℕ) (old new : View T) : Type 0 where

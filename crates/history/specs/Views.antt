@@ -29,7 +29,7 @@ module _ {T : Type 0} where
         taken = 0;
       }
 
-  -- the split is one operation of the pass that is split, and the join one of the pass that takes in
+  -- the split is one operation of the pass that is split, and the join one of the pass that takes in, with those of the other
   abbrev pub right_view : View T → View T
   right_view v =
       record {
@@ -59,7 +59,7 @@ module _ {T : Type 0} where
         made = v.made ++ w.made;
         going = v.going;
         state = v.state;
-        asked = v.asked + 1;
+        asked = v.asked + w.asked + 1;
         taken = v.taken;
       }
 

@@ -1,6 +1,14 @@
 -- What a part of a call can still add to the counter, and that its steps keep to it: a raise, a count, a lock, an acquire
 -- and a release. Each change of the history is good for three: a raise of the counter, a raise more that a lock may have
 -- to make because of it, and a first raise of a lock.
+--
+-- Of each part and each call, here and in `RobustPays`, at a stage:
+-- credit: raises that changes so far have paid for, and that it, or a lock because of it, may still make;
+-- late: 1 where a lock has to count again, since the counter has moved;
+-- then: the counter after the step;
+-- old: what the step is handed;
+-- left: credit and late of the call that goes on from the step, 0 where it is done;
+-- pays: counter and left after the step are no more than counter, credit and late before it, and three for each change.
 use Rattle.std.proofs.Common.{◌≡◌, ◌≢◌, ◌⊎◌, inl, inr, ℕ, ◌+◌, ◌*◌, ◌≤◌, ◌==◌, nat_lt, if◌then◌else◌}
 use Rattle.std.proofs.Common.{Bool, true, false, refl, arith, eq-eqb}
 use Rattle.std.proofs.lemmas.Bool.Decides.{nat_tests}

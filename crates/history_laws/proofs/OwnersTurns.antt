@@ -18,7 +18,7 @@ use Rattle.model.specs.declared.families.container.ContainerStart.TheVariants.{R
 use Rattle.model.specs.declared.party.Doing.{Doing}
 use Rattle.model.specs.declared.party.Doing.TheVariants.{Going, Over}
 use Rattle.model.specs.declared.party.Party.{Party}
-use Rattle.model.specs.declared.turn.Refusal.TheVariants.{WrongCall, Busy, Idle, Undecided}
+use Rattle.model.specs.declared.turn.Refusal.TheVariants.{Idle, Undecided}
 use Rattle.model.specs.declared.turn.Turn.{Turn}
 use Rattle.model.specs.declared.turn.Turn.TheVariants.{Begin, Next, Decide, Die}
 use Rattle.model.specs.Families.{first_of, want_of, ask_of, is_question}
@@ -27,13 +27,14 @@ use Rattle.model.specs.Parties.{party_of, doing_of, flight_of}
 use Rattle.model.specs.Reading.{Each, span_of}
 use Rattle.model.specs.Refusals.{is_due, call_refusal}
 use Rattle.model.specs.Step.{Step, answer_in}
+use Rattle.laws_turns.proofs.Taken.{MayStart, taken_open}
 use Rattle.model.specs.Turns.{old_of, words_after, number_of, ask_of_doing, party_at_begin, after_begin, doing_after, after_step, step_in}
 use Rattle.model.specs.Turns.{after_answer, events_of_step, events_of_answer, after_next, events_of_next}
 use Rattle.model.specs.Turns.{after_decision, events_of_decision, events_of, ending_of, after_turn}
 use Rattle.model.specs.World.{World, Trace, opening, flight_in}
 use Rattle.model.proofs.Frame.{is_true}
 use Rattle.model.proofs.Parties.{party_put_same, party_put_other}
-use Rattle.model.proofs.Rows.{row_passed, not_some, may_begin}
+use Rattle.model.proofs.Rows.{row_passed}
 use Rattle.laws_robust.specs.Open.{open_refusal, IsReachedOpen}
 use Rattle.laws_robust.proofs.OpenTurns.{reached_keeps}
 use Rattle.history_laws.specs.Owners.{change, changes, may_lock, is_locking, BeginsAlone, LocksApart}
@@ -251,21 +252,6 @@ module _ {T : Type 0} where
 
   -- ---- what is not refused
 
-  record MayStart (w : World T) (p : ℕ) (start : Start T) : Type 0 where
-    pub free : flight_in w p ≡ None
-    pub call : is_none (first_of w.kind w.capacity start w.kept) ≡ false
-
-  by_rows : (w : World T) (p : ℕ) (start : Start T) → call_refusal w (Begin p start) ≡ None → MayStart w p start
-  by_rows w p start e = let may = may_begin w p start e in record { free = may.free; call = may.call }
-
-  may_start : (w : World T) (p : ℕ) (start : Start T) → open_refusal w (Begin p start) ≡ None → MayStart w p start
-  may_start w p (Container (Recover owner mode)) e =
-      let start : Start T = Container (Recover owner mode) in
-      let free = row_passed (is_some (flight_in w p)) Busy _ e in
-      let call = row_passed (is_none (first_of w.kind w.capacity start w.kept)) WrongCall None free.1 in
-      record { free = not_some (flight_in w p) free.0; call = call.0 }
-  may_start w p start e = by_rows w p start e
-
   must_be_asked : (w : World T) (p : ℕ) (said : Bool) → open_refusal w (Decide p said) ≡ None → is_due w.coding (flight_in w p) ≡ true
   must_be_asked w p said e =
       let some = row_passed (is_none (flight_in w p)) Idle _ e in
@@ -275,7 +261,7 @@ module _ {T : Type 0} where
   pub turn_bounded : (t : Trace T) → Facts t → Bounded t → (turn : Turn T) → open_refusal t.world turn ≡ None
       → LocksApart (after_turn t turn).events → (counter (after_turn t turn) ≢ locked → counter t ≢ locked) → Bounded (after_turn t turn)
   turn_bounded t facts b (Begin p start) e apart opens =
-      let may = may_start t.world p start e in
+      let may : MayStart t.world p start = taken_open t.world (Begin p start) e in
       begins t facts b p start (first_of t.world.kind t.world.capacity start t.world.kept) refl may.call may.free apart
   turn_bounded t facts b (Next p) e apart opens = nexts t facts b p (party_of p t.world.latest) refl opens
   turn_bounded t facts b (Decide p said) e apart opens =

@@ -53,13 +53,14 @@ impl<V, K, Q: Rule<V, K>> Seated<V, K, Q> {
         Some(Seated { seat, table })
     }
 
-    /// Takes in the other seat of the table. One load, which the view counts.
+    /// Takes in the other seat of the table. One load, which the view counts beside what both have counted.
     pub fn join<J: Join<V>>(&mut self, other: Seated<V, K, Q>)
         requires table { table_of other ≡ table_of self.old }
         requires some { 0 < (table_of self.old).words }
         requires joins { Joins (Q.holds (key_of self.old)) self.old.seat.id (seen self.old) other.seat.id (seen other)
             (J.both (seen self.old) (seen other)) J.spent }
-        requires counts { Q.asked (J.both (seen self.old) (seen other)) ≡ Q.asked (seen self.old) + 1 }
+        requires counts { Q.asked (J.both (seen self.old) (seen other))
+            ≡ Q.asked (seen self.old) + Q.asked (seen other) + 1 }
         ensures same { IsSame self.old self.new }
         ensures joined { seen self.new ≡ J.both (seen self.old) (seen other) }
     {
