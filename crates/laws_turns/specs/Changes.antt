@@ -8,13 +8,12 @@ use Rattle.model.specs.declared.event.Start.TheVariants.{Container}
 use Rattle.model.specs.declared.families.container.ContainerStart.TheVariants.{Add, Remove, Replace, Recover, GetState, UpdateState}
 use Rattle.model.specs.World.{Trace}
 
--- How many changes there were: by now, as a party's latest look began, and as the look began, and as it ended, that last
--- brought the party's state up to date.
+-- Numbers of changes that a party's looks can have met.
 pub record Seen : Type 0 where
-  pub changes : ℕ
-  pub begun : ℕ
-  pub least : ℕ
-  pub most : ℕ
+  pub changes : ℕ  -- so far
+  pub begun : ℕ  -- when its latest look began
+  pub least : ℕ  -- when the look began that last brought its state up to date
+  pub most : ℕ  -- when that look ended
 
 abbrev pub up_to_date : Seen → Seen
 up_to_date s = record s { least = s.begun; most = s.changes }

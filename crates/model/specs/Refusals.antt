@@ -33,10 +33,12 @@ module _ {T : Type 0} where
       (is_some (flight_in w p), Busy) ∷ begin_rows w.kind w.capacity w.kept p start
   call_rows w (Next p) =
       (is_none (flight_in w p), Idle)
+      -- a question waits
       ∷ (is_due w.coding (flight_in w p), Undecided)
       ∷ going_rows w.coding w.kept (flight_in w p) None
   call_rows w (Decide p said) =
       (is_none (flight_in w p), Idle)
+      -- none does
       ∷ (not (is_due w.coding (flight_in w p)), Undecided)
       ∷ going_rows w.coding w.kept (flight_in w p) (Some said)
   call_rows w (Die owner) = death_rows w.kept owner

@@ -103,6 +103,7 @@ pub enum Refusal {
     OwnerIsDead = 8,
     #[error("the owner lives")]
     OwnerLives = 9,
+    /// `Next` while a question waits for its decision, or `Decide` while none does.
     #[error("a decision is due, or none is")]
     Undecided = 10,
     #[error("there is no memory for what the turn writes down")]

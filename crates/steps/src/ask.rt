@@ -97,7 +97,8 @@ pub trait Call {
     fn ask(&self) -> Want<Self::Value>
         ensures { result ≡ want_of self.now };
 
-    /// How the call goes on from an answer: the word's old value, or 1 or 0 for yes or no, or 0 after `Nothing`.
+    /// How the call goes on from an answer. That is the word's old value, or 1 or 0 for yes or no, or 0 after
+    /// `Nothing`.
     fn take(self, answer: u64) -> After<Self, Self::Answer>
         ensures { result ≡ after self answer };
 }

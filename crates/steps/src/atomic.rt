@@ -1,9 +1,8 @@
-//! The calls of the single value, which one producer stores and anyone loads, at values of any number of words.
+//! The calls of the single value, of any number of words, which one producer stores and anyone loads.
 //!
-//! Its words are the version, the producer's role, and then two cells of `T::WORDS` words each. The version opens at 1.
-//! The value of version v stands in the cell (v - 1) mod 2, and a store at version v writes the cell v mod 2, so it
-//! never writes where the value of that version stands. Differences wrap: the value of a version 0 would stand in the
-//! cell 1.
+//! Its words are the version, which opens at 1, the producer's role, and two cells of `T::WORDS` words each. The value
+//! of version v stands in the cell (v - 1) mod 2, where differences wrap; a store at version v writes the other cell,
+//! v mod 2, so it never writes where that value stands.
 ghost use Rattle.std.specs.Prelude.{◌≡◌};
 ghost use Rattle.steps.specs.Copied.{value_in};
 ghost use Rattle.steps.specs.Atomic.{cell_word, first_store, store_want, store_after, first_load, load_want, load_after, load_kept, goes_back};
@@ -30,43 +29,46 @@ pub fn cell_word(words: u8, number: u64) -> usize
     FIRST_CELL + words as usize * (number % 2) as usize
 }
 
-/// Replaces the value by the one that it is given: true, or false where the versions are used up. At most
-/// 2 + `T::WORDS` steps.
+/// Replaces the value by the one that it is given: true, or false where the versions are used up. At most 2 +
+/// `T::WORDS` steps.
 ///
-/// It loads the version (u64::MAX: false, and nothing changes), stores the value's words, in their order, into the cell
-/// in which the value of that version does not stand, and adds 1 to the version: from then on its own value stands. One
-/// store at a time is the caller's concern. After `store` of the Rust crate's `UnrestrictedAtomic`.
+/// One store at a time is the caller's concern. After `store` of the Rust crate's `UnrestrictedAtomic`.
 #[derive(Clone, Copy)]
 pub struct Store<T> {
     pub stage: StoreStage,
     pub of: PhantomData<T>,
 }
 
-/// What a store does next, and the first word of its cell.
+/// What a store does next. `cell` is the first word of its cell, and `at` the word of the value.
 #[derive(Clone, Copy)]
 pub enum StoreStage {
+    /// Loads the version; at `u64::MAX` the answer is false, and nothing changes.
     LoadsVersion,
+    /// Stores the next word of the value into the cell where that version's value does not stand.
     StoresCell { cell: usize, at: u8 },
+    /// Adds 1 to the version, and answers true: from then on its own value stands.
     AddsVersion,
 }
 
-/// The value, by way of a room R, which counts where the version is found unchanged at the last step. At most
-/// 2 + `T::WORDS` steps, and 1 + `T::WORDS` more for each turn back.
+/// Loads the value, by way of a room R: what was copied counts where the version has not moved meanwhile. At most 2 +
+/// `T::WORDS` steps, and 1 + `T::WORDS` more for each turn back.
 ///
-/// It loads the version, loads the words of that version's cell, in their order, and exchanges the version for itself:
-/// where it has not moved, the answer is the value of the words that were loaded. Else it goes back to the loads of the
-/// cell, with the version found. It always answers a value, and changes nothing. After `load` of the Rust crate's
-/// `UnrestrictedAtomic`.
+/// It always answers a value, and changes nothing. After `load` of the Rust crate's `UnrestrictedAtomic`.
 pub struct Load<T, R> {
     pub stage: LoadStage,
     pub of: PhantomData<(T, R)>,
 }
 
-/// What a load does next, the version that it has loaded, and the first word of its cell.
+/// What a load does next. `version` is the one that it has loaded or found, `cell` the first word of its cell, and
+/// `at` the word of the value.
 #[derive(Clone, Copy)]
 pub enum LoadStage {
+    /// Loads the version, which says in which cell the value stands.
     LoadsVersion,
+    /// Loads the next word of the cell into the room.
     LoadsCell { version: u64, cell: usize, at: u8 },
+    /// Exchanges the version for itself, and answers the value. Where it has moved, goes back to the loads of the
+    /// cell, with the version found.
     ChecksVersion { version: u64 },
 }
 

@@ -1,5 +1,5 @@
-//! A call in the form that drivers run: a small value that changes with each step, and beside it
-//! what the call was given and the room for the words that it reads.
+//! A call in the form that drivers run: a small value that changes with each step. Beside it lie what the call was
+//! given and the room for the words that it reads.
 ghost use Rattle.std.specs.Prelude.{◌≡◌, ℕ, ◌<◌, IsTrue};
 ghost use Rattle.steps.specs.Ask.{is_store, CameTo};
 ghost use Rattle.steps.specs.Routine.{question_with, want_with, went_on};
@@ -42,8 +42,8 @@ pub trait Routine: Copy {
     fn ask(self, given: &Self::Given) -> Want<()>
         ensures { result ≡ want_of self given.now };
 
-    /// How the call goes on from an answer: the word's old value, or 1 or 0 for yes or no, or 0
-    /// after `Nothing`. After a `Store` it may be handed any number.
+    /// How the call goes on from an answer. That is the word's old value, or 1 or 0 for yes or no, or 0 after
+    /// `Nothing`; after a `Store` it may be any number.
     fn take(self, given: &Self::Given, room: &mut Self::Room, answer: u64) -> After<Self, Self::End>
         ensures goes { result ≡ after self given.now answer }
         ensures keeps { room.new ≡ kept self room.old answer };

@@ -77,20 +77,25 @@ module _ {T : Type 0} (en : Coding T) where
   -- what is so of the queue and of the events
   pub record Holds (kd : QueueKind) (c : ℕ) (ro : Roles) (k : Core (Val T kd)) (latest : List (ℕ × Party T))
       (events : List (Event T)) (turns : ℕ) : Type 0 where
-    pub fits : c < 2 ^ 32
+    pub fits : c < 2 ^ 32  -- the capacity is of 32 bits
+    -- the values that wait stand in their cells, between the two positions
     pub good : Good (encoded en kd).size (encoded en kd).words_of (cells_of kd c) k
+    -- more values than the capacity wait only while the newest push has not acted
     pub hangs : Hangs T kd c k (pending k.read ro.producer latest)
+    -- what was published is what was handed out, and then what waits
     pub book : published events ≡ handed_out events ++ map (item kd) k.waiting
-    pub out : k.read ≡ length (handed_out events)
-    pub producers : producer_of events ≡ ro.producer
-    pub consumers : consumer_of events ≡ ro.consumer
+    pub out : k.read ≡ length (handed_out events)  -- the read position counts what was handed out
+    pub producers : producer_of events ≡ ro.producer  -- by the events too, this party or none holds the producer's role
+    pub consumers : consumer_of events ≡ ro.consumer  -- and the consumer's
+    -- the list that the calls answer as holds what waits
     pub stand : standing (list_of kd c) (moments events) ≡ listed kd c k.waiting
-    pub legal : IsLegal (list_of kd c) (moments events)
+    pub legal : IsLegal (list_of kd c) (moments events)  -- the calls that have acted have the answers of that list
+    -- a push that finds no room, and a pop that finds nothing, say the truth
     pub answers : Each (AnswersRight c) events
-    pub lengths : Each (TellsLength c) events
-    pub grants : Each GrantsRight events
-    pub reached : k.write ≤ turns
-    pub within : k.write < 2 ^ 64
+    pub lengths : Each (TellsLength c) events  -- a number of waiting values was right at a moment of its call
+    pub grants : Each GrantsRight events  -- a role is given where nobody holds it, and given back by its holder
+    pub reached : k.write ≤ turns  -- no turn moves the write position by more than one
+    pub within : k.write < 2 ^ 64  -- the write position is a word
 
   -- ---- the family of the queues
 
@@ -148,26 +153,26 @@ module _ {T : Type 0} (en : Coding T) where
   module _ (kd : QueueKind) (scene : Scene T kd) (ro' : Roles) (k' : Core (Val T kd)) (y : Party T) (es : List (Event T)) (changes' : ℕ) where
     pub holds_more : Holds kd scene.capacity scene.roles scene.core scene.latest scene.events scene.turns → ShowsQueue kd scene ro' k' y es changes'
         → Holds kd scene.capacity ro' k' (put scene.party y scene.latest) (scene.events ++ es) (scene.turns + 1)
-    holds_more inv s =
+    holds_more h s =
         let c = scene.capacity in
         let more = flat_map-append acts scene.events es in
         record {
-          fits = inv.fits;
+          fits = h.fits;
           good = s.good;
           hangs = s.hangs;
-          book = book_more scene.events es (map (item kd) scene.core.waiting) (map (item kd) k'.waiting) inv.book s.book;
-          out = out_more scene.events es scene.core.read k'.read inv.out s.out;
-          producers = fold-append producer_after None scene.events es ∙ (ap (λ o. fold producer_after o es) inv.producers ∙ s.producers);
-          consumers = fold-append consumer_after None scene.events es ∙ (ap (λ o. fold consumer_after o es) inv.consumers ∙ s.consumers);
+          book = book_more scene.events es (map (item kd) scene.core.waiting) (map (item kd) k'.waiting) h.book s.book;
+          out = out_more scene.events es scene.core.read k'.read h.out s.out;
+          producers = fold-append producer_after None scene.events es ∙ (ap (λ o. fold producer_after o es) h.producers ∙ s.producers);
+          consumers = fold-append consumer_after None scene.events es ∙ (ap (λ o. fold consumer_after o es) h.consumers ∙ s.consumers);
           stand =
               ap (standing (list_of kd c)) more
-              ∙ standing_more (list_of kd c) (moments scene.events) (moments es) (listed kd c scene.core.waiting) (listed kd c k'.waiting) inv.stand s.goes;
+              ∙ standing_more (list_of kd c) (moments scene.events) (moments es) (listed kd c scene.core.waiting) (listed kd c k'.waiting) h.stand s.goes;
           legal =
               subst (IsLegal (list_of kd c)) (sym more)
-              (legal_more (list_of kd c) (moments scene.events) (moments es) (listed kd c scene.core.waiting) inv.legal inv.stand s.answers);
-          answers = Each-append (AnswersRight c) scene.events es inv.answers s.right;
-          lengths = Each-append (TellsLength c) scene.events es inv.lengths s.lengths;
-          grants = Each-append GrantsRight scene.events es inv.grants s.grants;
+              (legal_more (list_of kd c) (moments scene.events) (moments es) (listed kd c scene.core.waiting) h.legal h.stand s.answers);
+          answers = Each-append (AnswersRight c) scene.events es h.answers s.right;
+          lengths = Each-append (TellsLength c) scene.events es h.lengths s.lengths;
+          grants = Each-append GrantsRight scene.events es h.grants s.grants;
           reached = s.reached;
           within = s.within;
         }

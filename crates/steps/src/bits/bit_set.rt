@@ -8,45 +8,49 @@ use super::flags::{RESET_POSITION, element_of, has_flag, with_flag, without_flag
 use crate::ask::{After, Ask, Op, Want};
 use crate::routine::Routine;
 
-/// Sets the place that it is given: true where this call set it, false where it stood already. At most 2 steps, and 1
-/// more for each turn back.
+/// Sets the place that it is given: true, or false where it stood already. At most 2 steps, and 1 more for each turn
+/// back.
 ///
-/// It loads the element; where the flag stands: false, and nothing changes. Else it exchanges the element for the one
-/// with the flag: true. Where the element has changed, it goes back to the test, with the element found. A place below
-/// the capacity is the caller's concern. After `set` of the Rust crate's `BitSet`.
+/// A place below the capacity is the caller's concern. After `set` of the Rust crate's `BitSet`.
 #[derive(Clone, Copy)]
 pub struct Set {
     pub stage: SetStage,
 }
 
-/// What the call does next, and the element that it has found.
+/// What the call does next. `found` is the element that it has loaded or found.
 #[derive(Clone, Copy)]
 pub enum SetStage {
+    /// Loads the place's element; where the flag stands, the answer is false.
     LoadsElement,
+    /// Exchanges the element for the one with the flag: true. Where it has changed, the element found is tested, as
+    /// after the load.
     ExchangesElement { found: u64 },
 }
 
-/// Resets the next place that stands, from the reset position on: Some of it, or None where no place was found to
-/// stand. At most 3 + capacity steps, and 1 more for each turn back.
+/// Resets the next place that stands, from the reset position on: Some of it, or None. At most 3 + capacity steps, and
+/// 1 more for each turn back; with capacity 0 one step.
 ///
-/// It loads the reset position (one above the capacity is taken as the capacity). For each place from there to the
-/// capacity, and then from 0 on, it loads the element; where the flag is clear, it goes on to the next place. Else it
-/// exchanges the element for the one without the flag, and stores the next position: Some of the place. Where the
-/// element has changed, it goes back to the test of the same place, with the element found. None comes after all places
-/// were passed, and each was clear at some moment of the call. With capacity 0 it takes one step.
-/// After `reset_next` of the Rust crate's `BitSet`.
+/// None comes after all places were passed, and each was clear at some moment of the call. After `reset_next` of the
+/// Rust crate's `BitSet`.
 #[derive(Clone, Copy)]
 pub struct ResetNext {
     pub capacity: u32,
     pub stage: ResetNextStage,
 }
 
-/// What the call does next: the place from which it started, how many it has passed since, and the element found.
+/// What the call does next. `start` is the place from which it started, `passed` how many it has passed since, and
+/// `found` the element that it has loaded or found.
 #[derive(Clone, Copy)]
 pub enum ResetNextStage {
+    /// Loads the reset position, from which it starts; one above the capacity is taken as the capacity.
     LoadsPosition,
+    /// Loads the place's element; where the flag is clear, goes on to the next place. After the last comes 0, and None
+    /// once all were passed.
     LoadsElement { start: u32, passed: u32 },
+    /// Exchanges the element for the one without the flag. Where it has changed, tests the same place in the element
+    /// found.
     ExchangesElement { start: u32, passed: u32, found: u64 },
+    /// Stores the position after the place, and answers Some of the place.
     StoresPosition { place: u64 },
 }
 

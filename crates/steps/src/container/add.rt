@@ -12,14 +12,11 @@ use crate::words::Words;
 use std::alloc::AllocError;
 use std::marker::PhantomData;
 
-/// Adds the value that it is given, for its owner, at the lowest index that it finds without one: the index,
-/// `OutOfSpace` or `IsLocked`. At most 7 + `T::WORDS` steps more than the capacity, and for each turn back at most 1
-/// more, or as many as the capacity and 1.
+/// Adds the value that it is given, for its owner: the index, `OutOfSpace` or `IsLocked`. It takes the lowest index
+/// that it finds without an owner. At most 7 + `T::WORDS` steps more than the capacity, and for each turn back at most
+/// 1 more, or as many as the capacity and 1.
 ///
-/// It acquires an index, and ends where none is handed out. It loads the number of the element; where that is odd it
-/// exchanges it for the next, and goes on also where that fails. It stores the value's words, in their order, adds 1 to
-/// the number: from then on the value stands. It adds 1 to the changes, and answers the index. After `add` of the Rust
-/// crate's `Container`.
+/// After `add` of the Rust crate's `Container`.
 pub struct Add<T> {
     pub capacity: u32,
     pub stage: AddStage,
@@ -41,14 +38,21 @@ pub struct Owned<T> {
     pub owner: OwnerId,
 }
 
-/// What an add does next, and the index that it has acquired.
+/// What an add does next. `index` is the one that it has acquired, `count` the number of its element, and `at` the
+/// word of the value.
 #[derive(Clone, Copy)]
 pub enum AddStage {
+    /// Takes a step of the acquire of an index; where none is handed out, the answer says why.
     Acquires { stage: AcquireStage },
+    /// Loads the number of the element; where it is even, nothing has to be hidden.
     LoadsCount { index: u32 },
+    /// Exchanges an odd number for the next, and goes on also where that fails.
     Hides { index: u32, count: u64 },
+    /// Stores the next word of the value.
     Stores { index: u32, at: u8 },
+    /// Adds 1 to the number: from then on the value stands.
     AddsCount { index: u32 },
+    /// Adds 1 to the changes, and answers the index.
     AddsChange { index: u32 },
 }
 

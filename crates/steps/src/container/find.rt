@@ -13,15 +13,11 @@ use crate::words::Words;
 use std::alloc::AllocError;
 use std::marker::PhantomData;
 
-/// Comes to the indices of the owner that it is given, ascending: how many it came to. At most 3 + `T::WORDS` steps for
-/// each index.
+/// Comes to the indices of the owner that it is given, ascending: how many it came to. At most 3 + `T::WORDS` steps
+/// for each index.
 ///
-/// It loads the cells ascending. At each that holds the owner it counts one more, and loads the number of the element.
-/// Where that is odd it loads the value's words, by way of a room R, and exchanges the number for itself: where it has
-/// not moved, it asks about the value, and a no stops it there. An index without a value, or whose value has changed
-/// meanwhile, counts all the same, and it goes on to the next one. The value is what stood there when it was copied:
-/// where a remove has stopped before it hid the value, and the index was acquired again, it can be that of an earlier
-/// owner. After `find` of the Rust crate's `Container`.
+/// A value is what stood there when it was copied: where a remove has stopped before it hid the value, and the index
+/// was acquired again, it can be that of an earlier owner. After `find` of the Rust crate's `Container`.
 pub struct Find<T, R> {
     pub capacity: u32,
     pub stage: FindStage,
@@ -36,28 +32,34 @@ impl<T, R> Clone for Find<T, R> {
 
 impl<T, R> Copy for Find<T, R> {}
 
-/// What a find does next, how many indices it has come to, and the number of the element that it copies.
+/// What a find does next. `found` is how many indices it has come to, and `count` the number of the element that it
+/// copies.
 #[derive(Clone, Copy)]
 pub enum FindStage {
+    /// Loads the cell of the index; where that holds the owner, counts one more, else goes on to the next.
     LoadsCell {
         index: u32,
         found: usize,
     },
+    /// Loads the number of the element; where it is even, there is no value, and the next index comes.
     LoadsCount {
         index: u32,
         found: usize,
     },
+    /// Loads the next word of the value into the room R.
     LoadsWord {
         index: u32,
         found: usize,
         count: u64,
         at: u8,
     },
+    /// Exchanges the number for itself; if it has moved, it asks nothing, and goes on to the next index.
     ChecksCount {
         index: u32,
         found: usize,
         count: u64,
     },
+    /// Asks about the value; a no stops it there.
     Asks {
         index: u32,
         found: usize,

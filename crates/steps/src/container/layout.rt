@@ -1,8 +1,14 @@
 //! The words of a container behind those of its set of indices.
+//!
+//! The first words are a robust set of indices: the calls on them are made of that set's, whose `BorrowedIndices` and
+//! `IsLocked` say how many indices are filled and whether it is locked. Then come the word that counts changes, the
+//! number of each element, and the `T::WORDS` words of each value. All of these open at 0. A container has a capacity
+//! of 1 or more.
 ghost use Rattle.std.specs.Prelude.{◌≡◌};
 ghost use Rattle.steps.specs.Container.Layout.{change_word, count_word, element_word, total_words};
 
-/// The word that counts changes.
+/// The word that counts changes, which wraps. Every call that has changed what stands in the container adds 1 before
+/// it ends; a look that finds as many changes as it knows of ends there.
 #[inline(always)]
 pub fn change_word(capacity: u32) -> usize
     ensures { result ≡ change_word capacity }
@@ -10,7 +16,11 @@ pub fn change_word(capacity: u32) -> usize
     1 + capacity as usize
 }
 
-/// The word of an element's number.
+/// The word of an element's number, which wraps: a value stands at an index while it is odd.
+///
+/// Who adds or replaces a value makes an odd number even first, stores the words, and then adds 1. Who copies one
+/// loads the number, then the words, and then exchanges the number for itself: the copy counts only where that
+/// succeeds, so it is whole.
 #[inline(always)]
 pub fn count_word(capacity: u32, index: u32) -> usize
     ensures { result ≡ count_word capacity index }

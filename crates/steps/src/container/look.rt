@@ -11,16 +11,11 @@ use crate::words::Words;
 use std::alloc::AllocError;
 use std::marker::PhantomData;
 
-/// Brings a state up to date: true, or false where the container has not changed since the state was taken, which then
-/// stays as it is. It is given the numbers that the state has seen, and writes into what the state shows. At most one
-/// step and for each index 2 + `T::WORDS`, and for each turn back at most 1 + `T::WORDS` more.
+/// Brings a state up to date: true, or false where the container has not changed since it was taken. A new state has
+/// seen no number: a look of it copies all that stands there, or nothing while no change was counted.
 ///
-/// It loads the number of changes. Where the state has seen that number: false. Then for each index ascending: it loads
-/// the number of the element, and goes on where the state has seen that one. An element of an even number is shown no
-/// more. Of one with an odd number it loads the value's words, in their order, and exchanges the number for itself: where
-/// it has not moved, the value is shown. Else it goes on with the number found. A new state has seen no number: a look of
-/// it copies all that stands there, or nothing while no change was counted. After `update_state` and `get_state` of the
-/// Rust crate's `Container`.
+/// At most one step and for each index 2 + `T::WORDS`, and for each turn back at most 1 + `T::WORDS` more. After
+/// `update_state` and `get_state` of the Rust crate's `Container`.
 pub struct Look<T> {
     pub capacity: u32,
     pub stage: LookStage,
@@ -35,12 +30,17 @@ impl<T> Clone for Look<T> {
 
 impl<T> Copy for Look<T> {}
 
-/// What a look does next, and the number of the element that it copies.
+/// What a look does next. `count` is the number of the element that it copies, and `at` the word of its value.
 #[derive(Clone, Copy)]
 pub enum LookStage {
+    /// Loads the number of changes; if the state has seen it, the answer is false, and the state stays.
     LoadsChange,
+    /// Loads an element's number; if the state has seen it, or it is even, goes on to the next element. One of an even
+    /// number is shown no more.
     LoadsCount { index: u32 },
+    /// Loads the next word of the value.
     LoadsWord { index: u32, count: u64, at: u8 },
+    /// Exchanges the number for itself, and shows the value; if it has moved, goes on with the number found.
     ChecksCount { index: u32, count: u64 },
 }
 

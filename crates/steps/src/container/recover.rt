@@ -15,21 +15,11 @@ use crate::words::Words;
 use std::alloc::AllocError;
 use std::marker::PhantomData;
 
-/// Frees the indices of the owner that it is given, in the given mode: `Locked` where the container is locked, else
-/// `Unlocked`. At most 3 steps and for each index 7 + `T::WORDS` in mode `Default`; in mode `LockIfLastIndex` for each
-/// index as many more as the capacity and 3. Each turn back takes at most 1 + `T::WORDS` more, or as many as the capacity
-/// and 3.
+/// Frees the indices of the owner that it is given: `Locked` where the container is locked, else `Unlocked`. At most 3
+/// steps and for each index 7 + `T::WORDS` in mode `Default`; in mode `LockIfLastIndex` for each index as many more as
+/// the capacity and 3. Each turn back takes at most 1 + `T::WORDS` more, or as many as the capacity and 3.
 ///
-/// It loads the counter. Where that says locked: `Locked`, and it comes to no index. Then for each index ascending: it
-/// loads the cell, and passes over one that does not hold the owner. It loads the number of the element. While that is
-/// odd it loads the value's words, by way of a room R, and exchanges the number for itself; on failure it goes on with
-/// the number found. After a success it asks about the value, and passes over the index after a no. An index without a
-/// value is freed without a question. To free it, it exchanges the cell from the owner to empty; after a success it hides
-/// the value, by an exchange of an odd number for the next, and goes on also where that fails. It raises the counter, and
-/// where the container is locked it ends there with `Locked`; in mode `LockIfLastIndex` it locks the container where no
-/// cell has an owner, and goes on whatever that answers. At the end it loads the counter, which says `Locked` or
-/// `Unlocked`. Whatever it answers, it adds 1 to the changes before it answers. That the owner is dead is the caller's concern.
-/// After `recover` of the Rust crate's `Container`.
+/// That the owner is dead is the caller's concern. After `recover` of the Rust crate's `Container`.
 pub struct Recover<T, R> {
     pub capacity: u32,
     pub stage: RecoverStage,
@@ -44,33 +34,46 @@ impl<T, R> Clone for Recover<T, R> {
 
 impl<T, R> Copy for Recover<T, R> {}
 
-/// The owner whose indices are freed, and whether the container is locked where none is left: what a recovery is given.
+/// What a recovery is given: the owner, and whether it locks the container where no index is left.
 #[derive(Clone, Copy)]
 pub struct DeadOwner {
     pub owner: OwnerId,
     pub mode: ReleaseMode,
 }
 
-/// What a recovery does next, the index that it has come to, and the number of its element.
+/// What a recovery does next. `index` is the one that it has come to, and `count` the number of its element.
 #[derive(Clone, Copy)]
 pub enum RecoverStage {
+    /// Loads the counter; where that says locked, the answer is `Locked`, and it comes to no index.
     LoadsCounter,
+    /// Loads the cell of the index, and passes over one that does not hold the owner.
     LoadsCell { index: u32 },
+    /// Loads the number of the element. Where it is even, there is no value, and the index is freed without a
+    /// question.
     LoadsCount { index: u32 },
+    /// Loads the next word of the value into the room R.
     LoadsWord { index: u32, count: u64, at: u8 },
+    /// Exchanges the number for itself; if it has moved, goes on with the number found.
     ChecksCount { index: u32, count: u64 },
+    /// Asks about the value, and passes over the index after a no.
     Asks { index: u32, count: u64 },
+    /// Exchanges the cell from the owner to empty; on failure goes on to the next index.
     EmptiesCell { index: u32, count: u64 },
+    /// Exchanges an odd number for the next, which hides the value, and goes on also where that fails.
     Hides { index: u32, count: u64 },
+    /// Takes a step of the raise of the counter; where the container is locked, the answer is `Locked`.
     Raises { index: u32, raise: Raise },
+    /// Takes a step of the lock of the container, in mode `LockIfLastIndex` alone, and goes on whatever that answers.
     Locks { index: u32, lock: Lock },
+    /// Loads the counter after the last index: `Locked` where that says so, else `Unlocked`.
     LoadsCounterAgain,
+    /// Adds 1 to the changes, before any answer, and answers.
     AddsChange { state: ReleaseState },
 }
 
 impl RecoverStage {
-    /// Whether the call goes back once it is handed this answer: to another copy, since the element has changed, or in its
-    /// raise or its lock, since the counter has moved.
+    /// Whether the call goes back once it is handed this answer. It goes to another copy, since the element has
+    /// changed, or back in its raise or its lock, since the counter has moved.
     pub fn goes_back(self, answer: u64) -> bool
         ensures { result ≡ recover_goes_back self answer }
     {

@@ -9,27 +9,30 @@ use crate::indices::enums::ReleaseState;
 use crate::indices::robust::release::{GiveBack, Release, ReleaseStage};
 use crate::routine::Routine;
 
-/// Removes the value at the index that it is given, where the index is that of the given owner: `Unlocked`, or `Locked`
-/// in mode `LockIfLastIndex` where the container is locked. Else `ContainerHandleNotOwnedByContainer`, and nothing
-/// changes. At most three steps more than a release of the set.
+/// Removes the value at the index that it is given, where that is the given owner's. It answers `Unlocked`, or
+/// `Locked` in mode `LockIfLastIndex` where the container is locked; else `ContainerHandleNotOwnedByContainer`, and
+/// nothing changes. At most three steps more than a release of the set.
 ///
-/// Of an index past the capacity it asks for no word. Else it loads the number of the element, and releases the index;
-/// where that fails it ends there. Where the number was odd it exchanges it for the next, and goes on also where that
-/// fails. It adds 1 to the changes, and answers what the release did. Between the release and that exchange the value
-/// can still be seen. After `remove` of the Rust crate's `Container`.
+/// Between the release and the step that hides the value, it can still be seen. After `remove` of the Rust crate's
+/// `Container`.
 #[derive(Clone, Copy)]
 pub struct Remove {
     pub capacity: u32,
     pub stage: RemoveStage,
 }
 
-/// What a remove does next, and the number that it has loaded, or what its release has answered.
+/// What a remove does next. `count` is the number that it has loaded, and `state` what its release has answered.
 #[derive(Clone, Copy)]
 pub enum RemoveStage {
+    /// Asks for no word, and answers the error: all that happens at an index past the capacity.
     Refuses,
+    /// Loads the number of the element.
     LoadsCount,
+    /// Takes a step of the release of the index; where that fails, the answer is the error.
     Releases { count: u64, stage: ReleaseStage },
+    /// Exchanges an odd number for the next, and goes on also where that fails. An even one is passed over.
     Hides { count: u64, state: ReleaseState },
+    /// Adds 1 to the changes, and answers what the release has answered.
     AddsChange { state: ReleaseState },
 }
 

@@ -12,14 +12,11 @@ use crate::words::Words;
 use std::alloc::AllocError;
 use std::marker::PhantomData;
 
-/// Puts the value that it is given into the place of the one at the given index, where the index is that of the given
-/// owner. Else `ContainerHandleNotOwnedByContainer`, and nothing changes. At most 5 + `T::WORDS` steps.
+/// Puts the value that it is given into the place of the one at the given index. Where the index is not that of the
+/// given owner: `ContainerHandleNotOwnedByContainer`, and nothing changes. At most 5 + `T::WORDS` steps.
 ///
-/// Of an index past the capacity it asks for no word. Else it loads the cell of the index, and ends where that does not
-/// hold the owner. It loads the number of the element; where that is odd it exchanges it for the next, and goes on also
-/// where that fails: from then on nothing stands there. It stores the value's words, in their order, adds 1 to the
-/// number: from then on the value stands. It adds 1 to the changes. That the index stays the owner's meanwhile, and that
-/// no other replace of it is under way, is the caller's concern. The Rust crate's `Container` has no such call.
+/// That the index stays the owner's meanwhile, and that no other replace of it is under way, is the caller's concern.
+/// The Rust crate's `Container` has no such call.
 pub struct Replace<T> {
     pub capacity: u32,
     pub stage: ReplaceStage,
@@ -42,15 +39,22 @@ pub struct Replacement<T> {
     pub value: T,
 }
 
-/// What a replace does next.
+/// What a replace does next. `count` is the number of the element, and `at` the word of the value.
 #[derive(Clone, Copy)]
 pub enum ReplaceStage {
+    /// Asks for no word, and answers the error: all that happens at an index past the capacity.
     Refuses,
+    /// Loads the cell of the index; where that does not hold the owner, the answer is the error.
     LoadsCell,
+    /// Loads the number of the element; where it is even, nothing has to be hidden.
     LoadsCount,
+    /// Exchanges an odd number for the next, and goes on also where that fails: from then on nothing stands there.
     Hides { count: u64 },
+    /// Stores the next word of the value.
     Stores { at: u8 },
+    /// Adds 1 to the number: from then on the value stands.
     AddsCount,
+    /// Adds 1 to the changes, and ends.
     AddsChange,
 }
 

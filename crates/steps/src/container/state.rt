@@ -12,8 +12,8 @@ use crate::words::Words;
 use std::alloc::{AllocError, Global};
 use std::marker::Model;
 
-/// The numbers of a container as a state has seen them: how often it had changed, and that of each element. A look is
-/// given them, so that it copies only what has changed since.
+/// What a state has seen: how often the container had changed, and the number of each element. A look is given it, so
+/// that it copies only what has changed since.
 #[derive(Drop)]
 pub struct Seen {
     change: u64,

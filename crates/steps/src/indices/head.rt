@@ -8,11 +8,12 @@ pub const LOCK_ACQUIRE: u32 = 0xff_ffff;
 /// What the head word of a unique index set says. After the Rust crate's `HeadDetails`.
 #[derive(Debug, Clone, Copy, PartialEq, Eq)]
 pub struct HeadDetails {
-    /// The free index that is proposed next. 24 bits of the word, from bit 40 on.
+    /// The free index that is proposed next. It has 24 bits of the word, from bit 40 on.
     pub head: u32,
-    /// It goes up by 1 at each exchange of the word, and wraps. 16 bits of the word, from bit 24 on.
+    /// It goes up by 1 at each exchange of the word, and wraps. It has 16 bits of the word, from bit 24 on.
     pub aba: u16,
-    /// How many indices are handed out, or `LOCK_ACQUIRE` where the set is locked. 24 bits of the word, from bit 0 on.
+    /// How many indices are handed out, or `LOCK_ACQUIRE` where the set is locked. It has 24 bits of the word, from
+    /// bit 0 on.
     pub borrowed_indices: u32,
 }
 

@@ -1,4 +1,4 @@
-//! The words of a unique index set: the head, a next index for each index, and the claim flags, 64 to a word.
+//! The words of a unique index set: the head, the next indices, and the claim flags, 64 to a word.
 ghost use Rattle.std.specs.Prelude.{◌≡◌};
 ghost use Rattle.steps.specs.Indices.Head.{next_word, flag_word, flag, has_flag};
 

@@ -1,9 +1,8 @@
-//! The calls of a unique index set: indices below its capacity are handed out and given back, and the set can be
-//! locked.
+//! The calls of a unique index set, which hands out indices below its capacity, and can be locked.
 //!
-//! The first word is the head: the index that is proposed next, and how many are borrowed. Then comes a next index for
-//! each index (word i of them opens as i + 1), and then the claim flags, 64 to a word: the flag of index i is bit
-//! i mod 64 of word i / 64. The list of next indices only proposes: who sets the flag of an index has it.
+//! The first word is the head: the index that is proposed next, and how many are borrowed. Then come the next indices,
+//! one for each (word i opens as i + 1), and the claim flags: that of index i is bit i mod 64 of word i / 64. The list
+//! only proposes: who sets an index's flag has it.
 ghost use Rattle.std.specs.Prelude.{◌≡◌, Bool, true, false};
 ghost use Rattle.steps.specs.Indices.Unique.{first_acquire, head_taken, acquire_sees, first_claim, scanned_next};
 ghost use Rattle.steps.specs.Indices.Unique.{acquire_want, acquire_after, acquire_goes_back, head_released};
@@ -22,45 +21,42 @@ use std::marker::PhantomData;
 /// index of its own, and whose list is right, takes 4 steps; each turn back takes at most 2 more, or as many as the
 /// capacity.
 ///
-/// It loads the head. Where that says locked: `IsLocked`. Where as many are borrowed as the capacity: `OutOfIndices`.
-/// Where it proposes an index of the set, it loads the next index of that. Then it exchanges the head for one that
-/// proposes this next index and counts one more as borrowed; on failure it goes back to the tests, with the head
-/// found. Then it claims the flag of the proposed index; where that is taken, or none was proposed, it claims the
-/// flags from 0 ascending until it finds one free, again from 0 at the end of a scan. After `acquire_raw_index` of the
-/// Rust crate's `UniqueIndexSet`, which trusts the proposal.
+/// After `acquire_raw_index` of the Rust crate's `UniqueIndexSet`, which trusts the proposal.
 #[derive(Clone, Copy)]
 pub struct Acquire {
     pub capacity: u32,
     pub stage: AcquireStage,
 }
 
-/// What an acquire does next, with the head that it has loaded, or the index that it claims.
+/// What an acquire does next. `head` is the head that it has loaded or found.
 #[derive(Clone, Copy)]
 pub enum AcquireStage {
+    /// Loads the head: `IsLocked` where that says so, `OutOfIndices` where as many are borrowed as the capacity.
     LoadsHead,
+    /// Loads the next index of the proposed one, where that is an index of the set.
     LoadsNext { head: u64 },
+    /// Exchanges the head for one that proposes `next` and counts one more as borrowed. On failure goes back to the
+    /// tests, with the head found.
     ExchangesHead { head: u64, next: u32 },
-    /// The proposed index.
+    /// Claims the flag of the proposed index, and answers it; where it is taken, scans the flags from 0 on.
     Claims { index: u32 },
+    /// Claims the flag of this index, and answers it. Where it is taken, goes on to the next, after the last to 0.
     Scans { index: u32 },
 }
 
-/// Gives back the index that it is given: `Unlocked`, or `Locked` in mode `LockIfLastIndex` where it was the last one
-/// out. In mode `Default` at most 5 steps; in mode `LockIfLastIndex` 4, and 2 more for each turn back.
+/// Gives back the index that it is given: `Unlocked`, or `Locked` where that locks the set. In mode `Default` at most
+/// 5 steps; in mode `LockIfLastIndex`, which locks the set where the index was the last one out, 4, and 2 more for
+/// each turn back.
 ///
-/// It clears the flag of the index, loads the head, stores the index that the head proposes as the next of this one,
-/// and exchanges the head for one that proposes this one and counts one less as borrowed. In mode `LockIfLastIndex`,
-/// where one was borrowed, the new head is locked: `Locked`. On failure it goes back to the store, with the head found,
-/// in mode `LockIfLastIndex`; in mode `Default` it only subtracts 1 from the head, and a scan of the flags finds the
-/// index later. That the index is out is the caller's concern. After `release_raw_index` of the Rust crate's
-/// `UniqueIndexSet`, which tries its exchange until it succeeds.
+/// That the index is out is the caller's concern. After `release_raw_index` of the Rust crate's `UniqueIndexSet`,
+/// which tries its exchange until it succeeds.
 pub struct Release<M> {
     pub capacity: u32,
     pub stage: ReleaseStage,
     pub of: PhantomData<M>,
 }
 
-/// The mode of a release, as a type: only so is it known of one in mode `Default` that it ends by itself.
+/// The mode of a release is a type, since only one in mode `Default` ends by itself.
 pub trait Mode {
     ghost LOCKS: { Bool };
 
@@ -94,13 +90,19 @@ impl<M> Clone for Release<M> {
 
 impl<M> Copy for Release<M> {}
 
-/// What a release does next, with the head that it has loaded.
+/// What a release does next. `head` is the head that it has loaded or found.
 #[derive(Clone, Copy)]
 pub enum ReleaseStage {
+    /// Clears the flag of the index.
     ClearsFlag,
+    /// Loads the head.
     LoadsHead,
+    /// Stores the index that the head proposes as the next of this one.
     StoresNext { head: u64 },
+    /// Exchanges the head for one that proposes this index and counts one less, or is locked, and ends. On failure
+    /// goes back to the store, with the head found, in mode `LockIfLastIndex`; in mode `Default` it only subtracts.
     ExchangesHead { head: u64 },
+    /// Subtracts 1 from the head, and answers `Unlocked`; a scan of the flags finds the index later.
     Subtracts,
 }
 
@@ -207,8 +209,8 @@ impl Acquire {
         }
     }
 
-    /// Whether the call goes back once it is handed this answer: to the tests, since the head has moved, or to the
-    /// flag of index 0, since it has found each flag claimed.
+    /// Whether the call goes back once it is handed this answer. It goes to the tests, since the head has moved, or to
+    /// the flag of index 0, since it has found each flag claimed.
     pub fn goes_back(&self, answer: u64) -> bool
         ensures { result ≡ acquire_goes_back self.now.capacity self.now.stage answer }
     {
@@ -237,8 +239,8 @@ impl<M: Mode> Release<M> {
         }
     }
 
-    /// Whether the call goes back to the store of the next index once it is handed this answer, since the head has
-    /// moved.
+    /// Whether the call goes back to the store of the next index once it is handed this answer. The head has moved
+    /// then.
     pub fn goes_back(&self, answer: u64) -> bool
         ensures { result ≡ release_goes_back M.LOCKS self.now.stage answer }
     {

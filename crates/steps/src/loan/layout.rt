@@ -1,4 +1,8 @@
 //! Where the parts of a loan channel begin in its words.
+//!
+//! They are a unique set of indices, an overflowing queue (the submission queue), and a bounded queue of numbers of
+//! one word with as many cells as there are slots (the completion queue), one after another. The words of the roles in
+//! both queues are never asked for.
 ghost use Rattle.std.specs.Prelude.{◌≡◌};
 ghost use Rattle.steps.specs.Loan.Layout.{submission_word, completion_word, total_words};
 

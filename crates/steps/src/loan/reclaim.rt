@@ -13,12 +13,11 @@ use crate::queues::{overflow, ring};
 use crate::routine::Routine;
 use std::marker::PhantomData;
 
-/// Empties both queues, and then gives each index back to the set that is Sent in the table that it is given, ascending:
-/// how many.
+/// Empties both queues, and then gives each index back to the set that is Sent: how many. At most 8 steps and 13 a
+/// slot, and 2 for each turn back.
 ///
-/// It pops the submission queue until nothing waits there, then the completion queue, and then releases the indices that
-/// are Sent, in mode `Default`, each after the one before it. At most 8 steps and 13 a slot, and 2 for each turn back.
-/// That the receiver is dead is the caller's concern.
+/// Which indices are Sent says the table that it is given; they are released ascending. That the receiver is dead is
+/// the caller's concern.
 #[derive(Clone, Copy)]
 pub struct Reclaim {
     pub slots: u32,
@@ -26,15 +25,19 @@ pub struct Reclaim {
     pub stage: ReclaimStage,
 }
 
-/// What a reclaim does next: a pop of one of the queues, or the release of an index, with how many it has released before.
+/// What a reclaim does next.
 #[derive(Clone, Copy)]
 pub enum ReclaimStage {
+    /// Takes a step of a pop of the submission queue, and pops again until nothing waits there.
     Drains {
         stage: overflow::PopStage,
     },
+    /// Takes a step of a pop of the completion queue, and pops again until nothing waits there.
     Empties {
         stage: ring::PopStage,
     },
+    /// Takes a step of the release of the index, in mode `Default`, after `number` others. At its end comes the next
+    /// index that is Sent, or the answer.
     Releases {
         number: u64,
         index: u32,
@@ -43,8 +46,8 @@ pub enum ReclaimStage {
 }
 
 impl ReclaimStage {
-    /// Whether the call goes back, in a pop of the submission queue, once it is handed this answer, since the receiver has
-    /// moved the read position. A further pop is no turn back.
+    /// Whether the call goes back, in a pop of the submission queue, once it is handed this answer. The receiver has
+    /// moved the read position then; a further pop is no turn back.
     pub fn goes_back(self, queue: u32, answer: u64) -> bool
         ensures { result ≡ reclaim_goes_back self answer }
     {
@@ -112,7 +115,7 @@ impl Reclaim {
         })
     }
 
-    /// Goes on to the first index from this one on that is Sent, if there is one, after it has released so many.
+    /// After so many releases, goes on to the first index from this one on that is Sent. Where there is none, it ends.
     #[inline(always)]
     fn comes_to(self, places: &Places, number: u64, from: u32) -> After<Reclaim, u64>
         ensures { result ≡ reclaim_comes_to self places.now number from }

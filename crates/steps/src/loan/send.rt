@@ -11,12 +11,10 @@ use crate::loan::parts::shifted;
 use crate::queues::overflow::{Push, PushEnd, PushStage};
 use crate::routine::Routine;
 
-/// Sends the index that it is given: None, or Some of the index that came back instead, and is given back to the set.
-/// At most 11 steps.
+/// Sends the index that it is given: None, or Some of the index that came back instead. At most 11 steps.
 ///
-/// It pushes the index into the submission queue. Where that was full, its oldest index comes back: it is released, in
-/// mode `Default`. That the sender holds the index is the caller's concern, and one send, give-up, take-back or reclaim at
-/// a time.
+/// What comes back, such as the oldest index of a full submission queue, is given back to the set, in mode `Default`.
+/// That the sender holds the index is the caller's concern, and one send, give-up, take-back or reclaim at a time.
 #[derive(Clone, Copy)]
 pub struct Send {
     pub slots: u32,
@@ -24,10 +22,12 @@ pub struct Send {
     pub stage: SendStage,
 }
 
-/// What a send does next: its push, or the release of the index that came back.
+/// What a send does next.
 #[derive(Clone, Copy)]
 pub enum SendStage {
+    /// Takes a step of the push of the index into the submission queue. Where nothing comes back, the answer is None.
     Pushes { stage: PushStage },
+    /// Takes a step of the release of what came back; at its end the answer is Some of that.
     Releases { index: u32, stage: ReleaseStage },
 }
 

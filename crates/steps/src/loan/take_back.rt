@@ -12,10 +12,9 @@ use crate::queues::ring::{Pop, PopStage};
 use crate::routine::Routine;
 use std::marker::PhantomData;
 
-/// Takes the oldest index that the receiver gave back, and gives it back to the set: the index, or None where there is
-/// none. At most 9 steps.
+/// Takes back the oldest index that the receiver gave back: the index, or None where there is none. At most 9 steps.
 ///
-/// It pops the completion queue, and releases what that answers, in mode `Default`.
+/// The index is given back to the set, in mode `Default`.
 #[derive(Clone, Copy)]
 pub struct TakeBack {
     pub slots: u32,
@@ -23,10 +22,13 @@ pub struct TakeBack {
     pub stage: TakeBackStage,
 }
 
-/// What a take-back does next: its pop, with the word that it has read, or the release of the index.
+/// What a take-back does next.
 #[derive(Clone, Copy)]
 pub enum TakeBackStage {
+    /// Takes a step of the pop of the completion queue, which has read the word `found`. Where nothing waits there,
+    /// the answer is None.
     Pops { stage: PopStage, found: OneWord },
+    /// Takes a step of the release of the index; at its end the answer is Some of the index.
     Releases { index: u32, stage: ReleaseStage },
 }
 

@@ -6,31 +6,32 @@ use crate::ask::{After, Ask, Op, Want};
 use crate::queues::ring::{READ, WRITE};
 use crate::routine::Routine;
 
-/// The number of values that wait, by two positions that were each loaded twice and found the same. Four steps, and at
+/// Counts the values that wait, by two positions that were each loaded twice and found the same. Four steps, and at
 /// most four more for each turn back.
 ///
-/// It loads the write position, the read position, the write position again and the read position again. Where the
-/// third load differs from the first (tested before the fourth is asked), or the fourth from the second, it begins
-/// again. Once neither has moved, both stood together at the moment of the second and of the third load. A queue of
-/// capacity 0 has no value, whatever its words say. In an overflowing queue the number can be one more than the
-/// capacity, while a push is between its two moves. After `len`, `is_empty` and `is_full` of the
-/// Rust crate's queues, which compare this number with 0 and the capacity.
+/// Once neither has moved, both stood together at the moment of the second and of the third load. After `len`,
+/// `is_empty` and `is_full` of the Rust crate's queues, which compare this number with 0 and the capacity.
 #[derive(Clone, Copy)]
 pub struct Len {
     pub capacity: u32,
     pub stage: LenStage,
 }
 
-/// What the call does next, and the positions that it has loaded.
+/// What the call does next. `write` and `read` are the positions that it has loaded.
 #[derive(Clone, Copy)]
 pub enum LenStage {
+    /// Loads the write position.
     LoadsWrite,
+    /// Loads the read position.
     LoadsRead { write: u64 },
+    /// Loads the write position again; where it has moved, the call begins again.
     LoadsWriteAgain { write: u64, read: u64 },
+    /// Loads the read position again, and answers the number; where it has moved, the call begins again.
     LoadsReadAgain { write: u64, read: u64 },
 }
 
-/// The number of values between the two positions, which wrap. None in a queue of capacity 0.
+/// The number of values between the two positions, which wrap. None in a queue of capacity 0, whatever its words say.
+/// In an overflowing queue it can be one more than the capacity, while a push is between its two moves.
 pub fn number_waiting(capacity: u32, write: u64, read: u64) -> u64
     ensures { result ≡ number_waiting capacity write read }
 {

@@ -20,29 +20,32 @@ pub fn cell_word(capacity: u32, position: u64) -> usize
     FIRST_CELL + (position % (capacity as u64 + 1)) as usize
 }
 
-/// Appends the value that it is given: None, or Some of the oldest value where the
-/// queue was full and it left. At most 6 steps.
+/// Appends the value that it is given: None, or Some of the oldest, which has left a full queue. At most 6 steps.
 ///
-/// It loads the write position (u64::MAX: the value itself, and nothing changes), loads the read position, stores the
-/// cell, and stores the next write position. Where the read position was not `capacity` behind: None. Else it moves the
-/// read position on from where it was; where that fails, a pop has made room: None. Else it loads the cell of the
-/// position that it took. A queue of capacity 0 hands the value itself back, and takes no step. One push at a time is
-/// the caller's concern. After `push` of the Rust crate's `SafelyOverflowingIndexQueue`.
+/// A queue of capacity 0 hands the value itself back, and takes no step. One push at a time is the caller's concern.
+/// After `push` of the Rust crate's `SafelyOverflowingIndexQueue`.
 #[derive(Clone, Copy)]
 pub struct Push {
     pub capacity: u32,
     pub stage: PushStage,
 }
 
-/// What a push does next, and the positions that it has loaded.
+/// What a push does next. `write` and `read` are the positions that it has loaded.
 #[derive(Clone, Copy)]
 pub enum PushStage {
+    /// Asks for no word, and hands the value itself back: all that happens at capacity 0.
     HandsBack,
+    /// Loads the write position; at `u64::MAX` the value itself comes back, and nothing changes.
     LoadsWrite,
+    /// Loads the read position.
     LoadsRead { write: u64 },
+    /// Stores the value into the cell of the write position.
     StoresCell { write: u64, read: u64 },
+    /// Stores the next write position; where the read position was not `capacity` behind, the answer is None.
     StoresWrite { write: u64, read: u64 },
+    /// Moves the read position on from where it was; where that fails, a pop has made room: None.
     MovesRead { read: u64 },
+    /// Loads the cell of the position that it took, and answers Some of its value.
     LoadsCell { read: u64 },
 }
 
@@ -59,10 +62,7 @@ pub enum PushEnd {
 
 /// Takes the oldest value, or None where the queue is empty. At most 4 steps, and 2 more for each turn back.
 ///
-/// It loads the read position, loads the write position (the same: None, and nothing changes),
-/// loads the cell, and moves the read position on from where it was. Where a push has moved it,
-/// it goes back to the load of the cell, with the position found. A queue of capacity 0 is
-/// empty, and no step is taken. One pop at a time is the caller's concern. After `pop` of the
+/// A queue of capacity 0 is empty, and no step is taken. One pop at a time is the caller's concern. After `pop` of the
 /// Rust crate's `SafelyOverflowingIndexQueue`.
 #[derive(Clone, Copy)]
 pub struct Pop {
@@ -70,13 +70,19 @@ pub struct Pop {
     pub stage: PopStage,
 }
 
-/// What a pop does next, and the position that it has loaded.
+/// What a pop does next. `read` is the read position that it has loaded or found.
 #[derive(Clone, Copy)]
 pub enum PopStage {
+    /// Asks for no word, and answers None: all that happens at capacity 0.
     FindsNone,
+    /// Loads the read position.
     LoadsRead,
+    /// Loads the write position; where it is the same, the answer is None, and nothing changes.
     LoadsWrite { read: u64 },
+    /// Loads the cell of the read position.
     LoadsCell { read: u64 },
+    /// Moves the read position on from where it was, and answers Some of the value. Where a push has moved it, goes
+    /// back to the load of the cell, with the position found.
     MovesRead { read: u64 },
 }
 

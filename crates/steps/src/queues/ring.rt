@@ -39,10 +39,7 @@ pub fn cell_word(capacity: u32, words: u8, position: u64) -> usize
 
 /// Appends the value that it is given: true, or false where the queue is full. At most 3 + `T::WORDS` steps.
 ///
-/// It loads the write position (u64::MAX: false, and nothing changes), loads the read position
-/// (`capacity` behind: false, and nothing changes), stores the value's words into its cell, and
-/// stores the next write position. One push at a time is the caller's concern. After `push` of
-/// the Rust crate's `IndexQueue` and `Queue`.
+/// One push at a time is the caller's concern. After `push` of the Rust crate's `IndexQueue` and `Queue`.
 #[derive(Clone, Copy)]
 pub struct Push<T> {
     pub capacity: u32,
@@ -50,32 +47,41 @@ pub struct Push<T> {
     pub of: PhantomData<T>,
 }
 
-/// What a push does next, the positions that it has loaded, and the first word of its cell.
+/// What a push does next. `write` is the position that it has loaded, `cell` the first word of its cell, and `at` the
+/// word of the value.
 #[derive(Clone, Copy)]
 pub enum PushStage {
+    /// Loads the write position; at `u64::MAX` the answer is false, and nothing changes.
     LoadsWrite,
+    /// Loads the read position. Where it is `capacity` behind, or the capacity is 0, the answer is false, and nothing
+    /// changes.
     LoadsRead { write: u64 },
+    /// Stores the next word of the value into the cell.
     StoresCell { write: u64, cell: usize, at: u8 },
+    /// Stores the next write position, and answers true.
     StoresWrite { write: u64 },
 }
 
 /// Takes the oldest value, or None where the queue is empty, by way of a room R. At most 3 + `T::WORDS` steps.
 ///
-/// It loads the read position, loads the write position (the same: None, and nothing changes), loads the cell's words,
-/// and stores the next read position. One pop at a time is the caller's concern. After `pop` of the Rust crate's
-/// `IndexQueue` and `Queue`.
+/// One pop at a time is the caller's concern. After `pop` of the Rust crate's `IndexQueue` and `Queue`.
 pub struct Pop<T, R> {
     pub capacity: u32,
     pub stage: PopStage,
     pub of: PhantomData<(T, R)>,
 }
 
-/// What a pop does next, the position that it has loaded, and the first word of its cell.
+/// What a pop does next. `read` is the position that it has loaded, `cell` the first word of its cell, and `at` the
+/// word of the value.
 #[derive(Clone, Copy)]
 pub enum PopStage {
+    /// Loads the read position.
     LoadsRead,
+    /// Loads the write position. Where it is the same, or the capacity is 0, the answer is None, and nothing changes.
     LoadsWrite { read: u64 },
+    /// Loads the next word of the cell into the room.
     LoadsCell { read: u64, cell: usize, at: u8 },
+    /// Stores the next read position, and answers Some of the value.
     StoresRead { read: u64 },
 }
 

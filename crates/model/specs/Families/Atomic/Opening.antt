@@ -40,7 +40,7 @@ module _ {T : Type 0} where
   abbrev pub call_of : Kind → AtomicStart T → Option (AtomicFlight T)
   call_of kind start = if is_value kind then Some (first start) else None
 
-  -- the call asks for the producer's role, which the party does not hold
+  -- the call needs the producer's role, which the party does not hold
   abbrev pub lacks_role : Option ℕ → ℕ → AtomicStart T → Bool
   lacks_role producer p AcquireProducer = false
   lacks_role producer p ReleaseProducer = not (holds producer p)

@@ -8,27 +8,28 @@ use crate::indices::enums::{ReleaseState, UniqueIndexSetAcquireFailure};
 use crate::indices::robust::parts::{COUNTER, EMPTY, GREATEST, LOCKED, Raise, cell_word};
 use crate::routine::Routine;
 
-/// Takes the lowest index that it finds without an owner for the owner that it is given: the index, `IsLocked`, or
-/// `OutOfIndices`. At most 3 steps more than the capacity, and for each turn back at most 1 more, or as many as the
-/// capacity and 1.
+/// Takes the lowest index found without an owner for the given owner: the index, `IsLocked`, or `OutOfIndices`. At
+/// most 3 steps more than the capacity, and for each turn back at most 1 more, or as many as the capacity and 1.
 ///
-/// It loads the counter. Where that says locked: `IsLocked`. Where it is at its end: `OutOfIndices`. Then it exchanges
-/// the cells ascending, from empty to the owner, up to the first success. After that it raises the counter, and answers
-/// the index; where the set is locked by then, `IsLocked`, and the cell keeps the owner. If no exchange succeeded, it
-/// exchanges the counter for itself: `OutOfIndices`, since each cell was filled; on failure it goes back to the tests,
-/// with the counter found. After `acquire` of the Rust crate's `RobustUniqueIndexSet`.
+/// After `acquire` of the Rust crate's `RobustUniqueIndexSet`.
 #[derive(Clone, Copy)]
 pub struct Acquire {
     pub capacity: u32,
     pub stage: AcquireStage,
 }
 
-/// What an acquire does next, with the counter that it has loaded, or the index whose cell it has filled.
+/// What an acquire does next. `counter` is the counter that it has loaded or found.
 #[derive(Clone, Copy)]
 pub enum AcquireStage {
+    /// Loads the counter: `IsLocked` where that says so, `OutOfIndices` where it is at its end.
     LoadsCounter,
+    /// Exchanges the cell of the index from empty to the owner; on failure goes on to the next cell.
     FillsCell { counter: u64, index: u32 },
+    /// Exchanges the counter for itself: `OutOfIndices`, since each cell was filled. On failure goes back to the
+    /// tests, with the counter found.
     ChecksCounter { counter: u64 },
+    /// Takes a step of the raise of the counter, and answers the index. Where the set is locked by then: `IsLocked`,
+    /// and the cell keeps the owner.
     Raises { index: u32, raise: Raise },
 }
 
@@ -81,8 +82,7 @@ impl Acquire {
         })
     }
 
-    /// Whether the call goes back to its tests, or to those of its raise, once it is handed this answer, since the
-    /// counter has moved.
+    /// Whether the call goes back to its tests, or to those of its raise, on this answer. The counter has moved then.
     pub fn goes_back(&self, answer: u64) -> bool
         ensures { result ≡ acquire_goes_back self.now.stage answer }
     {

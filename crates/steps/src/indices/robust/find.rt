@@ -7,11 +7,8 @@ use crate::enums::OwnerId;
 use crate::indices::robust::parts::cell_word;
 use crate::routine::{Ends, Routine};
 
-/// Comes to the indices of the owner that it is given, ascending: how many it came to. As many steps as the capacity, or
-/// fewer where it is told to stop.
-///
-/// It loads the cells ascending. At each that holds the owner it counts one more, and asks about the index: a no stops
-/// it there. After `find` of the Rust crate's `RobustUniqueIndexSet`.
+/// Comes to the indices of the owner that it is given, ascending: how many it came to. As many steps as the capacity,
+/// or fewer where it is told to stop. After `find` of the Rust crate's `RobustUniqueIndexSet`.
 #[derive(Clone, Copy)]
 pub struct Find {
     pub capacity: u32,
@@ -21,7 +18,9 @@ pub struct Find {
 /// What a find does next, and how many indices it has come to.
 #[derive(Clone, Copy)]
 pub enum FindStage {
+    /// Loads the cell of the index; where that holds the owner, counts one more, else goes on to the next.
     LoadsCell { index: u32, found: usize },
+    /// Asks about the index; a no stops it there.
     Asks { index: u32, found: usize },
 }
 

@@ -9,9 +9,9 @@ use crate::routine::{Ends, Routine};
 /// How many indices are borrowed, 0 where the set is locked. As many steps as the capacity, and 2 more; as many again
 /// for each turn back.
 ///
-/// It is a count: the number is that of the cells that had an owner when it loaded them, and the counter has not moved
-/// since it was loaded. It raises the counter. Where the counter is at its end, the number is that of one pass over the
-/// cells, whatever has changed meanwhile. After `borrowed_indices` of the Rust crate's `RobustUniqueIndexSet`.
+/// It is a count, which raises the counter: so many cells had an owner when it loaded them, and the counter has not
+/// moved since. At its end the counter stays, and the number is that of one pass over the cells, whatever has changed
+/// meanwhile. After `borrowed_indices` of the Rust crate's `RobustUniqueIndexSet`.
 #[derive(Clone, Copy)]
 pub struct BorrowedIndices {
     pub capacity: u32,

@@ -1,4 +1,4 @@
-//! The words of a robust set of indices, and the parts that its calls are made of: raise, count and lock.
+//! The words of a robust set of indices, and the parts of its calls: raise, count and lock.
 ghost use Rattle.std.specs.Prelude.{◌≡◌};
 ghost use Rattle.steps.specs.Indices.Robust.Parts.{cell_word, raise_want, raise_sees, raise_after, raise_goes_back};
 ghost use Rattle.steps.specs.Indices.Robust.Parts.{count_want, count_comes_to, count_after, count_goes_back};
@@ -7,7 +7,7 @@ ghost use Rattle.steps.specs.Indices.Robust.Parts.{first_lock, lock_want, lock_a
 use crate::ask::{After, Ask, Op, Want};
 use crate::indices::enums::ReleaseState;
 
-/// The word of the counter.
+/// The word of the counter, which opens at 0. Each acquire, release and recovery that changes a cell raises it.
 pub const COUNTER: usize = 0;
 /// The word of the cell of index 0.
 pub const FIRST_CELL: usize = 1;
@@ -15,7 +15,7 @@ pub const FIRST_CELL: usize = 1;
 pub const EMPTY: u64 = u64::MAX;
 /// The counter of a locked set.
 pub const LOCKED: u64 = u64::MAX;
-/// The counter at its end, where it stays.
+/// The counter at its end, where it stays. From there on no index is handed out, and the set can no longer be locked.
 pub const GREATEST: u64 = u64::MAX - 1;
 
 /// The word of the cell of this index.
@@ -26,30 +26,32 @@ pub fn cell_word(index: u32) -> usize
     FIRST_CELL + index as usize
 }
 
-/// Raises the counter by 1: `Unlocked`, also where it stays since it is at its end, or `Locked` where the set is
-/// locked. Two steps, and one more for each turn back.
-///
-/// It loads the counter. Where that says locked: `Locked`. Where it is at its end: `Unlocked`. Then it exchanges it for
-/// the next number; on failure it goes back to the tests, with the counter found.
+/// Raises the counter by 1: `Unlocked`, or `Locked` where the set is locked. A counter at its end stays: `Unlocked`.
+/// Two steps, and one more for each turn back.
 #[derive(Clone, Copy)]
 pub enum Raise {
+    /// Loads the counter: `Locked` where that says so, `Unlocked` where it is at its end.
     LoadsCounter,
+    /// Exchanges the counter for the next number: `Unlocked`. On failure goes back to the tests, with the counter
+    /// found.
     ExchangesCounter { counter: u64 },
 }
 
 /// Counts the cells that have an owner. As many steps as the capacity, and 2 more; as many again for each turn back.
 ///
-/// It loads the counter: `Locked` where that says so. It loads the cells ascending, and counts those with an owner.
-/// Where the counter is at its end, that is the number. Else it exchanges the counter for the next number; on failure
-/// it goes back to the load of the counter.
+/// It is closed by a raise, so the number stands only where nothing was raised meanwhile.
 #[derive(Clone, Copy)]
 pub enum Count {
+    /// Loads the counter: `Locked` where that says so.
     LoadsCounter,
+    /// Loads the cell of the index, and counts it where it has an owner. After the last cell, a counter at its end
+    /// ends the count.
     LoadsCell {
         counter: u64,
         index: u32,
         filled: usize,
     },
+    /// Exchanges the counter for the next number, and ends; on failure begins again.
     ExchangesCounter {
         counter: u64,
         filled: usize,
@@ -59,19 +61,20 @@ pub enum Count {
 /// How a count ends.
 #[derive(Clone, Copy)]
 pub enum Counted {
+    /// The set is locked.
     Locked,
     /// So many cells have an owner, and the counter stands here now.
     Filled { filled: usize, counter: u64 },
 }
 
-/// Locks the set where no cell has an owner: `Locked`, also where it was locked already, or `Unlocked`. As many steps as
-/// the capacity, and 3 more; as many again for each turn back, of it or of its count.
-///
-/// It counts: `Locked` where the count says so. Where a cell has an owner, or the counter is at its end now: `Unlocked`.
-/// Else it exchanges the counter, as the count has left it, for `u64::MAX`; on failure it goes back to the count.
+/// Locks the set where no cell has an owner: `Locked`, also where it was locked already, or `Unlocked`. As many steps
+/// as the capacity, and 3 more; as many again for each turn back, of it or of its count.
 #[derive(Clone, Copy)]
 pub enum Lock {
+    /// Takes a step of the count: `Locked` where that says so. `Unlocked` where a cell has an owner, or the counter is
+    /// at its end now.
     Counts { count: Count },
+    /// Exchanges the counter, as the count has left it, for `u64::MAX`: `Locked`. On failure counts again.
     ExchangesCounter { counter: u64 },
 }
 

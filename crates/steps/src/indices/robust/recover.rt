@@ -8,31 +8,34 @@ use crate::indices::enums::{ReleaseMode, ReleaseState};
 use crate::indices::robust::parts::{COUNTER, EMPTY, LOCKED, Lock, Raise, cell_word};
 use crate::routine::Routine;
 
-/// Frees the indices that it is told to free, in the mode that it is given: `Locked` where the set is locked, else
-/// `Unlocked`. At most 2 steps more than 4 times the capacity in mode `Default`; in mode `LockIfLastIndex` for each index
-/// as many more as the capacity and 3. Each turn back takes at most 1 more, or as many as the capacity and 3.
+/// Frees the indices that it is told to free: `Locked` where the set is locked, else `Unlocked`. At most 2 steps more
+/// than 4 times the capacity in mode `Default`; in mode `LockIfLastIndex` for each index as many more as the capacity
+/// and 3. Each turn back takes at most 1 more, or as many as the capacity and 3.
 ///
-/// It loads the counter. Where that says locked: `Locked`, and it comes to no index. Then for each index ascending: it
-/// loads the cell, and passes over an empty one. It asks about the owner found and the index; after a yes it exchanges
-/// the cell from that owner to empty. After a success it raises the counter, and where the set is locked it ends there
-/// with `Locked`; in mode `LockIfLastIndex` it locks the set where no cell has an owner, and goes on whatever that
-/// answers. At the end it loads the counter, which says `Locked` or `Unlocked`. That an owner whose index it frees is
-/// dead is the concern of whoever answers. After `recover` of the Rust crate's `RobustUniqueIndexSet`.
+/// That an owner whose index it frees is dead is for whoever answers. After `recover` of the Rust crate's
+/// `RobustUniqueIndexSet`.
 #[derive(Clone, Copy)]
 pub struct Recover {
     pub capacity: u32,
     pub stage: RecoverStage,
 }
 
-/// What a recovery does next, the index that it has come to, and the owner that it has found there.
+/// What a recovery does next. `index` is the one that it has come to, and `owner` the owner found there.
 #[derive(Clone, Copy)]
 pub enum RecoverStage {
+    /// Loads the counter; where that says locked, the answer is `Locked`, and it comes to no index.
     LoadsCounter,
+    /// Loads the cell of the index, and passes over an empty one.
     LoadsCell { index: u32 },
+    /// Asks about the owner and the index, and passes over the index after a no.
     Asks { index: u32, owner: OwnerId },
+    /// Exchanges the cell from that owner to empty; on failure goes on to the next index.
     EmptiesCell { index: u32, owner: OwnerId },
+    /// Takes a step of the raise of the counter; where the set is locked, the answer is `Locked`.
     Raises { index: u32, raise: Raise },
+    /// Takes a step of the lock of the set, in mode `LockIfLastIndex` alone, and goes on whatever that answers.
     Locks { index: u32, lock: Lock },
+    /// Loads the counter after the last index: `Locked` where that says so, else `Unlocked`.
     LoadsCounterAgain,
 }
 
@@ -83,7 +86,7 @@ impl Recover {
         }
     }
 
-    /// Whether the call goes back in its raise or its lock once it is handed this answer, since the counter has moved.
+    /// Whether the call goes back in its raise or its lock once it is handed this answer. The counter has moved then.
     pub fn goes_back(&self, answer: u64) -> bool
         ensures { result ≡ recover_goes_back self.now.stage answer }
     {

@@ -8,14 +8,12 @@ use crate::indices::enums::{ReleaseMode, ReleaseState, RobustUniqueIndexSetRelea
 use crate::indices::robust::parts::{EMPTY, Lock, Raise, cell_word};
 use crate::routine::Routine;
 
-/// Gives back the index that it is given, where it is that of the given owner: `Unlocked`, or `Locked` in mode
-/// `LockIfLastIndex` where the set is locked. Else `IndexIsNotOwnedByProvidedOwner`, and nothing changes. In mode
-/// `Default` 3 steps; in mode `LockIfLastIndex` at most 6 more than the capacity. Each turn back takes at most 1 more, or
-/// as many as the capacity and 3.
+/// Gives back the index that it is given, where it is that of the given owner. It answers `Unlocked`, or `Locked` in
+/// mode `LockIfLastIndex` where the set is locked; else `IndexIsNotOwnedByProvidedOwner`, and nothing changes. In mode
+/// `Default` 3 steps; in mode `LockIfLastIndex` at most 6 more than the capacity. Each turn back takes at most 1 more,
+/// or as many as the capacity and 3.
 ///
-/// It exchanges the cell of the index from the owner to empty; on failure it ends with the error. Then it raises the
-/// counter, and in mode `Default` answers `Unlocked`. In mode `LockIfLastIndex` it locks the set where no cell has an
-/// owner, and answers what that answers. After `release` of the Rust crate's `RobustUniqueIndexSet`.
+/// After `release` of the Rust crate's `RobustUniqueIndexSet`.
 #[derive(Clone, Copy)]
 pub struct Release {
     pub capacity: u32,
@@ -33,8 +31,11 @@ pub struct GiveBack {
 /// What a release does next.
 #[derive(Clone, Copy)]
 pub enum ReleaseStage {
+    /// Exchanges the cell of the index from the owner to empty; on failure the answer is the error.
     EmptiesCell,
+    /// Takes a step of the raise of the counter; at its end, in mode `Default`, the answer is `Unlocked`.
     Raises { raise: Raise },
+    /// Takes a step of the lock of the set, and answers what that answers: in mode `LockIfLastIndex` alone.
     Locks { lock: Lock },
 }
 
@@ -50,7 +51,7 @@ impl Release {
         }
     }
 
-    /// Whether the call goes back in its raise or its lock once it is handed this answer, since the counter has moved.
+    /// Whether the call goes back in its raise or its lock once it is handed this answer. The counter has moved then.
     pub fn goes_back(&self, answer: u64) -> bool
         ensures { result ≡ release_goes_back self.now.stage answer }
     {
