@@ -2,7 +2,6 @@ mod Names
 pub mod Alone
 pub mod Elements
 pub mod Emptied
-pub mod FirstSteps
 pub mod Fronts
 pub mod Lists
 pub mod Places

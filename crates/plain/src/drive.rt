@@ -1,5 +1,5 @@
 //! Whole calls over words that nobody else touches.
-ghost use Rattle.std.specs.Prelude.{◌≡◌, slice_index};
+ghost use Rattle.std.specs.Prelude.{◌≡◌, slice_index, slice_set};
 ghost use Rattle.plain.specs.Alone.{written_at, answer_in, words_then, room_then, stepped, CanStop, StopsAlike, CanEnd, EndsAlike};
 ghost use Rattle.plain.specs.FirstSteps.{StopsOn};
 
@@ -13,43 +13,69 @@ pub enum Stop<C, E> {
     Ended(E),
 }
 
-/// Does the operation, and answers the word's old value. Where there is no such word, nothing changes, and the answer
-/// is 0.
+/// Returns the word, or 0 where there is no such word.
 #[inline(always)]
-fn perform(words: &mut Vec<u64>, ask: Ask) -> u64
-    ensures old { result ≡ slice_index words.old.items ask.word }
-    ensures words { words.new.items ≡ written_at words.old.items ask }
+fn read(words: &[u64], word: usize) -> u64
+    ensures { result ≡ slice_index words.now word }
 {
-    if ask.word < words.len() {
-        let old = words[ask.word];
-        match ask.op {
-            Op::Load => {}
-            Op::Exchange(from, to) => {
-                if old == from {
-                    words[ask.word] = to;
-                }
-            }
-            op => words[ask.word] = op.apply(old),
-        }
+    if word < words.len() { words[word] } else { 0 }
+}
+
+/// Writes the word, and returns what it was before, or 0 where there is no such word.
+#[inline(always)]
+fn write(words: &mut [u64], word: usize, new: u64) -> u64
+    ensures old { result ≡ slice_index words.old word }
+    ensures words { words.new ≡ slice_set words.old word new }
+{
+    if word < words.len() {
+        let old = words[word];
+        words[word] = new;
         old
     } else {
         0
     }
 }
 
+/// Does the operation, and answers the word's old value. Where there is no such word, nothing changes, and the answer
+/// is 0.
+#[inline(always)]
+fn perform(words: &mut [u64], ask: Ask) -> u64
+    ensures old { result ≡ slice_index words.old ask.word }
+    ensures words { words.new ≡ written_at words.old ask }
+{
+    // The operation comes before the look for the word, so that a compiler keeps a call's stages apart.
+    match ask.op {
+        Op::Load => read(words, ask.word),
+        Op::Store(new) => write(words, ask.word, new),
+        Op::Swap(new) => write(words, ask.word, new),
+        Op::Exchange(from, to) => {
+            let old = read(words, ask.word);
+            if old == from {
+                write(words, ask.word, to)
+            } else {
+                old
+            }
+        }
+        op => {
+            let old = read(words, ask.word);
+            write(words, ask.word, op.apply(old))
+        }
+    }
+}
+
 /// Takes one step of a call. It stops at a question, which changes nothing.
 #[inline(always)]
 pub fn step<C: Routine>(
-    words: &mut Vec<u64>,
+    words: &mut [u64],
     call: C,
     given: &C::Given,
     room: &mut C::Room,
 ) -> After<C, Stop<C, C::End>>
     ensures goes { result ≡ stepped (C.want_of call given.now) call
-        (C.after call given.now (answer_in words.old.items (C.want_of call given.now))) }
+        (C.after call given.now (answer_in words.old (C.want_of call given.now))) }
     ensures room { room.new ≡ room_then (C.want_of call given.now) room.old
-        (C.kept call room.old (answer_in words.old.items (C.want_of call given.now))) }
-    ensures words { words.new.items ≡ words_then words.old.items (C.want_of call given.now) }
+        (C.kept call room.old (answer_in words.old (C.want_of call given.now))) }
+    ensures words { words.new ≡ words_then words.old (C.want_of call given.now) }
 {
     let answer = match call.ask(given) {
         Want::Ask(ask) => perform(words, ask),
@@ -65,13 +91,13 @@ pub fn step<C: Routine>(
 /// Two steps, or one where it stops at that.
 #[inline(always)]
 fn two_steps<C: Routine>(
-    words: &mut Vec<u64>,
+    words: &mut [u64],
     call: C,
     given: &C::Given,
     room: &mut C::Room,
 ) -> After<C, Stop<C, C::End>>
-    ensures { StopsOn C.want_of C.after C.kept given.now call room.old words.old.items
-        result room.new words.new.items }
+    ensures { StopsOn C.want_of C.after C.kept given.now call room.old words.old
+        result room.new words.new }
 {
     match step(words, call, given, room) {
         After::GoOn(next) => step(words, next, given, room),
@@ -82,18 +108,44 @@ fn two_steps<C: Routine>(
 /// Four steps, or fewer where it stops at one of them.
 #[inline(always)]
 fn four_steps<C: Routine>(
-    words: &mut Vec<u64>,
+    words: &mut [u64],
     call: C,
     given: &C::Given,
     room: &mut C::Room,
 ) -> After<C, Stop<C, C::End>>
-    ensures { StopsOn C.want_of C.after C.kept given.now call room.old words.old.items
-        result room.new words.new.items }
+    ensures { StopsOn C.want_of C.after C.kept given.now call room.old words.old
+        result room.new words.new }
 {
     match two_steps(words, call, given, room) {
         After::GoOn(next) => two_steps(words, next, given, room),
         After::Done(stop) => After::Done(stop),
     }
+}
+
+/// As `drive_to_stop`, over the words themselves: so a compiler reads once where they lie and how many they are.
+#[inline(always)]
+fn drive_words_to_stop<C: Routine>(
+    words: &mut [u64],
+    call: C,
+    given: &C::Given,
+    room: &mut C::Room,
+) -> Stop<C, C::End>
+    requires stops { CanStop C.want_of C.after C.kept given.now call room.old words.old }
+    ensures alone { StopsAlike C.want_of C.after C.kept given.now call room.old words.old
+        result room.new words.new }
+{
+    // The first steps stand by themselves, so that a compiler sees at each of them at which stage the call is.
+    let mut call = match four_steps(words, call, given, room) {
+        After::GoOn(next) => next,
+        After::Done(stop) => return stop,
+    };
+    for _ in 0..u64::MAX {
+        match step(words, call, given, room) {
+            After::GoOn(next) => call = next,
+            After::Done(stop) => return stop,
+        }
+    }
+    unreachable!()
 }
 
 /// Drives a call to its next question or to its end: it stops just as the call alone stops.
@@ -108,18 +160,7 @@ pub fn drive_to_stop<C: Routine>(
     ensures alone { StopsAlike C.want_of C.after C.kept given.now call room.old words.old.items
         result room.new words.new.items }
 {
-    // The first steps stand by themselves, so that a compiler sees at each of them at which stage the call is.
-    let mut call = match four_steps(words, call, given, room) {
-        After::GoOn(next) => next,
-        After::Done(stop) => return stop,
-    };
-    for _ in 0..u64::MAX {
-        match step(words, call, given, room) {
-            After::GoOn(next) => call = next,
-            After::Done(stop) => return stop,
-        }
-    }
-    unreachable!()
+    drive_words_to_stop(&mut words[..], call, given, room)
 }
 
 /// Drives a call that puts no question to its end: it ends just as the call alone ends.

@@ -20,7 +20,7 @@ pub fn swap_next(words: &mut Vec<u64>, call: &mut ResetAll) -> u64
         → call.new ≡ record { word = call.old.word + 1; end = call.old.end } }
 {
     let mut room = OneWord(0);
-    if let After::GoOn(next) = step(words, *call, &(), &mut room) {
+    if let After::GoOn(next) = step(&mut words[..], *call, &(), &mut room) {
         *call = next;
     }
     room.0

@@ -1,22 +1,21 @@
 use Rattle.std.proofs.Common.{arith}
 use Rattle.std.proofs.Common.{◌∙◌, sym, subst, ℕ, List}
 use Rattle.plain.specs.Alone.{StopsAlike}
-use Rattle.plain.proofs.Alone.{goes_on, stops}
-use Rattle.plain.proofs.FirstSteps.{begins_later, stops_early}
-use Rattle.plain.proofs.drive.drive_to_stop.Goals as goal
+use Rattle.plain.proofs.Alone.{begins_later, goes_on, stops, stops_early}
+use Rattle.plain.proofs.drive.drive_words_to_stop.Goals as goal
 
 pub returns-in-Done : goal.returns-in-Done
 returns-in-Done g c = record {
   alone =
       stops_early g.C.Routine.want_of g.C.Routine.after g.C.Routine.kept c.args.given.now c.args.call c.in-Done.stop
-      c.args.room.now c.four_steps.new.room c.args.words.now.items c.four_steps.new.words.items c.four_steps.result
+      c.args.room.now c.four_steps.new.room c.args.words.now c.four_steps.new.words c.four_steps.result
       c.in-Done.is c.four_steps.ensures;
 }
 
 pub loop-init : goal.loop-init
 loop-init g c =
     begins_later g.C.Routine.want_of g.C.Routine.after g.C.Routine.kept c.args.given.now c.args.call c.in-GoOn.next
-    c.args.room.now c.four_steps.new.room c.args.words.now.items c.four_steps.new.words.items c.four_steps.result
+    c.args.room.now c.four_steps.new.room c.args.words.now c.four_steps.new.words c.four_steps.result
     c.in-GoOn.is c.requires.stops c.four_steps.ensures
 
 pub loop-preserved : goal.loop-preserved
@@ -26,9 +25,9 @@ pub returns-in-Done-step : goal.returns-in-Done-step
 returns-in-Done-step g c = record {
   alone =
       subst (λ (z : g.row.C-Room.Denot × List ℕ). StopsAlike g.C.Routine.want_of g.C.Routine.after g.C.Routine.kept
-      c.args.given.now c.args.call c.args.room.now c.args.words.now.items c.in-Done-step.stop z.0 z.1)
+      c.args.given.now c.args.call c.args.room.now c.args.words.now c.in-Done-step.stop z.0 z.1)
       (λ i. (sym c.step.ensures.room i, sym c.step.ensures.words i))
       (stops g.C.Routine.want_of g.C.Routine.after g.C.Routine.kept c.args.given.now c.args.call c.args.room.now
-      c.args.words.now.items c.loop.counter c.loop.call c.in-Done-step.stop c.loop.room c.loop.words.items
+      c.args.words.now c.loop.counter c.loop.call c.in-Done-step.stop c.loop.room c.loop.words
       c.loop.invariant (sym c.step.ensures.goes ∙ c.in-Done-step.is));
 }

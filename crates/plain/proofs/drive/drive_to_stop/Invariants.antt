@@ -1,6 +1,0 @@
-use Rattle.plain.proofs.Alone.{Going}
-use Rattle.plain.proofs.drive.drive_to_stop.Given as goal
-
-abbrev pub invariant-loop : goal.invariant-loop
-invariant-loop g l =
-    Going g.C.Routine.want_of g.C.Routine.after g.C.Routine.kept l.given l.fn.call l.fn.room l.fn.words.items l.counter l.call l.room l.words.items
