@@ -30,3 +30,4 @@ pub mod TakenOut
 pub mod Merging
 pub mod Free
 pub mod OverCloses
+pub mod Ends

@@ -30,7 +30,8 @@ ghost use Rattle.steps.specs.Objects.Lists.{Bounded};
 ghost use Rattle.lock_free_queues.specs.Queues.Closes.{Closes, IsWhatWaits, IsNewestThatWaits};
 ghost use Rattle.lock_free_queues.specs.Queues.Sent.{HasSent, HasReceived, HasPassed, TellsApart};
 ghost use Rattle.lock_free_queues.specs.Queues.Sums.{puts, gets, HasDone};
-ghost use Rattle.lock_free_queues.specs.Queues.Told.{HasPushed, HasPublished, WasAtEnd, WasFull, HasPopped};
+ghost use Rattle.lock_free_queues.specs.Queues.Told.{HasPushed, HasPublished, WasFull, HasPopped};
+ghost use Rattle.lock_free_queues.specs.Queues.Told.{PushDone, PushRefused, PopDone, PopEmpty};
 ghost use Rattle.lock_free_queues.specs.Queues.Told.{HasTakenOut, HasTakenFirst, WasEmpty, FoundNone, HasMeasured};
 ghost use Rattle.lock_free_queues.specs.Queues.Told.{HasAcquired, HasReleased, HasSplit, HasJoined};
 
@@ -142,8 +143,8 @@ pub fn emptied_is_all<T>()
 /// `done_pushed` and those beside it in `proofs/Queues/Sums.antt`.
 pub fn calls_are_counted<T>()
     ensures pushed { (item : Item T) (old new : View T) → HasPushed item true old new → HasDone 1 0 old new }
-    ensures refused { (item : Item T) (taken : Bool) (old new : View T) → taken ≡ false
-        → HasPushed item taken old new ⊎ (taken ≡ false) × WasAtEnd old new → HasDone 0 0 old new }
+    ensures refused { (item : Item T) (capacity : ℕ) (old new : View T) → PushRefused capacity item old new
+        → HasDone 0 0 old new }
     ensures added { (value : ℕ) (old new : View T) → HasOverflowed value None old new → HasDone 1 0 old new }
     ensures replaced { (value oldest : ℕ) (old new : View T) → HasOverflowed value (Some oldest) old new
         → HasDone 1 1 old new }
@@ -171,13 +172,12 @@ pub fn pushes_are_sent<T, V>()
         → Goes code kind capacity old new → HasAcquired role true old new → HasSent named [] old new }
     ensures pushed { (named : V
         → Item T) (code : Coding T) (kind : Kind) (capacity : ℕ) (values : List V) (value : V) (old was new : View T)
-        → HasSent named values old was → Goes code kind capacity was new → HasPushed (named value) true was new
-        → HasPublished (named value) was new → HasSent named (values ++ value ∷ []) old new }
+        → HasSent named values old was → Goes code kind capacity was new → PushDone (named value) was new
+        → HasSent named (values ++ value ∷ []) old new }
     ensures refused { (named : V
-        → Item T) (code : Coding T) (kind : Kind) (capacity room : ℕ) (values : List V) (item : Item T) (taken : Bool)
-        (old was new : View T) → HasSent named values old was → Goes code kind capacity was new → taken ≡ false
-        → HasPushed item taken was new ⊎ (taken ≡ false) × WasAtEnd was new
-        → WasFull room item was new ⊎ WasAtEnd was new → HasSent named values old new }
+        → Item T) (code : Coding T) (kind : Kind) (capacity room : ℕ) (values : List V) (item : Item T)
+        (old was new : View T) → HasSent named values old was → Goes code kind capacity was new
+        → PushRefused room item was new → HasSent named values old new }
     ensures released { (named : V
         → Item T) (code : Coding T) (kind : Kind) (capacity : ℕ) (role : Role) (values : List V) (old was new : View T)
         → HasSent named values old was → Goes code kind capacity was new → HasReleased role was new
@@ -192,11 +192,11 @@ pub fn pops_are_received<T, V>()
         → Goes code kind capacity old new → HasAcquired role true old new → HasReceived named [] old new }
     ensures popped { (named : V
         → Item T) (code : Coding T) (kind : Kind) (capacity : ℕ) (values : List V) (value : V) (old was new : View T)
-        → HasReceived named values old was → Goes code kind capacity was new → HasPopped (Some (named value)) was new
-        → HasTakenOut (named value) was new → HasReceived named (values ++ value ∷ []) old new }
+        → HasReceived named values old was → Goes code kind capacity was new → PopDone (named value) was new
+        → HasReceived named (values ++ value ∷ []) old new }
     ensures none { (named : V
         → Item T) (code : Coding T) (kind : Kind) (capacity : ℕ) (values : List V) (old was new : View T)
-        → HasReceived named values old was → Goes code kind capacity was new → HasPopped None was new → WasEmpty was new
+        → HasReceived named values old was → Goes code kind capacity was new → PopEmpty was new
         → HasReceived named values old new }
     ensures released { (named : V
         → Item T) (code : Coding T) (kind : Kind) (capacity : ℕ) (role : Role) (values : List V) (old was new : View T)
@@ -253,8 +253,8 @@ pub fn passed_goes_on<T, V>()
         → HasPassed named sent received new }
     ensures popped { (named : V
         → Item T) (code : Coding T) (kind : Kind) (capacity : ℕ) (value : V) (sent received : List V) (old new : View T)
-        → HasPassed named sent received old → Goes code kind capacity old new → HasPopped (Some (named value)) old new
-        → HasTakenOut (named value) old new → HasPassed named sent (received ++ value ∷ []) new }
+        → HasPassed named sent received old → Goes code kind capacity old new → PopDone (named value) old new
+        → HasPassed named sent (received ++ value ∷ []) new }
     ensures none { (named : V
         → Item T) (code : Coding T) (kind : QueueKind) (capacity : ℕ) (sent received : List V) (old new : View T)
         → TellsApart named → HasPassed named sent received old → Goes code (machine_kind kind) capacity old new
@@ -267,18 +267,18 @@ pub fn passed_goes_on<T, V>()
 pub fn pushes_succeed<T>()
     ensures seen { (capacity : ℕ) (item : Item T) (taken : Bool) (old new : View T)
         → length (waiting old.seen) < capacity
-        → length (published old.seen) < 2 ^ 64 - 1 → (taken ≡ false → WasFull capacity item old new
-        ⊎ WasAtEnd old new) → taken ≡ true }
+        → length (published old.seen) < 2 ^ 64 - 1 → (taken ≡ false → PushRefused capacity item old new)
+        → taken ≡ true }
     ensures counted { (code : Coding T) (kind : QueueKind) (capacity : ℕ) (item : Item T) (taken : Bool)
         (old new : View T)
         → IsHistory code (machine_kind kind) capacity old.seen → IsAll old.share → MissesNothing old
         → sum_by puts old.made < sum_by gets old.made + capacity → sum_by puts old.made < 2 ^ 64 - 1
-        → (taken ≡ false → WasFull capacity item old new ⊎ WasAtEnd old new) → taken ≡ true }
+        → (taken ≡ false → PushRefused capacity item old new) → taken ≡ true }
 {}
 
 /// A pop succeeds where its pass had seen a value wait. The lemma is `pop_succeeds` there.
 pub fn pops_succeed<T, V>()
-    ensures { (answer : Option V) (old new : View T) → 0 < length (waiting old.seen) → IfNone answer (WasEmpty old new)
+    ensures { (answer : Option V) (old new : View T) → 0 < length (waiting old.seen) → IfNone answer (PopEmpty old new)
         → is_some answer ≡ true }
 {}
 

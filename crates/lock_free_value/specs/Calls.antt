@@ -66,3 +66,17 @@ module _ {T : Type 0} {words : Ghosts T} where
   pub record IsSame (old new : Held T (ValueRule T) words) : Type 0 where
     pub table : table_of new ≡ table_of old
     pub goes : GoesOn (code_of old) (seen old) (seen new)
+
+  -- and of what has a seat
+  abbrev pub SamePass : Pass T words → Pass T words → Type 0
+  SamePass old new = IsSame old.token new.token
+
+  abbrev pub SameProducer : Producer T words → Producer T words → Type 0
+  SameProducer old new = IsSame old.token new.token
+
+  -- the role is taken with a pass, and the pass comes back with it
+  abbrev pub ToProducer : Pass T words → Producer T words → Type 0
+  ToProducer pass end = IsSame pass.token end.token
+
+  abbrev pub FromProducer : Producer T words → Pass T words → Type 0
+  FromProducer end pass = IsSame end.token pass.token

@@ -8,7 +8,7 @@ use Rattle.lock_free.specs.Container.Told.{HasAdded}
 use Rattle.lock_free.specs.HistoryView.View.{View}
 use Rattle.lock_free.specs.Queues.Item.TheVariants.{Index}
 use Rattle.lock_free.specs.Queues.Rings.{QueueId, consumer_queue, consumer_view, producer_queue, producer_view}
-use Rattle.lock_free.specs.Queues.Told.{FoundNone, HasTakenFirst, WasAtEnd, WasFull}
+use Rattle.lock_free.specs.Queues.Told.{FoundNone, HasTakenFirst, PushRefused}
 use Rattle.lock_free.specs.Share.{Share}
 use Rattle.lock_free.specs.UniqueIndexSet.{SetId}
 use Rattle.uses_bus.specs.declared.error.LoanFailure.{LoanFailure}
@@ -126,6 +126,4 @@ module _ {X K : Type 0} {rule : Ghosts K X} where
 
   -- the slot was not taken back: as many waited as the queue has room for, or its last position is reached
   abbrev pub TookNoneBack : ℕ → Subscriber X K rule → Subscriber X K rule → Type 0
-  TookNoneBack slot old new =
-      WasFull (returns_queue old).capacity (Index slot) (returns_view old) (returns_view new)
-      ⊎ WasAtEnd (returns_view old) (returns_view new)
+  TookNoneBack slot old new = PushRefused (returns_queue old).capacity (Index slot) (returns_view old) (returns_view new)

@@ -2,7 +2,7 @@
 ghost use Rattle.std.specs.Prelude.{◌≡◌, ◌<◌, IsTrue, IsFalse, IfOk, IfErr, IfSome, IfNone};
 ghost use Rattle.lock_free.specs.Container.Told.{WasNotAdded};
 ghost use Rattle.lock_free.specs.Queues.Item.TheVariants.{Index};
-ghost use Rattle.lock_free.specs.Queues.Told.{HasPublished, HasTakenFirst};
+ghost use Rattle.lock_free.specs.Queues.Told.{PushDone, HasTakenFirst};
 ghost use Rattle.uses_slots.specs.Slots.{slots_in};
 
 use crate::lane::Inlet;
@@ -162,7 +162,7 @@ impl<'a, X: Drop, K: Keeps<X>> Subscriber<'a, X, K> {
     /// its last position.
     pub fn give_back(&mut self, sample: Sample) -> bool
         ensures given { IsTrue result
-            → HasPublished (Index (received sample)) (returns_view self.old) (returns_view self.new) }
+            → PushDone (Index (received sample)) (returns_view self.old) (returns_view self.new) }
         ensures full { IsFalse result → TookNoneBack (received sample) self.old self.new }
         ensures same { slots_at self.new ≡ slots_at self.old }
     {

@@ -7,7 +7,7 @@ use Rattle.lock_free.specs.declared.spsc.loan.places.Place.{Place}
 use Rattle.lock_free.specs.declared.spsc.loan.places.Place.TheVariants.{Free, Loaned}
 use Rattle.lock_free.specs.Queues.Item.TheVariants.{Index}
 use Rattle.lock_free.specs.Queues.Rings.{QueueId, consumer_queue, consumer_view, producer_queue, producer_view}
-use Rattle.lock_free.specs.Queues.Told.{FoundNone, HasTakenFirst, WasAtEnd, WasFull}
+use Rattle.lock_free.specs.Queues.Told.{FoundNone, HasTakenFirst, PushRefused}
 use Rattle.lock_free.specs.Unique.Told.{WasRefused}
 use Rattle.lock_free.specs.declared.spsc.loan.LoanSender.{LoanSender}
 use Rattle.uses_loans.specs.declared.error.LoanFailure.{LoanFailure}
@@ -81,6 +81,4 @@ module _ {X K : Type 0} {rule : Ghosts K X} where
 
   -- the place was not taken back: as many waited as the queue has room for, or its last position is reached
   abbrev pub TookNoneBack : ℕ → Receiver X K rule → Receiver X K rule → Type 0
-  TookNoneBack place old new =
-      WasFull (returns_queue old).capacity (Index place) (returns_view old) (returns_view new)
-      ⊎ WasAtEnd (returns_view old) (returns_view new)
+  TookNoneBack place old new = PushRefused (returns_queue old).capacity (Index place) (returns_view old) (returns_view new)

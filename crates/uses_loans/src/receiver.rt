@@ -2,7 +2,7 @@
 ghost use Rattle.std.specs.Prelude.{◌≡◌, ◌<◌, IsTrue, IsFalse, IfSome, IfNone};
 ghost use Rattle.lock_free.specs.Queues.Item.TheVariants.{Index};
 ghost use Rattle.lock_free.specs.Queues.Rings.{consumer_queue, consumer_view, producer_queue, producer_view};
-ghost use Rattle.lock_free.specs.Queues.Told.{HasPublished, HasTakenFirst};
+ghost use Rattle.lock_free.specs.Queues.Told.{PushDone, HasTakenFirst};
 ghost use Rattle.uses_slots.specs.Slots.{slots_in};
 
 use lock_free::spsc::{index_queue, safely_overflowing_index_queue as overflow};
@@ -102,7 +102,7 @@ impl<'a, X: Drop, K: Keeps<X>> Receiver<'a, X, K> {
     /// of `push`.
     pub fn give_back(&mut self, sample: Sample) -> bool
         ensures given { IsTrue result
-            → HasPublished (Index (received sample)) (returns_view self.old) (returns_view self.new) }
+            → PushDone (Index (received sample)) (returns_view self.old) (returns_view self.new) }
         ensures full { IsFalse result → TookNoneBack (received sample) self.old self.new }
         ensures same { places_in self.new ≡ places_in self.old }
     {

@@ -6,7 +6,7 @@ ghost use Rattle.lock_free.specs.Loan.Sender.{completion_view, pass_view, set_of
 ghost use Rattle.lock_free.specs.declared.spsc.loan.places.Place.TheVariants.{Free, Loaned, Sent};
 ghost use Rattle.lock_free.specs.Queues.Item.TheVariants.{Index};
 ghost use Rattle.lock_free.specs.Queues.Overflowing.{consumer_queue, TookNone};
-ghost use Rattle.lock_free.specs.Queues.Told.{HasPublished, HasTakenFirst, HasTakenOut, WasEmpty};
+ghost use Rattle.lock_free.specs.Queues.Told.{HasPublished, HasTakenFirst, PopDone, PopEmpty};
 ghost use Rattle.lock_free.specs.UniqueIndexSet.{set_of, view};
 
 use crate::error::LoanFailure;
@@ -222,10 +222,10 @@ impl<'a, X: Drop, K: Keeps<X>> Sender<'a, X, K> {
     pub fn take_back(&mut self) -> Option<u64>
         ensures back { IfSome result (λ y. places_of self.new ≡ returned y (places_of self.old)) }
         ensures popped { IfSome result
-            (λ y. HasTakenOut (Index y) (completion_view (sender_of self.old)) (completion_view (sender_of self.new))) }
+            (λ y. PopDone (Index y) (completion_view (sender_of self.old)) (completion_view (sender_of self.new))) }
         ensures none { IfNone result (places_of self.new ≡ places_of self.old) }
         ensures empty { IfNone result
-            (WasEmpty (completion_view (sender_of self.old)) (completion_view (sender_of self.new))) }
+            (PopEmpty (completion_view (sender_of self.old)) (completion_view (sender_of self.new))) }
         ensures next { next_of self.new ≡ next_of self.old }
         ensures same { IsSame (sender_of self.old) (sender_of self.new) }
     {

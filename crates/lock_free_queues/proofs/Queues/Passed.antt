@@ -4,7 +4,7 @@ use Rattle.lock_free_queues.proofs.Names.{Option, List, [], ◌∷◌, ◌++◌,
 use Rattle.lock_free_queues.proofs.Names.{append-nil, sum_by, sum_by-append, length-drop, Role, Event, Item, Index, Value}
 use Rattle.lock_free_queues.proofs.Names.{Kind, QueueKind, Coding, publishes, hands_out, published}
 use Rattle.lock_free_queues.proofs.Names.{handed_out, waiting, View, IsBeginning, IsHistory, Goes, MissesNothing, IsAll}
-use Rattle.lock_free_queues.proofs.Names.{machine_kind, first_view, option_map, IfNone, IfSome}
+use Rattle.lock_free_queues.proofs.Names.{machine_kind, first_view, IfNone, IfSome}
 use Rattle.std.proofs.Common.{length-append, true≢false}
 use Rattle.std.specs.Prelude.{◌↔◌, is_some, not}
 use mathlib.Core.List.{map-append}
@@ -14,7 +14,7 @@ use Rattle.lock_free_queues.specs.Queues.Bounded.{IsBounded}
 use Rattle.lock_free_queues.specs.Queues.Closes.{Closes}
 use Rattle.lock_free_queues.specs.Queues.Sent.{HasSent, HasReceived, HasPassed, TellsApart}
 use Rattle.lock_free_queues.specs.Queues.Sums.{puts, gets}
-use Rattle.lock_free_queues.specs.Queues.Told.{HasAcquired, HasPopped, HasTakenOut, WasEmpty, WasAtEnd, WasFull, HasSplit, HasJoined}
+use Rattle.lock_free_queues.specs.Queues.Told.{HasAcquired, HasPopped, WasEmpty, PushRefused, PopDone, PopEmpty, HasSplit, HasJoined}
 use Rattle.steps.specs.Objects.Lists.{Bounded}
 use Rattle.lock_free_queues.proofs.Queues.Facts.{listed_always}
 use Rattle.lock_free_queues.proofs.Queues.Positions.{hits_grow}
@@ -143,13 +143,13 @@ module _ {T V : Type 0} {named : V → Item T} {sent received : List V} {v w : V
 
   -- a pop takes out one more
   pub one_passed : (kind : Kind) (capacity : ℕ) (value : V) → HasPassed named sent received v → Goes code kind capacity v w
-      → HasPopped (Some (named value)) v w → HasTakenOut (named value) v w → HasPassed named sent (received ++ value ∷ []) w
-  one_passed kind capacity value k goes h took =
+      → PopDone (named value) v w → HasPassed named sent (received ++ value ∷ []) w
+  one_passed kind capacity value k goes h =
       record {
         whole = subst IsAll (sym goes.share) k.whole;
         all = goes.all;
-        published_these = nothing_more publishes code kind capacity v w _ k.whole k.all goes h.called.made refl ∙ k.published_these;
-        taken_these = took.list ∙ (ap (λ ys. ys ++ named value ∷ []) k.taken_these ∙ sym (map-append named received (value ∷ [])));
+        published_these = nothing_more publishes code kind capacity v w _ k.whole k.all goes h.0.called.made refl ∙ k.published_these;
+        taken_these = h.1.list ∙ (ap (λ ys. ys ++ named value ∷ []) k.taken_these ∙ sym (map-append named received (value ∷ [])));
       }
 
   -- and where it finds none, all came
@@ -163,13 +163,13 @@ module _ {T V : Type 0} {named : V → Item T} {sent received : List V} {v w : V
 -- by what the pop answered: it finds none just where all came
 pub emptied_is_all : {T V : Type 0} {named : V → Item T} {sent received : List V} {v w : View T} (code : Coding T) (kind : QueueKind) (capacity : ℕ)
     → TellsApart named → HasPassed named sent received v → Goes code (machine_kind kind) capacity v w → (answer : Option V) (none : Bool)
-    → HasPopped (option_map named answer) v w → IfSome answer (λ x. HasTakenOut (named x) v w) → is_some answer ≡ not none
+    → IfSome answer (λ x. PopDone (named x) v w) → IfNone answer (PopEmpty v w) → is_some answer ≡ not none
     → (none ≡ true) ↔ (received ≡ sent)
-emptied_is_all code kind capacity tells k goes None true h took is = (λ t. all_passed code kind capacity tells k goes h, λ e. refl)
-emptied_is_all code kind capacity tells k goes None false h took is = absurd (true≢false (sym is))
-emptied_is_all code kind capacity tells k goes (Some x) true h took is = absurd (true≢false is)
-emptied_is_all {T} {V} {named} {sent} {received} {v} {w} code kind capacity tells k goes (Some x) false h took is =
-    let more : HasPassed named sent (received ++ x ∷ []) w = one_passed code (machine_kind kind) capacity x k goes h took in
+emptied_is_all code kind capacity tells k goes None true popped empty is = (λ t. all_passed code kind capacity tells k goes empty.0, λ e. refl)
+emptied_is_all code kind capacity tells k goes None false popped empty is = absurd (true≢false (sym is))
+emptied_is_all code kind capacity tells k goes (Some x) true popped empty is = absurd (true≢false is)
+emptied_is_all {T} {V} {named} {sent} {received} {v} {w} code kind capacity tells k goes (Some x) false popped empty is =
+    let more : HasPassed named sent (received ++ x ∷ []) w = one_passed code (machine_kind kind) capacity x k goes popped in
     let whole = ap length (book code kind capacity goes.history more) in
     let one = length-append (map named (received ++ x ∷ [])) (waiting w.seen) in
     let two = length_named named (received ++ x ∷ []) in
@@ -180,8 +180,8 @@ emptied_is_all {T} {V} {named} {sent} {received} {v} {w} code kind capacity tell
 -- ---- calls that succeed
 
 not_full : {T : Type 0} (capacity : ℕ) (item : Item T) (old new : View T) → length (waiting old.seen) < capacity
-    → length (published old.seen) < 2 ^ 64 - 1 → WasFull capacity item old new ⊎ WasAtEnd old new → ⊥
-not_full capacity item old new room early (inl f) =
+    → length (published old.seen) < 2 ^ 64 - 1 → PushRefused capacity item old new → ⊥
+not_full capacity item old new room early (inl (pushed, f)) =
     let more = hits_grow hands_out old.seen f.before f.since in
     let was = length-drop (length (handed_out old.seen)) (published old.seen) in
     let now = length-drop (length (handed_out f.before)) (published f.before) in
@@ -192,7 +192,7 @@ not_full capacity item old new room early (inr e) = (let same = ap length e.list
 
 -- a push succeeds where fewer were seen to wait than the queue has room for
 pub push_succeeds : {T : Type 0} {capacity : ℕ} {item : Item T} {old new : View T} (taken : Bool) → length (waiting old.seen) < capacity
-    → length (published old.seen) < 2 ^ 64 - 1 → (taken ≡ false → WasFull capacity item old new ⊎ WasAtEnd old new) → taken ≡ true
+    → length (published old.seen) < 2 ^ 64 - 1 → (taken ≡ false → PushRefused capacity item old new) → taken ≡ true
 push_succeeds true room early full = refl
 push_succeeds {T} {capacity} {item} {old} {new} false room early full = absurd (not_full capacity item old new room early (full refl))
 
@@ -200,7 +200,7 @@ push_succeeds {T} {capacity} {item} {old} {new} false room early full = absurd (
 pub counted_push_succeeds : {T : Type 0} {item : Item T} {old new : View T} (code : Coding T) (kind : QueueKind) (capacity : ℕ) (taken : Bool)
     → IsHistory code (machine_kind kind) capacity old.seen → IsAll old.share → MissesNothing old
     → sum_by puts old.made < sum_by gets old.made + capacity → sum_by puts old.made < 2 ^ 64 - 1
-    → (taken ≡ false → WasFull capacity item old new ⊎ WasAtEnd old new) → taken ≡ true
+    → (taken ≡ false → PushRefused capacity item old new) → taken ≡ true
 counted_push_succeeds {T} {item} {old} {new} code kind capacity taken history whole all room early full =
     let counted = whole_counted old whole all in
     let long = ap length (listed_always code capacity old.seen kind history old.seen [] (sym (append-nil old.seen))).book in
@@ -220,6 +220,6 @@ none_waited old new some h =
 
 -- a pop succeeds where something was seen to wait
 pub pop_succeeds : {T V : Type 0} (old new : View T) (answer : Option V) → 0 < length (waiting old.seen)
-    → IfNone answer (WasEmpty old new) → is_some answer ≡ true
-pop_succeeds old new None some empty = absurd (none_waited old new some empty)
+    → IfNone answer (PopEmpty old new) → is_some answer ≡ true
+pop_succeeds old new None some empty = absurd (none_waited old new some empty.1)
 pop_succeeds old new (Some x) some empty = refl

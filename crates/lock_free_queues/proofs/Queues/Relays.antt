@@ -1,8 +1,8 @@
 -- For clients that pass values from one thread to another: each call of a guard, and what the two threads come to.
 use Rattle.lock_free_queues.proofs.Names.{◌≡◌, ◌⊎◌, inl, inr, ℕ, ◌+◌, ◌<◌, ◌≤◌, Bool, true, false, Option, Some, None}
 use Rattle.lock_free_queues.proofs.Names.{List, [], ◌∷◌, ◌++◌, length, map, get_or, take, refl, sym, ap, subst, ◌∙◌, arith}
-use Rattle.lock_free_queues.proofs.Names.{append-nil, append_assoc, Role, Item, Kind, QueueKind, Coding, machine_kind}
-use Rattle.lock_free_queues.proofs.Names.{published, handed_out, Goes, IsHistory, MissesNothing, first_view, option_map, IfSome, IfNone}
+use Rattle.lock_free_queues.proofs.Names.{append-nil, append_assoc, Role, Item, Kind, QueueKind, Coding, coding_of, machine_kind}
+use Rattle.lock_free_queues.proofs.Names.{published, handed_out, Goes, IsHistory, MissesNothing, first_view, IfSome, IfNone}
 use Rattle.std.proofs.Common.{length-append, true≢false}
 use Rattle.std.proofs.lemmas.List.{take_all, take_more}
 use Rattle.std.specs.Prelude.{is_some, not}
@@ -17,9 +17,10 @@ use Rattle.lock_free_queues.specs.declared.spsc.ring.Consumer.{Consumer}
 use Rattle.lock_free_queues.specs.Queues.Bounded.{IsBounded}
 use Rattle.lock_free_queues.specs.Queues.Closes.{Closes}
 use Rattle.lock_free_queues.specs.Queues.Relays.{Sending, Receiving, Sent, Received, IsRelayed}
-use Rattle.lock_free_queues.specs.Queues.Rings.{queue_of, view, producer_queue, producer_view, consumer_queue, consumer_view}
+use Rattle.lock_free_queues.specs.Queues.Rings.{view, producer_view, consumer_view, HasHistory}
+use Rattle.lock_free_queues.specs.Queues.Rings.{SameProducer, SameConsumer, ToProducer, ToConsumer, FromProducer, FromConsumer}
 use Rattle.lock_free_queues.specs.Queues.Sent.{HasSent, HasReceived, HasPassed, TellsApart}
-use Rattle.lock_free_queues.specs.Queues.Told.{HasPushed, HasPublished, WasAtEnd, WasFull, HasPopped, HasTakenOut, WasEmpty}
+use Rattle.lock_free_queues.specs.Queues.Told.{PushDone, PushRefused, PopDone, PopEmpty}
 use Rattle.lock_free_queues.specs.Queues.Told.{HasAcquired, HasReleased, HasSplit, HasJoined}
 use Rattle.lock_free_queues.proofs.Queues.Passed.{passed, in_order, few_left, rest_waits, still_passed, emptied_is_all}
 use Rattle.lock_free_queues.proofs.Queues.Sent.{sent_none, received_none}
@@ -38,14 +39,9 @@ module _ {T V : Type 0} (named : V → Item T) (start : List (Item T)) (values :
   one_more : length (values ++ value ∷ []) ≡ length values + 1
   one_more = length-append values (value ∷ [])
 
-taken_push : {T : Type 0} (item : Item T) (taken : Bool) (was now : View T) → taken ≡ true
-    → HasPushed item taken was now ⊎ (taken ≡ false) × WasAtEnd was now → HasPushed item true was now
-taken_push item taken was now is (inl h) = subst (λ t. HasPushed item t was now) is h
-taken_push item taken was now is (inr h) = absurd (true≢false (sym is ∙ h.0))
-
-same_list : {T : Type 0} (capacity : ℕ) (item : Item T) (was now : View T) → WasFull capacity item was now ⊎ WasAtEnd was now
+same_list : {T : Type 0} (capacity : ℕ) (item : Item T) (was now : View T) → PushRefused capacity item was now
     → published now.seen ≡ published was.seen
-same_list capacity item was now (inl h) = h.list
+same_list capacity item was now (inl h) = h.1.list
 same_list capacity item was now (inr h) = h.list
 
 module _ {E T V : Type 0} {kind : kinds.Ghosts E} {words : Ghosts T} {named : V → Item T} where
@@ -72,65 +68,57 @@ module _ {E T V : Type 0} {kind : kinds.Ghosts E} {words : Ghosts T} {named : V 
         share = refl;
       })
 
-module _ {E T V : Type 0} {kind : kinds.Ghosts E} {words : Ghosts T} {named : V → Item T} {code : Coding T} {machine : Kind} where
+module _ {E T V : Type 0} {kind : kinds.Ghosts E} {words : Ghosts T} {named : V → Item T} where
   -- ---- who pushes
 
-  pub sending_one : {first was now : Producer E T kind words} {capacity : ℕ} {taken : Bool} (values : List V) (value : V)
-      → Sending named first values was → producer_queue now ≡ producer_queue was → Goes code machine capacity (producer_view was) (producer_view now)
-      → taken ≡ true → HasPushed (named value) taken (producer_view was) (producer_view now)
-      ⊎ (taken ≡ false) × WasAtEnd (producer_view was) (producer_view now)
-      → (taken ≡ true → HasPublished (named value) (producer_view was) (producer_view now)) → Sending named first (values ++ value ∷ []) now
-  sending_one {first} {was} {now} {capacity} {taken} values value s queue goes is h p =
-      let d = done_pushed (producer_view was) (producer_view now) (named value) (taken_push (named value) taken _ _ is h) in
+  pub sending_one : {first was now : Producer E T kind words} {taken : Bool} (values : List V) (value : V)
+      → Sending named first values was → SameProducer was now → taken ≡ true
+      → (taken ≡ true → PushDone (named value) (producer_view was) (producer_view now)) → Sending named first (values ++ value ∷ []) now
+  sending_one {first} {was} {now} {taken} values value s same is pushed =
+      let d = done_pushed (producer_view was) (producer_view now) (named value) (pushed is).0 in
       let one = one_more named [] values value in
       record {
-        queue = queue ∙ s.queue;
-        list = grown named (published (producer_view first).seen) values value _ _ s.list (p is).list;
+        queue = same.queue ∙ s.queue;
+        list = grown named (published (producer_view first).seen) values value _ _ s.list (pushed is).1.list;
         puts_more = (let a = d.puts_more in let b = s.puts_more in omega arith);
         gets_more = (let a = d.gets_more in let b = s.gets_more in omega arith);
-        share = goes.share ∙ s.share;
+        share = same.goes.share ∙ s.share;
       }
 
   -- the next one of a list
-  pub sending_next : {first was now : Producer E T kind words} {capacity : ℕ} {taken : Bool} (all : List V) (n : ℕ) (default : V)
-      → Sending named first (take n all) was → n < length all → producer_queue now ≡ producer_queue was
-      → Goes code machine capacity (producer_view was) (producer_view now) → taken ≡ true
-      → HasPushed (named (get_or all n default)) taken (producer_view was) (producer_view now)
-      ⊎ (taken ≡ false) × WasAtEnd (producer_view was) (producer_view now)
-      → (taken ≡ true → HasPublished (named (get_or all n default)) (producer_view was) (producer_view now)) → Sending named first (take (n + 1) all) now
-  sending_next {first} {was} {now} {capacity} {taken} all n default s below queue goes is h p =
+  pub sending_next : {first was now : Producer E T kind words} {taken : Bool} (all : List V) (n : ℕ) (default : V)
+      → Sending named first (take n all) was → n < length all → SameProducer was now → taken ≡ true
+      → (taken ≡ true → PushDone (named (get_or all n default)) (producer_view was) (producer_view now)) → Sending named first (take (n + 1) all) now
+  sending_next {first} {was} {now} {taken} all n default s below same is pushed =
       subst (λ xs. Sending named first xs now) (sym (take_more all n default below))
-      (sending_one {first = first} {was = was} {now = now} {taken = taken} (take n all) (get_or all n default) s queue goes is h p)
+      (sending_one {first = first} {was = was} {now = now} {taken = taken} (take n all) (get_or all n default) s same is pushed)
 
   -- a push that was refused
-  pub sending_still : {first was now : Producer E T kind words} {capacity room : ℕ} {taken : Bool} {values : List V} {item : Item T}
-      → Sending named first values was → producer_queue now ≡ producer_queue was → Goes code machine capacity (producer_view was) (producer_view now)
-      → taken ≡ false → HasPushed item taken (producer_view was) (producer_view now) ⊎ (taken ≡ false) × WasAtEnd (producer_view was) (producer_view now)
-      → (taken ≡ false → WasFull room item (producer_view was) (producer_view now) ⊎ WasAtEnd (producer_view was) (producer_view now))
-      → Sending named first values now
-  sending_still {first} {was} {now} {capacity} {room} {taken} {values} {item} s queue goes is h full =
-      let d = done_refused (producer_view was) (producer_view now) item taken is h in
+  pub sending_still : {first was now : Producer E T kind words} {room : ℕ} {taken : Bool} {values : List V} {item : Item T}
+      → Sending named first values was → SameProducer was now → taken ≡ false
+      → (taken ≡ false → PushRefused room item (producer_view was) (producer_view now)) → Sending named first values now
+  sending_still {first} {was} {now} {room} {taken} {values} {item} s same is full =
+      let d = done_refused (producer_view was) (producer_view now) item room (full is) in
       record {
-        queue = queue ∙ s.queue;
+        queue = same.queue ∙ s.queue;
         list = same_list room item _ _ (full is) ∙ s.list;
         puts_more = (let a = d.puts_more in let b = s.puts_more in omega arith);
         gets_more = (let a = d.gets_more in let b = s.gets_more in omega arith);
-        share = goes.share ∙ s.share;
+        share = same.goes.share ∙ s.share;
       }
 
   -- the role is given back once all are pushed
-  pub sent_all : {pass new : Pass E T kind words} {first last : Producer E T kind words} {capacity room : ℕ} {role : Role} (all : List V) (n : ℕ)
-      → (producer_queue first ≡ queue_of pass) × Goes code machine room (view pass) (producer_view first)
-      × HasAcquired role true (view pass) (producer_view first)
-      → Sending named first (take n all) last → length all ≤ n → queue_of new ≡ producer_queue last → Goes code machine capacity (producer_view last) (view new)
+  pub sent_all : {pass new : Pass E T kind words} {first last : Producer E T kind words} {role : Role} (all : List V) (n : ℕ)
+      → ToProducer pass first → HasAcquired role true (view pass) (producer_view first)
+      → Sending named first (take n all) last → length all ≤ n → FromProducer last new
       → HasReleased role (producer_view last) (view new) → published (view new).seen ≡ published (producer_view last).seen → Sent named pass all new
-  sent_all {pass} {new} {first} {last} {capacity} {room} {role} all n acquired s past queue goes h is =
-      let start : HasSent named [] (view pass) (producer_view first) = sent_none {old = view pass} {new = producer_view first} acquired.1 acquired.2 in
+  sent_all {pass} {new} {first} {last} {role} all n to acquired s past from h is =
+      let start : HasSent named [] (view pass) (producer_view first) = sent_none {old = view pass} {new = producer_view first} to.goes acquired in
       let d = done_released (producer_view last) (view new) role h in
       let whole : take n all ≡ all = take_all n all past in
       let size = ap length whole in
       record {
-        queue = queue ∙ (s.queue ∙ acquired.0);
+        queue = from.queue ∙ (s.queue ∙ to.queue);
         sent =
             record {
               others = start.others;
@@ -143,62 +131,57 @@ module _ {E T V : Type 0} {kind : kinds.Ghosts E} {words : Ghosts T} {named : V 
                     puts_more = (let a = d.puts_more in let b = s.puts_more in let c = start.done.puts_more in omega arith);
                     gets_more = (let a = d.gets_more in let b = s.gets_more in let c = start.done.gets_more in omega arith);
                   };
-              share = goes.share ∙ (s.share ∙ start.share);
+              share = from.goes.share ∙ (s.share ∙ start.share);
             };
       }
 
   -- ---- who pops
 
-  pub receiving_one : {first was now : Consumer E T kind words} {capacity : ℕ} {answer : Option V} (values more : List V) (value : V)
-      → Receiving named first values was → consumer_queue now ≡ consumer_queue was → Goes code machine capacity (consumer_view was) (consumer_view now)
-      → HasPopped (option_map named answer) (consumer_view was) (consumer_view now)
-      → IfSome answer (λ x. HasTakenOut (named x) (consumer_view was) (consumer_view now))
+  pub receiving_one : {first was now : Consumer E T kind words} {answer : Option V} (values more : List V) (value : V)
+      → Receiving named first values was → SameConsumer was now
+      → IfSome answer (λ x. PopDone (named x) (consumer_view was) (consumer_view now))
       → answer ≡ Some value → more ≡ values ++ value ∷ [] → Receiving named first more now
-  receiving_one {first} {was} {now} {capacity} {answer} values more value s queue goes h p some is =
-      let d = done_popped (consumer_view was) (consumer_view now) (named value)
-      (subst (λ o. HasPopped (option_map named o) (consumer_view was) (consumer_view now)) some h) in
-      let took : HasTakenOut (named value) (consumer_view was) (consumer_view now) =
-      subst (λ o. IfSome o (λ x. HasTakenOut (named x) (consumer_view was) (consumer_view now))) some p in
+  receiving_one {first} {was} {now} {answer} values more value s same popped some is =
+      let done : PopDone (named value) (consumer_view was) (consumer_view now) =
+      subst (λ o. IfSome o (λ x. PopDone (named x) (consumer_view was) (consumer_view now))) some popped in
+      let d = done_popped (consumer_view was) (consumer_view now) (named value) done.0 in
       let one = one_more named [] values value in
       subst (λ xs. Receiving named first xs now) (sym is)
       (record {
-        queue = queue ∙ s.queue;
-        list = grown named (handed_out (consumer_view first).seen) values value _ _ s.list took.list;
+        queue = same.queue ∙ s.queue;
+        list = grown named (handed_out (consumer_view first).seen) values value _ _ s.list done.1.list;
         puts_more = (let a = d.puts_more in let b = s.puts_more in omega arith);
         gets_more = (let a = d.gets_more in let b = s.gets_more in omega arith);
-        share = goes.share ∙ s.share;
+        share = same.goes.share ∙ s.share;
       })
 
   -- a pop that found none
-  pub receiving_still : {first was now : Consumer E T kind words} {capacity : ℕ} {answer : Option V} {values : List V}
-      → Receiving named first values was → consumer_queue now ≡ consumer_queue was → Goes code machine capacity (consumer_view was) (consumer_view now)
-      → HasPopped (option_map named answer) (consumer_view was) (consumer_view now) → IfNone answer (WasEmpty (consumer_view was) (consumer_view now))
+  pub receiving_still : {first was now : Consumer E T kind words} {answer : Option V} {values : List V}
+      → Receiving named first values was → SameConsumer was now → IfNone answer (PopEmpty (consumer_view was) (consumer_view now))
       → answer ≡ None → Receiving named first values now
-  receiving_still {first} {was} {now} {capacity} {answer} {values} s queue goes h empty none =
-      let d = done_none (consumer_view was) (consumer_view now)
-      (subst (λ o. HasPopped (option_map named o) (consumer_view was) (consumer_view now)) none h) in
-      let at : WasEmpty (consumer_view was) (consumer_view now) =
-      subst (λ o. IfNone o (WasEmpty (consumer_view was) (consumer_view now))) none empty in
+  receiving_still {first} {was} {now} {answer} {values} s same empty none =
+      let done : PopEmpty (consumer_view was) (consumer_view now) =
+      subst (λ o. IfNone o (PopEmpty (consumer_view was) (consumer_view now))) none empty in
+      let d = done_none (consumer_view was) (consumer_view now) done.0 in
       record {
-        queue = queue ∙ s.queue;
-        list = at.list ∙ s.list;
+        queue = same.queue ∙ s.queue;
+        list = done.1.list ∙ s.list;
         puts_more = (let a = d.puts_more in let b = s.puts_more in omega arith);
         gets_more = (let a = d.gets_more in let b = s.gets_more in omega arith);
-        share = goes.share ∙ s.share;
+        share = same.goes.share ∙ s.share;
       }
 
   -- the role is given back
-  pub received_all : {pass new : Pass E T kind words} {first last : Consumer E T kind words} {capacity room : ℕ} {role : Role} {values : List V}
-      → (consumer_queue first ≡ queue_of pass) × Goes code machine room (view pass) (consumer_view first)
-      × HasAcquired role true (view pass) (consumer_view first)
-      → Receiving named first values last → queue_of new ≡ consumer_queue last → Goes code machine capacity (consumer_view last) (view new)
+  pub received_all : {pass new : Pass E T kind words} {first last : Consumer E T kind words} {role : Role} {values : List V}
+      → ToConsumer pass first → HasAcquired role true (view pass) (consumer_view first)
+      → Receiving named first values last → FromConsumer last new
       → HasReleased role (consumer_view last) (view new) → handed_out (view new).seen ≡ handed_out (consumer_view last).seen → Received named pass values new
-  received_all {pass} {new} {first} {last} {capacity} {room} {role} {values} acquired s queue goes h is =
+  received_all {pass} {new} {first} {last} {role} {values} to acquired s from h is =
       let start : HasReceived named [] (view pass) (consumer_view first) =
-      received_none {old = view pass} {new = consumer_view first} refl acquired.1 acquired.2 in
+      received_none {old = view pass} {new = consumer_view first} refl to.goes acquired in
       let d = done_released (consumer_view last) (view new) role h in
       record {
-        queue = queue ∙ (s.queue ∙ acquired.0);
+        queue = from.queue ∙ (s.queue ∙ to.queue);
         received =
             record {
               others = start.others;
@@ -209,7 +192,7 @@ module _ {E T V : Type 0} {kind : kinds.Ghosts E} {words : Ghosts T} {named : V 
                     puts_more = (let a = d.puts_more in let b = s.puts_more in let c = start.done.puts_more in omega arith);
                     gets_more = (let a = d.gets_more in let b = s.gets_more in let c = start.done.gets_more in omega arith);
                   };
-              share = goes.share ∙ (s.share ∙ start.share);
+              share = from.goes.share ∙ (s.share ∙ start.share);
             };
       }
 
@@ -220,38 +203,39 @@ pub views_relayed : {T V : Type 0} (named : V → Item T) (code : Coding T) (que
     → TellsApart named → IsBounded queue → first ≡ first_view n → HasSplit first left right → HasSent named sent left mine
     → HasReceived named received right theirs → HasJoined mine theirs joined → MissesNothing joined
     → IsHistory code (machine_kind queue) n joined.seen → Goes code (machine_kind queue) room joined taking → HasAcquired role true joined taking
-    → Goes code (machine_kind queue) most taking last → HasPopped (option_map named answer) taking last
-    → IfSome answer (λ x. HasTakenOut (named x) taking last) → is_some answer ≡ not emptied → IsRelayed n sent received emptied
+    → Goes code (machine_kind queue) most taking last
+    → IfSome answer (λ x. PopDone (named x) taking last) → IfNone answer (PopEmpty taking last)
+    → is_some answer ≡ not emptied → IsRelayed n sent received emptied
 views_relayed named code queue n room most role first left right mine theirs joined taking last sent received answer emptied
-    tells bounded opens cut s r h none history goes acquired pops popping took is =
+    tells bounded opens cut s r h none history goes acquired pops popped empty is =
     let whole : HasPassed named sent received joined =
     passed {named = named} {n = n} {first = first} {left = left} {right = right} {a = mine} {b = theirs} {z = joined} opens cut s r h none in
     let taken : HasPassed named sent received taking =
     still_passed {named = named} {v = joined} {w = taking} code (machine_kind queue) room {role = role} whole goes acquired in
     record {
       beginning = in_order {v = joined} code queue n tells history whole;
-      all = emptied_is_all {v = taking} {w = last} code queue most tells taken pops answer emptied popping took is;
+      all = emptied_is_all {v = taking} {w = last} code queue most tells taken pops answer emptied popped empty is;
       few = few_left {v = joined} code queue n bounded history whole;
     }
 
-module _ {E T V : Type 0} {kind : kinds.Ghosts E} {words : Ghosts T} {named : V → Item T} {code : Coding T} (queue : QueueKind) where
+module _ {E T V : Type 0} {kind : kinds.Ghosts E} {words : Ghosts T} {named : V → Item T} where
   -- the same of passes and a consumer
-  pub relayed : (first left right mine theirs joined : Pass E T kind words) (taking last : Consumer E T kind words) {room capacity most : ℕ}
-      {sent received : List V} (answer : Option V) {emptied : Bool} {role : Role} (n : ℕ) → TellsApart named → IsBounded queue
+  pub relayed : (first left right mine theirs joined : Pass E T kind words) (taking last : Consumer E T kind words) {capacity : ℕ}
+      {sent received : List V} (answer : Option V) {emptied : Bool} {role : Role} (n : ℕ) → TellsApart named → IsBounded kind.KIND
       → view first ≡ first_view n → HasSplit (view first) (view left) (view right) → Sent named left sent mine → Received named right received theirs
       → HasJoined (view mine) (view theirs) (view joined) → MissesNothing (view joined)
-      → IsHistory code (machine_kind queue) capacity (view joined).seen → capacity ≡ n
-      → (consumer_queue taking ≡ queue_of joined) × Goes code (machine_kind queue) room (view joined) (consumer_view taking)
-      × HasAcquired role true (view joined) (consumer_view taking)
-      → Goes code (machine_kind queue) most (consumer_view taking) (consumer_view last)
-      → HasPopped (option_map named answer) (consumer_view taking) (consumer_view last)
-      → IfSome answer (λ x. HasTakenOut (named x) (consumer_view taking) (consumer_view last)) → is_some answer ≡ not emptied
+      → HasHistory (coding_of words.WORDS words.words_of words.value_of) kind.KIND capacity (view joined) → capacity ≡ n
+      → ToConsumer joined taking → HasAcquired role true (view joined) (consumer_view taking) → SameConsumer taking last
+      → IfSome answer (λ x. PopDone (named x) (consumer_view taking) (consumer_view last))
+      → IfNone answer (PopEmpty (consumer_view taking) (consumer_view last)) → is_some answer ≡ not emptied
       → IsRelayed n sent received emptied
-  relayed first left right mine theirs joined taking last {room} {capacity} {most} {sent} {received} answer {emptied} {role}
-      n tells bounded opens cut s r h none history sized acquired pops popping took is =
-      views_relayed named code queue n room most role (view first) (view left) (view right) (view mine) (view theirs) (view joined)
+  relayed first left right mine theirs joined taking last {capacity} {sent} {received} answer {emptied} {role}
+      n tells bounded opens cut s r h none history sized to acquired same popped empty is =
+      let code : Coding T = coding_of words.WORDS words.words_of words.value_of in
+      views_relayed named code kind.KIND n _ _ role (view first) (view left) (view right) (view mine) (view theirs) (view joined)
       (consumer_view taking) (consumer_view last) sent received answer emptied tells bounded opens cut s.sent r.received h none
-      (subst (λ m. IsHistory code (machine_kind queue) m (view joined).seen) sized history) acquired.1 acquired.2 pops popping took is
+      (subst (λ m. HasHistory code kind.KIND m (view joined)) sized history) to.goes acquired same.goes
+      popped empty is
 
 module _ {E T V : Type 0} {kind : kinds.Ghosts E} {words : Ghosts T} {named : V → Item T} where
   -- what a queue has that is closed then is the rest of what was sent

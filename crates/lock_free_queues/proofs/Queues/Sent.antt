@@ -8,7 +8,7 @@ use Rattle.std.proofs.lemmas.List.{take_all, take_more}
 use mathlib.Core.List.{map-append}
 use Rattle.lock_free_queues.specs.Queues.Sent.{HasAppended, HasSent, HasReceived}
 use Rattle.lock_free_queues.specs.Queues.Sums.{HasDone}
-use Rattle.lock_free_queues.specs.Queues.Told.{HasPushed, HasPublished, WasAtEnd, WasFull, HasPopped, HasTakenOut, WasEmpty}
+use Rattle.lock_free_queues.specs.Queues.Told.{PushDone, PushRefused, PopDone, PopEmpty}
 use Rattle.lock_free_queues.specs.Queues.Told.{HasAcquired, HasReleased}
 use Rattle.lock_free_queues.proofs.Queues.Sums.{done_pushed, done_refused, done_popped, done_none, done_acquired, done_released, done_then}
 
@@ -82,46 +82,36 @@ module _ {T V : Type 0} (tells : Event T → List (Item T)) (named : V → Item 
 
 -- ---- who pushes
 
-was_pushed : {T : Type 0} (item : Item T) (taken : Bool) (was new : View T) → taken ≡ true
-    → HasPushed item taken was new ⊎ (taken ≡ false) × WasAtEnd was new → HasPushed item true was new
-was_pushed item taken was new is (inl h) = subst (λ t. HasPushed item t was new) is h
-was_pushed item taken was new is (inr h) = absurd (true≢false (sym is ∙ h.0))
-
-none_published : {T : Type 0} (capacity : ℕ) (item : Item T) (was new : View T) → WasFull capacity item was new ⊎ WasAtEnd was new
+none_published : {T : Type 0} (capacity : ℕ) (item : Item T) (was new : View T) → PushRefused capacity item was new
     → published new.seen ≡ published was.seen
-none_published capacity item was new (inl h) = h.list
+none_published capacity item was new (inl h) = h.1.list
 none_published capacity item was new (inr h) = h.list
 
 module _ {T V : Type 0} {code : Coding T} {kind : Kind} {capacity : ℕ} {named : V → Item T} where
   pub sent_none : {role : Role} {old new : View T} → Goes code kind capacity old new → HasAcquired role true old new → HasSent named [] old new
   sent_none {role} {old} {new} goes h = appended_none publishes named old new goes.since goes.share (done_acquired old new role true h)
 
-  pub sent_one : {old was new : View T} (values : List V) (value : V) (taken : Bool) → HasSent named values old was
-      → Goes code kind capacity was new → taken ≡ true
-      → HasPushed (named value) taken was new ⊎ (taken ≡ false) × WasAtEnd was new → HasPublished (named value) was new
-      → HasSent named (values ++ value ∷ []) old new
-  sent_one {old} {was} {new} values value taken k goes is h p =
+  pub sent_one : {old was new : View T} (values : List V) (value : V) → HasSent named values old was
+      → Goes code kind capacity was new → PushDone (named value) was new → HasSent named (values ++ value ∷ []) old new
+  sent_one {old} {was} {new} values value k goes h =
       subst (λ n. HasAppended publishes named (values ++ value ∷ []) n 0 old new) (sym (length-append values (value ∷ [])))
       (appended_more publishes named values (length values) 0 old was new k goes.share value 1 0
-      (done_pushed was new (named value) (was_pushed (named value) taken was new is h)) p.list)
+      (done_pushed was new (named value) h.0) h.1.list)
 
   -- the next one of a list
-  pub sent_next : {old was new : View T} (all : List V) (n : ℕ) (default : V) (taken : Bool) → HasSent named (take n all) old was
-      → n < length all → Goes code kind capacity was new → taken ≡ true
-      → HasPushed (named (get_or all n default)) taken was new ⊎ (taken ≡ false) × WasAtEnd was new
-      → HasPublished (named (get_or all n default)) was new → HasSent named (take (n + 1) all) old new
-  sent_next {old} {was} {new} all n default taken k below goes is h p =
+  pub sent_next : {old was new : View T} (all : List V) (n : ℕ) (default : V) → HasSent named (take n all) old was
+      → n < length all → Goes code kind capacity was new → PushDone (named (get_or all n default)) was new
+      → HasSent named (take (n + 1) all) old new
+  sent_next {old} {was} {new} all n default k below goes h =
       subst (λ xs. HasSent named xs old new) (sym (take_more all n default below))
-      (sent_one {old = old} {was = was} {new = new} (take n all) (get_or all n default) taken k goes is h p)
+      (sent_one {old = old} {was = was} {new = new} (take n all) (get_or all n default) k goes h)
 
   -- a push that was refused
-  pub sent_refused : {old was new : View T} {values : List V} {room : ℕ} {item : Item T} {taken : Bool} → HasSent named values old was
-      → Goes code kind capacity was new → taken ≡ false
-      → HasPushed item taken was new ⊎ (taken ≡ false) × WasAtEnd was new → WasFull room item was new ⊎ WasAtEnd was new
-      → HasSent named values old new
-  sent_refused {old} {was} {new} {values} {room} {item} {taken} k goes is h full =
-      appended_same publishes named values (length values) 0 old was new k goes.share (done_refused was new item taken is h)
-      (none_published room item was new full)
+  pub sent_refused : {old was new : View T} {values : List V} {room : ℕ} {item : Item T} → HasSent named values old was
+      → Goes code kind capacity was new → PushRefused room item was new → HasSent named values old new
+  sent_refused {old} {was} {new} {values} {room} {item} k goes h =
+      appended_same publishes named values (length values) 0 old was new k goes.share (done_refused was new item room h)
+      (none_published room item was new h)
 
   -- the role is given back
   pub sent_done : {role : Role} {old was new : View T} {values : List V} → HasSent named values old was → Goes code kind capacity was new
@@ -144,24 +134,24 @@ module _ {T V : Type 0} {code : Coding T} {kind : Kind} {capacity : ℕ} {named 
       (appended_none hands_out named old new goes.since goes.share (done_acquired old new role true h))
 
   pub received_one : {old was new : View T} (values : List V) (value : V) → HasReceived named values old was → Goes code kind capacity was new
-      → HasPopped (Some (named value)) was new → HasTakenOut (named value) was new → HasReceived named (values ++ value ∷ []) old new
-  received_one {old} {was} {new} values value k goes h p =
+      → PopDone (named value) was new → HasReceived named (values ++ value ∷ []) old new
+  received_one {old} {was} {new} values value k goes h =
       subst (λ n. HasAppended hands_out named (values ++ value ∷ []) 0 n old new) (sym (length-append values (value ∷ [])))
-      (appended_more hands_out named values 0 (length values) old was new k goes.share value 0 1 (done_popped was new (named value) h) p.list)
+      (appended_more hands_out named values 0 (length values) old was new k goes.share value 0 1 (done_popped was new (named value) h.0) h.1.list)
 
   -- a list that has it at its end
   pub received_next : {old was new : View T} (values more : List V) (value : V) → HasReceived named values old was
-      → Goes code kind capacity was new → HasPopped (Some (named value)) was new → HasTakenOut (named value) was new
+      → Goes code kind capacity was new → PopDone (named value) was new
       → more ≡ values ++ value ∷ [] → HasReceived named more old new
-  received_next {old} {was} {new} values more value k goes h p is =
+  received_next {old} {was} {new} values more value k goes h is =
       subst (λ xs. HasReceived named xs old new) (sym is)
-      (received_one {old = old} {was = was} {new = new} values value k goes h p)
+      (received_one {old = old} {was = was} {new = new} values value k goes h)
 
   -- a pop that found none
   pub received_still : {old was new : View T} {values : List V} → HasReceived named values old was → Goes code kind capacity was new
-      → HasPopped None was new → WasEmpty was new → HasReceived named values old new
-  received_still {old} {was} {new} {values} k goes h p =
-      appended_same hands_out named values 0 (length values) old was new k goes.share (done_none was new h) p.list
+      → PopEmpty was new → HasReceived named values old new
+  received_still {old} {was} {new} {values} k goes h =
+      appended_same hands_out named values 0 (length values) old was new k goes.share (done_none was new h.0) h.1.list
 
   pub received_done : {role : Role} {old was new : View T} {values : List V} → HasReceived named values old was → Goes code kind capacity was new
       → HasReleased role was new → handed_out new.seen ≡ handed_out was.seen → HasReceived named values old new

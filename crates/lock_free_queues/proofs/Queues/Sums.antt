@@ -9,7 +9,7 @@ use Rattle.std.proofs.Common.{length-append}
 use Rattle.lock_free_queues.specs.Queues.Overflowing.{HasOverflowed}
 use Rattle.lock_free_queues.specs.Queues.Roles.{Moved, other_role}
 use Rattle.lock_free_queues.specs.Queues.Sums.{puts, gets, HasDone}
-use Rattle.lock_free_queues.specs.Queues.Told.{HasPushed, WasAtEnd, HasPopped, HasMeasured, HasAcquired, HasReleased}
+use Rattle.lock_free_queues.specs.Queues.Told.{HasPushed, PushRefused, HasPopped, HasMeasured, HasAcquired, HasReleased}
 
 module _ {T : Type 0} where
   -- ---- by the call
@@ -27,12 +27,10 @@ module _ {T : Type 0} where
     done_pushed item h = (let d = done h.by _ _ _ old new h.called in record { puts_more = d.puts_more; gets_more = d.gets_more })
 
     -- a push that was refused, or a look
-    pub done_refused : (item : Item T) (taken : Bool) → taken ≡ false → HasPushed item taken old new ⊎ (taken ≡ false) × WasAtEnd old new → HasDone 0 0 old new
-    done_refused item taken is (inl h) =
-        (let it : HasPushed item false old new = subst (λ b. HasPushed item b old new) is h in
-        let d = done it.by _ _ _ old new it.called in
-        record { puts_more = d.puts_more; gets_more = d.gets_more })
-    done_refused item taken is (inr h) = same_made h.1.made
+    pub done_refused : (item : Item T) (capacity : ℕ) → PushRefused capacity item old new → HasDone 0 0 old new
+    done_refused item capacity (inl h) =
+        (let d = done h.0.by _ _ _ old new h.0.called in record { puts_more = d.puts_more; gets_more = d.gets_more })
+    done_refused item capacity (inr h) = same_made h.made
       where
         same_made : new.made ≡ old.made → HasDone 0 0 old new
         same_made e = record { puts_more = (let a = ap (sum_by puts) e in omega arith); gets_more = (let b = ap (sum_by gets) e in omega arith) }

@@ -1,11 +1,12 @@
 -- A handle of a queue: the queue, and the pass that its calls are made with.
+use Rattle.std.specs.Prelude.{◌≡◌}
 use Rattle.steps.specs.declared.words.Words.{Ghosts}
 use Rattle.history.specs.declared.view.View.{View}
 use Rattle.lock_free_queues.specs.declared.spsc.ring.rule.Kind as kinds
 use Rattle.lock_free_queues.specs.declared.spsc.ring.Ring.{Ring}
 use Rattle.lock_free_queues.specs.declared.spsc.ring.Pass.{Pass}
 use Rattle.lock_free_queues.specs.declared.spsc.ring.handles.Handle.{Handle}
-use Rattle.lock_free_queues.specs.Queues.Rings.{view}
+use Rattle.lock_free_queues.specs.Queues.Rings.{view, SamePass}
 
 module _ {E T : Type 0} {kind : kinds.Ghosts E} {words : Ghosts T} where
   abbrev pub ring_in : Handle E T kind words → Ring E T
@@ -17,3 +18,8 @@ module _ {E T : Type 0} {kind : kinds.Ghosts E} {words : Ghosts T} where
   -- all that its pass knows
   abbrev pub knows : Handle E T kind words → View T
   knows h = view h.pass
+
+  -- what each call leaves: it is of the same queue, and so is its pass, whose view goes on
+  pub record SameHandle (old new : Handle E T kind words) : Type 0 where
+    pub queue : ring_in new ≡ ring_in old
+    pub pass : SamePass (pass_in old) (pass_in new)

@@ -21,6 +21,7 @@ use Rattle.lock_free_queues.specs.Queues.Told.{WasAtEnd}
 pub use Rattle.lock_free_queues.specs.Queues.Rings.{Goes, MissesNothing, QueueId, queue_id, capacity_of, inner}
 pub use Rattle.lock_free_queues.specs.Queues.Rings.{token_queue, token_view, queue_of, producer_queue, consumer_queue}
 pub use Rattle.lock_free_queues.specs.Queues.Rings.{view, producer_view, consumer_view, IsPassOf, IsSameQueue}
+pub use Rattle.lock_free_queues.specs.Queues.Rings.{SamePass, SameProducer, SameConsumer, ToProducer, ToConsumer, FromProducer, FromConsumer}
 
 -- it has seen a history of a queue of this capacity
 abbrev pub HasHistory : ℕ → View ℕ → Type 0

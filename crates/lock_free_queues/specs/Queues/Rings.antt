@@ -76,7 +76,30 @@ module _ {E T : Type 0} {kind : kinds.Ghosts E} {words : Ghosts T} where
   abbrev pub code_of : Held E T (RingRule E T) kind words → Coding T
   code_of t = coding_of words.WORDS words.words_of words.value_of
 
-  -- the same of a seat, of the same queue
+  -- what each call leaves of a seat: it is of the same queue, and its view goes on
   pub record IsSameQueue (old new : Held E T (RingRule E T) kind words) : Type 0 where
     pub queue : token_queue new ≡ token_queue old
     pub goes : GoesOn (code_of old) kind.KIND (token_queue old).capacity (token_view old) (token_view new)
+
+  -- and of what has a seat
+  abbrev pub SamePass : Pass E T kind words → Pass E T kind words → Type 0
+  SamePass old new = IsSameQueue old.token new.token
+
+  abbrev pub SameProducer : Producer E T kind words → Producer E T kind words → Type 0
+  SameProducer old new = IsSameQueue old.token new.token
+
+  abbrev pub SameConsumer : Consumer E T kind words → Consumer E T kind words → Type 0
+  SameConsumer old new = IsSameQueue old.token new.token
+
+  -- a role is taken with a pass, and the pass comes back with it
+  abbrev pub ToProducer : Pass E T kind words → Producer E T kind words → Type 0
+  ToProducer pass end = IsSameQueue pass.token end.token
+
+  abbrev pub ToConsumer : Pass E T kind words → Consumer E T kind words → Type 0
+  ToConsumer pass end = IsSameQueue pass.token end.token
+
+  abbrev pub FromProducer : Producer E T kind words → Pass E T kind words → Type 0
+  FromProducer end pass = IsSameQueue end.token pass.token
+
+  abbrev pub FromConsumer : Consumer E T kind words → Pass E T kind words → Type 0
+  FromConsumer end pass = IsSameQueue end.token pass.token

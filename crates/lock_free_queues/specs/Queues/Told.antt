@@ -1,5 +1,5 @@
 -- What the calls on a queue add to its history, and what they answer, of queues of any items.
-use Rattle.std.specs.Prelude.{◌≡◌, ℕ, ◌-◌, ◌^◌, Bool, true, false, Option, Some, None, List, [], ◌∷◌, ◌++◌, length}
+use Rattle.std.specs.Prelude.{◌≡◌, ◌⊎◌, ℕ, ◌-◌, ◌^◌, Bool, true, false, Option, Some, None, List, [], ◌∷◌, ◌++◌, length}
 use Rattle.steps.specs.declared.queues.roles.Role.{Role}
 use Rattle.model.specs.declared.event.Answer.{Answer}
 use Rattle.model.specs.declared.event.Answer.TheVariants.{Truth, Done, PoppedNone, PoppedIndex, Popped}
@@ -68,6 +68,14 @@ module _ {T : Type 0} where
     pub full : length (waiting before) ≡ capacity
     pub list : published new.seen ≡ published old.seen
 
+  -- a push that was taken
+  abbrev pub PushDone : Item T → View T → View T → Type 0
+  PushDone item old new = HasPushed item true old new × HasPublished item old new
+
+  -- one that was refused
+  abbrev pub PushRefused : ℕ → Item T → View T → View T → Type 0
+  PushRefused capacity item old new = HasPushed item false old new × WasFull capacity item old new ⊎ WasAtEnd old new
+
   -- ---- pops
 
   -- the answer of a pop
@@ -106,6 +114,14 @@ module _ {T : Type 0} where
     pub next : handed_out before ≡ handed_out old.seen
     pub empty : waiting before ≡ []
     pub list : handed_out new.seen ≡ handed_out old.seen
+
+  -- a pop that took an item out
+  abbrev pub PopDone : Item T → View T → View T → Type 0
+  PopDone item old new = HasPopped (Some item) old new × HasTakenOut item old new
+
+  -- one that found none
+  abbrev pub PopEmpty : View T → View T → Type 0
+  PopEmpty old new = HasPopped None old new × WasEmpty old new
 
   -- the item was taken out after all that was seen, as the oldest that waited
   pub record HasTakenFirst (item : Item T) (old new : View T) : Type 0 where

@@ -7,6 +7,7 @@ use Rattle.history.specs.History.{IsHistory}
 pub use Rattle.lock_free_queues.specs.Queues.Rings.{Goes, MissesNothing, QueueId, queue_id, capacity_of, inner}
 pub use Rattle.lock_free_queues.specs.Queues.Rings.{token_queue, token_view, queue_of, producer_queue, consumer_queue}
 pub use Rattle.lock_free_queues.specs.Queues.Rings.{view, producer_view, consumer_view, IsPassOf, code_of, IsSameQueue}
+pub use Rattle.lock_free_queues.specs.Queues.Rings.{SamePass, SameProducer, SameConsumer, ToProducer, ToConsumer, FromProducer, FromConsumer}
 
 -- it has seen a history of a queue of this capacity
 abbrev pub HasHistory : {T : Type 0} → Coding T → ℕ → View T → Type 0

@@ -1,8 +1,7 @@
 //! What comes through where one thread sends and another receives. For the loops of clients, `proofs/Queues/Relays.antt` has
 //! each law of `pushes_are_sent` and `pops_are_received` in the shape of the contracts of the guards' calls, so that a
 //! search in a client's proof finds what it needs.
-ghost use Rattle.std.specs.Prelude.{◌≡◌, ℕ, Bool, true, Option, IfSome, List, is_some, not};
-ghost use Rattle.std.specs.Option.{option_map};
+ghost use Rattle.std.specs.Prelude.{◌≡◌, ℕ, Bool, true, Option, IfSome, IfNone, List, is_some, not};
 ghost use Rattle.steps.specs.declared.queues.roles.Role.{Role};
 ghost use Rattle.model.specs.declared.event.Item.{Item};
 ghost use Rattle.model.specs.declared.families.queues.QueueKind.{QueueKind};
@@ -14,7 +13,7 @@ ghost use Rattle.history.specs.Views.{first_view};
 ghost use Rattle.lock_free_queues.specs.Queues.Bounded.{IsBounded, machine_kind};
 ghost use Rattle.lock_free_queues.specs.Queues.Relays.{IsRelayed};
 ghost use Rattle.lock_free_queues.specs.Queues.Sent.{HasSent, HasReceived, TellsApart};
-ghost use Rattle.lock_free_queues.specs.Queues.Told.{HasAcquired, HasSplit, HasJoined, HasPopped, HasTakenOut};
+ghost use Rattle.lock_free_queues.specs.Queues.Told.{HasAcquired, HasSplit, HasJoined, PopDone, PopEmpty};
 
 /// What one half of a first pass received is a beginning of what the other half sent. It holds once both are joined and
 /// one pop more was made. All of it came just where that pop found nothing, and no more is left than the queue has room
@@ -26,7 +25,7 @@ pub fn halves_relay<T, V>()
         → HasSent named sent left mine → HasReceived named received right theirs → HasJoined mine theirs joined
         → MissesNothing joined → IsHistory code (machine_kind queue) n joined.seen
         → Goes code (machine_kind queue) room joined taking → HasAcquired role true joined taking
-        → Goes code (machine_kind queue) most taking last → HasPopped (option_map named answer) taking last
-        → IfSome answer (λ x. HasTakenOut (named x) taking last) → is_some answer ≡ not emptied
+        → Goes code (machine_kind queue) most taking last → IfSome answer (λ x. PopDone (named x) taking last)
+        → IfNone answer (PopEmpty taking last) → is_some answer ≡ not emptied
         → IsRelayed n sent received emptied }
 {}

@@ -2,7 +2,7 @@
 ghost use Rattle.std.specs.Prelude.{◌≡◌, IfSome, IfNone};
 ghost use Rattle.history.specs.Passes.{HasSplit, HasJoined};
 ghost use Rattle.lock_free.specs.Sets.Calls.{set_of, view, HasHistory, MissesNothing};
-ghost use Rattle.history.specs.Steps.{TakesAtMost};
+ghost use Rattle.history.specs.Steps.{TakesAtMost, JoinsWithin};
 
 use super::drives::Look;
 use super::rule::{Kind, SetRule};
@@ -36,7 +36,7 @@ impl<E: Kind> Held<E, u64, SetRule<E>> {
         ensures joined { HasJoined (view self.old) (view other) (view self.new) }
         ensures history { HasHistory self.new }
         ensures all { MissesNothing self.new }
-        ensures steps { TakesAtMost 2 (view self.old) (view self.new) }
+        ensures steps { JoinsWithin 2 (view self.old) (view other) (view self.new) }
     {
         let Held {
             of: _,

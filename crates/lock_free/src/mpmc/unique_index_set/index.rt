@@ -6,7 +6,7 @@ ghost use Rattle.lock_free.specs.Unique.Held.{IsSound};
 ghost use Rattle.history.specs.Held.{Holds};
 ghost use Rattle.lock_free.specs.Unique.Told.{HasGiven};
 ghost use Rattle.lock_free.specs.UniqueIndexSet.{view, set_of, made, HasHistory, MissesNothing, GoesOn, value_of, index_pass, index_view, index_set};
-ghost use Rattle.history.specs.Steps.{TakesAtMost};
+ghost use Rattle.history.specs.Steps.{TakesAtMost, JoinsWithin};
 
 use super::{Pass, UniqueIndex};
 
@@ -29,7 +29,7 @@ impl<'a> UniqueIndex<'a> {
         ensures history { HasHistory (index_pass self.new) }
         ensures sound { IsSound (index_view self.new) }
         ensures all { MissesNothing (index_pass self.new) }
-        ensures steps { TakesAtMost 2 (index_view self.old) (index_view self.new) }
+        ensures steps { JoinsWithin 2 (index_view self.old) (view other) (index_view self.new) }
     {
         self.pass.join(other);
     }

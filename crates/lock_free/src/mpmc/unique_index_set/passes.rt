@@ -4,7 +4,7 @@ ghost use Rattle.lock_free.specs.Unique.Held.{HoldsNothing, IsSound};
 ghost use Rattle.history.specs.Held.{Holds};
 ghost use Rattle.history.specs.Passes.{HasSplit, HasJoined};
 ghost use Rattle.lock_free.specs.UniqueIndexSet.{set_of, view, made, HasHistory, MissesNothing};
-ghost use Rattle.history.specs.Steps.{TakesAtMost};
+ghost use Rattle.history.specs.Steps.{TakesAtMost, JoinsWithin};
 
 use super::Pass;
 use super::drives::Look;
@@ -39,7 +39,7 @@ impl Pass {
         ensures history { HasHistory self.new }
         ensures sound { IsSound (view self.new) }
         ensures all { MissesNothing self.new }
-        ensures steps { TakesAtMost 2 (view self.old) (view self.new) }
+        ensures steps { JoinsWithin 2 (view self.old) (view other) (view self.new) }
     {
         let Pass {
             seated: other,

@@ -5,7 +5,6 @@ ghost use Rattle.lock_free.specs.UniqueIndexSet.{view, made, set_of, capacity_of
 ghost use Rattle.steps.specs.declared.indices.enums.ReleaseState.TheVariants.{Unlocked};
 ghost use Rattle.lock_free.specs.Unique.Held.{HoldsNothing};
 ghost use Rattle.lock_free.specs.Unique.Told.{HasAcquired, WasRefused, HasGiven};
-ghost use Rattle.std.specs.Option.{option_map};
 ghost use Rattle.model.specs.declared.event.Item.TheVariants.{Index};
 ghost use Rattle.model.specs.declared.turn.Kind.TheVariants as kinds;
 ghost use Rattle.model.specs.Coding.{one_word};
@@ -13,7 +12,7 @@ ghost use Rattle.history.specs.Steps.{TakesAtMost, TakesAlone};
 ghost use Rattle.lock_free_queues.specs.Queues.Calls as returns;
 ghost use Rattle.lock_free_queues.specs.Queues.Overflowing as sends;
 ghost use Rattle.lock_free_queues.specs.Queues.Overflowing.{HasOverflowed, TookNone};
-ghost use Rattle.lock_free_queues.specs.Queues.Told.{HasPublished, HasPopped, HasTakenOut, HasTakenFirst, WasEmpty};
+ghost use Rattle.lock_free_queues.specs.Queues.Told.{HasPublished, HasTakenFirst, PopDone, PopEmpty};
 ghost use Rattle.lock_free.specs.declared.spsc.loan.places.Place.TheVariants.{Free, Loaned, Sent};
 ghost use Rattle.lock_free.specs.Loan.Places.{is_out, is_sent, place_at, returned, reclaimed, IsBookOf};
 ghost use Rattle.lock_free.specs.Loan.Sender.{places_of, pass_view, share_of, submission_view, completion_view};
@@ -238,16 +237,14 @@ impl<'a> LoanSender<'a> {
             (λ y. places_of self.new ≡ returned y (places_of self.old)) }
         ensures goes { returns.GoesOn (completion_of self.old).capacity
             (completion_view self.old) (completion_view self.new) }
-        ensures called { HasPopped (option_map Index result)
-            (completion_view self.old) (completion_view self.new) }
         ensures popped { IfSome result
-            (λ y. HasTakenOut (Index y) (completion_view self.old) (completion_view self.new)) }
+            (λ y. PopDone (Index y) (completion_view self.old) (completion_view self.new)) }
         ensures freed { IfSome result (λ y. InTurn HasFreed (sent_back y (places_of self.old))
             (pass_view self.old) (pass_view self.new)) }
         ensures none { IfNone result (places_of self.new ≡ places_of self.old) }
         ensures kept { IfNone result (pass_view self.new ≡ pass_view self.old) }
         ensures empty { IfNone result
-            (WasEmpty (completion_view self.old) (completion_view self.new)) }
+            (PopEmpty (completion_view self.old) (completion_view self.new)) }
         ensures submission { submission_view self.new ≡ submission_view self.old }
         ensures same { IsSame self.old self.new }
         ensures share { share_of self.new ≡ share_of self.old }

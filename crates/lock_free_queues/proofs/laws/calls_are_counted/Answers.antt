@@ -6,7 +6,7 @@ pub returns-clause-pushed : goal.returns-clause-pushed
 returns-clause-pushed g c value old new h = done_pushed old new value h
 
 pub returns-clause-refused : goal.returns-clause-refused
-returns-clause-refused g c value taken old new is h = done_refused old new value taken is h
+returns-clause-refused g c value capacity old new h = done_refused old new value capacity h
 
 pub returns-clause-added : goal.returns-clause-added
 returns-clause-added g c value old new h = done_added old new value h

@@ -6,8 +6,8 @@ returns-clause-acquired g c named code kind capacity role sent received old new 
     still_passed code kind capacity {role = role} k goes h
 
 pub returns-clause-popped : goal.returns-clause-popped
-returns-clause-popped g c named code kind capacity value sent received old new k goes h took =
-    one_passed code kind capacity value k goes h took
+returns-clause-popped g c named code kind capacity value sent received old new k goes h =
+    one_passed code kind capacity value k goes h
 
 pub returns-clause-none : goal.returns-clause-none
 returns-clause-none g c named code kind capacity sent received old new tells k goes h =

@@ -7,12 +7,12 @@ returns-clause-acquired g c named code kind capacity role old new goes h =
     received_none {code = code} {kind = kind} {capacity = capacity} {named = named} {role = role} {old = old} {new = new} {values = []} refl goes h
 
 pub returns-clause-popped : goal.returns-clause-popped
-returns-clause-popped g c named code kind capacity values value old was new got goes h p =
-    received_one {code = code} {kind = kind} {capacity = capacity} {named = named} {old = old} {was = was} {new = new} values value got goes h p
+returns-clause-popped g c named code kind capacity values value old was new got goes h =
+    received_one {code = code} {kind = kind} {capacity = capacity} {named = named} {old = old} {was = was} {new = new} values value got goes h
 
 pub returns-clause-none : goal.returns-clause-none
-returns-clause-none g c named code kind capacity values old was new got goes h p =
-    received_still {code = code} {kind = kind} {capacity = capacity} {named = named} {old = old} {was = was} {new = new} {values = values} got goes h p
+returns-clause-none g c named code kind capacity values old was new got goes h =
+    received_still {code = code} {kind = kind} {capacity = capacity} {named = named} {old = old} {was = was} {new = new} {values = values} got goes h
 
 pub returns-clause-released : goal.returns-clause-released
 returns-clause-released g c named code kind capacity role values old was new got goes h is =

@@ -1,4 +1,3 @@
-use Rattle.lock_free_queues.proofs.Names.{inl, refl, true}
 use Rattle.lock_free_queues.proofs.Queues.Sent.{sent_none, sent_one, sent_refused, sent_done}
 use Rattle.lock_free_queues.proofs.laws.pushes_are_sent.Goals as goal
 
@@ -7,13 +6,13 @@ returns-clause-acquired g c named code kind capacity role old new goes h =
     sent_none {code = code} {kind = kind} {capacity = capacity} {named = named} {role = role} {old = old} {new = new} goes h
 
 pub returns-clause-pushed : goal.returns-clause-pushed
-returns-clause-pushed g c named code kind capacity values value old was new sent goes h p =
-    sent_one {code = code} {kind = kind} {capacity = capacity} {named = named} {old = old} {was = was} {new = new} values value true sent goes refl (inl h) p
+returns-clause-pushed g c named code kind capacity values value old was new sent goes h =
+    sent_one {code = code} {kind = kind} {capacity = capacity} {named = named} {old = old} {was = was} {new = new} values value sent goes h
 
 pub returns-clause-refused : goal.returns-clause-refused
-returns-clause-refused g c named code kind capacity room values item taken old was new sent goes is h full =
+returns-clause-refused g c named code kind capacity room values item old was new sent goes h =
     sent_refused {code = code} {kind = kind} {capacity = capacity} {named = named} {old = old} {was = was}
-    {new = new} {values = values} {room = room} {item = item} {taken = taken} sent goes is h full
+    {new = new} {values = values} {room = room} {item = item} sent goes h
 
 pub returns-clause-released : goal.returns-clause-released
 returns-clause-released g c named code kind capacity role values old was new sent goes h is =

@@ -2,10 +2,10 @@
 ghost use Rattle.std.specs.Prelude.{◌≡◌, true, false, IfOk, IfErr};
 ghost use Rattle.steps.specs.declared.queues.roles.Role.TheVariants as roles;
 ghost use Rattle.model.specs.Families.Queues.Reading.{published};
-ghost use Rattle.model.specs.Coding.{coding_of};
 ghost use Rattle.history.specs.Steps.{TakesAtMost};
 ghost use Rattle.lock_free_queues.specs.Queues.Kinds.{NoneTaken};
-ghost use Rattle.lock_free_queues.specs.Queues.Rings.{queue_of, view, producer_queue, producer_view, consumer_queue, consumer_view, IsPassOf, GoesOn};
+ghost use Rattle.lock_free_queues.specs.Queues.Rings.{view, producer_view, consumer_view, IsPassOf};
+ghost use Rattle.lock_free_queues.specs.Queues.Rings.{SamePass, ToProducer, ToConsumer, FromProducer, FromConsumer};
 ghost use Rattle.lock_free_queues.specs.Queues.Told.{HasAcquired, HasReleased};
 
 use super::drives::{Popping, Pushing};
@@ -18,13 +18,10 @@ impl<E: Kind, T: Words> Ring<E, T> {
     /// step. After `acquire_producer` of the Rust crate.
     pub fn acquire_producer(&self, pass: Pass<E, T>) -> Result<Producer<'_, E, T>, Pass<E, T>>
         requires { IsPassOf self.now pass }
-        ensures acquired { IfOk result (λ p. (producer_queue p ≡ queue_of pass)
-            × GoesOn (coding_of T.WORDS T.words_of T.value_of) E.KIND (queue_of pass).capacity (view pass)
-            (producer_view p)
+        ensures acquired { IfOk result (λ p. ToProducer pass p
             × HasAcquired roles.Producer true (view pass) (producer_view p)
             × TakesAtMost 1 (view pass) (producer_view p)) }
-        ensures refused { IfErr result (λ p. (queue_of p ≡ queue_of pass)
-            × GoesOn (coding_of T.WORDS T.words_of T.value_of) E.KIND (queue_of pass).capacity (view pass) (view p)
+        ensures refused { IfErr result (λ p. SamePass pass p
             × HasAcquired roles.Producer false (view pass) (view p)
             × TakesAtMost 1 (view pass) (view p)) }
     {
@@ -40,13 +37,10 @@ impl<E: Kind, T: Words> Ring<E, T> {
     /// step. After `acquire_consumer` of the Rust crate.
     pub fn acquire_consumer(&self, pass: Pass<E, T>) -> Result<Consumer<'_, E, T>, Pass<E, T>>
         requires { IsPassOf self.now pass }
-        ensures acquired { IfOk result (λ c. (consumer_queue c ≡ queue_of pass)
-            × GoesOn (coding_of T.WORDS T.words_of T.value_of) E.KIND (queue_of pass).capacity (view pass)
-            (consumer_view c)
+        ensures acquired { IfOk result (λ c. ToConsumer pass c
             × HasAcquired roles.Consumer true (view pass) (consumer_view c)
             × TakesAtMost 1 (view pass) (consumer_view c)) }
-        ensures refused { IfErr result (λ p. (queue_of p ≡ queue_of pass)
-            × GoesOn (coding_of T.WORDS T.words_of T.value_of) E.KIND (queue_of pass).capacity (view pass) (view p)
+        ensures refused { IfErr result (λ p. SamePass pass p
             × HasAcquired roles.Consumer false (view pass) (view p)
             × TakesAtMost 1 (view pass) (view p)) }
     {
@@ -62,9 +56,7 @@ impl<E: Kind, T: Words> Ring<E, T> {
 impl<'a, E: Kind, T: Words> Producer<'a, E, T> {
     /// Gives the role back and hands the pass out. At most one atomic step. This project's own, beside the drop.
     pub fn release(self) -> Pass<E, T>
-        ensures queue { queue_of result ≡ producer_queue self.entry }
-        ensures goes { GoesOn (coding_of T.WORDS T.words_of T.value_of) E.KIND (producer_queue self.entry).capacity
-            (producer_view self.entry) (view result) }
+        ensures same { FromProducer self.entry result }
         ensures released { HasReleased roles.Producer (producer_view self.entry) (view result) }
         ensures list { published (view result).seen ≡ published (producer_view self.entry).seen }
         ensures steps { TakesAtMost 1 (producer_view self.entry) (view result) }
@@ -78,9 +70,7 @@ impl<'a, E: Kind, T: Words> Producer<'a, E, T> {
 impl<'a, E: Kind, T: Words> Consumer<'a, E, T> {
     /// Gives the role back and hands the pass out. At most one atomic step. This project's own, beside the drop.
     pub fn release(self) -> Pass<E, T>
-        ensures queue { queue_of result ≡ consumer_queue self.entry }
-        ensures goes { GoesOn (coding_of T.WORDS T.words_of T.value_of) E.KIND (consumer_queue self.entry).capacity
-            (consumer_view self.entry) (view result) }
+        ensures same { FromConsumer self.entry result }
         ensures released { HasReleased roles.Consumer (consumer_view self.entry) (view result) }
         ensures list { NoneTaken E.KIND (consumer_view self.entry) (view result) }
         ensures steps { TakesAtMost 1 (consumer_view self.entry) (view result) }

@@ -11,7 +11,7 @@ ghost use Rattle.lock_free_queues.specs.Queues.Kinds.{most_waiting};
 ghost use Rattle.lock_free_queues.specs.Queues.Roles.{Moved};
 ghost use Rattle.lock_free_queues.specs.Queues.Rings.{capacity_of, token_queue, token_view, queue_of, view};
 ghost use Rattle.lock_free_queues.specs.Queues.Rings.{producer_queue, producer_view, consumer_queue, consumer_view};
-ghost use Rattle.lock_free_queues.specs.Queues.Rings.{IsPassOf, GoesOn, IsSameQueue};
+ghost use Rattle.lock_free_queues.specs.Queues.Rings.{IsPassOf, IsSameQueue, SamePass, SameProducer, SameConsumer};
 ghost use Rattle.lock_free_queues.specs.Queues.Told.{HasMeasured};
 
 use super::drives::{Emptiness, Fullness, Length, Measure, Measures};
@@ -85,9 +85,7 @@ impl<E: Kind, T: Words> Ring<E, T> {
     /// others during the call. After `len` of the Rust crate.
     pub fn len(&self, rt: &impl Wait, pass: &mut Pass<E, T>) -> usize
         requires { IsPassOf self.now pass.old }
-        ensures queue { queue_of pass.new ≡ queue_of pass.old }
-        ensures goes { GoesOn (coding_of T.WORDS T.words_of T.value_of) E.KIND (queue_of pass.old).capacity
-            (view pass.old) (view pass.new) }
+        ensures same { SamePass pass.old pass.new }
         ensures counted { HasMeasured measures.Len (capacity_of self.now) (Number result)
             (view pass.old) (view pass.new) }
         ensures few { result ≤ most_waiting E.KIND (capacity_of self.now) }
@@ -102,9 +100,7 @@ impl<E: Kind, T: Words> Ring<E, T> {
     /// the Rust crate.
     pub fn is_empty(&self, rt: &impl Wait, pass: &mut Pass<E, T>) -> bool
         requires { IsPassOf self.now pass.old }
-        ensures queue { queue_of pass.new ≡ queue_of pass.old }
-        ensures goes { GoesOn (coding_of T.WORDS T.words_of T.value_of) E.KIND (queue_of pass.old).capacity
-            (view pass.old) (view pass.new) }
+        ensures same { SamePass pass.old pass.new }
         ensures told { HasMeasured measures.IsEmpty (capacity_of self.now) (Truth result)
             (view pass.old) (view pass.new) }
         ensures steps { TakesAlone (coding_of T.WORDS T.words_of T.value_of) (machine_kind E.KIND)
@@ -118,9 +114,7 @@ impl<E: Kind, T: Words> Ring<E, T> {
     /// After `is_full` of the Rust crate.
     pub fn is_full(&self, rt: &impl Wait, pass: &mut Pass<E, T>) -> bool
         requires { IsPassOf self.now pass.old }
-        ensures queue { queue_of pass.new ≡ queue_of pass.old }
-        ensures goes { GoesOn (coding_of T.WORDS T.words_of T.value_of) E.KIND (queue_of pass.old).capacity
-            (view pass.old) (view pass.new) }
+        ensures same { SamePass pass.old pass.new }
         ensures told { HasMeasured measures.IsFull (capacity_of self.now) (Truth result)
             (view pass.old) (view pass.new) }
         ensures steps { TakesAlone (coding_of T.WORDS T.words_of T.value_of) (machine_kind E.KIND)
@@ -141,9 +135,7 @@ impl<E: Kind, T: Words> Ring<E, T> {
 impl<'a, E: Kind, T: Words> Producer<'a, E, T> {
     /// Does as `len` of its queue, in as many atomic steps. This project's own.
     pub fn len(&mut self, rt: &impl Wait) -> usize
-        ensures queue { producer_queue self.new ≡ producer_queue self.old }
-        ensures goes { GoesOn (coding_of T.WORDS T.words_of T.value_of) E.KIND (producer_queue self.old).capacity
-            (producer_view self.old) (producer_view self.new) }
+        ensures same { SameProducer self.old self.new }
         ensures counted { HasMeasured measures.Len (producer_queue self.old).capacity (Number result)
             (producer_view self.old) (producer_view self.new) }
         ensures few { result ≤ most_waiting E.KIND (producer_queue self.old).capacity }
@@ -156,9 +148,7 @@ impl<'a, E: Kind, T: Words> Producer<'a, E, T> {
 
     /// Does as `is_empty` of its queue, in as many atomic steps. This project's own.
     pub fn is_empty(&mut self, rt: &impl Wait) -> bool
-        ensures queue { producer_queue self.new ≡ producer_queue self.old }
-        ensures goes { GoesOn (coding_of T.WORDS T.words_of T.value_of) E.KIND (producer_queue self.old).capacity
-            (producer_view self.old) (producer_view self.new) }
+        ensures same { SameProducer self.old self.new }
         ensures told { HasMeasured measures.IsEmpty (producer_queue self.old).capacity (Truth result)
             (producer_view self.old) (producer_view self.new) }
         ensures steps { TakesAlone (coding_of T.WORDS T.words_of T.value_of) (machine_kind E.KIND)
@@ -170,9 +160,7 @@ impl<'a, E: Kind, T: Words> Producer<'a, E, T> {
 
     /// Does as `is_full` of its queue, in as many atomic steps. This project's own.
     pub fn is_full(&mut self, rt: &impl Wait) -> bool
-        ensures queue { producer_queue self.new ≡ producer_queue self.old }
-        ensures goes { GoesOn (coding_of T.WORDS T.words_of T.value_of) E.KIND (producer_queue self.old).capacity
-            (producer_view self.old) (producer_view self.new) }
+        ensures same { SameProducer self.old self.new }
         ensures told { HasMeasured measures.IsFull (producer_queue self.old).capacity (Truth result)
             (producer_view self.old) (producer_view self.new) }
         ensures steps { TakesAlone (coding_of T.WORDS T.words_of T.value_of) (machine_kind E.KIND)
@@ -193,9 +181,7 @@ impl<'a, E: Kind, T: Words> Producer<'a, E, T> {
 impl<'a, E: Kind, T: Words> Consumer<'a, E, T> {
     /// Does as `len` of its queue, in as many atomic steps. This project's own.
     pub fn len(&mut self, rt: &impl Wait) -> usize
-        ensures queue { consumer_queue self.new ≡ consumer_queue self.old }
-        ensures goes { GoesOn (coding_of T.WORDS T.words_of T.value_of) E.KIND (consumer_queue self.old).capacity
-            (consumer_view self.old) (consumer_view self.new) }
+        ensures same { SameConsumer self.old self.new }
         ensures counted { HasMeasured measures.Len (consumer_queue self.old).capacity (Number result)
             (consumer_view self.old) (consumer_view self.new) }
         ensures few { result ≤ most_waiting E.KIND (consumer_queue self.old).capacity }
@@ -208,9 +194,7 @@ impl<'a, E: Kind, T: Words> Consumer<'a, E, T> {
 
     /// Does as `is_empty` of its queue, in as many atomic steps. This project's own.
     pub fn is_empty(&mut self, rt: &impl Wait) -> bool
-        ensures queue { consumer_queue self.new ≡ consumer_queue self.old }
-        ensures goes { GoesOn (coding_of T.WORDS T.words_of T.value_of) E.KIND (consumer_queue self.old).capacity
-            (consumer_view self.old) (consumer_view self.new) }
+        ensures same { SameConsumer self.old self.new }
         ensures told { HasMeasured measures.IsEmpty (consumer_queue self.old).capacity (Truth result)
             (consumer_view self.old) (consumer_view self.new) }
         ensures steps { TakesAlone (coding_of T.WORDS T.words_of T.value_of) (machine_kind E.KIND)
@@ -222,9 +206,7 @@ impl<'a, E: Kind, T: Words> Consumer<'a, E, T> {
 
     /// Does as `is_full` of its queue, in as many atomic steps. This project's own.
     pub fn is_full(&mut self, rt: &impl Wait) -> bool
-        ensures queue { consumer_queue self.new ≡ consumer_queue self.old }
-        ensures goes { GoesOn (coding_of T.WORDS T.words_of T.value_of) E.KIND (consumer_queue self.old).capacity
-            (consumer_view self.old) (consumer_view self.new) }
+        ensures same { SameConsumer self.old self.new }
         ensures told { HasMeasured measures.IsFull (consumer_queue self.old).capacity (Truth result)
             (consumer_view self.old) (consumer_view self.new) }
         ensures steps { TakesAlone (coding_of T.WORDS T.words_of T.value_of) (machine_kind E.KIND)

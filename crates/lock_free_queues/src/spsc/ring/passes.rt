@@ -1,10 +1,10 @@
 //! How passes are made of one another.
 ghost use Rattle.std.specs.Prelude.{◌≡◌, IfSome, IfNone};
 ghost use Rattle.model.specs.Coding.{coding_of};
-ghost use Rattle.history.specs.Steps.{TakesAtMost};
+ghost use Rattle.history.specs.Steps.{TakesAtMost, JoinsWithin};
 ghost use Rattle.lock_free_queues.specs.Queues.Rings.{token_queue, token_view, queue_of, view, producer_queue};
 ghost use Rattle.lock_free_queues.specs.Queues.Rings.{producer_view, consumer_queue, consumer_view, HasHistory};
-ghost use Rattle.lock_free_queues.specs.Queues.Rings.{MissesNothing, GoesOn, IsSameQueue};
+ghost use Rattle.lock_free_queues.specs.Queues.Rings.{MissesNothing, IsSameQueue, SamePass};
 ghost use Rattle.lock_free_queues.specs.Queues.Told.{HasSplit, HasJoined, HasLooked};
 
 use super::rule::{Kind, RingRule};
@@ -41,7 +41,7 @@ impl<E: Kind, T: Words> Held<E, T, RingRule<E, T>> {
         ensures history { HasHistory (coding_of T.WORDS T.words_of T.value_of) E.KIND (token_queue self.old).capacity
             (token_view self.new) }
         ensures all { MissesNothing (token_view self.new) }
-        ensures steps { TakesAtMost 2 (token_view self.old) (token_view self.new) }
+        ensures steps { JoinsWithin 2 (token_view self.old) (token_view other) (token_view self.new) }
     {
         let Held {
             of: _,
@@ -86,7 +86,7 @@ impl<E: Kind, T: Words> Pass<E, T> {
         ensures history { HasHistory (coding_of T.WORDS T.words_of T.value_of) E.KIND (queue_of self.old).capacity
             (view self.new) }
         ensures all { MissesNothing (view self.new) }
-        ensures steps { TakesAtMost 2 (view self.old) (view self.new) }
+        ensures steps { JoinsWithin 2 (view self.old) (view other) (view self.new) }
     {
         let Pass { token } = other;
         self.token.join(token);
@@ -95,9 +95,7 @@ impl<E: Kind, T: Words> Pass<E, T> {
     /// Looks at the history, by at most one load. With the whole share there is nothing more to see. This project's
     /// own.
     pub fn look(&mut self)
-        ensures queue { queue_of self.new ≡ queue_of self.old }
-        ensures goes { GoesOn (coding_of T.WORDS T.words_of T.value_of) E.KIND (queue_of self.old).capacity
-            (view self.old) (view self.new) }
+        ensures same { SamePass self.old self.new }
         ensures looked { HasLooked (view self.old) (view self.new) }
         ensures steps { TakesAtMost 1 (view self.old) (view self.new) }
     {
@@ -114,7 +112,7 @@ impl<'a, E: Kind, T: Words> Producer<'a, E, T> {
         ensures history { HasHistory (coding_of T.WORDS T.words_of T.value_of) E.KIND
             (producer_queue self.old).capacity (producer_view self.new) }
         ensures all { MissesNothing (producer_view self.new) }
-        ensures steps { TakesAtMost 2 (producer_view self.old) (producer_view self.new) }
+        ensures steps { JoinsWithin 2 (producer_view self.old) (view other) (producer_view self.new) }
     {
         let token = other.into_token();
         self.token.join(token);
@@ -130,7 +128,7 @@ impl<'a, E: Kind, T: Words> Consumer<'a, E, T> {
         ensures history { HasHistory (coding_of T.WORDS T.words_of T.value_of) E.KIND
             (consumer_queue self.old).capacity (consumer_view self.new) }
         ensures all { MissesNothing (consumer_view self.new) }
-        ensures steps { TakesAtMost 2 (consumer_view self.old) (consumer_view self.new) }
+        ensures steps { JoinsWithin 2 (consumer_view self.old) (view other) (consumer_view self.new) }
     {
         let token = other.into_token();
         self.token.join(token);

@@ -1,6 +1,7 @@
 //! The calls of an unrestricted atomic value.
 ghost use Rattle.std.specs.Prelude.{◌≡◌, ◌+◌, true, false, IsTrue, IsFalse, IfOk, IfErr};
-ghost use Rattle.lock_free_value.specs.Calls.{view, value_of_pass, IsPassOf, producer_view, value_of_producer, GoesOn, WasAtEnd};
+ghost use Rattle.lock_free_value.specs.Calls.{view, IsPassOf, producer_view, WasAtEnd};
+ghost use Rattle.lock_free_value.specs.Calls.{SamePass, SameProducer, ToProducer, FromProducer};
 ghost use Rattle.model.specs.Coding.{coding_of};
 ghost use Rattle.model.specs.declared.turn.Kind.TheVariants as kinds;
 ghost use Rattle.history.specs.Steps.{TakesAtMost, TakesAlone};
@@ -15,12 +16,10 @@ impl<T: Words> UnrestrictedAtomic<T> {
     /// step. After `acquire_producer` of the Rust crate.
     pub fn acquire_producer(&self, pass: Pass<T>) -> Result<Producer<'_, T>, Pass<T>>
         requires { IsPassOf self.now pass }
-        ensures acquired { IfOk result (λ p. (value_of_producer p ≡ value_of_pass pass)
-            × GoesOn (coding_of T.WORDS T.words_of T.value_of) (view pass) (producer_view p)
+        ensures acquired { IfOk result (λ p. ToProducer pass p
             × HasAcquired true (view pass) (producer_view p)
             × TakesAtMost 1 (view pass) (producer_view p)) }
-        ensures refused { IfErr result (λ p. (value_of_pass p ≡ value_of_pass pass)
-            × GoesOn (coding_of T.WORDS T.words_of T.value_of) (view pass) (view p)
+        ensures refused { IfErr result (λ p. SamePass pass p
             × HasAcquired false (view pass) (view p)
             × TakesAtMost 1 (view pass) (view p)) }
     {
@@ -37,8 +36,7 @@ impl<T: Words> UnrestrictedAtomic<T> {
     /// `load` of the Rust crate.
     pub fn load(&self, rt: &impl Wait, pass: &mut Pass<T>) -> T
         requires { IsPassOf self.now pass.old }
-        ensures value { value_of_pass pass.new ≡ value_of_pass pass.old }
-        ensures goes { GoesOn (coding_of T.WORDS T.words_of T.value_of) (view pass.old) (view pass.new) }
+        ensures same { SamePass pass.old pass.new }
         ensures loaded { HasLoaded result (view pass.old) (view pass.new) }
         ensures steps { TakesAlone (coding_of T.WORDS T.words_of T.value_of) kinds.Atomic 1 (2 + T.WORDS) (1 + T.WORDS)
             (view pass.old) (view pass.new) }
@@ -51,8 +49,7 @@ impl<'a, T: Words> Producer<'a, T> {
     /// Stores a value and returns true, or returns false without a change if the version is u64::MAX. At most 2 +
     /// `T::WORDS` atomic steps. After `Producer::store` of the Rust crate.
     pub fn store(&mut self, value: T) -> bool
-        ensures value { value_of_producer self.new ≡ value_of_producer self.old }
-        ensures goes { GoesOn (coding_of T.WORDS T.words_of T.value_of) (producer_view self.old) (producer_view self.new) }
+        ensures same { SameProducer self.old self.new }
         ensures stored { IsTrue result
             → HasStored value (producer_view self.old) (producer_view self.new) }
         ensures end { IsFalse result → WasAtEnd (producer_view self.old) (producer_view self.new) }
@@ -63,8 +60,7 @@ impl<'a, T: Words> Producer<'a, T> {
 
     /// Gives the role back and hands the pass out. At most one atomic step. This project's own, beside the drop.
     pub fn release(self) -> Pass<T>
-        ensures value { value_of_pass result ≡ value_of_producer self.entry }
-        ensures goes { GoesOn (coding_of T.WORDS T.words_of T.value_of) (producer_view self.entry) (view result) }
+        ensures same { FromProducer self.entry result }
         ensures released { HasReleased (producer_view self.entry) (view result) }
         ensures steps { TakesAtMost 1 (producer_view self.entry) (view result) }
     {

@@ -1,8 +1,9 @@
 //! How passes are made of one another, and a look.
 ghost use Rattle.std.specs.Prelude.{◌≡◌, IfSome, IfNone};
 ghost use Rattle.history.specs.History.{IsBeginning};
-ghost use Rattle.history.specs.Steps.{TakesAtMost};
-ghost use Rattle.lock_free_value.specs.Calls.{seen, table_of, view, value_of_pass, producer_view, value_of_producer, HasHistory, MissesNothing, GoesOn, IsSame};
+ghost use Rattle.history.specs.Steps.{TakesAtMost, JoinsWithin};
+ghost use Rattle.lock_free_value.specs.Calls.{seen, table_of, view, value_of_pass, producer_view, value_of_producer};
+ghost use Rattle.lock_free_value.specs.Calls.{HasHistory, MissesNothing, IsSame, SamePass};
 ghost use Rattle.model.specs.Coding.{coding_of};
 ghost use Rattle.lock_free_value.specs.Told.{HasSplit, HasJoined};
 
@@ -35,7 +36,7 @@ impl<T: Words> Held<T, ValueRule<T>> {
         ensures joined { HasJoined (seen self.old) (seen other) (seen self.new) }
         ensures history { HasHistory (coding_of T.WORDS T.words_of T.value_of) (seen self.new) }
         ensures all { MissesNothing (seen self.new) }
-        ensures steps { TakesAtMost 2 (seen self.old) (seen self.new) }
+        ensures steps { JoinsWithin 2 (seen self.old) (seen other) (seen self.new) }
     {
         let Held { seated: other } = other;
         self.seated.join::<Both>(other);
@@ -75,7 +76,7 @@ impl<T: Words> Pass<T> {
         ensures joined { HasJoined (view self.old) (view other) (view self.new) }
         ensures history { HasHistory (coding_of T.WORDS T.words_of T.value_of) (view self.new) }
         ensures all { MissesNothing (view self.new) }
-        ensures steps { TakesAtMost 2 (view self.old) (view self.new) }
+        ensures steps { JoinsWithin 2 (view self.old) (view other) (view self.new) }
     {
         let Pass { token } = other;
         self.token.join(token);
@@ -83,8 +84,7 @@ impl<T: Words> Pass<T> {
 
     /// Looks at the whole history, by at most one load. Who has the whole share has made all of it. This project's own.
     pub fn look(&mut self)
-        ensures value { value_of_pass self.new ≡ value_of_pass self.old }
-        ensures goes { GoesOn (coding_of T.WORDS T.words_of T.value_of) (view self.old) (view self.new) }
+        ensures same { SamePass self.old self.new }
         ensures made { (view self.new).made ≡ (view self.old).made }
         ensures steps { TakesAtMost 1 (view self.old) (view self.new) }
     {
@@ -100,7 +100,7 @@ impl<'a, T: Words> Producer<'a, T> {
         ensures joined { HasJoined (producer_view self.old) (view other) (producer_view self.new) }
         ensures history { HasHistory (coding_of T.WORDS T.words_of T.value_of) (producer_view self.new) }
         ensures all { MissesNothing (producer_view self.new) }
-        ensures steps { TakesAtMost 2 (producer_view self.old) (producer_view self.new) }
+        ensures steps { JoinsWithin 2 (producer_view self.old) (view other) (producer_view self.new) }
     {
         let token = other.into_token();
         self.token.join(token);

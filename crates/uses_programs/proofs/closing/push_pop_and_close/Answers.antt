@@ -8,21 +8,17 @@ returns c =
     let x = c.in-Some.shared in
     let list = c.in_ok-list.list in
     let one : Sending Index c.in-Ok.producer (1 ∷ []) c.push.new.self =
-    sending_one [] 1 (sending_none refl) c.push.ensures.queue c.push.ensures.goes (search rules) c.push.ensures.called c.push.ensures.pushed in
+    sending_one [] 1 (sending_none refl) c.push.ensures.same (search rules) c.push.ensures.pushed in
     let two : Sending Index c.in-Ok.producer (1 ∷ 2 ∷ []) c.push-2.new.self =
-    sending_one (1 ∷ []) 2 one c.push-2.ensures.queue c.push-2.ensures.goes (search rules) c.push-2.ensures.called c.push-2.ensures.pushed in
+    sending_one (1 ∷ []) 2 one c.push-2.ensures.same (search rules) c.push-2.ensures.pushed in
     let sent : Sent Index c.split.new.self (1 ∷ 2 ∷ []) c.release-pass.result =
-    sent_all (1 ∷ 2 ∷ []) 2 (c.in-Ok.ensures.acquired.0, c.in-Ok.ensures.acquired.1, c.in-Ok.ensures.acquired.2) two
-    (omega arith) c.release-pass.ensures.queue c.release-pass.ensures.goes
+    sent_all (1 ∷ 2 ∷ []) 2 c.in-Ok.ensures.acquired.0 c.in-Ok.ensures.acquired.1 two (omega arith) c.release-pass.ensures.same
     c.release-pass.ensures.released c.release-pass.ensures.list in
     let got : Receiving Index c.in-Ok-acquire_consumer.consumer (x ∷ []) c.pop.new.self =
-    receiving_one [] (x ∷ []) x (receiving_none refl) c.pop.ensures.queue c.pop.ensures.goes c.pop.ensures.called c.pop.ensures.popped (search rules) refl in
+    receiving_one [] (x ∷ []) x (receiving_none refl) c.pop.ensures.same c.pop.ensures.popped (search rules) refl in
     let received : Received Index c.in_ok-other.other (x ∷ []) c.release.result =
-    received_all (
-      c.in-Ok-acquire_consumer.ensures.acquired.0,
-      c.in-Ok-acquire_consumer.ensures.acquired.1,
-      c.in-Ok-acquire_consumer.ensures.acquired.2,
-    ) got c.release.ensures.queue c.release.ensures.goes c.release.ensures.released c.release.ensures.list in
+    received_all c.in-Ok-acquire_consumer.ensures.acquired.0 c.in-Ok-acquire_consumer.ensures.acquired.1 got
+    c.release.ensures.same c.release.ensures.released c.release.ensures.list in
     let all : 1 ∷ 2 ∷ [] ≡ x ∷ list.values =
     left_over c.in_ok-queue.mine c.split.new.self c.in_ok-other.other c.release-pass.result c.release.result c.join.new.self 4 list index_tells
     (first_of (search rules, grind (arith, common_steps))) (search rules) sent received c.join.ensures.joined c.join.ensures.all (search rules) in

@@ -11,9 +11,9 @@ pub loop-init : goal.loop-init
 loop-init g c =
     let is : c.acquire_consumer.result ≡ Ok c.in-Ok.consumer = first_of (search rules, grind (arith, common_steps)) in
     let told = IfOk-at_ok _ is c.acquire_consumer.ensures.acquired in (
-      told.0,
+      told.0.queue,
       λ some. subst (λ z. HasTaken z (view c.args.pass) (consumer_view c.in-Ok.consumer))
-          (sym c.new-numbers.ensures.items) (takes_none _ roles.Consumer _ _ told.1 told.2),
+          (sym c.new-numbers.ensures.items) (takes_none _ roles.Consumer _ _ told.0.goes told.1),
     )
 
 pub loop-preserved : goal.loop-preserved
@@ -45,4 +45,4 @@ loop-preserved-in-None g c =
 pub returns-clause-popped : goal.returns-clause-popped
 returns-clause-popped g c some =
     takes_all _ c.loop.numbers.items roles.Consumer (view c.args.pass) (consumer_view c.loop.consumer) _
-    (c.loop.invariant.1 some) c.release-pass.ensures.goes c.release-pass.ensures.released
+    (c.loop.invariant.1 some) c.release-pass.ensures.same.goes c.release-pass.ensures.released

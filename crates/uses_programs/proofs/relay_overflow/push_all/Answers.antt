@@ -10,10 +10,10 @@ pub loop-next-init : goal.loop-next-init
 loop-next-init c =
     let is : c.acquire_producer.result ≡ Ok c.in-Ok.producer = first_of (search rules, grind (arith, common_steps)) in
     let told = IfOk-at_ok _ is c.acquire_producer.ensures.acquired in (
-      told.0,
+      told.0.queue,
       refl,
       λ some. subst (λ z. HasPushedUpTo [] z (view c.args.pass) (producer_view c.in-Ok.producer))
-          (sym c.new-handed_back.ensures.items) (pushed_none _ c.args.numbers.now roles.Producer _ _ told.1 told.2),
+          (sym c.new-handed_back.ensures.items) (pushed_none _ c.args.numbers.now roles.Producer _ _ told.0.goes told.1),
     )
 
 pub loop-next-preserved : goal.loop-next-preserved
@@ -49,5 +49,5 @@ returns-clause-pushed c some =
     pushed_all _ c.args.numbers.now c.loop-next.next _ roles.Producer (view c.args.pass)
     (producer_view c.loop-next.producer) _
     (let e = c.loop-next.invariant.1 in let past = c.loop-next-test.false in omega arith)
-    (c.loop-next.invariant.2 some) c.release-pass.ensures.goes c.release-pass.ensures.released
+    (c.loop-next.invariant.2 some) c.release-pass.ensures.same.goes c.release-pass.ensures.released
     c.release-pass.ensures.list

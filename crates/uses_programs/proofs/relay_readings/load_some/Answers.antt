@@ -13,6 +13,6 @@ loop-done-preserved g c =
       first_of (search rules, grind (arith, common_steps)),
       subst (λ xs. HasRead xs (view c.args.pass) (view c.load-reading.new.pass)) (sym pushed)
           (read_more c.loop-done.readings.items c.load-reading.result (view c.args.pass) (view c.loop-done.pass)
-          (view c.load-reading.new.pass) c.loop-done.invariant.3 c.load-reading.ensures.goes
+          (view c.load-reading.new.pass) c.loop-done.invariant.3 c.load-reading.ensures.same.goes
           c.load-reading.ensures.loaded),
     )

@@ -21,5 +21,5 @@ returns-clause-last g c =
     let wrote : HasWritten c.args.readings.now (view c.split.new.self) (view c.in_ok-pass.pass) = search rules in
     let read : HasRead c.in_ok-further.seen.items (view c.in_ok-other.other) (view c.in_ok-further.further) = search rules in
     last_is c.args.first c.args.readings.now c.in_ok-further.seen.items _ _ _ _ _ _ first cut wrote read
-    c.join.ensures.joined c.join.ensures.all c.load-last.result _ c.load-last.ensures.goes
+    c.join.ensures.joined c.join.ensures.all c.load-last.result _ c.load-last.ensures.same.goes
     c.load-last.ensures.loaded

@@ -8,7 +8,7 @@ pub loop-next-init : goal.loop-next-init
 loop-next-init c =
     let is : c.acquire_producer.result ≡ Ok c.in_ok-producer.producer = first_of (search rules, grind (arith, common_steps)) in
     let told = IfOk-at_ok _ is c.acquire_producer.ensures.acquired in
-    (told.0, refl, written_none c.args.readings.now _ _ told.1 told.2)
+    (told.0.table, refl, written_none c.args.readings.now _ _ told.0.goes told.1)
 
 pub loop-next-preserved : goal.loop-next-preserved
 loop-next-preserved c = (
@@ -17,11 +17,11 @@ loop-next-preserved c = (
   writes c.args.readings.now c.loop-next.next _ _ (view c.args.pass) (producer_view c.loop-next.producer)
       (producer_view c.store.new.self)
       (let e = c.loop-next.invariant.1 in let lt = c.loop-next-test.true in omega arith) refl c.loop-next.invariant.2
-      c.store.ensures.goes (c.store.ensures.stored (search rules)),
+      c.store.ensures.same.goes (c.store.ensures.stored (search rules)),
 )
 
 pub returns-clause-written : goal.returns-clause-written
 returns-clause-written c =
     written_all c.args.readings.now c.loop-next.next (view c.args.pass) (producer_view c.loop-next.producer)
     (view c.release.result) (let e = c.loop-next.invariant.1 in let past = c.loop-next-test.false in omega arith)
-    c.loop-next.invariant.2 c.release.ensures.goes c.release.ensures.released
+    c.loop-next.invariant.2 c.release.ensures.same.goes c.release.ensures.released

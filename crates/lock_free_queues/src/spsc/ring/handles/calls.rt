@@ -7,9 +7,9 @@ ghost use Rattle.model.specs.Coding.{coding_of};
 ghost use Rattle.history.specs.Steps.{TakesAtMost, TakesAlone};
 ghost use Rattle.lock_free_queues.specs.Queues.Bounded.{machine_kind};
 ghost use Rattle.lock_free_queues.specs.Queues.Kinds.{most_waiting};
-ghost use Rattle.lock_free_queues.specs.Queues.Rings.{capacity_of, queue_of, producer_queue, producer_view, consumer_queue, consumer_view, IsPassOf, GoesOn};
+ghost use Rattle.lock_free_queues.specs.Queues.Rings.{capacity_of, queue_of, producer_view, consumer_view, IsPassOf, ToProducer, ToConsumer};
 ghost use Rattle.lock_free_queues.specs.Queues.Told.{HasAcquired, HasMeasured, HasSplit, HasLooked};
-ghost use Rattle.lock_free_queues.specs.Queues.Handles.{ring_in, pass_in, knows};
+ghost use Rattle.lock_free_queues.specs.Queues.Handles.{ring_in, pass_in, knows, SameHandle};
 
 use super::Handle;
 use crate::spsc::ring::rule::Kind;
@@ -55,14 +55,10 @@ impl<'a, E: Kind, T: Words> Handle<'a, E, T> {
 
     /// Calls `acquire_producer` of its queue, and returns the guard, which owns the pass, or the handle.
     pub fn acquire_producer(self) -> Result<Producer<'a, E, T>, Handle<'a, E, T>>
-        ensures acquired { IfOk result (λ p. (producer_queue p ≡ queue_of (pass_in self.entry))
-            × GoesOn (coding_of T.WORDS T.words_of T.value_of) E.KIND (queue_of (pass_in self.entry)).capacity
-            (knows self.entry) (producer_view p)
+        ensures acquired { IfOk result (λ p. ToProducer (pass_in self.entry) p
             × HasAcquired roles.Producer true (knows self.entry) (producer_view p)
             × TakesAtMost 1 (knows self.entry) (producer_view p)) }
-        ensures refused { IfErr result (λ h. (ring_in h ≡ ring_in self.entry)
-            × GoesOn (coding_of T.WORDS T.words_of T.value_of) E.KIND (queue_of (pass_in self.entry)).capacity
-            (knows self.entry) (knows h)
+        ensures refused { IfErr result (λ h. SameHandle self.entry h
             × HasAcquired roles.Producer false (knows self.entry) (knows h)
             × TakesAtMost 1 (knows self.entry) (knows h)) }
     {
@@ -75,14 +71,10 @@ impl<'a, E: Kind, T: Words> Handle<'a, E, T> {
 
     /// Calls `acquire_consumer` of its queue, and returns the guard, which owns the pass, or the handle.
     pub fn acquire_consumer(self) -> Result<Consumer<'a, E, T>, Handle<'a, E, T>>
-        ensures acquired { IfOk result (λ c. (consumer_queue c ≡ queue_of (pass_in self.entry))
-            × GoesOn (coding_of T.WORDS T.words_of T.value_of) E.KIND (queue_of (pass_in self.entry)).capacity
-            (knows self.entry) (consumer_view c)
+        ensures acquired { IfOk result (λ c. ToConsumer (pass_in self.entry) c
             × HasAcquired roles.Consumer true (knows self.entry) (consumer_view c)
             × TakesAtMost 1 (knows self.entry) (consumer_view c)) }
-        ensures refused { IfErr result (λ h. (ring_in h ≡ ring_in self.entry)
-            × GoesOn (coding_of T.WORDS T.words_of T.value_of) E.KIND (queue_of (pass_in self.entry)).capacity
-            (knows self.entry) (knows h)
+        ensures refused { IfErr result (λ h. SameHandle self.entry h
             × HasAcquired roles.Consumer false (knows self.entry) (knows h)
             × TakesAtMost 1 (knows self.entry) (knows h)) }
     {
@@ -102,9 +94,7 @@ impl<'a, E: Kind, T: Words> Handle<'a, E, T> {
 
     /// Calls `len` of its queue, with its pass.
     pub fn len(&mut self, rt: &impl Wait) -> usize
-        ensures queue { ring_in self.new ≡ ring_in self.old }
-        ensures goes { GoesOn (coding_of T.WORDS T.words_of T.value_of) E.KIND (queue_of (pass_in self.old)).capacity
-            (knows self.old) (knows self.new) }
+        ensures same { SameHandle self.old self.new }
         ensures counted { HasMeasured measures.Len (capacity_of (ring_in self.old)) (Number result)
             (knows self.old) (knows self.new) }
         ensures few { result ≤ most_waiting E.KIND (capacity_of (ring_in self.old)) }
@@ -117,9 +107,7 @@ impl<'a, E: Kind, T: Words> Handle<'a, E, T> {
 
     /// Calls `is_empty` of its queue, with its pass.
     pub fn is_empty(&mut self, rt: &impl Wait) -> bool
-        ensures queue { ring_in self.new ≡ ring_in self.old }
-        ensures goes { GoesOn (coding_of T.WORDS T.words_of T.value_of) E.KIND (queue_of (pass_in self.old)).capacity
-            (knows self.old) (knows self.new) }
+        ensures same { SameHandle self.old self.new }
         ensures told { HasMeasured measures.IsEmpty (capacity_of (ring_in self.old)) (Truth result)
             (knows self.old) (knows self.new) }
         ensures steps { TakesAlone (coding_of T.WORDS T.words_of T.value_of) (machine_kind E.KIND) (queue_of
@@ -131,9 +119,7 @@ impl<'a, E: Kind, T: Words> Handle<'a, E, T> {
 
     /// Calls `is_full` of its queue, with its pass.
     pub fn is_full(&mut self, rt: &impl Wait) -> bool
-        ensures queue { ring_in self.new ≡ ring_in self.old }
-        ensures goes { GoesOn (coding_of T.WORDS T.words_of T.value_of) E.KIND (queue_of (pass_in self.old)).capacity
-            (knows self.old) (knows self.new) }
+        ensures same { SameHandle self.old self.new }
         ensures told { HasMeasured measures.IsFull (capacity_of (ring_in self.old)) (Truth result)
             (knows self.old) (knows self.new) }
         ensures steps { TakesAlone (coding_of T.WORDS T.words_of T.value_of) (machine_kind E.KIND) (queue_of
@@ -145,9 +131,7 @@ impl<'a, E: Kind, T: Words> Handle<'a, E, T> {
 
     /// Calls `Pass::look`, with its pass.
     pub fn look(&mut self)
-        ensures queue { ring_in self.new ≡ ring_in self.old }
-        ensures goes { GoesOn (coding_of T.WORDS T.words_of T.value_of) E.KIND (queue_of (pass_in self.old)).capacity
-            (knows self.old) (knows self.new) }
+        ensures same { SameHandle self.old self.new }
         ensures looked { HasLooked (knows self.old) (knows self.new) }
         ensures steps { TakesAtMost 1 (knows self.old) (knows self.new) }
     {

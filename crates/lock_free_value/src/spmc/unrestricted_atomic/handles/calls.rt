@@ -3,9 +3,9 @@ ghost use Rattle.std.specs.Prelude.{◌≡◌, ◌+◌, true, false, IfSome, IfN
 ghost use Rattle.model.specs.Coding.{coding_of};
 ghost use Rattle.model.specs.declared.turn.Kind.TheVariants as kinds;
 ghost use Rattle.history.specs.Steps.{TakesAtMost, TakesAlone};
-ghost use Rattle.lock_free_value.specs.Calls.{IsPassOf, value_of_pass, producer_view, value_of_producer, GoesOn};
+ghost use Rattle.lock_free_value.specs.Calls.{IsPassOf, value_of_pass, producer_view, ToProducer};
 ghost use Rattle.lock_free_value.specs.Told.{HasAcquired, HasLoaded, HasSplit};
-ghost use Rattle.lock_free_value.specs.Handles.{value_in, pass_in, knows};
+ghost use Rattle.lock_free_value.specs.Handles.{value_in, pass_in, knows, SameHandle};
 
 use super::Handle;
 use crate::spmc::unrestricted_atomic::{Pass, Producer, UnrestrictedAtomic};
@@ -50,12 +50,10 @@ impl<'a, T: Words> Handle<'a, T> {
 
     /// Calls `UnrestrictedAtomic::acquire_producer`, and returns the guard, which owns the pass, or the handle.
     pub fn acquire_producer(self) -> Result<Producer<'a, T>, Handle<'a, T>>
-        ensures acquired { IfOk result (λ p. (value_of_producer p ≡ value_of_pass (pass_in self.entry))
-            × GoesOn (coding_of T.WORDS T.words_of T.value_of) (knows self.entry) (producer_view p)
+        ensures acquired { IfOk result (λ p. ToProducer (pass_in self.entry) p
             × HasAcquired true (knows self.entry) (producer_view p)
             × TakesAtMost 1 (knows self.entry) (producer_view p)) }
-        ensures refused { IfErr result (λ h. (value_in h ≡ value_in self.entry)
-            × GoesOn (coding_of T.WORDS T.words_of T.value_of) (knows self.entry) (knows h)
+        ensures refused { IfErr result (λ h. SameHandle self.entry h
             × HasAcquired false (knows self.entry) (knows h)
             × TakesAtMost 1 (knows self.entry) (knows h)) }
     {
@@ -68,8 +66,7 @@ impl<'a, T: Words> Handle<'a, T> {
 
     /// Calls `UnrestrictedAtomic::load`, with its pass.
     pub fn load(&mut self, rt: &impl Wait) -> T
-        ensures value { value_in self.new ≡ value_in self.old }
-        ensures goes { GoesOn (coding_of T.WORDS T.words_of T.value_of) (knows self.old) (knows self.new) }
+        ensures same { SameHandle self.old self.new }
         ensures loaded { HasLoaded result (knows self.old) (knows self.new) }
         ensures steps { TakesAlone (coding_of T.WORDS T.words_of T.value_of) kinds.Atomic 1 (2 + T.WORDS) (1 + T.WORDS)
             (knows self.old) (knows self.new) }
@@ -79,8 +76,7 @@ impl<'a, T: Words> Handle<'a, T> {
 
     /// Calls `Pass::look`, with its pass.
     pub fn look(&mut self)
-        ensures value { value_in self.new ≡ value_in self.old }
-        ensures goes { GoesOn (coding_of T.WORDS T.words_of T.value_of) (knows self.old) (knows self.new) }
+        ensures same { SameHandle self.old self.new }
         ensures made { (knows self.new).made ≡ (knows self.old).made }
         ensures steps { TakesAtMost 1 (knows self.old) (knows self.new) }
     {

@@ -1,6 +1,8 @@
 use Rattle.lock_free.proofs.Names.{rules, ap, refl, subst, one_word}
 use Rattle.model.specs.declared.turn.Kind.TheVariants as kinds
 use Rattle.lock_free_queues.specs.Queues.Calls.{QueueId, GoesOn, consumer_view}
+use Rattle.model.specs.declared.event.Item.TheVariants.{Index}
+use Rattle.lock_free_queues.proofs.Queues.Ends.{has_popped, was_empty}
 use Rattle.lock_free.proofs.Loan.Told.{pops_none, pops_on, still_goes, is_emptied, none_waited}
 use Rattle.lock_free.proofs.spsc.loan.calls.empty_completion.Goals as goal
 
@@ -12,8 +14,8 @@ loop-preserved g c = record {
   queue = search rules;
   popping =
       pops_on one_word kinds.IndexQueue _ (consumer_view c.args.consumer.now) (consumer_view c.loop.consumer)
-      (consumer_view c.pop.new.self) c.loop.invariant.popping c.pop.ensures.goes c.pop.result c.is_none.result
-      c.is_none.ensures c.if-is_none.false c.pop.ensures.called;
+      (consumer_view c.pop.new.self) c.loop.invariant.popping c.pop.ensures.same.goes c.pop.result c.is_none.result
+      c.is_none.ensures c.if-is_none.false (has_popped Index _ _ c.pop.result c.pop.ensures.popped c.pop.ensures.empty);
 }
 
 pub returns-then-is_none-clause-goes : goal.returns-then-is_none-clause-goes
@@ -21,10 +23,11 @@ returns-then-is_none-clause-goes g c =
     subst (λ n. GoesOn n (consumer_view c.args.consumer.now) (consumer_view c.pop.new.self))
     (ap (λ (q : QueueId). q.capacity) c.loop.invariant.queue)
     (still_goes one_word kinds.IndexQueue _ (consumer_view c.args.consumer.now) (consumer_view c.loop.consumer)
-    (consumer_view c.pop.new.self) c.loop.invariant.popping c.pop.ensures.goes)
+    (consumer_view c.pop.new.self) c.loop.invariant.popping c.pop.ensures.same.goes)
 
 pub returns-then-is_none-clause-emptied : goal.returns-then-is_none-clause-emptied
 returns-then-is_none-clause-emptied g c =
     is_emptied (consumer_view c.args.consumer.now) (consumer_view c.loop.consumer) (consumer_view c.pop.new.self)
-    c.loop.invariant.popping c.pop.result c.is_none.result c.is_none.ensures c.if-is_none.true c.pop.ensures.called
-    (none_waited c.pop.result _ _ c.pop.ensures.empty)
+    c.loop.invariant.popping c.pop.result c.is_none.result c.is_none.ensures c.if-is_none.true
+    (has_popped Index _ _ c.pop.result c.pop.ensures.popped c.pop.ensures.empty)
+    (none_waited c.pop.result _ _ (was_empty _ _ c.pop.result c.pop.ensures.empty))

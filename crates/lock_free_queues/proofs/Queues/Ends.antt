@@ -1,0 +1,14 @@
+-- What a pop answers, taken together.
+use Rattle.lock_free_queues.proofs.Names.{Option, Some, None, IfSome, IfNone, Item, option_map}
+use Rattle.history.specs.declared.view.View.{View}
+use Rattle.lock_free_queues.specs.Queues.Told.{HasPopped, WasEmpty, PopDone, PopEmpty}
+
+module _ {T V : Type 0} (named : V → Item T) (old new : View T) where
+  pub has_popped : (answer : Option V) → IfSome answer (λ x. PopDone (named x) old new) → IfNone answer (PopEmpty old new)
+      → HasPopped (option_map named answer) old new
+  has_popped None done empty = empty.0
+  has_popped (Some x) done empty = done.0
+
+pub was_empty : {T V : Type 0} (old new : View T) (answer : Option V) → IfNone answer (PopEmpty old new) → IfNone answer (WasEmpty old new)
+was_empty old new None empty = empty.1
+was_empty old new (Some x) empty = tt
