@@ -8,11 +8,13 @@ pub mod Passes
 pub mod Began
 pub mod SameStates
 pub mod Looks
+pub mod LookElements
 pub mod Counted
 pub mod FindCounts
 pub mod FindTurns
 pub mod Finds
 pub mod RecoverTurns
+pub mod RecoverCells
 pub mod Recoveries
 pub mod States
 pub mod Changes

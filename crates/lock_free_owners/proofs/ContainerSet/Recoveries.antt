@@ -1,6 +1,7 @@
 -- A recovery of a container between two turns: where it stands on the history, and what its closure was asked.
 use Rattle.std.proofs.Common.{arith}
-use Rattle.lock_free_owners.proofs.Names.{◌≡◌, ℕ, Bool, true, false, List, [], if◌then◌else◌, refl, sym, ap, subst}
+use Rattle.lock_free_owners.proofs.Names.{◌≡◌, ◌<◌, ◌∙◌, ℕ, Bool, true, false, List, [], if◌then◌else◌, refl, sym, ap}
+use Rattle.lock_free_owners.proofs.Names.{subst}
 use Rattle.lock_free_owners.proofs.Names.{recover_kept, After, GoOn, Done, DeadOwner, Buffer, ReleaseState, Coding}
 use Rattle.lock_free_owners.proofs.Names.{IsCoding, is_locked, fresh_cell, kept_at, number_of, View, value_of_room}
 use Rattle.lock_free_owners.proofs.Names.{recover_call}
@@ -15,9 +16,11 @@ use Rattle.lock_free_owners.specs.Container.Questions.{TakesValues}
 use Rattle.lock_free_owners.specs.Container.RecoverTold.{HasRecovered}
 use Rattle.lock_free_owners.specs.Container.RecoverTurns.{Visiting, recover_goes, recover_visiting, RecoverAt}
 use Rattle.lock_free_owners.specs.Container.RecoverTurns.{RecoverEnds, RecoverGoes, RecoverTurns, RecoverAsks}
-use Rattle.lock_free_owners.specs.Container.RecoverTurns.{RecoverMoves}
+use Rattle.lock_free_owners.specs.Container.RecoverTurns.{RecoverMoves, RecoverPasses, IsWithin, PassesTo, HasPassed}
+use Rattle.lock_free_owners.specs.Container.RecoverTurns.{PassesFrom}
 use Rattle.lock_free_owners.proofs.ContainerSet.RecoverTurns.{put_in, heard_on, answer_last, asked_open, recovered_called}
 use Rattle.lock_free_owners.proofs.Rules.Container.Recovering.{SoFar, Knows, Onward, StepsOnward, IsQuiet, quietly, answered as answers_so, may_ask}
+use Rattle.lock_free_owners.proofs.Rules.Container.Recovering.{Asked, widen}
 
 same_number : (b : Bool) → number_of b ≡ (if b then 1 else 0)
 same_number true = refl
@@ -153,6 +156,82 @@ module _ {T F : Type 0} (code : Coding T) (step : F → T → Bool → F → Typ
 
     pub may_go : {pre : F → T → Type 0} → (shut ≡ false → TakesValues pre step cap f) → RecoverAsks pre c.stage value p
     may_go takes = may_ask step cap shut given f code.size takes c.stage h.stands.1 knows h.visits value p h.so_far
+
+  -- ---- it passes cells
+
+  in_sight : (stage : RecoverStage) → RecoverIn code.size cap given.mode stage → IsWithin cap stage
+  in_sight recovers.LoadsCounter at = tt
+  in_sight (recovers.LoadsCell index) at = at
+  in_sight (recovers.LoadsCount index) at = tt
+  in_sight (recovers.LoadsWord index count place) at = tt
+  in_sight (recovers.ChecksCount index count) at = tt
+  in_sight (recovers.Asks index count) at = tt
+  in_sight (recovers.EmptiesCell index count) at = tt
+  in_sight (recovers.Hides index count) at = tt
+  in_sight (recovers.Raises index raise) at = tt
+  in_sight (recovers.Locks index lock) at = tt
+  in_sight recovers.LoadsCounterAgain at = tt
+  in_sight (recovers.AddsChange state) at = tt
+
+  pub may_pass : (v : View T) (c : Recover T (Buffer 128)) (m : Buffer 128) (p : F) → Standing v c m p → IsWithin c.capacity c.stage
+  may_pass v c m p h = subst (λ n. IsWithin n c.stage) (sym h.stands.0) (in_sight c.stage h.stands.1)
+
+  module _ (v w : View T) (c d : Recover T (Buffer 128)) (m : Buffer 128) (p : F) (h : Standing v c m p) (goes : RecoverPasses code given v c m d w) where
+    stays : d ≡ c → Standing w d m p
+    stays same =
+        subst (λ z. Standing w z m p) (sym same)
+        (record {
+          visits = h.visits;
+          at = subst (λ z. RecoverAt code given base w z (m, h.visits)) same (goes base h.visits h.at);
+          stands = h.stands;
+          so_far = h.so_far;
+        })
+
+    -- where it comes to from a cell
+    lands : (index : ℕ) → index < cap → Asked step cap shut given f index h.visits p → (stage : RecoverStage) → PassesTo cap index stage
+        → RecoverIn code.size cap given.mode stage × SoFar step cap shut given f stage h.visits (value_in_room m) p
+    lands index within asked recovers.LoadsCounter to = absurd to
+    lands index within asked (recovers.LoadsCell at) to = absurd to
+    lands index within asked (recovers.LoadsCount at) to = (to.1, widen step cap shut given f index at h.visits p to.0 asked)
+    lands index within asked (recovers.LoadsWord at count place) to = absurd to
+    lands index within asked (recovers.ChecksCount at count) to = absurd to
+    lands index within asked (recovers.Asks at count) to = absurd to
+    lands index within asked (recovers.EmptiesCell at count) to = absurd to
+    lands index within asked (recovers.Hides at count) to = absurd to
+    lands index within asked (recovers.Raises at raise) to = absurd to
+    lands index within asked (recovers.Locks at lock) to = absurd to
+    lands index within asked recovers.LoadsCounterAgain to = (tt, widen step cap shut given f index cap h.visits p (omega arith) asked)
+    lands index within asked (recovers.AddsChange state) to = absurd to
+
+    comes_from : (index : ℕ) → c.stage ≡ recovers.LoadsCell index → HasPassed c.capacity index d → Standing w d m p
+    comes_from index is passed =
+        let within : index < cap = subst (RecoverIn code.size cap given.mode) is h.stands.1 in
+        let asked : Asked step cap shut given f index h.visits p =
+        subst (λ z. SoFar step cap shut given f z h.visits (value_in_room m) p) is h.so_far in
+        let there = lands index within asked d.stage (subst (λ n. PassesTo n index d.stage) h.stands.0 passed.1) in
+        record {
+          visits = h.visits;
+          at = goes base h.visits h.at;
+          stands = (passed.0 ∙ h.stands.0, there.0);
+          so_far = there.1;
+        }
+
+    came : (stage : RecoverStage) → c.stage ≡ stage → PassesFrom c stage d → Standing w d m p
+    came recovers.LoadsCounter is same = stays same
+    came (recovers.LoadsCell index) is passed = comes_from index is passed
+    came (recovers.LoadsCount index) is same = stays same
+    came (recovers.LoadsWord index count place) is same = stays same
+    came (recovers.ChecksCount index count) is same = stays same
+    came (recovers.Asks index count) is same = stays same
+    came (recovers.EmptiesCell index count) is same = stays same
+    came (recovers.Hides index count) is same = stays same
+    came (recovers.Raises index raise) is same = stays same
+    came (recovers.Locks index lock) is same = stays same
+    came recovers.LoadsCounterAgain is same = stays same
+    came (recovers.AddsChange state) is same = stays same
+
+    pub passed_on : PassesFrom c c.stage d → Standing w d m p
+    passed_on passed = came c.stage refl passed
 
   pub starts : (c : Recover T (Buffer 128)) (m : Buffer 128) → c ≡ first_recover cap → m ≡ fresh_cell
       → RecoverAt code given base base (first_recover cap) (fresh_cell, [])

@@ -1,11 +1,13 @@
 -- What is known between two steps of a look of a state. Of a new state, or the one that the pass has, it is a call of the
 -- history; of any other it leaves what the pass knows. It began from this view, with this shown and these numbers seen.
-use Rattle.std.specs.Prelude.{◌≡◌, Bool, true}
+use Rattle.std.specs.Prelude.{◌≡◌, ℕ, Bool, true}
+use Rattle.steps.specs.declared.ask.After.{After}
 use Rattle.steps.specs.Container.State.{Numbers, Showing}
 use Rattle.steps.specs.declared.container.look.Look.{Look}
 use Rattle.steps.specs.declared.container.look.LookStage as looks
 use Rattle.model.specs.declared.families.container.calls.LookOf.{LookOf}
 use Rattle.model.specs.Coding.{Coding}
+use Rattle.threaded.specs.Driver.{Next}
 use Rattle.history.specs.declared.view.View.{View}
 use Rattle.history.specs.ContainerLooks.{BeginsWith, RestedLooks, RestedLooked}
 use Rattle.lock_free_owners.specs.Container.Bare.{IsCounted, Still, LookStands}
@@ -37,3 +39,18 @@ module _ {T : Type 0} (code : Coding T) (which : LookOf) (from : View T) (shown 
 
   abbrev pub LookOnOver : Bool → Showing T → View T → Type 0
   LookOnOver changed m w = LookOver code which from shown seen changed m w × (changed ≡ true)
+
+  -- how it has gone on since
+  abbrev pub LookOnGoes : After (Look T) Bool → Showing T → View T → Type 0
+  LookOnGoes = Next (λ (z : View T). z.capacity) (λ base. LookOnAt) (λ base. LookOnOver) from
+
+module _ {T : Type 0} where
+  -- it has come to an element
+  abbrev pub at_count : ℕ → ℕ → Look T
+  at_count capacity index =
+      record { capacity = capacity; stage = looks.TheVariants.LoadsCount index; of = record {} }
+
+  -- it copies the words of one
+  abbrev pub at_word : ℕ → ℕ → ℕ → ℕ → Look T
+  at_word capacity index count at =
+      record { capacity = capacity; stage = looks.TheVariants.LoadsWord index count at; of = record {} }

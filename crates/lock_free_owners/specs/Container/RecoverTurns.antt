@@ -1,6 +1,6 @@
 -- What is known between two turns of a recovery of a container, whatever the view with which it
 -- began, and what a step makes of its closure.
-use Rattle.std.specs.Prelude.{◌≡◌, ℕ, ◌<◌, Bool, List, [], if◌then◌else◌}
+use Rattle.std.specs.Prelude.{◌≡◌, ℕ, ◌<◌, ◌≤◌, Bool, List, [], if◌then◌else◌}
 use Rattle.steps.specs.Container.Recover.{first_recover, recover_after, recover_kept}
 use Rattle.steps.specs.Indices.Robust.Parts.{empty}
 use Rattle.steps.specs.declared.ask.After.{After}
@@ -68,12 +68,43 @@ module _ {T : Type 0} (code : Coding T) (given : DeadOwner) where
       (n : ℕ) × (after ≡ recover_goes call n) × (left ≡ recover_kept kept_at call room n)
       × RecoverTells call room v n w
 
+  -- it has passed cells since: it has come to no further index, and nothing was put into the room
+  abbrev pub RecoverPasses : View T → Recover T (Buffer 128) → Buffer 128 → Recover T (Buffer 128) → View T
+      → Type 0
+  RecoverPasses v call room on w =
+      (base : View T) (visits : List (ℕ × Came T)) → RecoverAt base v call (room, visits)
+      → RecoverAt base w on (room, visits)
+
   -- what a turn does: at a question it takes an answer, and nothing is known anew
   abbrev pub RecoverTurns : recovers.RecoverStage → View T → Recover T (Buffer 128) → Buffer 128
       → After (Recover T (Buffer 128)) ReleaseState → Buffer 128 → View T → Type 0
   RecoverTurns (recovers.TheVariants.Asks index count) v call room after left w =
       (w ≡ v) × (left ≡ room)
   RecoverTurns stage v call room after left w = RecoverGoes v call room after left w
+
+-- it has an index to come to
+abbrev pub IsWithin : ℕ → recovers.RecoverStage → Type 0
+IsWithin capacity (recovers.TheVariants.LoadsCell index) = index < capacity
+IsWithin capacity stage = Unit {0}
+
+-- where the loop over cells leads from the first one: to one of the owner, or past the last
+abbrev pub PassesTo : ℕ → ℕ → recovers.RecoverStage → Type 0
+PassesTo capacity first (recovers.TheVariants.LoadsCount index) = (first ≤ index) × (index < capacity)
+PassesTo capacity first recovers.TheVariants.LoadsCounterAgain = Unit {0}
+PassesTo capacity first stage = ⊥
+
+module _ {T : Type 0} where
+  abbrev pub at_cell : ℕ → ℕ → Recover T (Buffer 128)
+  at_cell capacity index =
+      record { capacity = capacity; stage = recovers.TheVariants.LoadsCell index; of = record {} }
+
+  abbrev pub HasPassed : ℕ → ℕ → Recover T (Buffer 128) → Type 0
+  HasPassed capacity first on = (on.capacity ≡ capacity) × PassesTo capacity first on.stage
+
+  -- a call that has come to no cell stays
+  abbrev pub PassesFrom : Recover T (Buffer 128) → recovers.RecoverStage → Recover T (Buffer 128) → Type 0
+  PassesFrom call (recovers.TheVariants.LoadsCell index) on = HasPassed call.capacity index on
+  PassesFrom call stage on = on ≡ call
 
 module _ {T F : Type 0} where
   -- what a step asks of the closure, which is asked about the value in the room

@@ -13,6 +13,7 @@ use threaded::driver::seated::Home;
 mod calls;
 mod counts;
 mod drives;
+mod elements;
 mod fixed;
 mod handles;
 mod looks;

@@ -47,7 +47,7 @@ module _ {T F : Type 0} (step : F → T → Bool → F → Type 0) (cap : ℕ) (
   higher low high up [] h = tt
   higher low high up (visit ∷ before) h = ((let l = h.0 in omega arith), h.1, h.2)
 
-  widen : (low high : ℕ) (visits : Visits) (p : F) → low ≤ high → Asked low visits p → Asked high visits p
+  pub widen : (low high : ℕ) (visits : Visits) (p : F) → low ≤ high → Asked low visits p → Asked high visits p
   widen x0 x1 x2 x3 x4 x5 = grind (arith, higher, questions_of)
 
   -- the same of visits with the same questions

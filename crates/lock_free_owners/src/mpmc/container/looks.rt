@@ -16,7 +16,8 @@ ghost use Rattle.lock_free_owners.specs.Container.Turns.{IsBoard};
 ghost use Rattle.lock_free_owners.specs.Container.Told.{HasGotState, HasUpdatedState, HasMet};
 ghost use Rattle.lock_free_owners.specs.Container.Names.{view, code_of, container_of, capacity_of, IsPassOf, IsStateOf, IsLeft, IsLatestState, GoesOn};
 
-use super::drives::{Beginning, Looks, LooksOn};
+use super::drives::{Beginning, Looks};
+use super::elements::look_on;
 use super::rule::Seat;
 use super::{Container, ContainerState, ContainerStateError, Pass};
 use std::marker::Brand;
@@ -26,6 +27,7 @@ use steps::container::look::Look;
 use steps::words::Words;
 
 /// Takes all steps of a look of the state. As which call it begins is picked where it is called.
+#[inline(always)]
 fn bring_up<T: Words, B: Beginning<T>>(
     seat: &mut Seat<T>,
     rt: &impl Wait,
@@ -51,7 +53,7 @@ fn bring_up<T: Words, B: Beginning<T>>(
     let after = seat.step::<Look<T>, Looks<B>>(first, &state.seen, &mut state.shown);
     match after {
         After::GoOn(call) => {
-            seat.drive_on::<Look<T>, LooksOn<B>>(rt, call, &state.seen, &mut state.shown);
+            look_on::<T, B>(seat, rt, call, &state.seen, &mut state.shown);
             state.settle();
             true
         }

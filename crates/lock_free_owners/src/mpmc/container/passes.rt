@@ -2,7 +2,7 @@
 ghost use Rattle.std.specs.Prelude.{◌≡◌, None, IfSome, IfNone};
 ghost use Rattle.history.specs.ContainerLooks.{KeepsState};
 ghost use Rattle.history.specs.Passes.{HasSplit};
-ghost use Rattle.history.specs.Steps.{TakesAtMost};
+ghost use Rattle.history.specs.Steps.{TakesAtMost, JoinsWithin};
 ghost use Rattle.lock_free_owners.specs.Container.Told.{HasJoined};
 ghost use Rattle.lock_free_owners.specs.Container.Names.{view, container_of, code_of, HasHistory, MissesNothing};
 
@@ -35,9 +35,9 @@ impl<T: Words> Pass<T> {
         })
     }
 
-    /// Takes in what the other pass of the container has made and has seen, with its share. Three steps: a load by the
-    /// other one, with which its last call ends if it rests, and at most two that this one counts (`steps`). The state that
-    /// this one has stays its; the other's is no longer a pass's. This project's own.
+    /// Takes in what the other pass of the container has made and has seen, with its share and steps. At most three steps:
+    /// the first is a load by the other one, with which its last call ends if it rests. The state that this one has stays
+    /// its; the other's is no longer a pass's. This project's own.
     pub fn join(&mut self, other: Pass<T>)
         requires { container_of other ≡ container_of self.old }
         ensures container { container_of self.new ≡ container_of self.old }
@@ -45,7 +45,7 @@ impl<T: Words> Pass<T> {
         ensures keeps { KeepsState (view self.old) (view self.new) }
         ensures history { HasHistory self.new }
         ensures all { MissesNothing self.new }
-        ensures steps { TakesAtMost 2 (view self.old) (view self.new) }
+        ensures steps { JoinsWithin 3 (view self.old) (view other) (view self.new) }
     {
         let Pass { token } = other;
         let Held {

@@ -2,20 +2,26 @@
 //! a container that is locked at first, and ends if it meets the lock after a free. In mode `LockIfLastIndex` it locks
 //! the container if no index has an owner after a free. It always counts as a change. That it asks about values of the
 //! owner alone is tested; `laws` says when each copy is whole.
-ghost use Rattle.std.specs.Prelude.{◌≡◌, false, []};
+ghost use Rattle.std.specs.Prelude.{◌≡◌, ◌+◌, ◌<◌, ℕ, false, []};
 ghost use Rattle.steps.specs.Container.Recover.{first_recover};
 ghost use Rattle.steps.specs.Copied.{value_in};
+ghost use Rattle.steps.specs.declared.ask.Op.TheVariants.{Load};
 ghost use Rattle.model.specs.Coding.{coding_of};
 ghost use Rattle.model.specs.declared.event.Answer.TheVariants.{State};
 ghost use Rattle.model.specs.declared.families.container.ContainerStart.TheVariants as starts;
+ghost use Rattle.model.specs.declared.turn.Kind.TheVariants as kinds;
 ghost use Rattle.model.specs.Families.Indices.Reading.{is_locked};
 ghost use Rattle.model.specs.Families.Queues.Calls.{fresh_cell};
 ghost use Rattle.history.specs.ContainerLooks.{KeepsState};
-ghost use Rattle.threaded.specs.Seats.{seen, IsSame};
+ghost use Rattle.history.specs.History.{IsMachine};
+ghost use Rattle.threaded.specs.Driver.{OwesAsk};
+ghost use Rattle.threaded.specs.Seats.{seen, table_of, key_of, IsSame};
 ghost use Rattle.lock_free_owners.specs.Robust.Told.{FoundState};
 ghost use Rattle.lock_free_owners.specs.Container.Questions.{TakesValues};
 ghost use Rattle.lock_free_owners.specs.Container.RecoverTold.{HasRecovered};
-ghost use Rattle.lock_free_owners.specs.Container.RecoverTurns.{RecoverAt, RecoverEnds, RecoverMay, RecoverGoes, RecoverTurns, RecoverAsks, RecoverMoves};
+ghost use Rattle.lock_free_owners.specs.Container.RecoverTurns.{RecoverAt, RecoverEnds, RecoverMay, RecoverGoes};
+ghost use Rattle.lock_free_owners.specs.Container.RecoverTurns.{RecoverTells, RecoverTurns, RecoverAsks, RecoverMoves};
+ghost use Rattle.lock_free_owners.specs.Container.RecoverTurns.{at_cell, RecoverPasses, HasPassed, IsWithin, PassesFrom};
 ghost use Rattle.lock_free_owners.specs.Container.Steps.{RecoverTakes};
 ghost use Rattle.lock_free_owners.specs.Container.Told.{Answered};
 ghost use Rattle.lock_free_owners.specs.Container.Turns.{IsBoard};
@@ -23,14 +29,17 @@ ghost use Rattle.lock_free_owners.specs.Container.Names.{view, history, code_of,
 
 use super::rule::Seat;
 use super::{Container, OwnerId, Pass};
-use std::marker::Brand;
+use history::view::View;
+use std::marker::{Brand, PhantomData};
 use std::sync::Wait;
 use steps::ask::After;
 use steps::container::recover::{DeadOwner, Recover, RecoverStage};
 use steps::copied::Copied;
 use steps::indices::enums::{ReleaseMode, ReleaseState};
+use steps::indices::robust::parts::FIRST_CELL;
 use steps::routine::Routine;
 use steps::words::Words;
+use threaded::driver::rule::Tells;
 
 /// Takes one step of the call on the table.
 #[inline(always)]
@@ -48,6 +57,117 @@ fn step_recover<T: Words>(
         result room.new (seen seat.new) }
 {
     seat.step_telling::<Brand, Recover<T, Copied>>(call, &given, room)
+}
+
+/// Loads a cell, for a call that has come to it. What that tells is picked where it is called.
+#[inline(always)]
+fn load_for<T: Words, M: Tells<View<T>>>(
+    seat: &mut Seat<T>,
+    _capacity: u32,
+    cell: usize,
+    _given: &DeadOwner,
+    _room: &Copied,
+) -> u64
+    requires owes { OwesAsk (λ (v : View T). v.asked)
+        (IsMachine (coding_of T.WORDS T.words_of T.value_of) kinds.Container (key_of seat.old))
+        (table_of seat.old).words (table_of seat.old).slots seat.old.seat.id M.told (1 + cell) Load seat.old.seat.me }
+    requires within { cell < _capacity }
+    requires capacity { (v : View T) (n : ℕ) (w : View T) → M.told v n w → w.capacity ≡ v.capacity }
+    ensures same { IsSame seat.old seat.new }
+    ensures told { M.told (seen seat.old) result (seen seat.new) }
+{
+    seat.look::<M>(FIRST_CELL + cell)
+}
+
+/// Takes the step of a call that has come to this cell, but for what the call makes of it. An index is a `usize` here,
+/// so that no turn of a loop has to widen it.
+#[inline(always)]
+fn load_cell<T: Words>(
+    seat: &mut Seat<T>,
+    capacity: u32,
+    cell: usize,
+    given: &DeadOwner,
+    room: &Copied,
+) -> u64
+    requires board { IsBoard T.WORDS seat.old }
+    requires within { cell < capacity }
+    requires at { RecoverMay (coding_of T.WORDS T.words_of T.value_of) given.now (seen seat.old)
+        (at_cell capacity cell) room.now }
+    ensures same { IsSame seat.old seat.new }
+    ensures board { IsBoard T.WORDS seat.new }
+    ensures goes { RecoverTells (coding_of T.WORDS T.words_of T.value_of) given.now (at_cell capacity cell) room.now
+        (seen seat.old) result (seen seat.new) }
+{
+    load_for::<T, Brand>(seat, capacity, cell, given, room)
+}
+
+/// Takes the steps of a call from this cell on, up to one of the owner or past the last. The loop keeps the index alone,
+/// and makes a call of it where it ends.
+#[inline(always)]
+fn pass_over<T: Words>(
+    seat: &mut Seat<T>,
+    capacity: u32,
+    first: u32,
+    given: &DeadOwner,
+    room: &Copied,
+) -> Recover<T, Copied>
+    requires board { IsBoard T.WORDS seat.old }
+    requires within { first < capacity }
+    requires at { RecoverMay (coding_of T.WORDS T.words_of T.value_of) given.now (seen seat.old)
+        (at_cell capacity first) room.now }
+    ensures same { IsSame seat.old seat.new }
+    ensures board { IsBoard T.WORDS seat.new }
+    ensures goes { RecoverPasses (coding_of T.WORDS T.words_of T.value_of) given.now (seen seat.old)
+        (at_cell capacity first) room.now result (seen seat.new) }
+    ensures passed { HasPassed capacity first result }
+{
+    let owner = given.owner.value();
+    let mut cell = first as usize;
+    'cells: loop {
+        let found = load_cell(seat, capacity, cell, given, room);
+        if found == owner {
+            return at_stage(capacity, RecoverStage::LoadsCount { index: cell as u32 });
+        }
+        cell = cell + 1;
+        if cell >= capacity as usize {
+            return at_stage(capacity, RecoverStage::LoadsCounterAgain);
+        }
+    }
+}
+
+/// Takes the steps of a call over cells that are not the owner's, if it has come to a cell.
+#[inline(always)]
+fn pass_others<T: Words>(
+    seat: &mut Seat<T>,
+    call: Recover<T, Copied>,
+    given: &DeadOwner,
+    room: &Copied,
+) -> Recover<T, Copied>
+    requires board { IsBoard T.WORDS seat.old }
+    requires within { IsWithin call.capacity call.stage }
+    requires at { RecoverMay (coding_of T.WORDS T.words_of T.value_of) given.now (seen seat.old) call room.now }
+    ensures same { IsSame seat.old seat.new }
+    ensures board { IsBoard T.WORDS seat.new }
+    ensures goes { RecoverPasses (coding_of T.WORDS T.words_of T.value_of) given.now (seen seat.old) call room.now result
+        (seen seat.new) }
+    ensures passed { PassesFrom call call.stage result }
+{
+    match call.stage {
+        RecoverStage::LoadsCell { index } => pass_over(seat, call.capacity, index, given, room),
+        _ => call,
+    }
+}
+
+/// A recovery at this stage.
+#[inline(always)]
+fn at_stage<T: Words>(capacity: u32, stage: RecoverStage) -> Recover<T, Copied>
+    ensures { result ≡ record { capacity = capacity; stage = stage; of = record {} } }
+{
+    Recover {
+        capacity,
+        stage,
+        of: PhantomData,
+    }
 }
 
 /// Takes one step of the call, or asks the closure about the value that it has copied.
@@ -124,7 +244,8 @@ fn free_all<T: Words, F: FnMut(T) -> bool>(
     let mut call = Recover::new(capacity);
     for _ in rt.forever() {
         let given = DeadOwner { owner, mode };
-        let after = recover_next(seat, call, given, &mut room, predicate);
+        let passed = pass_others(seat, call, &given, &room);
+        let after = recover_next(seat, passed, given, &mut room, predicate);
         match after {
             After::GoOn(next) => call = next,
             After::Done(state) => return state,

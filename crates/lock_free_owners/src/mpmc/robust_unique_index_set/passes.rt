@@ -1,7 +1,7 @@
 //! How passes are made of one another.
 ghost use Rattle.std.specs.Prelude.{◌≡◌, IfSome, IfNone};
 ghost use Rattle.history.specs.Passes.{HasSplit, HasJoined};
-ghost use Rattle.history.specs.Steps.{TakesAtMost};
+ghost use Rattle.history.specs.Steps.{TakesAtMost, JoinsWithin};
 ghost use Rattle.lock_free_owners.specs.RobustUniqueIndexSet.{set_of, view, HasHistory, MissesNothing};
 
 use super::Pass;
@@ -33,7 +33,7 @@ impl Pass {
         ensures joined { HasJoined (view self.old) (view other) (view self.new) }
         ensures history { HasHistory self.new }
         ensures all { MissesNothing self.new }
-        ensures steps { TakesAtMost 2 (view self.old) (view self.new) }
+        ensures steps { JoinsWithin 2 (view self.old) (view other) (view self.new) }
     {
         let Pass {
             seated: other,

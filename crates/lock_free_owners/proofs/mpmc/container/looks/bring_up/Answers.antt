@@ -1,7 +1,7 @@
 use Rattle.lock_free_owners.proofs.Names.{◌≡◌, false, sym, ap, subst, ◌∙◌, look_after, Coding, IsCoding, coding_of}
 use Rattle.lock_free_owners.proofs.Names.{seen}
 use Rattle.lock_free_owners.specs.Container.LookTurns.{LookAt, LookOver}
-use Rattle.lock_free_owners.proofs.ContainerSet.Looks.{look_keeps, look_on_keeps, first_leads, goes_from, ends_from, past_from, false_from}
+use Rattle.lock_free_owners.proofs.ContainerSet.Looks.{look_keeps, first_leads, goes_from, ends_from, past_from, false_from}
 use Rattle.lock_free_owners.proofs.mpmc.container.looks.bring_up.Goals as goal
 
 pub step-after-requires-clause-rule : goal.step-after-requires-clause-rule
@@ -19,15 +19,8 @@ step-after-requires-clause-at g c =
     let b = g.B.Beginning in
     (v, subst (λ call. LookAt code b.which b.from b.shown state.seen v call state.shown) (sym c.new-first.ensures) c.requires.at)
 
-pub drive_on-requires-clause-rule : goal.drive_on-requires-clause-rule
-drive_on-requires-clause-rule g c =
-    let met = g.met.T.Words in
-    let code : Coding g.row.T.Denot = coding_of g.T.Words.WORDS g.T.Words.words_of g.T.Words.value_of in
-    let law : IsCoding code = record { some = met.some; few = met.few; sized = met.sized; given_back = met.given_back } in
-    look_on_keeps code law g.B.Beginning.which g.B.Beginning.from g.B.Beginning.shown c.args.state.now.seen c.requires.decided
-
-pub drive_on-requires-clause-at : goal.drive_on-requires-clause-at
-drive_on-requires-clause-at g c =
+pub look_on-requires-clause-at : goal.look_on-requires-clause-at
+look_on-requires-clause-at g c =
     let met = g.met.T.Words in
     let code : Coding g.row.T.Denot = coding_of g.T.Words.WORDS g.T.Words.words_of g.T.Words.value_of in
     let law : IsCoding code = record { some = met.some; few = met.few; sized = met.sized; given_back = met.given_back } in

@@ -1,5 +1,5 @@
 use Rattle.lock_free_owners.proofs.Names.{refl, subst, ◌∙◌, Coding, IsCoding, coding_of, fresh_cell, seen}
-use Rattle.lock_free_owners.proofs.ContainerSet.Recoveries.{Further, starts, further, may_go}
+use Rattle.lock_free_owners.proofs.ContainerSet.Recoveries.{Standing, Further, starts, further, may_go, may_pass, passed_on}
 use Rattle.lock_free_owners.proofs.mpmc.container.recovery.free_all.Goals as goal
 use Rattle.lock_free_owners.proofs.mpmc.container.recovery.free_all.Given as given
 
@@ -13,33 +13,73 @@ loop-init g c =
           c.new-call.ensures refl c.requires.at,
     )
 
+pub pass_others-passed-requires-clause-within : goal.pass_others-passed-requires-clause-within
+pass_others-passed-requires-clause-within g c =
+    let code : Coding g.row.T.Denot = coding_of g.T.Words.WORDS g.T.Words.words_of g.T.Words.value_of in
+    may_pass code (λ p x b q. given.F-step g p x b q) c.args.capacity (record { owner = c.args.owner; mode = c.args.mode })
+    (seen c.args.seat.now) c.args.predicate.now
+    (seen c.loop.seat) c.loop.call c.loop.room c.loop.predicate c.loop.invariant.2
+
+pub pass_others-passed-requires-clause-at : goal.pass_others-passed-requires-clause-at
+pass_others-passed-requires-clause-at g c = (seen c.args.seat.now, c.loop.invariant.2.visits, c.loop.invariant.2.at)
+
 pub recover_next-after-requires-clause-at : goal.recover_next-after-requires-clause-at
-recover_next-after-requires-clause-at g c = (seen c.args.seat.now, c.loop.invariant.2.visits, c.loop.invariant.2.at)
+recover_next-after-requires-clause-at g c =
+    let code : Coding g.row.T.Denot = coding_of g.T.Words.WORDS g.T.Words.words_of g.T.Words.value_of in
+    let passed = c.pass_others-passed in
+    let there : Standing code (λ p x b q. given.F-step g p x b q) c.args.capacity (record { owner = c.args.owner; mode = c.args.mode })
+    (seen c.args.seat.now) c.args.predicate.now
+    (seen passed.new.seat) passed.result c.loop.room c.loop.predicate =
+    passed_on code (λ p x b q. given.F-step g p x b q) c.args.capacity (record { owner = c.args.owner; mode = c.args.mode })
+    (seen c.args.seat.now) c.args.predicate.now
+    (seen c.loop.seat) (seen passed.new.seat) c.loop.call passed.result c.loop.room c.loop.predicate c.loop.invariant.2
+    passed.ensures.goes passed.ensures.passed in
+    (seen c.args.seat.now, there.visits, there.at)
 
 pub recover_next-after-requires-clause-asks : goal.recover_next-after-requires-clause-asks
 recover_next-after-requires-clause-asks g c =
     let met = g.met.T.Words in
     let code : Coding g.row.T.Denot = coding_of g.T.Words.WORDS g.T.Words.words_of g.T.Words.value_of in
     let law : IsCoding code = record { some = met.some; few = met.few; sized = met.sized; given_back = met.given_back } in
+    let passed = c.pass_others-passed in
+    let there : Standing code (λ p x b q. given.F-step g p x b q) c.args.capacity (record { owner = c.args.owner; mode = c.args.mode })
+    (seen c.args.seat.now) c.args.predicate.now
+    (seen passed.new.seat) passed.result c.loop.room c.loop.predicate =
+    passed_on code (λ p x b q. given.F-step g p x b q) c.args.capacity (record { owner = c.args.owner; mode = c.args.mode })
+    (seen c.args.seat.now) c.args.predicate.now
+    (seen c.loop.seat) (seen passed.new.seat) c.loop.call passed.result c.loop.room c.loop.predicate c.loop.invariant.2
+    passed.ensures.goes passed.ensures.passed in
     may_go code (λ p x b q. given.F-step g p x b q) c.args.capacity (record { owner = c.args.owner; mode = c.args.mode })
     (seen c.args.seat.now) c.args.predicate.now law
-    (seen c.loop.seat) c.loop.call c.loop.room c.loop.predicate c.loop.invariant.2 c.requires.questions
+    (seen passed.new.seat) passed.result c.loop.room c.loop.predicate there c.requires.questions
 
 pub loop-preserved : goal.loop-preserved
 loop-preserved g c =
     let met = g.met.T.Words in
     let code : Coding g.row.T.Denot = coding_of g.T.Words.WORDS g.T.Words.words_of g.T.Words.value_of in
     let law : IsCoding code = record { some = met.some; few = met.few; sized = met.sized; given_back = met.given_back } in
+    let passed = c.pass_others-passed in
+    let there : Standing code (λ p x b q. given.F-step g p x b q) c.args.capacity (record { owner = c.args.owner; mode = c.args.mode })
+    (seen c.args.seat.now) c.args.predicate.now
+    (seen passed.new.seat) passed.result c.loop.room c.loop.predicate =
+    passed_on code (λ p x b q. given.F-step g p x b q) c.args.capacity (record { owner = c.args.owner; mode = c.args.mode })
+    (seen c.args.seat.now) c.args.predicate.now
+    (seen c.loop.seat) (seen passed.new.seat) c.loop.call passed.result c.loop.room c.loop.predicate c.loop.invariant.2
+    passed.ensures.goes passed.ensures.passed in
     let so_far = c.loop.invariant in
     let called = c.recover_next-after in (
-      (called.ensures.same.0 ∙ so_far.0.0, called.ensures.same.1 ∙ so_far.0.1, called.ensures.same.2 ∙ so_far.0.2),
+      (
+        called.ensures.same.0 ∙ (passed.ensures.same.0 ∙ so_far.0.0),
+        called.ensures.same.1 ∙ (passed.ensures.same.1 ∙ so_far.0.1),
+        called.ensures.same.2 ∙ (passed.ensures.same.2 ∙ so_far.0.2),
+      ),
       called.ensures.board,
       subst (λ a. Further code (λ p x b q. given.F-step g p x b q) c.args.capacity (record { owner = c.args.owner; mode = c.args.mode })
           (seen c.args.seat.now) c.args.predicate.now
           (seen called.new.seat) a called.new.room called.new.predicate) c.in-GoOn.is
           (further code (λ p x b q. given.F-step g p x b q) c.args.capacity (record { owner = c.args.owner; mode = c.args.mode })
           (seen c.args.seat.now) c.args.predicate.now law
-          (seen c.loop.seat) c.loop.call c.loop.room c.loop.predicate so_far.2
+          (seen passed.new.seat) passed.result c.loop.room c.loop.predicate there
           (seen called.new.seat) called.result called.new.room called.new.predicate called.ensures.turns called.ensures.moves),
     )
 
@@ -48,14 +88,21 @@ returns-in-Done-clause-ends g c =
     let met = g.met.T.Words in
     let code : Coding g.row.T.Denot = coding_of g.T.Words.WORDS g.T.Words.words_of g.T.Words.value_of in
     let law : IsCoding code = record { some = met.some; few = met.few; sized = met.sized; given_back = met.given_back } in
-    let so_far = c.loop.invariant in
+    let passed = c.pass_others-passed in
+    let there : Standing code (λ p x b q. given.F-step g p x b q) c.args.capacity (record { owner = c.args.owner; mode = c.args.mode })
+    (seen c.args.seat.now) c.args.predicate.now
+    (seen passed.new.seat) passed.result c.loop.room c.loop.predicate =
+    passed_on code (λ p x b q. given.F-step g p x b q) c.args.capacity (record { owner = c.args.owner; mode = c.args.mode })
+    (seen c.args.seat.now) c.args.predicate.now
+    (seen c.loop.seat) (seen passed.new.seat) c.loop.call passed.result c.loop.room c.loop.predicate c.loop.invariant.2
+    passed.ensures.goes passed.ensures.passed in
     let called = c.recover_next-after in
     (subst (λ a. Further code (λ p x b q. given.F-step g p x b q) c.args.capacity (record { owner = c.args.owner; mode = c.args.mode })
     (seen c.args.seat.now) c.args.predicate.now
     (seen called.new.seat) a called.new.room called.new.predicate) c.in-Done.is
     (further code (λ p x b q. given.F-step g p x b q) c.args.capacity (record { owner = c.args.owner; mode = c.args.mode })
     (seen c.args.seat.now) c.args.predicate.now law
-    (seen c.loop.seat) c.loop.call c.loop.room c.loop.predicate so_far.2
+    (seen passed.new.seat) passed.result c.loop.room c.loop.predicate there
     (seen called.new.seat) called.result called.new.room called.new.predicate called.ensures.turns called.ensures.moves)).ends
 
 pub returns-in-Done-clause-recovered : goal.returns-in-Done-clause-recovered
@@ -63,12 +110,19 @@ returns-in-Done-clause-recovered g c =
     let met = g.met.T.Words in
     let code : Coding g.row.T.Denot = coding_of g.T.Words.WORDS g.T.Words.words_of g.T.Words.value_of in
     let law : IsCoding code = record { some = met.some; few = met.few; sized = met.sized; given_back = met.given_back } in
-    let so_far = c.loop.invariant in
+    let passed = c.pass_others-passed in
+    let there : Standing code (λ p x b q. given.F-step g p x b q) c.args.capacity (record { owner = c.args.owner; mode = c.args.mode })
+    (seen c.args.seat.now) c.args.predicate.now
+    (seen passed.new.seat) passed.result c.loop.room c.loop.predicate =
+    passed_on code (λ p x b q. given.F-step g p x b q) c.args.capacity (record { owner = c.args.owner; mode = c.args.mode })
+    (seen c.args.seat.now) c.args.predicate.now
+    (seen c.loop.seat) (seen passed.new.seat) c.loop.call passed.result c.loop.room c.loop.predicate c.loop.invariant.2
+    passed.ensures.goes passed.ensures.passed in
     let called = c.recover_next-after in
     (subst (λ a. Further code (λ p x b q. given.F-step g p x b q) c.args.capacity (record { owner = c.args.owner; mode = c.args.mode })
     (seen c.args.seat.now) c.args.predicate.now
     (seen called.new.seat) a called.new.room called.new.predicate) c.in-Done.is
     (further code (λ p x b q. given.F-step g p x b q) c.args.capacity (record { owner = c.args.owner; mode = c.args.mode })
     (seen c.args.seat.now) c.args.predicate.now law
-    (seen c.loop.seat) c.loop.call c.loop.room c.loop.predicate so_far.2
+    (seen passed.new.seat) passed.result c.loop.room c.loop.predicate there
     (seen called.new.seat) called.result called.new.room called.new.predicate called.ensures.turns called.ensures.moves)).recovered

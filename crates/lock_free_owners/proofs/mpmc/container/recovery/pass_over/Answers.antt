@@ -1,0 +1,52 @@
+use Rattle.lock_free_owners.proofs.Names.{◌∙◌, sym, subst, arith, Coding, coding_of, seen, Buffer}
+use Rattle.steps.specs.declared.container.recover.Recover.{Recover}
+use Rattle.lock_free_owners.specs.Container.RecoverTurns.{RecoverAt}
+use Rattle.lock_free_owners.proofs.ContainerSet.RecoverCells.{comes_own, comes_next, comes_past}
+use Rattle.lock_free_owners.proofs.mpmc.container.recovery.pass_over.Goals as goal
+
+pub load_cell-found-requires-clause-at : goal.load_cell-found-requires-clause-at
+load_cell-found-requires-clause-at g c =
+    let may = c.requires.at in
+    (may.0, may.1, c.cells.invariant.goes may.0 may.1 may.2)
+
+pub returns-then-found-owner-clause-goes : goal.returns-then-found-owner-clause-goes
+returns-then-found-owner-clause-goes g c base visits began =
+    let code : Coding g.row.T.Denot = coding_of g.T.Words.WORDS g.T.Words.words_of g.T.Words.value_of in
+    let found = c.load_cell-found in
+    let given = c.args.given.now in
+    let room = c.args.room.now in
+    subst (λ (d : Recover g.row.T.Denot (Buffer 128)). RecoverAt code given base (seen found.new.seat) d (room, visits)) (sym c.at_stage.ensures)
+    (comes_own code given c.args.capacity c.cells.cell base (seen found.new.seat) room visits found.result
+    (c.if-found-owner.true ∙ c.value-owner.ensures.number)
+    (found.ensures.goes base visits (c.cells.invariant.goes base visits began)))
+
+pub returns-then-cell-capacity-clause-goes : goal.returns-then-cell-capacity-clause-goes
+returns-then-cell-capacity-clause-goes g c base visits began =
+    let code : Coding g.row.T.Denot = coding_of g.T.Words.WORDS g.T.Words.words_of g.T.Words.value_of in
+    let found = c.load_cell-found in
+    let given = c.args.given.now in
+    let room = c.args.room.now in
+    let past = c.if-cell-capacity.true in
+    subst (λ (d : Recover g.row.T.Denot (Buffer 128)). RecoverAt code given base (seen found.new.seat) d (room, visits))
+    (sym c.at_stage-then-cell-capacity.ensures)
+    (comes_past code given c.args.capacity c.cells.cell base (seen found.new.seat) room visits found.result
+    (λ e. c.if-found-owner.false (e ∙ sym c.value-owner.ensures.number)) (omega arith)
+    (found.ensures.goes base visits (c.cells.invariant.goes base visits began)))
+
+pub cells-preserved : goal.cells-preserved
+cells-preserved g c =
+    let code : Coding g.row.T.Denot = coding_of g.T.Words.WORDS g.T.Words.words_of g.T.Words.value_of in
+    let so_far = c.cells.invariant in
+    let found = c.load_cell-found in
+    let inside = c.if-cell-capacity.false in
+    let up = so_far.onward in
+    record {
+      same = (found.ensures.same.0 ∙ so_far.same.0, found.ensures.same.1 ∙ so_far.same.1, found.ensures.same.2 ∙ so_far.same.2);
+      board = found.ensures.board;
+      within = omega arith;
+      onward = omega arith;
+      goes = λ base visits began.
+          comes_next code c.args.given.now c.args.capacity c.cells.cell base (seen found.new.seat) c.args.room.now visits found.result
+          (λ e. c.if-found-owner.false (e ∙ sym c.value-owner.ensures.number)) (omega arith)
+          (found.ensures.goes base visits (so_far.goes base visits began));
+    }

@@ -1,0 +1,18 @@
+use Rattle.lock_free_owners.proofs.Names.{◌-◌, ◌<◌, ◌≤◌, coding_of, seen, IsSame}
+use Rattle.lock_free_owners.specs.Container.Turns.{IsBoard}
+use Rattle.lock_free_owners.specs.Container.RecoverTurns.{at_cell, RecoverPasses}
+use Rattle.lock_free_owners.proofs.mpmc.container.recovery.pass_over.Given as goal
+
+abbrev pub invariant-cells : goal.invariant-cells
+invariant-cells g l =
+    record {
+      same : IsSame l.fn.seat l.seat;
+      board : IsBoard g.T.Words.WORDS l.seat;
+      within : l.cell < l.fn.capacity;
+      onward : l.fn.first ≤ l.cell;
+      goes : RecoverPasses (coding_of g.T.Words.WORDS g.T.Words.words_of g.T.Words.value_of) l.fn.given
+          (seen l.fn.seat) (at_cell l.fn.capacity l.fn.first) l.fn.room (at_cell l.fn.capacity l.cell) (seen l.seat);
+    }
+
+abbrev pub decreases-cells : goal.decreases-cells
+decreases-cells g l = l.fn.capacity - l.cell
