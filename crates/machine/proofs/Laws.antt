@@ -1,8 +1,15 @@
 -- What is proved of every run, one line a kind.
+use Rattle.std.proofs.Common.{◌≡◌, ℕ, ◌+◌, None, List, [], ◌∷◌, ◌++◌, replicate, sym, ap, ◌∙◌, subst}
+use Rattle.std.proofs.lemmas.Grind.{replicate_next}
 use Rattle.model.specs.declared.turn.Kind.{Kind}
 use Rattle.model.specs.declared.turn.Kind.TheVariants.{IndexQueue, Overflow, Queue, Atomic, Bits, Counts, Indices, Robust, Container, Loan}
 use Rattle.model.specs.declared.families.queues.QueueKind as queue_kinds
+use Rattle.model.specs.declared.turn.Turn.{Turn}
+use Rattle.model.specs.Refusals.{refusal_of}
+use Rattle.model.specs.Turns.{after_turn, after_turns, AreAllowed, IsReached}
+use Rattle.model.specs.World.{Trace}
 use Rattle.model.proofs.Orders.{Keeps}
+use Rattle.model.proofs.Reached.{reached_more, after_turns_more, AreAllowed-more}
 use Rattle.laws_value.proofs.Sound.{value_keeps}
 use Rattle.laws_bits.proofs.Bits.Justified.{bits_keep}
 use Rattle.laws_bits.proofs.Counts.Justified.{counts_keep}
@@ -23,3 +30,19 @@ laws_of Indices = index_keeps
 laws_of Robust = robust_keeps
 laws_of Container = container_keeps
 laws_of Loan = loan_keeps
+
+-- turns that are allowed lead from a reached machine to one
+pub reached_all : {T : Type 0} (t : Trace T) (turns : List (Turn T)) → AreAllowed t turns → IsReached t → IsReached (after_turns t turns)
+reached_all t [] all r = r
+reached_all t (turn ∷ turns) all r = reached_all (after_turn t turn) turns all.1 (reached_more t turn all.0 r)
+
+-- the same turn once more
+pub once_more : {T : Type 0} (t now new : Trace T) (n : ℕ) (turn : Turn T) → AreAllowed t (replicate n turn) → now ≡ after_turns t (replicate n turn)
+    → refusal_of now.world turn ≡ None → new ≡ after_turn now turn
+    → AreAllowed t (replicate (n + 1) turn) × (new ≡ after_turns t (replicate (n + 1) turn))
+once_more {T} t now new n turn allowed so_far free goes =
+    let more : replicate (n + 1) turn ≡ replicate n turn ++ turn ∷ [] = replicate_next n turn in
+    let here : refusal_of (after_turns t (replicate n turn)).world turn ≡ None = subst (λ (u : Trace T). refusal_of u.world turn ≡ None) so_far free in (
+      subst (AreAllowed t) (sym more) (AreAllowed-more t (replicate n turn) turn allowed here),
+      goes ∙ ap (λ u. after_turn u turn) so_far ∙ sym (after_turns_more t (replicate n turn) turn) ∙ ap (after_turns t) (sym more),
+    )

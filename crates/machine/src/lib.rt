@@ -2,7 +2,7 @@
 //! happened.
 #![tactic(auto)]
 
-ghost use Rattle.std.specs.Prelude.{◌≡◌, [], ◌≤◌, ◌<◌, None, OnOk, OnErr, IfOk, IfErr, IfSome, length, take, slice_get, option_copied};
+ghost use Rattle.std.specs.Prelude.{◌≡◌, [], ◌≤◌, ◌<◌, None, OnOk, OnErr, IfOk, IfErr, IfSome, length, replicate, take, slice_get, option_copied};
 
 pub mod theorems;
 
@@ -75,6 +75,7 @@ impl<T: Words> Machine<T> {
     ghost use Rattle.model.specs.declared.families.Registry.TheVariants as registries;
     ghost use Rattle.model.specs.declared.families.loan.Book.{Book};
     ghost use Rattle.machine.specs.States.{IsStateIn};
+    ghost use Rattle.model.specs.declared.turn.Turn.TheVariants.{Next};
     ghost use Rattle.model.specs.Promises.{IsKept, WritesEvents, TellsBeside, AreTurns};
     ghost use Rattle.model.specs.Promises.Turns.{IsOneTurnLater, WritesOneWord, GoesOn, CountsTurn, CountsOthers};
 
@@ -138,17 +139,20 @@ impl<T: Words> Machine<T> {
 
     /// One turn. A refused turn changes nothing.
     ///
-    /// The refusals are tested in this order: `AtEnd` after 2^64 - 2 turns, `NoParty` for a number that is not below
-    /// the number of parties; for `Begin` then `Busy`, `WrongCall`, `BadIndex` for a bit or index of a set or a channel
-    /// that is not below the capacity, `NoRole`, of a channel also for a call of another party, `NotHeld` for an index to
-    /// release, give up, send or give back that the party does not have, `OwnerIsDead` for an acquire, a release, an add,
-    /// a remove or a replace of a dead owner and for any call of a dead party of a channel, and `OwnerLives` for a
-    /// container's recovery of an owner who lives and a reclaim while the receiver does; for `Next` `Idle`, `Undecided`
-    /// where a decision is due, and `OwnerIsDead` for such a call under way; for `Decide` `Idle`, `Undecided` where none is
-    /// due, `OwnerIsDead`, and `OwnerLives` for a yes by which a recovery of the robust set would free an index of an owner
-    /// who lives; for `Die` of a channel `NoParty` where no party has this number, `WrongCall` where the kind has no
-    /// owners, and `OwnerIsDead`; last `NoMemory`, where there is no room for the events, for a new party, for its state,
-    /// for the value that its call is to read or for a dead owner.
+    /// The refusals are tested in this order:
+    /// - Any turn: `AtEnd` after 2^64 - 2 turns; `NoParty` for a number that is not below the number of parties.
+    /// - `Begin`: `Busy`; `WrongCall`; `BadIndex` for a bit, or an index of a set or a channel, that is not below the
+    ///   capacity; `NoRole`, of a channel also for a call of another party; `NotHeld` for an index to release, give up,
+    ///   send or give back that the party does not have; `OwnerIsDead` for an acquire, a release, an add, a remove or a
+    ///   replace of a dead owner, and for any call of a dead party of a channel; `OwnerLives` for a container's recovery
+    ///   of an owner who lives, and for a reclaim while the receiver does.
+    /// - `Next`: `Idle`; `Undecided` where a decision is due; `OwnerIsDead` for such a call under way.
+    /// - `Decide`: `Idle`; `Undecided` where none is due; `OwnerIsDead`; `OwnerLives` for a yes by which a recovery of the
+    ///   robust set would free an index of an owner who lives.
+    /// - `Die`: of a channel `NoParty` where no party has this number; `WrongCall` where the kind has no owners;
+    ///   `OwnerIsDead`.
+    /// - Any turn, last: `NoMemory`, where there is no room for the events, for a new party, for its state, for the value
+    ///   that its call is to read or for a dead owner.
     pub fn step(&mut self, turn: Turn<T>) -> Result<(), Refusal>
         // Whether it is taken, or why not.
         ensures allowed { OnOk result
@@ -229,6 +233,53 @@ impl<T: Words> Machine<T> {
             }
         }
         Ok(())
+    }
+
+    /// Takes so many turns of one party's call, without decisions, up to the first that is refused. It is what `run_all`
+    /// makes of a list of as many `Next`, in less time: a call that is done, or waits for a decision, is refused its next
+    /// one.
+    pub fn nexts(&mut self, party: u32, most: u64) -> Result<(), Stopped>
+        ensures all { OnOk result (AreAllowed (trace_in ⟦<T as Coded>⟧.coding self.old)
+            (replicate most (Next party))) }
+        ensures ok { OnOk result (trace_in ⟦<T as Coded>⟧.coding self.new
+            ≡ after_turns (trace_in ⟦<T as Coded>⟧.coding self.old) (replicate most (Next party))) }
+        ensures each { OnOk result (AreTurns (trace_in ⟦<T as Coded>⟧.coding self.old)
+            (replicate most (Next party))) }
+        ensures before { IfErr result (λ stopped. stopped.taken < most) }
+        ensures allowed { IfErr result (λ stopped. AreAllowed
+            (trace_in ⟦<T as Coded>⟧.coding self.old) (replicate stopped.taken (Next party))) }
+        ensures taken { IfErr result (λ stopped. trace_in ⟦<T as Coded>⟧.coding self.new
+            ≡ after_turns (trace_in ⟦<T as Coded>⟧.coding self.old)
+            (replicate stopped.taken (Next party))) }
+        ensures each_before { IfErr result (λ stopped. AreTurns
+            (trace_in ⟦<T as Coded>⟧.coding self.old) (replicate stopped.taken (Next party))) }
+        ensures refused { IfErr result (λ stopped. IsRefusal
+            (world_in ⟦<T as Coded>⟧.coding self.new) (Next party) stopped.refusal) }
+        ensures kept { IsKept (trace_in ⟦<T as Coded>⟧.coding self.new) }
+    {
+        let _ = &self.parts;
+        let first = self.at_once(party, most);
+        for taken in first..most {
+            if let Err(refusal) = self.step(Turn::Next(party)) {
+                return Err(Stopped {
+                    taken: taken as usize,
+                    refusal,
+                });
+            }
+        }
+        Ok(())
+    }
+
+    // Some of these turns, in one loop.
+    fn at_once(&mut self, party: u32, most: u64) -> u64
+        ensures most { result ≤ most }
+        ensures allowed { AreAllowed (trace_in ⟦<T as Coded>⟧.coding self.old)
+            (replicate result (Next party)) }
+        ensures taken { trace_in ⟦<T as Coded>⟧.coding self.new
+            ≡ after_turns (trace_in ⟦<T as Coded>⟧.coding self.old) (replicate result (Next party)) }
+        ensures kept { IsKept (trace_in ⟦<T as Coded>⟧.coding self.new) }
+    {
+        self.parts.steps(party, most)
     }
 
     /// Everything that happened, in order.

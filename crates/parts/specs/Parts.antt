@@ -1,5 +1,5 @@
 -- The machine that a program's parts make, and what a turn of one party makes of its parts.
-use Rattle.std.specs.Prelude.{◌≡◌, ◌⊎◌, ℕ, ◌+◌, Bool, not, Option, Some, None, is_none, List, [], ◌∷◌, ◌++◌}
+use Rattle.std.specs.Prelude.{◌≡◌, ◌⊎◌, ℕ, zero, suc, ◌+◌, Bool, not, Option, Some, None, is_none, List, ◌∷◌, ◌++◌}
 use Rattle.steps.specs.declared.ask.Ask.{Ask}
 use Rattle.model.specs.declared.event.Event.{Event}
 use Rattle.model.specs.declared.families.Flight.{Flight}
@@ -10,7 +10,7 @@ use Rattle.model.specs.declared.party.Party.{Party}
 use Rattle.model.specs.declared.turn.Refusal.{Refusal}
 use Rattle.model.specs.declared.turn.Refusal.TheVariants.{Idle, Undecided, NoMemory}
 use Rattle.model.specs.Coding.{Coding}
-use Rattle.model.specs.Families.{want_of, ask_of, step_of, going_rows}
+use Rattle.model.specs.Families.{want_of, ask_of, step_of, going_rows, beside_of}
 use Rattle.model.specs.Parties.{flight_of}
 use Rattle.model.specs.Refusals.{is_due}
 use Rattle.model.specs.Rows.{first_row}
@@ -105,3 +105,15 @@ module _ {T : Type 0} where
       after_going p (ask_with code said flight) a.party since a
       (step_of code a.words beside p a.party.start flight
       (answer_with code said a.words flight) a.kept)
+
+  -- none of its steps has to know of the others
+  abbrev pub StandsAlone : Registry T → Type 0
+  StandsAlone kept = (words : List ℕ) (latest : List (ℕ × Party T)) (p : ℕ) → beside_of words kept latest p ≡ None
+
+  -- so many steps of the party's call, none of which is refused or has to know of the others, lead from here to there
+  abbrev pub Steps : Coding T → ℕ → ℕ → Around T → Around T → Type 0
+  Steps code p zero a b = b ≡ a
+  Steps code p (suc n) a b =
+      (mid : Around T) × Steps code p n a mid × StandsAlone mid.kept
+      × (going_refusal code mid.kept mid.party.doing None ≡ None)
+      × (b ≡ after_turn_of code p None None mid.party.doing mid)

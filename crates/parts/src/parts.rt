@@ -1,13 +1,14 @@
 //! The parts of a machine, and what each turn does to them.
-ghost use Rattle.std.specs.Prelude.{◌≡◌, ◌-◌, ◌^◌, ◌≤◌, ◌<◌, true, false, None, OnOk, OnErr, IfOk, IfErr};
+ghost use Rattle.std.specs.Prelude.{◌≡◌, ◌+◌, ◌-◌, ◌^◌, ◌≤◌, ◌<◌, true, false, None, OnOk, OnErr, IfOk, IfErr, replicate};
 ghost use Rattle.model.specs.Families.{kept_after_begin};
 ghost use Rattle.model.specs.Parties.{put};
 ghost use Rattle.model.specs.World.{opening, loan_opening, capacity_error, loan_error, IsCreationError, IsLoanError};
 ghost use Rattle.model.specs.Refusals.{refusal_of, IsRefusal};
 ghost use Rattle.model.specs.Small.{IsSmall, HasSmallCounts};
 ghost use Rattle.model.specs.declared.party.Doing.TheVariants.{Over};
-ghost use Rattle.model.specs.Turns.{turn_of, number_of, one_if, after_turn};
-ghost use Rattle.parts.specs.Parts.{state_of, trace_of, going_refusal, IsGoingRefusal, around, after_turn_of};
+ghost use Rattle.model.specs.Turns.{turn_of, number_of, one_if, after_turn, after_turns, AreAllowed};
+ghost use Rattle.model.specs.declared.turn.Turn.TheVariants.{Next};
+ghost use Rattle.parts.specs.Parts.{state_of, trace_of, going_refusal, IsGoingRefusal, around, after_turn_of, StandsAlone, Steps};
 
 use model::coding::Coded;
 use model::event::{Event, Start};
@@ -122,6 +123,7 @@ fn finish<T: Words>(party: &mut Party<T>, others: u64)
 }
 
 /// The party's call takes its step, or is handed a decision, unless it is refused.
+#[inline(always)]
 fn take_step<T: Words>(
     party: &mut Party<T>,
     number: u32,
@@ -187,6 +189,58 @@ fn take_step<T: Words>(
     }
     words::write(words, ask);
     Ok(())
+}
+
+/// Whether a step has to know of the others.
+fn looks_beside<T>(kept: &Registry<T>) -> bool
+    ensures { result ≡ false → StandsAlone kept.now }
+{
+    match kept {
+        Registry::Queues(_) | Registry::Loan(_) => true,
+        _ => false,
+    }
+}
+
+/// Takes steps of the party's call, one after another, while none of them has to know of the others. How many it took,
+/// of so many: it stops at the first that is refused.
+fn take_steps<T: Words>(
+    party: &mut Party<T>,
+    number: u32,
+    most: u64,
+    words: &mut Vec<u64>,
+    kept: &mut Registry<T>,
+    changes: &mut u64,
+    events: &mut Vec<Event<T>>,
+    turns: u64,
+) -> u64
+    requires turns { turns + most ≤ 2 ^ 64 - 2 }
+    requires changes { changes.old ≤ turns }
+    requires small { HasSmallCounts turns changes.old party.old }
+    ensures most { result ≤ most }
+    ensures steps { Steps ⟦<T as Coded>⟧.coding number result
+        (around party.old words.old.items kept.old changes.old events.old.items)
+        (around party.new words.new.items kept.new changes.new events.new.items) }
+{
+    for taken in 0..most {
+        if looks_beside(kept) {
+            return taken;
+        }
+        match take_step(
+            party,
+            number,
+            None,
+            None,
+            words,
+            kept,
+            changes,
+            events,
+            turns + taken,
+        ) {
+            Ok(()) => {}
+            Err(_) => return taken,
+        }
+    }
+    most
 }
 
 impl<T: Words> Parts<T> {
@@ -391,5 +445,37 @@ impl<T: Words> Parts<T> {
             Turn::Decide(number, said) => self.resume(number, Some(said)),
             Turn::Die(owner) => self.die(owner),
         }
+    }
+
+    /// Steps of the party's call, one after another, some of so many or none. How many.
+    pub fn steps(&mut self, number: u32, most: u64) -> u64
+        requires { IsSmall (trace_of ⟦<T as Coded>⟧.coding self.old).world }
+        ensures most { result ≤ most }
+        ensures allowed { AreAllowed (trace_of ⟦<T as Coded>⟧.coding self.old)
+            (replicate result (Next number)) }
+        ensures ok { trace_of ⟦<T as Coded>⟧.coding self.new
+            ≡ after_turns (trace_of ⟦<T as Coded>⟧.coding self.old) (replicate result (Next number)) }
+    {
+        if number >= self.parties {
+            return 0;
+        }
+        let turns = self.turns;
+        let left = MOST_TURNS - turns;
+        let most = if most < left { most } else { left };
+        let Some(seat) = self.latest.get_mut(&number) else {
+            return 0;
+        };
+        let taken = take_steps(
+            &mut *seat.party,
+            number,
+            most,
+            &mut self.words,
+            &mut self.kept,
+            &mut self.changes,
+            &mut self.events,
+            turns,
+        );
+        self.turns += taken;
+        taken
     }
 }

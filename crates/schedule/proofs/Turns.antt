@@ -1,23 +1,31 @@
 -- Turns, one and several, and the text that they print.
-use Rattle.std.proofs.Common.{◌≡◌, inl, inr, ℕ, suc, ◌-◌, Bool, true, false, Option, None, Ok, Err, List, [], ◌∷◌}
-use Rattle.std.proofs.Common.{◌++◌, refl, sym, ap, ◌∙◌, subst, append_assoc, append-nil, length, take, drop, cond}
+use Rattle.std.proofs.Common.{◌≡◌, ◌≢◌, ◌⊎◌, inl, inr, ℕ, zero, suc, ◌+◌, ◌-◌, ◌<◌, ◌≤◌, Bool, true, false, not}
+use Rattle.std.proofs.Common.{Option, None, Some, is_none, Result, Ok, Err, OnOk, IfErr, List}
+use Rattle.std.proofs.Common.{[], ◌∷◌, ◌++◌, replicate, refl, sym, ap, ◌∙◌, subst, append_assoc, append-nil, length, take, drop, cond, arith}
 use Rattle.std.specs.Io.KnownBytes.{Appends}
-use Rattle.std.proofs.KnownBytes.{Appends-trans, Appends-nil}
+use Rattle.std.proofs.KnownBytes.{Appends-trans}
+use Rattle.std.proofs.lemmas.Grind.{flat_map-append}
 use Rattle.std.proofs.lemmas.List.{take_rest, drop_at}
+use Rattle.model.specs.declared.event.Event.{Event}
+use Rattle.model.specs.declared.families.Flight.{Flight}
 use Rattle.model.specs.declared.turn.Refusal.{Refusal}
+use Rattle.model.specs.declared.turn.Refusal.TheVariants.{Idle, Undecided}
 use Rattle.model.specs.declared.turn.Turn.{Turn}
 use Rattle.model.specs.declared.turn.Turn.TheVariants.{Next}
-use Rattle.model.specs.World.{World}
-use Rattle.model.specs.Refusals.{refusal_of, IsRefusal}
-use Rattle.model.specs.Turns.{world_after, events_of}
+use Rattle.model.specs.Coding.{Coding}
+use Rattle.model.specs.World.{World, Trace, flight_in}
+use Rattle.model.specs.Refusals.{refusal_of, IsRefusal, is_going, is_due, goes}
+use Rattle.model.specs.Turns.{world_after, events_of, after_turn, after_turns, AreAllowed}
+use Rattle.model.proofs.Rows.{passes, row_passed}
+use Rattle.machine.specs.declared.Stopped.{Stopped}
 use Rattle.texts.specs.declared.error.ScheduleError.{ScheduleError}
 use Rattle.texts.specs.declared.error.ScheduleError.TheVariants.{WriteFailed}
-use Rattle.texts.specs.Print.{events_text, refusal_text}
-use Rattle.schedule.specs.Written.{AppendsPart}
+use Rattle.texts.specs.Print.{event_text, events_text, refusal_text}
+use Rattle.schedule.specs.Written.{AppendsPart, Writes}
 use Rattle.schedule.specs.Output.{Outcome, outcome, outcome_as, refusal_where, State, Printed, after_text, printed, goes_on, nexts, commanded}
 use Rattle.texts.specs.declared.grammar.Command.TheVariants.{Once}
-use Rattle.schedule.specs.Run.{IsTurn, Prints}
-use Rattle.schedule.proofs.Writing.{part_within}
+use Rattle.schedule.specs.Run.{IsTurn, Leads, Prints}
+use Rattle.schedule.proofs.Writing.{AppendsPart_more, part_within}
 
 -- ---- one turn
 
@@ -90,82 +98,218 @@ nexts_none : (party : ℕ) (s : State) → nexts 0 party s ≡ as_printed s []
 unfolding nexts
 nexts_none party s = refl
 
--- the text begins with that of the first turn
-nexts_begins : (left party : ℕ) (w : World ℕ) (short : Bool) (more : List Bool)
-    → (rest : List ℕ) × ((nexts (suc left) party (at w (short ∷ more))).text ≡ (outcome short w (Next party)).text ++ rest)
-nexts_begins left party w short more = go (goes_on party (outcome short w (Next party))) refl
+-- a turn that is taken, behind which the call goes on
+one_going : (left p : ℕ) (w : World ℕ) (more : List Bool) → refusal_of w (Next p) ≡ None → is_going (world_after w (Next p)) p ≡ true
+    → nexts (suc left) p (at w (false ∷ more)) ≡ after_text (events_text (events_of w (Next p))) (nexts left p (at (world_after w (Next p)) more))
+one_going left p w more e going =
+    let same = outcome_taken w (Next p) e in
+    nexts_going left p w false more (ap (goes_on p) same ∙ going) ∙ ap (λ (o : Outcome). after_text o.text (nexts left p (at o.world more))) same
+
+-- and one behind which it does not
+one_ending : (left p : ℕ) (w : World ℕ) (more : List Bool) → refusal_of w (Next p) ≡ None → is_going (world_after w (Next p)) p ≡ false
+    → nexts (suc left) p (at w (false ∷ more)) ≡ as_printed (at (world_after w (Next p)) more) (events_text (events_of w (Next p)))
+one_ending left p w more e ending =
+    let same = outcome_taken w (Next p) e in
+    nexts_ending left p w false more (ap (goes_on p) same ∙ ending) ∙ ap (λ (o : Outcome). printed o more) same
+
+-- a call whose next turn is not refused goes on
+goes_where : (code : Coding ℕ) (o : Option (Flight ℕ)) → is_none o ≡ false → is_due code o ≡ false → goes code o ≡ true
+goes_where code None e due = absurd (cc)
+goes_where code (Some flight) e due = ap not due
+
+allowed_going : (w : World ℕ) (p : ℕ) → refusal_of w (Next p) ≡ None → is_going w p ≡ true
+allowed_going w p e =
+    let begun = row_passed (is_none (flight_in w p)) Idle _ (passes w (Next p) e).on in
+    let free = row_passed (is_due w.coding (flight_in w p)) Undecided _ begun.1 in
+    goes_where w.coding (flight_in w p) begun.0 free.0
+
+-- what is done behind so many turns, of which the last may have ended the call
+abbrev pub left_over : ℕ → World ℕ → ℕ → ℕ → List Bool → Printed
+left_over zero now p left more = nexts left p (at now more)
+left_over (suc taken) now p left more = cond (is_going now p) (nexts left p (at now more)) (as_printed (at now more) [])
+
+-- so many turns were taken, and wrote this down
+abbrev pub Taken : ℕ → ℕ → World ℕ → World ℕ → List (Event ℕ) → Type 0
+Taken taken p old now told =
+    (left : ℕ) (more : List Bool) → nexts (taken + left) p (at old (replicate taken false ++ more))
+    ≡ after_text (events_text told) (left_over taken now p left more)
+
+after_nothing : (p : ℕ) (w : World ℕ) → Taken 0 p w w []
+after_nothing p w left more =
+    let none : 0 + left ≡ left = omega arith in
+    ap (λ n. nexts n p (at w more)) none
+
+after_one : (p : ℕ) (w : World ℕ) → refusal_of w (Next p) ≡ None → Taken 1 p w (world_after w (Next p)) (events_of w (Next p))
+after_one p w e left more =
+    let one : 1 + left ≡ suc left = omega arith in
+    ap (λ n. nexts n p (at w (false ∷ more))) one ∙ by (is_going (world_after w (Next p)) p) refl
   where
-    go : (g : Bool) → goes_on party (outcome short w (Next party)) ≡ g
-        → (rest : List ℕ) × ((nexts (suc left) party (at w (short ∷ more))).text ≡ (outcome short w (Next party)).text ++ rest)
-    go true e = ((nexts left party (at (outcome short w (Next party)).world more)).text, ap (λ p. p.text) (nexts_going left party w short more e))
-    go false e = ([], ap (λ p. p.text) (nexts_ending left party w short more e) ∙ sym (append-nil _))
+    text : List ℕ
+    text = events_text (events_of w (Next p))
 
--- what the turns so far did, of those that may be done, with so many left
-abbrev pub Done : ℕ → ℕ → ℕ → World ℕ → World ℕ → List Bool → List ℕ → Type 0
-Done most party left old now memory text =
-    (more : List Bool) → nexts most party (at old (memory ++ more)) ≡ after_text text (nexts left party (at now more))
+    by : (b : Bool) → is_going (world_after w (Next p)) p ≡ b → nexts (suc left) p (at w (false ∷ more))
+        ≡ after_text text (cond b (nexts left p (at (world_after w (Next p)) more)) (as_printed (at (world_after w (Next p)) more) []))
+    by true going = one_going left p w more e going
+    by false ending = one_ending left p w more e ending ∙ ap (as_printed (at (world_after w (Next p)) more)) (sym (append-nil text))
 
-pub done_none : (most party left : ℕ) (w : World ℕ) (b : Option (List ℕ)) → most ≡ left
-    → (memory : List Bool) × (text : List ℕ) × Done most party left w w memory text × Appends b b text
-done_none most party left w b e = ([], [], λ more. ap (λ n. nexts n party (at w more)) e, Appends-nil b)
+after_more : (n p : ℕ) (w now : World ℕ) (told : List (Event ℕ)) → refusal_of w (Next p) ≡ None → is_going (world_after w (Next p)) p ≡ true
+    → Taken (suc n) p (world_after w (Next p)) now told → Taken (suc (suc n)) p w now (events_of w (Next p) ++ told)
+after_more n p w now told e going taken left more =
+    let first = events_of w (Next p) in
+    let one : suc (suc n) + left ≡ suc (suc n + left) = omega arith in
+    ap (λ k. nexts k p (at w (replicate (suc (suc n)) false ++ more))) one
+    ∙ one_going (suc n + left) p w (replicate (suc n) false ++ more) e going
+    ∙ ap (after_text (events_text first)) (taken left more)
+    ∙ after_text-after_text (events_text first) (events_text told) (left_over (suc n) now p left more)
+    ∙ ap (λ text. after_text text (left_over (suc n) now p left more)) (sym (flat_map-append event_text first told))
 
-pub done_more : (most party left fewer : ℕ) (old w new : World ℕ) (b m a : Option (List ℕ)) (memory : List Bool) (text : List ℕ) (short : Bool)
-    → left ≡ suc fewer → Done most party left old w memory text → Appends b m text
-    → goes_on party (outcome short w (Next party)) ≡ true → new ≡ (outcome short w (Next party)).world → Appends m a (outcome short w (Next party)).text
-    → (memory : List Bool) × (text : List ℕ) × Done most party fewer old new memory text × Appends b a text
-done_more most party left fewer old w new b m a memory text short one done p going same q =
-    let o = outcome short w (Next party) in (
-      memory ++ short ∷ [],
-      text ++ o.text,
-      (λ more.
-          ap (λ l. nexts most party (at old l)) (append_assoc memory (short ∷ []) more)
-          ∙ done (short ∷ more)
-          ∙ ap (after_text text) (ap (λ n. nexts n party (at w (short ∷ more))) one ∙ nexts_going fewer party w short more going)
-          ∙ after_text-after_text text o.text (nexts fewer party (at o.world more))
-          ∙ ap (λ v. after_text (text ++ o.text) (nexts fewer party (at v more))) (sym same)),
-      Appends-trans b m a text o.text p q,
+pub taken_is : (n p : ℕ) (t : Trace ℕ) → AreAllowed t (replicate n (Next p))
+    → (told : List (Event ℕ)) × ((after_turns t (replicate n (Next p))).events ≡ t.events ++ told)
+    × Taken n p t.world (after_turns t (replicate n (Next p))).world told
+taken_is zero p t all = ([], sym (append-nil t.events), after_nothing p t.world)
+taken_is (suc zero) p t (e, all) = (events_of t.world (Next p), refl, after_one p t.world e)
+taken_is (suc (suc n)) p t (e, all) =
+    let rest = taken_is (suc n) p (after_turn t (Next p)) all in (
+      events_of t.world (Next p) ++ rest.0,
+      rest.1 ∙ append_assoc t.events (events_of t.world (Next p)) rest.0,
+      after_more n p t.world (after_turns (after_turn t (Next p)) (replicate (suc n) (Next p))).world rest.0 e
+          (allowed_going (world_after t.world (Next p)) p all.0) rest.2,
     )
 
--- no more turns are left
-pub done_all : (most party left : ℕ) (old w : World ℕ) (b a : Option (List ℕ)) (memory : List Bool) (text : List ℕ) → left ≡ 0
-    → Done most party left old w memory text → Appends b a text → Prints (nexts most party) old w b a (Ok tt)
-done_all most party left old w b a memory text none done p = (
-  memory,
-  text,
-  (λ more. done more ∙ ap (λ n. after_text text (nexts n party (at w more))) none ∙ ap (after_text text) (nexts_none party (at w more))
-      ∙ ap (as_printed (at w more)) (append-nil text)),
-  p,
-)
+-- ---- what they print
 
--- the call does not go on
-pub done_ending : (most party left fewer : ℕ) (old w new : World ℕ) (b m a : Option (List ℕ)) (memory : List Bool) (text : List ℕ) (short : Bool)
-    → left ≡ suc fewer → Done most party left old w memory text → Appends b m text
-    → goes_on party (outcome short w (Next party)) ≡ false → new ≡ (outcome short w (Next party)).world → Appends m a (outcome short w (Next party)).text
-    → Prints (nexts most party) old new b a (Ok tt)
-done_ending most party left fewer old w new b m a memory text short one done p ending same q =
-    let o = outcome short w (Next party) in (
-      memory ++ short ∷ [],
-      text ++ o.text,
-      (λ more.
-          ap (λ l. nexts most party (at old l)) (append_assoc memory (short ∷ []) more)
-          ∙ done (short ∷ more)
-          ∙ ap (after_text text) (ap (λ n. nexts n party (at w (short ∷ more))) one ∙ nexts_ending fewer party w short more ending)
-          ∙ ap (λ v. as_printed (at v more) (text ++ o.text)) (sym same)),
-      Appends-trans b m a text o.text p q,
+none_left : (n p : ℕ) (now : World ℕ) (more : List Bool) → left_over n now p 0 more ≡ as_printed (at now more) []
+none_left zero p now more = nexts_none p (at now more)
+none_left (suc n) p now more = by (is_going now p)
+  where
+    by : (b : Bool) → cond b (nexts 0 p (at now more)) (as_printed (at now more) []) ≡ as_printed (at now more) []
+    by true = nexts_none p (at now more)
+    by false = refl
+
+-- the next turn is tried: none was taken, or the call goes on
+goes_over : (n p left : ℕ) (now : World ℕ) (more : List Bool) → (n ≡ 0) ⊎ (is_going now p ≡ true) → left_over n now p left more ≡ nexts left p (at now more)
+goes_over zero p left now more h = refl
+goes_over (suc n) p left now more (inl none) = absurd (omega arith)
+goes_over (suc n) p left now more (inr going) = ap (λ b. cond b (nexts left p (at now more)) (as_printed (at now more) [])) going
+
+stops_over : (n p left : ℕ) (now : World ℕ) (more : List Bool) → n ≢ 0 → is_going now p ≡ false → left_over n now p left more ≡ as_printed (at now more) []
+stops_over zero p left now more some ending = absurd (some refl)
+stops_over (suc n) p left now more some ending = ap (λ b. cond b (nexts left p (at now more)) (as_printed (at now more) [])) ending
+
+refused_over : (p left : ℕ) (now : World ℕ) (refusal : Refusal) → IsRefusal now (Next p) refusal
+    → (short : Bool) × ((more : List Bool) → nexts (suc left) p (at now (short ∷ more)) ≡ as_printed (at now more) (refusal_text refusal))
+refused_over p left now refusal is =
+    let r = outcome_refused now (Next p) refusal is in (
+      r.0,
+      λ more. nexts_ending left p now r.0 more (ap (goes_on p) r.1) ∙ ap (λ (o : Outcome). printed o more) r.1,
     )
+
+-- all turns were taken
+pub all_taken : (most p : ℕ) (old now : World ℕ) (told : List (Event ℕ)) (b a : Option (List ℕ)) → Taken most p old now told
+    → Appends b a (events_text told) → Prints (nexts most p) old now b a (Ok tt)
+all_taken most p old now told b a taken q =
+    let none : most ≡ most + 0 = omega arith in (
+      replicate most false,
+      events_text told,
+      (λ more. ap (λ n. nexts n p (at old (replicate most false ++ more))) none ∙ taken 0 more
+          ∙ ap (after_text (events_text told)) (none_left most p now more)
+          ∙ ap (as_printed (at now more)) (append-nil (events_text told))),
+      q,
+    )
+
+-- the call ended before
+pub call_ended : (most n p : ℕ) (old now : World ℕ) (told : List (Event ℕ)) (b a : Option (List ℕ)) → n < most → n ≢ 0 → is_going now p ≡ false
+    → Taken n p old now told → Appends b a (events_text told) → Prints (nexts most p) old now b a (Ok tt)
+call_ended most n p old now told b a below some ending taken q =
+    let split : most ≡ n + (most - n) = omega arith in (
+      replicate n false,
+      events_text told,
+      (λ more. ap (λ k. nexts k p (at old (replicate n false ++ more))) split ∙ taken (most - n) more
+          ∙ ap (after_text (events_text told)) (stops_over n p (most - n) now more some ending)
+          ∙ ap (as_printed (at now more)) (append-nil (events_text told))),
+      q,
+    )
+
+-- where the next turn was refused
+refused_leads : (most n p : ℕ) (old now : World ℕ) (told : List (Event ℕ)) (refusal : Refusal) → n < most → (n ≡ 0) ⊎ (is_going now p ≡ true)
+    → Taken n p old now told → IsRefusal now (Next p) refusal
+    → (memory : List Bool) × Leads (nexts most p) old now memory (events_text told ++ refusal_text refusal)
+refused_leads most n p old now told refusal below goes taken is =
+    let left = most - n - 1 in
+    let r = refused_over p left now refusal is in
+    let split : most ≡ n + suc left = omega arith in (
+      replicate n false ++ r.0 ∷ [],
+      λ more. ap (λ l. nexts most p (at old l)) (append_assoc (replicate n false) (r.0 ∷ []) more)
+          ∙ ap (λ k. nexts k p (at old (replicate n false ++ r.0 ∷ more))) split
+          ∙ taken (suc left) (r.0 ∷ more)
+          ∙ ap (after_text (events_text told)) (goes_over n p (suc left) now (r.0 ∷ more) goes ∙ r.1 more),
+    )
+
+pub next_refused : (most n p : ℕ) (old now : World ℕ) (told : List (Event ℕ)) (refusal : Refusal) (b m a : Option (List ℕ)) → n < most
+    → (n ≡ 0) ⊎ (is_going now p ≡ true) → Taken n p old now told → IsRefusal now (Next p) refusal
+    → Appends b m (events_text told) → Appends m a (refusal_text refusal) → Prints (nexts most p) old now b a (Ok tt)
+next_refused most n p old now told refusal b m a below goes taken is q r =
+    let leads = refused_leads most n p old now told refusal below goes taken is in
+    (leads.0, events_text told ++ refusal_text refusal, leads.1, Appends-trans b m a (events_text told) (refusal_text refusal) q r)
 
 -- a write failed
-pub done_failed : (most party left fewer : ℕ) (old w : World ℕ) (b m a : Option (List ℕ)) (memory : List Bool) (text : List ℕ) (short : Bool)
-    → left ≡ suc fewer → Done most party left old w memory text → Appends b m text → AppendsPart m a (outcome short w (Next party)).text
-    → (memory : List Bool) × AppendsPart b a (nexts most party (at old memory)).text
-done_failed most party left fewer old w b m a memory text short one done p q =
-    let o = outcome short w (Next party) in
-    let begins = nexts_begins fewer party w short [] in (
-      memory ++ short ∷ [],
-      part_within b m a text o.text begins.0 _ p q
-          (append_assoc text o.text begins.0 ∙ ap (λ t. text ++ t) (sym begins.1)
-          ∙ sym (ap (λ r. r.text) (done (short ∷ []) ∙ ap (λ n. after_text text (nexts n party (at w (short ∷ [])))) one))),
+pub events_failed : (most n p : ℕ) (old now : World ℕ) (told : List (Event ℕ)) (b a : Option (List ℕ)) → n ≤ most → Taken n p old now told
+    → AppendsPart b a (events_text told) → (memory : List Bool) × AppendsPart b a (nexts most p (at old memory)).text
+events_failed most n p old now told b a within taken q =
+    let split : most ≡ n + (most - n) = omega arith in (
+      replicate n false ++ [],
+      subst (AppendsPart b a)
+          (sym (ap (λ (r : Printed). r.text) (ap (λ k. nexts k p (at old (replicate n false ++ []))) split ∙ taken (most - n) [])))
+          (AppendsPart_more b a (events_text told) (left_over n now p (most - n) []).text q),
     )
+
+pub refusal_failed : (most n p : ℕ) (old now : World ℕ) (told : List (Event ℕ)) (refusal : Refusal) (b m a : Option (List ℕ)) → n < most
+    → (n ≡ 0) ⊎ (is_going now p ≡ true) → Taken n p old now told → IsRefusal now (Next p) refusal
+    → Appends b m (events_text told) → AppendsPart m a (refusal_text refusal)
+    → (memory : List Bool) × AppendsPart b a (nexts most p (at old memory)).text
+refusal_failed most n p old now told refusal b m a below goes taken is q r =
+    let leads = refused_leads most n p old now told refusal below goes taken is in (
+      leads.0 ++ [],
+      part_within b m a (events_text told) (refusal_text refusal) [] (nexts most p (at old (leads.0 ++ []))).text q r
+          (append-nil (events_text told ++ refusal_text refusal) ∙ sym (ap (λ (p : Printed). p.text) (leads.1 []))),
+    )
+
+pub refused_prints : (most n p : ℕ) (old now : World ℕ) (told : List (Event ℕ)) (refusal : Refusal) (b m a : Option (List ℕ))
+    (r : Result (Unit {0}) ScheduleError) → n < most → (n ≡ 0) ⊎ (is_going now p ≡ true) → Taken n p old now told → IsRefusal now (Next p) refusal
+    → Appends b m (events_text told) → Writes m a r (refusal_text refusal) → Prints (nexts most p) old now b a r
+refused_prints most n p old now told refusal b m a (Ok u) below goes taken is q r =
+    next_refused most n p old now told refusal b m a below goes taken is q r
+refused_prints most n p old now told refusal b m a (Err e) below goes taken is q r =
+    let failed = refusal_failed most n p old now told refusal b m a below goes taken is q r.1 in
+    (r.0, failed.0, failed.1)
+
+-- ---- as a machine answers them
+
+-- so many turns led from one machine to the other
+pub record Ran (most p : ℕ) (t u : Trace ℕ) : Type 0 where
+  pub taken : ℕ
+  pub within : taken ≤ most
+  pub told : List (Event ℕ)
+  pub events : u.events ≡ t.events ++ told
+  pub is : Taken taken p t.world u.world told
+
+pub ran_of : (most n p : ℕ) (t u : Trace ℕ) → n ≤ most → AreAllowed t (replicate n (Next p)) → u ≡ after_turns t (replicate n (Next p))
+    → (told : List (Event ℕ)) × (u.events ≡ t.events ++ told) × Taken n p t.world u.world told
+ran_of most n p t u within all is =
+    subst (λ (v : Trace ℕ). (told : List (Event ℕ)) × (v.events ≡ t.events ++ told) × Taken n p t.world v.world told) (sym is) (taken_is n p t all)
+
+pub ran_is : (most p : ℕ) (t u : Trace ℕ) (r : Result (Unit {0}) Stopped) → OnOk r (AreAllowed t (replicate most (Next p)))
+    → OnOk r (u ≡ after_turns t (replicate most (Next p))) → IfErr r (λ stopped. stopped.taken < most)
+    → IfErr r (λ stopped. AreAllowed t (replicate stopped.taken (Next p)))
+    → IfErr r (λ stopped. u ≡ after_turns t (replicate stopped.taken (Next p))) → Ran most p t u
+ran_is most p t u (Ok x) all is below allowed taken =
+    let within : most ≤ most = omega arith in
+    let ran = ran_of most most p t u within all is in
+    record { taken = most; within = within; told = ran.0; events = ran.1; is = ran.2 }
+ran_is most p t u (Err stopped) all is below allowed taken =
+    let within : stopped.taken ≤ most = omega (arith, below) in
+    let ran = ran_of most stopped.taken p t u within allowed taken in
+    record { taken = stopped.taken; within = within; told = ran.0; events = ran.1; is = ran.2 }
 
 -- ---- one turn as a command
 

@@ -4,7 +4,7 @@ use Rattle.std.specs.Io.KnownBytes.{Appends, Keeps}
 use Rattle.model.specs.World.{World}
 use Rattle.texts.specs.declared.error.ScheduleError.{ScheduleError}
 use Rattle.texts.specs.declared.error.ScheduleError.TheVariants as errors
-use Rattle.schedule.specs.Output.{Outcome, State, Printed, Output, goes_on, output}
+use Rattle.schedule.specs.Output.{Outcome, State, Printed, Output, output}
 use Rattle.schedule.specs.Written.{AppendsPart}
 
 -- ---- a turn
@@ -16,13 +16,6 @@ abbrev pub IsTurn : Outcome → World ℕ → Option (List ℕ) → Option (List
 IsTurn o new before after (Ok is_taken) =
     (is_taken ≡ o.is_taken) × (new ≡ o.world) × Appends before after o.text
 IsTurn o new before after (Err e) = (e ≡ errors.WriteFailed) × AppendsPart before after o.text
-
--- the same, where the answer is whether the party's call goes on
-abbrev pub IsStep : ℕ → Outcome → World ℕ → Option (List ℕ) → Option (List ℕ)
-    → Result Bool ScheduleError → Type 0
-IsStep party o new before after (Ok goes) =
-    (goes ≡ goes_on party o) × (new ≡ o.world) × Appends before after o.text
-IsStep party o new before after (Err e) = (e ≡ errors.WriteFailed) × AppendsPart before after o.text
 
 -- ---- several turns
 

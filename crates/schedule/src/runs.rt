@@ -1,18 +1,18 @@
 //! A whole run: the input is read, the machine is made, and the lines are done one after another.
-ghost use Rattle.std.specs.Prelude.{◌≡◌, ◌^◌, ◌<◌, ℕ, Bool, Option, List, Result, IfOk, length};
+ghost use Rattle.std.specs.Prelude.{◌≡◌, ◌-◌, ◌^◌, ◌<◌, ◌≤◌, ℕ, Bool, Option, List, Result, IfOk, length, take, drop};
 ghost use Rattle.texts.specs.Grammar.{Gives};
 ghost use Rattle.schedule.specs.Output.{world_of, outcome, nexts, commanded, lines_from, setup_error, machine_of, trace_of, output};
 ghost use Rattle.schedule.specs.Told.{exit_of, message_text};
-ghost use Rattle.schedule.specs.Run.{IsTurn, IsStep, Prints, IsOutput, IsRun};
+ghost use Rattle.schedule.specs.Run.{IsTurn, Prints, IsOutput, IsRun};
 ghost use Rattle.texts.specs.Text.{words, words_left};
 ghost use Rattle.schedule.specs.Written.{AppendsPart};
 ghost use Rattle.texts.specs.declared.error.ScheduleError.{ScheduleError};
-ghost use Rattle.model.specs.declared.turn.Turn.TheVariants.{Next};
 
 use crate::input::whole_input;
 use crate::output::{flush, put_events, put_refusal};
 use crate::told::status;
 use machine::Machine;
+use machine::event::Event;
 use machine::families::loan::is_loan;
 use machine::turn::{Kind, Turn, capacity_error, loan_error};
 use std::alloc::{Allocator, Global};
@@ -47,24 +47,15 @@ fn take_turn<W: Write>(
     }
 }
 
-// One turn of the party's call. Whether the call goes on.
-#[inline(always)]
-fn take_next<W: Write>(
-    machine: &mut Machine<u128>,
-    party: u32,
-    line: &mut Line,
-    writer: &mut W,
-) -> Result<bool, ScheduleError>
-    ensures { (short : Bool) × IsStep party (outcome short (world_of machine.old) (Next party))
-        (world_of machine.new) (W.contents writer.old) (W.contents writer.new) result }
+// The events from this place on.
+fn events_from(events: &[Event<u128>], from: usize) -> &[Event<u128>]
+    requires { from ≤ length events.now }
+    ensures { result.now ≡ take (length events.now - from) (drop from events.now) }
 {
-    match take_turn(machine, Turn::Next(party), line, writer) {
-        Ok(taken) => Ok(taken && machine.is_going(party)),
-        Err(e) => Err(e),
-    }
+    &events[from..]
 }
 
-// Up to so many turns of the party's call.
+// Up to so many turns of the party's call. What they write down is printed once all are taken.
 fn take_nexts<W: Write>(
     machine: &mut Machine<u128>,
     party: u32,
@@ -75,14 +66,21 @@ fn take_nexts<W: Write>(
     ensures { Prints (nexts most party) (world_of machine.old) (world_of machine.new)
         (W.contents writer.old) (W.contents writer.new) result }
 {
-    for _ in 0..most {
-        match take_next(machine, party, line, writer) {
-            Ok(true) => {}
-            Ok(false) => return Ok(()),
-            Err(e) => return Err(e),
+    let before = machine.events().len();
+    let stopped = machine.nexts(party, most);
+    match put_events(writer, line, events_from(machine.events(), before)) {
+        Ok(()) => {}
+        Err(e) => return Err(e),
+    }
+    match stopped {
+        Ok(()) => Ok(()),
+        Err(stopped) => {
+            if stopped.taken > 0 && !machine.is_going(party) {
+                return Ok(());
+            }
+            put_refusal(writer, stopped.refusal)
         }
     }
-    Ok(())
 }
 
 // What a line asks for.

@@ -1,4 +1,4 @@
-use Rattle.std.proofs.Common.{◌≡◌, ap, sym, subst}
+use Rattle.std.proofs.Common.{ap, sym, subst}
 use Rattle.model.specs.Coding.{coding_of}
 use Rattle.model.specs.World.{trace_in}
 use Rattle.parts.specs.Parts.{trace_of}

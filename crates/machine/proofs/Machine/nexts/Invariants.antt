@@ -1,0 +1,18 @@
+use Rattle.std.proofs.Common.{◌≡◌, replicate}
+use Rattle.model.specs.Coding.{coding_of}
+use Rattle.model.specs.declared.turn.Turn.TheVariants.{Next}
+use Rattle.model.specs.Turns.{after_turns, AreAllowed}
+use Rattle.model.specs.Promises.{IsKept}
+use Rattle.model.specs.World.{trace_in}
+use Rattle.machine.proofs.Machine.nexts.Given as goal
+
+abbrev pub invariant-loop-taken : goal.invariant-loop-taken
+invariant-loop-taken g l =
+    record {
+      allowed : AreAllowed (trace_in (coding_of g.T.Words.WORDS g.T.Words.words_of g.T.Words.value_of) l.fn.self)
+          (replicate l.taken (Next l.party));
+      taken : trace_in (coding_of g.T.Words.WORDS g.T.Words.words_of g.T.Words.value_of) l.self
+          ≡ after_turns (trace_in (coding_of g.T.Words.WORDS g.T.Words.words_of g.T.Words.value_of) l.fn.self)
+          (replicate l.taken (Next l.party));
+      kept : IsKept (trace_in (coding_of g.T.Words.WORDS g.T.Words.words_of g.T.Words.value_of) l.self);
+    }
