@@ -10,9 +10,9 @@ pub enum Frees {
     Of(OwnerId),
     /// Every other one, from the first on.
     EveryOther,
-    /// Those with these numbers, by the bits of a word.
+    /// Those with these numbers, by the bits of a word; of 0 none.
     These(u64),
-    /// The same, and it is said of each index whose it is.
+    /// As `These`, and each index that the closure hears of is reported with its owner.
     Owned(u64),
     /// Drawn from this seed; of 0 all.
     Drawn(u64),

@@ -13,6 +13,8 @@ mod crossing;
 #[cfg(test)]
 mod examples;
 #[cfg(test)]
+mod freed;
+#[cfg(test)]
 mod loans;
 #[cfg(test)]
 mod openings;

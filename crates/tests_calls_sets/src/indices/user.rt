@@ -1,4 +1,4 @@
-//! Who uses a unique index set of threads.
+//! The tests' caller of a unique index set between threads: by raw indices and by guards.
 ghost use Rattle.std.specs.Prelude.{◌≡◌};
 ghost use Rattle.lock_free.specs.HistoryHeld.{Holds};
 ghost use Rattle.lock_free.specs.Unique.Handles.{set_in};
@@ -24,7 +24,8 @@ struct Raw<'a> {
 }
 
 impl<'a> Raw<'a> {
-    fn goes(self, answer: &mut Answer) {
+    /// Gives the index back in mode `Default`.
+    fn release(self, answer: &mut Answer) {
         let Raw {
             set,
             mut pass,
@@ -33,7 +34,8 @@ impl<'a> Raw<'a> {
         ended(set.release_raw_index(index, &mut pass), answer);
     }
 
-    fn goes_or_locks(self, rt: &impl Wait, answer: &mut Answer) {
+    /// Gives the index back in mode `LockIfLastIndex`.
+    fn release_or_lock(self, rt: &impl Wait, answer: &mut Answer) {
         let Raw {
             set,
             mut pass,
@@ -51,9 +53,10 @@ enum Index<'a> {
 }
 
 impl<'a> Index<'a> {
-    fn goes(self, answer: &mut Answer) {
+    /// Gives the index back in mode `Default`.
+    fn release(self, answer: &mut Answer) {
         match self {
-            Index::Raw(raw) => raw.goes(answer),
+            Index::Raw(raw) => raw.release(answer),
             Index::Held(held) => {
                 held.release();
                 answer.word("unlocked");
@@ -61,10 +64,10 @@ impl<'a> Index<'a> {
         }
     }
 
-    /// Gives the index back: a held one by its drop.
-    fn drops(self, answer: &mut Answer) {
+    /// Gives the index back in mode `Default`: one that a guard holds by its drop.
+    fn release_by_drop(self, answer: &mut Answer) {
         match self {
-            Index::Raw(raw) => raw.goes(answer),
+            Index::Raw(raw) => raw.release(answer),
             Index::Held(held) => {
                 drop(held);
                 answer.word("unlocked");
@@ -72,9 +75,10 @@ impl<'a> Index<'a> {
         }
     }
 
-    fn goes_or_locks(self, rt: &impl Wait, answer: &mut Answer) {
+    /// Gives the index back in mode `LockIfLastIndex`.
+    fn release_or_lock(self, rt: &impl Wait, answer: &mut Answer) {
         match self {
-            Index::Raw(raw) => raw.goes_or_locks(rt, answer),
+            Index::Raw(raw) => raw.release_or_lock(rt, answer),
             Index::Held(held) => {
                 let (state, _handle) = held.give_back_or_lock(rt);
                 ended(state, answer);
@@ -91,7 +95,7 @@ impl<'a> Index<'a> {
     }
 }
 
-/// Who uses a set of threads.
+/// A caller of a set between threads, by two passes in turn.
 #[derive(Drop)]
 pub struct User<'a> {
     set: &'a UniqueIndexSet,
@@ -119,8 +123,8 @@ impl<'a> User<'a> {
         })
     }
 
-    /// The index at its place, which it leaves.
-    fn leaves(&mut self, index: u32) -> Option<Index<'a>> {
+    /// Takes the index out of its place, if one is there.
+    fn take_out(&mut self, index: u32) -> Option<Index<'a>> {
         match self.out.get_mut(index as usize) {
             Some(place) => place.take(),
             None => None,
@@ -137,8 +141,8 @@ impl<'a> User<'a> {
         true
     }
 
-    /// The index comes to its place.
-    fn comes(&mut self, at: u32, index: Index<'a>, answer: &mut Answer) {
+    /// Puts the index at its place, and answers which.
+    fn put_at(&mut self, at: u32, index: Index<'a>, answer: &mut Answer) {
         if !self.has_place(at) {
             answer.word("no_memory");
         }
@@ -165,7 +169,7 @@ impl<'a> User<'a> {
                     pass,
                     index,
                 };
-                self.comes(index, Index::Raw(raw), answer);
+                self.put_at(index, Index::Raw(raw), answer);
             }
             Err(failure) => failed(failure, answer),
         }
@@ -178,17 +182,18 @@ impl<'a> User<'a> {
             return;
         };
         match further.acquire(rt) {
-            Ok(held) => self.comes(held.value(), Index::Held(held), answer),
+            Ok(held) => self.put_at(held.value(), Index::Held(held), answer),
             Err((failure, _)) => failed(failure, answer),
         }
     }
 
+    /// Takes an index for good, by a further pass.
     fn keeps_one(&mut self, rt: &impl Wait) -> Option<u32> {
         let mut pass = self.now.split()?.into_pass();
         self.set.acquire_raw_index(rt, &mut pass).ok()
     }
 
-    /// Takes so many indices: how many come in order, from 0 on.
+    /// Takes so many indices for good: how many come in order, from 0 on.
     fn keeps(&mut self, rt: &impl Wait, number: u64, answer: &mut Answer) {
         for index in 0..number {
             match self.keeps_one(rt) {
@@ -207,23 +212,26 @@ impl<'a> User<'a> {
         answer.number(number);
     }
 
+    /// Releases the index that is out at this place.
     fn releases(&mut self, index: u32, answer: &mut Answer) {
-        match self.leaves(index) {
-            Some(index) => index.goes(answer),
+        match self.take_out(index) {
+            Some(index) => index.release(answer),
             None => answer.refused(),
         }
     }
 
-    fn drops(&mut self, index: u32, answer: &mut Answer) {
-        match self.leaves(index) {
-            Some(index) => index.drops(answer),
+    /// Releases it by the drop of its guard, if it has one.
+    fn releases_by_drop(&mut self, index: u32, answer: &mut Answer) {
+        match self.take_out(index) {
+            Some(index) => index.release_by_drop(answer),
             None => answer.refused(),
         }
     }
 
+    /// Releases it in mode `LockIfLastIndex`.
     fn releases_or_locks(&mut self, rt: &impl Wait, index: u32, answer: &mut Answer) {
-        match self.leaves(index) {
-            Some(index) => index.goes_or_locks(rt, answer),
+        match self.take_out(index) {
+            Some(index) => index.release_or_lock(rt, answer),
             None => answer.refused(),
         }
     }
@@ -253,7 +261,7 @@ impl<'a> Answers<IndexCall> for User<'a> {
             IndexCall::Hold => self.holds(rt, answer),
             IndexCall::Keep(number) => self.keeps(rt, number, answer),
             IndexCall::Release(index) => self.releases(index, answer),
-            IndexCall::Drop(index) => self.drops(index, answer),
+            IndexCall::Drop(index) => self.releases_by_drop(index, answer),
             IndexCall::ReleaseOrLock(index) => self.releases_or_locks(rt, index, answer),
             IndexCall::IsOut(_) => {}
             IndexCall::Holds(index) => self.value(index, answer),

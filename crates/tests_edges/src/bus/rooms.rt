@@ -35,10 +35,15 @@ pub enum Step {
     FindsNone(Who),
     /// One receives a record, and keeps it.
     Keeps(Who),
+    /// One leaves.
     Leaves(Who),
+    /// One dies.
     Dies(Who),
+    /// The dead owner of this number is taken out, and what he had comes back.
     Recovers(u64),
+    /// The publisher takes back what was given back.
     Collects,
+    /// The publisher looks who takes part.
     Updates,
     /// The loan that was kept is dropped.
     DropsLoan,

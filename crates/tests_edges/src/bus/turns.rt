@@ -1,4 +1,4 @@
-//! Turns in one thread.
+//! Rows of steps on a bus, taken by one thread.
 use crate::bus::rooms::Step::{
     Collects, Dies, DropsLoan, FindsNone, Forgets, GivesUp, HasSeat, IsNext, IsStillRead, Joins,
     Keeps, Leaves, Loans, Out, Publishes, Reads, Reclaims, Recovers, Updates,
@@ -157,8 +157,10 @@ const DROPPED: [Step; 9] = [
 /// The record of a loan that is given up is written again, and so is what lay in its slot.
 const GIVEN_UP: [Step; 3] = [Publishes(0, 0), Loans(true), GivesUp];
 
+/// Both take a seat, and none is left.
 const JOIN: [Step; 3] = [Joins(One, 1), Joins(Other, 2), HasSeat(false)];
 
+/// One takes a seat.
 const JOIN_ONE: [Step; 1] = [Joins(One, 1)];
 
 #[test]
