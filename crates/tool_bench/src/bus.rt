@@ -1,5 +1,5 @@
-//! The table of records that go through the bus of `uses_bus`, through the channel of `uses_loans` and by `Arc` through a ring,
-//! beside records that are copied; and the table of one who is stopped in its call.
+//! The table of records that go through the bus of `uses_bus`, through the channel of `uses_loans` and by `Arc` through a
+//! ring, beside records that are copied; and the table of one who is stopped in its call.
 
 mod by_arcs;
 mod by_bus;
@@ -22,8 +22,8 @@ use uses_bus::bus::Bus;
 use uses_bus::error::BusError;
 use uses_loans::channel::Channel;
 
-/// What a row is about: records of so many words, each of which so many read, how many of them a round passes, and whether a
-/// thread writes them while another reads.
+/// What a row is about: records of so many words, each of which so many read, how many of them a round passes, and whether
+/// a thread writes them while another reads.
 #[derive(Clone, Copy)]
 struct Passed {
     name: &'static str,
@@ -110,8 +110,8 @@ fn time<W: Writer + Send, D: Reader + Send, R: Wait + Threads + Clock + CpuClock
     }
 }
 
-/// What the rounds of a row came to: records a second by the way that it is about and by copies, how many times as many the
-/// former passes, in hundredths, and whether the same was read of both.
+/// What the rounds of a row came to: records a second by the way that it is about and by copies, how many times as many
+/// the former passes, in hundredths, and whether the same was read of both.
 #[derive(Clone, Copy)]
 struct Came {
     ours: u64,

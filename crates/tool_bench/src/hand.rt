@@ -8,6 +8,7 @@ use std::sync::Arc;
 
 pub mod bits;
 pub mod container;
+pub mod looks;
 pub mod queues;
 pub mod robust;
 pub mod unique;

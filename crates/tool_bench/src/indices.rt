@@ -3,7 +3,8 @@ ghost use Rattle.lock_free.specs.UniqueIndexSet as of_unique;
 ghost use Rattle.lock_free.specs.RobustUniqueIndexSet as of_robust;
 
 use crate::hand::{robust, unique};
-use crate::timing::{Row, Timed, print_timed};
+use crate::timing::{Row, Timed};
+use crate::usual::print_beside;
 use lock_free::mpmc::robust_unique_index_set;
 use lock_free::mpmc::robust_unique_index_set::{
     CallbackProgression, OwnerId, RobustUniqueIndexSet,
@@ -24,8 +25,14 @@ pub const BORROWED_INDICES: usize = 1;
 /// Finds what an owner has.
 pub const FIND: usize = 2;
 
-/// Frees what a dead owner has.
+/// Frees what a dead owner has, which is nothing.
 pub const RECOVER: usize = 3;
+
+/// Takes an index for him, and frees it.
+pub const RECOVER_ONE: usize = 4;
+
+/// Finds what he has, which is nothing.
+pub const FIND_OTHER: usize = 5;
 
 /// A unique index set with a pass, on which these calls are made.
 #[derive(Drop)]
@@ -34,6 +41,16 @@ struct Unique<'a, const CALLS: usize> {
     pass: Pass,
     hand: unique::Unique,
     ghost of: { of_unique.IsPassOf set.now pass },
+}
+
+impl<'a, const CALLS: usize> Unique<'a, CALLS> {
+    /// Takes so many indices on both sides.
+    fn fill<R: Wait>(&mut self, rt: &R, number: u32) {
+        for _ in 0..number {
+            let _ = self.set.acquire_raw_index(rt, &mut self.pass);
+            self.hand.acquire(rt);
+        }
+    }
 }
 
 impl<'a, const CALLS: usize> Timed for Unique<'a, CALLS> {
@@ -76,7 +93,7 @@ impl<'a, const CALLS: usize> Timed for Unique<'a, CALLS> {
     }
 }
 
-/// Prints a row of the unique index set, of which no index is out.
+/// Prints a row of the unique index set, of which no index is out, or each.
 pub fn unique_row<const CALLS: usize, R: Wait + Threads + CpuClock + Print + Sync>(
     rt: &R,
     alloc: Global,
@@ -84,12 +101,15 @@ pub fn unique_row<const CALLS: usize, R: Wait + Threads + CpuClock + Print + Syn
 ) -> Option<()> {
     let (set, pass) = UniqueIndexSet::new(alloc, row.capacity as usize).ok()?;
     let hand = unique::Unique::new(alloc, row.capacity).ok()?;
-    let timed = Unique::<'_, CALLS> {
+    let mut timed = Unique::<'_, CALLS> {
         set: &set,
         pass,
         hand,
     };
-    print_timed(rt, alloc, row, timed)
+    if row.is_full {
+        timed.fill(rt, row.capacity);
+    }
+    print_beside(rt, alloc, row, timed)
 }
 
 /// A robust set with a pass, on which these calls are made, the owner that acquires, and the dead one.
@@ -130,10 +150,10 @@ impl<'a, const CALLS: usize> Robust<'a, CALLS> {
     }
 
     #[inline(never)]
-    fn finds(&mut self) -> u64 {
+    fn finds(&mut self, owner: OwnerId) -> u64 {
         let mut sum = 0u64;
         self.set.find(
-            self.owner,
+            owner,
             &mut |index| {
                 sum = sum.wrapping_add((index as u64).wrapping_add(1));
                 CallbackProgression::Continue
@@ -166,8 +186,13 @@ impl<'a, const CALLS: usize> Timed for Robust<'a, CALLS> {
         match CALLS {
             ACQUIRE_AND_RELEASE => self.takes(rt),
             BORROWED_INDICES => self.set.borrowed_indices(rt, &mut self.pass) as u64,
-            FIND => self.finds(),
-            _ => self.recovers(rt),
+            FIND => self.finds(self.owner),
+            FIND_OTHER => self.finds(self.dead),
+            RECOVER => self.recovers(rt),
+            _ => {
+                let _ = self.set.acquire(rt, self.dead, &mut self.pass);
+                self.recovers(rt)
+            }
         }
     }
 
@@ -180,7 +205,12 @@ impl<'a, const CALLS: usize> Timed for Robust<'a, CALLS> {
             },
             BORROWED_INDICES => self.hand.filled(rt),
             FIND => self.hand.find(7),
-            _ => self.hand.recover(rt, 9) as u64,
+            FIND_OTHER => self.hand.find(9),
+            RECOVER => self.hand.recover(rt, 9) as u64,
+            _ => {
+                self.hand.acquire(rt, 9);
+                self.hand.recover(rt, 9) as u64
+            }
         }
     }
 
@@ -197,15 +227,14 @@ impl<'a, const CALLS: usize> Timed for Robust<'a, CALLS> {
     }
 }
 
-/// Prints a row of the robust set, of which no index is out, or each where an index is sought in vain.
+/// Prints a row of the robust set, of which no index is out, or each.
 pub fn robust_row<const CALLS: usize, R: Wait + Threads + CpuClock + Print + Sync>(
     rt: &R,
     alloc: Global,
     row: &Row<'_>,
-    is_full: bool,
 ) -> Option<()> {
     let (set, pass) = RobustUniqueIndexSet::new(alloc, row.capacity as usize).ok()?;
-    let in_each = if is_full { 7 } else { robust::EMPTY };
+    let in_each = if row.is_full { 7 } else { robust::EMPTY };
     let owner = OwnerId::new(7).ok()?;
     let dead = OwnerId::new(9).ok()?;
     let hand = robust::Owners::new(alloc, row.capacity, in_each).ok()?;
@@ -216,8 +245,8 @@ pub fn robust_row<const CALLS: usize, R: Wait + Threads + CpuClock + Print + Syn
         dead,
         hand,
     };
-    if is_full {
+    if row.is_full {
         timed.fill(rt, row.capacity);
     }
-    print_timed(rt, alloc, row, timed)
+    print_beside(rt, alloc, row, timed)
 }

@@ -1,7 +1,7 @@
-//! Times each threaded call against the same steps written by hand, and prints a table. The first argument is what the
-//! name of a row begins with, or `all`; without one it times nothing. With a second one, `together`, these are the rows in
-//! which several threads make the calls at once. `bus` prints two tables of its own, of records that go from thread to
-//! thread. `bin/bench` builds it and runs it.
+//! Times each threaded call against the same steps written by hand, or against what a user would take instead, and
+//! prints a table. The first argument is what the name of a row begins with, or `all`; without one it times nothing.
+//! With a second one, `together`, these are the rows in which several threads make the calls at once. `bus` prints two
+//! tables of its own, of records that go from thread to thread. `bin/bench` builds it and runs it.
 #![tactic(auto)]
 
 mod bits;
@@ -9,21 +9,26 @@ mod bus;
 mod container;
 mod hand;
 mod indices;
+mod looks;
 mod queues;
 mod table;
 mod timing;
+mod usual;
 mod value;
 
-use bits::{RESET_NEXT, SET_AND_RESET_ALL, SET_AND_RESET_NEXT};
-use container::{ADD_AND_REMOVE, LEN};
-use indices::{ACQUIRE_AND_RELEASE, BORROWED_INDICES, FIND, RECOVER};
+use bits::{bits_row, counts_row};
+use container::values_row;
+use indices::{robust_row, unique_row};
+use looks::looks_row;
+use queues::{length_row, numbers_row, overflowing_row};
 use std::alloc::Global;
 use std::sync::Wait;
 use std::thread::Threads;
 use std::time::CpuClock;
 use std::{env, io};
-use table::{ALONE, Call, TOGETHER};
+use table::{ALONE, Beside, CAPACITIES, Call, TOGETHER, VALUE_ALONE, VALUE_TOGETHER};
 use timing::Row;
+use value::value_row;
 
 /// Times the call of a row, and prints it.
 fn print_row<R: Wait + Threads + CpuClock + Print + Sync>(
@@ -33,49 +38,116 @@ fn print_row<R: Wait + Threads + CpuClock + Print + Sync>(
     call: Call,
 ) -> Option<()> {
     match call {
-        Call::Numbers => queues::numbers_row(rt, alloc, row),
-        Call::Length => queues::length_row(rt, alloc, row),
-        Call::Overflowing => queues::overflowing_row(rt, alloc, row),
-        Call::Store => value::value_row(rt, alloc, row, true),
-        Call::Load => value::value_row(rt, alloc, row, false),
-        Call::SetAndResetNext => bits::bits_row::<SET_AND_RESET_NEXT, R>(rt, alloc, row),
-        Call::ResetNext => bits::bits_row::<RESET_NEXT, R>(rt, alloc, row),
-        Call::SetAndResetAll => bits::bits_row::<SET_AND_RESET_ALL, R>(rt, alloc, row),
-        Call::Counts => bits::counts_row(rt, alloc, row),
-        Call::Unique => indices::unique_row::<ACQUIRE_AND_RELEASE, R>(rt, alloc, row),
-        Call::UniqueBorrowed => indices::unique_row::<BORROWED_INDICES, R>(rt, alloc, row),
-        Call::Robust => indices::robust_row::<ACQUIRE_AND_RELEASE, R>(rt, alloc, row, false),
-        Call::NoneLeft => indices::robust_row::<ACQUIRE_AND_RELEASE, R>(rt, alloc, row, true),
-        Call::RobustBorrowed => indices::robust_row::<BORROWED_INDICES, R>(rt, alloc, row, false),
-        Call::Find => indices::robust_row::<FIND, R>(rt, alloc, row, false),
-        Call::Recover => indices::robust_row::<RECOVER, R>(rt, alloc, row, false),
-        Call::Container => container::values_row::<ADD_AND_REMOVE, R>(rt, alloc, row),
-        Call::ContainerLength => container::values_row::<LEN, R>(rt, alloc, row),
+        Call::PushPop => numbers_row::<{ queues::PUSH_AND_POP }, R>(rt, alloc, row),
+        Call::Push => numbers_row::<{ queues::PUSH }, R>(rt, alloc, row),
+        Call::Pop => numbers_row::<{ queues::POP }, R>(rt, alloc, row),
+        Call::Len => length_row::<{ queues::LEN }, R>(rt, alloc, row),
+        Call::IsEmpty => length_row::<{ queues::IS_EMPTY }, R>(rt, alloc, row),
+        Call::OverflowPushPop => overflowing_row::<{ queues::PUSH_AND_POP }, R>(rt, alloc, row),
+        Call::OverflowPush => overflowing_row::<{ queues::PUSH }, R>(rt, alloc, row),
+        Call::OverflowPop => overflowing_row::<{ queues::POP }, R>(rt, alloc, row),
+        Call::Store => value_row(rt, alloc, row, true),
+        Call::Load => value_row(rt, alloc, row, false),
+        Call::Set => bits_row::<{ bits::SET }, R>(rt, alloc, row),
+        Call::SetResetNext => bits_row::<{ bits::SET_AND_RESET_NEXT }, R>(rt, alloc, row),
+        Call::ResetNext => bits_row::<{ bits::RESET_NEXT }, R>(rt, alloc, row),
+        Call::SetResetAll => bits_row::<{ bits::SET_AND_RESET_ALL }, R>(rt, alloc, row),
+        Call::FillResetAll => bits_row::<{ bits::FILL_AND_RESET_ALL }, R>(rt, alloc, row),
+        Call::Count => counts_row::<{ bits::COUNT }, R>(rt, alloc, row),
+        Call::CountResetAll => counts_row::<{ bits::COUNT_AND_RESET_ALL }, R>(rt, alloc, row),
+        _ => print_row_of_indices(rt, alloc, row, call),
     }
 }
 
-/// Prints the rows whose names begin so, or all, each in so many threads.
+/// The same, of a set of indices or a container.
+fn print_row_of_indices<R: Wait + Threads + CpuClock + Print + Sync>(
+    rt: &R,
+    alloc: Global,
+    row: &Row<'_>,
+    call: Call,
+) -> Option<()> {
+    match call {
+        Call::Unique | Call::UniqueNoneLeft => unique_row::<{ indices::ACQUIRE_AND_RELEASE }, R>(
+            rt, alloc, row,
+        ),
+        Call::UniqueBorrowed => unique_row::<{ indices::BORROWED_INDICES }, R>(rt, alloc, row),
+        Call::Robust | Call::RobustNoneLeft => robust_row::<{ indices::ACQUIRE_AND_RELEASE }, R>(
+            rt, alloc, row,
+        ),
+        Call::RobustBorrowed | Call::RobustBorrowedFull => robust_row::<
+            { indices::BORROWED_INDICES },
+            R,
+        >(rt, alloc, row),
+        Call::Find | Call::FindEach => robust_row::<{ indices::FIND }, R>(rt, alloc, row),
+        Call::FindOther => robust_row::<{ indices::FIND_OTHER }, R>(rt, alloc, row),
+        Call::Recover | Call::RecoverFull => robust_row::<{ indices::RECOVER }, R>(rt, alloc, row),
+        Call::RecoverOne => robust_row::<{ indices::RECOVER_ONE }, R>(rt, alloc, row),
+        Call::AddRemove => values_row::<{ container::ADD_AND_REMOVE }, R>(rt, alloc, row),
+        Call::ContainerLen | Call::ContainerLenFull => values_row::<{ container::LEN }, R>(
+            rt, alloc, row,
+        ),
+        Call::ContainerIsEmpty => values_row::<{ container::IS_EMPTY }, R>(rt, alloc, row),
+        Call::ContainerFind => values_row::<{ container::FIND }, R>(rt, alloc, row),
+        Call::ContainerFindOther => values_row::<{ container::FIND_OTHER }, R>(rt, alloc, row),
+        Call::ContainerRecover => values_row::<{ container::RECOVER }, R>(rt, alloc, row),
+        Call::ContainerRecoverOne => values_row::<{ container::RECOVER_ONE }, R>(rt, alloc, row),
+        Call::Replace => looks_row::<{ looks::REPLACE }, R>(rt, alloc, row),
+        Call::GetState => looks_row::<{ looks::GET_STATE }, R>(rt, alloc, row),
+        Call::Unchanged => looks_row::<{ looks::UNCHANGED }, R>(rt, alloc, row),
+        Call::ChangeOne => looks_row::<{ looks::CHANGE_ONE }, R>(rt, alloc, row),
+        _ => looks_row::<{ looks::FOR_EACH }, R>(rt, alloc, row),
+    }
+}
+
+/// How many steps a call takes at a capacity.
+fn steps(call: Call, capacity: u32) -> u64 {
+    let (fixed, each, of_64) = call.steps();
+    let places = capacity as u64;
+    let words = places.saturating_add(63) / 64;
+    fixed
+        .saturating_add(each.saturating_mul(places))
+        .saturating_add(of_64.saturating_mul(words))
+}
+
+/// Prints the row of a call at each of these capacities and in so many threads.
+fn print_all<R: Wait + Threads + CpuClock + Print + Sync>(
+    rt: &R,
+    alloc: Global,
+    of: (Call, Beside),
+    capacities: &[u32],
+    threads: &[usize],
+) -> io::Result<()> {
+    let (call, beside) = of;
+    for capacity in capacities.iter() {
+        for threads in threads.iter() {
+            let row = Row {
+                name: call.name(),
+                beside,
+                capacity: *capacity,
+                is_full: call.is_full(),
+                steps: steps(call, *capacity),
+                threads: *threads,
+            };
+            if print_row(rt, alloc, &row, call).is_none() {
+                println!(rt; "{}: no memory, no further pass or no clock", call.name())?;
+            }
+        }
+    }
+    Ok(())
+}
+
+/// Prints the rows whose names begin so, or all.
 fn print_rows<R: Wait + Threads + CpuClock + Print + Sync>(
     rt: &R,
     alloc: Global,
     beginning: &str,
-    rows: &[(&str, Call, u32, u64)],
+    rows: &[(Call, Beside)],
+    capacities: &[u32],
     threads: &[usize],
 ) -> io::Result<()> {
-    for (name, call, capacity, steps) in rows.iter() {
-        if beginning != "all" && !name.starts_with(beginning) {
-            continue;
-        }
-        for threads in threads.iter() {
-            let row = Row {
-                name: *name,
-                capacity: *capacity,
-                steps: *steps,
-                threads: *threads,
-            };
-            if print_row(rt, alloc, &row, *call).is_none() {
-                println!(rt; "{name}: no memory, no further pass or no clock")?;
-            }
+    for of in rows.iter() {
+        if beginning == "all" || of.0.name().starts_with(beginning) {
+            print_all(rt, alloc, *of, capacities, threads)?;
         }
     }
     Ok(())
@@ -92,11 +164,14 @@ fn main(rt: HostRuntime) -> io::Result<()> {
     if wanted.as_str() == "bus" {
         return bus::print_tables(&rt, rt.alloc());
     }
-    println!(rt; "| call | capacity | steps | driven, ns | by hand, ns | ratio |")?;
-    println!(rt; "|---|---|---|---|---|---|")?;
+    let alloc = rt.alloc();
+    println!(rt; "| call | capacity | steps | driven, ns | beside | ns | ratio |")?;
+    println!(rt; "|---|---|---|---|---|---|---|")?;
     if args.next().is_some() {
-        print_rows(&rt, rt.alloc(), wanted.as_str(), &TOGETHER, &[2, 4])
+        print_rows(&rt, alloc, wanted.as_str(), &VALUE_TOGETHER, &[1], &[2, 4])?;
+        print_rows(&rt, alloc, wanted.as_str(), &TOGETHER, &[64], &[2, 4])
     } else {
-        print_rows(&rt, rt.alloc(), wanted.as_str(), &ALONE, &[1])
+        print_rows(&rt, alloc, wanted.as_str(), &VALUE_ALONE, &[1], &[1])?;
+        print_rows(&rt, alloc, wanted.as_str(), &ALONE, &CAPACITIES, &[1])
     }
 }

@@ -2,7 +2,8 @@
 ghost use Rattle.lock_free.specs.Queues.Rings as ends;
 
 use crate::hand::queues as by_hand;
-use crate::timing::{Row, Timed, print_timed};
+use crate::timing::{Row, Timed};
+use crate::usual::print_beside;
 use lock_free::spsc::index_queue::{Consumer, IndexQueue, Pass, Producer};
 use lock_free::spsc::safely_overflowing_index_queue as overflow;
 use lock_free::spsc::safely_overflowing_index_queue::SafelyOverflowingIndexQueue;
@@ -11,16 +12,35 @@ use std::sync::Wait;
 use std::thread::Threads;
 use std::time::CpuClock;
 
-/// The two ends of an index queue.
+/// A push and a pop.
+pub const PUSH_AND_POP: usize = 0;
+
+/// A push, into a full queue.
+pub const PUSH: usize = 1;
+
+/// A pop of an empty one.
+pub const POP: usize = 2;
+
+/// Asks how many there are.
+pub const LEN: usize = 3;
+
+/// Asks whether there is none.
+pub const IS_EMPTY: usize = 4;
+
+/// The two ends of an index queue, at which these calls are made.
 #[derive(Drop)]
-struct Numbers<'a> {
+struct Numbers<'a, const CALLS: usize> {
     producer: Producer<'a>,
     consumer: Consumer<'a>,
     hand: by_hand::Numbers,
 }
 
-impl<'a> Numbers<'a> {
-    fn of(queue: &'a IndexQueue, mut pass: Pass, hand: by_hand::Numbers) -> Option<Numbers<'a>>
+impl<'a, const CALLS: usize> Numbers<'a, CALLS> {
+    fn of(
+        queue: &'a IndexQueue,
+        mut pass: Pass,
+        hand: by_hand::Numbers,
+    ) -> Option<Numbers<'a, CALLS>>
         requires { ends.IsPassOf queue.now pass }
     {
         let other = pass.split()?;
@@ -32,13 +52,22 @@ impl<'a> Numbers<'a> {
             hand,
         })
     }
+
+    fn fill(&mut self, number: u32) {
+        for _ in 0..number {
+            self.producer.push(0);
+            self.hand.push(0);
+        }
+    }
 }
 
-/// A push and a pop.
-impl<'a> Timed for Numbers<'a> {
+impl<'a, const CALLS: usize> Timed for Numbers<'a, CALLS> {
     #[inline(never)]
     fn ours<R: Wait>(&mut self, _rt: &R, number: u64) -> u64 {
-        let pushed = self.producer.push(number);
+        let pushed = CALLS == POP || self.producer.push(number);
+        if CALLS == PUSH {
+            return pushed as u64;
+        }
         match self.consumer.pop() {
             Some(value) if pushed => value,
             _ => 0,
@@ -47,7 +76,10 @@ impl<'a> Timed for Numbers<'a> {
 
     #[inline(never)]
     fn by_hand<R: Wait>(&mut self, _rt: &R, number: u64) -> u64 {
-        let pushed = self.hand.push(number);
+        let pushed = CALLS == POP || self.hand.push(number);
+        if CALLS == PUSH {
+            return pushed as u64;
+        }
         match self.hand.pop() {
             Some(value) if pushed => value,
             _ => 0,
@@ -55,114 +87,137 @@ impl<'a> Timed for Numbers<'a> {
     }
 }
 
-/// Prints the row of a push and a pop of the index queue.
-pub fn numbers_row<R: Wait + Threads + CpuClock + Print + Sync>(
+/// Prints a row of the ends of an index queue.
+pub fn numbers_row<const CALLS: usize, R: Wait + Threads + CpuClock + Print + Sync>(
     rt: &R,
     alloc: Global,
     row: &Row<'_>,
 ) -> Option<()> {
     let hand = by_hand::Numbers::new(alloc, row.capacity).ok()?;
     let (queue, pass) = IndexQueue::new(alloc, row.capacity as usize).ok()?;
-    let timed = Numbers::of(&queue, pass, hand)?;
-    print_timed(rt, alloc, row, timed)
+    let mut timed = Numbers::<'_, CALLS>::of(&queue, pass, hand)?;
+    if row.is_full {
+        timed.fill(row.capacity);
+    }
+    print_beside(rt, alloc, row, timed)
 }
 
-/// An index queue with a pass.
+/// An index queue with a pass, on which these calls are made.
 #[derive(Drop)]
-struct Length<'a> {
+struct Length<'a, const CALLS: usize> {
     queue: &'a IndexQueue,
     pass: Pass,
     hand: by_hand::Numbers,
     ghost of: { ends.IsPassOf queue.now pass },
 }
 
-impl<'a> Timed for Length<'a> {
+impl<'a, const CALLS: usize> Timed for Length<'a, CALLS> {
     #[inline(never)]
     fn ours<R: Wait>(&mut self, rt: &R, _number: u64) -> u64 {
+        if CALLS == IS_EMPTY {
+            return self.queue.is_empty(rt, &mut self.pass) as u64;
+        }
         self.queue.len(rt, &mut self.pass) as u64
     }
 
     #[inline(never)]
     fn by_hand<R: Wait>(&mut self, rt: &R, _number: u64) -> u64 {
-        self.hand.len(rt)
+        let number = self.hand.len(rt);
+        if CALLS == IS_EMPTY {
+            (number == 0) as u64
+        } else {
+            number
+        }
     }
 }
 
-/// Prints the row of the length of the index queue, which is empty.
-pub fn length_row<R: Wait + Threads + CpuClock + Print + Sync>(
+/// Prints a row of the length of the index queue, which is empty.
+pub fn length_row<const CALLS: usize, R: Wait + Threads + CpuClock + Print + Sync>(
     rt: &R,
     alloc: Global,
     row: &Row<'_>,
 ) -> Option<()> {
     let hand = by_hand::Numbers::new(alloc, row.capacity).ok()?;
     let (queue, pass) = IndexQueue::new(alloc, row.capacity as usize).ok()?;
-    let timed = Length {
+    let timed = Length::<'_, CALLS> {
         queue: &queue,
         pass,
         hand,
     };
-    print_timed(rt, alloc, row, timed)
+    print_beside(rt, alloc, row, timed)
 }
 
-/// The two ends of an overflowing queue.
+/// The two ends of an overflowing queue, at which these calls are made.
 #[derive(Drop)]
-struct Overflowing<'a> {
+struct Overflowing<'a, const CALLS: usize> {
     producer: overflow::Producer<'a>,
     consumer: overflow::Consumer<'a>,
     hand: by_hand::Overflowing,
 }
 
-impl<'a> Overflowing<'a> {
-    /// Of one that so many numbers are pushed into.
+impl<'a, const CALLS: usize> Overflowing<'a, CALLS> {
     fn of(
         queue: &'a SafelyOverflowingIndexQueue,
         mut pass: overflow::Pass,
         hand: by_hand::Overflowing,
-        number: u32,
-    ) -> Option<Overflowing<'a>>
+    ) -> Option<Overflowing<'a, CALLS>>
         requires { ends.IsPassOf queue.now pass }
     {
         let other = pass.split()?;
-        let mut producer = queue.acquire_producer(pass).ok()?;
+        let producer = queue.acquire_producer(pass).ok()?;
         let consumer = queue.acquire_consumer(other).ok()?;
-        for _ in 0..number {
-            producer.push(0);
-        }
         Some(Overflowing {
             producer,
             consumer,
             hand,
         })
     }
+
+    fn fill(&mut self, number: u32) {
+        for _ in 0..number {
+            self.producer.push(0);
+            self.hand.push(0);
+        }
+    }
 }
 
-/// A push into the full queue; then a pop, and a push where there is room.
-impl<'a> Timed for Overflowing<'a> {
+impl<'a, const CALLS: usize> Timed for Overflowing<'a, CALLS> {
     #[inline(never)]
     fn ours<R: Wait>(&mut self, rt: &R, number: u64) -> u64 {
-        let oldest = self.producer.push(number).unwrap_or(0);
-        let popped = self.consumer.pop(rt).unwrap_or(0);
-        let none = self.producer.push(number).unwrap_or(1);
-        oldest.wrapping_add(popped).wrapping_add(none)
+        let mut oldest = 0u64;
+        if CALLS != POP {
+            oldest = self.producer.push(number).unwrap_or(0);
+        }
+        if CALLS == PUSH {
+            return oldest;
+        }
+        oldest.wrapping_add(self.consumer.pop(rt).unwrap_or(0))
     }
 
     #[inline(never)]
     fn by_hand<R: Wait>(&mut self, rt: &R, number: u64) -> u64 {
-        let oldest = self.hand.push(number).unwrap_or(0);
-        let popped = self.hand.pop(rt).unwrap_or(0);
-        let none = self.hand.push(number).unwrap_or(1);
-        oldest.wrapping_add(popped).wrapping_add(none)
+        let mut oldest = 0u64;
+        if CALLS != POP {
+            oldest = self.hand.push(number).unwrap_or(0);
+        }
+        if CALLS == PUSH {
+            return oldest;
+        }
+        oldest.wrapping_add(self.hand.pop(rt).unwrap_or(0))
     }
 }
 
-/// Prints the row of an overflowing queue, which is full before the first call.
-pub fn overflowing_row<R: Wait + Threads + CpuClock + Print + Sync>(
+/// Prints a row of the ends of an overflowing queue.
+pub fn overflowing_row<const CALLS: usize, R: Wait + Threads + CpuClock + Print + Sync>(
     rt: &R,
     alloc: Global,
     row: &Row<'_>,
 ) -> Option<()> {
-    let hand = by_hand::Overflowing::full(alloc, row.capacity).ok()?;
+    let hand = by_hand::Overflowing::new(alloc, row.capacity).ok()?;
     let (queue, pass) = SafelyOverflowingIndexQueue::new(alloc, row.capacity as usize).ok()?;
-    let timed = Overflowing::of(&queue, pass, hand, row.capacity)?;
-    print_timed(rt, alloc, row, timed)
+    let mut timed = Overflowing::<'_, CALLS>::of(&queue, pass, hand)?;
+    if row.is_full {
+        timed.fill(row.capacity);
+    }
+    print_beside(rt, alloc, row, timed)
 }

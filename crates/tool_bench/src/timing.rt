@@ -1,5 +1,6 @@
 //! Two that do the same are timed by turns, each in one thread or in several at once.
 
+use crate::table::Beside;
 use std::alloc::Global;
 use std::sync::Wait;
 use std::thread::Threads;
@@ -12,8 +13,8 @@ pub const ROUNDS: usize = 11;
 /// How many nanoseconds of the processor one timing takes at least.
 const LONG_ENOUGH: u64 = 2_000_000;
 
-/// Who makes a call that is timed, on what others may call too, and takes the same steps by hand. Each answers a number, so
-/// that the two can be seen to do the same, and is given how many calls came before it in its round.
+/// Who makes a call that is timed, on what others may call too, and takes the same steps by hand. Each answers a number,
+/// so that the two can be seen to do the same, and is given how many calls came before it in its round.
 pub trait Timed: Drop + Sized {
     fn ours<R: Wait>(&mut self, rt: &R, number: u64) -> u64;
 
@@ -25,12 +26,14 @@ pub trait Timed: Drop + Sized {
     }
 }
 
-/// What a row is about: a call, the capacity of what it is called on, how many atomic steps it takes where nobody steps
-/// in between, and how many threads make it at once.
+/// What a row is about: a call, beside what it is timed, the capacity of what it is called on, whether that is full,
+/// how many atomic steps it takes where nobody steps in between, and how many threads make it at once.
 #[derive(Clone, Copy)]
 pub struct Row<'a> {
     pub name: &'a str,
+    pub beside: Beside,
     pub capacity: u32,
+    pub is_full: bool,
     pub steps: u64,
     pub threads: usize,
 }
@@ -175,11 +178,12 @@ fn print_row<T: Timed + Send, R: Wait + Threads + CpuClock + Print + Sync>(
     }
     let said = if same { "" } else { " not the same answers" };
     println!(rt;
-        " | {} | {} | {}.{} | {}.{} | {}.{}{} |{said}",
+        " | {} | {} | {}.{} | {} | {}.{} | {}.{}{} |{said}",
         row.capacity,
         row.steps,
         ours / 10,
         ours % 10,
+        row.beside.name(),
         hand / 10,
         hand % 10,
         ratio / 100,

@@ -2,7 +2,8 @@
 ghost use Rattle.lock_free.specs.Value.Calls.{IsPassOf};
 
 use crate::hand::value as by_hand;
-use crate::timing::{Row, Timed, print_timed};
+use crate::timing::{Row, Timed};
+use crate::usual::print_beside;
 use lock_free::spmc::unrestricted_atomic::{Pass, Producer, UnrestrictedAtomic};
 use lock_free::words::Words;
 use std::alloc::Global;
@@ -117,12 +118,12 @@ pub fn value_row<R: Wait + Threads + CpuClock + Print + Sync>(
     let (value, pass) = UnrestrictedAtomic::new(alloc, Sixteen(0, 0, 0, 0)).ok()?;
     if stores {
         let producer = value.acquire_producer(pass).ok()?;
-        return print_timed(rt, alloc, row, Stores { producer, hand });
+        return print_beside(rt, alloc, row, Stores { producer, hand });
     }
     let timed = Loads {
         value: &value,
         pass,
         hand,
     };
-    print_timed(rt, alloc, row, timed)
+    print_beside(rt, alloc, row, timed)
 }

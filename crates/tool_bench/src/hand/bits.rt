@@ -62,6 +62,13 @@ impl Bits {
         unreachable!()
     }
 
+    /// Sets each place.
+    pub fn fill<R: Wait>(&mut self, rt: &R) {
+        for place in 0..self.capacity {
+            self.set(rt, place);
+        }
+    }
+
     /// Resets this place, if it stands.
     #[inline(always)]
     fn reset<R: Wait>(&mut self, rt: &R, place: u32) -> bool {

@@ -1,8 +1,8 @@
-//! The container of numbers by hand, in which no value stands.
-ghost use Rattle.std.specs.Prelude.{◌≡◌, ◌+◌};
+//! The container of numbers by hand.
+ghost use Rattle.std.specs.Prelude.{◌≡◌, ◌+◌, ◌<◌};
 
 use super::Words;
-use super::robust::{EMPTY, Owners};
+use super::robust::{EMPTY, LOCKED, Owners};
 use std::alloc::{AllocError, Global};
 use std::sync::Wait;
 
@@ -62,6 +62,82 @@ impl Values {
         }
         words.add(1 + cells, 1);
         true
+    }
+
+    /// Adds a value and removes it.
+    pub fn turns<R: Wait>(&mut self, rt: &R, value: u64, owner: u64) -> u64 {
+        match self.add(rt, value, owner) {
+            Some(index) => self.remove(rt, index, owner) as u64,
+            None => 2,
+        }
+    }
+
+    /// A copy of the value at this index, and its number.
+    #[inline(always)]
+    fn copied(&mut self, index: u32) -> Option<(u64, u64)>
+        requires { index < self.old.owners.capacity }
+        ensures { self.new.owners.capacity ≡ self.old.owners.capacity }
+    {
+        let cells = self.owners.capacity as usize;
+        let number = 2 + cells + index as usize;
+        let words = &mut self.owners.words;
+        let found = words.load(number);
+        if found % 2 == 0 {
+            return None;
+        }
+        let value = words.load(2 + (cells + cells) + index as usize);
+        if words.exchange(number, found, found) == found {
+            Some((value, found))
+        } else {
+            None
+        }
+    }
+
+    /// The sum of an owner's values.
+    #[inline(never)]
+    pub fn find(&mut self, owner: u64) -> u64 {
+        let mut sum = 0u64;
+        for index in 0..self.owners.capacity {
+            if self.owners.words.load(1 + index as usize) == owner {
+                if let Some((value, _)) = self.copied(index) {
+                    sum = sum.wrapping_add(value);
+                }
+            }
+        }
+        sum
+    }
+
+    /// Frees this index of a dead owner: whether the container is not locked.
+    #[inline(always)]
+    fn frees<R: Wait>(&mut self, rt: &R, index: u32, dead: u64) -> bool
+        requires { index < self.old.owners.capacity }
+        ensures { self.new.owners.capacity ≡ self.old.owners.capacity }
+    {
+        let copied = self.copied(index);
+        let number = 2 + self.owners.capacity as usize + index as usize;
+        let words = &mut self.owners.words;
+        if words.exchange(1 + index as usize, dead, EMPTY) != dead {
+            return true;
+        }
+        if let Some((_, found)) = copied {
+            words.exchange(number, found, found.wrapping_add(1));
+        }
+        self.owners.raise(rt)
+    }
+
+    /// Frees each index of this dead owner.
+    #[inline(never)]
+    pub fn recover<R: Wait>(&mut self, rt: &R, dead: u64) -> bool {
+        let mut is_open = self.owners.words.load(0) != LOCKED;
+        for index in 0..self.owners.capacity {
+            if self.owners.words.load(1 + index as usize) == dead {
+                is_open = is_open && self.frees(rt, index, dead);
+            }
+        }
+        is_open = self.owners.words.load(0) != LOCKED && is_open;
+        let changes = 1 + self.owners.capacity as usize;
+        self.owners.words.add(changes, 1);
+        is_open
     }
 
     #[inline(always)]

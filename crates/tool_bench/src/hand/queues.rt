@@ -85,13 +85,12 @@ pub struct Overflowing {
 }
 
 impl Overflowing {
-    /// A full one, of zeros.
-    pub fn full(alloc: Global, capacity: u32) -> Result<Overflowing, AllocError> {
+    /// An empty one.
+    pub fn new(alloc: Global, capacity: u32) -> Result<Overflowing, AllocError> {
         if capacity == 0 || capacity == u32::MAX {
             return Err(AllocError);
         }
-        let mut numbers = Vec::from_elem(alloc, 0u64, 4 + (capacity as usize + 1))?;
-        numbers[0] = capacity as u64;
+        let numbers = Vec::from_elem(alloc, 0u64, 4 + (capacity as usize + 1))?;
         let words = Words::new(alloc, numbers.as_slice())?;
         Ok(Overflowing { words, capacity })
     }

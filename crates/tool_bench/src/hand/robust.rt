@@ -7,7 +7,7 @@ use std::sync::Wait;
 
 pub const EMPTY: u64 = u64::MAX;
 
-const LOCKED: u64 = u64::MAX;
+pub const LOCKED: u64 = u64::MAX;
 
 const GREATEST: u64 = u64::MAX - 1;
 
@@ -36,7 +36,7 @@ impl Owners {
 
     /// Raises the counter: false where the set is locked.
     #[inline(always)]
-    fn raise<R: Wait>(&mut self, rt: &R) -> bool
+    pub fn raise<R: Wait>(&mut self, rt: &R) -> bool
         ensures capacity { self.new.capacity ≡ self.old.capacity }
         ensures size { self.new.words.size ≡ self.old.words.size }
     {
