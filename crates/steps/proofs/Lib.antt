@@ -1,3 +1,4 @@
 pub mod Elements
 pub mod Flags
+pub mod Masks
 pub mod Places

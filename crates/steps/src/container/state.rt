@@ -153,8 +153,7 @@ impl<T: Words> Shown<T> {
         ensures { self.new ≡ with_count self.old index count }
     {
         if (index as usize) < self.elements.len() {
-            let value = self.elements[index as usize].value;
-            self.elements[index as usize] = Element { count, value };
+            self.elements[index as usize].count = count;
         }
     }
 
