@@ -11,7 +11,7 @@ pub use Rattle.laws_container.proofs.Core.{data_within}
 pub use Rattle.laws_queues.proofs.Overflow.Core.{oldest}
 pub use Rattle.laws_queues.proofs.Overflow.Knows.{IsFreshOver, KnowsOverflowPop, KnowsOverflowPush, overflow_wrote}
 pub use Rattle.laws_queues.proofs.Queues.Invariant.{machine_kind, waiting_is}
-pub use Rattle.laws_queues.proofs.Queues.Kept.{kept_on as queue_kept_on, promised_by}
+pub use Rattle.laws_queues.proofs.Queues.Sound.{kept_on as queue_kept_on, promised_by}
 pub use Rattle.laws_queues.proofs.Queues.Knows.{IsFreshCall, IsFreshStore, free, layout}
 pub use Rattle.laws_queues.proofs.Queues.Runs.{AllMay, attempt_sound}
 pub use Rattle.laws_queues.proofs.Queues.Sound.{admitted_fits, fresh_more}

@@ -2,7 +2,7 @@
 use Rattle.history.proofs.Names.{ℕ, List, sym, subst, Event, QueueKind, Coding, IsLinearizable, as_list, IsLinearized}
 use Rattle.history.proofs.Names.{run_linearizable, Trace, machine_kind}
 use Rattle.model.specs.declared.families.queues.QueueKind.TheVariants.{IndexQueue, Overflow, Queue}
-use Rattle.laws_queues.proofs.Queues.Kept.{kept_on}
+use Rattle.laws_queues.proofs.Queues.Sound.{kept_on}
 use Rattle.history.specs.History.{IsHistory}
 use Rattle.history.proofs.Reached.{queue_run}
 

@@ -23,8 +23,7 @@ use Rattle.steps.specs.declared.queues.roles.Role.{Role}
 use Rattle.model.specs.Families.Queues.Steps.{effects_of}
 use Rattle.model.proofs.Frame as frame
 use Rattle.laws_queues.proofs.Queues.Invariant.{Queue, family}
-use Rattle.laws_queues.proofs.Queues.Kept.{kept_on}
-use Rattle.laws_queues.proofs.Queues.Sound.{kept_is, sound_on}
+use Rattle.laws_queues.proofs.Queues.Sound.{kept_is, kept_on, sound_on}
 use Rattle.history.specs.declared.view.View.{View}
 use Rattle.history.specs.Known.{owned}
 use Rattle.history.specs.Roles.{holder, role_after, HasRole}

@@ -64,7 +64,7 @@ module _ {T : Type 0} where
           words = λ s. s.words;
           kept = λ s. registries.TheVariants.Nothing;
           Holds = λ code c s latest events turns. K.Holds c s.words events turns × (s.events ≡ events);
-          written = λ s p flight. wrote_by p flight (span_of p s.events);
+          written = λ c s p flight. wrote_by p flight (span_of p s.events);
           number = λ code c. number_by K.number;
           At = λ code c s p start flight. FlightAt (K.At c (wrote_in (span_of p s.events))) start flight;
           Knows = λ code c s p events since changes backs flight. KnowsFlight (K.Knows p events s.words since changes backs) flight;

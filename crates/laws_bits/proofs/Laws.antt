@@ -14,10 +14,11 @@ use Rattle.model.specs.declared.turn.Turn.{Turn}
 use Rattle.model.specs.Families.{begin_of}
 use Rattle.model.specs.Promises.Families.{promise_of}
 use Rattle.model.specs.Rows.{first_row}
+use Rattle.model.specs.Turns.{after_turn}
 use Rattle.model.proofs.Family as families
 use Rattle.model.proofs.Family.{Scene, scene_of}
 use Rattle.model.proofs.FamilyLaws as laws
-use Rattle.model.proofs.FamilyLaws.{Owed, OwesAll}
+use Rattle.model.proofs.FamilyLaws.{Turns, AllTurns, Owed}
 use Rattle.model.proofs.Frame.{Sound}
 use Rattle.model.proofs.Rows.{row_passed}
 use Rattle.model.proofs.Scenes.{StandsThere, step_from}
@@ -75,9 +76,10 @@ module _ {T : Type 0} (K : SetOutline T) where
   -- ---- what it owes as a family
 
   module _ (code : Coding T) (c : ℕ) (L : SetLaws code c) where
-    asks : (wrote : List (Event T)) (start : Start T) (flight : Flight T) → FlightAt (K.At c wrote) start flight → is_question (want_of code flight) ≡ false
-    asks wrote (Bits start) (flights.TheVariants.Bits flight) at = L.asks wrote start flight at
-    asks wrote start flight at = absurd at
+    no_question : (wrote : List (Event T)) (start : Start T) (flight : Flight T)
+        → FlightAt (K.At c wrote) start flight → is_question (want_of code flight) ≡ false
+    no_question wrote (Bits start) (flights.TheVariants.Bits flight) at = L.asks wrote start flight at
+    no_question wrote start flight at = absurd at
 
     most : (wrote : List (Event T)) (backs : ℕ) (start : Start T) (flight : Flight T) → FlightAt (K.At c wrote) start flight
         → number_by K.number flight backs ≤ K.promise.most_steps c code.size start backs
@@ -137,13 +139,13 @@ module _ {T : Type 0} (K : SetOutline T) where
       begin_shows start flight e rows = absurd (L.begins_own registries.TheVariants.Nothing start flight e)
 
     writes : (t : Trace T) (p : ℕ) (words : List ℕ) (wrote : List (Event T)) (start : Start T) (flight : Flight T) → FlightAt (K.At c wrote) start flight
-        → laws.Writes (outline K) t p (step_from t p t.world.coding words registries.TheVariants.Nothing start flight)
-    writes t p words wrote (Bits start) (flights.TheVariants.Bits flight) at = laws.only_effects (outline K) t p _ (L.effects p _ wrote start flight at)
+        → laws.Writes (outline K) t (Next p) (step_from t p t.world.coding words registries.TheVariants.Nothing start flight)
+    writes t p words wrote (Bits start) (flights.TheVariants.Bits flight) at = laws.only_effects (outline K) t (Next p) _ (L.effects p _ wrote start flight at)
     writes t p words wrote start flight at = absurd at
 
     told : (at : BitsStart → BitsFlight → Type 0) (p : ℕ) (start : Start T) (flight : Flight T) → FlightAt at start flight
-        → (words : List ℕ) (beside : Option (ℕ × ℕ)) (answer : ℕ)
-        → (step_of code words beside p start flight answer registries.TheVariants.Nothing).after ≡ goes_of code p flight answer registries.TheVariants.Nothing
+        → (z : Coding T) (words : List ℕ) (beside : Option (ℕ × ℕ)) (answer : ℕ)
+        → (step_of z words beside p start flight answer registries.TheVariants.Nothing).after ≡ goes_of z p flight answer registries.TheVariants.Nothing
     told x0 x1 x2 x3 x4 x5 x6 x7 = grind arith
 
   -- ---- every run
@@ -163,11 +165,11 @@ module _ {T : Type 0} (K : SetOutline T) where
         ap (span_of q) is ∙ (span_of-other scene.party q scene.events es ne own ∙ ap (span_of q) (sym was)) in
         (subst (λ a. FlightAt (K.At scene.capacity (wrote_in a)) start flight) (sym same) at, ap (wrote_by K q flight) same)
 
-    owed : (code : Coding T) (c : ℕ) → Owed (outline K) code c May
-    owed code c =
+    turns : (code : Coding T) (c : ℕ) → Turns (outline K) code c May
+    turns code c =
         let L = laws_of code c in
-        record {
-          promise = L.promise;
+        laws.turns_alone (outline K) code c May
+        (record {
           holds_on = λ scene s' was y es changes' under preserves h. (
             (laws_of scene.coding scene.capacity).holds scene.state.words scene.events scene.turns scene.changes s'.words es changes' preserves.0 h.0,
             preserves.1,
@@ -179,30 +181,38 @@ module _ {T : Type 0} (K : SetOutline T) where
               preserves.0 (others_begin_none q scene.party es ne own) since backs flight h;
           begin = λ t s p start flight may e rows. begin_shows code c L t s p start flight e rows;
           step = λ t s p x since may found start flight here. step_shows code c L t s p x since start flight here;
-          no_question = λ s p start flight at. asks code c L _ start flight at;
+          no_question = λ s p start flight at. no_question code c L _ start flight at;
           no_owners = λ s. refl;
+        })
+
+    owed : (code : Coding T) (c : ℕ) → Owed (outline K) code c
+    owed code c =
+        let L = laws_of code c in
+        record {
+          promise = L.promise;
           bounds = record { most = λ s p backs start flight at. most code c L _ backs start flight at; paid = λ s p events. paid code c L p events s.words };
           promised = λ t s few. L.keeps_promise t s.capacity few (subst (λ ws. K.Holds c ws t.events t.world.turns) (sym s.fit.1) s.holds.0);
           writes = λ t s p x since small start flight here. writes code c L t p s.state.words _ start flight here.at;
+          decides = λ t s p x since said start flight asks here. laws.asks_none _ (no_question code c L _ start flight here.at) asks;
           goes = λ s p. told code c L _ p;
-          tells = L.tells;
+          tells = λ t turn e s. L.tells t turn (after_turn t turn);
         }
 
-    owes_all : OwesAll (outline K) May
-    owes_all =
+    all_turns : AllTurns (outline K) May
+    all_turns =
         record {
           opens = λ code c coded admitted. (let L = laws_of code c in
               record { state = record { words = (opening_of K.kind).words code.size c; events = [] }; kept = L.bare; words = refl; holds = (L.opens, refl) });
-          owed = λ code c coded admitted. owed code c;
+          turns = λ code c coded admitted. turns code c;
           few = λ code c t turn s small. tt;
         }
 
     pub orders : (code : Coding T) (c : ℕ) → Orders (family K code c)
-    orders code c = laws.orders (outline K) code c May (owed code c)
+    orders code c = laws.orders (outline K) code c (owed code c)
 
     -- what holds of every run where neither turns nor parties have a bound
     pub sound_on : (t : Trace T) → t.world.kind ≡ K.kind → IsReachedOn t → Sound (family K t.world.coding t.world.capacity) t
-    sound_on = laws.reached_on_sound (outline K) owes_all
+    sound_on = laws.reached_on_sound (outline K) all_turns
 
     pub sets_keep : Keeps T K.kind
-    sets_keep = laws.keeps (outline K) May owes_all
+    sets_keep = laws.keeps (outline K) May all_turns (λ code c coded admitted. owed code c)

@@ -12,6 +12,8 @@ use Rattle.model.specs.declared.event.Start as any_starts
 use Rattle.model.specs.declared.families.Flight as flights
 use Rattle.model.specs.declared.families.Registry as registries
 use Rattle.model.specs.declared.turn.Kind as kinds
+use Rattle.model.proofs.Family as families
+use Rattle.model.proofs.Family.{Outline}
 use Rattle.model.proofs.Frame as frame
 use Rattle.model.proofs.Frame.{Family}
 use Rattle.laws_robust.proofs.Invariant as set
@@ -53,9 +55,7 @@ pub record Scene (T : Type 0) : Type 0 where
 
 module _ {T : Type 0} where
   abbrev pub Represents : Registry T → List ℕ → ContainerNow T → Type 0
-  Represents (registries.TheVariants.Container dead states) words s =
-      (words ≡ s.words) × (dead ≡ s.dead) × (states ≡ s.states)
-  Represents kept words s = ⊥
+  Represents kept words s = (kept ≡ registries.TheVariants.Container s.dead s.states) × (words ≡ s.words)
 
   -- the turn as one of its set of indices
   abbrev pub of_set : Scene T → set.Scene T
@@ -138,21 +138,26 @@ module _ {T : Type 0} where
         backs = backs;
       }
 
-  abbrev pub family_by : Terms → Coding T → ℕ → Family T
-  family_by terms code c =
+  abbrev pub outline : Terms → Outline T
+  outline terms =
       record {
-        coding = code;
         kind = kinds.TheVariants.Container;
+        no_loan = refl;
         promise = promise;
-        capacity = c;
         State = ContainerNow T;
-        Represents = Represents;
-        Holds = λ s latest events turns. Holds terms code c s latest events turns;
-        written = λ s p flight. wrote_of p s.events;
-        number = λ wrote. number c code.size;
-        At = λ s p start flight. FlightAt c code.size (set_acts_of p s.events) (acts_of p s.events) start flight;
-        Knows = λ s p events since changes backs flight. Knowing code c flight (view terms s.words s.states s.latest events p since changes backs);
+        words = λ s. s.words;
+        kept = λ s. registries.TheVariants.Container s.dead s.states;
+        Holds = λ code c s latest events turns. Holds terms code c s latest events turns;
+        written = λ c s p flight. wrote_of p s.events;
+        number = λ code c. number c code.size;
+        At = λ code c s p start flight. FlightAt c code.size (set_acts_of p s.events) (acts_of p s.events) start flight;
+        Knows = λ code c s p events since changes backs flight.
+            Knowing code c flight (view terms s.words s.states s.latest events p since changes backs);
+        Preserves = λ scene s' was y es changes'. Unit {0};
       }
+
+  abbrev pub family_by : Terms → Coding T → ℕ → Family T
+  family_by terms = families.family (outline terms)
 
   -- the family where owners die
   abbrev pub family : Coding T → ℕ → Family T

@@ -1,21 +1,17 @@
 -- What the invariant says of the events, in the promise's words.
-use Rattle.laws_container.proofs.Names.{◌≡◌, ℕ, ◌<◌, ◌≤◌, ◌==◌, ⊎_elim, Option, Some, None, length, slice_index, sym}
+use Rattle.laws_container.proofs.Names.{◌≡◌, ℕ, ◌<◌, ◌≤◌, ◌==◌, ⊎_elim, Option, Some, None, length, slice_index}
 use Rattle.laws_container.proofs.Names.{ap, subst, ◌∙◌, arith, cases_lt, slice_get_past, value_if, ContainerState}
 use Rattle.laws_container.proofs.Names.{cell_word, locked, Party, Coding, state_in, shows, WasCopied, ShowsCopies}
-use Rattle.laws_container.proofs.Names.{HasElements, IsContained, IsContainer, KeepsDead, promise, AsksCopies}
+use Rattle.laws_container.proofs.Names.{HasElements, IsContained, IsContainer, KeepsDead, AsksCopies}
 use Rattle.laws_container.proofs.Names.{question_in, Copies, acts_of, state_of, is_locked, cell_of, filled_of}
-use Rattle.laws_container.proofs.Names.{IsLatest, party_of, doing_of, flight_of, IsKeptBy, IsKept, promise_of}
-use Rattle.laws_container.proofs.Names.{span_of, IsReached, Trace, progress_in, cell, Death}
+use Rattle.laws_container.proofs.Names.{IsLatest, doing_of, flight_of}
+use Rattle.laws_container.proofs.Names.{Trace, cell, Death}
 use Rattle.model.specs.declared.families.Registry as registries
-use Rattle.model.specs.declared.turn.Kind as kinds
-use Rattle.model.specs.Promises.Bounds.{Progresses}
 use Rattle.model.proofs.Frame as frame
 use Rattle.laws_container.proofs.Answers.{asks_right, recovers_right, answers_right}
-use Rattle.laws_container.proofs.Bounds.{bounds}
 use Rattle.laws_container.proofs.Invariant.{moment, family, family_by}
 use Rattle.laws_container.proofs.WellFormed.{IsWellFormedSoFar, well_formed_so_far}
 use Rattle.laws_container.proofs.Sights.{Rests}
-use Rattle.laws_container.proofs.Sound.{Shown, kept_is, reached_sound}
 use Rattle.laws_container.proofs.Terms.{Terms, dying}
 
 -- ---- what is shown was copied
@@ -41,10 +37,10 @@ module _ {T : Type 0} (terms : Terms) (code : Coding T) (t : Trace T) (s : frame
   c = t.world.capacity
 
   words_are : t.world.words ≡ s.state.words
-  words_are = (kept_is t.world.kept t.world.words s.state s.fit).1
+  words_are = s.fit.1
 
   kept_are : t.world.kept ≡ registries.TheVariants.Container s.state.dead s.state.states
-  kept_are = (kept_is t.world.kept t.world.words s.state s.fit).0
+  kept_are = s.fit.0
 
   -- what a party's call under way knows
   asked_by : (p index : ℕ) (value : T) (o : Option (Party T))
@@ -79,7 +75,7 @@ module _ {T : Type 0} (terms : Terms) (code : Coding T) (t : Trace T) (s : frame
 -- ---- where owners die
 
 module _ {T : Type 0} (code : Coding T) (t : Trace T) (s : frame.Sound (family code t.world.capacity) t) where
-  container_kept : IsContainer t
+  pub container_kept : IsContainer t
   container_kept =
       let e = s.holds.elements in
       record {
@@ -94,19 +90,3 @@ module _ {T : Type 0} (code : Coding T) (t : Trace T) (s : frame.Sound (family c
         states = states dying code t s;
         well_formed = λ well_formed. contained dying code t s (well_formed_so_far t well_formed);
       }
-
-  kept_by : IsKeptBy promise t
-  kept_by =
-      let w = t.world in
-      let size : w.coding.size ≡ code.size = ap (λ (y : Coding T). y.size) s.coding in
-      record {
-        spans = s.inv.spans;
-        progress = λ p. subst (λ n. Progresses promise w.capacity n (span_of p t.events) (progress_in w p)) (sym size)
-            (frame.progresses (family code w.capacity) (bounds code w.capacity) s.state p t.events w.changes
-            (party_of p w.latest) (span_of p t.events) (s.inv.calls p) (s.inv.knows p));
-        promised = container_kept;
-      }
-
-module _ {T : Type 0} (shown : Shown T) where
-  pub kept : (t : Trace T) → t.world.kind ≡ kinds.TheVariants.Container → IsReached t → IsKept t
-  kept t is r = subst (λ P. IsKeptBy P t) (sym (ap (promise_of {T = T}) is)) (kept_by t.world.coding t (reached_sound shown t is r))

@@ -12,7 +12,11 @@ use Rattle.model.specs.declared.families.Flight as flights
 use Rattle.model.specs.declared.families.container.ContainerStart.TheVariants.{Recover}
 use Rattle.model.specs.declared.turn.Kind as kinds
 use Rattle.model.specs.declared.turn.Refusal.{Refusal}
+use Rattle.model.specs.declared.event.Event.TheVariants.{Begun}
+use Rattle.model.specs.Families.{kept_after_begin}
+use Rattle.model.specs.Turns.{party_at_begin}
 use Rattle.model.proofs.Frame as frame
+use Rattle.model.proofs.Scenes.{comes_from, decides_from, stands_there}
 use Rattle.laws_robust.proofs.OpenTurns.{reached_keeps}
 use Rattle.laws_container.specs.Gone.{AnswersBy}
 use Rattle.laws_container.specs.Open.{is_for_gone, steps_for_gone, is_faithful, IsFaithful, IsFaithfulRun, IsOpenContainer}
@@ -24,7 +28,7 @@ use Rattle.laws_container.proofs.Invariant.{family_by}
 use Rattle.laws_container.proofs.Kept.{cells, lock, dead, questions, states, contained}
 use Rattle.laws_container.proofs.Living.{steps_leave}
 use Rattle.laws_container.proofs.WellFormed.{well_formed_on}
-use Rattle.laws_container.proofs.Sound.{MayGoOn, IsRightly, MayRecoverIn, kept_is, recovers_by, step_comes, decision_comes, begin_comes, opening_sound}
+use Rattle.laws_container.proofs.Sound.{MayGoOn, IsRightly, MayRecoverIn, kept_is, kept_now, recovers_by, comes, decides, begin_comes, opening_sound}
 use Rattle.laws_container.proofs.Terms.{Terms}
 use Rattle.laws_container.proofs.TurnTells.{tells_if}
 
@@ -50,11 +54,25 @@ module _ {T : Type 0} (kept : Bool) (code : Coding T) (c : ℕ) where
     rightly p x since found flight h = tt
 
     -- a begin
+    begun : (p : ℕ) (start : Start T) (flight : Flight T) → MayRecoverIn shown terms code c t s p start → flight_in t.world p ≡ None
+        → first_of t.world.kind t.world.capacity start t.world.kept ≡ Some flight
+        → frame.Comes (family_by terms code c) t p (kept_after_begin t.world.coding t.world.capacity start p t.world.kept) t.world.words
+        (party_at_begin start flight t.world.changes) (Begun p start ∷ []) t.world.changes
+    begun p start flight recovers free e =
+        let now = kept_now shown terms code c t s in
+        let y = party_at_begin start flight t.world.changes in
+        let named : first_of kinds.TheVariants.Container c start now ≡ Some flight = rw (s.kind, s.capacity, s.fit.0) at e in
+        let kept_same : kept_after_begin t.world.coding t.world.capacity start p t.world.kept ≡ kept_after_begin code c start p now =
+        rw (s.coding, s.capacity, s.fit.0) refl in
+        subst (λ kept. frame.Comes (family_by terms code c) t p kept t.world.words y (Begun p start ∷ []) t.world.changes) (sym kept_same)
+        (subst (λ words. frame.Comes (family_by terms code c) t p (kept_after_begin code c start p now) words y (Begun p start ∷ []) t.world.changes)
+        (sym s.fit.1) (begin_comes shown terms code c t s p start flight recovers free named))
+
     begins : (p : ℕ) (start : Start T) → MayRecoverIn shown terms code c t s p start → flight_in t.world p ≡ None
         → is_none (first_of t.world.kind t.world.capacity start t.world.kept) ≡ false → Sound (after_turn t (Begin p start))
     begins p start recovers free call =
         frame.begin_sound (family_by terms code c) t p start call s
-        (λ flight e. begin_comes shown terms code c t s p start flight recovers free e)
+        (λ flight e. begun p start flight recovers free e)
         (first_of t.world.kind t.world.capacity start t.world.kept) refl
 
     begins_by_rows : (p : ℕ) (start : Start T) → call_refusal t.world (Begin p start) ≡ None → Sound (after_turn t (Begin p start))
@@ -74,17 +92,27 @@ module _ {T : Type 0} (kept : Bool) (code : Coding T) (c : ℕ) where
         begins p start tt (free_by (flight_in t.world p) b.0) d.0
     open_turn_sound (Begin p start) e faithful = begins_by_rows p start e
     open_turn_sound (Next p) e faithful =
-        frame.next_sound (family_by terms code c) t p s (λ x flight since u. step_comes shown terms code c t s p x since u.found may flight
+        let F = family_by terms code c in
+        let rows : first_row (going_rows code (kept_now shown terms code c t s) (flight_in t.world p) None) ≡ None =
+        rw (s.coding, s.fit.0) at (next_passes t.world p e) in
+        frame.next_sound F t p s (λ x flight since u.
+        comes_from F t s p x since s.state.words (kept_now shown terms code c t s) flight s.fit.1 s.fit.0
+        (comes shown terms code c t s p x since u.found may x.start flight
         (rightly p x since u.found flight (λ keeps. subst (λ o. is_for_gone t.events o ≡ false) u.is (faithful keeps)))
-        (subst (λ o. first_row (going_rows t.world.coding t.world.kept o None) ≡ None) u.is (next_passes t.world p e)) u.doing)
+        (subst (λ o. first_row (going_rows code (kept_now shown terms code c t s) o None) ≡ None) u.is rows)
+        (stands_there F t s p x since flight u.found u.doing)))
         (party_of p t.world.latest) refl
     open_turn_sound (Die owner) e faithful = absurd (cc)
     open_turn_sound (Decide p said) e faithful =
         let b = row_passed (is_none (flight_in t.world p)) Idle _ e in
         let d = row_passed (not (is_due t.world.coding (flight_in t.world p))) Undecided None b.1 in
-        let due = frame.is_true (is_due t.world.coding (flight_in t.world p)) d.0 in
-        frame.decision_sound (family_by terms code c) t p said s (λ x flight since u. decision_comes shown terms code c t s p x since u.found may
-        flight said (subst (λ o. is_due t.world.coding o ≡ true) u.is due) u.doing)
+        let due : is_due code (flight_in t.world p) ≡ true =
+        subst (λ y. is_due y (flight_in t.world p) ≡ true) s.coding (frame.is_true (is_due t.world.coding (flight_in t.world p)) d.0) in
+        let F = family_by terms code c in
+        frame.decision_sound F t p said s (λ x flight since u.
+        decides_from F t s p x since said s.state.words (kept_now shown terms code c t s) flight s.fit.1 s.fit.0
+        (decides shown terms code c t s p x since u.found may said x.start flight (subst (λ o. is_due code o ≡ true) u.is due)
+        (stands_there F t s p x since flight u.found u.doing)))
         (party_of p t.world.latest) refl
 
 -- ---- turns are counted

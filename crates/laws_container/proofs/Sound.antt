@@ -4,22 +4,26 @@ use Rattle.laws_container.proofs.Names.{◌≡◌, ℕ, ◌+◌, ◌-◌, ◌^�
 use Rattle.laws_container.proofs.Names.{Option, Some, None, option_map, List, [], ◌∷◌, ◌++◌, refl, sym, ap, subst}
 use Rattle.laws_container.proofs.Names.{◌∙◌, arith, ContainerState, Event, Begun, Died, Start, Container, Flight}
 use Rattle.laws_container.proofs.Names.{Registry, ContainerStart, ContainerFlight, Going, Party, Coding}
-use Rattle.laws_container.proofs.Names.{IsCoding, first_of, want_of, is_question, going_rows, beside_of, step_of}
+use Rattle.laws_container.proofs.Names.{IsCoding, first_of, want_of, is_question, going_rows}
 use Rattle.laws_container.proofs.Names.{kept_after_death, kept_after_begin, first, acts_for_dead, opening_words}
-use Rattle.laws_container.proofs.Names.{names_owner, states_at_begin, has_died, dead_with, is_dead, wrote_in, is_loan}
-use Rattle.laws_container.proofs.Names.{party_of, put, doing_of, flight_of, Open, span_of, first_row, IsShut, Step}
-use Rattle.laws_container.proofs.Names.{old_of, words_after, change_of, number_of, party_at_begin, party_after}
-use Rattle.laws_container.proofs.Names.{events_of_step, IsReached, Trace, opening, capacity_error, Each-nil}
-use Rattle.laws_container.proofs.Names.{span_of-own, span_of-death, row_passed, MayBegin, MayDie, asked, StandsThere}
-use Rattle.laws_container.proofs.Names.{stands_there, ComesFrom, comes_from, GoneBy, Death, admitted_is}
+use Rattle.laws_container.proofs.Names.{names_owner, states_at_begin, has_died, dead_with, is_dead, wrote_in}
+use Rattle.laws_container.proofs.Names.{party_of, put, doing_of, flight_of, Open, span_of, first_row, IsShut}
+use Rattle.laws_container.proofs.Names.{number_of, party_at_begin}
+use Rattle.laws_container.proofs.Names.{IsReached, Trace, opening}
+use Rattle.laws_container.proofs.Names.{span_of-own, span_of-death, row_passed, MayBegin, MayDie, StandsThere}
+use Rattle.laws_container.proofs.Names.{ComesFrom, GoneBy, Death, admitted_is}
 use Rattle.model.specs.declared.families.Flight as flights
 use Rattle.model.specs.declared.families.Registry as registries
 use Rattle.model.specs.declared.families.container.ContainerStart as starts
 use Rattle.model.specs.declared.turn.Kind as kinds
 use Rattle.model.specs.Families as families
+use Rattle.model.specs.declared.turn.Turn.{Turn}
+use Rattle.model.proofs.FamilyLaws as laws
+use Rattle.model.proofs.FamilyLaws.{Turns, AllTurns}
 use Rattle.model.proofs.Frame as frame
+use Rattle.model.proofs.Scenes.{DecidesFrom}
 use Rattle.laws_robust.proofs.Invariant as set
-use Rattle.laws_container.proofs.Invariant.{ContainerNow, Scene, Represents, Inv, Elements, Does, Shows, Knowing}
+use Rattle.laws_container.proofs.Invariant.{outline, ContainerNow, Scene, Represents, Inv, Elements, Does, Shows, Knowing}
 use Rattle.laws_container.proofs.Invariant.{moment, before, view, family, family_by, wrote_of, at_written, owes}
 use Rattle.laws_container.proofs.Invariant.{holds_more, then_is}
 use Rattle.laws_container.specs.Gone.{acts_for_gone}
@@ -83,7 +87,7 @@ pub record Shown (T : Type 0) : Type 0 where
 module _ {T : Type 0} where
   pub kept_is : (kept : Registry T) (words : List ℕ) (s : ContainerNow T) → Represents kept words s
       → (kept ≡ registries.TheVariants.Container s.dead s.states) × (words ≡ s.words)
-  kept_is x0 x1 x2 x3 = grind arith
+  kept_is kept words s h = h
 
   -- a call that begins on the container is one of its own, for an owner that is none of an empty cell
   abbrev pub IsOwn : ℕ → Start T → Flight T → Type 0
@@ -169,9 +173,9 @@ module _ {T : Type 0} (shown : Shown T) (terms : Terms) (code : Coding T) (c : �
 
     -- the rows that it has passed
     pub passes : (flight : ContainerFlight T) (said : Option Bool)
-        → first_row (going_rows t.world.coding t.world.kept (Some (flights.TheVariants.Container flight)) said) ≡ None
+        → first_row (going_rows code kept_now (Some (flights.TheVariants.Container flight)) said) ≡ None
         → acts_for_dead s.state.dead flight ≡ false
-    passes x0 x1 x2 = grind (arith, kept_is, first_row, row_passed)
+    passes x0 x1 x2 = grind (arith, first_row, row_passed)
 
     -- ---- a step
 
@@ -180,8 +184,8 @@ module _ {T : Type 0} (shown : Shown T) (terms : Terms) (code : Coding T) (c : �
     IsRightly (flights.TheVariants.Container flight) = Keeps terms → acts_for_gone terms.by t.events flight ≡ false
     IsRightly flight = Unit {0}
 
-    comes : MayGoOn terms t → (start : Start T) (flight : Flight T) → IsRightly flight
-        → first_row (going_rows t.world.coding t.world.kept (Some flight) None) ≡ None
+    pub comes : MayGoOn terms t → (start : Start T) (flight : Flight T) → IsRightly flight
+        → first_row (going_rows code kept_now (Some flight) None) ≡ None
         → StandsThere (family_by terms code c) t s p x since start flight
         → ComesFrom (family_by terms code c) t s p x since code s.state.words kept_now start flight
     comes may (Container start) (flights.TheVariants.Container flight) rightly r h =
@@ -192,35 +196,17 @@ module _ {T : Type 0} (shown : Shown T) (terms : Terms) (code : Coding T) (c : �
         (passes flight None r) rightly there.steps there.knows in
         record {
           state = _;
-          fit = (refl, refl, refl);
+          fit = (refl, refl);
           holds = holds_more (scene_of p x since) _ _ (Open (Container start) (wrote_of p t.events)) _ _ _ moves s.state state_is s.holds s.inv;
           owes = owes (scene_of p x since) _ _ (Open (Container start) (wrote_of p t.events)) _ _ _ moves s.state state_is s.holds s.inv there.here.span;
         }
     comes may start flight rightly r h = absurd h.at
 
-    pub step_comes : MayGoOn terms t → (flight : Flight T) → IsRightly flight
-        → first_row (going_rows t.world.coding t.world.kept (Some flight) None) ≡ None → x.doing ≡ Going flight since
-        → frame.ComesByStep (family_by terms code c) t p x flight since (asked t.world.coding flight) (old_of t.world.words (asked t.world.coding flight))
-    step_comes may flight rightly r doing =
-        let is = kept_is t.world.kept t.world.words s.state s.fit in
-        comes_from (family_by terms code c) t s p x since s.state.words kept_now flight is.1 is.0
-        (comes may x.start flight rightly r (stands_there (family_by terms code c) t s p x since flight found doing))
-
     -- ---- a decision
 
-    abbrev decided : Coding T → ℕ → List ℕ → Registry T → Start T → Flight T → Step (Flight T) (Registry T) T
-    decided y answer words kept start flight = step_of y words (beside_of words kept t.world.latest p) p start flight answer kept
-
-    abbrev DecidesFrom : Coding T → ℕ → List ℕ → Registry T → Start T → Flight T → Type 0
-    DecidesFrom y answer words kept start flight =
-        frame.Comes (family_by terms code c) t p (decided y answer words kept start flight).kept (words_after words None)
-        (party_after (record x { start = start }) since t.world.changes 0 (change_of words None) (decided y answer words kept start flight))
-        (events_of_step p start (decided y answer words kept start flight))
-        (t.world.changes + change_of words None)
-
-    decides : MayGoOn terms t → (said : Bool) (start : Start T) (flight : Flight T)
+    pub decides : MayGoOn terms t → (said : Bool) (start : Start T) (flight : Flight T)
         → is_question (want_of code flight) ≡ true → StandsThere (family_by terms code c) t s p x since start flight
-        → DecidesFrom code (number_of said) s.state.words kept_now start flight
+        → DecidesFrom (family_by terms code c) t s p x since code (number_of said) s.state.words kept_now start flight
     decides may said (Container start) (flights.TheVariants.Container flight) asks h =
         let there = is_there start flight h in
         let inv = inv_with may in
@@ -229,38 +215,22 @@ module _ {T : Type 0} (shown : Shown T) (terms : Terms) (code : Coding T) (c : �
         there.here asks there.steps there.knows in
         record {
           state = _;
-          fit = (refl, refl, refl);
+          fit = (refl, refl);
           holds = holds_more (scene_of p x since) _ _ (Open (Container start) (wrote_of p t.events)) _ _ _ moves s.state state_is s.holds s.inv;
           owes = owes (scene_of p x since) _ _ (Open (Container start) (wrote_of p t.events)) _ _ _ moves s.state state_is s.holds s.inv there.here.span;
         }
     decides may said start flight asks h = absurd h.at
 
-    pub decision_comes : MayGoOn terms t → (flight : Flight T) (said : Bool)
-        → is_question (want_of t.world.coding flight) ≡ true → x.doing ≡ Going flight since
-        → frame.ComesByStep (family_by terms code c) t p x flight since None (number_of said)
-    decision_comes may flight said asks doing =
-        let is = kept_is t.world.kept t.world.words s.state s.fit in
-        let due : is_question (want_of code flight) ≡ true = subst (λ y. is_question (want_of y flight) ≡ true) s.coding asks in
-        subst (λ y. DecidesFrom y (number_of said) t.world.words t.world.kept x.start flight) (sym s.coding)
-        (subst (λ ws. DecidesFrom code (number_of said) ws t.world.kept x.start flight) (sym is.1)
-        (subst (λ k. DecidesFrom code (number_of said) s.state.words k x.start flight) (sym is.0)
-        (decides may said x.start flight due (stands_there (family_by terms code c) t s p x since flight found doing))))
-
   -- ---- a call begins
 
   module _ (p : ℕ) where
-    abbrev BeginsFrom : Coding T → ℕ → List ℕ → Registry T → ContainerStart T → ContainerFlight T → Type 0
-    BeginsFrom y n words kept start flight =
-        frame.Comes (family_by terms code c) t p (kept_after_begin y n (Container start) p kept) words
-        (party_at_begin (Container start) (flights.TheVariants.Container flight) t.world.changes)
-        (Begun p (Container start) ∷ []) t.world.changes
-
     span_begun : (start : ContainerStart T) → span_of p (t.events ++ Begun p (Container start) ∷ []) ≡ Open (Container start) []
     span_begun start = span_of-own p t.events (Begun p (Container start) ∷ []) (refl, tt)
 
     begins_now : (start : ContainerStart T) → names_owner start ≡ true → MayRecover terms.by t.events start
         → flight_of (doing_of (party_of p t.world.latest)) ≡ None
-        → BeginsFrom code c s.state.words kept_now start (first c start)
+        → frame.Comes (family_by terms code c) t p (kept_after_begin code c (Container start) p kept_now) s.state.words
+        (first_party c t.world.changes start) (Begun p (Container start) ∷ []) t.world.changes
     begins_now start named may free =
         let y : Party T = first_party c t.world.changes start in
         let scene : Scene T = scene_of p y t.world.changes in
@@ -287,7 +257,7 @@ module _ {T : Type 0} (shown : Shown T) (terms : Terms) (code : Coding T) (c : �
         in
         record {
           state = then_is scene s.state.words states' y (Begun p (Container start) ∷ []);
-          fit = (refl, refl, refl);
+          fit = (refl, refl);
           holds =
               holds_more scene s.state.words states' (span_of p t.events) y (Begun p (Container start) ∷ [])
               t.world.changes shows s.state state_is s.holds s.inv;
@@ -306,11 +276,10 @@ module _ {T : Type 0} (shown : Shown T) (terms : Terms) (code : Coding T) (c : �
 
     pub begin_comes : (start : Start T) (flight : Flight T) → MayRecoverIn start
         → flight_of (doing_of (party_of p t.world.latest)) ≡ None
-        → first_of t.world.kind t.world.capacity start t.world.kept ≡ Some flight
-        → frame.Comes (family_by terms code c) t p
-        (kept_after_begin t.world.coding t.world.capacity start p t.world.kept) t.world.words
+        → first_of kinds.TheVariants.Container c start kept_now ≡ Some flight
+        → frame.Comes (family_by terms code c) t p (kept_after_begin code c start p kept_now) s.state.words
         (party_at_begin start flight t.world.changes) (Begun p start ∷ []) t.world.changes
-    begin_comes x0 x1 x2 x3 x4 = grind (arith, kept_is, first_of, begins_own, begins_now)
+    begin_comes x0 x1 x2 x3 x4 = grind (arith, first_of, begins_own, begins_now)
 
   -- ---- an owner dies
 
@@ -324,20 +293,14 @@ module _ {T : Type 0} (shown : Shown T) (terms : Terms) (code : Coding T) (c : �
         events = t.events ++ Died o ∷ [];
       }
 
-  fit_death : (kept : Registry T) (words : List ℕ) (o : ℕ) → Represents kept words s.state → Represents (kept_after_death kept o) words (died_now o)
-  fit_death x0 x1 x2 x3 = grind arith
-
-  lives_by : (kept : Registry T) (words : List ℕ) (o : ℕ) → Represents kept words s.state → families.is_dead kept o ≡ false → has_died o s.state.dead ≡ false
-  lives_by x0 x1 x2 x3 x4 = grind (arith, false)
-
-  pub death_comes : (o : ℕ) → MayDie t.world o → frame.ComesByDeath (family_by terms code c) t s o
+  death_comes : (o : ℕ) → MayDie t.world o → frame.ComesByDeath (family_by terms code c) t s o
   death_comes o may =
       let g = s.holds.good in
-      let alive : is_dead o t.events ≡ false = sym (g.died o) ∙ lives_by t.world.kept t.world.words o s.fit may.lives in
+      let alive : is_dead o t.events ≡ false = sym (g.died o) ∙ subst (λ kept. families.is_dead kept o ≡ false) s.fit.0 may.lives in
       let d = shown.dies terms code c s.state.words s.state.dead s.state.states t.world.latest t.events t.world.turns o g s.holds.elements alive in
       record {
         state = died_now o;
-        fit = fit_death t.world.kept t.world.words o s.fit;
+        fit = (ap (λ kept. kept_after_death kept o) s.fit.0, s.fit.1);
         holds = record { same = refl; same_latest = refl; begun = λ p x found. omega arith; good = d.good; elements = d.elements };
         calls = λ q start flight at.
             let wrote : wrote_of q (t.events ++ Died o ∷ []) ≡ wrote_of q s.state.events =
@@ -361,41 +324,44 @@ module _ {T : Type 0} (shown : Shown T) where
   -- where owners die a call that passes its rows acts for none who is dead
   dying_rightly : (code : Coding T) (c : ℕ) (t : Trace T) (s : frame.Sound (family code c) t) (p : ℕ) (x : Party T)
       (since : ℕ) (found : party_of p t.world.latest ≡ Some x) (flight : Flight T)
-      → first_row (going_rows t.world.coding t.world.kept (Some flight) None) ≡ None → IsRightly shown dying code c t s p x since found flight
+      → first_row (going_rows code (kept_now shown dying code c t s) (Some flight) None) ≡ None → IsRightly shown dying code c t s p x since found flight
   dying_rightly x0 x1 x2 x3 x4 x5 x6 x7 x8 x9 = grind (arith, lives_by_rows, passes)
 
-  laws : (code : Coding T) (c : ℕ) → frame.Laws (family code c)
-  laws code c =
+  abbrev pub May : Trace T → Turn T → Type 0
+  May t turn = MayGoOn dying t
+
+  turns : (code : Coding T) (c : ℕ) → Turns (outline dying) code c May
+  turns code c =
       record {
-        step =
-            λ t p x flight since s small r found doing. step_comes shown dying code c t s p x since found
-            (may_go_on dying code c t s small) flight (dying_rightly code c t s p x since found flight r) r doing;
-        decision =
-            λ t p x flight since said s small r found doing asks. decision_comes shown dying code c t s p x since found
-            (may_go_on dying code c t s small) flight said asks doing;
-        begin = λ t p start flight s small may e. begin_comes shown dying code c t s p start flight (recovers_by shown dying code c t s p start may) may.free e;
+        begin = λ t s p start flight may named rows.
+            begin_comes shown dying code c t s p start flight (recovers_by shown dying code c t s p start may) may.free named;
+        step = λ t s p x since may found start flight rows here.
+            comes shown dying code c t s p x since found may start flight (dying_rightly code c t s p x since found flight rows) rows here;
+        decision = λ t s p x since said may found start flight rows asks here. decides shown dying code c t s p x since found may said start flight asks here;
         death = λ t o s may. death_comes shown dying code c t s o may;
+      }
+
+  opens : (terms : Terms) (code : Coding T) (c : ℕ) → IsCoding code → 1 ≤ c → c < 2 ^ 32 → laws.Opens (outline terms) code c
+  opens terms code c coded some few =
+      let o = shown.opens terms code c coded some few in
+      record {
+        state = record { words = opening_words code.size c; dead = []; states = []; latest = []; events = [] };
+        kept = refl;
+        words = refl;
+        holds = record { same = refl; same_latest = refl; begun = λ p x found. absurd (cc); good = o.good; elements = o.elements };
       }
 
   pub opening_sound : (terms : Terms) (code : Coding T) (c parties : ℕ) → IsCoding code → 1 ≤ c → c < 2 ^ 32
       → frame.Sound (family_by terms code c) (opening code kinds.TheVariants.Container c parties)
-  opening_sound terms code c parties coded some few =
-      let o = shown.opens terms code c coded some few in
+  opening_sound terms code c parties coded some few = laws.opening_sound (outline terms) code c (opens terms code c coded some few) parties
+
+  pub all_turns : AllTurns (outline dying) May
+  all_turns =
       record {
-        coding = refl;
-        kind = refl;
-        capacity = refl;
-        state = record { words = opening_words code.size c; dead = []; states = []; latest = []; events = [] };
-        fit = (refl, refl, refl);
-        holds = record { same = refl; same_latest = refl; begun = λ p x found. absurd (cc); good = o.good; elements = o.elements };
-        inv = record { spans = Each-nil _; calls = λ p. refl; knows = λ p. tt };
+        opens = λ code c coded admitted. let may = admitted_is c admitted in opens dying code c coded may.0 may.1;
+        turns = λ code c coded admitted. turns code c;
+        few = λ code c t turn s small. may_go_on dying code c t s small;
       }
 
   pub reached_sound : (t : Trace T) → t.world.kind ≡ kinds.TheVariants.Container → IsReached t → frame.Sound (family t.world.coding t.world.capacity) t
-  reached_sound t is r =
-      let w = t.world in
-      let may = admitted_is w.capacity (subst (λ kind. capacity_error kind w.capacity ≡ None) is r.admitted) in
-      let first = opening_sound dying w.coding w.capacity w.parties r.coded may.0 may.1 in
-      frame.reached_sound (family w.coding w.capacity) (laws w.coding w.capacity) t (ap is_loan is)
-      (subst (λ kind. frame.Sound (family w.coding w.capacity) (opening w.coding kind w.capacity w.parties)) (sym is) first)
-      r
+  reached_sound = laws.reached_sound (outline dying) May all_turns

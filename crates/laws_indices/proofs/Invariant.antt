@@ -129,7 +129,7 @@ module _ {T : Type 0} where
         words = λ s. s.words;
         kept = λ s. registries.TheVariants.Indices s.holders;
         Holds = λ code c s latest events turns. Holds c s latest events;
-        written = λ s p flight. any_wrote p flight;
+        written = λ c s p flight. any_wrote p flight;
         number = λ code c. number c;
         At = λ code c s p start flight. FlightAt c s.holders p start flight;
         Knows = λ code c s p events since changes backs flight. Knowing c s.words since changes backs flight;

@@ -1,6 +1,6 @@
 -- What the set promises is kept by every turn, and so by every run; and what a turn writes down: what the step did to the
 -- set, then the end. No call of the set acts.
-use Rattle.std.proofs.Common.{◌≡◌, ℕ, ◌<◌, ◌≤◌, Option, None, List, replicate, refl, sym, arith}
+use Rattle.std.proofs.Common.{◌≡◌, ℕ, ◌<◌, ◌≤◌, false, Option, None, List, replicate, refl, sym, arith}
 use Rattle.std.specs.List.{AllByRecursion}
 use Rattle.laws_indices.proofs.Names.{locked, Answer, Start, Indices, Flight, Registry, Coding, Trace}
 use Rattle.model.specs.declared.families.Flight as flights
@@ -14,8 +14,9 @@ use Rattle.model.specs.Families.Indices.Steps.{effects}
 use Rattle.model.specs.Promises.{IsKept}
 use Rattle.model.specs.Promises.Turns.{IsEffectOf}
 use Rattle.model.specs.Turns.{IsReachedOn}
+use Rattle.model.specs.Families.{want_of, is_question}
 use Rattle.model.proofs.FamilyLaws as laws
-use Rattle.model.proofs.FamilyLaws.{Opens, Owed, OwesAll}
+use Rattle.model.proofs.FamilyLaws.{Opens, Turns, AllTurns, Owed}
 use Rattle.model.proofs.Frame as frame
 use Rattle.model.proofs.Orders.{Keeps, Orders}
 use Rattle.model.proofs.Readings.{Each-nil}
@@ -40,8 +41,8 @@ module _ {T : Type 0} where
 
   writes : (c : ℕ) (t : Trace T) (p : ℕ) (words : List ℕ) (holders : List (Option ℕ)) (start : Start T) (flight : Flight T)
       → FlightAt c holders p start flight
-      → laws.Writes outline t p (step_from t p t.world.coding words (registries.TheVariants.Indices holders) start flight)
-  writes c t p words holders (Indices start) (flights.TheVariants.Indices flight) at = laws.only_effects outline t p _ (all_effects p _ _)
+      → laws.Writes outline t (Next p) (step_from t p t.world.coding words (registries.TheVariants.Indices holders) start flight)
+  writes c t p words holders (Indices start) (flights.TheVariants.Indices flight) at = laws.only_effects outline t (Next p) _ (all_effects p _ _)
   writes c t p words holders start flight at = absurd at
 
   opens : (code : Coding T) (c : ℕ) → 1 ≤ c → c < locked → Opens outline code c
@@ -67,45 +68,56 @@ module _ {T : Type 0} where
   abbrev May : Trace T → Turn T → Type 0
   May t turn = Unit {0}
 
-  owed : (code : Coding T) (c : ℕ) → Owed outline code c May
-  owed code c =
-      record {
-        promise = refl;
+  no_question : (code : Coding T) (c : ℕ) (s : IndexSet) (p : ℕ) (start : Start T) (flight : Flight T) → (family code c).At s p start flight
+      → is_question (want_of code flight) ≡ false
+  no_question x0 x1 x2 x3 x4 x5 x6 = grind arith
+
+  turns : (code : Coding T) (c : ℕ) → Turns outline code c May
+  turns code c =
+      laws.turns_alone outline code c May
+      (record {
         holds_on = λ scene s' was y es changes' under preserves h. holds_more scene s' was y es changes' under preserves h;
         stays = λ scene s' was y es changes' preserves h own q ne start flight at. let keeps = preserves.keeps q ne in grind arith;
         knows = λ scene s' was y es changes' preserves own q ne since backs flight h. let seen = preserves.seen in grind arith;
         begin = λ t s p start flight may e rows. begin_shows code c t s p start flight e rows;
         step = λ t s p x since may found. step_shows code c t s p x since found;
-        no_question = λ s p start flight at. grind arith;
+        no_question = no_question code c;
         no_owners = λ s. refl;
+      })
+
+  owed : (code : Coding T) (c : ℕ) → Owed outline code c
+  owed code c =
+      record {
+        promise = refl;
         bounds = grind arith;
         promised = λ t s few. set_kept code c t s;
         writes = λ t s p x since small start flight here. writes c t p s.state.words s.state.holders start flight here.at;
-        goes = λ s p start flight at words beside answer. grind arith;
-        tells = λ old turn new. tt;
+        decides = λ t s p x since said start flight asks here. laws.asks_none _ (no_question code c s.state p start flight here.at) asks;
+        goes = λ s p start flight at z words beside answer. grind arith;
+        tells = λ t turn e s. tt;
       }
 
-  owes_all : OwesAll {T = T} outline May
-  owes_all =
+  all_turns : AllTurns {T = T} outline May
+  all_turns =
       record {
         opens = λ code c coded admitted. let may = admitted_is c admitted in opens code c may.0 may.1;
-        owed = λ code c coded admitted. owed code c;
+        turns = λ code c coded admitted. turns code c;
         few = λ code c t turn s small. tt;
       }
 
   -- what is proved of every run of the unique index set
   pub index_keeps : Keeps T kinds.TheVariants.Indices
-  index_keeps = laws.keeps outline May owes_all
+  index_keeps = laws.keeps outline May all_turns (λ code c coded admitted. owed code c)
 
   -- a step writes down in order, and its call goes on as its table says
   pub orders_of : (code : Coding T) (c : ℕ) → Orders (family code c)
-  orders_of code c = laws.orders outline code c May (owed code c)
+  orders_of code c = laws.orders outline code c (owed code c)
 
   -- what holds of every run where neither turns nor parties have a bound
   pub reached_on_sound : (t : Trace T) → t.world.kind ≡ kinds.TheVariants.Indices → IsReachedOn t → frame.Sound (family t.world.coding t.world.capacity) t
-  reached_on_sound = laws.reached_on_sound outline owes_all
+  reached_on_sound = laws.reached_on_sound outline all_turns
 
   pub kept_on : (t : Trace T) → t.world.kind ≡ kinds.TheVariants.Indices → IsReachedOn t → IsKept t
   kept_on t is r =
       let s = reached_on_sound t is r in
-      laws.kept_by outline May owes_all t is r.coded r.admitted s (set_kept t.world.coding t.world.capacity t s)
+      laws.kept_by outline May all_turns (λ code c coded admitted. owed code c) t is r.coded r.admitted s (set_kept t.world.coding t.world.capacity t s)

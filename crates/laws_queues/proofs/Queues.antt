@@ -5,7 +5,6 @@ pub mod Fresh
 pub mod Invariant
 pub mod Justified
 pub mod Keeping
-pub mod Kept
 pub mod Knows
 pub mod Lengths
 pub mod Pending
@@ -13,4 +12,5 @@ pub mod Roles
 pub mod Runs
 pub mod Sound
 pub mod Stages
+pub mod Steps
 pub mod Values

@@ -10,6 +10,8 @@ use Rattle.model.specs.declared.event.Start as any_starts
 use Rattle.model.specs.declared.families.Flight as flights
 use Rattle.model.specs.declared.families.Registry as registries
 use Rattle.model.specs.declared.turn.Kind as kinds
+use Rattle.model.proofs.Family as families
+use Rattle.model.proofs.Family.{Outline}
 use Rattle.model.proofs.Frame as frame
 use Rattle.model.proofs.Frame.{Family}
 use Rattle.laws_robust.specs.Gone.{GoneBy, Death, Word, IsCalm, AsksBy, AnswersBy}
@@ -66,8 +68,7 @@ worn_then x0 x1 x2 x3 x4 x5 = grind arith
 
 module _ {T : Type 0} where
   abbrev pub Represents : Registry T → List ℕ → RobustSet T → Type 0
-  Represents (registries.TheVariants.Owners dead) words s = (words ≡ s.words) × (dead ≡ s.dead)
-  Represents kept words s = ⊥
+  Represents kept words s = (kept ≡ registries.TheVariants.Owners s.dead) × (words ≡ s.words)
 
   -- what is so of the words, of the dead and of the events, after so many turns
   pub record Good (by : GoneBy) (c : ℕ) (words dead : List ℕ) (events : List (Event T)) (turns : ℕ) : Type 0 where
@@ -113,21 +114,25 @@ module _ {T : Type 0} where
   view by words events p since changes backs =
       record { by = by; words = words; events = events; party = p; since = since; changes = changes; backs = backs }
 
-  abbrev pub family_by : GoneBy → Coding T → ℕ → Family T
-  family_by by code c =
+  abbrev pub outline : GoneBy → Outline T
+  outline by =
       record {
-        coding = code;
         kind = kinds.TheVariants.Robust;
+        no_loan = refl;
         promise = promise;
-        capacity = c;
         State = RobustSet T;
-        Represents = Represents;
-        Holds = λ s latest events turns. Holds by c s latest events turns;
-        written = λ s p flight. wrote_of p s.events;
-        number = λ wrote. number c;
-        At = λ s p start flight. FlightAt c (set_acts_of p s.events) start flight;
-        Knows = λ s p events since changes backs flight. Knowing c flight (view by s.words events p since changes backs);
+        words = λ s. s.words;
+        kept = λ s. registries.TheVariants.Owners s.dead;
+        Holds = λ code c s latest events turns. Holds by c s latest events turns;
+        written = λ c s p flight. wrote_of p s.events;
+        number = λ code c. number c;
+        At = λ code c s p start flight. FlightAt c (set_acts_of p s.events) start flight;
+        Knows = λ code c s p events since changes backs flight. Knowing c flight (view by s.words events p since changes backs);
+        Preserves = λ scene s' was y es changes'. Unit {0};
       }
+
+  abbrev pub family_by : GoneBy → Coding T → ℕ → Family T
+  family_by by = families.family (outline by)
 
   -- the family where owners die
   abbrev pub family : Coding T → ℕ → Family T
@@ -140,12 +145,12 @@ module _ {T : Type 0} where
 
   -- so it is where few turns were taken
   pub ahead_of_few : (by : GoneBy) (c : ℕ) (words dead : List ℕ) (events : List (Event T)) (turns : ℕ)
-      → Good by c words dead events turns → 1 ≤ turns → turns < 2 ^ 64 - 2 → IsAhead words
-  ahead_of_few by c words dead events turns g begun small open_now = grind arith
+      → Good by c words dead events turns → turns < 2 ^ 64 - 2 → IsAhead words
+  ahead_of_few by c words dead events turns g small open_now = grind arith
 
   pub room_of_few : (by : GoneBy) (c : ℕ) (words dead : List ℕ) (events : List (Event T)) (turns : ℕ)
-      → Good by c words dead events turns → 1 ≤ turns → turns < 2 ^ 64 - 2 → HasRoom by words
-  room_of_few x0 x1 x2 x3 x4 x5 x6 x7 x8 = grind (arith, ahead_of_few)
+      → Good by c words dead events turns → turns < 2 ^ 64 - 2 → HasRoom by words
+  room_of_few x0 x1 x2 x3 x4 x5 x6 x7 = grind (arith, ahead_of_few)
 
   abbrev pub set_then : Scene T → List ℕ → List (Event T) → RobustSet T
   set_then scene words es =

@@ -2,11 +2,9 @@
 use Rattle.laws_robust.proofs.Names.{◌≡◌, ℕ, ◌+◌, ◌-◌, ◌*◌, ◌≤◌, Option, List, sym, ap, subst}
 use Rattle.laws_robust.proofs.Names.{◌∙◌, arith, ReleaseMode, LockIfLastIndex, AcquireStage, FindStage}
 use Rattle.laws_robust.proofs.Names.{Count, Lock, RecoverStage, ReleaseStage, RobustStart, RobustFlight}
-use Rattle.laws_robust.proofs.Names.{Coding, most_steps, KeepsDead, IsRobustSet, promise, SetAct, party_of, IsKeptBy}
-use Rattle.laws_robust.proofs.Names.{IsKept, promise_of, span_of, IsReached, Trace, progress_in}
+use Rattle.laws_robust.proofs.Names.{Coding, most_steps, KeepsDead, IsRobustSet, SetAct}
+use Rattle.laws_robust.proofs.Names.{Trace}
 use Rattle.model.specs.declared.families.indices.robust.RobustStart as starts
-use Rattle.model.specs.declared.turn.Kind as kinds
-use Rattle.model.specs.Promises.Bounds.{Progresses}
 use Rattle.model.proofs.Frame as frame
 use Rattle.laws_robust.specs.Gone.{Death}
 use Rattle.laws_robust.proofs.Core.{cell}
@@ -16,7 +14,6 @@ use Rattle.laws_robust.proofs.Knows.{View, Paid}
 use Rattle.laws_robust.proofs.Standing.{count_number, lock_number, acquire_number, for_back, for_index, release_number}
 use Rattle.laws_robust.proofs.Standing.{recover_number, find_number, number_of, AcquireAt, CountAt, LockAt, ReleaseAt}
 use Rattle.laws_robust.proofs.Standing.{FindAt, RecoverAt, At}
-use Rattle.laws_robust.proofs.Sound.{kept_is, reached_sound}
 
 -- ---- how many steps a call has taken
 
@@ -58,36 +55,20 @@ module _ {T : Type 0} where
   pub held_paid : (held : Option ℕ) (v : View T) → Paid held v → v.backs ≤ v.changes - v.since
   held_paid x0 x1 x2 = grind arith
 
-  bounds : (code : Coding T) (c : ℕ) → frame.Bounds (family code c)
+  pub bounds : (code : Coding T) (c : ℕ) → frame.Bounds (family code c)
   bounds x0 x1 = grind (arith, steps_most, held_paid)
 
   -- ---- what is promised
 
-  set_kept : (code : Coding T) (t : Trace T) → (s : frame.Sound (family code t.world.capacity) t) → IsRobustSet t
+  pub set_kept : (code : Coding T) (t : Trace T) → (s : frame.Sound (family code t.world.capacity) t) → IsRobustSet t
   set_kept code t s =
-      let is = kept_is t.world.kept t.world.words s.state s.fit in
       let g = s.holds.good in
       record {
         does = g.does;
         asks = asks_right t.events s.holds.asks;
         holds = λ well_formed. g.holds (well_formed, tt);
         answers = answers_right ⊥ (λ worn. worn) Death t.world.capacity t.events tt g.answers;
-        cells = λ index below. ap (λ ws. cell ws index) is.1 ∙ g.cells index below;
-        lock = rw is.1 g.lock;
-        dead = subst (λ kept. KeepsDead kept t.events) (sym is.0) (λ owner. g.died owner);
+        cells = λ index below. ap (λ ws. cell ws index) s.fit.1 ∙ g.cells index below;
+        lock = rw s.fit.1 g.lock;
+        dead = subst (λ kept. KeepsDead kept t.events) (sym s.fit.0) (λ owner. g.died owner);
       }
-
-  kept_by : (code : Coding T) (t : Trace T) → (s : frame.Sound (family code t.world.capacity) t) → IsKeptBy promise t
-  kept_by code t s =
-      let w = t.world in
-      let size : w.coding.size ≡ code.size = ap (λ (z : Coding T). z.size) s.coding in
-      record {
-        spans = s.inv.spans;
-        progress = λ p. subst (λ n. Progresses promise w.capacity n (span_of p t.events) (progress_in w p)) (sym size)
-            (frame.progresses (family code w.capacity) (bounds code w.capacity) s.state p t.events w.changes
-            (party_of p w.latest) (span_of p t.events) (s.inv.calls p) (s.inv.knows p));
-        promised = set_kept code t s;
-      }
-
-  pub kept : (t : Trace T) → t.world.kind ≡ kinds.TheVariants.Robust → IsReached t → IsKept t
-  kept t is r = subst (λ P. IsKeptBy P t) (sym (ap (promise_of {T = T}) is)) (kept_by t.world.coding t (reached_sound t is r))

@@ -3,22 +3,24 @@ use Rattle.laws_robust.proofs.Names.{◌≡◌, ◌≢◌, slice_index, ℕ, Boo
 use Rattle.laws_robust.proofs.Names.{◌∷◌, ◌++◌, refl, sym, ap, subst, ◌∙◌, arith, greatest, ReleaseMode, Container}
 use Rattle.laws_robust.proofs.Names.{Flight, Party, Idle, Undecided, Turn, Begin, Next, Decide, Die, Coding}
 use Rattle.laws_robust.proofs.Names.{AnswersRight, party_of, Each, is_due, call_refusal, after_turn, unless_refused}
-use Rattle.laws_robust.proofs.Names.{Trace, opening, capacity_error, flight_in, row_passed}
+use Rattle.laws_robust.proofs.Names.{Trace, opening, flight_in, row_passed}
 use Rattle.model.specs.declared.families.container.ContainerStart.TheVariants.{Recover}
 use Rattle.model.specs.declared.families.Flight as flights
 use Rattle.model.specs.declared.turn.Kind.{Kind}
 use Rattle.model.specs.declared.turn.Kind as kinds
+use Rattle.model.specs.declared.families.Registry as registries
+use Rattle.model.proofs.FamilyLaws.{opening_there}
 use Rattle.model.proofs.Frame as frame
+use Rattle.model.proofs.Scenes.{decides_from, stands_there}
 use Rattle.model.proofs.Reached.{turn_making}
 use Rattle.laws_robust.specs.Gone.{Word, IsHonest}
 use Rattle.laws_robust.specs.Open.{open_refusal, attempt_open, run_open, IsReachedOpen, IsOpenSet}
 use Rattle.laws_robust.proofs.Alive.{AllLive, all_live_on}
 use Rattle.laws_robust.proofs.Gone.{answers_right}
-use Rattle.laws_robust.proofs.Invariant.{family_by}
+use Rattle.laws_robust.proofs.Invariant.{outline, family_by}
 use Rattle.laws_robust.proofs.Living.{steps_leave}
-use Rattle.laws_robust.proofs.Opening.{admitted_is}
 use Rattle.laws_robust.proofs.OpenTurns.{reached_keeps}
-use Rattle.laws_robust.proofs.Sound.{laws_by, opening_sound, decision_comes, MayDecideIn}
+use Rattle.laws_robust.proofs.Sound.{May, laws_by, all_turns, decides, MayDecideIn}
 
 module _ {T : Type 0} (code : Coding T) (c : ℕ) where
   abbrev Sound : Trace T → Type 0
@@ -50,29 +52,25 @@ module _ {T : Type 0} (code : Coding T) (c : ℕ) where
   open_turn_sound t (Decide p said) e s =
       let b = row_passed (is_none (flight_in t.world p)) Idle _ e in
       let d = row_passed (not (is_due t.world.coding (flight_in t.world p))) Undecided None b.1 in
-      let due = frame.is_true (is_due t.world.coding (flight_in t.world p)) d.0 in
-      frame.decision_sound (family_by Word code c) t p said s (λ x flight since u.
-      decision_comes Word code c t s p x since u.found tt flight said (may_decide t s p x since u.found flight said)
-      (subst (λ o. is_due t.world.coding o ≡ true) u.is due) u.doing)
+      let due : is_due code (flight_in t.world p) ≡ true = subst (λ y. is_due y (flight_in t.world p) ≡ true) s.coding
+      (frame.is_true (is_due t.world.coding (flight_in t.world p)) d.0) in
+      let F = family_by Word code c in
+      frame.decision_sound F t p said s (λ x flight since u.
+      decides_from F t s p x since said s.state.words (registries.TheVariants.Owners s.state.dead) flight s.fit.1 s.fit.0
+      (decides Word code c t s p x since u.found tt said x.start flight (may_decide t s p x since u.found flight said)
+      (subst (λ o. is_due code o ≡ true) u.is due) (stands_there F t s p x since flight u.found u.doing)))
       (party_of p t.world.latest) refl
 
 -- ---- whole runs
 
 module _ {T : Type 0} where
-  opens : (t : Trace T) → t.world.kind ≡ kinds.TheVariants.Robust → IsReachedOpen t
-      → frame.Sound (family_by Word t.world.coding t.world.capacity) (opening t.world.coding t.world.kind t.world.capacity t.world.parties)
-  opens t is r =
-      let w = t.world in
-      let may = admitted_is w.capacity (subst (λ kind. capacity_error kind w.capacity ≡ None) is r.admitted) in
-      subst (λ kind. frame.Sound (family_by Word w.coding w.capacity) (opening w.coding kind w.capacity w.parties))
-      (sym is) (opening_sound Word w.coding w.capacity w.parties may.0 may.1)
-
   -- whatever the order of the turns, and however many there were
   pub reached_open_sound : (t : Trace T) → t.world.kind ≡ kinds.TheVariants.Robust → IsReachedOpen t
       → frame.Sound (family_by Word t.world.coding t.world.capacity) t
   reached_open_sound t is r =
       let w = t.world in
-      reached_keeps (frame.Sound (family_by Word w.coding w.capacity)) (λ u turn e s. open_turn_sound w.coding w.capacity u turn e s) t r (opens t is r)
+      reached_keeps (frame.Sound (family_by Word w.coding w.capacity)) (λ u turn e s. open_turn_sound w.coding w.capacity u turn e s) t r
+      (opening_there (outline Word) (May Word) (all_turns Word) t is r.coded r.admitted)
 
   -- and nobody dies
   pub reached_open_lives : (t : Trace T) → t.world.kind ≡ kinds.TheVariants.Robust → IsReachedOpen t → AllLive t.events
@@ -80,7 +78,8 @@ module _ {T : Type 0} where
       let code = t.world.coding in
       let c = t.world.capacity in
       (reached_keeps (λ u. frame.Sound (family_by Word code c) u × AllLive u.events)
-      (λ u turn e h. (open_turn_sound code c u turn e h.0, all_live_on u (steps_leave code c u h.0) turn e h.1)) t r (opens t is r, λ owner. refl)).1
+      (λ u turn e h. (open_turn_sound code c u turn e h.0, all_live_on u (steps_leave code c u h.0) turn e h.1)) t r
+      (opening_there (outline Word) (May Word) (all_turns Word) t is r.coded r.admitted, λ owner. refl)).1
 
   open_kept : (code : Coding T) (t : Trace T) → frame.Sound (family_by Word code t.world.capacity) t → AllLive t.events → IsOpenSet t
   open_kept code t s lives = grind arith

@@ -1,16 +1,16 @@
 -- Every turn keeps what holds of the machine of a robust index set: the laws of the family.
-use Rattle.laws_robust.proofs.Names.{◌≡◌, ◌≢◌, ℕ, ◌+◌, ◌-◌, ◌^◌, ◌<◌, ◌≤◌, inl, Bool, true, false, Option, Some, None}
+use Rattle.laws_robust.proofs.Names.{◌≡◌, ◌≢◌, ℕ, ◌-◌, ◌^◌, ◌<◌, ◌≤◌, inl, Bool, true, false, Option, Some, None}
 use Rattle.laws_robust.proofs.Names.{List, [], ◌∷◌, ◌++◌, refl, sym, ap, subst, ◌∙◌, arith, ReleaseMode, AcquireStage}
 use Rattle.laws_robust.proofs.Names.{FindStage, Count, Lock, Raise, RecoverStage, GiveBack, ReleaseStage}
-use Rattle.laws_robust.proofs.Names.{acquire_asks, empty, raise_want, count_want, lock_want, release_asks, Event}
-use Rattle.laws_robust.proofs.Names.{Begun, Died, Start, Robust, Flight, Registry, RobustStart, RobustFlight, Going}
-use Rattle.laws_robust.proofs.Names.{Party, Coding, first_of, want_of, is_question, going_rows, beside_of, step_of}
+use Rattle.laws_robust.proofs.Names.{acquire_asks, empty, raise_want, count_want, lock_want, release_asks}
+use Rattle.laws_robust.proofs.Names.{Begun, Died, Start, Robust, Flight, Registry, RobustStart, RobustFlight}
+use Rattle.laws_robust.proofs.Names.{Party, Coding, first_of, want_of, is_question, going_rows}
 use Rattle.laws_robust.proofs.Names.{kept_after_death, kept_after_begin, want, has_died, dead_with, acts_for_dead}
-use Rattle.laws_robust.proofs.Names.{frees_living, opening_words, call_rows, kept_rows, set_acts, is_dead, wrote_in}
-use Rattle.laws_robust.proofs.Names.{party_of, Open, span_of, first_row, Step, old_of, words_after, change_of}
-use Rattle.laws_robust.proofs.Names.{number_of, party_at_begin, party_after, events_of_step, IsReached, Trace}
-use Rattle.laws_robust.proofs.Names.{opening, capacity_error, Each-nil, Each-append, span_of-own, span_of-death}
-use Rattle.laws_robust.proofs.Names.{MayBegin, MayDie, asked, StandsThere, stands_there, ComesFrom, comes_from}
+use Rattle.laws_robust.proofs.Names.{frees_living, opening_words, set_acts, is_dead, wrote_in}
+use Rattle.laws_robust.proofs.Names.{party_of, Open, span_of, first_row}
+use Rattle.laws_robust.proofs.Names.{number_of, party_at_begin, IsReached, Trace}
+use Rattle.laws_robust.proofs.Names.{opening, Each-nil, Each-append, span_of-own, span_of-death}
+use Rattle.laws_robust.proofs.Names.{MayBegin, MayDie, StandsThere, ComesFrom}
 use Rattle.steps.specs.declared.indices.robust.recover.RecoverStage as recovers
 use Rattle.model.specs.declared.families.Flight as flights
 use Rattle.model.specs.declared.families.Registry as registries
@@ -18,16 +18,20 @@ use Rattle.model.specs.declared.families.indices.robust.RobustStart as starts
 use Rattle.model.specs.declared.families.indices.robust.calls.RobustFlight as calls
 use Rattle.model.specs.declared.turn.Kind as kinds
 use Rattle.model.specs.Families as families
-use Rattle.model.specs.Families.Loan.Opening.{is_loan}
+use Rattle.model.specs.Families.{begin_of}
+use Rattle.model.specs.declared.turn.Turn.{Turn}
+use Rattle.model.proofs.FamilyLaws as laws
+use Rattle.model.proofs.FamilyLaws.{Turns, Opens, AllTurns}
 use Rattle.model.proofs.Frame as frame
+use Rattle.model.proofs.Scenes.{DecidesFrom}
 use Rattle.laws_robust.specs.Gone.{GoneBy, Death, Word, MayBeTold, AsksBy}
 use Rattle.laws_robust.proofs.Acquires.{acquire_step}
 use Rattle.laws_robust.proofs.Begins.{begins}
 use Rattle.laws_robust.proofs.Deaths.{death_good, death_known}
 use Rattle.laws_robust.proofs.Effects.{both_ways}
 use Rattle.laws_robust.proofs.Finds.{find_step, find_decided}
-use Rattle.laws_robust.proofs.Firsts.{IsFirst, first_is, IsOwn, begins_own}
-use Rattle.laws_robust.proofs.Invariant.{RobustSet, Represents, Scene, Inv, Shows, HasRoom, room_of_few, family}
+use Rattle.laws_robust.proofs.Firsts.{IsFirst, first_is, begins_own}
+use Rattle.laws_robust.proofs.Invariant.{outline, RobustSet, Represents, Scene, Inv, Shows, HasRoom, room_of_few, family}
 use Rattle.laws_robust.proofs.Invariant.{family_by, wrote_of, at_written, owes, holds_more}
 use Rattle.laws_robust.proofs.Knows.{Knows}
 use Rattle.laws_robust.proofs.Standing.{acquire_at, find_at, recover_at, borrowed_at, At, FindAt, RecoverAt}
@@ -41,11 +45,7 @@ use Rattle.laws_robust.proofs.Stages.{IsHere, all, now, StepOf, DecisionOf}
 module _ {T : Type 0} where
   pub kept_is : (kept : Registry T) (words : List ℕ) (s : RobustSet T) → Represents kept words s
       → (kept ≡ registries.TheVariants.Owners s.dead) × (words ≡ s.words)
-  kept_is x0 x1 x2 x3 = grind arith
-
-  fit_events : (kept : Registry T) (words : List ℕ) (s : RobustSet T) (events : List (Event T))
-      → Represents kept words s → Represents kept words (record { words = s.words; dead = s.dead; events = events })
-  fit_events x0 x1 x2 x3 x4 = grind arith
+  kept_is kept words s h = h
 
 -- ---- a step of a call that passes its rows
 
@@ -178,14 +178,15 @@ module _ {T : Type 0} (by : GoneBy) (code : Coding T) (c : ℕ) (t : Trace T) (s
 
   -- the counter has room, as of the words that the state holds
   room_there : HasRoom by t.world.words → HasRoom by s.state.words
-  room_there room = subst (HasRoom by) (kept_is t.world.kept t.world.words s.state s.fit).1 room
+  room_there room = subst (HasRoom by) s.fit.1 room
+
+  -- it has where few turns were taken
+  pub has_room : t.world.turns < 2 ^ 64 - 2 → HasRoom by t.world.words
+  has_room small = subst (HasRoom by) (sym s.fit.1) (room_of_few by c s.state.words s.state.dead t.events t.world.turns s.holds.good small)
 
   module _ (p : ℕ) (x : Party T) (since : ℕ) (found : party_of p t.world.latest ≡ Some x) where
     pub inv_with : HasRoom by t.world.words → Inv (scene_of p x since)
     inv_with x0 = grind (arith, room_there)
-
-    pub has_room : t.world.turns < 2 ^ 64 - 2 → HasRoom by t.world.words
-    has_room x0 = grind (arith, kept_is, room_of_few)
 
     pub inv_of : t.world.turns < 2 ^ 64 - 2 → Inv (scene_of p x since)
     inv_of small = inv_with (has_room small)
@@ -204,13 +205,13 @@ module _ {T : Type 0} (by : GoneBy) (code : Coding T) (c : ℕ) (t : Trace T) (s
 
     -- the rows that it has passed
     pub passes : (flight : RobustFlight) (said : Option Bool)
-        → first_row (going_rows t.world.coding t.world.kept (Some (flights.TheVariants.Robust flight)) said) ≡ None
+        → first_row (going_rows code (registries.TheVariants.Owners s.state.dead) (Some (flights.TheVariants.Robust flight)) said) ≡ None
         → (acts_for_dead s.state.dead flight ≡ false) × (frees_living s.state.dead flight said ≡ false)
     passes flight said r = grind arith
 
     -- it may decide so
     pub decides_by : (b : GoneBy) (flight : RobustFlight) (said : Bool)
-        → first_row (going_rows t.world.coding t.world.kept (Some (flights.TheVariants.Robust flight)) (Some said)) ≡ None
+        → first_row (going_rows code (registries.TheVariants.Owners s.state.dead) (Some (flights.TheVariants.Robust flight)) (Some said)) ≡ None
         → MayDecide b s.state.dead flight said
     decides_by Death flight said r = (passes flight (Some said) r).1
     decides_by Word flight said r = tt
@@ -218,7 +219,7 @@ module _ {T : Type 0} (by : GoneBy) (code : Coding T) (c : ℕ) (t : Trace T) (s
     -- ---- a step
 
     comes : HasRoom by t.world.words → (start : Start T) (flight : Flight T)
-        → first_row (going_rows t.world.coding t.world.kept (Some flight) None) ≡ None
+        → first_row (going_rows code (registries.TheVariants.Owners s.state.dead) (Some flight) None) ≡ None
         → StandsThere (family_by by code c) t s p x since start flight
         → ComesFrom (family_by by code c) t s p x since code s.state.words (registries.TheVariants.Owners s.state.dead) start flight
     comes room (Robust start) (flights.TheVariants.Robust flight) r h =
@@ -232,37 +233,17 @@ module _ {T : Type 0} (by : GoneBy) (code : Coding T) (c : ℕ) (t : Trace T) (s
         }
     comes room start flight r h = absurd h.at
 
-    pub step_comes : HasRoom by t.world.words → (flight : Flight T)
-        → first_row (going_rows t.world.coding t.world.kept (Some flight) None) ≡ None → x.doing ≡ Going flight since
-        → frame.ComesByStep (family_by by code c) t p x flight since (asked t.world.coding flight) (old_of t.world.words (asked t.world.coding flight))
-    step_comes room flight r doing =
-        let is = kept_is t.world.kept t.world.words s.state s.fit in
-        comes_from (family_by by code c) t s p x since s.state.words (registries.TheVariants.Owners s.state.dead)
-        flight is.1 is.0
-        (comes room x.start flight r (stands_there (family_by by code c) t s p x since flight found doing))
-
     -- ---- a decision
-
-    abbrev decided : ℕ → List ℕ → Registry T → Start T → Flight T → Step (Flight T) (Registry T) T
-    decided answer words kept start flight =
-        step_of t.world.coding words (beside_of words kept t.world.latest p) p start flight answer kept
-
-    abbrev DecidesFrom : ℕ → List ℕ → Registry T → Start T → Flight T → Type 0
-    DecidesFrom answer words kept start flight =
-        frame.Comes (family_by by code c) t p (decided answer words kept start flight).kept (words_after words None)
-        (party_after (record x { start = start }) since t.world.changes 0 (change_of words None) (decided answer words kept start flight))
-        (events_of_step p start (decided answer words kept start flight))
-        (t.world.changes + change_of words None)
 
     -- what a call that is one of the set may decide
     abbrev pub MayDecideIn : Flight T → Bool → Type 0
     MayDecideIn (flights.TheVariants.Robust flight) said = MayDecide by s.state.dead flight said
     MayDecideIn flight said = Unit {0}
 
-    decides : HasRoom by t.world.words → (said : Bool) (start : Start T) (flight : Flight T)
-        → MayDecideIn flight said → is_question (want_of t.world.coding flight) ≡ true
+    pub decides : HasRoom by t.world.words → (said : Bool) (start : Start T) (flight : Flight T)
+        → MayDecideIn flight said → is_question (want_of code flight) ≡ true
         → StandsThere (family_by by code c) t s p x since start flight
-        → DecidesFrom (number_of said) s.state.words (registries.TheVariants.Owners s.state.dead) start flight
+        → DecidesFrom (family_by by code c) t s p x since code (number_of said) s.state.words (registries.TheVariants.Owners s.state.dead) start flight
     decides room said (Robust start) (flights.TheVariants.Robust flight) r asks h =
         let there = is_there start flight h in
         let moves = decision_moves (scene_of p x since) (inv_with room) said start flight there.here there.at r asks there.steps there.knows in
@@ -276,17 +257,8 @@ module _ {T : Type 0} (by : GoneBy) (code : Coding T) (c : ℕ) (t : Trace T) (s
 
     -- one that passes the machine's rows may
     pub passes_in : (flight : Flight T) (said : Bool)
-        → first_row (going_rows t.world.coding t.world.kept (Some flight) (Some said)) ≡ None → MayDecideIn flight said
+        → first_row (going_rows code (registries.TheVariants.Owners s.state.dead) (Some flight) (Some said)) ≡ None → MayDecideIn flight said
     passes_in x0 x1 x2 = grind (arith, decides_by)
-
-    pub decision_comes : HasRoom by t.world.words → (flight : Flight T) (said : Bool) → MayDecideIn flight said
-        → is_question (want_of t.world.coding flight) ≡ true
-        → x.doing ≡ Going flight since → frame.ComesByStep (family_by by code c) t p x flight since None (number_of said)
-    decision_comes room flight said r asks doing =
-        let is = kept_is t.world.kept t.world.words s.state s.fit in
-        subst (λ ws. DecidesFrom (number_of said) ws t.world.kept x.start flight) (sym is.1)
-        (subst (λ k. DecidesFrom (number_of said) s.state.words k x.start flight) (sym is.0)
-        (decides room said x.start flight r asks (stands_there (family_by by code c) t s p x since flight found doing)))
 
   -- ---- a call begins
 
@@ -295,7 +267,7 @@ module _ {T : Type 0} (by : GoneBy) (code : Coding T) (c : ℕ) (t : Trace T) (s
         → IsFirst T by c s.state.words t.events p t.world.changes start flight
         → span_of p (t.events ++ Begun p (Robust start) ∷ []) ≡ Open (Robust start) []
         → MayBegin t.world p (Robust start)
-        → frame.Comes (family_by by code c) t p t.world.kept t.world.words
+        → frame.Comes (family_by by code c) t p (registries.TheVariants.Owners s.state.dead) s.state.words
         (party_at_begin (Robust start) (flights.TheVariants.Robust flight) t.world.changes)
         (Begun p (Robust start) ∷ []) t.world.changes
     begins_now start flight known span may =
@@ -321,7 +293,7 @@ module _ {T : Type 0} (by : GoneBy) (code : Coding T) (c : ℕ) (t : Trace T) (s
         in
         record {
           state = _;
-          fit = fit_events t.world.kept t.world.words s.state (t.events ++ Begun p (Robust start) ∷ []) s.fit;
+          fit = (refl, refl);
           holds = holds_more scene s.state.words (span_of p t.events) y (Begun p (Robust start) ∷ []) t.world.changes shows s.holds s.inv;
           owes = owes scene s.state.words (span_of p t.events) y (Begun p (Robust start) ∷ []) t.world.changes shows s.holds s.inv refl;
         }
@@ -329,48 +301,30 @@ module _ {T : Type 0} (by : GoneBy) (code : Coding T) (c : ℕ) (t : Trace T) (s
     span_begun : (start : RobustStart) → span_of p (t.events ++ Begun p (Robust start) ∷ []) ≡ Open (Robust start) []
     span_begun start = span_of-own p t.events (Begun p (Robust start) ∷ []) (refl, tt)
 
-    pub begin_comes : (start : Start T) (flight : Flight T) → MayBegin t.world p start → first_of t.world.kind t.world.capacity start t.world.kept ≡ Some flight
-        → frame.Comes (family_by by code c) t p
-        (kept_after_begin t.world.coding t.world.capacity start p t.world.kept) t.world.words
+    begin_comes : (start : Start T) (flight : Flight T) → MayBegin t.world p start
+        → first_of kinds.TheVariants.Robust c start (registries.TheVariants.Owners s.state.dead) ≡ Some flight
+        → first_row ((begin_of kinds.TheVariants.Robust c start).rows (registries.TheVariants.Owners s.state.dead) p) ≡ None
+        → frame.Comes (family_by by code c) t p (kept_after_begin code c start p (registries.TheVariants.Owners s.state.dead)) s.state.words
         (party_at_begin start flight t.world.changes) (Begun p start ∷ []) t.world.changes
-    begin_comes (Robust start) (flights.TheVariants.Robust flight) may e =
-        let is = kept_is t.world.kept t.world.words s.state s.fit in
-        let listed : first_row (kept_rows {T = T} t.world.capacity start (registries.TheVariants.Owners s.state.dead) p) ≡ None =
-        subst (λ kept. first_row (kept_rows {T = T} t.world.capacity start kept p) ≡ None) is.0 may.rows in
-        let passed : first_row (call_rows c s.state.dead start) ≡ None = subst (λ n. first_row (call_rows n s.state.dead start) ≡ None) s.capacity listed in
-        let named : first_of {T = T} kinds.TheVariants.Robust t.world.capacity (Robust start) t.world.kept ≡ Some (flights.TheVariants.Robust flight) = subst
-        (λ kind. first_of {T = T} kind t.world.capacity (Robust start) t.world.kept ≡ Some (flights.TheVariants.Robust flight)) s.kind e in
-        let own : IsOwn T c (Robust start) (flights.TheVariants.Robust flight) =
-        subst (λ n. IsOwn T n (Robust start) (flights.TheVariants.Robust flight)) s.capacity
-        (begins_own T t.world.capacity t.world.kept (Robust start) (flights.TheVariants.Robust flight) named) in
+    begin_comes (Robust start) (flights.TheVariants.Robust flight) may named passed =
+        let own = begins_own T c (registries.TheVariants.Owners s.state.dead) (Robust start) (flights.TheVariants.Robust flight) named in
         let g = s.holds.good in
         begins_now start flight
         (subst (λ f. IsFirst T by c s.state.words t.events p t.world.changes start f) own.0
         (first_is by c s.state.words t.events p t.world.changes g.some g.owned start own.1 s.state.dead passed
         (ap (λ a. set_acts (wrote_in a)) (span_begun start))))
         (span_begun start) may
-    begin_comes start flight may e =
-        let named : first_of kinds.TheVariants.Robust t.world.capacity start t.world.kept ≡ Some flight =
-        subst (λ kind. first_of kind t.world.capacity start t.world.kept ≡ Some flight) s.kind e in
-        absurd (begins_own T t.world.capacity t.world.kept start flight named)
+    begin_comes start flight may named passed = absurd (begins_own T c (registries.TheVariants.Owners s.state.dead) start flight named)
 
   -- ---- an owner dies
 
-  fit_death : (kept : Registry T) (words : List ℕ) (state : RobustSet T) (o : ℕ) (events : List (Event T)) → Represents kept words state
-      → Represents (kept_after_death kept o) words (record { words = state.words; dead = dead_with o state.dead; events = events })
-  fit_death x0 x1 x2 x3 x4 x5 = grind arith
-
-  lives_by : (kept : Registry T) (words : List ℕ) (state : RobustSet T) (o : ℕ) → Represents kept words state
-      → families.is_dead kept o ≡ false → has_died o state.dead ≡ false
-  lives_by x0 x1 x2 x3 x4 x5 = grind (arith, false)
-
-  pub death_comes : (o : ℕ) → MayDie t.world o → frame.ComesByDeath (family_by by code c) t s o
+  death_comes : (o : ℕ) → MayDie t.world o → frame.ComesByDeath (family_by by code c) t s o
   death_comes o may =
       let g = s.holds.good in
-      let alive : is_dead o t.events ≡ false = sym (g.died o) ∙ lives_by t.world.kept t.world.words s.state o s.fit may.lives in
+      let alive : is_dead o t.events ≡ false = sym (g.died o) ∙ subst (λ kept. families.is_dead kept o ≡ false) s.fit.0 may.lives in
       record {
         state = record { words = s.state.words; dead = dead_with o s.state.dead; events = t.events ++ Died o ∷ [] };
-        fit = fit_death t.world.kept t.world.words s.state o (t.events ++ Died o ∷ []) s.fit;
+        fit = (ap (λ kept. kept_after_death kept o) s.fit.0, s.fit.1);
         holds =
             record {
               same = refl;
@@ -387,49 +341,44 @@ module _ {T : Type 0} (by : GoneBy) (code : Coding T) (c : ℕ) (t : Trace T) (s
             since t.world.changes backs flight h;
       }
 
-module _ {T : Type 0} where
-  -- of a machine whose counter has room
-  pub laws_by : (by : GoneBy) (code : Coding T) (c : ℕ) → frame.LawsWhere (family_by by code c) (λ t turn. HasRoom by t.world.words)
-  laws_by by code c =
+module _ {T : Type 0} (by : GoneBy) where
+  -- the counter of the machine has room
+  abbrev pub May : Trace T → Turn T → Type 0
+  May t turn = HasRoom by t.world.words
+
+  turns : (code : Coding T) (c : ℕ) → Turns (outline by) code c May
+  turns code c =
       record {
-        step = λ t p x flight since s room r found doing. step_comes by code c t s p x since found room flight r doing;
-        decision =
-            λ t p x flight since said s room r found doing asks. decision_comes by code c t s p x since found room
-            flight said (passes_in by code c t s p x since found flight said r) asks doing;
-        begin = λ t p start flight s room may e. begin_comes by code c t s p start flight may e;
+        begin = λ t s p start flight may named rows. begin_comes by code c t s p start flight may named rows;
+        step = λ t s p x since room found start flight rows here. comes by code c t s p x since found room start flight rows here;
+        decision = λ t s p x since said room found start flight rows asks here. decides by code c t s p x since found room said start flight
+            (passes_in by code c t s p x since found flight said rows) asks here;
         death = λ t o s may. death_comes by code c t s o may;
       }
 
-  laws : (code : Coding T) (c : ℕ) → frame.Laws (family code c)
-  laws code c =
-      let on = laws_by Death code c in
-      record {
-        step = λ t p x flight since s small r found doing. on.step t p x flight since s (has_room Death code c t s p x since found small) r found doing;
-        decision =
-            λ t p x flight since said s small r found doing asks. on.decision t p x flight since said s
-            (has_room Death code c t s p x since found small) r found doing asks;
-        begin = λ t p start flight s small may e. begin_comes Death code c t s p start flight may e;
-        death = on.death;
-      }
+  pub laws_by : (code : Coding T) (c : ℕ) → frame.LawsWhere (family_by by code c) May
+  laws_by code c = laws.laws (outline by) code c May (turns code c)
 
-  pub opening_sound : (by : GoneBy) (code : Coding T) (c parties : ℕ) → 1 ≤ c → c < 2 ^ 32
-      → frame.Sound (family_by by code c) (opening code kinds.TheVariants.Robust c parties)
-  opening_sound by code c parties some few =
+  opens : (code : Coding T) (c : ℕ) → 1 ≤ c → c < 2 ^ 32 → Opens (outline by) code c
+  opens code c some few =
       record {
-        coding = refl;
-        kind = refl;
-        capacity = refl;
         state = record { words = opening_words c; dead = []; events = [] };
-        fit = (refl, refl);
+        kept = refl;
+        words = refl;
         holds = record { same = refl; begun = λ p x found. absurd (cc); good = opening_good by c some few; asks = Each-nil _ };
-        inv = record { spans = Each-nil _; calls = λ p. refl; knows = λ p. tt };
       }
 
-  pub reached_sound : (t : Trace T) → t.world.kind ≡ kinds.TheVariants.Robust → IsReached t → frame.Sound (family t.world.coding t.world.capacity) t
-  reached_sound t is r =
-      let w = t.world in
-      let may = admitted_is w.capacity (subst (λ kind. capacity_error kind w.capacity ≡ None) is r.admitted) in
-      let first = opening_sound Death w.coding w.capacity w.parties may.0 may.1 in
-      frame.reached_sound (family w.coding w.capacity) (laws w.coding w.capacity) t (ap is_loan is)
-      (subst (λ kind. frame.Sound (family w.coding w.capacity) (opening w.coding kind w.capacity w.parties)) (sym is) first)
-      r
+  pub opening_sound : (code : Coding T) (c parties : ℕ) → 1 ≤ c → c < 2 ^ 32
+      → frame.Sound (family_by by code c) (opening code kinds.TheVariants.Robust c parties)
+  opening_sound code c parties some few = laws.opening_sound (outline by) code c (opens code c some few) parties
+
+  pub all_turns : AllTurns (outline by) May
+  all_turns =
+      record {
+        opens = λ code c coded admitted. let may = admitted_is c admitted in opens code c may.0 may.1;
+        turns = λ code c coded admitted. turns code c;
+        few = λ code c t turn s small. has_room by code c t s small;
+      }
+
+pub reached_sound : {T : Type 0} (t : Trace T) → t.world.kind ≡ kinds.TheVariants.Robust → IsReached t → frame.Sound (family t.world.coding t.world.capacity) t
+reached_sound = laws.reached_sound (outline Death) (May Death) (all_turns Death)

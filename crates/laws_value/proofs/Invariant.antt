@@ -86,7 +86,7 @@ module _ {T : Type 0} where
         words = λ s. layout s.holder s.core;
         kept = λ s. registries.TheVariants.Atomic s.holder;
         Holds = λ code c s latest events turns. Holds code s.holder s.core events turns;
-        written = λ s p flight. [];
+        written = λ c s p flight. [];
         number = λ code c. number code.size;
         At = λ code c s p start flight. FlightAt code s.holder s.core p start flight;
         Knows = λ code c s p events since changes backs flight. Knowing s.core since changes backs flight;

@@ -1,7 +1,7 @@
 -- What a value promises is kept by every turn, and so by every run; and what a turn writes down: the act, then the end. A
 -- store acts as it adds 1 to the version, a load as it finds the version unchanged, with the value that stands.
 use Rattle.std.proofs.Common.{◌≡◌, ℕ, ◌+◌, ◌-◌, ◌*◌, ◌^◌, ◌<◌, Option, None, replicate, refl, sym, ap, subst, ◌∙◌}
-use Rattle.std.proofs.Common.{arith, suc, ◌%◌, ◌≤◌, drop, take, List, []}
+use Rattle.std.proofs.Common.{arith, false, suc, ◌%◌, ◌≤◌, drop, take, List, []}
 use Rattle.std.proofs.lemmas.List.{length-replicate, get_or-drop, length-drop}
 use Rattle.std.proofs.Math.Nat.{mul-le-mul_left}
 use Rattle.std.specs.List.{AllByRecursion}
@@ -20,8 +20,9 @@ use Rattle.model.specs.Families.Atomic.Roles.{KeepsHolder}
 use Rattle.model.specs.Families.Atomic.Steps.{acted}
 use Rattle.model.specs.Promises.Turns.{ask_in, IsParty, IsAct, ActsRight}
 use Rattle.model.specs.Step.{answer_in}
+use Rattle.model.specs.Families.{want_of, is_question}
 use Rattle.model.proofs.FamilyLaws as laws
-use Rattle.model.proofs.FamilyLaws.{Opens, Owed, OwesAll}
+use Rattle.model.proofs.FamilyLaws.{Opens, Turns, AllTurns, Owed}
 use Rattle.model.proofs.Frame as frame
 use Rattle.model.proofs.Orders.{Keeps}
 use Rattle.model.proofs.Readings.{Each-nil, AreRight}
@@ -90,7 +91,8 @@ module _ {T : Type 0} (code : Coding T) (c : ℕ) (t : Trace T) (s : frame.Sound
 
   writes : (p : ℕ) (x : Party T) (since : ℕ) → t.world.turns < 2 ^ 64 - 2 → (start : Start T) (flight : Flight T)
       → StandsThere (family code c) t s p x since start flight
-      → laws.Writes outline t p (step_from t p t.world.coding (layout s.state.holder s.state.core) (registries.TheVariants.Atomic s.state.holder) start flight)
+      → laws.Writes outline t (Next p)
+      (step_from t p t.world.coding (layout s.state.holder s.state.core) (registries.TheVariants.Atomic s.state.holder) start flight)
   writes p x since small (Atomic start) (flights.TheVariants.Atomic flight) here =
       let words = layout s.state.holder s.state.core in
       let low = s.holds.reached in
@@ -145,40 +147,51 @@ module _ {T : Type 0} where
             };
       }
 
-  owed : (code : Coding T) (c : ℕ) → Owed outline code c IsFreshTurn
-  owed code c =
-      record {
-        promise = refl;
+  no_question : (code : Coding T) (c : ℕ) (s : Value) (p : ℕ) (start : Start T) (flight : Flight T) → (family code c).At s p start flight
+      → is_question (want_of code flight) ≡ false
+  no_question x0 x1 x2 x3 x4 x5 x6 = grind arith
+
+  turns : (code : Coding T) (c : ℕ) → Turns outline code c IsFreshTurn
+  turns code c =
+      laws.turns_alone outline code c IsFreshTurn
+      (record {
         holds_on = λ scene s' was y es changes' under preserves h. holds_more scene s' es changes' preserves h;
         stays = λ scene s' was y es changes' preserves h own q ne start flight at. let others = preserves.others q ne in grind arith;
         knows = λ scene s' was y es changes' preserves own q ne since backs flight h. let up = preserves.up in grind arith;
         begin = λ t s p start flight may e rows. begin_shows code c t s p start flight e rows;
         step = λ t s p x since fresh found. step_shows code c t s p x since fresh;
-        no_question = λ s p start flight at. grind arith;
+        no_question = no_question code c;
         no_owners = λ s. refl;
+      })
+
+  owed : (code : Coding T) (c : ℕ) → Owed outline code c
+  owed code c =
+      record {
+        promise = refl;
         bounds = grind arith;
         promised = λ t s few. value_kept code c t s s.coding;
         writes = writes code c;
-        goes = λ s p start flight at words beside answer. grind arith;
-        tells = λ old turn new. tt;
+        decides = λ t s p x since said start flight asks here. laws.asks_none _ (no_question code c s.state p start flight here.at) asks;
+        goes = λ s p start flight at z words beside answer. grind arith;
+        tells = λ t turn e s. tt;
       }
 
   few : (code : Coding T) (c : ℕ) (t : Trace T) (turn : Turn T) → frame.Sound (family code c) t → t.world.turns < 2 ^ 64 - 2 → IsFreshTurn t turn
   few z c t (Next p) s small = few_turns z c t s small p
   few z c t turn s small = tt
 
-  owes_all : OwesAll {T = T} outline IsFreshTurn
-  owes_all = record { opens = λ code c coded admitted. opens code c coded; owed = λ code c coded admitted. owed code c; few = few }
+  all_turns : AllTurns {T = T} outline IsFreshTurn
+  all_turns = record { opens = λ code c coded admitted. opens code c coded; turns = λ code c coded admitted. turns code c; few = few }
 
   pub fresh_laws : (code : Coding T) (c : ℕ) → frame.LawsWhere (family code c) IsFreshTurn
-  fresh_laws code c = laws.laws outline code c IsFreshTurn (owed code c)
+  fresh_laws code c = laws.laws outline code c IsFreshTurn (turns code c)
 
   pub opening_sound : (code : Coding T) (c parties : ℕ) → IsCoding code → frame.Sound (family code c) (opening code kinds.TheVariants.Atomic c parties)
   opening_sound code c parties coded = laws.opening_sound outline code c (opens code c coded) parties
 
   -- what is proved of every run of the single value
   pub value_keeps : Keeps T kinds.TheVariants.Atomic
-  value_keeps = laws.keeps outline IsFreshTurn owes_all
+  value_keeps = laws.keeps outline IsFreshTurn all_turns (λ code c coded admitted. owed code c)
 
   -- where turns have no bound, and no store finds the last version
   pub sound_on : (t : Trace T) → t.world.kind ≡ kinds.TheVariants.Atomic → IsCoding t.world.coding → IsFreshRun t
@@ -196,6 +209,6 @@ module _ {T : Type 0} where
       subst (λ P. IsKeptBy P t) (sym (ap (promise_of {T = T}) is))
       (record {
         spans = s.inv.spans;
-        progress = laws.progress outline t.world.coding t.world.capacity IsFreshTurn (owed t.world.coding t.world.capacity) t s;
+        progress = laws.progress outline t.world.coding t.world.capacity (owed t.world.coding t.world.capacity) t s;
         promised = value_kept t.world.coding t.world.capacity t s refl;
       })

@@ -16,7 +16,7 @@ use Rattle.laws_bits.proofs.Counts.Justified.{counts_keep}
 use Rattle.laws_container.proofs.Everything.{container_keeps}
 use Rattle.laws_indices.proofs.Sound.{index_keeps}
 use Rattle.laws_loan.proofs.Justified.{loan_keeps}
-use Rattle.laws_queues.proofs.Queues.Justified.{queue_keeps}
+use Rattle.laws_queues.proofs.Queues.Sound.{queue_keeps}
 use Rattle.laws_robust.proofs.Justified.{robust_keeps}
 
 pub laws_of : {T : Type 0} (kind : Kind) → Keeps T kind

@@ -47,7 +47,7 @@ pub record Outline (T : Type 0) : Type 1 where
   pub words : State → List ℕ  -- the words that hold it
   pub kept : State → Registry T  -- and what is kept beside them
   pub Holds : Coding T → ℕ → State → List (ℕ × Party T) → List (Event T) → ℕ → Type 0  -- what is so of it, after so many turns
-  pub written : State → ℕ → Flight T → List (Event T)  -- what a party's call under way has written since its begin
+  pub written : ℕ → State → ℕ → Flight T → List (Event T)  -- what a party's call under way has written since its begin, at this capacity
   pub number : Coding T → ℕ → Flight T → ℕ → ℕ  -- how many steps it has taken at most, having turned back so often
   pub At : Coding T → ℕ → State → ℕ → Start T → Flight T → Type 0  -- where it stands
   pub Knows : Coding T → ℕ → State → ℕ → List (Event T) → ℕ → ℕ → ℕ → Flight T → Type 0  -- what it knows of the events and of the counts
@@ -66,7 +66,7 @@ module _ {T : Type 0} (K : Outline T) where
         State = K.State;
         Represents = λ kept words s. (kept ≡ K.kept s) × (words ≡ K.words s);
         Holds = λ s latest events turns. K.Holds code c s latest events turns;
-        written = λ s p flight. K.written s p flight;
+        written = λ s p flight. K.written c s p flight;
         number = λ wrote. K.number code c;
         At = λ s p start flight. K.At code c s p start flight;
         Knows = λ s p events since changes backs flight. K.Knows code c s p events since changes backs flight;
@@ -109,7 +109,7 @@ module _ {T : Type 0} (K : Outline T) where
     -- a step after which the state is this, and which writes these events
     abbrev pub Leaves : K.State → List (Event T) → Start T → Flight T → Option Ask → Step (Flight T) (Registry T) T → Type 0
     Leaves s' es start flight ask step =
-        ShowsFrom (Some flight) s' (Open start (K.written scene.state scene.party flight)) (party_then start ask step) es (changes_then ask)
+        ShowsFrom (Some flight) s' (Open start (K.written scene.capacity scene.state scene.party flight)) (party_then start ask step) es (changes_then ask)
 
     pub record Moves (start : Start T) (flight : Flight T) (ask : Option Ask) (step : Step (Flight T) (Registry T) T) : Type 0 where
       pub state : K.State
@@ -132,7 +132,7 @@ module _ {T : Type 0} (K : Outline T) where
       pub words : K.words scene.state ≡ K.words state
       pub preserves : K.Preserves scene state None (party_at_begin start flight scene.changes) (Begun scene.party start ∷ []) scene.changes
       pub at : K.At scene.coding scene.capacity state scene.party start flight
-      pub wrote : K.written state scene.party flight ≡ []
+      pub wrote : K.written scene.capacity state scene.party flight ≡ []
       pub knows : K.Knows scene.coding scene.capacity state scene.party (scene.events ++ Begun scene.party start ∷ []) scene.changes scene.changes 0 flight
 
   -- ---- the scene of a party in a machine

@@ -1,5 +1,5 @@
 -- That the machine of a family keeps what its kind promises, from what the family owes of its own calls.
-use Rattle.std.proofs.Common.{◌≡◌, ◌≢◌, ℕ, ◌+◌, ◌-◌, ◌^◌, ◌<◌, ◌≤◌, false, true, Option, Some, None, List, [], ◌∷◌, ◌++◌}
+use Rattle.std.proofs.Common.{◌≡◌, ◌≢◌, ℕ, ◌+◌, ◌-◌, ◌^◌, ◌<◌, ◌≤◌, Bool, false, true, Option, Some, None, List, [], ◌∷◌, ◌++◌}
 use Rattle.std.proofs.Common.{refl, sym, ap, subst, ◌∙◌, append-nil, arith}
 use Rattle.std.specs.List.{AllByRecursion}
 use Rattle.model.specs.declared.event.Event.{Event}
@@ -7,36 +7,40 @@ use Rattle.model.specs.declared.event.Event.TheVariants.{Begun}
 use Rattle.model.specs.declared.event.Start.{Start}
 use Rattle.model.specs.declared.families.Flight.{Flight}
 use Rattle.model.specs.declared.families.Registry.{Registry}
-use Rattle.model.specs.declared.party.Doing.TheVariants.{Going}
 use Rattle.model.specs.declared.party.Party.{Party}
 use Rattle.model.specs.declared.turn.Turn.{Turn}
-use Rattle.model.specs.declared.turn.Turn.TheVariants.{Next}
+use Rattle.model.specs.declared.turn.Turn.TheVariants.{Next, Decide}
 use Rattle.model.specs.Coding.{Coding, IsCoding}
 use Rattle.model.specs.Families.Loan.Opening.{is_loan}
-use Rattle.model.specs.Families.{begin_of, first_of, opening_of, want_of, is_question, has_owners, beside_of, step_of, goes_of, kept_after_begin}
+use Rattle.model.specs.Families.{begin_of, first_of, opening_of, want_of, is_question, has_owners, going_rows, beside_of, step_of, goes_of, kept_after_begin}
 use Rattle.model.specs.Parties.{party_of, put, doing_of, flight_of}
 use Rattle.model.specs.Promises.{IsTurnBy, IsKeptBy, IsKept}
 use Rattle.model.specs.Promises.Bounds.{Progresses}
 use Rattle.model.specs.Promises.Families.{promise_of}
 use Rattle.model.specs.Reading.{Span, Open, span_of}
 use Rattle.model.specs.Rows.{first_row}
-use Rattle.model.specs.Promises.Turns.{IsEffectOf, IsAct, ActsRight, WritesInOrder}
+use Rattle.model.specs.Promises.Turns.{IsParty, IsEffectOf, IsAct, ActsRight, WritesInOrder}
+use Rattle.model.specs.Refusals.{refusal_of}
 use Rattle.model.specs.Step.{Step, answer_in}
-use Rattle.model.specs.Turns.{old_of, party_at_begin, ending_of, events_of_step, after_turn, IsReached, IsReachedOn}
+use Rattle.model.specs.Turns.{number_of, party_at_begin, ending_of, events_of_step, after_turn, IsReached, IsReachedOn}
 use Rattle.model.specs.World.{Trace, opening, flight_in, capacity_error, progress_in}
 use Rattle.model.proofs.Family.{Scene, Outline, family, ShowsFrom, StepOf, Begins, scene_of}
 use Rattle.model.proofs.Frame as frame
-use Rattle.model.proofs.Frame.{Family, Sound, Comes}
+use Rattle.model.proofs.Frame.{Family, Sound, Comes, ComesByDeath}
 use Rattle.model.proofs.Orders.{Orders, Keeps, ends_end, turn_is}
 use Rattle.model.proofs.Readings.{AreOwn, Each-nil}
-use Rattle.model.proofs.Rows.{MayBegin}
-use Rattle.model.proofs.Scenes.{asked, StandsThere, stands_there, comes_from, step_from, in_order_from}
+use Rattle.model.proofs.Rows.{MayBegin, MayDie}
+use Rattle.model.proofs.Scenes.{StandsThere, stands_there, answered_from, step_from, ComesFrom, comes_from, DecidesFrom, decides_from}
+use Rattle.model.proofs.Scenes.{in_order_from, decided_in_order_from}
 use Rattle.model.proofs.Small.{reached_small}
 
-module _ {T : Type 0} (K : Outline T) where
-  -- ---- what a family owes, where such turns may be taken
+-- no call answers a question that it does not ask
+pub asks_none : {A : Type 0} → (b : Bool) → b ≡ false → b ≡ true → A
+asks_none b never asks = absurd (cc)
 
-  -- of a turn of the scene's party that preserves what it has to
+module _ {T : Type 0} (K : Outline T) where
+  -- ---- a turn of the scene's party that preserves what it has to, and writes events of its own alone
+
   module _ (scene : Scene T K.State) (s' : K.State) (was : Option (Flight T)) (y : Party T) (es : List (Event T)) (changes' : ℕ) where
     abbrev Holding : Type 0
     Holding =
@@ -50,7 +54,7 @@ module _ {T : Type 0} (K : Outline T) where
         K.Preserves scene s' was y es changes' → K.Holds scene.coding scene.capacity scene.state scene.latest scene.events scene.turns
         → AreOwn scene.party es → (q : ℕ) → q ≢ scene.party → (start : Start T) (flight : Flight T)
         → K.At scene.coding scene.capacity scene.state q start flight
-        → K.At scene.coding scene.capacity s' q start flight × (K.written s' q flight ≡ K.written scene.state q flight)
+        → K.At scene.coding scene.capacity s' q start flight × (K.written scene.capacity s' q flight ≡ K.written scene.capacity scene.state q flight)
 
     abbrev Knowing : Type 0
     Knowing =
@@ -58,18 +62,18 @@ module _ {T : Type 0} (K : Outline T) where
         → K.Knows scene.coding scene.capacity scene.state q scene.events since scene.changes backs flight
         → K.Knows scene.coding scene.capacity s' q (scene.events ++ es) since changes' backs flight
 
-  -- what a step of the party writes down before the end of its call: what it did to the structure, then the acts
-  pub record Writes (t : Trace T) (p : ℕ) (step : Step (Flight T) (Registry T) T) : Type 0 where
+  -- what a step writes down before the end of its call: what it did to the structure, then the acts
+  pub record Writes (t : Trace T) (turn : Turn T) (step : Step (Flight T) (Registry T) T) : Type 0 where
     pub effects : List (Event T)
     pub acts : List (Event T)
     pub is : step.wrote ≡ effects ++ acts
-    pub are_effects : AllByRecursion (IsEffectOf (Next p)) effects
+    pub are_effects : AllByRecursion (IsEffectOf turn) effects
     pub are_acts : AllByRecursion IsAct acts
-    pub right : AllByRecursion (ActsRight K.promise t (Next p)) acts
+    pub right : AllByRecursion (ActsRight K.promise t turn) acts
 
   -- where no call acts
-  pub only_effects : (t : Trace T) (p : ℕ) (step : Step (Flight T) (Registry T) T) → AllByRecursion (IsEffectOf (Next p)) step.wrote → Writes t p step
-  only_effects t p step all = record { effects = step.wrote; acts = []; is = sym (append-nil step.wrote); are_effects = all; are_acts = tt; right = tt }
+  pub only_effects : (t : Trace T) (turn : Turn T) (step : Step (Flight T) (Registry T) T) → AllByRecursion (IsEffectOf turn) step.wrote → Writes t turn step
+  only_effects t turn step all = record { effects = step.wrote; acts = []; is = sym (append-nil step.wrote); are_effects = all; are_acts = tt; right = tt }
 
   -- what a family owes of its machine at the opening
   pub record Opens (code : Coding T) (c : ℕ) : Type 0 where
@@ -90,9 +94,25 @@ module _ {T : Type 0} (K : Outline T) where
         inv = record { spans = Each-nil _; calls = λ p. refl; knows = λ p. tt };
       }
 
-  -- what it owes at this coding and this capacity
-  pub record Owed (code : Coding T) (c : ℕ) (May : Trace T → Turn T → Type 0) : Type 1 where
-    pub promise : promise_of {T = T} K.kind ≡ K.promise
+  -- what a family owes of its turns at this coding and this capacity, where such turns may be taken
+  pub record Turns (code : Coding T) (c : ℕ) (May : Trace T → Turn T → Type 0) : Type 1 where
+    pub begin : (t : Trace T) (s : Sound (family K code c) t) (p : ℕ) (start : Start T) (flight : Flight T) → MayBegin t.world p start
+        → first_of K.kind c start (K.kept s.state) ≡ Some flight → first_row ((begin_of K.kind c start).rows (K.kept s.state) p) ≡ None
+        → Comes (family K code c) t p (kept_after_begin code c start p (K.kept s.state)) (K.words s.state)
+        (party_at_begin start flight t.world.changes) (Begun p start ∷ []) t.world.changes
+    pub step : (t : Trace T) (s : Sound (family K code c) t) (p : ℕ) (x : Party T) (since : ℕ) → May t (Next p) → party_of p t.world.latest ≡ Some x
+        → (start : Start T) (flight : Flight T) → first_row (going_rows code (K.kept s.state) (Some flight) None) ≡ None
+        → StandsThere (family K code c) t s p x since start flight
+        → ComesFrom (family K code c) t s p x since code (K.words s.state) (K.kept s.state) start flight
+    pub decision : (t : Trace T) (s : Sound (family K code c) t) (p : ℕ) (x : Party T) (since : ℕ) (said : Bool) → May t (Decide p said)
+        → party_of p t.world.latest ≡ Some x → (start : Start T) (flight : Flight T)
+        → first_row (going_rows code (K.kept s.state) (Some flight) (Some said)) ≡ None
+        → is_question (want_of code flight) ≡ true → StandsThere (family K code c) t s p x since start flight
+        → DecidesFrom (family K code c) t s p x since code (number_of said) (K.words s.state) (K.kept s.state) start flight
+    pub death : (t : Trace T) (owner : ℕ) (s : Sound (family K code c) t) → MayDie t.world owner → ComesByDeath (family K code c) t s owner
+
+  -- what a family owes in its place whose turns write events of their own party alone, and that has neither questions nor owners
+  pub record Alone (code : Coding T) (c : ℕ) (May : Trace T → Turn T → Type 0) : Type 1 where
     pub holds_on : (scene : Scene T K.State) (s' : K.State) (was : Option (Flight T)) (y : Party T) (es : List (Event T)) (changes' : ℕ)
         → Holding scene s' was y es changes'
     pub stays : (scene : Scene T K.State) (s' : K.State) (was : Option (Flight T)) (y : Party T) (es : List (Event T)) (changes' : ℕ)
@@ -108,104 +128,130 @@ module _ {T : Type 0} (K : Outline T) where
         → StepOf K (scene_of K code c t s p x.steps x.backs since) start flight
     pub no_question : (s : K.State) (p : ℕ) (start : Start T) (flight : Flight T) → K.At code c s p start flight → is_question (want_of code flight) ≡ false
     pub no_owners : (s : K.State) → has_owners (K.kept s) ≡ false
-    -- of what is promised
-    pub bounds : frame.Bounds (family K code c)
-    pub promised : (t : Trace T) → Sound (family K code c) t → t.world.turns ≤ 2 ^ 64 - 2 → K.promise.holds t
-    pub writes : (t : Trace T) (s : Sound (family K code c) t) (p : ℕ) (x : Party T) (since : ℕ) → t.world.turns < 2 ^ 64 - 2
-        → (start : Start T) (flight : Flight T) → StandsThere (family K code c) t s p x since start flight
-        → Writes t p (step_from t p t.world.coding (K.words s.state) (K.kept s.state) start flight)
-    -- how a call goes on depends on no word, and on nothing that stands beside it
-    pub goes : (s : K.State) (p : ℕ) (start : Start T) (flight : Flight T) → K.At code c s p start flight
-        → (words : List ℕ) (beside : Option (ℕ × ℕ)) (answer : ℕ)
-        → (step_of code words beside p start flight answer (K.kept s)).after ≡ goes_of code p flight answer (K.kept s)
-    pub tells : (old : Trace T) (turn : Turn T) (new : Trace T) → K.promise.tells old turn new
 
-  module _ (code : Coding T) (c : ℕ) (May : Trace T → Turn T → Type 0) (L : Owed code c May) where
-    abbrev F : Family T
-    F = family K code c
+  comes_at : (F : Family T) (t : Trace T) (p : ℕ) (kept kept' : Registry T) (words words' : List ℕ) (y : Party T) (es : List (Event T)) (changes : ℕ)
+      → kept ≡ kept' → words ≡ words' → Comes F t p kept' words' y es changes → Comes F t p kept words y es changes
+  comes_at F t p kept kept' words words' y es changes e f comes =
+      subst (λ k. Comes F t p k words y es changes) (sym e) (subst (λ ws. Comes F t p kept' ws y es changes) (sym f) comes)
 
-    module _ (t : Trace T) (s : Sound F t) (p : ℕ) where
-      asks_nothing : {A : Type 0} → (x : Party T) (flight : Flight T) (since : ℕ)
-          → party_of p t.world.latest ≡ Some x → x.doing ≡ Going flight since
-          → is_question (want_of t.world.coding flight) ≡ true → A
-      asks_nothing x flight since found doing asks =
-          let none = L.no_question s.state p x.start flight (stands_there F t s p x since flight found doing).at in
-          let same : is_question (want_of code flight) ≡ true = subst (λ (z : Coding T). is_question (want_of z flight) ≡ true) s.coding asks in
-          absurd (cc)
-
+  module _ (code : Coding T) (c : ℕ) (May : Trace T → Turn T → Type 0) (A : Alone code c May) where
+    module _ (t : Trace T) (s : Sound (family K code c) t) (p : ℕ) where
       -- what was shown comes to the next machine
       shown : (steps backs since : ℕ) (s' : K.State) (was : Option (Flight T)) (from : Span T) (y : Party T) (es : List (Event T)) (changes' : ℕ)
           → flight_in t.world p ≡ was → span_of p t.events ≡ from
           → ShowsFrom K (scene_of K code c t s p steps backs since) was s' from y es changes'
-          → Comes F t p (K.kept s') (K.words s') y es changes'
+          → Comes (family K code c) t p (K.kept s') (K.words s') y es changes'
       shown steps backs since s' was from y es changes' under is shows =
           let scene = scene_of K code c t s p steps backs since in
           record {
             state = s';
             fit = (refl, refl);
-            holds = L.holds_on scene s' was y es changes' under shows.preserves s.holds;
+            holds = A.holds_on scene s' was y es changes' under shows.preserves s.holds;
             owes =
-                frame.owes F s.state s' from p y t.world.latest t.events es t.world.changes changes' is s.inv
+                frame.owes (family K code c) s.state s' from p y t.world.latest t.events es t.world.changes changes' is s.inv
                 (record {
                   own = shows.own;
                   stands = shows.stands;
                   here = shows.here;
                   knows = shows.knows;
-                  others = λ q ne. L.stays scene s' was y es changes' shows.preserves s.holds shows.own q ne;
-                  others_know = λ q ne. L.knows scene s' was y es changes' shows.preserves shows.own q ne;
+                  others = λ q ne. A.stays scene s' was y es changes' shows.preserves s.holds shows.own q ne;
+                  others_know = λ q ne. A.knows scene s' was y es changes' shows.preserves shows.own q ne;
                 });
           }
 
-      comes_at : (kept kept' : Registry T) (words words' : List ℕ) (y : Party T) (es : List (Event T)) (changes : ℕ) → kept ≡ kept' → words ≡ words'
-          → Comes F t p kept' words' y es changes → Comes F t p kept words y es changes
-      comes_at kept kept' words words' y es changes e f comes =
-          subst (λ k. Comes F t p k words y es changes) (sym e) (subst (λ ws. Comes F t p kept' ws y es changes) (sym f) comes)
-
-      step_comes : (x : Party T) (flight : Flight T) (since : ℕ) → May t (Next p) → party_of p t.world.latest ≡ Some x → x.doing ≡ Going flight since
-          → frame.ComesByStep F t p x flight since (asked t.world.coding flight) (old_of t.world.words (asked t.world.coding flight))
-      step_comes x flight since may found doing =
-          let here = stands_there F t s p x since flight found doing in
-          let moves = L.step t s p x since may found x.start flight here in
-          let comes = shown x.steps x.backs since moves.state (Some flight) _ _ _ _ here.found here.span moves.shows in
-          comes_from F t s p x since (K.words s.state) (K.kept s.state) flight s.fit.1 s.fit.0
-          (comes_at _ _ _ _ _ _ _ moves.kept moves.words comes)
-
-      kept_here : (start : Start T) (kept : Registry T) → kept_after_begin code c start p (K.kept s.state) ≡ kept
-          → kept_after_begin t.world.coding t.world.capacity start p t.world.kept ≡ kept
-      kept_here start kept e = rw (s.coding, s.capacity, s.fit.0) e
-
-      begin_comes : (start : Start T) (flight : Flight T) → MayBegin t.world p start → first_of t.world.kind t.world.capacity start t.world.kept ≡ Some flight
-          → Comes F t p (kept_after_begin t.world.coding t.world.capacity start p t.world.kept) t.world.words
+      begins_alone : (start : Start T) (flight : Flight T) → flight_in t.world p ≡ None
+          → Begins K (scene_of K code c t s p 0 0 t.world.changes) start flight
+          → Comes (family K code c) t p (kept_after_begin code c start p (K.kept s.state)) (K.words s.state)
           (party_at_begin start flight t.world.changes) (Begun p start ∷ []) t.world.changes
-      begin_comes start flight may e =
-          let named : first_of K.kind c start (K.kept s.state) ≡ Some flight = rw (s.kind, s.capacity, s.fit.0) at e in
-          let rows : first_row ((begin_of K.kind c start).rows (K.kept s.state) p) ≡ None = rw (s.kind, s.capacity, s.fit.0) at may.rows in
-          let is = L.begin t s p start flight may named rows in
-          let comes =
-          shown 0 0 t.world.changes is.state None (span_of p t.events) (party_at_begin start flight t.world.changes) (Begun p start ∷ []) t.world.changes
-          may.free refl
+      begins_alone start flight free is =
+          comes_at (family K code c) t p _ _ _ _ _ _ _ is.kept is.words
+          (shown 0 0 t.world.changes is.state None (span_of p t.events) (party_at_begin start flight t.world.changes) (Begun p start ∷ []) t.world.changes
+          free refl
           (record {
             preserves = is.preserves;
             own = (refl, tt);
-            stands = (frame.shut F s.state p (party_of p t.world.latest) (span_of p t.events) may.free (s.inv.calls p), tt);
+            stands = (frame.shut (family K code c) s.state p (party_of p t.world.latest) (span_of p t.events) free (s.inv.calls p), tt);
             here = record { span = ap (λ es. Open start es) (sym is.wrote); steps = omega arith; at = is.at };
             knows = is.knows;
-          })
-          in
-          comes_at _ _ _ _ _ _ _ (kept_here start (K.kept is.state) is.kept) (s.fit.1 ∙ is.words) comes
+          }))
 
-    pub laws : frame.LawsWhere F May
-    laws =
+      step_alone : (x : Party T) (since : ℕ) (start : Start T) (flight : Flight T) → StandsThere (family K code c) t s p x since start flight
+          → StepOf K (scene_of K code c t s p x.steps x.backs since) start flight
+          → ComesFrom (family K code c) t s p x since code (K.words s.state) (K.kept s.state) start flight
+      step_alone x since start flight here moves =
+          comes_at (family K code c) t p _ _ _ _ _ _ _ moves.kept moves.words
+          (shown x.steps x.backs since moves.state (Some flight) _ _ _ _ here.found here.span moves.shows)
+
+    pub turns_alone : Turns code c May
+    turns_alone =
         record {
-          step = λ t p x flight since s may passed found doing. step_comes t s p x flight since may found doing;
-          decision = λ t p x flight since said s may passed found doing asks. asks_nothing t s p x flight since found doing asks;
-          begin = λ t p start flight s may begins e. begin_comes t s p start flight begins e;
-          death = frame.no_death F (λ kept words state fit. rw fit.0 (L.no_owners state));
+          begin = λ t s p start flight may named rows. begins_alone t s p start flight may.free (A.begin t s p start flight may named rows);
+          step = λ t s p x since may found start flight rows here.
+              step_alone t s p x since start flight here (A.step t s p x since may found start flight here);
+          decision = λ t s p x since said may found start flight rows asks here. asks_none _ (A.no_question s.state p start flight here.at) asks;
+          death = frame.no_death (family K code c) (λ kept words state fit. rw fit.0 (A.no_owners state));
         }
 
-    in_order : (t : Trace T) (p : ℕ) (start : Start T) (step : Step (Flight T) (Registry T) T) → Writes t p step
-        → WritesInOrder K.promise t (Next p) (t.events ++ events_of_step p start step)
-    in_order t p start step w =
+  -- what it owes of its promises there
+  pub record Owed (code : Coding T) (c : ℕ) : Type 1 where
+    pub promise : promise_of {T = T} K.kind ≡ K.promise
+    pub bounds : frame.Bounds (family K code c)
+    pub promised : (t : Trace T) → Sound (family K code c) t → t.world.turns ≤ 2 ^ 64 - 2 → K.promise.holds t
+    -- of what a step writes down, and a decision
+    pub writes : (t : Trace T) (s : Sound (family K code c) t) (p : ℕ) (x : Party T) (since : ℕ) → t.world.turns < 2 ^ 64 - 2
+        → (start : Start T) (flight : Flight T) → StandsThere (family K code c) t s p x since start flight
+        → Writes t (Next p) (step_from t p t.world.coding (K.words s.state) (K.kept s.state) start flight)
+    pub decides : (t : Trace T) (s : Sound (family K code c) t) (p : ℕ) (x : Party T) (since : ℕ) (said : Bool)
+        → (start : Start T) (flight : Flight T) → is_question (want_of code flight) ≡ true
+        → StandsThere (family K code c) t s p x since start flight
+        → Writes t (Decide p said) (answered_from t p t.world.coding (number_of said) (K.words s.state) (K.kept s.state) start flight)
+    -- how a call goes on depends on no word, and on nothing that stands beside it
+    pub goes : (s : K.State) (p : ℕ) (start : Start T) (flight : Flight T) → K.At code c s p start flight
+        → (z : Coding T) (words : List ℕ) (beside : Option (ℕ × ℕ)) (answer : ℕ)
+        → (step_of z words beside p start flight answer (K.kept s)).after ≡ goes_of z p flight answer (K.kept s)
+    pub tells : (t : Trace T) (turn : Turn T) → refusal_of t.world turn ≡ None → Sound (family K code c) t → K.promise.tells t turn (after_turn t turn)
+
+  module _ (code : Coding T) (c : ℕ) where
+    abbrev F : Family T
+    F = family K code c
+
+    module _ (t : Trace T) (s : Sound F t) (p : ℕ) where
+      asks_here : (flight : Flight T) → is_question (want_of t.world.coding flight) ≡ true → is_question (want_of code flight) ≡ true
+      asks_here flight asks = subst (λ (z : Coding T). is_question (want_of z flight) ≡ true) s.coding asks
+
+      rows_here : (flight : Flight T) (said : Option Bool) → first_row (going_rows t.world.coding t.world.kept (Some flight) said) ≡ None
+          → first_row (going_rows code (K.kept s.state) (Some flight) said) ≡ None
+      rows_here flight said rows = rw (s.coding, s.fit.0) at rows
+
+      kept_here : (start : Start T) → kept_after_begin t.world.coding t.world.capacity start p t.world.kept ≡ kept_after_begin code c start p (K.kept s.state)
+      kept_here start = rw (s.coding, s.capacity, s.fit.0) refl
+
+      begin_comes : {May : Trace T → Turn T → Type 0} → Turns code c May → (start : Start T) (flight : Flight T)
+          → MayBegin t.world p start → first_of t.world.kind t.world.capacity start t.world.kept ≡ Some flight
+          → Comes F t p (kept_after_begin t.world.coding t.world.capacity start p t.world.kept) t.world.words
+          (party_at_begin start flight t.world.changes) (Begun p start ∷ []) t.world.changes
+      begin_comes turns start flight may e =
+          let named : first_of K.kind c start (K.kept s.state) ≡ Some flight = rw (s.kind, s.capacity, s.fit.0) at e in
+          let rows : first_row ((begin_of K.kind c start).rows (K.kept s.state) p) ≡ None = rw (s.kind, s.capacity, s.fit.0) at may.rows in
+          comes_at F t p _ _ _ _ _ _ _ (kept_here start) s.fit.1 (turns.begin t s p start flight may named rows)
+
+    pub laws : (May : Trace T → Turn T → Type 0) → Turns code c May → frame.LawsWhere F May
+    laws May turns =
+        record {
+          step = λ t p x flight since s may passed found doing.
+              comes_from F t s p x since (K.words s.state) (K.kept s.state) flight s.fit.1 s.fit.0
+              (turns.step t s p x since may found x.start flight (rows_here t s p flight None passed) (stands_there F t s p x since flight found doing));
+          decision = λ t p x flight since said s may passed found doing asks.
+              decides_from F t s p x since said (K.words s.state) (K.kept s.state) flight s.fit.1 s.fit.0
+              (turns.decision t s p x since said may found x.start flight (rows_here t s p flight (Some said) passed) (asks_here t s p flight asks)
+              (stands_there F t s p x since flight found doing));
+          begin = λ t p start flight s may begins e. begin_comes t s p turns start flight begins e;
+          death = turns.death;
+        }
+
+    in_order : (t : Trace T) (turn : Turn T) (p : ℕ) → IsParty turn p → (start : Start T) (step : Step (Flight T) (Registry T) T) → Writes t turn step
+        → WritesInOrder K.promise t turn (t.events ++ events_of_step p start step)
+    in_order t turn p mine start step w =
         record {
           effects = w.effects;
           acts = w.acts;
@@ -213,60 +259,51 @@ module _ {T : Type 0} (K : Outline T) where
           is = ap (λ es. t.events ++ (es ++ ending_of p start (answer_in step.after))) w.is;
           are_effects = w.are_effects;
           are_acts = w.are_acts;
-          are_ends = ends_end (Next p) p start (answer_in step.after) refl;
+          are_ends = ends_end turn p start (answer_in step.after) mine;
           right = w.right;
         }
 
-    pub orders : Orders F
-    orders =
+    pub orders : Owed code c → Orders F
+    orders L =
         record {
           step = λ t p x flight since s small found doing.
               in_order_from t p K.promise t.world.coding (K.words s.state) (K.kept s.state) x.start flight s.fit.1 s.fit.0
-              (in_order t p x.start _ (L.writes t s p x since small x.start flight (stands_there F t s p x since flight found doing)));
-          decision = λ t p x flight since said s small found doing asks. asks_nothing t s p x flight since found doing asks;
+              (in_order t (Next p) p refl x.start _ (L.writes t s p x since small x.start flight (stands_there F t s p x since flight found doing)));
+          decision = λ t p x flight since said s small found doing asks.
+              decided_in_order_from t p K.promise said t.world.coding (K.words s.state) (K.kept s.state) x.start flight s.fit.1 s.fit.0
+              (in_order t (Decide p said) p refl x.start _
+              (L.decides t s p x since said x.start flight (asks_here t s p flight asks) (stands_there F t s p x since flight found doing)));
           after = λ t p x flight since answer s found doing.
-              rw (s.coding, s.fit.0)
-              (L.goes s.state p x.start flight (stands_there F t s p x since flight found doing).at t.world.words
+              rw s.fit.0
+              (L.goes s.state p x.start flight (stands_there F t s p x since flight found doing).at t.world.coding t.world.words
               (beside_of t.world.words (K.kept s.state) t.world.latest p) answer);
-          tells = λ t turn e s. L.tells t turn (after_turn t turn);
+          tells = L.tells;
         }
 
-    pub progress : (t : Trace T) → Sound F t → (p : ℕ) → Progresses K.promise c code.size (span_of p t.events) (progress_in t.world p)
-    progress t s p =
+    pub progress : Owed code c → (t : Trace T) → Sound F t → (p : ℕ) → Progresses K.promise c code.size (span_of p t.events) (progress_in t.world p)
+    progress L t s p =
         frame.progresses F L.bounds s.state p t.events t.world.changes (party_of p t.world.latest) (span_of p t.events) (s.inv.calls p) (s.inv.knows p)
 
   -- ---- every run
 
-  -- what a family owes at every capacity that is admitted, and that few turns are turns that may be taken
-  pub record OwesAll (May : Trace T → Turn T → Type 0) : Type 1 where
+  -- what a family owes of its turns at every capacity that is admitted, and that few turns are turns that may be taken
+  pub record AllTurns (May : Trace T → Turn T → Type 0) : Type 1 where
     pub opens : (code : Coding T) (c : ℕ) → IsCoding code → capacity_error K.kind c ≡ None → Opens code c
-    pub owed : (code : Coding T) (c : ℕ) → IsCoding code → capacity_error K.kind c ≡ None → Owed code c May
+    pub turns : (code : Coding T) (c : ℕ) → IsCoding code → capacity_error K.kind c ≡ None → Turns code c May
     pub few : (code : Coding T) (c : ℕ) (t : Trace T) (turn : Turn T) → Sound (family K code c) t → t.world.turns < 2 ^ 64 - 2 → May t turn
 
-  module _ (May : Trace T → Turn T → Type 0) (all : OwesAll May) where
+  module _ (May : Trace T → Turn T → Type 0) (all : AllTurns May) where
     module _ (t : Trace T) (is : t.world.kind ≡ K.kind) (coded : IsCoding t.world.coding) (admitted : capacity_error t.world.kind t.world.capacity ≡ None) where
-      admits : capacity_error K.kind t.world.capacity ≡ None
+      pub admits : capacity_error K.kind t.world.capacity ≡ None
       admits = subst (λ kind. capacity_error kind t.world.capacity ≡ None) is admitted
 
-      pub owed_there : Owed t.world.coding t.world.capacity May
-      owed_there = all.owed t.world.coding t.world.capacity coded admits
-
       pub laws_there : frame.LawsWhere (family K t.world.coding t.world.capacity) May
-      laws_there = laws t.world.coding t.world.capacity May owed_there
+      laws_there = laws t.world.coding t.world.capacity May (all.turns t.world.coding t.world.capacity coded admits)
 
       pub opening_there : Sound (family K t.world.coding t.world.capacity) (opening t.world.coding t.world.kind t.world.capacity t.world.parties)
       opening_there =
           subst (λ kind. Sound (family K t.world.coding t.world.capacity) (opening t.world.coding kind t.world.capacity t.world.parties)) (sym is)
           (opening_sound t.world.coding t.world.capacity (all.opens t.world.coding t.world.capacity coded admits) t.world.parties)
-
-      pub kept_by : Sound (family K t.world.coding t.world.capacity) t → K.promise.holds t → IsKept t
-      kept_by s promised =
-          subst (λ P. IsKeptBy P t) (sym (ap (promise_of {T = T}) is ∙ owed_there.promise))
-          (record {
-            spans = s.inv.spans;
-            progress = progress t.world.coding t.world.capacity May owed_there t s;
-            promised = promised;
-          })
 
     pub reached_sound : (t : Trace T) → t.world.kind ≡ K.kind → IsReached t → Sound (family K t.world.coding t.world.capacity) t
     reached_sound t is r =
@@ -275,21 +312,35 @@ module _ {T : Type 0} (K : Outline T) where
         (frame.laws_with F (λ u turn s small. all.few t.world.coding t.world.capacity u turn s small) (laws_there t is r.coded r.admitted)) t
         (ap is_loan is ∙ K.no_loan) (opening_there t is r.coded r.admitted) r
 
-    pub keeps : Keeps T K.kind
-    keeps =
-        record {
-          kept = λ t is r.
-              let s = reached_sound t is r in
-              kept_by t is r.coded r.admitted s ((owed_there t is r.coded r.admitted).promised t s (reached_small t r).turns);
-          turn = λ t turn is e r.
-              subst (λ P. IsTurnBy P t turn (after_turn t turn)) (sym (ap (promise_of {T = T}) is ∙ (owed_there t is r.coded r.admitted).promise))
-              (turn_is (family K t.world.coding t.world.capacity)
-              (orders t.world.coding t.world.capacity May (owed_there t is r.coded r.admitted)) t turn e r (reached_sound t is r));
-        }
-
   -- the same where neither turns nor parties have a bound, nor turns another premise
-  pub reached_on_sound : (all : OwesAll (λ t turn. Unit {0})) (t : Trace T) → t.world.kind ≡ K.kind → IsReachedOn t
+  pub reached_on_sound : (all : AllTurns (λ t turn. Unit {0})) (t : Trace T) → t.world.kind ≡ K.kind → IsReachedOn t
       → Sound (family K t.world.coding t.world.capacity) t
   reached_on_sound all t is r =
       frame.reached_on_sound (family K t.world.coding t.world.capacity) (laws_there (λ t turn. Unit {0}) all t is r.coded r.admitted) t
       (opening_there (λ t turn. Unit {0}) all t is r.coded r.admitted) r
+
+  -- what it owes of its promises at every such capacity
+  abbrev pub OwesAll : Type 1
+  OwesAll = (code : Coding T) (c : ℕ) → IsCoding code → capacity_error K.kind c ≡ None → Owed code c
+
+  module _ (May : Trace T → Turn T → Type 0) (all : AllTurns May) (owes : OwesAll) where
+    module _ (t : Trace T) (is : t.world.kind ≡ K.kind) (coded : IsCoding t.world.coding) (admitted : capacity_error t.world.kind t.world.capacity ≡ None) where
+      owed_there : Owed t.world.coding t.world.capacity
+      owed_there = owes t.world.coding t.world.capacity coded (admits May all t is coded admitted)
+
+      pub kept_by : Sound (family K t.world.coding t.world.capacity) t → K.promise.holds t → IsKept t
+      kept_by s promised =
+          subst (λ P. IsKeptBy P t) (sym (ap (promise_of {T = T}) is ∙ owed_there.promise))
+          (record { spans = s.inv.spans; progress = progress t.world.coding t.world.capacity owed_there t s; promised = promised })
+
+    pub keeps : Keeps T K.kind
+    keeps =
+        record {
+          kept = λ t is r.
+              let s = reached_sound May all t is r in
+              kept_by t is r.coded r.admitted s ((owed_there t is r.coded r.admitted).promised t s (reached_small t r).turns);
+          turn = λ t turn is e r.
+              subst (λ P. IsTurnBy P t turn (after_turn t turn)) (sym (ap (promise_of {T = T}) is ∙ (owed_there t is r.coded r.admitted).promise))
+              (turn_is (family K t.world.coding t.world.capacity)
+              (orders t.world.coding t.world.capacity (owed_there t is r.coded r.admitted)) t turn e r (reached_sound May all t is r));
+        }

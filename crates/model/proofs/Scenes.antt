@@ -1,14 +1,14 @@
 -- From a machine of any family between two turns to the step of one call that is under way: where the call stands there,
 -- and that its step may be looked at from the words, and what is kept beside them, that the family's state holds.
 use Rattle.std.proofs.Common.{arith}
-use Rattle.std.proofs.Common.{◌≡◌, ℕ, ◌+◌, ◌≤◌, Option, Some, List, ◌++◌}
+use Rattle.std.proofs.Common.{◌≡◌, ℕ, ◌+◌, ◌≤◌, Bool, Option, Some, None, List, ◌++◌}
 use Rattle.steps.specs.declared.ask.Ask.{Ask}
 use Rattle.model.specs.declared.event.Start.{Start}
 use Rattle.model.specs.declared.families.Flight.{Flight}
 use Rattle.model.specs.declared.families.Registry.{Registry}
 use Rattle.model.specs.declared.party.Doing.TheVariants.{Going}
 use Rattle.model.specs.declared.party.Party.{Party}
-use Rattle.model.specs.declared.turn.Turn.TheVariants.{Next}
+use Rattle.model.specs.declared.turn.Turn.TheVariants.{Next, Decide}
 use Rattle.model.specs.Coding.{Coding}
 use Rattle.model.specs.Families.{want_of, ask_of, beside_of, step_of}
 use Rattle.model.specs.Parties.{party_of, doing_of, flight_of}
@@ -16,7 +16,7 @@ use Rattle.model.specs.Promise.{Promise}
 use Rattle.model.specs.Promises.Turns.{WritesInOrder}
 use Rattle.model.specs.Reading.{Open, span_of}
 use Rattle.model.specs.Step.{Step}
-use Rattle.model.specs.Turns.{old_of, words_after, change_of, step_count, party_after, events_of_step}
+use Rattle.model.specs.Turns.{old_of, number_of, words_after, change_of, step_count, party_after, events_of_step}
 use Rattle.model.specs.World.{Trace}
 use Rattle.model.proofs.Frame.{Family, Sound, Comes, ComesByStep, under_way, knows_now}
 
@@ -25,10 +25,12 @@ module _ {T : Type 0} where
   asked z flight = ask_of (want_of z flight)
 
   module _ (t : Trace T) (p : ℕ) where
-    -- the party's step where values are written so, these are the words, this is kept, and the call has this name
+    -- the party's step from this answer, where values are written so, these are the words, this is kept, and the call has this name
+    abbrev pub answered_from : Coding T → ℕ → List ℕ → Registry T → Start T → Flight T → Step (Flight T) (Registry T) T
+    answered_from z answer words kept start flight = step_of z words (beside_of words kept t.world.latest p) p start flight answer kept
+
     abbrev pub step_from : Coding T → List ℕ → Registry T → Start T → Flight T → Step (Flight T) (Registry T) T
-    step_from z words kept start flight =
-        step_of z words (beside_of words kept t.world.latest p) p start flight (old_of words (asked z flight)) kept
+    step_from z words kept start flight = answered_from z (old_of words (asked z flight)) words kept start flight
 
     -- what it writes down is in order
     abbrev pub InOrder : Promise T → Coding T → List ℕ → Registry T → Start T → Flight T → Type 0
@@ -39,6 +41,16 @@ module _ {T : Type 0} where
         → t.world.words ≡ words → t.world.kept ≡ kept → InOrder promise z words kept start flight
         → InOrder promise z t.world.words t.world.kept start flight
     in_order_from x0 x1 x2 x3 x4 x5 x6 x7 x8 = grind arith
+
+    -- and what a decision writes down
+    abbrev pub DecidedInOrder : Promise T → Bool → Coding T → List ℕ → Registry T → Start T → Flight T → Type 0
+    DecidedInOrder promise said z words kept start flight =
+        WritesInOrder promise t (Decide p said) (t.events ++ events_of_step p start (answered_from z (number_of said) words kept start flight))
+
+    pub decided_in_order_from : (promise : Promise T) (said : Bool) (z : Coding T) (words : List ℕ) (kept : Registry T) (start : Start T) (flight : Flight T)
+        → t.world.words ≡ words → t.world.kept ≡ kept → DecidedInOrder promise said z words kept start flight
+        → DecidedInOrder promise said z t.world.words t.world.kept start flight
+    decided_in_order_from x0 x1 x2 x3 x4 x5 x6 x7 x8 x9 = grind arith
 
   module _ (F : Family T) (t : Trace T) (s : Sound F t) (p : ℕ) (x : Party T) (since : ℕ) where
     -- a call of this name is under way
@@ -65,3 +77,16 @@ module _ {T : Type 0} where
         → t.world.kept ≡ kept → ComesFrom F.coding words kept x.start flight
         → ComesByStep F t p x flight since (asked t.world.coding flight) (old_of t.world.words (asked t.world.coding flight))
     comes_from x0 x1 x2 x3 x4 x5 = grind arith
+
+    -- what a decision comes to
+    abbrev pub DecidesFrom : Coding T → ℕ → List ℕ → Registry T → Start T → Flight T → Type 0
+    DecidesFrom z answer words kept start flight =
+        Comes F t p (answered_from t p z answer words kept start flight).kept (words_after words None)
+        (party_after (record x { start = start }) since t.world.changes 0 (change_of words None) (answered_from t p z answer words kept start flight))
+        (events_of_step p start (answered_from t p z answer words kept start flight))
+        (t.world.changes + change_of words None)
+
+    pub decides_from : (said : Bool) (words : List ℕ) (kept : Registry T) (flight : Flight T) → t.world.words ≡ words
+        → t.world.kept ≡ kept → DecidesFrom F.coding (number_of said) words kept x.start flight
+        → ComesByStep F t p x flight since None (number_of said)
+    decides_from x0 x1 x2 x3 x4 x5 x6 = grind arith

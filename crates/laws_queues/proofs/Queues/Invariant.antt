@@ -1,6 +1,6 @@
 -- What holds of a queue's machine between any two turns beside what the frame says of every machine, and what a turn
 -- must show to keep it. An overflowing queue with a capacity is, as far as its words go, a queue with one cell more.
-use Rattle.laws_queues.proofs.Names.{◌≡◌, ◌≢◌, ℕ, ◌+◌, ◌^◌, ◌<◌, ◌≤◌, Some, None, List, [], ◌++◌, length, drop, map}
+use Rattle.laws_queues.proofs.Names.{◌≡◌, ◌≢◌, ℕ, ◌+◌, ◌^◌, ◌<◌, ◌≤◌, false, Some, None, List, [], ◌++◌, length, drop, map}
 use Rattle.laws_queues.proofs.Names.{fold, sym, ap, subst, ◌∙◌, append_assoc, length-append, drop_at, Event}
 use Rattle.laws_queues.proofs.Names.{Item, Start, Flight, Registry, QueueStart, Roles, QueueFlight, Party, QueueKind}
 use Rattle.laws_queues.proofs.Names.{Kind, Coding, AnswersRight, TellsLength, list_of, cells_of, promise, publishes}
@@ -16,6 +16,9 @@ use Rattle.model.specs.declared.families.Flight as flights
 use Rattle.model.specs.declared.families.Registry as registries
 use Rattle.model.specs.declared.families.queues.QueueKind as kinds
 use Rattle.model.specs.declared.turn.Kind as any_kinds
+use Rattle.model.specs.Families.Loan.Opening.{is_loan}
+use Rattle.model.proofs.Family as families
+use Rattle.model.proofs.Family.{Outline}
 use Rattle.model.proofs.Frame as frame
 use Rattle.model.proofs.Replays.{calls_of, answers_of, standing_more, legal_more}
 use Rattle.laws_queues.proofs.Queues.Core.{Core, Good, GoesUp}
@@ -28,8 +31,7 @@ pub record Queue (V : Type 0) : Type 0 where
   pub core : Core V
 
 abbrev pub Represents : {T V : Type 0} → Registry T → List ℕ → Queue V → Type 0
-Represents (registries.TheVariants.Queues ro) words s = (words ≡ layout s.roles s.core) × (ro ≡ s.roles)
-Represents kept words s = ⊥
+Represents kept words s = (kept ≡ registries.TheVariants.Queues s.roles) × (words ≡ layout s.roles s.core)
 
 abbrev number : {T : Type 0} → Coding T → Flight T → ℕ → ℕ
 number en (flights.TheVariants.Queues flight) backs = number_of en flight backs
@@ -64,6 +66,11 @@ module _ {T : Type 0} where
       → new ≡ old + length (handed_out es) → new ≡ length (handed_out (events ++ es))
   out_more x0 x1 x2 x3 x4 x5 = grind (arith, handed_out, flat_map-append, hands_out, length-append)
 
+  -- what a party's call under way has written
+  abbrev written : {V : Type 0} → ℕ → Core V → ℕ → Flight T → List (Event T)
+  written c k p (flights.TheVariants.Queues flight) = has_written c k p flight
+  written c k p flight = []
+
   abbrev pub queue_in : {kd : QueueKind} → Scene T kd → Queue (Val T kd)
   queue_in scene = record { roles = scene.roles; core = scene.core }
 
@@ -72,6 +79,9 @@ abbrev pub machine_kind : QueueKind → Kind
 machine_kind kinds.TheVariants.IndexQueue = any_kinds.TheVariants.IndexQueue
 machine_kind kinds.TheVariants.Overflow = any_kinds.TheVariants.Overflow
 machine_kind kinds.TheVariants.Queue = any_kinds.TheVariants.Queue
+
+pub no_loan : (kd : QueueKind) → is_loan (machine_kind kd) ≡ false
+no_loan x0 = grind arith
 
 module _ {T : Type 0} (en : Coding T) where
   -- what is so of the queue and of the events
@@ -99,10 +109,6 @@ module _ {T : Type 0} (en : Coding T) where
 
   -- ---- the family of the queues
 
-  abbrev written : {V : Type 0} → ℕ → Core V → ℕ → Flight T → List (Event T)
-  written c k p (flights.TheVariants.Queues flight) = has_written c k p flight
-  written c k p flight = []
-
   abbrev FlightAt : (kd : QueueKind) → ℕ → Roles → Core (Val T kd) → ℕ → Start T → Flight T → Type 0
   FlightAt kd c ro k p (starts.TheVariants.Queues start) (flights.TheVariants.Queues flight) = At en kd c ro k p start flight
   FlightAt kd c ro k p start flight = ⊥
@@ -111,24 +117,31 @@ module _ {T : Type 0} (en : Coding T) where
   Knowing c k p events since changes backs (flights.TheVariants.Queues flight) = KnowsFlight c k p events since changes backs flight
   Knowing c k p events since changes backs flight = ⊥
 
-  abbrev pub family : QueueKind → ℕ → Family T
-  family kd c =
+module _ {T : Type 0} where
+  -- what its turns preserve is shown beside the events of each, which can be another party's too
+  abbrev pub outline : QueueKind → Outline T
+  outline kd =
       record {
-        coding = en;
         kind = machine_kind kd;
+        no_loan = no_loan kd;
         promise = promise kd;
-        capacity = c;
         State = Queue (Val T kd);
-        Represents = Represents;
-        Holds = λ s latest events turns. Holds kd c s.roles s.core latest events turns;
-        written = λ s p flight. written c s.core p flight;
-        number = λ wrote. number en;
-        At = λ s p start flight. FlightAt kd c s.roles s.core p start flight;
-        Knows = λ s p events since changes backs flight. Knowing c s.core p events since changes backs flight;
+        words = λ s. layout s.roles s.core;
+        kept = λ s. registries.TheVariants.Queues s.roles;
+        Holds = λ en c s latest events turns. Holds en kd c s.roles s.core latest events turns;
+        written = λ c s p flight. written c s.core p flight;
+        number = λ en c. number en;
+        At = λ en c s p start flight. FlightAt en kd c s.roles s.core p start flight;
+        Knows = λ en c s p events since changes backs flight. Knowing en c s.core p events since changes backs flight;
+        Preserves = λ scene s' was y es changes'. Unit {0};
       }
 
+module _ {T : Type 0} (en : Coding T) where
+  abbrev pub family : QueueKind → ℕ → Family T
+  family kd = families.family (outline kd) en
+
   pub record Inv (kd : QueueKind) (scene : Scene T kd) : Type 0 where
-    pub queue : Holds kd scene.capacity scene.roles scene.core scene.latest scene.events scene.turns
+    pub queue : Holds en kd scene.capacity scene.roles scene.core scene.latest scene.events scene.turns
     pub frame : frame.Inv (family kd scene.capacity) (queue_in scene) scene.latest scene.events scene.changes
 
   -- what a turn shows of the queue itself, where it becomes k'
@@ -151,8 +164,8 @@ module _ {T : Type 0} (en : Coding T) where
     pub within : k'.write < 2 ^ 64
 
   module _ (kd : QueueKind) (scene : Scene T kd) (ro' : Roles) (k' : Core (Val T kd)) (y : Party T) (es : List (Event T)) (changes' : ℕ) where
-    pub holds_more : Holds kd scene.capacity scene.roles scene.core scene.latest scene.events scene.turns → ShowsQueue kd scene ro' k' y es changes'
-        → Holds kd scene.capacity ro' k' (put scene.party y scene.latest) (scene.events ++ es) (scene.turns + 1)
+    pub holds_more : Holds en kd scene.capacity scene.roles scene.core scene.latest scene.events scene.turns → ShowsQueue kd scene ro' k' y es changes'
+        → Holds en kd scene.capacity ro' k' (put scene.party y scene.latest) (scene.events ++ es) (scene.turns + 1)
     holds_more h s =
         let c = scene.capacity in
         let more = flat_map-append acts scene.events es in
@@ -207,13 +220,14 @@ module _ {T : Type 0} (en : Coding T) where
   pub any_stays : (kd : QueueKind) (c : ℕ) (ro ro' : Roles) (k k' : Core (Val T kd)) (q : ℕ)
       → ((start : QueueStart T) (flight : QueueFlight T) → At en kd c ro k q start flight
       → At en kd c ro' k' q start flight × (has_written {T = T} c k' q flight ≡ has_written {T = T} c k q flight))
-      → (start : Start T) (flight : Flight T) → FlightAt kd c ro k q start flight
-      → FlightAt kd c ro' k' q start flight × (written c k' q flight ≡ written c k q flight)
+      → (start : Start T) (flight : Flight T) → FlightAt en kd c ro k q start flight
+      → FlightAt en kd c ro' k' q start flight × (written c k' q flight ≡ written c k q flight)
   any_stays x0 x1 x2 x3 x4 x5 x6 x7 x8 x9 x10 = grind arith
 
   pub any_knows : {V : Type 0} → (c : ℕ) (k k' : Core V) (q : ℕ) (events es : List (Event T)) (changes changes' : ℕ)
       → GoesUp k k' changes changes' → BeginsNone q es
-      → (since backs : ℕ) (flight : Flight T) → Knowing c k q events since changes backs flight → Knowing c k' q (events ++ es) since changes' backs flight
+      → (since backs : ℕ) (flight : Flight T) → Knowing en c k q events since changes backs flight
+      → Knowing en c k' q (events ++ es) since changes' backs flight
   any_knows x0 x1 x2 x3 x4 x5 x6 x7 x8 x9 x10 x11 x12 x13 = grind (arith, flight_keeps)
 
   module _ (kd : QueueKind) (scene : Scene T kd) (ro' : Roles) (k' : Core (Val T kd)) (from : Span T) (y : Party T)

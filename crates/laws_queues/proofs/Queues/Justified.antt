@@ -4,15 +4,14 @@
 use Rattle.laws_queues.proofs.Names.{◌≡◌, ℕ, ◌-◌, ◌^◌, ◌<◌, ◌≤◌, ◌==◌, Bool, true, false, cond, inr, Option, Some}
 use Rattle.laws_queues.proofs.Names.{None, List, [], ◌∷◌, ◌++◌, get_or, refl, sym, ap, subst, ◌∙◌, nat_tests, Ask}
 use Rattle.laws_queues.proofs.Names.{Exchange, After, GoOn, Done, OneWord, after_position, went_on, Answer, Event}
-use Rattle.laws_queues.proofs.Names.{Published, HandedOut, Acted, Item, Index, Start, Queues, Flight, Registry}
+use Rattle.laws_queues.proofs.Names.{Published, HandedOut, Acted, Item, Index, Start, Queues, Flight}
 use Rattle.laws_queues.proofs.Names.{QueueStart, PushIndex, Pop, Roles, QueueFlight, Role, Indices, Values, Length}
-use Rattle.laws_queues.proofs.Names.{Effect, Quiet, Acts, Publishes, PublishesAndActs, TakesOut, MakesRoom, Going}
-use Rattle.laws_queues.proofs.Names.{Party, QueueKind, Turn, Next, Coding, IsCoding, ask_of, beside_of, step_of}
-use Rattle.laws_queues.proofs.Names.{goes_of, AnswersRight, read_word, want, after, popped, load_of_write}
+use Rattle.laws_queues.proofs.Names.{Effect, Quiet, Acts, Publishes, PublishesAndActs, TakesOut, MakesRoom}
+use Rattle.laws_queues.proofs.Names.{Party, QueueKind, Turn, Next, Coding, IsCoding, ask_of}
+use Rattle.laws_queues.proofs.Names.{AnswersRight, read_word, want, after, popped, load_of_write}
 use Rattle.laws_queues.proofs.Names.{finding_none, AddsOne, promise, pending_at, beside, takes_effect, effect_of}
-use Rattle.laws_queues.proofs.Names.{acts_if_done, effects_of, party_of, doing_of, flight_of, IsTurnBy, as_call}
-use Rattle.laws_queues.proofs.Names.{answer_in, old_of, ending_of, after_turn, Trace, AreRight, StandsThere}
-use Rattle.laws_queues.proofs.Names.{stands_there, InOrder, in_order_from}
+use Rattle.laws_queues.proofs.Names.{acts_if_done, effects_of, party_of, doing_of, flight_of, as_call}
+use Rattle.laws_queues.proofs.Names.{answer_in, old_of, Trace, AreRight, StandsThere}
 use Rattle.std.proofs.Common.{arith}
 use Rattle.std.specs.List.{AllByRecursion}
 use Rattle.steps.specs.declared.queues.overflow.Pop as overflow_pop
@@ -30,14 +29,14 @@ use Rattle.model.specs.declared.families.queues.effects.Effect.TheVariants.{Hand
 use Rattle.model.specs.declared.families.queues.QueueKind as kinds
 use Rattle.model.specs.Promises.Turns.{ask_in, IsParty, IsEffectOf, IsAct, ActsRight}
 use Rattle.model.proofs.Frame as frame
-use Rattle.model.proofs.Orders.{Orders, Keeps, ends_end, turn_is}
+use Rattle.model.proofs.FamilyLaws.{Writes}
+use Rattle.model.proofs.Scenes.{step_from}
 use Rattle.laws_queues.proofs.Overflow.Knows.{overflow_push_at, overflow_pop_at, KnowsOverflowPush, KnowsOverflowPop, OverflowAt}
 use Rattle.laws_queues.proofs.Queues.Core.{Core}
-use Rattle.laws_queues.proofs.Queues.Invariant.{Queue, Represents, machine_kind, family}
+use Rattle.laws_queues.proofs.Queues.Invariant.{outline, family}
 use Rattle.laws_queues.proofs.Queues.Knows.{all_fresh, layout, IndexAt, ValueAt, At}
-use Rattle.laws_queues.proofs.Queues.Sound.{kept_is, step_moves, scene_of, inv_of, asks_nothing, reached_sound}
-use Rattle.laws_queues.proofs.Queues.Kept.{kept, promised_by}
-use Rattle.laws_queues.proofs.Queues.Stages.{told_after, any_call}
+use Rattle.laws_queues.proofs.Queues.Steps.{step_moves, scene_of, inv_of}
+use Rattle.laws_queues.proofs.Queues.Stages.{told_after}
 use Rattle.laws_queues.proofs.Queues.Values.{Val, item}
 use Rattle.laws_queues.proofs.Ring.Kinds.{Ring, of_indices, of_values, kind_of, push}
 
@@ -256,13 +255,12 @@ waiter_is : {T : Type 0} (roles : Roles) (words : List ℕ) (latest : List (ℕ 
     → pending_at (get_or words 1 0) (Some (flights.TheVariants.Queues flight)) ≡ Some w
 waiter_is x0 x1 x2 x3 x4 x5 x6 x7 x8 x9 = grind arith
 
-module _ {T : Type 0} (en : Coding T) (law : IsCoding en) (kd : QueueKind) (c : ℕ) (t : Trace T) (p : ℕ)
-    (s : frame.Sound (family en kd c) t) (small : t.world.turns < 2 ^ 64 - 2) (x : Party T) (since : ℕ) where
-  in_order : (start : Start T) (flight : Flight T) → t.world.coding ≡ en → t.world.capacity ≡ c
-      → t.world.words ≡ layout s.state.roles s.state.core → StandsThere (family en kd c) t s p x since start flight
-      → InOrder t p (promise kd) t.world.coding (layout s.state.roles s.state.core)
-      (registries.TheVariants.Queues s.state.roles) start flight
-  in_order (Queues start) (flights.TheVariants.Queues flight) same_coding same_capacity is here =
+module _ {T : Type 0} (en : Coding T) (law : IsCoding en) (kd : QueueKind) (c : ℕ) (t : Trace T) (s : frame.Sound (family en kd c) t) where
+  pub writes : (p : ℕ) (x : Party T) (since : ℕ) → t.world.turns < 2 ^ 64 - 2 → (start : Start T) (flight : Flight T)
+      → StandsThere (family en kd c) t s p x since start flight
+      → Writes (outline kd) t (Next p)
+      (step_from t p t.world.coding (layout s.state.roles s.state.core) (registries.TheVariants.Queues s.state.roles) start flight)
+  writes p x since small (Queues start) (flights.TheVariants.Queues flight) here =
       let scene = scene_of en law kd c t s p x since in
       let words = layout s.state.roles s.state.core in
       let moves =
@@ -274,64 +272,27 @@ module _ {T : Type 0} (en : Coding T) (law : IsCoding en) (kd : QueueKind) (c : 
       let waits = beside s.state.roles words t.world.latest p in
       let effect : Effect T = effect_of z words waits flight old in
       let outcome : Option (Answer T) = answer_in (after z flight old) in
-      let ends : List (Event T) = ending_of p (Queues start) (answer_in (any_call (after z flight old))) in
       let asks : ask_in t.world (Next p) ≡ ask_of (want z flight) = rw here.found refl in
       let reached = s.holds.reached in
       let good = s.holds.good.write in
       let place : Positions kd t (Next p) p refl (λ q his. his) s.state.core.write s.state.core.read =
-      record { rest = _; words = is; few = omega arith; low = omega arith } in
+      record { rest = _; words = s.fit.1; few = omega arith; low = omega arith } in
       record {
         effects = did p effect;
         acts = acts_of p start effect outcome;
-        ends = ends;
-        is = ap (λ es. t.events ++ (es ++ ends)) (effects_are p start effect outcome);
+        is = effects_are p start effect outcome;
         are_effects = did_effects (Next p) p effect refl;
         are_acts = all_act p start effect outcome;
-        are_ends = ends_end (Next p) p (Queues start) (answer_in (any_call (after z flight old))) refl;
         right = step_right kd t (Next p) p refl (λ q his. his) words waits kd refl s.state.roles s.state.core place start flight old
-            (subst (λ y. At y kd t.world.capacity s.state.roles s.state.core p start flight) (sym same_coding)
-            (subst (λ n. At en kd n s.state.roles s.state.core p start flight) (sym same_capacity) here.at))
+            (subst (λ y. At y kd t.world.capacity s.state.roles s.state.core p start flight) (sym s.coding)
+            (subst (λ n. At en kd n s.state.roles s.state.core p start flight) (sym s.capacity) here.at))
             asks
             (ap (old_of words) (sym asks))
             (waiter_is s.state.roles words t.world.latest p flight here.found)
-            (subst (λ n. AreRight (AnswersRight n) t.events (told_after p start effect (after z flight old))) (sym same_capacity)
+            (subst (λ n. AreRight (AnswersRight n) t.events (told_after p start effect (after z flight old))) (sym s.capacity)
             (subst (λ (y : Coding T). AreRight (AnswersRight c) t.events
             (told_after p start (effect_of y words waits flight (old_of words (ask_of (want y flight))))
             (after y flight (old_of words (ask_of (want y flight))))))
-            (sym same_coding) moves.2.right));
+            (sym s.coding) moves.2.right));
       }
-  in_order start flight same_coding same_capacity is here = absurd here.at
-
-  step_in_order : (flight : Flight T) → party_of p t.world.latest ≡ Some x → x.doing ≡ Going flight since
-      → InOrder t p (promise kd) t.world.coding t.world.words t.world.kept x.start flight
-  step_in_order x0 x1 x2 = grind (arith, kept_is, in_order_from, promise, layout, in_order, stands_there, family)
-
--- a call of a queue goes on as its table says
-told : {T : Type 0} (en z : Coding T) (kd : QueueKind) (c : ℕ) (words : List ℕ) (waits : Option (ℕ × ℕ))
-    (s : Queue (Val T kd)) (p : ℕ) (start : Start T) (flight : Flight T) (answer : ℕ) (kept : Registry T)
-    → Represents kept words s → (family en kd c).At s p start flight
-    → (step_of z words waits p start flight answer kept).after ≡ goes_of z p flight answer kept
-told x0 x1 x2 x3 x4 x5 x6 x7 x8 x9 x10 x11 x12 x13 = grind arith
-
-module _ {T : Type 0} where
-  orders : (en : Coding T) → IsCoding en → (kd : QueueKind) (c : ℕ) → Orders (family en kd c)
-  orders en law kd c =
-      record {
-        step = λ t p x flight since s small found doing. step_in_order en law kd c t p s small x since flight found doing;
-        decision = λ t p x flight since said s small found doing asks. asks_nothing en kd c t p x flight since s found doing asks;
-        after = λ t p x flight since answer s found doing.
-            told en t.world.coding kd c t.world.words (beside_of t.world.words t.world.kept t.world.latest p)
-            s.state p x.start flight answer t.world.kept s.fit
-            (stands_there (family en kd c) t s p x since flight found doing).at;
-        tells = λ t turn e s. tt;
-      }
-
-  -- what is proved of every run of a queue
-  pub queue_keeps : (kd : QueueKind) → Keeps T (machine_kind kd)
-  queue_keeps kd =
-      record {
-        kept = λ t is r. kept kd t is r;
-        turn = λ t turn is e r.
-            subst (λ P. IsTurnBy P t turn (after_turn t turn)) (sym (promised_by kd t is))
-            (turn_is (family t.world.coding kd t.world.capacity) (orders t.world.coding r.coded kd t.world.capacity) t turn e r (reached_sound kd t is r));
-      }
+  writes p x since small start flight here = absurd here.at

@@ -1,335 +1,169 @@
--- Every turn keeps what holds of a queue's machine: the laws of the family.
-use Rattle.laws_queues.proofs.Names.{◌≡◌, ℕ, ◌-◌, ◌*◌, ◌^◌, ◌<◌, ◌≤◌, true, false, Option, Some, None, option_map}
-use Rattle.laws_queues.proofs.Names.{List, [], ◌∷◌, ◌++◌, map, replicate, get_or, refl, sym, ap, subst, ◌∙◌}
-use Rattle.laws_queues.proofs.Names.{append-nil, length-replicate, take-nil, OneWord, Len, Running, Begun, Start}
-use Rattle.laws_queues.proofs.Names.{Queues, Flight, Registry, QueueStart, AcquireProducer, ReleaseProducer}
-use Rattle.laws_queues.proofs.Names.{AcquireConsumer, ReleaseConsumer, PushIndex, Push, Pop, IsEmpty, IsFull}
-use Rattle.laws_queues.proofs.Names.{RoleCall, Acquire, Release, LengthOf, QueueFlight, Role, Indices, Values, Length}
-use Rattle.laws_queues.proofs.Names.{Going, Party, QueueKind, IndexQueue, Coding, IsCoding, one_word, opening_of}
-use Rattle.laws_queues.proofs.Names.{first_of, want_of, ask_of, is_question, kept_after_begin, acquire_of, release_of}
-use Rattle.laws_queues.proofs.Names.{first, list_of, cells_of, words_of_cell, lacks_role, call_of, kept_rows}
-use Rattle.laws_queues.proofs.Names.{pending_at, party_of, doing_of, flight_of, Open, span_of, first_row, old_of}
-use Rattle.laws_queues.proofs.Names.{party_at_begin, IsReached, Next, Trace, opening, capacity_error, Each-nil}
-use Rattle.laws_queues.proofs.Names.{row_passed, MayBegin, asked, StandsThere, stands_there, ComesFrom, comes_from}
+-- What the invariant says of the events, in the promises' words; and that every turn keeps it, so every run has what a queue
+-- promises.
+use lib.Seq.{get_or-drop}
+use Rattle.laws_queues.proofs.Names.{◌≡◌, ℕ, suc, ◌+◌, ◌-◌, ◌%◌, ◌*◌, ◌<◌, ◌≤◌, Some, List, [], ◌∷◌, length, get_or}
+use Rattle.laws_queues.proofs.Names.{map, slice_get, take, drop, refl, sym, ap, subst, ◌∙◌, length-append, length-drop}
+use Rattle.laws_queues.proofs.Names.{length-map, take-map, Item, Index, Value, Roles, QueueKind, IndexQueue, Coding}
+use Rattle.laws_queues.proofs.Names.{IsCoding, item_at, cell_of, stored, waiting_in, cells_of, IsQueue, promise}
+use Rattle.laws_queues.proofs.Names.{KeepsHolders, published, handed_out, Trace, ◌^◌, Option, None, replicate}
+use Rattle.laws_queues.proofs.Names.{length-replicate, take-nil, Start, Flight, Registry, opening_of, goes_of, step_of}
+use Rattle.laws_queues.proofs.Names.{list_of, words_of_cell, IsKept, Turn, Next, opening, capacity_error, Each-nil}
+use native.Mathlib.Nat.{mul-le-mul_left}
 use Rattle.std.proofs.Common.{arith}
-use Rattle.steps.specs.declared.copied.Buffer as cells
-use Rattle.model.specs.declared.families.Flight as flights
-use Rattle.model.specs.declared.families.Registry as registries
-use Rattle.model.specs.declared.families.queues.QueueStart as starts
-use Rattle.model.specs.declared.families.queues.calls.RingCall as rings
-use Rattle.model.specs.declared.families.queues.calls.OverflowCall as overflows
-use Rattle.model.specs.declared.families.queues.calls.LengthOf as measures
-use Rattle.model.specs.declared.families.queues.calls.QueueFlight.TheVariants.{Overflow}
+use Rattle.steps.specs.Queues.Ring.{cell_word}
 use Rattle.model.specs.declared.families.queues.QueueKind as kinds
-use Rattle.model.specs.declared.turn.Refusal.TheVariants.{NoRole}
-use Rattle.model.specs.Families.Loan.Opening.{is_loan}
-use Rattle.laws_queues.proofs.Queues.Runs.{run_sound}
+use Rattle.model.specs.Promises.Families.{promise_of}
+use Rattle.laws_queues.proofs.Queues.Core.{Core, Good, take_all, at_below, word_at}
+use Rattle.laws_queues.proofs.Queues.Knows.{free, layout, listed}
 use Rattle.model.proofs.Frame as frame
-use Rattle.laws_queues.proofs.Overflow.Knows.{overflow_push_at, overflow_pop_at, OverflowAt}
-use Rattle.laws_queues.proofs.Overflow.Pops.{overflow_pop_step}
-use Rattle.laws_queues.proofs.Overflow.Pushes.{overflow_push_step}
-use Rattle.laws_queues.proofs.Queues.Begins.{IsFirst, first_is}
-pub use Rattle.laws_queues.proofs.Queues.Fresh.{IsFreshTurn, IsFreshRun, fresh_there, fresh_any, fresh_more, fresh_opening}
-use Rattle.laws_queues.proofs.Queues.Core.{Core}
-use Rattle.laws_queues.proofs.Queues.Invariant.{Queue, Represents, machine_kind, Scene, Inv, Shows, family, holds_more, owes, queue_part}
-use Rattle.laws_queues.proofs.Queues.Knows.{IsFreshAt, layout, len_at, in_one, in_cell, listed, has_written}
-use Rattle.laws_queues.proofs.Queues.Knows.{KnowsLen, KnowsFlight, number_of, RoleAt, LengthAt, IndexAt, ValueAt, At}
-use Rattle.laws_queues.proofs.Queues.Lengths.{len_step, is_empty_step, is_full_step}
-use Rattle.laws_queues.proofs.Queues.Pending.{pending_put, hangs_same, none_hangs}
-use Rattle.laws_queues.proofs.Queues.Roles.{acquires_producer, acquires_consumer, releases_producer, releases_consumer}
-use Rattle.laws_queues.proofs.Queues.Stages.{IsCalm, DoesStep, StepOf, MovesOf, of_step}
+use Rattle.laws_queues.proofs.Queues.Invariant.{machine_kind, family, waiting_is, Queue, Represents, outline}
+use Rattle.laws_queues.proofs.Queues.Stages.{cell_place}
 use Rattle.laws_queues.proofs.Queues.Values.{Val, encoded, item}
-use Rattle.laws_queues.proofs.Ring.Kinds as ring
-use Rattle.laws_queues.proofs.Ring.Kinds.{Ring, of_indices, of_values, kind_of, Room, words_in, ring_want, ring_after, ring_effect}
-use Rattle.laws_queues.proofs.Ring.Knows.{IsFresh, push_at, pop_at, ring_number, PushAt, PopAt}
-use Rattle.laws_queues.proofs.Ring.Pops.{pop_step}
-use Rattle.laws_queues.proofs.Ring.Pushes.{push_step}
+use Rattle.laws_queues.proofs.Ring.Pops.{same_words}
+use Rattle.model.specs.declared.families.Registry as registries
+use Rattle.model.proofs.FamilyLaws as laws
+use Rattle.model.proofs.FamilyLaws.{Opens, Turns, AllTurns, Owed, OwesAll}
+use Rattle.model.proofs.Orders.{Keeps}
+pub use Rattle.laws_queues.proofs.Queues.Fresh.{IsFreshTurn, IsFreshRun, fresh_there, fresh_any, fresh_more, fresh_opening}
+use Rattle.laws_queues.proofs.Queues.Justified.{writes}
+use Rattle.laws_queues.proofs.Queues.Pending.{none_hangs}
+use Rattle.laws_queues.proofs.Queues.Runs.{run_sound}
+use Rattle.laws_queues.proofs.Queues.Steps.{comes, begin_comes, no_question, few_turns}
 
 pub kept_is : {T V : Type 0} → (kept : Registry T) (words : List ℕ) (s : Queue V) → Represents kept words s
     → (kept ≡ registries.TheVariants.Queues s.roles) × (words ≡ layout s.roles s.core)
-kept_is x0 x1 x2 x3 = grind arith
+kept_is kept words s h = h
 
--- ---- one step of a call
+cell_size : {T : Type 0} → (en : Coding T) (kd : QueueKind) → words_of_cell en.size kd ≡ (encoded en kd).size
+cell_size en IndexQueue = refl
+cell_size en kinds.TheVariants.Overflow = refl
+cell_size en kinds.TheVariants.Queue = refl
 
-module _ {T : Type 0} (en : Coding T) (kd : QueueKind) (scene : Scene T kd) (small : scene.core.write < 2 ^ 64) (inv : Inv en kd scene) where
-  role_step : (start : QueueStart T) (call : RoleCall) → RoleAt scene.roles scene.party start call → scene.steps ≤ 0
-      → scene.backs ≡ 0 → IsCalm en kd scene scene.core.read → StepOf en kd scene start (Role call)
-  role_step AcquireProducer (Acquire run) at s b before =
-      subst (λ w. StepOf en kd scene AcquireProducer (acquire_of w)) (sym at) (acquires_producer en kd scene small s b inv before)
-  role_step ReleaseProducer (Release run) at s b before =
-      subst (λ w. StepOf en kd scene ReleaseProducer (release_of w)) (sym at.0) (releases_producer en kd scene small s b at.1 inv before)
-  role_step AcquireConsumer (Acquire run) at s b before =
-      subst (λ w. StepOf en kd scene AcquireConsumer (acquire_of w)) (sym at) (acquires_consumer en kd scene small s b inv before)
-  role_step ReleaseConsumer (Release run) at s b before =
-      subst (λ w. StepOf en kd scene ReleaseConsumer (release_of w)) (sym at.0) (releases_consumer en kd scene small s b at.1 inv before)
-  role_step start call at s b before = absurd at
+module _ {T : Type 0} (en : Coding T) where
+  -- ---- progress
 
-  length_step : (start : QueueStart T) (which : LengthOf) (run : Running Len (Unit {0}) (Unit {0}))
-      → LengthAt scene.capacity start which run.call.capacity
-      → scene.steps ≤ number_of en (Length which run) scene.backs
-      → KnowsLen scene.capacity scene.core scene.party scene.events scene.since scene.changes scene.backs run.call.stage
-      → IsCalm en kd scene scene.core.read → StepOf en kd scene start (Length which run)
-  length_step starts.TheVariants.Len measures.TheVariants.Len run at s b before =
-      subst (λ n. StepOf en kd scene starts.TheVariants.Len (Length measures.TheVariants.Len (len_at n run.call.stage)))
-      (sym at) (len_step en kd scene inv small before run.call.stage s b)
-  length_step IsEmpty measures.TheVariants.IsEmpty run at s b before =
-      subst (λ n. StepOf en kd scene IsEmpty (Length measures.TheVariants.IsEmpty (len_at n run.call.stage)))
-      (sym at) (is_empty_step en kd scene inv small before run.call.stage s b)
-  length_step IsFull measures.TheVariants.IsFull run at s b before =
-      subst (λ n. StepOf en kd scene IsFull (Length measures.TheVariants.IsFull (len_at n run.call.stage))) (sym at)
-      (is_full_step en kd scene inv small before run.call.stage s b)
-  length_step start which call at s b before = absurd at
+  bounds : (kd : QueueKind) (c : ℕ) → frame.Bounds (family {T = T} en kd c)
+  bounds x0 x1 = grind arith
 
-abbrev IsFreshRing : {V R : Type 0} → ℕ → rings.RingCall V R → Type 0
-IsFreshRing write (rings.TheVariants.Push run) = IsFresh write run.call.stage
-IsFreshRing write (rings.TheVariants.Pop run) = Unit {0}
+  -- ---- the values that wait in the words
 
-fresh_ring : {T : Type 0} (en : Coding T) (write : ℕ) (r : Ring) (call : rings.RingCall (Val T (kind_of r)) (Room r))
-    → IsFreshAt {T = T} write (ring.flight r call) → IsFreshRing write call
-fresh_ring en write of_indices (rings.TheVariants.Push run) h = h
-fresh_ring en write of_indices (rings.TheVariants.Pop run) h = tt
-fresh_ring en write of_values (rings.TheVariants.Push run) h = h
-fresh_ring en write of_values (rings.TheVariants.Pop run) h = tt
-
--- a bounded queue of either kind
-module _ {T : Type 0} (en : Coding T) (law : IsCoding en) (r : Ring) (scene : Scene T (kind_of r))
-    (small : scene.core.write < 2 ^ 64) (inv : Inv en (kind_of r) scene) (b : scene.backs ≡ 0)
-    (before : IsCalm en (kind_of r) scene scene.core.read) where
-  abbrev words : List ℕ
-  words = layout scene.roles scene.core
-
-  abbrev RingStep : QueueStart T → rings.RingCall (Val T (kind_of r)) (Room r) → Type 0
-  RingStep start call =
-      DoesStep en (kind_of r) scene [] start (ask_of (ring_want en r call)) false
-      (ring_after en r call (old_of words (ask_of (ring_want en r call)))) (ring_effect en r call)
-
-  push_call : (v : Val T (kind_of r)) (call : rings.RingCall (Val T (kind_of r)) (Room r))
-      → PushAt (encoded en (kind_of r)) (words_in r) scene.capacity scene.roles scene.core scene.party v call
-      → scene.steps ≤ ring_number (encoded en (kind_of r)) (words_in r) call → IsFreshRing scene.core.write call → RingStep (ring.push r v) call
-  push_call v (rings.TheVariants.Push run) at s fresh =
-      subst (λ n. RingStep (ring.push r v) (push_at n run.given run.call.stage)) (sym at.1)
-      (subst (λ n. RingStep (ring.push r v) (push_at scene.capacity n run.call.stage)) (sym at.2)
-      (push_step en r law scene inv small before v at.0 b run.call.stage fresh at.3 s))
-  push_call v (rings.TheVariants.Pop run) at s fresh = absurd at
-
-  pop_call : (call : rings.RingCall (Val T (kind_of r)) (Room r))
-      → PopAt (encoded en (kind_of r)) (words_in r) scene.capacity scene.roles scene.core scene.party call
-      → scene.steps ≤ ring_number (encoded en (kind_of r)) (words_in r) call → RingStep Pop call
-  pop_call (rings.TheVariants.Push run) at s = absurd at
-  pop_call (rings.TheVariants.Pop run) at s =
-      subst (λ n. RingStep Pop (pop_at n run.room run.call.stage)) (sym at.1) (pop_step en r law scene inv small before run.room at.0 b run.call.stage at.2 s)
-
-module _ {T : Type 0} (en : Coding T) (law : IsCoding en) where
-  index_step : (scene : Scene T IndexQueue) → scene.core.write < 2 ^ 64 → Inv en IndexQueue scene
-      → (start : QueueStart T) (call : rings.RingCall ℕ OneWord)
-      → IndexAt IndexQueue scene.capacity scene.roles scene.core scene.party start call
-      → IsFreshRing scene.core.write call → scene.steps ≤ ring_number one_word in_one call → scene.backs ≡ 0
-      → IsCalm en IndexQueue scene scene.core.read → StepOf en IndexQueue scene start (Indices call)
-  index_step scene small inv (PushIndex v) (rings.TheVariants.Push run) at fresh s b before =
-      push_call en law of_indices scene small inv b before v (rings.TheVariants.Push run) at s fresh
-  index_step scene small inv Pop (rings.TheVariants.Pop run) at fresh s b before =
-      pop_call en law of_indices scene small inv b before (rings.TheVariants.Pop run) at s
-  index_step scene small inv start call at fresh s b before = absurd at
-
-  value_step : (scene : Scene T kinds.TheVariants.Queue) → scene.core.write < 2 ^ 64
-      → Inv en kinds.TheVariants.Queue scene → (start : QueueStart T) (call : rings.RingCall T (cells.Buffer 128))
-      → ValueAt en kinds.TheVariants.Queue scene.capacity scene.roles scene.core scene.party start call
-      → IsFreshRing scene.core.write call → scene.steps ≤ ring_number en in_cell call → scene.backs ≡ 0
-      → IsCalm en kinds.TheVariants.Queue scene scene.core.read
-      → StepOf en kinds.TheVariants.Queue scene start (Values call)
-  value_step scene small inv (Push v) (rings.TheVariants.Push run) at fresh s b before =
-      push_call en law of_values scene small inv b before v (rings.TheVariants.Push run) at s fresh
-  value_step scene small inv Pop (rings.TheVariants.Pop run) at fresh s b before =
-      pop_call en law of_values scene small inv b before (rings.TheVariants.Pop run) at s
-  value_step scene small inv start call at fresh s b before = absurd at
-
--- where the party's call stands
-abbrev IsCall : {T : Type 0} → {kd : QueueKind} → Scene T kd → QueueStart T → QueueFlight T → Type 0
-IsCall scene start flight =
-    (flight_of (doing_of (party_of scene.party scene.latest)) ≡ Some (flights.TheVariants.Queues flight))
-    × (span_of scene.party scene.events ≡ Open (Queues start) (has_written scene.capacity scene.core scene.party flight))
-
-module _ {T : Type 0} (en : Coding T) (scene : Scene T kinds.TheVariants.Overflow) (small : scene.core.write < 2 ^ 64) where
-  abbrev MovesFrom : QueueStart T → overflows.OverflowCall → Type 0
-  MovesFrom start call = IsCall scene start (Overflow call) → MovesOf en kinds.TheVariants.Overflow scene start (Overflow call)
-
-  overflow_step : Inv en kinds.TheVariants.Overflow scene → (start : QueueStart T) (call : overflows.OverflowCall)
-      → OverflowAt scene.capacity scene.roles scene.core scene.party start call
-      → scene.steps ≤ number_of en (Overflow call) scene.backs
-      → KnowsFlight scene.capacity scene.core scene.party scene.events scene.since scene.changes scene.backs (Overflow call)
-      → IsFreshAt {T = T} scene.core.write (Overflow call) → MovesFrom start call
-  overflow_step inv (PushIndex v) (overflows.TheVariants.Push run) at s b fresh is =
-      subst (λ n. MovesFrom (PushIndex v) (overflow_push_at n run.given run.room run.call.stage)) (sym at.1)
-      (subst (λ n. MovesFrom (PushIndex v) (overflow_push_at scene.capacity n run.room run.call.stage)) (sym at.2)
-      (λ is. overflow_push_step en scene inv small v run.room at.0 b run.call.stage fresh at.3 s is.0 is.1))
-      is
-  overflow_step inv Pop (overflows.TheVariants.Pop run) at s b fresh is =
-      subst (λ n. MovesFrom Pop (overflow_pop_at n run.room run.call.stage)) (sym at.1)
-      (λ is. overflow_pop_step en scene inv small run.room at.0 run.call.stage at.2 s b is.0 is.1) is
-  overflow_step inv start call at s b fresh is = absurd at
-
-module _ {T : Type 0} (en : Coding T) (law : IsCoding en) where
-  pub step_moves : (kd : QueueKind) (scene : Scene T kd) → scene.core.write < 2 ^ 64 → Inv en kd scene
-      → (start : QueueStart T) (flight : QueueFlight T)
-      → At en kd scene.capacity scene.roles scene.core scene.party start flight
-      → scene.steps ≤ number_of en flight scene.backs
-      → KnowsFlight scene.capacity scene.core scene.party scene.events scene.since scene.changes scene.backs flight
-      → IsFreshAt scene.core.write flight → IsCall scene start flight → MovesOf en kd scene start flight
-  step_moves kd scene small inv start (Role call) at s b fresh is =
-      of_step en kd scene inv start (Role call) is.1 (role_step en kd scene small inv start call at s b (ap (pending_at scene.core.read) is.0))
-  step_moves IndexQueue scene small inv start (Indices call) at s b fresh is =
-      of_step en IndexQueue scene inv start (Indices call) is.1
-      (index_step en law scene small inv start call at (fresh_ring en scene.core.write of_indices call fresh) s b
-      (ap (pending_at scene.core.read) is.0))
-  step_moves kinds.TheVariants.Overflow scene small inv start (Indices call) at s b fresh is = absurd at
-  step_moves kinds.TheVariants.Queue scene small inv start (Indices call) at s b fresh is = absurd at
-  step_moves IndexQueue scene small inv start (Values call) at s b fresh is = absurd at
-  step_moves kinds.TheVariants.Overflow scene small inv start (Values call) at s b fresh is = absurd at
-  step_moves kinds.TheVariants.Queue scene small inv start (Values call) at s b fresh is =
-      of_step en kinds.TheVariants.Queue scene inv start (Values call) is.1
-      (value_step en law scene small inv start call at (fresh_ring en scene.core.write of_values call fresh) s b
-      (ap (pending_at scene.core.read) is.0))
-  step_moves IndexQueue scene small inv start (Overflow call) at s b fresh is = absurd at
-  step_moves kinds.TheVariants.Overflow scene small inv start (Overflow call) at s b fresh is = overflow_step en scene small inv start call at s b fresh is
-  step_moves kinds.TheVariants.Queue scene small inv start (Overflow call) at s b fresh is = absurd at
-  step_moves kd scene small inv start (Length which call) at s b fresh is =
-      of_step en kd scene inv start (Length which call) is.1 (length_step en kd scene small inv start which call at s b (ap (pending_at scene.core.read) is.0))
-
--- ---- the laws of the family
-
-call_is : {T : Type 0} (kd : QueueKind) (c : ℕ) (start : QueueStart T) → call_of (machine_kind kd) c start ≡ first kd c start
-call_is x0 x1 x2 = grind arith
-
-some_mapped : {T : Type 0} → (o : Option (QueueFlight T)) (flight : QueueFlight T)
-    → option_map flights.TheVariants.Queues o ≡ Some (flights.TheVariants.Queues flight) → o ≡ Some flight
-some_mapped x0 x1 x2 = grind arith
-
-module _ {T : Type 0} (en : Coding T) (law : IsCoding en) (kd : QueueKind) (c : ℕ) (t : Trace T) (s : frame.Sound (family en kd c) t) where
-  pub write_is : get_or t.world.words 0 0 ≡ s.state.core.write
-  write_is = ap (λ ws. get_or ws 0 0) (kept_is t.world.kept t.world.words s.state s.fit).1
-
-  -- few turns are few positions
-  pub few_turns : t.world.turns < 2 ^ 64 - 2 → (p : ℕ) → IsFreshTurn t (Next p)
-  few_turns x0 x1 = grind arith
-
-module _ {T : Type 0} (en : Coding T) (law : IsCoding en) (kd : QueueKind) (c : ℕ) (t : Trace T) (s : frame.Sound (family en kd c) t) (p : ℕ) where
-  abbrev pub scene_of : Party T → ℕ → Scene T kd
-  scene_of x since =
-      record {
-        capacity = c;
-        roles = s.state.roles;
-        core = s.state.core;
-        party = p;
-        steps = x.steps;
-        backs = x.backs;
-        since = since;
-        changes = t.world.changes;
-        latest = t.world.latest;
-        events = t.events;
-        turns = t.world.turns;
-      }
-
-  pub inv_of : (x : Party T) (since : ℕ) → Inv en kd (scene_of x since)
-  inv_of x since = record { queue = s.holds; frame = s.inv }
-
-  module _ (x : Party T) (since : ℕ) where
-    -- what its step comes to where the words, what is kept, and the call's name are these
-    comes : IsFreshTurn t (Next p) → (start : Start T) (flight : Flight T)
-        → StandsThere (family en kd c) t s p x since start flight
-        → ComesFrom (family en kd c) t s p x since en (layout s.state.roles s.state.core)
-        (registries.TheVariants.Queues s.state.roles) start flight
-    comes fresh (Queues start) (flights.TheVariants.Queues flight) here =
-        let moves =
-        step_moves en law kd (scene_of x since) s.holds.within (inv_of x since) start flight here.at here.steps
-        here.knows
-        (subst (λ n. IsFreshAt n flight) (write_is en law kd c t s)
-        (fresh_there t.world.coding t.world.words flight (fresh (flights.TheVariants.Queues flight) here.found)))
-        (here.found, here.span) in
-        record {
-          state = record { roles = _; core = moves.0 };
-          fit = (moves.1, refl);
-          holds = holds_more en kd (scene_of x since) _ moves.0 _ _ _ s.holds moves.2;
-          owes = moves.3;
-        }
-    comes fresh start flight here = absurd here.at
-
-    pub step_comes : IsFreshTurn t (Next p) → (flight : Flight T) → party_of p t.world.latest ≡ Some x
-        → x.doing ≡ Going flight since
-        → frame.ComesByStep (family en kd c) t p x flight since (asked t.world.coding flight)
-        (old_of t.world.words (asked t.world.coding flight))
-    step_comes fresh flight found doing =
-        let is = kept_is t.world.kept t.world.words s.state s.fit in
-        comes_from (family en kd c) t s p x since (layout s.state.roles s.state.core)
-        (registries.TheVariants.Queues s.state.roles) flight is.1 is.0
-        (comes fresh x.start flight (stands_there (family en kd c) t s p x since flight found doing))
-
-  -- ---- a call begins
-
-  begins : (start : QueueStart T) (flight : QueueFlight T)
-      → IsFirst en kd c s.state.roles s.state.core p (t.events ++ Begun p (Queues start) ∷ []) t.world.changes start flight
-      → flight_of (doing_of (party_of p t.world.latest)) ≡ None
-      → frame.Comes (family en kd c) t p t.world.kept t.world.words
-      (party_at_begin (Queues start) (flights.TheVariants.Queues flight) t.world.changes)
-      (Begun p (Queues start) ∷ []) t.world.changes
-  begins start flight first free =
-      let y : Party T = party_at_begin (Queues start) (flights.TheVariants.Queues flight) t.world.changes in
-      let scene = scene_of y t.world.changes in
-      let k = s.state.core in
-      let pr = s.state.roles.producer in
-      let before : pending_at k.read (flight_of (doing_of (party_of p t.world.latest))) ≡ None = ap (pending_at k.read) free in
-      let low = s.holds.reached in
-      let shows : Shows en kd scene s.state.roles k (span_of p t.events) y (Begun p (Queues start) ∷ []) t.world.changes =
-      record {
-        right = (tt, tt);
-        lengths = (tt, tt);
-        grants = (tt, tt);
-        good = s.holds.good;
-        hangs =
-            hangs_same T kd c k k _ _ refl (pending_put k.read pr p y t.world.latest first.calm before) s.holds.hangs;
-        book = append-nil (map (item kd) k.waiting);
-        out = omega arith;
-        producers = refl;
-        consumers = refl;
-        goes = refl;
-        answers = refl;
-        up = record { write = omega arith; read = omega arith; paid = omega arith };
-        reached = omega arith;
-        within = s.holds.within;
-        own = (refl, tt);
-        stands = (frame.shut (family en kd c) s.state p (party_of p t.world.latest) (span_of p t.events) free (s.inv.calls p), tt);
-        here = record { span = ap (λ es. Open (Queues start) es) (sym first.wrote); steps = omega arith; at = first.at };
-        knows = first.knows;
-        others = λ q ne st f h. (h, refl);
-      }
+  -- what stands in a cell that holds a value
+  item_is : IsCoding en → (kd : QueueKind) (words : List ℕ) (cell : ℕ) (v : Val T kd) → cell + (encoded en kd).size ≤ length words
+      → ((i : ℕ) → i < (encoded en kd).size → get_or words (cell + i) 0 ≡ get_or ((encoded en kd).words_of v) i 0) → item_at en kd words cell ≡ item kd v
+  item_is law IndexQueue words cell v long held =
+      (let same : cell + 0 ≡ cell = omega arith in ap Index (ap (λ n. get_or words n 0) (sym same) ∙ held 0 (omega arith)))
+  item_is law kinds.TheVariants.Overflow words cell v long held =
+      (let same : cell + 0 ≡ cell = omega arith in ap Index (ap (λ n. get_or words n 0) (sym same) ∙ held 0 (omega arith)))
+  item_is law kinds.TheVariants.Queue words cell v long held =
+      let size = law.sized v in
+      let behind = length-drop cell words in
+      let same : take en.size (drop cell words) ≡ en.words_of v =
+      subst (λ n. take n (drop cell words) ≡ en.words_of v) size
+      (same_words (drop cell words) (en.words_of v) (omega arith) (λ i below. get_or-drop cell words i 0 ∙ held i (omega arith)))
       in
+      ap Value (ap en.value_of same ∙ law.given_back v)
+
+  stored_is :
+      IsCoding en → (kd : QueueKind) (c : ℕ) (words : List ℕ) (position : ℕ) (xs : List (Val T kd))
+      → ((i : ℕ) (v : Val T kd) → slice_get xs i ≡ Some v → item_at en kd words (cell_of en kd c (position + i)) ≡ item kd v)
+      → stored en kd c words position (length xs) ≡ map (item kd) xs
+  stored_is law kd c words position [] held = refl
+  stored_is law kd c words position (x ∷ xs) held =
+      let first : item_at en kd words (cell_of en kd c position) ≡ item kd x =
+      (let same : position + 0 ≡ position = omega arith in rw same at (held 0 x refl))
+      in
+      let rest =
+      stored_is law kd c words (position + 1) xs
+      (λ i v e. let same : position + 1 + i ≡ position + suc i = omega arith in rw same (held (suc i) v e)) in
+      rw (first, rest) refl
+
+  stored_waiting : IsCoding en → (kd : QueueKind) (c : ℕ) (ro : Roles) (k : Core (Val T kd))
+      → Good (encoded en kd).size (encoded en kd).words_of (cells_of kd c) k
+      → waiting_in en kd c (layout ro k) ≡ map (item kd) k.waiting
+  stored_waiting law kd c ro k g =
+      let write = g.write in
+      let many : k.write - k.read ≡ length k.waiting = omega arith in
+      rw many
+      (stored_is law kd c (layout ro k) k.read k.waiting held)
+    where
+      n : ℕ
+      n = cells_of kd c
+
+      size : ℕ
+      size = (encoded en kd).size
+
+      held : (i : ℕ) (v : Val T kd) → slice_get k.waiting i ≡ Some v → item_at en kd (layout ro k) (cell_of en kd c (k.read + i)) ≡ item kd v
+      held i v e =
+          let below = at_below size (encoded en kd).words_of n k.waiting i v e in
+          let few = g.few in
+          let some : 0 < n = omega arith in
+          let first : cell_of en kd c (k.read + i) ≡ 4 + size * ((k.read + i) % n) =
+          ap (λ m. cell_word n m (k.read + i)) (cell_size en kd) ∙ cell_place size n (k.read + i) some in
+          let low : (k.read + i) % n < n = omega arith in
+          let step : size * ((k.read + i) % n + 1) ≤ size * n = mul-le-mul_left size (omega arith) in
+          let all = g.cells in
+          let word : (j : ℕ) → j < size → get_or (layout ro k) (4 + size * ((k.read + i) % n) + j) 0 ≡ get_or ((encoded en kd).words_of v) j 0 =
+          λ j js.
+          word_at k.write k.read (free ro.producer) (free ro.consumer) k.cells (4 + size * ((k.read + i) % n) + j) (size * ((k.read + i) % n) + j) (omega arith)
+          ∙ g.held i v e j js
+          in
+          subst (λ m. item_at en kd (layout ro k) m ≡ item kd v) (sym first)
+          (item_is law kd (layout ro k) (4 + size * ((k.read + i) % n)) v (omega arith) word)
+
+  listed_is : (kd : QueueKind) (c : ℕ) (k : Core (Val T kd))
+      → Good (encoded en kd).size (encoded en kd).words_of (cells_of kd c) k
+      → listed {T = T} kd c k.waiting ≡ take c (map (item kd) k.waiting)
+  listed_is IndexQueue c k g =
+      let few = g.few in
+      let long : length (map {B = Item T} (item IndexQueue) k.waiting) ≡ length k.waiting = length-map k.waiting (item {T = T} IndexQueue) in
+      sym (take_all c (map {B = Item T} (item IndexQueue) k.waiting) (omega arith))
+  listed_is kinds.TheVariants.Queue c k g =
+      let few = g.few in
+      let long : length (map {B = Item T} (item kinds.TheVariants.Queue) k.waiting) ≡ length k.waiting =
+      length-map k.waiting (item {T = T} kinds.TheVariants.Queue) in
+      sym (take_all c (map {B = Item T} (item kinds.TheVariants.Queue) k.waiting) (omega arith))
+  listed_is kinds.TheVariants.Overflow c k g = sym (take-map (item {T = T} kinds.TheVariants.Overflow) c k.waiting)
+
+  -- ---- what is promised
+
+  queue_kept : IsCoding en → (kd : QueueKind) (c : ℕ) (t : Trace T) → t.world.coding ≡ en → t.world.capacity ≡ c
+      → (s : frame.Sound (family en kd c) t) → IsQueue kd t
+  queue_kept law kd c t same_coding same_capacity s =
+      let w = t.world in
+      let k = s.state.core in
+      let good = s.holds.good in
+      let rest : waiting_in en kd c w.words ≡ map (item kd) k.waiting = ap (waiting_in en kd c) s.fit.1 ∙ stored_waiting law kd c s.state.roles k good in
+      let long : length (map {B = Item T} (item kd) k.waiting) ≡ length k.waiting = length-map k.waiting (item {T = T} kd) in
+      let few = good.few in
+      let read : get_or w.words 1 0 ≡ k.read = ap (λ ws. get_or ws 1 0) s.fit.1 in
+      let write : get_or w.words 0 0 ≡ k.write = ap (λ ws. get_or ws 0 0) s.fit.1 in
+      let ahead = good.write in
+      let joined : length (published t.events) ≡ length (handed_out t.events) + length k.waiting =
+      ap length s.holds.book ∙ (length-append (handed_out t.events) (map (item kd) k.waiting) ∙ ap (λ n. length (handed_out t.events) + n) long)
+      in
+      let out = s.holds.out in
       record {
-        state = s.state;
-        fit = s.fit;
-        holds = holds_more en kd scene _ _ _ _ _ s.holds (queue_part en kd scene _ _ _ _ _ _ shows);
-        owes = owes en kd scene _ _ _ _ _ _ shows refl (inv_of y t.world.changes);
+        list =
+            rw same_capacity
+            (s.holds.stand ∙ (listed_is kd c k s.holds.good ∙ ap (take c) (sym (waiting_is t.events (map (item kd) k.waiting) s.holds.book))));
+        moments = rw same_capacity s.holds.legal;
+        book =
+            record {
+              read = read ∙ out;
+              write = write ∙ (omega arith);
+              rest = rw (same_coding, same_capacity, rest) s.holds.book;
+              few = rw (same_coding, same_capacity, rest) (omega arith);
+            };
+        answers = rw same_capacity s.holds.answers;
+        lengths = rw same_capacity s.holds.lengths;
+        roles = s.holds.grants;
+        holders = subst (λ kept. KeepsHolders kept t.events) (sym s.fit.0) (sym s.holds.producers, sym s.holds.consumers);
       }
 
-  pub begin_comes : (start : Start T) (flight : Flight T) → MayBegin t.world p start → first_of t.world.kind t.world.capacity start t.world.kept ≡ Some flight
-      → frame.Comes (family en kd c) t p (kept_after_begin t.world.coding t.world.capacity start p t.world.kept)
-      t.world.words (party_at_begin start flight t.world.changes) (Begun p start ∷ []) t.world.changes
-  begin_comes (Queues start) (flights.TheVariants.Queues flight) may e =
-      let is = kept_is t.world.kept t.world.words s.state s.fit in
-      let rows : first_row (kept_rows start (registries.TheVariants.Queues s.state.roles) p) ≡ None =
-      subst (λ kept. first_row (kept_rows start kept p) ≡ None) is.0 may.rows in
-      let role = (row_passed (lacks_role s.state.roles p start) NoRole None rows).0 in
-      let named : first_of (machine_kind kd) c (Queues start) t.world.kept ≡ Some (flights.TheVariants.Queues flight) = rw (s.kind, s.capacity) at e in
-      let called : first kd c start ≡ Some flight = sym (call_is kd c start) ∙ some_mapped (call_of (machine_kind kd) c start) flight named in
-      begins start flight (first_is en law c s.state.roles p (t.events ++ Begun p (Queues start) ∷ []) t.world.changes kd s.state.core
-      start flight called role)
-      may.free
-  begin_comes start flight may e = grind arith
+promise_is : {T : Type 0} (kd : QueueKind) → promise_of {T = T} (machine_kind kd) ≡ promise kd
+promise_is x0 = grind arith
 
-pub asks_nothing : {T A : Type 0}
-    → (en : Coding T) (kd : QueueKind) (c : ℕ) (t : Trace T) (p : ℕ) (x : Party T) (flight : Flight T) (since : ℕ)
-    (s : frame.Sound (family en kd c) t)
-    → party_of p t.world.latest ≡ Some x → x.doing ≡ Going flight since
-    → is_question (want_of t.world.coding flight) ≡ true → A
-asks_nothing x0 x1 x2 x3 x4 x5 x6 x7 x8 x9 x10 x11 = grind arith
+-- ---- a queue as it opens
 
 abbrev empty_core : {T : Type 0} → Coding T → (kd : QueueKind) → ℕ → Core (Val T kd)
 empty_core en kd c = record { write = 0; read = 0; waiting = []; cells = replicate (words_of_cell en.size kd * cells_of kd c) 0 }
@@ -341,49 +175,23 @@ opening_fits : {T : Type 0} → (en : Coding T) (kd : QueueKind) (c : ℕ)
     → Represents ((opening_of (machine_kind kd)).kept {T = T} c) ((opening_of (machine_kind kd)).words en.size c) (empty_queue en kd c)
 opening_fits x0 x1 x2 = grind arith
 
-pub cell_size : {T : Type 0} → (en : Coding T) (kd : QueueKind) → words_of_cell en.size kd ≡ (encoded en kd).size
-cell_size en IndexQueue = refl
-cell_size en kinds.TheVariants.Overflow = refl
-cell_size en kinds.TheVariants.Queue = refl
-
 pub admitted_fits : (kd : QueueKind) (c : ℕ) → capacity_error (machine_kind kd) c ≡ None → c < 2 ^ 32
 admitted_fits x0 x1 x2 = grind arith
 
 module _ {T : Type 0} (en : Coding T) (law : IsCoding en) where
-  pub fresh_laws : (kd : QueueKind) (c : ℕ) → frame.LawsWhere (family {T = T} en kd c) IsFreshTurn
-  fresh_laws kd c =
-      record {
-        step = λ t p x flight since s fresh passed found doing. step_comes en law kd c t s p x since fresh flight found doing;
-        decision = λ t p x flight since said s small passed found doing asks. asks_nothing en kd c t p x flight since s found doing asks;
-        begin = λ t p start flight s fresh may e. begin_comes en law kd c t s p start flight may e;
-        death = frame.no_death (family en kd c) (λ kept words state fit. rw (kept_is kept words state fit).0 refl);
-      }
-
-  -- those of a machine that can take a turn more
-  pub laws : (kd : QueueKind) (c : ℕ) → frame.Laws (family {T = T} en kd c)
-  laws kd c =
-      let on = fresh_laws kd c in
-      record {
-        step = λ t p x flight since s small passed found doing. on.step t p x flight since s (few_turns en law kd c t s small p) passed found doing;
-        decision = λ t p x flight since said s small passed found doing asks. on.decision t p x flight since said s tt passed found doing asks;
-        begin = λ t p start flight s small may e. on.begin t p start flight s tt may e;
-        death = on.death;
-      }
-
   empty : (kd : QueueKind) (c : ℕ) → (list_of {T = T} kd c).opening ≡ listed kd c []
   empty IndexQueue c = refl
   empty kinds.TheVariants.Overflow c = sym (ap (map (item kinds.TheVariants.Overflow)) (take-nil {A = ℕ} c))
   empty kinds.TheVariants.Queue c = refl
 
-  pub opening_sound : (kd : QueueKind) (c parties : ℕ) → c < 2 ^ 32 → frame.Sound (family en kd c) (opening en (machine_kind kd) c parties)
-  opening_sound kd c parties fits =
+  opens : (kd : QueueKind) (c : ℕ) → c < 2 ^ 32 → Opens (outline kd) en c
+  opens kd c fits =
       let k : Core (Val T kd) = empty_core en kd c in
+      let is = opening_fits en kd c in
       record {
-        coding = refl;
-        kind = refl;
-        capacity = refl;
         state = empty_queue en kd c;
-        fit = opening_fits en kd c;
+        kept = is.0;
+        words = is.1;
         holds =
             record {
               fits = fits;
@@ -407,31 +215,81 @@ module _ {T : Type 0} (en : Coding T) (law : IsCoding en) where
               reached = omega arith;
               within = omega arith;
             };
-        inv = record { spans = Each-nil _; calls = λ p. refl; knows = λ p. tt };
       }
 
-no_loan : (kd : QueueKind) → is_loan (machine_kind kd) ≡ false
-no_loan x0 = grind arith
+  pub opening_sound : (kd : QueueKind) (c parties : ℕ) → c < 2 ^ 32 → frame.Sound (family en kd c) (opening en (machine_kind kd) c parties)
+  opening_sound kd c parties fits = laws.opening_sound (outline kd) en c (opens kd c fits) parties
 
-pub reached_sound : {T : Type 0} (kd : QueueKind) (t : Trace T) → t.world.kind ≡ machine_kind kd → IsReached t
-    → frame.Sound (family t.world.coding kd t.world.capacity) t
-reached_sound kd t is r =
-    let w = t.world in
-    let admitted : capacity_error (machine_kind kd) w.capacity ≡ None = subst (λ kind. capacity_error kind w.capacity ≡ None) is r.admitted in
-    let first = opening_sound w.coding r.coded kd w.capacity w.parties (admitted_fits kd w.capacity admitted) in
-    frame.reached_sound (family w.coding kd w.capacity) (laws w.coding r.coded kd w.capacity) t (ap is_loan is ∙ no_loan kd)
-    (subst (λ kind. frame.Sound (family w.coding kd w.capacity) (opening w.coding kind w.capacity w.parties)) (sym is) first)
-    r
+  -- ---- the laws of the family
 
--- where turns have no bound, and no call finds the last number
-pub sound_on : {T : Type 0} (kd : QueueKind) (t : Trace T) → t.world.kind ≡ machine_kind kd
-    → IsCoding t.world.coding → capacity_error t.world.kind t.world.capacity ≡ None → IsFreshRun t
-    → frame.Sound (family t.world.coding kd t.world.capacity) t
-sound_on kd t is coded admits r =
-    let w = t.world in
-    let admitted : capacity_error (machine_kind kd) w.capacity ≡ None = subst (λ kind. capacity_error kind w.capacity ≡ None) is admits in
-    let first = opening_sound w.coding coded kd w.capacity w.parties (admitted_fits kd w.capacity admitted) in
-    subst (frame.Sound (family w.coding kd w.capacity)) (sym r.is)
-    (run_sound (family w.coding kd w.capacity) IsFreshTurn (fresh_laws w.coding coded kd w.capacity) r.turns
-    (opening w.coding w.kind w.capacity w.parties) r.fresh
-    (subst (λ kind. frame.Sound (family w.coding kd w.capacity) (opening w.coding kind w.capacity w.parties)) (sym is) first))
+  -- a call of a queue goes on as its table says
+  told : (kd : QueueKind) (c : ℕ) (s : Queue (Val T kd)) (p : ℕ) (start : Start T) (flight : Flight T) → (family en kd c).At s p start flight
+      → (z : Coding T) (words : List ℕ) (beside : Option (ℕ × ℕ)) (answer : ℕ)
+      → (step_of z words beside p start flight answer (registries.TheVariants.Queues s.roles)).after
+      ≡ goes_of z p flight answer (registries.TheVariants.Queues s.roles)
+  told x0 x1 x2 x3 x4 x5 x6 x7 x8 x9 x10 = grind arith
+
+  turns : (kd : QueueKind) (c : ℕ) → Turns (outline kd) en c IsFreshTurn
+  turns kd c =
+      record {
+        begin = λ t s p start flight may e rows. begin_comes en law kd c t s p start flight may e rows;
+        step = λ t s p x since fresh found start flight rows here. comes en law kd c t s p x since fresh start flight here;
+        decision = λ t s p x since said may found start flight rows asks here.
+            laws.asks_none _ (no_question en kd c s.state p start flight here.at) asks;
+        death = frame.no_death (family en kd c) (λ kept words state fit. rw fit.0 refl);
+      }
+
+  owed : (kd : QueueKind) (c : ℕ) → Owed (outline kd) en c
+  owed kd c =
+      record {
+        promise = promise_is kd;
+        bounds = bounds en kd c;
+        promised = λ t s few. queue_kept en law kd c t s.coding s.capacity s;
+        writes = λ t s p x since. writes en law kd c t s p x since;
+        decides = λ t s p x since said start flight asks here. laws.asks_none _ (no_question en kd c s.state p start flight here.at) asks;
+        goes = told kd c;
+        tells = λ t turn e s. tt;
+      }
+
+  pub fresh_laws : (kd : QueueKind) (c : ℕ) → frame.LawsWhere (family en kd c) IsFreshTurn
+  fresh_laws kd c = laws.laws (outline kd) en c IsFreshTurn (turns kd c)
+
+module _ {T : Type 0} (kd : QueueKind) where
+  few : (code : Coding T) (c : ℕ) (t : Trace T) (turn : Turn T) → frame.Sound (family code kd c) t → t.world.turns < 2 ^ 64 - 2 → IsFreshTurn t turn
+  few code c t (Next p) s small = few_turns code kd c t s small p
+  few code c t turn s small = tt
+
+  all_turns : AllTurns {T = T} (outline kd) IsFreshTurn
+  all_turns =
+      record {
+        opens = λ code c coded admitted. opens code coded kd c (admitted_fits kd c admitted);
+        turns = λ code c coded admitted. turns code coded kd c;
+        few = few;
+      }
+
+  owes : OwesAll {T = T} (outline kd)
+  owes code c coded admitted = owed code coded kd c
+
+  -- what is proved of every run of a queue
+  pub queue_keeps : Keeps T (machine_kind kd)
+  queue_keeps = laws.keeps (outline kd) IsFreshTurn all_turns owes
+
+  -- a promise of the kind is the queue's
+  pub promised_by : (t : Trace T) → t.world.kind ≡ machine_kind kd → promise_of {T = T} t.world.kind ≡ promise kd
+  promised_by t is = ap (promise_of {T = T}) is ∙ promise_is kd
+
+  -- the same where turns have no bound, and no push finds the last position
+  module _ (t : Trace T) (is : t.world.kind ≡ machine_kind kd) (coded : IsCoding t.world.coding)
+      (admitted : capacity_error t.world.kind t.world.capacity ≡ None) (r : IsFreshRun t) where
+    pub sound_on : frame.Sound (family t.world.coding kd t.world.capacity) t
+    sound_on =
+        let w = t.world in
+        let F = family w.coding kd w.capacity in
+        subst (frame.Sound F) (sym r.is)
+        (run_sound F IsFreshTurn (fresh_laws w.coding coded kd w.capacity) r.turns (opening w.coding w.kind w.capacity w.parties) r.fresh
+        (laws.opening_there (outline kd) IsFreshTurn all_turns t is coded admitted))
+
+    pub kept_on : IsKept t
+    kept_on =
+        laws.kept_by (outline kd) IsFreshTurn all_turns owes t is coded admitted sound_on
+        (queue_kept t.world.coding coded kd t.world.capacity t refl refl sound_on)

@@ -11,7 +11,7 @@ use Rattle.model.specs.Linearized.{as_list, IsLinearized}
 use Rattle.model.specs.Progress.{KeepsGuarantees}
 use Rattle.model.proofs.Linearizable.Kinds.{run_linearizable}
 use Rattle.model.proofs.Progress.{keeps_guarantees}
-use Rattle.laws_queues.proofs.Queues.Kept.{kept_on}
+use Rattle.laws_queues.proofs.Queues.Sound.{kept_on}
 use Rattle.history.proofs.Reached.{queue_run}
 use Rattle.lock_free_queues.specs.Queues.Bounded.{IsBounded, machine_kind}
 use Rattle.lock_free_queues.specs.Queues.Positions.{IsPublished, IsTaken, IsSound, IsOverSound}

@@ -1,0 +1,311 @@
+-- What each step of a queue's call comes to, and each begin of one.
+use Rattle.laws_queues.proofs.Names.{◌≡◌, ℕ, ◌-◌, ◌^◌, ◌<◌, ◌≤◌, false, Option, Some, None, option_map}
+use Rattle.laws_queues.proofs.Names.{List, [], ◌∷◌, ◌++◌, map, get_or, refl, sym, ap, subst, ◌∙◌}
+use Rattle.laws_queues.proofs.Names.{append-nil, OneWord, Len, Running, Begun, Start}
+use Rattle.laws_queues.proofs.Names.{Queues, Flight, QueueStart, AcquireProducer, ReleaseProducer}
+use Rattle.laws_queues.proofs.Names.{AcquireConsumer, ReleaseConsumer, PushIndex, Push, Pop, IsEmpty, IsFull}
+use Rattle.laws_queues.proofs.Names.{RoleCall, Acquire, Release, LengthOf, QueueFlight, Role, Indices, Values, Length}
+use Rattle.laws_queues.proofs.Names.{Party, QueueKind, IndexQueue, Coding, IsCoding, one_word}
+use Rattle.laws_queues.proofs.Names.{first_of, want_of, ask_of, is_question, kept_after_begin, acquire_of, release_of}
+use Rattle.laws_queues.proofs.Names.{first, lacks_role, call_of}
+use Rattle.laws_queues.proofs.Names.{pending_at, party_of, doing_of, flight_of, Open, span_of, first_row, old_of}
+use Rattle.laws_queues.proofs.Names.{party_at_begin, Next, Trace}
+use Rattle.laws_queues.proofs.Names.{row_passed, MayBegin, StandsThere, ComesFrom}
+use Rattle.std.proofs.Common.{arith}
+use Rattle.steps.specs.declared.copied.Buffer as cells
+use Rattle.model.specs.declared.families.Flight as flights
+use Rattle.model.specs.declared.families.Registry as registries
+use Rattle.model.specs.declared.families.queues.QueueStart as starts
+use Rattle.model.specs.declared.families.queues.calls.RingCall as rings
+use Rattle.model.specs.declared.families.queues.calls.OverflowCall as overflows
+use Rattle.model.specs.declared.families.queues.calls.LengthOf as measures
+use Rattle.model.specs.declared.families.queues.calls.QueueFlight.TheVariants.{Overflow}
+use Rattle.model.specs.declared.families.queues.QueueKind as kinds
+use Rattle.model.specs.declared.turn.Refusal.TheVariants.{NoRole}
+use Rattle.model.specs.Families.{begin_of}
+use Rattle.model.proofs.Frame as frame
+use Rattle.laws_queues.proofs.Overflow.Knows.{overflow_push_at, overflow_pop_at, OverflowAt}
+use Rattle.laws_queues.proofs.Overflow.Pops.{overflow_pop_step}
+use Rattle.laws_queues.proofs.Overflow.Pushes.{overflow_push_step}
+use Rattle.laws_queues.proofs.Queues.Begins.{IsFirst, first_is}
+use Rattle.laws_queues.proofs.Queues.Fresh.{IsFreshTurn, fresh_there}
+use Rattle.laws_queues.proofs.Queues.Invariant.{Queue, machine_kind, Scene, Inv, Shows, family, holds_more, owes, queue_part}
+use Rattle.laws_queues.proofs.Queues.Knows.{IsFreshAt, layout, len_at, in_one, in_cell, has_written}
+use Rattle.laws_queues.proofs.Queues.Knows.{KnowsLen, KnowsFlight, number_of, RoleAt, LengthAt, IndexAt, ValueAt, At}
+use Rattle.laws_queues.proofs.Queues.Lengths.{len_step, is_empty_step, is_full_step}
+use Rattle.laws_queues.proofs.Queues.Pending.{pending_put, hangs_same}
+use Rattle.laws_queues.proofs.Queues.Roles.{acquires_producer, acquires_consumer, releases_producer, releases_consumer}
+use Rattle.laws_queues.proofs.Queues.Stages.{IsCalm, DoesStep, StepOf, MovesOf, of_step}
+use Rattle.laws_queues.proofs.Queues.Values.{Val, encoded, item}
+use Rattle.laws_queues.proofs.Ring.Kinds as ring
+use Rattle.laws_queues.proofs.Ring.Kinds.{Ring, of_indices, of_values, kind_of, Room, words_in, ring_want, ring_after, ring_effect}
+use Rattle.laws_queues.proofs.Ring.Knows.{IsFresh, push_at, pop_at, ring_number, PushAt, PopAt}
+use Rattle.laws_queues.proofs.Ring.Pops.{pop_step}
+use Rattle.laws_queues.proofs.Ring.Pushes.{push_step}
+
+-- ---- one step of a call
+
+module _ {T : Type 0} (en : Coding T) (kd : QueueKind) (scene : Scene T kd) (small : scene.core.write < 2 ^ 64) (inv : Inv en kd scene) where
+  role_step : (start : QueueStart T) (call : RoleCall) → RoleAt scene.roles scene.party start call → scene.steps ≤ 0
+      → scene.backs ≡ 0 → IsCalm en kd scene scene.core.read → StepOf en kd scene start (Role call)
+  role_step AcquireProducer (Acquire run) at s b before =
+      subst (λ w. StepOf en kd scene AcquireProducer (acquire_of w)) (sym at) (acquires_producer en kd scene small s b inv before)
+  role_step ReleaseProducer (Release run) at s b before =
+      subst (λ w. StepOf en kd scene ReleaseProducer (release_of w)) (sym at.0) (releases_producer en kd scene small s b at.1 inv before)
+  role_step AcquireConsumer (Acquire run) at s b before =
+      subst (λ w. StepOf en kd scene AcquireConsumer (acquire_of w)) (sym at) (acquires_consumer en kd scene small s b inv before)
+  role_step ReleaseConsumer (Release run) at s b before =
+      subst (λ w. StepOf en kd scene ReleaseConsumer (release_of w)) (sym at.0) (releases_consumer en kd scene small s b at.1 inv before)
+  role_step start call at s b before = absurd at
+
+  length_step : (start : QueueStart T) (which : LengthOf) (run : Running Len (Unit {0}) (Unit {0}))
+      → LengthAt scene.capacity start which run.call.capacity
+      → scene.steps ≤ number_of en (Length which run) scene.backs
+      → KnowsLen scene.capacity scene.core scene.party scene.events scene.since scene.changes scene.backs run.call.stage
+      → IsCalm en kd scene scene.core.read → StepOf en kd scene start (Length which run)
+  length_step starts.TheVariants.Len measures.TheVariants.Len run at s b before =
+      subst (λ n. StepOf en kd scene starts.TheVariants.Len (Length measures.TheVariants.Len (len_at n run.call.stage)))
+      (sym at) (len_step en kd scene inv small before run.call.stage s b)
+  length_step IsEmpty measures.TheVariants.IsEmpty run at s b before =
+      subst (λ n. StepOf en kd scene IsEmpty (Length measures.TheVariants.IsEmpty (len_at n run.call.stage)))
+      (sym at) (is_empty_step en kd scene inv small before run.call.stage s b)
+  length_step IsFull measures.TheVariants.IsFull run at s b before =
+      subst (λ n. StepOf en kd scene IsFull (Length measures.TheVariants.IsFull (len_at n run.call.stage))) (sym at)
+      (is_full_step en kd scene inv small before run.call.stage s b)
+  length_step start which call at s b before = absurd at
+
+abbrev IsFreshRing : {V R : Type 0} → ℕ → rings.RingCall V R → Type 0
+IsFreshRing write (rings.TheVariants.Push run) = IsFresh write run.call.stage
+IsFreshRing write (rings.TheVariants.Pop run) = Unit {0}
+
+fresh_ring : {T : Type 0} (en : Coding T) (write : ℕ) (r : Ring) (call : rings.RingCall (Val T (kind_of r)) (Room r))
+    → IsFreshAt {T = T} write (ring.flight r call) → IsFreshRing write call
+fresh_ring en write of_indices (rings.TheVariants.Push run) h = h
+fresh_ring en write of_indices (rings.TheVariants.Pop run) h = tt
+fresh_ring en write of_values (rings.TheVariants.Push run) h = h
+fresh_ring en write of_values (rings.TheVariants.Pop run) h = tt
+
+-- a bounded queue of either kind
+module _ {T : Type 0} (en : Coding T) (law : IsCoding en) (r : Ring) (scene : Scene T (kind_of r))
+    (small : scene.core.write < 2 ^ 64) (inv : Inv en (kind_of r) scene) (b : scene.backs ≡ 0)
+    (before : IsCalm en (kind_of r) scene scene.core.read) where
+  abbrev words : List ℕ
+  words = layout scene.roles scene.core
+
+  abbrev RingStep : QueueStart T → rings.RingCall (Val T (kind_of r)) (Room r) → Type 0
+  RingStep start call =
+      DoesStep en (kind_of r) scene [] start (ask_of (ring_want en r call)) false
+      (ring_after en r call (old_of words (ask_of (ring_want en r call)))) (ring_effect en r call)
+
+  push_call : (v : Val T (kind_of r)) (call : rings.RingCall (Val T (kind_of r)) (Room r))
+      → PushAt (encoded en (kind_of r)) (words_in r) scene.capacity scene.roles scene.core scene.party v call
+      → scene.steps ≤ ring_number (encoded en (kind_of r)) (words_in r) call → IsFreshRing scene.core.write call → RingStep (ring.push r v) call
+  push_call v (rings.TheVariants.Push run) at s fresh =
+      subst (λ n. RingStep (ring.push r v) (push_at n run.given run.call.stage)) (sym at.1)
+      (subst (λ n. RingStep (ring.push r v) (push_at scene.capacity n run.call.stage)) (sym at.2)
+      (push_step en r law scene inv small before v at.0 b run.call.stage fresh at.3 s))
+  push_call v (rings.TheVariants.Pop run) at s fresh = absurd at
+
+  pop_call : (call : rings.RingCall (Val T (kind_of r)) (Room r))
+      → PopAt (encoded en (kind_of r)) (words_in r) scene.capacity scene.roles scene.core scene.party call
+      → scene.steps ≤ ring_number (encoded en (kind_of r)) (words_in r) call → RingStep Pop call
+  pop_call (rings.TheVariants.Push run) at s = absurd at
+  pop_call (rings.TheVariants.Pop run) at s =
+      subst (λ n. RingStep Pop (pop_at n run.room run.call.stage)) (sym at.1) (pop_step en r law scene inv small before run.room at.0 b run.call.stage at.2 s)
+
+module _ {T : Type 0} (en : Coding T) (law : IsCoding en) where
+  index_step : (scene : Scene T IndexQueue) → scene.core.write < 2 ^ 64 → Inv en IndexQueue scene
+      → (start : QueueStart T) (call : rings.RingCall ℕ OneWord)
+      → IndexAt IndexQueue scene.capacity scene.roles scene.core scene.party start call
+      → IsFreshRing scene.core.write call → scene.steps ≤ ring_number one_word in_one call → scene.backs ≡ 0
+      → IsCalm en IndexQueue scene scene.core.read → StepOf en IndexQueue scene start (Indices call)
+  index_step scene small inv (PushIndex v) (rings.TheVariants.Push run) at fresh s b before =
+      push_call en law of_indices scene small inv b before v (rings.TheVariants.Push run) at s fresh
+  index_step scene small inv Pop (rings.TheVariants.Pop run) at fresh s b before =
+      pop_call en law of_indices scene small inv b before (rings.TheVariants.Pop run) at s
+  index_step scene small inv start call at fresh s b before = absurd at
+
+  value_step : (scene : Scene T kinds.TheVariants.Queue) → scene.core.write < 2 ^ 64
+      → Inv en kinds.TheVariants.Queue scene → (start : QueueStart T) (call : rings.RingCall T (cells.Buffer 128))
+      → ValueAt en kinds.TheVariants.Queue scene.capacity scene.roles scene.core scene.party start call
+      → IsFreshRing scene.core.write call → scene.steps ≤ ring_number en in_cell call → scene.backs ≡ 0
+      → IsCalm en kinds.TheVariants.Queue scene scene.core.read
+      → StepOf en kinds.TheVariants.Queue scene start (Values call)
+  value_step scene small inv (Push v) (rings.TheVariants.Push run) at fresh s b before =
+      push_call en law of_values scene small inv b before v (rings.TheVariants.Push run) at s fresh
+  value_step scene small inv Pop (rings.TheVariants.Pop run) at fresh s b before =
+      pop_call en law of_values scene small inv b before (rings.TheVariants.Pop run) at s
+  value_step scene small inv start call at fresh s b before = absurd at
+
+-- where the party's call stands
+abbrev IsCall : {T : Type 0} → {kd : QueueKind} → Scene T kd → QueueStart T → QueueFlight T → Type 0
+IsCall scene start flight =
+    (flight_of (doing_of (party_of scene.party scene.latest)) ≡ Some (flights.TheVariants.Queues flight))
+    × (span_of scene.party scene.events ≡ Open (Queues start) (has_written scene.capacity scene.core scene.party flight))
+
+module _ {T : Type 0} (en : Coding T) (scene : Scene T kinds.TheVariants.Overflow) (small : scene.core.write < 2 ^ 64) where
+  abbrev MovesFrom : QueueStart T → overflows.OverflowCall → Type 0
+  MovesFrom start call = IsCall scene start (Overflow call) → MovesOf en kinds.TheVariants.Overflow scene start (Overflow call)
+
+  overflow_step : Inv en kinds.TheVariants.Overflow scene → (start : QueueStart T) (call : overflows.OverflowCall)
+      → OverflowAt scene.capacity scene.roles scene.core scene.party start call
+      → scene.steps ≤ number_of en (Overflow call) scene.backs
+      → KnowsFlight scene.capacity scene.core scene.party scene.events scene.since scene.changes scene.backs (Overflow call)
+      → IsFreshAt {T = T} scene.core.write (Overflow call) → MovesFrom start call
+  overflow_step inv (PushIndex v) (overflows.TheVariants.Push run) at s b fresh is =
+      subst (λ n. MovesFrom (PushIndex v) (overflow_push_at n run.given run.room run.call.stage)) (sym at.1)
+      (subst (λ n. MovesFrom (PushIndex v) (overflow_push_at scene.capacity n run.room run.call.stage)) (sym at.2)
+      (λ is. overflow_push_step en scene inv small v run.room at.0 b run.call.stage fresh at.3 s is.0 is.1))
+      is
+  overflow_step inv Pop (overflows.TheVariants.Pop run) at s b fresh is =
+      subst (λ n. MovesFrom Pop (overflow_pop_at n run.room run.call.stage)) (sym at.1)
+      (λ is. overflow_pop_step en scene inv small run.room at.0 run.call.stage at.2 s b is.0 is.1) is
+  overflow_step inv start call at s b fresh is = absurd at
+
+module _ {T : Type 0} (en : Coding T) (law : IsCoding en) where
+  pub step_moves : (kd : QueueKind) (scene : Scene T kd) → scene.core.write < 2 ^ 64 → Inv en kd scene
+      → (start : QueueStart T) (flight : QueueFlight T)
+      → At en kd scene.capacity scene.roles scene.core scene.party start flight
+      → scene.steps ≤ number_of en flight scene.backs
+      → KnowsFlight scene.capacity scene.core scene.party scene.events scene.since scene.changes scene.backs flight
+      → IsFreshAt scene.core.write flight → IsCall scene start flight → MovesOf en kd scene start flight
+  step_moves kd scene small inv start (Role call) at s b fresh is =
+      of_step en kd scene inv start (Role call) is.1 (role_step en kd scene small inv start call at s b (ap (pending_at scene.core.read) is.0))
+  step_moves IndexQueue scene small inv start (Indices call) at s b fresh is =
+      of_step en IndexQueue scene inv start (Indices call) is.1
+      (index_step en law scene small inv start call at (fresh_ring en scene.core.write of_indices call fresh) s b
+      (ap (pending_at scene.core.read) is.0))
+  step_moves kinds.TheVariants.Overflow scene small inv start (Indices call) at s b fresh is = absurd at
+  step_moves kinds.TheVariants.Queue scene small inv start (Indices call) at s b fresh is = absurd at
+  step_moves IndexQueue scene small inv start (Values call) at s b fresh is = absurd at
+  step_moves kinds.TheVariants.Overflow scene small inv start (Values call) at s b fresh is = absurd at
+  step_moves kinds.TheVariants.Queue scene small inv start (Values call) at s b fresh is =
+      of_step en kinds.TheVariants.Queue scene inv start (Values call) is.1
+      (value_step en law scene small inv start call at (fresh_ring en scene.core.write of_values call fresh) s b
+      (ap (pending_at scene.core.read) is.0))
+  step_moves IndexQueue scene small inv start (Overflow call) at s b fresh is = absurd at
+  step_moves kinds.TheVariants.Overflow scene small inv start (Overflow call) at s b fresh is = overflow_step en scene small inv start call at s b fresh is
+  step_moves kinds.TheVariants.Queue scene small inv start (Overflow call) at s b fresh is = absurd at
+  step_moves kd scene small inv start (Length which call) at s b fresh is =
+      of_step en kd scene inv start (Length which call) is.1 (length_step en kd scene small inv start which call at s b (ap (pending_at scene.core.read) is.0))
+
+-- ---- what a turn comes to
+
+call_is : {T : Type 0} (kd : QueueKind) (c : ℕ) (start : QueueStart T) → call_of (machine_kind kd) c start ≡ first kd c start
+call_is x0 x1 x2 = grind arith
+
+some_mapped : {T : Type 0} → (o : Option (QueueFlight T)) (flight : QueueFlight T)
+    → option_map flights.TheVariants.Queues o ≡ Some (flights.TheVariants.Queues flight) → o ≡ Some flight
+some_mapped x0 x1 x2 = grind arith
+
+module _ {T : Type 0} (en : Coding T) (kd : QueueKind) (c : ℕ) (t : Trace T) (s : frame.Sound (family en kd c) t) where
+  pub write_is : get_or t.world.words 0 0 ≡ s.state.core.write
+  write_is = ap (λ ws. get_or ws 0 0) s.fit.1
+
+  -- few turns are few positions
+  pub few_turns : t.world.turns < 2 ^ 64 - 2 → (p : ℕ) → IsFreshTurn t (Next p)
+  few_turns x0 x1 = grind arith
+
+module _ {T : Type 0} (en : Coding T) (law : IsCoding en) (kd : QueueKind) (c : ℕ) (t : Trace T) (s : frame.Sound (family en kd c) t) (p : ℕ) where
+  abbrev pub scene_of : Party T → ℕ → Scene T kd
+  scene_of x since =
+      record {
+        capacity = c;
+        roles = s.state.roles;
+        core = s.state.core;
+        party = p;
+        steps = x.steps;
+        backs = x.backs;
+        since = since;
+        changes = t.world.changes;
+        latest = t.world.latest;
+        events = t.events;
+        turns = t.world.turns;
+      }
+
+  pub inv_of : (x : Party T) (since : ℕ) → Inv en kd (scene_of x since)
+  inv_of x since = record { queue = s.holds; frame = s.inv }
+
+  module _ (x : Party T) (since : ℕ) where
+    -- what its step comes to where the words, what is kept, and the call's name are these
+    pub comes : IsFreshTurn t (Next p) → (start : Start T) (flight : Flight T)
+        → StandsThere (family en kd c) t s p x since start flight
+        → ComesFrom (family en kd c) t s p x since en (layout s.state.roles s.state.core)
+        (registries.TheVariants.Queues s.state.roles) start flight
+    comes fresh (Queues start) (flights.TheVariants.Queues flight) here =
+        let moves =
+        step_moves en law kd (scene_of x since) s.holds.within (inv_of x since) start flight here.at here.steps
+        here.knows
+        (subst (λ n. IsFreshAt n flight) (write_is en kd c t s)
+        (fresh_there t.world.coding t.world.words flight (fresh (flights.TheVariants.Queues flight) here.found)))
+        (here.found, here.span) in
+        record {
+          state = record { roles = _; core = moves.0 };
+          fit = (refl, moves.1);
+          holds = holds_more en kd (scene_of x since) _ moves.0 _ _ _ s.holds moves.2;
+          owes = moves.3;
+        }
+    comes fresh start flight here = absurd here.at
+
+  -- ---- a call begins
+
+  begins : (start : QueueStart T) (flight : QueueFlight T)
+      → IsFirst en kd c s.state.roles s.state.core p (t.events ++ Begun p (Queues start) ∷ []) t.world.changes start flight
+      → flight_of (doing_of (party_of p t.world.latest)) ≡ None
+      → frame.Comes (family en kd c) t p (registries.TheVariants.Queues s.state.roles) (layout s.state.roles s.state.core)
+      (party_at_begin (Queues start) (flights.TheVariants.Queues flight) t.world.changes)
+      (Begun p (Queues start) ∷ []) t.world.changes
+  begins start flight first free =
+      let y : Party T = party_at_begin (Queues start) (flights.TheVariants.Queues flight) t.world.changes in
+      let scene = scene_of y t.world.changes in
+      let k = s.state.core in
+      let pr = s.state.roles.producer in
+      let before : pending_at k.read (flight_of (doing_of (party_of p t.world.latest))) ≡ None = ap (pending_at k.read) free in
+      let low = s.holds.reached in
+      let shows : Shows en kd scene s.state.roles k (span_of p t.events) y (Begun p (Queues start) ∷ []) t.world.changes =
+      record {
+        right = (tt, tt);
+        lengths = (tt, tt);
+        grants = (tt, tt);
+        good = s.holds.good;
+        hangs =
+            hangs_same T kd c k k _ _ refl (pending_put k.read pr p y t.world.latest first.calm before) s.holds.hangs;
+        book = append-nil (map (item kd) k.waiting);
+        out = omega arith;
+        producers = refl;
+        consumers = refl;
+        goes = refl;
+        answers = refl;
+        up = record { write = omega arith; read = omega arith; paid = omega arith };
+        reached = omega arith;
+        within = s.holds.within;
+        own = (refl, tt);
+        stands = (frame.shut (family en kd c) s.state p (party_of p t.world.latest) (span_of p t.events) free (s.inv.calls p), tt);
+        here = record { span = ap (λ es. Open (Queues start) es) (sym first.wrote); steps = omega arith; at = first.at };
+        knows = first.knows;
+        others = λ q ne st f h. (h, refl);
+      }
+      in
+      record {
+        state = s.state;
+        fit = (refl, refl);
+        holds = holds_more en kd scene _ _ _ _ _ s.holds (queue_part en kd scene _ _ _ _ _ _ shows);
+        owes = owes en kd scene _ _ _ _ _ _ shows refl (inv_of y t.world.changes);
+      }
+
+  pub begin_comes : (start : Start T) (flight : Flight T) → MayBegin t.world p start
+      → first_of (machine_kind kd) c start (registries.TheVariants.Queues s.state.roles) ≡ Some flight
+      → first_row ((begin_of (machine_kind kd) c start).rows (registries.TheVariants.Queues s.state.roles) p) ≡ None
+      → frame.Comes (family en kd c) t p (kept_after_begin en c start p (registries.TheVariants.Queues s.state.roles))
+      (layout s.state.roles s.state.core) (party_at_begin start flight t.world.changes) (Begun p start ∷ []) t.world.changes
+  begin_comes (Queues start) (flights.TheVariants.Queues flight) may e rows =
+      let role = (row_passed (lacks_role s.state.roles p start) NoRole None rows).0 in
+      let called : first kd c start ≡ Some flight = sym (call_is kd c start) ∙ some_mapped (call_of (machine_kind kd) c start) flight e in
+      begins start flight (first_is en law c s.state.roles p (t.events ++ Begun p (Queues start) ∷ []) t.world.changes kd s.state.core
+      start flight called role)
+      may.free
+  begin_comes start flight may e rows = grind arith
+
+pub no_question : {T : Type 0} → (en : Coding T) (kd : QueueKind) (c : ℕ) (s : Queue (Val T kd)) (p : ℕ) (start : Start T) (flight : Flight T)
+    → (family en kd c).At s p start flight → is_question (want_of en flight) ≡ false
+no_question x0 x1 x2 x3 x4 x5 x6 x7 = grind arith
