@@ -1,6 +1,6 @@
 -- A call of a loan channel begins.
 use Rattle.laws_loan.proofs.Names.{◌≡◌, ◌≢◌, ℕ, ◌+◌, ◌⊎◌, ⊎_elim, true, false, Option, Some, None, List, [], ◌∷◌}
-use Rattle.laws_loan.proofs.Names.{◌++◌, refl, sym, ap, subst, ◌∙◌, append-nil, cases_eq, fold-append, Event, Begun}
+use Rattle.laws_loan.proofs.Names.{◌++◌, refl, sym, ap, subst, append-nil, cases_eq, fold-append, Event, Begun}
 use Rattle.laws_loan.proofs.Names.{Flight, Book, LoanStart, LoanFlight, Party, Coding, has_died, asks_for, taken_from}
 use Rattle.laws_loan.proofs.Names.{MovesRight, BeginsRight, Passing, spot_of, receiver_after, receiver_of}
 use Rattle.laws_loan.proofs.Names.{reclaims_after, put, doing_of, flight_of, Span, Open, span_of, IsShut}
@@ -10,9 +10,8 @@ use Rattle.model.specs.declared.event.Start.TheVariants as starts
 use Rattle.model.specs.declared.families.Flight as flights
 use Rattle.model.specs.Parties.{party_of}
 use Rattle.model.proofs.Frame as frame
-use Rattle.laws_indices.proofs.Core as indices
 use Rattle.laws_loan.proofs.Channel.{Channel, Holds}
-use Rattle.laws_loan.proofs.Invariant.{Hangs, sends_at, counted_for, hung, reclaims_in, Carries, HoldsNow, family}
+use Rattle.laws_loan.proofs.Invariant.{sends_at, counted_for, hung, reclaims_in, Carries, HoldsNow, family}
 use Rattle.laws_loan.proofs.Keeping.{at_stays}
 use Rattle.laws_loan.proofs.Knows.{counts, wrote_in, At, FlightKnows}
 use Rattle.laws_loan.proofs.Placed.{Placed}
@@ -89,16 +88,10 @@ module _ {T : Type 0} (code : Coding T) (slots queue : ℕ) (s : Channel T) (lat
 
     parts_then : Holds slots queue after (counted_for (sends_at (put p began latest)))
     parts_then =
-        record {
-          capacity = first.queue_stays ∙ h.parts.capacity;
-          some = h.parts.some;
-          few = h.parts.few;
-          set = subst (λ n. indices.Good slots s.set s.claims n) (sym (weighs_same counted_for first.light)) h.parts.set;
-          submission = h.parts.submission;
-          completion = h.parts.completion;
-          unlocked = h.parts.unlocked;
-          placed = first.placed;
-        }
+        let light = weighs_same counted_for first.light in
+        let placed = first.placed in
+        let queue_stays = first.queue_stays in
+        grind arith
 
     same_receiver : receiver_of events_then ≡ receiver_of s.events
     same_receiver = fold-append receiver_after 1 s.events (begun ∷ [])
@@ -108,23 +101,15 @@ module _ {T : Type 0} (code : Coding T) (slots queue : ℕ) (s : Channel T) (lat
         let sent = h.sent in
         let given = h.given in
         let same = same_receiver in
-        record {
-          events = refl;
-          parts = parts_then;
-          tells = record { book = append-nil (items s.submission.waiting); given = append-nil s.completion.waiting; goes = refl; answers = refl };
-          hangs = subst (Hangs queue s.submission) (sym (weighs_same (hung s.submission.read) first.calm)) h.hangs;
-          reclaiming = first.reclaiming;
-          sent = omega arith;
-          given = omega arith;
-          receivers = (omega arith, omega arith);
-          moves = (first.moves, tt);
-          begins = (first.begins, tt);
-          answers = (tt, tt);
-          passing =
-              λ index q e. ⊎_elim (λ old. still_carried index q old)
-              (λ new. subst (λ n. Carries index (span_of n events_then)) (sym new.0) (subst (Carries index) (sym mine_opens) new.1))
-              (first.passing index q e);
-        }
+        let calm = weighs_same (hung s.submission.read) first.calm in
+        let reclaiming = first.reclaiming in
+        let moves = first.moves in
+        let begins = first.begins in
+        let passing : (i q : ℕ) → spot_of i events_then ≡ Passing q → Carries i (span_of q events_then) =
+        λ i q e. ⊎_elim (λ old. still_carried i q old)
+        (λ new. subst (λ n. Carries i (span_of n events_then)) (sym new.0) (subst (Carries i) (sym mine_opens) new.1))
+        (first.passing i q e) in
+        grind (arith, parts_then, append-nil, items)
 
     -- the calls of the other parties stand where they stood
     pub owes : frame.Owes channel after p began latest s.events (begun ∷ []) changes

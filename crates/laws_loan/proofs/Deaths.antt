@@ -9,7 +9,7 @@ use Rattle.std.proofs.Common.{arith}
 use Rattle.model.proofs.Dead.{died_now, died_before}
 use Rattle.model.proofs.Frame as frame
 use Rattle.laws_loan.proofs.Channel.{Channel, Represents, Holds}
-use Rattle.laws_loan.proofs.Invariant.{sends_at, counted_for, reclaims_in, Carries, HoldsNow, family}
+use Rattle.laws_loan.proofs.Invariant.{sends_at, counted_for, HoldsNow, family}
 use Rattle.laws_loan.proofs.Keeping.{at_stays}
 use Rattle.laws_loan.proofs.Knows.{wrote_in, At}
 use Rattle.laws_loan.proofs.Lists.{lists_stay}
@@ -81,20 +81,14 @@ module _ {T : Type 0} (slots queue : ℕ) (s : Channel T) (o : ℕ) where
       let some = h.receivers.0 in
       let most = h.receivers.1 in
       let same = same_receiver in
-      record {
-        same = refl;
-        parts = parts_then (counted_for (sends_at latest)) h.parts;
-        told = told_then h.told;
-        hangs = h.hangs;
-        reclaiming = fold-append reclaims_after false s.events (Died o ∷ []) ∙ (h.reclaiming ∙ sym (ap reclaims_in (span_of-death 0 s.events o)));
-        sent = omega arith;
-        given = omega arith;
-        receivers = (omega arith, omega arith);
-        moves = Each-append (MovesRight slots) s.events (Died o ∷ []) h.moves (tt, tt);
-        begins = Each-append BeginsRight s.events (Died o ∷ []) h.begins (tt, tt);
-        answers = Each-append (AnswersRight slots) s.events (Died o ∷ []) h.answers (tt, tt);
-        passing = λ index p e. subst (Carries index) (sym (span_of-death p s.events o)) (h.passing index p (sym (same_spot index) ∙ e));
-      }
+      let parts = parts_then (counted_for (sends_at latest)) h.parts in
+      let told = told_then h.told in
+      let reclaiming = fold-append reclaims_after false s.events (Died o ∷ []) in
+      let span = span_of-death 0 s.events o in
+      let moves = Each-append (MovesRight slots) s.events (Died o ∷ []) h.moves (tt, tt) in
+      let begins = Each-append BeginsRight s.events (Died o ∷ []) h.begins (tt, tt) in
+      let answers = Each-append (AnswersRight slots) s.events (Died o ∷ []) h.answers (tt, tt) in
+      grind (arith, span_of-death, same_spot)
 
   -- ---- what the calls know
 

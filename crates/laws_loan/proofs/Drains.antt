@@ -3,10 +3,10 @@ use Rattle.laws_loan.proofs.Names.{◌≡◌, ◌≢◌, ℕ, suc, ◌+◌, ◌%
 use Rattle.laws_loan.proofs.Names.{not, Option, Some, List, [], ◌∷◌, ◌++◌, length, get_or, refl, sym, ap, subst, ◌∙◌}
 use Rattle.laws_loan.proofs.Names.{append-nil, length-append, nat_tests, nil_from_length, set-get_or, flat_map-append}
 use Rattle.laws_loan.proofs.Names.{fold-append, Ask, After, GoOn, ReclaimStage, submission_word, reclaim_goes_back}
-use Rattle.laws_loan.proofs.Names.{load, Answer, Event, HandedOut, Index, LoanFlight, Effect, Party, Coding}
-use Rattle.laws_loan.proofs.Names.{ask_of, Waiting, spot_of, receiver_after, takes_back, taken_back, freed, sent_at}
-use Rattle.laws_loan.proofs.Names.{words_of_index, hands_out, handed_out, Open, span_of, old_of}
-use Rattle.laws_loan.proofs.Names.{words_after, change_of, step_count, oldest, pop_front, Core, taken, layout}
+use Rattle.laws_loan.proofs.Names.{load, Answer, Event, HandedOut, Index, LoanFlight, Effect, Party, Coding, ask_of}
+use Rattle.laws_loan.proofs.Names.{Waiting, spot_of, receiver_after, takes_back, taken_back, freed, sent_at}
+use Rattle.laws_loan.proofs.Names.{words_of_index, hands_out, handed_out, Open, span_of, old_of, words_after}
+use Rattle.laws_loan.proofs.Names.{change_of, step_count, oldest, pop_front, Core, taken, layout}
 use Rattle.std.proofs.Common.{arith}
 use Rattle.steps.specs.declared.loan.reclaim.ReclaimStage as reclaims
 use Rattle.steps.specs.declared.queues.overflow.PopStage.{PopStage}
@@ -170,36 +170,17 @@ module _ {T : Type 0} (code : Coding T) (slots queue : ℕ) (s : Channel T) (lat
           let handed : length (handed_out (wrote ++ hands ∷ [])) ≡ length (handed_out wrote) + 1 =
           ap length (flat_map-append hands_out wrote (hands ∷ [])) ∙ length-append (handed_out wrote) (Index u ∷ [])
           in
-          record {
-            words = words_are moves k on_moves (submission.take_words queue h.parts.some h.parts.few s.submission h.parts.submission low_write u rest first);
-            own = (refl, tt);
-            stands = ((none_taken, none_freed), tt);
-            span = refl;
-            submission = submission.take_good queue h.parts.some h.parts.few s.submission h.parts.submission low_write u rest first;
-            completion = h.parts.completion;
-            fewer = omega arith;
-            sent_write = refl;
-            given_write = refl;
-            placed = hands_it_out slots s.claims s.submission.waiting s.completion.waiting s.book s.events h.parts.placed u below 0 rest first (inl refl);
-            tells = tells_out;
-            counted = refl;
-            moves = ((below, was_waiting), tt);
-            begins = (tt, tt);
-            answers = (tt, tt);
-            passing =
-                passing_before slots queue s wrote under known h.parts.placed.keeps hands u Waiting refl was_waiting waiting_away;
-            sent = passing_sent slots queue s wrote under known h.parts.placed.keeps hands u Waiting refl was_waiting waiting_away;
-            receiver = fold-append receiver_after 1 s.events (hands ∷ []);
-            reclaiming = refl;
-            claims = refl;
-            publishes = refl;
-            gives = refl;
-            acts = refl;
-            stage_at = (tt, (omega arith), none_more takes_back wrote (hands ∷ []) none_taken refl, none_more frees wrote (hands ∷ []) none_freed refl);
-            steps = omega arith;
-            push = λ index stage known. known;
-            up = record { write = omega arith; read = omega arith; paid = omega arith };
-          }
+          let words =
+          words_are moves k on_moves
+          (submission.take_words queue h.parts.some h.parts.few s.submission h.parts.submission low_write u rest first) in
+          let good = submission.take_good queue h.parts.some h.parts.few s.submission h.parts.submission low_write u rest first in
+          let placed = hands_it_out slots s.claims s.submission.waiting s.completion.waiting s.book s.events h.parts.placed u below 0 rest first (inl refl) in
+          let passing = passing_before slots queue s wrote under known h.parts.placed.keeps hands u Waiting refl was_waiting waiting_away in
+          let sent = passing_sent slots queue s wrote under known h.parts.placed.keeps hands u Waiting refl was_waiting waiting_away in
+          let receiver = fold-append receiver_after 1 s.events (hands ∷ []) in
+          let taken_none = none_more takes_back wrote (hands ∷ []) none_taken refl in
+          let freed_none = none_more frees wrote (hands ∷ []) none_freed refl in
+          grind (arith, tells_out, below, was_waiting)
 
     -- nobody else moves the read position, so its exchange succeeds
     moves_read : s.submission.read < s.submission.write → x.steps ≤ 4 * length (handed_out wrote) + 3 → Does_at moves

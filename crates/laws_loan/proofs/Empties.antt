@@ -1,13 +1,12 @@
 -- The steps of a reclaim that pops the completion queue, until that is empty: then it comes to the first index that is sent, or ends.
 use Rattle.laws_loan.proofs.Names.{◌≡◌, ℕ, suc, ◌+◌, ◌*◌, ◌-◌, ◌%◌, ◌^◌, ◌<◌, ◌≤◌, ◌==◌, ◌||◌, Bool, true, false}
-use Rattle.laws_loan.proofs.Names.{Option, Some, None, List, [], ◌∷◌, ◌++◌, length, get_or, fold, refl, sym, ap}
-use Rattle.laws_loan.proofs.Names.{subst, ◌∙◌, append-nil, length-append, AllByRecursion, nat_tests, set-get_or}
-use Rattle.laws_loan.proofs.Names.{flat_map-append, fold-append, Ask, After, GoOn, ReclaimStage, completion_word}
-use Rattle.laws_loan.proofs.Names.{next_sent, reclaim_goes_back, reclaim_releases, load, Answer, Number, Event}
-use Rattle.laws_loan.proofs.Names.{TakenBack, LoanFlight, Reclaim, Effect, Party, Coding, ask_of, Returning, spot_of}
+use Rattle.laws_loan.proofs.Names.{Option, Some, None, List, [], ◌∷◌, ◌++◌, length, get_or, refl, sym, ap, subst, ◌∙◌}
+use Rattle.laws_loan.proofs.Names.{append-nil, length-append, AllByRecursion, nat_tests, set-get_or, flat_map-append}
+use Rattle.laws_loan.proofs.Names.{fold-append, Ask, After, GoOn, ReclaimStage, completion_word, next_sent}
+use Rattle.laws_loan.proofs.Names.{reclaim_goes_back, reclaim_releases, load, Answer, Number, Event, TakenBack}
+use Rattle.laws_loan.proofs.Names.{LoanFlight, Reclaim, Effect, Party, Coding, ask_of, Returning, spot_of}
 use Rattle.laws_loan.proofs.Names.{receiver_after, takes_back, taken_back, freed, given_back_at, words_of_index, Open}
-use Rattle.laws_loan.proofs.Names.{Ended, span_of, as_call, old_of, words_after, step_count, span_of-own}
-use Rattle.laws_loan.proofs.Names.{Core, taken, layout}
+use Rattle.laws_loan.proofs.Names.{span_of, as_call, old_of, words_after, step_count, Core, taken, layout}
 use Rattle.std.proofs.Common.{arith}
 use Rattle.steps.specs.declared.ask.After.TheVariants.{Done}
 use Rattle.steps.specs.declared.indices.unique.ReleaseStage as releases
@@ -22,21 +21,21 @@ use Rattle.model.specs.Families.Loan.Reading.{frees}
 use Rattle.laws_loan.proofs.Channel.{Channel, no_roles, words_in}
 use Rattle.laws_loan.proofs.Completion as completion
 use Rattle.laws_loan.proofs.Cuts.{IsOn}
-use Rattle.laws_loan.proofs.Invariant.{sends_at, counted_for, reclaims_in, HoldsNow}
+use Rattle.laws_loan.proofs.Invariant.{sends_at, counted_for, hung, HoldsNow}
 use Rattle.laws_loan.proofs.Knows.{reclaim_counts, reclaim_number, StageAt, ReclaimAt}
 use Rattle.laws_loan.proofs.Lists.{first_there}
-use Rattle.laws_loan.proofs.OnQueues.{OnQueues, queues_then, queues_show, silent_tells}
 use Rattle.laws_loan.proofs.Parts.{completion_long, completion_old, completion_words}
+use Rattle.laws_loan.proofs.ReclaimEnds.{s_end, reclaim_ends}
 use Rattle.laws_loan.proofs.ReclaimGoes as steps
 use Rattle.laws_loan.proofs.ReclaimGoes.{start, asked, old, Does}
-use Rattle.laws_loan.proofs.Reclaiming.{reclaim_at, none_more, passing_before, passing_sent, reclaimed, end_of, receiver_then, none_passing, placed_ended}
+use Rattle.laws_loan.proofs.Reclaiming.{reclaim_at, none_more, passing_before, passing_sent, end_of}
+use Rattle.laws_loan.proofs.Rests.{keeps_all}
 use Rattle.laws_loan.proofs.Rooms.{back_below}
-use Rattle.laws_loan.proofs.Sender.{party_then, Steps}
-use Rattle.laws_loan.proofs.Sents.{ComesTo, IsHome, comes_to, all_home}
+use Rattle.laws_loan.proofs.Sender.{Steps}
+use Rattle.laws_loan.proofs.Sents.{ComesTo, comes_to}
 use Rattle.laws_loan.proofs.Spots.{returns_there}
 use Rattle.laws_loan.proofs.Table.{returning_away, takes_it_back}
-use Rattle.laws_loan.proofs.Theirs.{dead_stays}
-use Rattle.laws_loan.proofs.Told.{is_reclaiming}
+use Rattle.laws_loan.proofs.Told.{silent_tells}
 use Rattle.laws_loan.proofs.Waits.{cell_place}
 
 abbrev empties : PopStage → ReclaimStage
@@ -145,65 +144,22 @@ module _ {T : Type 0} (code : Coding T) (slots queue : ℕ) (s : Channel T) (lat
         pub step : To channel_then load_of_write (comes_after o) effects.Quiet
 
       module _ (none : ComesTo s.book.places slots 0 None) where
-        abbrev end : Event T
-        end = end_of (Number 0)
+        abbrev ended : Channel T
+        ended =
+            s_end code slots queue s latest turns changes since x h wrote from straight under known (asks load_of_write) s.set 0
 
-        abbrev y_end : Party T
-        y_end = party_then s x since changes calls.Reclaim (asks load_of_write) false (Done (Number 0))
-
-        abbrev s_end : Channel T
-        s_end = queues_then slots queue s latest turns y_end s.submission s.completion (reclaimed s.book) (end ∷ [])
-
-        home : (i : ℕ) → IsHome (spot_of i s.events)
-        home = grind (arith, all_home)
-
-        ended_then : span_of 0 (s.events ++ end ∷ []) ≡ Ended (start code slots queue s latest turns changes since x wrote) (Number 0) wrote
-        ended_then = grind (arith, span_of-own, fold)
-
-        on_queues_end : OnQueues slots queue s latest turns y_end s.submission s.completion (reclaimed s.book) (end ∷ [])
-        on_queues_end =
-            let sent = h.sent in
-            let given = h.given in
-            let next = receiver_then s.events (Number 0) in
-            let few_receivers = h.receivers.1 in
-            record {
-              busy_before = steps.busy_none code slots queue s latest turns changes since x wrote h under here idle from known straight;
-              busy_after = refl;
-              queue_stays = refl;
-              submission = h.parts.submission;
-              completion = h.parts.completion;
-              placed = placed_ended s.events (Number 0) home slots s.claims s.submission.waiting s.completion.waiting s.book h.parts.placed (omega arith);
-              tells =
-                  silent_tells queue (is_reclaiming s.events) s.submission.waiting s.completion.waiting
-                  s.completion.waiting (end ∷ []) refl refl refl (append-nil s.completion.waiting);
-              hangs = steps.calm code slots queue s latest turns changes since x wrote h under here idle from known straight;
-              sent = omega arith;
-              given = omega arith;
-              reclaiming = sym (ap reclaims_in ended_then);
-              receivers = (omega arith, omega arith);
-              moves = (tt, tt);
-              begins = (tt, tt);
-              answers = (home, tt);
-              passing = λ i q e. none_passing s.events (Number 0) home i q e;
-            }
-
-        ends_steps : Steps code slots queue s latest turns changes since x s_end
+        ends_steps : Steps code slots queue s latest turns changes since x 0 ended
             (Open (start code slots queue s latest turns changes since x wrote) wrote) calls.Reclaim
-            (asks load_of_write) false (Done (Number 0)) (end ∷ [])
+            (asks load_of_write) false (Done (Number 0)) (end_of (Number 0) ∷ [])
         ends_steps =
-            record {
-              words = words_are load_of_write s.completion on_write refl;
-              shows = queues_show slots queue s latest turns y_end s.submission s.completion (reclaimed s.book) (end ∷ []) h on_queues_end;
-              own = (refl, tt);
-              stands = ((refl, record { moments = known.acts; done = (ap length none_freed, known.claims, known.publishes, known.gives) }), tt);
-              here = record { answer = Number 0; wrote = wrote; span = refl; steps = omega arith };
-              knows = omega arith;
-              theirs = λ q ne. dead_stays slots queue s s_end known.dead refl (λ index stage known. known) q;
-              up = record { write = omega arith; read = omega arith; paid = omega arith };
-            }
+            reclaim_ends code slots queue s latest turns changes since x h wrote from straight under known (asks load_of_write) s.set 0
+            (keeps_all slots queue s latest (asks load_of_write) turns h (words_are load_of_write s.completion on_write refl)
+            (steps.busy_none code slots queue s latest turns changes since x wrote h under here idle from known straight)
+            (ap (hung s.submission.read) here))
+            drained emptied (λ j below. none j (omega arith) below) (ap length none_freed) (omega arith) small
 
       comes : (o : Option ℕ) → ComesTo s.book.places slots 0 o → Comes o
-      comes None none = record { channel_then = s_end none; step = (ends_steps none, refl) }
+      comes None none = record { channel_then = ended none; step = (ends_steps none, refl) }
       comes (Some index) first =
           record {
             channel_then = s_still;
@@ -277,38 +233,18 @@ module _ {T : Type 0} (code : Coding T) (slots queue : ℕ) (s : Channel T) (lat
           let more : length (taken_back (wrote ++ takes ∷ [])) ≡ length (taken_back wrote) + 1 =
           ap length (flat_map-append takes_back wrote (takes ∷ [])) ∙ length-append (taken_back wrote) (v ∷ [])
           in
-          record {
-            words = words_are store_of_read m on (completion.take_words slots some few s.completion h.parts.completion reached v rest first);
-            own = (refl, tt);
-            stands = (none_freed, tt);
-            span = refl;
-            submission = h.parts.submission;
-            completion = completion.take_good slots some few s.completion h.parts.completion reached v rest first;
-            fewer = omega arith;
-            sent_write = refl;
-            given_write = refl;
-            placed = takes_it_back slots s.claims s.submission.waiting s.completion.waiting s.book s.events h.parts.placed v below rest first;
-            tells =
-                silent_tells {T = T} queue true s.submission.waiting s.completion.waiting rest (takes ∷ []) refl refl
-                refl (append-nil s.completion.waiting ∙ first);
-            counted = refl;
-            moves = ((below, was_returning), tt);
-            begins = (tt, tt);
-            answers = (tt, tt);
-            passing =
-                passing_before slots queue s wrote under known h.parts.placed.keeps takes v Returning refl was_returning returning_away;
-            sent = passing_sent slots queue s wrote under known h.parts.placed.keeps takes v Returning refl was_returning returning_away;
-            receiver = fold-append receiver_after 1 s.events (takes ∷ []);
-            reclaiming = refl;
-            claims = refl;
-            publishes = refl;
-            gives = refl;
-            acts = refl;
-            stage_at = (tt, (omega arith), none_more frees wrote (takes ∷ []) none_freed refl, drained);
-            steps = omega arith;
-            push = completion.take_keeps slots s.completion v rest first;
-            up = record { write = omega arith; read = omega arith; paid = omega arith };
-          }
+          let words = words_are store_of_read m on (completion.take_words slots some few s.completion h.parts.completion reached v rest first) in
+          let good = completion.take_good slots some few s.completion h.parts.completion reached v rest first in
+          let placed = takes_it_back slots s.claims s.submission.waiting s.completion.waiting s.book s.events h.parts.placed v below rest first in
+          let tells =
+          silent_tells {T = T} queue true s.submission.waiting s.completion.waiting rest (takes ∷ []) refl refl refl
+          (append-nil s.completion.waiting ∙ first) in
+          let passing = passing_before slots queue s wrote under known h.parts.placed.keeps takes v Returning refl was_returning returning_away in
+          let sent = passing_sent slots queue s wrote under known h.parts.placed.keeps takes v Returning refl was_returning returning_away in
+          let receiver = fold-append receiver_after 1 s.events (takes ∷ []) in
+          let freed_none = none_more frees wrote (takes ∷ []) none_freed refl in
+          let push = completion.take_keeps slots s.completion v rest first in
+          grind (arith, below, was_returning)
 
     -- the words of the whole have the first one in the cell of the read position
     first_is : (v : ℕ) (rest : List ℕ) → s.completion.waiting ≡ v ∷ rest → given_back_at (completion_word slots queue) slots (words_in s) s.completion.read ≡ v

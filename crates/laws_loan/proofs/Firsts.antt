@@ -1,10 +1,10 @@
 -- What the first stage of each call of a loan channel knows, where no row refuses its begin.
-use Rattle.laws_loan.proofs.Names.{◌≡◌, ◌≢◌, ℕ, ◌<◌, ◌≤◌, ◌⊎◌, ◌==◌, inl, inr, ⊎_elim, nat_le, true, false, not}
-use Rattle.laws_loan.proofs.Names.{Option, Some, None, List, [], ◌∷◌, ◌++◌, get_or, refl, sym, ap, subst, ◌∙◌}
-use Rattle.laws_loan.proofs.Names.{cases_eq, nat_tests, submission_word, Event, Begun, LoanStart, LoanFlight, Send}
-use Rattle.laws_loan.proofs.Names.{Receive, Reclaim, Party, Coding, has_died, loan_of, give_up_of, take_back_of}
-use Rattle.laws_loan.proofs.Names.{give_back_of, asks_for, taken_from, BeginsRight, Passing, With, Move, move_of}
-use Rattle.laws_loan.proofs.Names.{spot_of, receiver_of, reclaims_after, fresh, holds, Open, span_of, span_of-own}
+use Rattle.laws_loan.proofs.Names.{MovesRight, ◌≡◌, ◌≢◌, ℕ, ◌<◌, ◌≤◌, ◌⊎◌, ◌==◌, inl, inr, ⊎_elim, nat_le, true}
+use Rattle.laws_loan.proofs.Names.{false, not, Option, Some, None, List, [], ◌∷◌, ◌++◌, get_or, refl, sym, ap, subst}
+use Rattle.laws_loan.proofs.Names.{◌∙◌, cases_eq, nat_tests, submission_word, Event, Begun, LoanStart, LoanFlight}
+use Rattle.laws_loan.proofs.Names.{Send, Receive, Reclaim, Party, Coding, has_died, loan_of, give_up_of, take_back_of}
+use Rattle.laws_loan.proofs.Names.{give_back_of, asks_for, taken_from, BeginsRight, Passing, With, move_of, spot_of}
+use Rattle.laws_loan.proofs.Names.{receiver_of, reclaims_after, fresh, holds, Open, span_of, span_of-own}
 use Rattle.laws_loan.proofs.Names.{span_of-other, IsShut}
 use Rattle.std.proofs.Common.{arith}
 use Rattle.steps.specs.declared.loan.reclaim.ReclaimStage as reclaims
@@ -19,9 +19,10 @@ use Rattle.laws_loan.proofs.Begins.{IsFirst, shut_none}
 use Rattle.laws_loan.proofs.Channel.{Channel}
 use Rattle.laws_loan.proofs.Invariant.{hung, reclaims_in, Carries, HoldsNow}
 use Rattle.laws_loan.proofs.Knows.{counts, At, FlightKnows}
+use Rattle.laws_loan.proofs.OneMove.{OneMove, elsewhere, now_there, passes_on}
 use Rattle.laws_loan.proofs.Placed.{Placed}
 use Rattle.laws_loan.proofs.Rooms.{waits_few}
-use Rattle.laws_loan.proofs.Spots.{spot_stays, spot_other, spot_moved, with_passes}
+use Rattle.laws_loan.proofs.Spots.{spot_stays, with_passes, passing_same}
 use Rattle.laws_loan.proofs.Still.{placed_still}
 use Rattle.laws_loan.proofs.Table.{sender_begins, receiver_begins}
 use Rattle.laws_loan.proofs.Told.{is_reclaiming}
@@ -66,52 +67,28 @@ module _ {T : Type 0} (code : Coding T) (slots queue : ℕ) (s : Channel T) (lat
           → At slots queue (began None) p [] start flight → FlightKnows slots queue (began None) changes changes 0 flight
           → First p start flight
       asks_none flight asks light calm begins reclaiming at knows =
-          record {
-            placed =
-                subst (λ o. Placed slots s.claims s.submission.waiting s.completion.waiting (taken_from s.book o) (s.events ++ begun ∷ []))
-                (sym asks)
-                (placed_still slots s.claims s.submission.waiting s.completion.waiting s.book s.events (begun ∷ [])
-                (record { moves = none; receiver = λ r. refl; dead = λ q b. refl }, tt) h.parts.placed);
-            queue_stays = ap (λ o. (taken_from s.book o).queue) asks;
-            places_stay = ap (λ o. (taken_from s.book o).places) asks;
-            receiver_stays = ap (λ o. (taken_from s.book o).receiver) asks;
-            dead_stay = ap (λ o. (taken_from s.book o).dead) asks;
-            light = light;
-            calm = calm;
-            moves = subst (λ m. ComesFrom slots m s.events) (sym none) tt;
-            begins = begins;
-            reclaiming = reclaiming;
-            stays = λ index q e. stays_put index ∙ e;
-            passing = λ index q e. inl (sym (stays_put index) ∙ e);
-            at = subst (λ o. At slots queue (began o) p [] start flight) (sym asks) at;
-            knows = subst (λ o. FlightKnows slots queue (began o) changes changes 0 flight) (sym asks) knows;
-          }
+          let placed =
+          placed_still slots s.claims s.submission.waiting s.completion.waiting s.book s.events (begun ∷ [])
+          (record { moves = none; receiver = λ r. refl; dead = λ q b. refl }, tt) h.parts.placed in
+          grind (arith, stays_put)
 
     -- one that asks for an index moves it from its party
     module _ (index : ℕ) (is : move_of {T = T} begun ≡ Some (record { index = index; from = With p; to = Passing p }))
         (has : spot_of index s.events ≡ With p) where
-      abbrev move : Move
-      move = record { index = index; from = With p; to = Passing p }
+      one_move : OneMove p index s.events (begun ∷ []) (With p) (Passing p)
+      one_move = grind arith
+
+      now_passes : spot_of index (s.events ++ begun ∷ []) ≡ Passing p
+      now_passes = now_there p index s.events (begun ∷ []) (With p) (Passing p) one_move
 
       moves_it : (i q : ℕ) → spot_of i s.events ≡ Passing q → spot_of i (s.events ++ begun ∷ []) ≡ Passing q
-      moves_it i q e =
-          ⊎_elim (λ (same : index ≡ i). absurd (with_passes p q (sym has ∙ (ap (λ n. spot_of n s.events) same ∙ e))))
-          (λ (ne : index ≢ i). spot_other s.events begun move is i ne ∙ e)
-          (cases_eq index i)
+      moves_it i q = passes_on p index s.events (begun ∷ []) (With p) (Passing p) one_move q (with_passes p q) i
 
       moved_or_not : (i q : ℕ) → spot_of i (s.events ++ begun ∷ []) ≡ Passing q → (spot_of i s.events ≡ Passing q) ⊎ ((q ≡ p) × (i ≡ index))
       moved_or_not i q e =
-          ⊎_elim (λ (same : index ≡ i). inr (
-            (let both : Passing p ≡ Passing q =
-                sym (spot_moved s.events begun move is) ∙ (ap (λ n. spot_of n (s.events ++ begun ∷ [])) same ∙ e) in
-                cc),
-            sym same,
-          ))
-          (λ (ne : index ≢ i). inl (sym (spot_other s.events begun move is i ne) ∙ e))
+          ⊎_elim (λ (same : index ≡ i). inr (passing_same q p (sym e ∙ (ap (λ n. spot_of n (s.events ++ begun ∷ [])) (sym same) ∙ now_passes)), sym same))
+          (λ (ne : index ≢ i). inl (sym (elsewhere p index s.events (begun ∷ []) (With p) (Passing p) one_move i ne) ∙ e))
           (cases_eq index i)
-
-      now_passes : spot_of index (s.events ++ begun ∷ []) ≡ Passing p
-      now_passes = spot_moved s.events begun move is
 
       asks_one : (flight : LoanFlight) → asks_for start ≡ Some index → counts flight ≡ 0
           → hung {T = T} s.submission.read (Some (flights.TheVariants.Loan flight)) ≡ None → BeginsRight s.events begun
@@ -121,26 +98,13 @@ module _ {T : Type 0} (code : Coding T) (slots queue : ℕ) (s : Channel T) (lat
           → At slots queue (began (Some index)) p [] start flight → FlightKnows slots queue (began (Some index)) changes changes 0 flight
           → First p start flight
       asks_one flight asks light calm begins reclaiming below carries placed at knows =
-          record {
-            placed =
-                subst (λ o. Placed slots s.claims s.submission.waiting s.completion.waiting (taken_from s.book o) (s.events ++ begun ∷ []))
-                (sym asks) placed;
-            queue_stays = ap (λ o. (taken_from s.book o).queue) asks;
-            places_stay = ap (λ o. (taken_from s.book o).places) asks;
-            receiver_stays = ap (λ o. (taken_from s.book o).receiver) asks;
-            dead_stay = ap (λ o. (taken_from s.book o).dead) asks;
-            light = light;
-            calm = calm;
-            moves = subst (λ m. ComesFrom slots m s.events) (sym is) (below, has);
-            begins = begins;
-            reclaiming = reclaiming;
-            stays = moves_it;
-            passing = λ i q e. ⊎_elim (λ old. inl old)
-                (λ new. inr (new.0, subst (λ n. Carries {T = T} n (Open (starts.Loan start) [])) (sym new.1) carries))
-                (moved_or_not i q e);
-            at = subst (λ o. At slots queue (began o) p [] start flight) (sym asks) at;
-            knows = subst (λ o. FlightKnows slots queue (began o) changes changes 0 flight) (sym asks) knows;
-          }
+          let right : MovesRight slots s.events begun = subst (λ m. ComesFrom slots m s.events) (sym is) (below, has) in
+          let passing : (i q : ℕ) → spot_of i (s.events ++ begun ∷ []) ≡ Passing q
+          → (spot_of i s.events ≡ Passing q) ⊎ ((q ≡ p) × Carries {T = T} i (Open (starts.Loan start) [])) =
+          λ i q e. ⊎_elim (λ old. inl old)
+          (λ new. inr (new.0, subst (λ n. Carries {T = T} n (Open (starts.Loan start) [])) (sym new.1) carries))
+          (moved_or_not i q e) in
+          grind (arith, moves_it)
 
   -- ---- the sender's calls, beside which no reclaim is under way
 

@@ -1,12 +1,11 @@
 -- The steps of a reclaim that releases an index that was sent, while the receiver is dead and nothing waits in either queue.
 use Rattle.laws_loan.proofs.Names.{◌≡◌, ◌≢◌, ℕ, ◌+◌, ◌*◌, ◌-◌, ◌^◌, ◌<◌, ◌≤◌, ⊎_elim, false, Option, Some, None, List}
-use Rattle.laws_loan.proofs.Names.{[], ◌∷◌, ◌++◌, fold, length, set, refl, sym, ap, subst, ◌∙◌, length-append}
-use Rattle.laws_loan.proofs.Names.{AllByRecursion, cases_eq, flat_map-append, fold-append, Ask, GoOn, ReleaseStage}
-use Rattle.laws_loan.proofs.Names.{Place, Releases, back_asks, back_takes, place_at, Answer, Number, Event, Freed}
-use Rattle.laws_loan.proofs.Names.{Finished, Book, LoanFlight, Party, Coding, ask_of, IsReclaiming, Free, Passing}
-use Rattle.laws_loan.proofs.Names.{Move, spot_of, receiver_after, receiver_of, freed, gives_back, book_after, Open}
-use Rattle.laws_loan.proofs.Names.{Ended, own_after, span_of, old_of, words_after, step_count, span_of-own}
-use Rattle.laws_loan.proofs.Names.{release_counts, release_number, ReleaseAt}
+use Rattle.laws_loan.proofs.Names.{[], ◌∷◌, ◌++◌, length, set, refl, sym, ap, subst, ◌∙◌, length-append}
+use Rattle.laws_loan.proofs.Names.{AllByRecursion, cases_eq, flat_map-append, Ask, GoOn, ReleaseStage, Place}
+use Rattle.laws_loan.proofs.Names.{Releases, back_asks, back_takes, place_at, Number, Event, Freed, Book, LoanFlight}
+use Rattle.laws_loan.proofs.Names.{Party, Coding, ask_of, IsReclaiming, Free, Passing, spot_of, freed, gives_back}
+use Rattle.laws_loan.proofs.Names.{book_after, Open, span_of, old_of, words_after, step_count, release_counts}
+use Rattle.laws_loan.proofs.Names.{release_number, ReleaseAt, append-nil}
 use Rattle.std.proofs.Common.{arith, get_or-set_same, get_or-set_other}
 use Rattle.steps.specs.declared.ask.After.TheVariants.{Done}
 use Rattle.steps.specs.declared.indices.unique.ReleaseStage as releases
@@ -18,21 +17,23 @@ use Rattle.model.specs.Families.Loan.Reading.{frees, claims}
 use Rattle.model.specs.Families.Queues.Reading.{publishes}
 use Rattle.model.specs.Reading.{acts}
 use Rattle.laws_indices.proofs.Core as indices
-use Rattle.laws_loan.proofs.Carried.{moved_on}
 use Rattle.laws_loan.proofs.Channel.{Channel, words_in}
 use Rattle.laws_loan.proofs.Cuts.{IsOn}
-use Rattle.laws_loan.proofs.Invariant.{sends_at, counted_for, hung, reclaims_in, HoldsNow}
-use Rattle.laws_loan.proofs.Knows.{wrote_in, FreesAt, StageAt, ReclaimAt, At}
-use Rattle.laws_loan.proofs.OnSet.{OnSet, set_then, set_shows}
+use Rattle.laws_loan.proofs.Invariant.{sends_at, counted_for, hung, HoldsNow}
+use Rattle.laws_loan.proofs.Knows.{wrote_in, FreesAt, StageAt, ReclaimAt}
+use Rattle.laws_loan.proofs.OneMove.{OneMove, carried, passed_before, same_receiver, span_after}
 use Rattle.laws_loan.proofs.Parts.{set_words}
-use Rattle.laws_loan.proofs.Reclaiming.{reclaim_at, goes_known, none_more, reclaimed, receiver_then, none_passing, placed_ended}
+use Rattle.laws_loan.proofs.ReclaimEnds.{s_end, reclaim_ends}
+use Rattle.laws_loan.proofs.Reclaiming.{reclaim_at, end_of, goes_known, none_more}
 use Rattle.laws_loan.proofs.Rests as rests
 use Rattle.laws_loan.proofs.Sender.{party_then, Steps}
-use Rattle.laws_loan.proofs.Sents.{none_there, IsHome, may_free, all_home}
+use Rattle.laws_loan.proofs.Sents.{none_there, may_free}
 use Rattle.laws_loan.proofs.SetSteps.{ReleaseLeads, ReleaseStep, claims_then, release_step}
-use Rattle.laws_loan.proofs.Spots.{is_waiting, is_returning, spot_other, spot_moved, free_passes}
+use Rattle.laws_loan.proofs.Spots.{is_waiting, is_returning, free_passes}
 use Rattle.laws_loan.proofs.Table.{frees_it}
-use Rattle.laws_loan.proofs.Theirs.{dead_stays}
+use Rattle.laws_loan.proofs.Theirs.{others_dead}
+use Rattle.laws_loan.proofs.Told.{items}
+use Rattle.laws_loan.proofs.Turns.{Shows, sends_now}
 
 abbrev pub frees_at : ℕ → ℕ → ℕ → ℕ → ReleaseStage → LoanFlight
 frees_at slots queue number index stage = reclaim_at slots queue (Releases number index stage)
@@ -103,25 +104,19 @@ module _ {T : Type 0} (code : Coding T) (slots queue : ℕ) (s : Channel T) (lat
     book_freed = book_after {T = T} s.book (Freed 0 index)
 
     abbrev s_freed : Channel T
-    s_freed = set_then slots queue s latest turns y_freed (words_after s.set clears_ask) (set s.claims index None) book_freed freed_es
+    s_freed =
+        record s {
+          set = words_after s.set clears_ask;
+          claims = set s.claims index None;
+          book = book_freed;
+          events = s.events ++ Freed 0 index ∷ [];
+        }
 
-    abbrev freeing : Move
-    freeing = record { index = index; from = Passing 0; to = Free }
+    one_move : OneMove 0 index s.events freed_es (spot_of index s.events) Free
+    one_move = grind arith
 
     open_then : span_of 0 (s.events ++ freed_es) ≡ Open (starts.Loan calls.Reclaim) wrote_then
-    open_then = span_of-own 0 s.events freed_es (refl, tt) ∙ ap (λ span. fold own_after span freed_es) from
-
-    same_receiver : receiver_of (s.events ++ freed_es) ≡ receiver_of s.events
-    same_receiver = fold-append receiver_after 1 s.events freed_es
-
-    now_free : spot_of index (s.events ++ freed_es) ≡ Free
-    now_free = spot_moved s.events (Freed 0 index) freeing refl
-
-    elsewhere : (i : ℕ) → index ≢ i → spot_of i (s.events ++ freed_es) ≡ spot_of i s.events
-    elsewhere i ne = spot_other s.events (Freed 0 index) freeing refl i ne
-
-    not_now : (i q : ℕ) → spot_of i (s.events ++ freed_es) ≡ Passing q → index ≢ i
-    not_now i q e same = free_passes q (sym now_free ∙ (ap (λ n. spot_of n (s.events ++ freed_es)) same ∙ e))
+    open_then = span_after 0 index s.events freed_es (spot_of index s.events) Free one_move (Open (starts.Loan calls.Reclaim) wrote) from
 
     -- the sender's table: the index is free, and the others are as they were
     long : index < length s.book.places
@@ -142,38 +137,21 @@ module _ {T : Type 0} (code : Coding T) (slots queue : ℕ) (s : Channel T) (lat
         others : index ≢ j → ⊥
         others ne = at.stage_at.5 j (omega arith) (sym (place_other j ne) ∙ sent)
 
-    on_set : OnSet slots queue s latest turns y_freed (words_after s.set clears_ask) (set s.claims index None) book_freed freed_es
-    on_set =
+    shows_freed : Shows slots queue s s_freed 0 y_freed latest turns freed_es
+    shows_freed =
         let step = steps_set releases.TheVariants.ClearsFlag here at in
-        let same = same_receiver in
         let placed = h.parts.placed in
-        record {
-          good = step.leads.0;
-          unlocked = step.unlocked;
-          queue_stays = refl;
-          placed =
-              frees_it slots s.claims s.submission.waiting s.completion.waiting s.book s.events placed index at.stage_at.1 (spot_of index s.events) refl
-              (none_there is_waiting s.submission.waiting s.events at.stage_at.6 placed.waits index)
-              (none_there is_returning s.completion.waiting s.events at.stage_at.7 placed.returns index);
-          silent = record { publishes = refl; hands_out = refl; gives = refl; takes = refl; acts = refl };
-          calm_before = ap (hung s.submission.read) here;
-          calm_after = refl;
-          reclaiming = h.reclaiming ∙ (ap reclaims_in from ∙ sym (ap reclaims_in open_then));
-          receivers = (omega arith, omega arith);
-          moves = (
-            (
-              at.stage_at.1,
-              may_free slots s.claims s.submission.waiting s.completion.waiting s.book s.events placed at.stage_at.6
-                  at.stage_at.7 index at.stage_at.0 at.dead reclaims_now,
-            ),
-            tt,
-          );
-          begins = (tt, tt);
-          answers = (tt, tt);
-          passing =
-              moved_on 0 s.events freed_es (refl, tt) (Open (starts.Loan calls.Reclaim) wrote) from index elsewhere h.passing
-              (λ i ne carried. tt) Free now_free (λ q e. absurd (free_passes q e));
-        }
+        let placed_then =
+        frees_it slots s.claims s.submission.waiting s.completion.waiting s.book s.events placed index at.stage_at.1 (spot_of index s.events) refl
+        (none_there is_waiting s.submission.waiting s.events at.stage_at.6 placed.waits index)
+        (none_there is_returning s.completion.waiting s.events at.stage_at.7 placed.returns index) in
+        let may =
+        may_free slots s.claims s.submission.waiting s.completion.waiting s.book s.events placed at.stage_at.6
+        at.stage_at.7 index at.stage_at.0 at.dead reclaims_now in
+        let passing =
+        carried 0 index s.events freed_es (spot_of index s.events) Free one_move (Open (starts.Loan calls.Reclaim) wrote) from
+        h.passing (λ i ne carried. tt) (λ q e. absurd (free_passes q e)) in
+        grind (arith, open_then, sends_now, append-nil, items, same_receiver, one_move)
 
     known_then : ReclaimAt slots queue s_freed wrote_then (Releases number index releases.TheVariants.LoadsHead)
     known_then =
@@ -181,50 +159,28 @@ module _ {T : Type 0} (code : Coding T) (slots queue : ℕ) (s : Channel T) (lat
         let longer = length-append (freed wrote) (index ∷ []) in
         let before = at.stage_at.3 in
         let counted : length (freed wrote ++ index ∷ []) ≡ number + 1 = omega arith in
-        record {
-          dead = at.dead;
-          sent = λ i e. let ne = not_now i 0 e in place_other i ne ∙ at.sent i (sym (elsewhere i ne) ∙ e);
-          claims = none_more claims wrote freed_es at.claims refl;
-          publishes = none_more publishes wrote freed_es at.publishes refl;
-          gives = none_more gives_back wrote freed_es at.gives refl;
-          acts = none_more acts wrote freed_es at.acts refl;
-          stage_at = (
-            tt,
-            at.stage_at.1,
-            at.stage_at.2,
-            ap length more ∙ counted,
-            subst (AllByRecursion (λ i. i < index + 1)) (sym more)
-                (all_push (freed wrote) index (index + 1) (omega arith)
-                (all_less (freed wrote) (index + 0) (index + 1) (omega arith) at.stage_at.4)),
-            none_sent,
-            at.stage_at.6,
-            at.stage_at.7,
-          );
-        }
+        let sent : (i : ℕ) → spot_of i (s.events ++ freed_es) ≡ Passing 0 → place_at book_freed.places i ≡ places.Sent =
+        λ i e. let was = passed_before 0 index s.events freed_es (spot_of index s.events) Free one_move i 0 e (free_passes 0) in
+        place_other i was.0 ∙ at.sent i was.1 in
+        let claims_none = none_more claims wrote freed_es at.claims refl in
+        let publishes_none = none_more publishes wrote freed_es at.publishes refl in
+        let gives_none = none_more gives_back wrote freed_es at.gives refl in
+        let acts_none = none_more acts wrote freed_es at.acts refl in
+        let all : AllByRecursion (λ i. i < index + 1) (freed wrote_then) =
+        subst (AllByRecursion (λ i. i < index + 1)) (sym more)
+        (all_push (freed wrote) index (index + 1) (omega arith)
+        (all_less (freed wrote) (index + 0) (index + 1) (omega arith) at.stage_at.4)) in
+        grind (arith, none_sent)
 
-    pub clears_steps : Steps code slots queue s latest turns changes since x s_freed
+    pub clears_steps : Steps code slots queue s latest turns changes since x 0 s_freed
         (Open (starts.Loan calls.Reclaim) wrote) calls.Reclaim clears_ask false
         (GoOn (frees_at slots queue number index releases.TheVariants.LoadsHead)) freed_es
     clears_steps =
         let wrote_is : wrote_then ≡ wrote_in (span_of 0 (s.events ++ freed_es)) = sym (ap wrote_in open_then) in
-        record {
-          words = whole_words releases.TheVariants.ClearsFlag here at;
-          shows = set_shows slots queue s latest turns y_freed (words_after s.set clears_ask) (set s.claims index None) book_freed freed_es h on_set;
-          own = (refl, tt);
-          stands = (all_less (freed wrote) (index + 0) index (omega arith) at.stage_at.4, tt);
-          here =
-              record {
-                span = ap (λ wrote. Open (starts.Loan calls.Reclaim) wrote) wrote_is;
-                steps = omega arith;
-                at =
-                    subst (λ wrote. At slots queue s_freed 0 wrote calls.Reclaim
-                    (frees_at slots queue number index releases.TheVariants.LoadsHead))
-                    wrote_is (refl, refl, refl, known_then);
-              };
-          knows = omega arith;
-          theirs = λ q ne. dead_stays slots queue s s_freed at.dead refl (λ i stage known. known) q;
-          up = record { write = omega arith; read = omega arith; paid = omega arith };
-        }
+        let words = whole_words releases.TheVariants.ClearsFlag here at in
+        let stands = all_less (freed wrote) (index + 0) index (omega arith) at.stage_at.4 in
+        let others = others_dead slots queue s s_freed at.dead refl (λ i stage known. known) in
+        grind (arith, shows_freed, known_then)
 
   -- ---- every later step
 
@@ -257,7 +213,7 @@ module _ {T : Type 0} (code : Coding T) (slots queue : ℕ) (s : Channel T) (lat
       abbrev s_on : Channel T
       s_on = record s { set = words_then; claims = s.claims; book = s.book; events = s.events ++ [] }
 
-      pub goes_steps : Steps code slots queue s latest turns changes since x s_on
+      pub goes_steps : Steps code slots queue s latest turns changes since x 0 s_on
           (Open (starts.Loan calls.Reclaim) wrote) calls.Reclaim ask false (GoOn flight_on) []
       goes_steps =
           let one = one_step slots index stage in
@@ -273,64 +229,14 @@ module _ {T : Type 0} (code : Coding T) (slots queue : ℕ) (s : Channel T) (lat
     module _ (good : indices.Good slots words_then s.claims 0)
         (none : (j : ℕ) → j < slots → place_at s.book.places j ≢ places.Sent)
         (more : x.steps + 1 ≤ 8 * (slots + 1) + 5 * (number + 1)) (small : turns < 2 ^ 64 - 2) where
-      abbrev answer : Answer T
-      answer = Number (number + 1)
-
-      abbrev end : Event T
-      end = Finished 0 (starts.Loan calls.Reclaim) answer
-
-      abbrev book_end : Book
-      book_end = reclaimed s.book
-
-      abbrev y_end : Party T
-      y_end = party_then s x since changes calls.Reclaim ask false (Done answer)
-
-      abbrev s_end : Channel T
-      s_end = set_then slots queue s latest turns y_end words_then s.claims book_end (end ∷ [])
-
-      home : (i : ℕ) → IsHome (spot_of i s.events)
-      home = grind (arith, all_home)
-
-      next_receiver : receiver_of (s.events ++ end ∷ []) ≡ receiver_of s.events + 1
-      next_receiver = receiver_then s.events answer
-
-      ended_then : span_of 0 (s.events ++ end ∷ []) ≡ Ended (starts.Loan calls.Reclaim) answer wrote
-      ended_then = grind (arith, span_of-own, fold)
-
-      on_set_ends : OnSet slots queue s latest turns y_end words_then s.claims book_end (end ∷ [])
-      on_set_ends =
-          let next = next_receiver in
-          let most = h.receivers.1 in
-          record {
-            good = good;
-            unlocked = step.unlocked;
-            queue_stays = refl;
-            placed = placed_ended s.events answer home slots s.claims s.submission.waiting s.completion.waiting s.book h.parts.placed (omega arith);
-            silent = record { publishes = refl; hands_out = refl; gives = refl; takes = refl; acts = refl };
-            calm_before = ap (hung s.submission.read) here;
-            calm_after = refl;
-            reclaiming = sym (ap reclaims_in ended_then);
-            receivers = (omega arith, omega arith);
-            moves = (tt, tt);
-            begins = (tt, tt);
-            answers = (home, tt);
-            passing = λ i q e. none_passing s.events answer home i q e;
-          }
-
-      pub ends_steps : Steps code slots queue s latest turns changes since x s_end
-          (Open (starts.Loan calls.Reclaim) wrote) calls.Reclaim ask false (Done answer) (end ∷ [])
+      pub ends_steps : Steps code slots queue s latest turns changes since x 0
+          (s_end code slots queue s latest turns changes since x h wrote from straight (Releases number index stage) at ask words_then (number + 1))
+          (Open (starts.Loan calls.Reclaim) wrote) calls.Reclaim ask false (Done (Number (number + 1))) (end_of (Number (number + 1)) ∷ [])
       ends_steps =
           let one = one_step slots index stage in
           let below = at.stage_at.1 in
           let less = at.stage_at.2 in
-          let count : length (freed wrote) ≡ number + 1 = at.stage_at.3 ∙ ap (λ n. number + n) heavy in
-          record {
-            words = whole_words stage here at;
-            shows = set_shows slots queue s latest turns y_end words_then s.claims book_end (end ∷ []) h on_set_ends;
-            own = (refl, tt);
-            stands = ((refl, record { moments = at.acts; done = (count, at.claims, at.publishes, at.gives) }), tt);
-            here = record { answer = answer; wrote = wrote; span = refl; steps = omega arith };
-            knows = omega arith;
-            theirs = λ q ne. dead_stays slots queue s s_end at.dead refl (λ i stage known. known) q;
-            up = record { write = omega arith; read = omega arith; paid = omega arith };
-          }
+          reclaim_ends code slots queue s latest turns changes since x h wrote from straight (Releases number index stage) at
+          ask words_then (number + 1)
+          (record { words = whole_words stage here at; good = good; unlocked = step.unlocked; calm = ap (hung s.submission.read) here })
+          at.stage_at.6 at.stage_at.7 none (at.stage_at.3 ∙ ap (λ n. number + n) heavy) (omega arith) small

@@ -1,12 +1,11 @@
 -- The steps of a give-back: the receiver pushes its index into the completion queue, where there is room for each one.
 use Rattle.laws_loan.proofs.Names.{◌≡◌, ◌≢◌, ℕ, ◌+◌, ◌-◌, ◌^◌, ◌<◌, ◌≤◌, Bool, true, false, Option, List, [], ◌∷◌}
-use Rattle.laws_loan.proofs.Names.{◌++◌, length, refl, sym, ap, subst, ◌∙◌, append-nil, append_assoc, fold-append}
-use Rattle.laws_loan.proofs.Names.{Ask, Want, After, GoOn, Push, completion_word, shifted, part_after, went_on}
-use Rattle.laws_loan.proofs.Names.{Answer, Event, Returned, Finished, Start, LoanFlight, GiveBack, Effect, Party}
-use Rattle.laws_loan.proofs.Names.{Coding, one_word, ask_of, has_died, Passing, Returning, spot_of, receiver_after}
-use Rattle.laws_loan.proofs.Names.{receiver_of, give_back_effect, as_it_is, words_of_index, Span, Open, span_of}
-use Rattle.laws_loan.proofs.Names.{as_call, old_of, words_after, step_count, span_of-other, Core, filled, layout}
-use Rattle.laws_loan.proofs.Names.{KnowsPush, KnowsPop, push_number}
+use Rattle.laws_loan.proofs.Names.{◌++◌, length, refl, sym, ap, subst, ◌∙◌, append-nil, append_assoc, Ask, Want}
+use Rattle.laws_loan.proofs.Names.{After, GoOn, Push, completion_word, shifted, part_after, went_on, Answer, Event}
+use Rattle.laws_loan.proofs.Names.{Returned, Finished, Start, LoanFlight, GiveBack, Effect, Party, Coding, one_word}
+use Rattle.laws_loan.proofs.Names.{ask_of, has_died, Passing, Returning, spot_of, give_back_effect, as_it_is}
+use Rattle.laws_loan.proofs.Names.{words_of_index, Span, Open, span_of, as_call, old_of, words_after, step_count}
+use Rattle.laws_loan.proofs.Names.{span_of-other, Core, filled, layout, KnowsPush, KnowsPop, push_number}
 use Rattle.std.proofs.Common.{arith}
 use Rattle.steps.specs.declared.ask.After.TheVariants.{Done}
 use Rattle.steps.specs.declared.queues.ring.PushStage.{PushStage}
@@ -18,23 +17,24 @@ use Rattle.model.specs.declared.event.Start.TheVariants as starts
 use Rattle.model.specs.declared.families.loan.LoanStart.TheVariants as calls
 use Rattle.model.specs.declared.families.loan.effects.Effect.TheVariants as effects
 use Rattle.laws_queues.proofs.Queues.Core.{Good, published}
-use Rattle.laws_loan.proofs.Carried.{moved_on}
 use Rattle.laws_loan.proofs.Channel.{Channel, no_roles, words_in}
 use Rattle.laws_loan.proofs.Completion as completion
 use Rattle.laws_loan.proofs.Cuts.{IsOn}
-use Rattle.laws_loan.proofs.Giving.{OnCompletion, GivesBy, given_shows, gives_on}
-use Rattle.laws_loan.proofs.Invariant.{sends_at, counted_for, reclaims_in, HoldsNow}
+use Rattle.laws_loan.proofs.Giving.{GivesBy, gives_on}
+use Rattle.laws_loan.proofs.Invariant.{sends_at, counted_for, HoldsNow}
 use Rattle.laws_loan.proofs.Knows.{Passes}
-use Rattle.laws_loan.proofs.Mine.{fill_keeps, publish_keeps}
-use Rattle.laws_loan.proofs.OnQueues.{silent_tells}
+use Rattle.laws_loan.proofs.Mine.{fill_keeps, at_given, given_then, publish_keeps}
+use Rattle.laws_loan.proofs.OneMove.{OneMove, carried, passes_on, same_receiver}
 use Rattle.laws_loan.proofs.Parts.{completion_long, completion_old, completion_words}
 use Rattle.laws_loan.proofs.Placed.{Placed}
 use Rattle.laws_loan.proofs.Rooms.{returns_room}
 use Rattle.laws_loan.proofs.Sender.{party_then}
-use Rattle.laws_loan.proofs.Spots.{passing_same, returning_passes, passing_on, spot_stays, spot_other, spot_moved}
+use Rattle.laws_loan.proofs.Spots.{passing_same, returning_passes}
 use Rattle.laws_loan.proofs.Still.{placed_still}
 use Rattle.laws_loan.proofs.Table.{returns_it}
+use Rattle.laws_loan.proofs.Told.{silent_tells}
 use Rattle.laws_loan.proofs.Told.{is_reclaiming}
+use Rattle.laws_loan.proofs.Turns.{Shows, sends_still}
 
 abbrev pub push_on : ℕ → PushStage → Push ℕ
 push_on slots stage = record { capacity = slots; stage = stage; of = record {} }
@@ -156,24 +156,11 @@ module _ {T : Type 0} (code : Coding T) (slots queue : ℕ) (s : Channel T) (lat
   whole : (s.events ++ returned ∷ []) ++ ends ∷ [] ≡ s.events ++ told
   whole = append_assoc s.events (returned ∷ []) (ends ∷ [])
 
-  elsewhere : (i : ℕ) → index ≢ i → spot_of i (s.events ++ told) ≡ spot_of i s.events
-  elsewhere i ne =
-      ap (spot_of i) (sym whole)
-      ∙ (spot_stays (s.events ++ returned ∷ []) ends i refl
-      ∙ spot_other s.events returned (record { index = index; from = Passing p; to = Returning }) refl i ne)
+  one_move : OneMove p index s.events told (Passing p) Returning
+  one_move = let was = passes.1 in grind arith
 
-  now_returning : spot_of index (s.events ++ told) ≡ Returning
-  now_returning =
-      ap (spot_of index) (sym whole)
-      ∙ (spot_stays (s.events ++ returned ∷ []) ends index refl
-      ∙ spot_moved s.events returned (record { index = index; from = Passing p; to = Returning }) refl)
-
-  -- what is in passing in another party's call stays so
-  passes_on : (q i : ℕ) → q ≢ p → spot_of i s.events ≡ Passing q → spot_of i (s.events ++ told) ≡ Passing q
-  passes_on q i ne e = passing_on s.events told index elsewhere (Passing p) passes.1 q (λ same. ne (sym (passing_same p q same))) i e
-
-  same_receiver : receiver_of (s.events ++ told) ≡ receiver_of s.events
-  same_receiver = fold-append receiver_after 1 s.events told
+  senders_span : span_of 0 (s.events ++ told) ≡ span_of 0 s.events
+  senders_span = span_of-other p 0 s.events told (λ e. other (sym e)) (refl, (refl, tt))
 
   placed_end : Placed slots s.claims s.submission.waiting full.waiting s.book (s.events ++ told)
   placed_end =
@@ -185,50 +172,32 @@ module _ {T : Type 0} (code : Coding T) (slots queue : ℕ) (s : Channel T) (lat
       (record { moves = refl; receiver = λ r. refl; dead = λ q b. refl }, tt) placed)
 
   module _ (good : Good 1 words_of_index slots full) where
-    on_completion_end : OnCompletion slots queue s latest turns p y_end full told
-    on_completion_end =
-        let given = h.given in
-        let same = same_receiver in
-        record {
-          other = other;
-          good = good;
-          placed = placed_end;
-          tells = silent_tells queue (is_reclaiming s.events) s.submission.waiting s.completion.waiting full.waiting told refl refl refl refl;
-          reclaiming = h.reclaiming ∙ ap reclaims_in (sym (span_of-other p 0 s.events told (λ e. other (sym e)) (refl, (refl, tt))));
-          write = omega arith;
-          receivers = (omega arith, omega arith);
-          moves = ((passes.0, passes.1), (tt, tt));
-          begins = (tt, (tt, tt));
-          answers = (tt, (tt, tt));
-          passing =
-              moved_on p s.events told (refl, (refl, tt)) spanned from index elsewhere h.passing
-              (λ i ne carried. absurd (ne (sym carried.0))) Returning now_returning (λ q e. absurd (returning_passes q e));
-        }
+    shows_end : Shows slots queue s (given_then slots queue s full (s.events ++ told) p) p y_end latest turns told
+    shows_end =
+        let below = passes.0 in
+        let was = passes.1 in
+        let tells =
+        silent_tells queue (is_reclaiming s.events) s.submission.waiting s.completion.waiting full.waiting told refl refl refl refl in
+        let still = sends_still latest y_end p other in
+        let passing =
+        carried p index s.events told (Passing p) Returning one_move spanned from h.passing
+        (λ i ne held. absurd (ne (sym held.0))) (λ q e. absurd (returning_passes q e)) in
+        grind (arith, same_receiver, one_move, placed_end, senders_span)
 
     ends_with : x.steps ≤ 3 → StepTo full last (Done (answers.Truth true)) (effects.Returns index)
-    ends_with steps = (
-      record {
-        words =
-            words_are last full (let wide = long in omega arith)
-            (completion.publish_words slots some few s.completion h.parts.completion reached index room);
-        shows = given_shows slots queue s latest turns p y_end full told h on_completion_end;
-        own = (refl, (refl, tt));
-        stands = (
-          (refl, record { claimed = refl; published = refl; handed_out = refl; given_back = refl; taken_back = refl; freed = refl }),
-          (
-            (
-              refl,
-              grind arith,
-            ),
-            tt,
-          ),
-        );
-        here = record { answer = answers.Truth true; wrote = returned ∷ []; span = refl; steps = omega arith };
-        knows = omega arith;
-        gives = record { receiver = receives; alive = alive; pop = publish_keeps slots s.completion index; passes = passes_on };
-      },
-      refl,
-    )
+    ends_with steps =
+        let words =
+        words_are last full (let wide = long in omega arith)
+        (completion.publish_words slots some few s.completion h.parts.completion reached index room) in
+        let others =
+        at_given slots queue s full (s.events ++ told) p
+        (record {
+          receiver = receives;
+          alive = alive;
+          pop = publish_keeps slots s.completion index;
+          passes = λ q i ne. passes_on p index s.events told (Passing p) Returning one_move q (λ same. ne (sym (passing_same p q same))) i;
+        }) in
+        grind (arith, shows_end)
 
   -- ---- each of its stages
 

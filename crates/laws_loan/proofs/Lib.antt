@@ -34,8 +34,7 @@ pub mod LockFree
 pub mod Lowers
 pub mod Mine
 mod Names
-pub mod OnQueues
-pub mod OnSet
+pub mod OneMove
 pub mod Opens
 pub mod Parts
 pub mod Placed
@@ -45,6 +44,7 @@ pub mod ReceiveSteps
 pub mod ReceiveTakes
 pub mod Received
 pub mod Receives
+pub mod ReclaimEnds
 pub mod ReclaimGoes
 pub mod ReclaimStep
 pub mod Reclaiming

@@ -6,6 +6,14 @@ use Rattle.std.proofs.Common.{arith}
 use Rattle.laws_indices.proofs.Sums.{sum_below, sum_moved, sum_none}
 use Rattle.laws_loan.proofs.Spots.{spot_stays, spot_other, spot_moved}
 
+-- ---- how a queue goes on by whether an index leaves it and whether it comes
+
+abbrev pub Goes : ℕ → Bool → Bool → List ℕ → List ℕ → Type 0
+Goes index false false xs ys = ys ≡ xs
+Goes index false true xs ys = ys ≡ xs ++ index ∷ []
+Goes index true false xs ys = xs ≡ index ∷ ys
+Goes index true true xs ys = ⊥
+
 -- ---- how often a number stands in a list
 
 abbrev pub times : ℕ → List ℕ → ℕ
@@ -115,15 +123,15 @@ module _ {T : Type 0} (is : Spot → Bool) where
           apart ne = there i ne ∙ sym (others i ne)
 
       -- an index moves between other spots
-      pub lists_pass : is (spot_of m.index events) ≡ false → is m.to ≡ false → Lists xs (events ++ e ∷ [])
+      lists_pass : is (spot_of m.index events) ≡ false → is m.to ≡ false → Lists xs (events ++ e ∷ [])
       lists_pass from to = each xs (all m.index ∙ (ap one_if from ∙ sym (ap one_if to))) (λ i ne. refl)
 
       -- an index comes
-      pub lists_push : is (spot_of m.index events) ≡ false → is m.to ≡ true → Lists (xs ++ m.index ∷ []) (events ++ e ∷ [])
+      lists_push : is (spot_of m.index events) ≡ false → is m.to ≡ true → Lists (xs ++ m.index ∷ []) (events ++ e ∷ [])
       lists_push x0 x1 = grind (arith, times_more, same_one, each, other_none)
 
       -- the first one leaves
-      pub lists_pop : (rest : List ℕ) → xs ≡ m.index ∷ rest → is m.to ≡ false → Lists rest (events ++ e ∷ [])
+      lists_pop : (rest : List ℕ) → xs ≡ m.index ∷ rest → is m.to ≡ false → Lists rest (events ++ e ∷ [])
       lists_pop rest front to =
           let before : times m.index xs ≡ one_if (m.index == m.index) + times m.index rest = ap (times m.index) front in
           let most = one_at_most (is (spot_of m.index events)) in
@@ -132,3 +140,11 @@ module _ {T : Type 0} (is : Spot → Bool) where
           let self = same_one m.index in
           each rest (omega arith)
           (λ i ne. let shorter : times i xs ≡ one_if (m.index == i) + times i rest = ap (times i) front in let other = other_none m.index i ne in omega arith)
+
+      -- any of these, by whether the index leaves this queue and whether it comes
+      pub lists_go : (from to : Bool) → is (spot_of m.index events) ≡ from → is m.to ≡ to → (ys : List ℕ)
+          → Goes m.index from to xs ys → Lists ys (events ++ e ∷ [])
+      lists_go false false apart away ys goes = subst (λ zs. Lists zs (events ++ e ∷ [])) (sym goes) (lists_pass apart away)
+      lists_go false true apart comes ys goes = subst (λ zs. Lists zs (events ++ e ∷ [])) (sym goes) (lists_push apart comes)
+      lists_go true false leaves away ys goes = lists_pop ys goes away
+      lists_go true true leaves comes ys goes = absurd goes

@@ -1,10 +1,9 @@
 -- A loan's acquire, as steps of the machine.
+use Rattle.laws_loan.proofs.Names.{Ok, Err, ◌≡◌, ℕ, ◌-◌, ◌^◌, ◌<◌, false, Bool, Option, List, [], refl, sym, subst}
+use Rattle.laws_loan.proofs.Names.{Ask, After, GoOn, AcquireStage, Acquired, acquire_asks, acquire_takes}
+use Rattle.laws_loan.proofs.Names.{acquire_goes_back, went_on, Answer, LoanFlight, Party, Coding, ask_of, as_it_is}
+use Rattle.laws_loan.proofs.Names.{Open, span_of, as_call, old_of, words_after, Trace}
 use Rattle.std.proofs.Common.{arith}
-use Rattle.laws_loan.proofs.Names.{Ok, Err, ◌≡◌, ℕ, ◌-◌, ◌^◌, ◌<◌, false, Bool, Option, Some, List, [], ◌∷◌, ◌++◌}
-use Rattle.laws_loan.proofs.Names.{set, refl, sym, subst, Ask, After, GoOn, AcquireStage, Acquired}
-use Rattle.laws_loan.proofs.Names.{acquire_asks, acquire_takes, acquire_goes_back, went_on, Answer, Event, Claimed}
-use Rattle.laws_loan.proofs.Names.{Finished, Book, LoanFlight, Party, Coding, ask_of, book_after, as_it_is, Open}
-use Rattle.laws_loan.proofs.Names.{span_of, as_call, old_of, words_after, Trace}
 use Rattle.steps.specs.declared.ask.After.TheVariants.{Done}
 use Rattle.steps.specs.declared.indices.enums.UniqueIndexSetAcquireFailure as failures
 use Rattle.steps.specs.declared.indices.unique.Acquire as acquire_calls
@@ -49,24 +48,13 @@ module _ {T : Type 0} (code : Coding T) (slots queue : ℕ) (t : Trace T)
   With back after =
       ComesBy code slots queue t sound x since 0 calls.Loan ask back after effects.Claims
 
-  abbrev told : ℕ → List (Event T)
-  told i = Claimed 0 i ∷ Finished 0 (starts.TheVariants.Loan calls.Loan) (answers.Index i) ∷ []
-
-  abbrev failed : List (Event T)
-  failed = Finished 0 (starts.TheVariants.Loan calls.Loan) (answers.NoIndex failures.TheVariants.OutOfIndices) ∷ []
-
-  abbrev claimed_book : ℕ → Book
-  claimed_book i = record (book_after {T = T} sound.state.book (Claimed 0 i)) { holders = set sound.state.book.holders i (Some 0) }
-
   leads_on : (acquire : After acquire_calls.Acquire Acquired)
       → AcquireLeads slots stage sound.state.set words_then sound.state.claims acquire
       → With false (loaned_after T acquire)
   leads_on (GoOn acquire) l =
       subst (λ c. With false (GoOn (Loan (record { call = record { capacity = c; stage = acquire.stage }; given = tt; room = tt })))) (sym l.1)
       (from_step code slots queue t sound small x since calls.Loan ask (GoOn (loan_at slots acquire.stage))
-      effects.Claims
-      (record sound.state { set = words_then; claims = sound.state.claims; book = sound.state.book; events = sound.state.events ++ [] })
-      [] from (
+      effects.Claims _ [] from (
         goes_steps code slots queue sound.state t.world.latest t.world.turns t.world.changes since x
             (holds_now code slots queue t sound x since) stage there.found there.at.3 from there.steps there.knows
             acquire.stage l.0 l.2 l.3,
@@ -74,12 +62,7 @@ module _ {T : Type 0} (code : Coding T) (slots queue : ℕ) (t : Trace T)
       ))
   leads_on (Done (Ok i)) l =
       from_step code slots queue t sound small x since calls.Loan ask (Done (answers.Index i)) effects.Claims
-      (record sound.state {
-        set = words_then;
-        claims = set sound.state.claims i (Some 0);
-        book = claimed_book i;
-        events = sound.state.events ++ told i;
-      }) [] from (
+      _ [] from (
         claims_steps code slots queue sound.state t.world.latest t.world.turns t.world.changes since x
             (holds_now code slots queue t sound x since) stage there.found there.at.3 from there.steps there.knows i l.1
             l.0 l.2 l.3,
@@ -87,12 +70,7 @@ module _ {T : Type 0} (code : Coding T) (slots queue : ℕ) (t : Trace T)
       )
   leads_on (Done (Err failures.TheVariants.OutOfIndices)) l =
       from_step code slots queue t sound small x since calls.Loan ask
-      (Done (answers.NoIndex failures.TheVariants.OutOfIndices)) effects.Claims (record sound.state {
-        set = words_then;
-        claims = sound.state.claims;
-        book = sound.state.book;
-        events = sound.state.events ++ failed;
-      }) [] from (
+      (Done (answers.NoIndex failures.TheVariants.OutOfIndices)) effects.Claims _ [] from (
         fails_steps code slots queue sound.state t.world.latest t.world.turns t.world.changes since x
             (holds_now code slots queue t sound x since) stage there.found there.at.3 from there.steps there.knows l.0 l.1
             l.2,

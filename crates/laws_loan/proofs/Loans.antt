@@ -1,10 +1,9 @@
 -- The steps of a loan: the sender acquires an index of the set.
-use Rattle.laws_loan.proofs.Names.{◌≡◌, ◌≢◌, ℕ, ◌+◌, ◌<◌, ◌≤◌, false, Option, Some, None, List, [], ◌∷◌, ◌++◌, fold}
-use Rattle.laws_loan.proofs.Names.{set, refl, sym, ap, subst, ◌∙◌, append_assoc, fold-append, Ask, GoOn, AcquireStage}
-use Rattle.laws_loan.proofs.Names.{acquire_asks, Answer, Event, Claimed, Finished, Book, LoanFlight, Party, Coding}
-use Rattle.laws_loan.proofs.Names.{ask_of, Spot, Free, Passing, With, spot_of, receiver_after, receiver_of}
-use Rattle.laws_loan.proofs.Names.{book_after, Open, Ended, own_after, span_of, words_after, step_count, span_of-own}
-use Rattle.laws_loan.proofs.Names.{holder, acquire_counts, acquire_number}
+use Rattle.laws_loan.proofs.Names.{◌≡◌, ◌≢◌, ℕ, ◌+◌, ◌<◌, ◌≤◌, false, Option, Some, None, List, [], ◌∷◌, ◌++◌, set}
+use Rattle.laws_loan.proofs.Names.{refl, sym, ap, subst, ◌∙◌, append_assoc, Ask, GoOn, AcquireStage, acquire_asks}
+use Rattle.laws_loan.proofs.Names.{Answer, Event, Claimed, Finished, Book, LoanFlight, Party, Coding, ask_of, Spot}
+use Rattle.laws_loan.proofs.Names.{Free, Passing, With, spot_of, book_after, Open, Ended, span_of, words_after}
+use Rattle.laws_loan.proofs.Names.{step_count, holder, acquire_counts, acquire_number, append-nil}
 use Rattle.std.proofs.Common.{get_or-set_same, arith}
 use Rattle.steps.specs.declared.ask.After.TheVariants.{Done}
 use Rattle.steps.specs.declared.indices.enums.UniqueIndexSetAcquireFailure as failures
@@ -15,19 +14,19 @@ use Rattle.model.specs.declared.families.Flight as flights
 use Rattle.model.specs.declared.families.loan.LoanStart.TheVariants as calls
 use Rattle.model.specs.declared.families.loan.calls.LoanFlight.TheVariants.{Loan}
 use Rattle.laws_indices.proofs.Core as indices
-use Rattle.laws_loan.proofs.Carried.{moved_on}
 use Rattle.laws_loan.proofs.Channel.{Channel, words_in}
 use Rattle.laws_loan.proofs.Invariant.{sends_at, counted_for, hung, reclaims_in, HoldsNow}
-use Rattle.laws_loan.proofs.OnSet.{OnSet, set_then, set_shows}
+use Rattle.laws_loan.proofs.OneMove.{OneMove, carried, passes_on, same_receiver, span_after}
 use Rattle.laws_loan.proofs.Parts.{set_words}
 use Rattle.laws_loan.proofs.Placed.{claim_of, Placed}
 use Rattle.laws_loan.proofs.Rests as rests
 use Rattle.laws_loan.proofs.Sender.{party_then, Steps}
 use Rattle.laws_loan.proofs.SetSteps.{TakesAt, AcquireStep, acquire_step}
-use Rattle.laws_loan.proofs.Spots.{free_passes, with_passes, passing_on, spot_other, spot_moved}
+use Rattle.laws_loan.proofs.Spots.{free_passes, with_passes, spot_moved}
 use Rattle.laws_loan.proofs.Table.{claims_it, loan_ends}
-use Rattle.laws_loan.proofs.Theirs.{stays_beside}
-use Rattle.laws_loan.proofs.Told.{is_reclaiming}
+use Rattle.laws_loan.proofs.Theirs.{others_beside}
+use Rattle.laws_loan.proofs.Told.{items, is_reclaiming}
+use Rattle.laws_loan.proofs.Turns.{Shows, sends_now}
 
 abbrev pub loan_at : ℕ → AcquireStage → LoanFlight
 loan_at slots stage = Loan (record { call = record { capacity = slots; stage = stage }; given = tt; room = tt })
@@ -73,7 +72,7 @@ module _ {T : Type 0} (code : Coding T) (slots queue : ℕ) (s : Channel T) (lat
     abbrev s_on : Channel T
     s_on = record s { set = words_then; claims = s.claims; book = s.book; events = s.events ++ [] }
 
-    pub goes_steps : Steps code slots queue s latest turns changes since x s_on (Open (starts.Loan calls.Loan) [])
+    pub goes_steps : Steps code slots queue s latest turns changes since x 0 s_on (Open (starts.Loan calls.Loan) [])
         calls.Loan ask false (GoOn (loan_at slots stage')) []
     goes_steps =
         let one = one_step slots stage in
@@ -91,7 +90,7 @@ module _ {T : Type 0} (code : Coding T) (slots queue : ℕ) (s : Channel T) (lat
     abbrev s_fails : Channel T
     s_fails = record s { set = words_then; claims = s.claims; book = s.book; events = s.events ++ Finished 0 (starts.Loan calls.Loan) none_left ∷ [] }
 
-    pub fails_steps : Steps code slots queue s latest turns changes since x s_fails
+    pub fails_steps : Steps code slots queue s latest turns changes since x 0 s_fails
         (Open (starts.Loan calls.Loan) []) calls.Loan ask false (Done none_left) (Finished 0 (starts.Loan calls.Loan) none_left ∷ [])
     fails_steps =
         let one = one_step slots stage in
@@ -128,7 +127,7 @@ module _ {T : Type 0} (code : Coding T) (slots queue : ℕ) (s : Channel T) (lat
     told = claims_i ∷ ends ∷ []
 
     abbrev s_got : Channel T
-    s_got = set_then slots queue s latest turns y_got words_then (set s.claims i (Some 0)) book_got told
+    s_got = record s { set = words_then; claims = set s.claims i (Some 0); book = book_got; events = s.events ++ told }
 
     whole : (s.events ++ claims_i ∷ []) ++ ends ∷ [] ≡ s.events ++ told
     whole = append_assoc s.events (claims_i ∷ []) (ends ∷ [])
@@ -148,64 +147,25 @@ module _ {T : Type 0} (code : Coding T) (slots queue : ℕ) (s : Channel T) (lat
         (s.events ++ claims_i ∷ []) first i below now_passing
         (get_or-set_same s.book.places i places.Loaned places.Free (omega arith)))
 
-    -- the others are where they were
-    elsewhere : (j : ℕ) → i ≢ j → spot_of j (s.events ++ told) ≡ spot_of j s.events
-    elsewhere j ne =
-        ap (spot_of j) (sym whole)
-        ∙ (spot_other (s.events ++ claims_i ∷ []) ends (record { index = i; from = Passing 0; to = With 0 }) refl j ne
-        ∙ spot_other s.events claims_i (record { index = i; from = Free; to = Passing 0 }) refl j ne)
-
-    now_with : spot_of i (s.events ++ told) ≡ With 0
-    now_with = ap (spot_of i) (sym whole) ∙ spot_moved (s.events ++ claims_i ∷ []) ends (record { index = i; from = Passing 0; to = With 0 }) refl
-
-    same_receiver_got : receiver_of (s.events ++ told) ≡ receiver_of s.events
-    same_receiver_got = fold-append receiver_after 1 s.events told
+    one_move : OneMove 0 i s.events told Free (With 0)
+    one_move = grind (arith, free_before)
 
     ended_got : span_of 0 (s.events ++ told) ≡ Ended (starts.Loan calls.Loan) got (claims_i ∷ [])
-    ended_got = span_of-own 0 s.events told (refl, (refl, tt)) ∙ ap (λ span. fold own_after span told) from
+    ended_got = span_after 0 i s.events told Free (With 0) one_move (Open (starts.Loan calls.Loan) []) from
 
-    on_set_got : OnSet slots queue s latest turns y_got words_then (set s.claims i (Some 0)) book_got told
-    on_set_got =
-        let same = same_receiver_got in
-        record {
-          good = good;
-          unlocked = step.unlocked;
-          queue_stays = refl;
-          placed = placed_got;
-          silent = record { publishes = refl; hands_out = refl; gives = refl; takes = refl; acts = refl };
-          calm_before = calm_before;
-          calm_after = refl;
-          reclaiming = quiet ∙ sym (ap reclaims_in ended_got);
-          receivers = (omega arith, omega arith);
-          moves = ((below, free_before), ((below, now_passing), tt));
-          begins = (tt, (tt, tt));
-          answers = (tt, (tt, tt));
-          passing =
-              moved_on 0 s.events told (refl, (refl, tt)) (Open (starts.Loan calls.Loan) []) from i elsewhere h.passing
-              (λ j ne carried. absurd carried) (With 0) now_with (λ q e. absurd (with_passes 0 q e));
-        }
+    shows_got : Shows slots queue s s_got 0 y_got latest turns told
+    shows_got =
+        let passing =
+        carried 0 i s.events told Free (With 0) one_move (Open (starts.Loan calls.Loan) []) from h.passing
+        (λ j ne held. absurd held) (λ q e. absurd (with_passes 0 q e)) in
+        let unlocked = step.unlocked in
+        grind (arith, ended_got, sends_now, append-nil, items, same_receiver, one_move, placed_got, now_passing, free_before, calm_before, quiet)
 
-    pub claims_steps : Steps code slots queue s latest turns changes since x s_got (Open (starts.Loan calls.Loan) []) calls.Loan ask false (Done got) told
+    pub claims_steps : Steps code slots queue s latest turns changes since x 0 s_got (Open (starts.Loan calls.Loan) []) calls.Loan ask false (Done got) told
     claims_steps =
         let one = one_step slots stage in
-        record {
-          words = whole_words;
-          shows = set_shows slots queue s latest turns y_got words_then (set s.claims i (Some 0)) book_got told h on_set_got;
-          own = (refl, (refl, tt));
-          stands = (
-            record { claimed = refl; published = refl; handed_out = refl; given_back = refl; taken_back = refl; freed = refl },
-            (
-              (
-                refl,
-                grind arith,
-              ),
-              tt,
-            ),
-          );
-          here = record { answer = got; wrote = claims_i ∷ []; span = refl; steps = omega arith };
-          knows = omega arith;
-          theirs = λ q ne.
-              stays_beside slots queue s s_got q refl refl (λ room stage known. known) (λ i stage known. known)
-              (passing_on s.events told i elsewhere Free free_before q (free_passes q));
-          up = record { write = omega arith; read = omega arith; paid = omega arith };
-        }
+        let words = whole_words in
+        let others =
+        others_beside slots queue s s_got refl refl (λ room stage known. known) (λ i stage known. known)
+        (λ q ne. passes_on 0 i s.events told Free (With 0) one_move q (free_passes q)) in
+        grind (arith, shows_got)

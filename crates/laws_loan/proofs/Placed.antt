@@ -1,13 +1,12 @@
 -- Where each index is by the events, beside what is kept: who has claimed it, which indices wait in the two queues, and the
 -- book; and what an event that moves one index leaves of them.
 use Rattle.laws_loan.proofs.Names.{◌≡◌, ◌≢◌, ℕ, ◌<◌, ◌≤◌, ◌⊎◌, ⊎_elim, false, Option, Some, None, List, [], ◌∷◌, ◌++◌}
-use Rattle.laws_loan.proofs.Names.{length, get_or, set, refl, sym, ap, subst, ◌∙◌, length-set, cases_eq, fold-append}
-use Rattle.laws_loan.proofs.Names.{place_at, Event, Book, has_died, holder_in, IsIn, KeepsBook, Spot, Free, Passing}
-use Rattle.laws_loan.proofs.Names.{With, Move, move_of, spot_of, receiver_after, receiver_of, died_after, has_died_by}
-use Rattle.laws_loan.proofs.Names.{holder}
-use Rattle.std.proofs.Common.{arith, get_or-set_other}
+use Rattle.laws_loan.proofs.Names.{length, get_or, refl, sym, ap, subst, ◌∙◌, cases_eq, fold-append, place_at, Event}
+use Rattle.laws_loan.proofs.Names.{Book, has_died, holder_in, IsIn, KeepsBook, Spot, Free, Passing, With, Move}
+use Rattle.laws_loan.proofs.Names.{move_of, spot_of, receiver_after, receiver_of, died_after, has_died_by, holder}
+use Rattle.std.proofs.Common.{arith}
 use Rattle.steps.specs.declared.loan.places.Place.TheVariants as places
-use Rattle.laws_loan.proofs.Lists.{Lists}
+use Rattle.laws_loan.proofs.Lists.{Goes, Lists, lists_go}
 use Rattle.laws_loan.proofs.Spots.{is_waiting, is_returning, spot_stays, spot_other, spot_moved}
 
 -- the sender has claimed an index that is not free
@@ -38,12 +37,6 @@ pub record DiffersAt {A : Type 0} (i : ℕ) (none : A) (xs xs' : List A) : Type 
   pub others : (j : ℕ) → i ≢ j → get_or xs' j none ≡ get_or xs j none
   pub long : length xs' ≡ length xs
 
-pub same_all : {A : Type 0} (i : ℕ) (none : A) (xs : List A) → DiffersAt i none xs xs
-same_all i none xs = record { others = λ j ne. refl; long = refl }
-
-pub set_one : {A : Type 0} (i : ℕ) (none v : A) (xs : List A) → DiffersAt i none xs (set xs i v)
-set_one i none v xs = record { others = λ j ne. get_or-set_other xs i j v none (λ e. ne (sym e)); long = length-set xs i v }
-
 module _ {T : Type 0} (slots : ℕ) (events : List (Event T)) (e : Event T) (m : Move) (is : move_of e ≡ Some m) where
   abbrev pub later : List (Event T)
   later = events ++ e ∷ []
@@ -53,12 +46,12 @@ module _ {T : Type 0} (slots : ℕ) (events : List (Event T)) (e : Event T) (m :
   here_and_there P here there i = ⊎_elim (λ same. subst P same here) (λ ne. there i ne) (cases_eq m.index i)
 
   -- what an event shows, after which the claims, the indices that wait and the book are these
-  pub record Shown (claims claims' : List (Option ℕ)) (sent' back' : List ℕ) (book book' : Book) : Type 0 where
+  pub record Shown (claims claims' : List (Option ℕ)) (sent sent' back back' : List ℕ) (book book' : Book) : Type 0 where
     pub below : m.index < slots
     pub claim : holder claims' m.index ≡ claim_of m.to
     pub other_claims : DiffersAt m.index None claims claims'
-    pub waits : Lists is_waiting sent' later
-    pub returns : Lists is_returning back' later
+    pub waits : Goes m.index (is_waiting (spot_of m.index events)) (is_waiting m.to) sent sent'
+    pub returns : Goes m.index (is_returning (spot_of m.index events)) (is_returning m.to) back back'
     pub party : (p : ℕ) → IsBy p m.to → (p ≡ 0) ⊎ (p ≡ receiver_of events)
     pub place : IsIn (place_at book'.places m.index) m.to
     pub other_places : DiffersAt m.index places.Free book.places book'.places
@@ -70,7 +63,7 @@ module _ {T : Type 0} (slots : ℕ) (events : List (Event T)) (e : Event T) (m :
         × (book'.receiver ≡ book.receiver) × (book'.dead ≡ book.dead)
 
   module _ (claims claims' : List (Option ℕ)) (sent sent' back back' : List ℕ) (book book' : Book)
-      (h : Placed slots claims sent back book events) (s : Shown claims claims' sent' back' book book') where
+      (h : Placed slots claims sent back book events) (s : Shown claims claims' sent sent' back back' book book') where
     same_receiver : receiver_of later ≡ receiver_of events
     same_receiver = fold-append receiver_after 1 events (e ∷ []) ∙ s.calm.0
 
@@ -103,8 +96,8 @@ module _ {T : Type 0} (slots : ℕ) (events : List (Event T)) (e : Event T) (m :
           past = here_and_there (λ i. slots ≤ i → spot_of i later ≡ Free)
               (λ beyond. let below = s.below in absurd (omega arith))
               (λ i ne beyond. spot_other events e m is i ne ∙ h.past i beyond);
-          waits = s.waits;
-          returns = s.returns;
+          waits = lists_go is_waiting sent events e h.waits m is (is_waiting (spot_of m.index events)) (is_waiting m.to) refl refl sent' s.waits;
+          returns = lists_go is_returning back events e h.returns m is (is_returning (spot_of m.index events)) (is_returning m.to) refl refl back' s.returns;
           parties = parties_more;
           claims_long = s.other_claims.long ∙ h.claims_long;
           places_long = s.other_places.long ∙ h.places_long;

@@ -1,13 +1,12 @@
 -- The store of the next write position by a send: its index is published, and the send acts where there is room.
-use Rattle.laws_loan.proofs.Names.{◌≡◌, ◌≢◌, ℕ, ◌+◌, ◌-◌, ◌^◌, ◌<◌, ◌≤◌, ◌==◌, Bool, true, false, Option, Some, List}
-use Rattle.laws_loan.proofs.Names.{[], ◌∷◌, ◌++◌, length, fold, refl, sym, ap, subst, ◌∙◌, append-nil, append_assoc}
-use Rattle.laws_loan.proofs.Names.{length-append, nat_tests, map-append, fold-append, Ask, After, GoOn}
-use Rattle.laws_loan.proofs.Names.{submission_word, distance, Answer, Event, Published, Acted, Finished, Item, Index}
-use Rattle.laws_loan.proofs.Names.{Start, Book, LoanFlight, Effect, Party, Coding, MovesRight, BeginsRight}
-use Rattle.laws_loan.proofs.Names.{AnswersRight, promise, Passing, Waiting, spot_of, receiver_of}
-use Rattle.laws_loan.proofs.Names.{reclaims_after, read_in, book_after, words_of_index, answer_of_item, flight_of}
-use Rattle.laws_loan.proofs.Names.{Stands, Open, own_after, span_of, change_of, AreOwn, AllFollow, AreRight}
-use Rattle.laws_loan.proofs.Names.{span_of-own, push_room, push_waits, publish_keeps_pop, Core, Holds}
+use Rattle.laws_loan.proofs.Names.{◌≡◌, ℕ, ◌+◌, ◌-◌, ◌^◌, ◌<◌, ◌≤◌, ◌==◌, Bool, true, false, Option, Some, List, []}
+use Rattle.laws_loan.proofs.Names.{◌∷◌, ◌++◌, length, fold, refl, sym, ap, subst, ◌∙◌, append-nil, append_assoc}
+use Rattle.laws_loan.proofs.Names.{length-append, nat_tests, map-append, Ask, After, GoOn, submission_word, distance}
+use Rattle.laws_loan.proofs.Names.{Answer, Event, Published, Acted, Finished, Index, Start, Book, LoanFlight, Effect}
+use Rattle.laws_loan.proofs.Names.{Party, Coding, MovesRight, BeginsRight, AnswersRight, promise, Passing, Waiting}
+use Rattle.laws_loan.proofs.Names.{reclaims_after, read_in, book_after, words_of_index, flight_of, Stands, Open}
+use Rattle.laws_loan.proofs.Names.{own_after, span_of, change_of, AreOwn, AllFollow, AreRight, push_room, push_waits}
+use Rattle.laws_loan.proofs.Names.{publish_keeps_pop, Core, Holds}
 use Rattle.std.proofs.Common.{arith}
 use Rattle.steps.specs.declared.ask.After.TheVariants.{Done}
 use Rattle.steps.specs.declared.queues.overflow.PushStage as pushes
@@ -18,21 +17,21 @@ use Rattle.model.specs.declared.families.loan.LoanStart.TheVariants as calls
 use Rattle.model.specs.declared.families.loan.effects.Effect.TheVariants as effects
 use Rattle.model.proofs.Frame as frame
 use Rattle.laws_queues.proofs.Queues.Core.{published}
-use Rattle.laws_loan.proofs.Carried.{moved_on}
 use Rattle.laws_loan.proofs.Channel.{Channel, words_in}
 use Rattle.laws_loan.proofs.Invariant.{Hangs, sends_at, counted_for, hung, reclaims_in, HoldsNow, family}
 use Rattle.laws_loan.proofs.Knows.{Passes, push_wrote}
-use Rattle.laws_loan.proofs.OnQueues.{OnQueues, queues_show}
+use Rattle.laws_loan.proofs.OneMove.{OneMove, calm_still, carried, last_still, of_still, passes_on, same_receiver, span_after}
 use Rattle.laws_loan.proofs.Placed.{Placed}
 use Rattle.laws_loan.proofs.Sender.{party_then, Steps}
 use Rattle.laws_loan.proofs.Sends.{pushes_at, asked, queued, StepTo, Does, does_by, reached, long, words_are, change_is, read_is, none_carried}
-use Rattle.laws_loan.proofs.Spots.{spot_other, spot_moved, passing_same, waiting_passes, passing_on}
-use Rattle.laws_loan.proofs.Still.{AreStill, spots_still, receiver_still, placed_still}
+use Rattle.laws_loan.proofs.Spots.{passing_same, waiting_passes}
+use Rattle.laws_loan.proofs.Still.{AreStill, placed_still}
 use Rattle.laws_loan.proofs.Submission as submission
 use Rattle.laws_loan.proofs.Submission.{Room, HasRoom, IsFull, HasMoved}
 use Rattle.laws_loan.proofs.Table.{publishes_it}
-use Rattle.laws_loan.proofs.Theirs.{stays_beside}
+use Rattle.laws_loan.proofs.Theirs.{others_beside}
 use Rattle.laws_loan.proofs.Told.{items, is_reclaiming, Tells}
+use Rattle.laws_loan.proofs.Turns.{Shows, sends_now}
 
 module _ {T : Type 0} (code : Coding T) (slots queue : ℕ) (s : Channel T) (latest : List (ℕ × Party T))
     (turns changes since : ℕ) (x : Party T) (h : HoldsNow slots queue s latest s.events turns)
@@ -114,17 +113,15 @@ module _ {T : Type 0} (code : Coding T) (slots queue : ℕ) (s : Channel T) (lat
     whole : (s.events ++ publishes ∷ []) ++ tail ≡ s.events ++ es
     whole = append_assoc s.events (publishes ∷ []) tail
 
-    elsewhere : (i : ℕ) → index ≢ i → spot_of i (s.events ++ es) ≡ spot_of i s.events
-    elsewhere i ne =
-        ap (spot_of i) (sym whole)
-        ∙ (spots_still i (s.events ++ publishes ∷ []) tail is.still
-        ∙ spot_other s.events publishes (record { index = index; from = Passing 0; to = Waiting }) refl i ne)
-
-    now_waiting : spot_of index (s.events ++ es) ≡ Waiting
-    now_waiting =
-        ap (spot_of index) (sym whole)
-        ∙ (spots_still index (s.events ++ publishes ∷ []) tail is.still
-        ∙ spot_moved s.events publishes (record { index = index; from = Passing 0; to = Waiting }) refl)
+    one_move : OneMove 0 index s.events es (Passing 0) Waiting
+    one_move =
+        record {
+          own = (refl, is.own);
+          of = (refl, of_still index tail is.still);
+          was = passes.1;
+          goes = last_still Waiting tail is.still;
+          calm = λ r. calm_still r tail is.still;
+        }
 
     placed_then : Placed slots s.claims k.waiting s.completion.waiting book (s.events ++ es)
     placed_then =
@@ -133,61 +130,43 @@ module _ {T : Type 0} (code : Coding T) (slots queue : ℕ) (s : Channel T) (lat
         (publishes_it slots s.claims s.submission.waiting s.completion.waiting s.book s.events h.parts.placed index passes.0 passes.1))
 
     span_then : span_of 0 (s.events ++ es) ≡ fold own_after (Open call (publishes ∷ [])) tail
-    span_then = span_of-own 0 s.events es (refl, is.own) ∙ ap (λ span. fold own_after span es) from
-
-    receiver_stays : receiver_of (s.events ++ es) ≡ receiver_of s.events
-    receiver_stays = grind (arith, whole, receiver_still, fold-append)
+    span_then = span_after 0 index s.events es (Passing 0) Waiting one_move (Open call []) from
 
     module _ (whole_cell : Holds 1 words_of_index (queue + 1) s.submission.cells s.submission.write index 1)
         (after : After LoanFlight (Answer T)) (busy : counted_for (flight_of (Some (party after).doing)) ≡ 0)
         (hangs : Hangs queue k (hung k.read (flight_of (Some (party after).doing))))
         (tells : Tells queue (is_reclaiming s.events) s.submission.waiting k.waiting s.completion.waiting s.completion.waiting es) where
-      on_queues : OnQueues slots queue s latest turns (party after) k s.completion book es
-      on_queues =
-          let sent = h.sent in
-          let given = h.given in
-          let same = receiver_stays in
-          record {
-            busy_before = ap counted_for here;
-            busy_after = busy;
-            queue_stays = refl;
-            submission = submission.publish_good queue h.parts.some h.parts.few s.submission h.parts.submission low_write index below whole_cell;
-            completion = h.parts.completion;
-            placed = placed_then;
-            tells = tells;
-            hangs = hangs;
-            sent = omega arith;
-            given = omega arith;
-            reclaiming = is.reclaims (is_reclaiming s.events) ∙ (h.reclaiming ∙ (ap reclaims_in from ∙ (sym is.other ∙ sym (ap reclaims_in span_then))));
-            receivers = (omega arith, omega arith);
-            moves = ((passes.0, passes.1), is.moves);
-            begins = (tt, is.begins);
-            answers = (tt, is.answers);
-            passing =
-                moved_on 0 s.events es (refl, is.own) (Open call []) from index elsewhere h.passing
-                (λ i ne. none_carried code slots queue s latest turns changes since x h small index straight i ne)
-                Waiting now_waiting (λ q e. absurd (waiting_passes q e));
-          }
+      shows : Shows slots queue s (s_then tail) 0 (party after) latest turns es
+      shows =
+          let good = submission.publish_good queue h.parts.some h.parts.few s.submission h.parts.submission low_write index below whole_cell in
+          let reclaims = is.reclaims (is_reclaiming s.events) in
+          let moves = is.moves in
+          let begins = is.begins in
+          let answers = is.answers in
+          let other = is.other in
+          let below = passes.0 in
+          let was = passes.1 in
+          let idle : counted_for (sends_at latest) ≡ 0 = ap counted_for here in
+          let passing =
+          carried 0 index s.events es (Passing 0) Waiting one_move (Open call []) from h.passing
+          (λ i ne. none_carried code slots queue s latest turns changes since x h small index straight i ne)
+          (λ q e. absurd (waiting_passes q e)) in
+          grind (arith, span_then, sends_now, same_receiver, one_move, placed_then)
 
       publishing : frame.Fits channel (s_then tail) 0 (Some (party after)) (fold own_after (Open call (publishes ∷ [])) tail)
           → frame.KnowsDoing channel (s_then tail) 0 (s.events ++ es) (changes + change_of (words_in s) asked_now) (party after).backs (party after).doing
-          → Steps code slots queue s latest turns changes since x (s_then tail) (Open call []) (calls.Send index) asked_now false after es
+          → Steps code slots queue s latest turns changes since x 0 (s_then tail) (Open call []) (calls.Send index) asked_now false after es
       publishing fits knows =
           let change = one in
-          record {
-            words =
-                words_are code slots queue s latest turns changes since x h small index straight stage k on
-                (submission.publish_words queue h.parts.some h.parts.few s.submission h.parts.submission low_write index);
-            shows = queues_show slots queue s latest turns (party after) k s.completion book es h on_queues;
-            own = (refl, is.own);
-            stands = ((refl, record { claimed = refl; published = refl; handed_out = refl; given_back = refl; taken_back = refl; freed = refl }), is.stands);
-            here = fits;
-            knows = knows;
-            theirs = λ q ne.
-                stays_beside slots queue s (s_then tail) q refl refl (publish_keeps_pop queue s.submission index) (λ i stage known. known)
-                (passing_on s.events es index elsewhere (Passing 0) passes.1 q (λ e. ne (sym (passing_same 0 q e))));
-            up = record { write = omega arith; read = omega arith; paid = omega arith };
-          }
+          let own = is.own in
+          let stands = is.stands in
+          let words =
+          words_are code slots queue s latest turns changes since x h small index straight stage k on
+          (submission.publish_words queue h.parts.some h.parts.few s.submission h.parts.submission low_write index) in
+          let others =
+          others_beside slots queue s (s_then tail) refl refl (publish_keeps_pop queue s.submission index) (λ i stage known. known)
+          (λ q ne. passes_on 0 index s.events es (Passing 0) Waiting one_move q (λ e. ne (sym (passing_same 0 q e)))) in
+          grind (arith, shows)
 
   -- ---- what the events tell
 
@@ -200,24 +179,14 @@ module _ {T : Type 0} (code : Coding T) (slots queue : ℕ) (s : Channel T) (lat
       (publishes ∷ acts ∷ [])
   acts_tells less =
       let list = push_room {T = T} queue s.submission.waiting index less in
-      record {
-        book = more;
-        given = append-nil s.completion.waiting;
-        goes = list.0;
-        answers = ap (λ (o : Option (Item T)). answer_of_item o ∷ []) list.1;
-      }
+      grind (arith, more, append-nil)
 
   ends_tells : length s.submission.waiting < queue
       → Tells queue (is_reclaiming s.events) s.submission.waiting k.waiting s.completion.waiting s.completion.waiting
       (publishes ∷ acts ∷ ends ∷ [])
   ends_tells less =
       let list = push_room {T = T} queue s.submission.waiting index less in
-      record {
-        book = more;
-        given = append-nil s.completion.waiting;
-        goes = list.0;
-        answers = ap (λ (o : Option (Item T)). answer_of_item o ∷ []) list.1;
-      }
+      grind (arith, more, append-nil)
 
   -- the queue is full: it waits
   waits_tells : length s.submission.waiting ≡ queue

@@ -12,11 +12,10 @@ use Rattle.model.specs.declared.event.Start.TheVariants as starts
 use Rattle.model.specs.declared.families.loan.LoanStart.TheVariants as calls
 use Rattle.model.specs.Parties.{party_of}
 use Rattle.model.proofs.Frame as frame
-use Rattle.laws_indices.proofs.Core as indices
 use Rattle.laws_loan.proofs.Channel.{Channel, Holds, no_roles, words_in}
 use Rattle.laws_loan.proofs.Hanging.{made, reclaims_made, carries_made, past_none, hung_span}
 use Rattle.laws_loan.proofs.HungSends.{Takes, taken_out, taken_then, sender_fits, none_reclaims}
-use Rattle.laws_loan.proofs.Invariant.{Hangs, sends_at, counted_for, hung, reclaims_in, Carries, HoldsNow, family}
+use Rattle.laws_loan.proofs.Invariant.{Hangs, sends_at, counted_for, hung, Carries, HoldsNow, family}
 use Rattle.laws_loan.proofs.Lists.{first_there}
 use Rattle.laws_loan.proofs.Parts.{submission_long, submission_words, submission_change}
 use Rattle.laws_loan.proofs.Placed.{Placed}
@@ -150,40 +149,24 @@ module _ {T : Type 0} (code : Coding T) (slots queue : ℕ) (s : Channel T) (lat
 
   parts_then : Holds slots queue s_then (counted_for (sends_at (put p y_then latest)))
   parts_then =
-      record {
-        capacity = h.parts.capacity;
-        some = h.parts.some;
-        few = h.parts.few;
-        set = subst (λ o. indices.Good slots s.set s.claims (counted_for o)) (sym sends_still) h.parts.set;
-        submission = submission.take_good queue h.parts.some h.parts.few s.submission h.parts.submission low_write value rest first;
-        completion = h.parts.completion;
-        unlocked = h.parts.unlocked;
-        placed = placed_then;
-      }
+      let good = submission.take_good queue h.parts.some h.parts.few s.submission h.parts.submission low_write value rest first in
+      grind (arith, sends_still, placed_then)
 
   pub take_shows : Shows slots queue s s_then p y_then latest turns es
   take_shows =
       let sent = h.sent in
       let given = h.given in
       let same = receiver_told p value s.events waits in
-      record {
-        events = refl;
-        parts = parts_then;
-        tells =
-            subst (λ b. Tells queue b s.submission.waiting rest s.completion.waiting s.completion.waiting es) (sym quiet)
-            (tells_told p value queue s.submission.waiting rest s.completion.waiting waits h.parts.some first s.submission refl h.hangs);
-        hangs = hangs_then;
-        reclaiming =
-            reclaims_told p value s.events waits (is_reclaiming s.events)
-            ∙ (h.reclaiming ∙ (sym (reclaims_made waits (span_of 0 s.events)) ∙ ap reclaims_in (sym (senders_then p value s.events other waits))));
-        sent = omega arith;
-        given = omega arith;
-        receivers = (omega arith, omega arith);
-        moves = moves_told p value s.events slots waits below was_waiting;
-        begins = begins_told p value s.events waits;
-        answers = answers_told p value s.events slots waits;
-        passing = passing_then;
-      }
+      let tells =
+      subst (λ b. Tells queue b s.submission.waiting rest s.completion.waiting s.completion.waiting es) (sym quiet)
+      (tells_told p value queue s.submission.waiting rest s.completion.waiting waits h.parts.some first s.submission refl h.hangs) in
+      let reclaims = reclaims_told p value s.events waits (is_reclaiming s.events) in
+      let made = reclaims_made waits (span_of 0 s.events) in
+      let senders = senders_then p value s.events other waits in
+      let moves = moves_told p value s.events slots waits below was_waiting in
+      let begins = begins_told p value s.events waits in
+      let answers = answers_told p value s.events slots waits in
+      grind (arith, parts_then, quiet, hangs_then, passing_then)
 
   -- ---- what it owes
 

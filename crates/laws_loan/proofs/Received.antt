@@ -3,9 +3,9 @@ use Rattle.laws_loan.proofs.Names.{◌≡◌, ◌≢◌, ℕ, ◌<◌, ◌≤◌
 use Rattle.laws_loan.proofs.Names.{length, map, take, drop, fold, refl, sym, ap, subst, ◌∙◌, append-nil, append_assoc}
 use Rattle.laws_loan.proofs.Names.{fold-append, Answer, Event, Published, HandedOut, Acted, Finished, Item, Index}
 use Rattle.laws_loan.proofs.Names.{Start, Book, MovesRight, BeginsRight, AnswersRight, promise, Passing, With}
-use Rattle.laws_loan.proofs.Names.{Waiting, spot_of, receiver_of, reclaims_after, book_after}
-use Rattle.laws_loan.proofs.Names.{answer_of_item, cut_off, Stands, StandsRight, Open, Ended, own_after, span_of}
-use Rattle.laws_loan.proofs.Names.{AreRight, span_of-own, span_of-other, pop_front, pop_room, Core}
+use Rattle.laws_loan.proofs.Names.{Waiting, spot_of, receiver_of, reclaims_after, book_after, answer_of_item, cut_off}
+use Rattle.laws_loan.proofs.Names.{Stands, StandsRight, Open, Ended, own_after, span_of, AreRight, span_of-own}
+use Rattle.laws_loan.proofs.Names.{span_of-other, pop_front, pop_room, Core}
 use Rattle.std.proofs.Common.{arith}
 use Rattle.model.specs.declared.event.Answer.TheVariants as answers
 use Rattle.model.specs.declared.event.Start.TheVariants as starts
@@ -87,23 +87,9 @@ module _ {T : Type 0} (p value : ℕ) where
         ((below, waited), (tt, ((below, spot_stays (events ++ hands ∷ []) acts value refl ∙ passing), tt)))
     moves_told slots (Some index) below waited =
         let passing = spot_moved events hands (record { index = value; from = Waiting; to = Passing p }) refl in
-        let acted : Event T = Acted 0 (send_of index) answers.PoppedNone in (
-          (below, waited),
-          (
-            tt,
-            (
-              tt,
-              (
-                (
-                  below,
-                  spot_stays ((events ++ hands ∷ []) ++ acts ∷ []) acted value refl
-                      ∙ (spot_stays (events ++ hands ∷ []) acts value refl ∙ passing),
-                ),
-                tt,
-              ),
-            ),
-          ),
-        )
+        let acted = spot_stays (events ++ hands ∷ []) acts value refl in
+        let made = spot_stays ((events ++ hands ∷ []) ++ acts ∷ []) (Acted 0 (send_of index) answers.PoppedNone) value refl in
+        grind arith
 
     pub begins_told : (waits : Option ℕ) → AreRight BeginsRight events (told waits)
     begins_told x0 = grind arith
@@ -177,12 +163,7 @@ module _ {T : Type 0} (p value : ℕ) where
       → (k : Core ℕ) → k.waiting ≡ sent → Hangs queue k waits → Tells queue false sent rest back back (told waits)
   tells_told queue sent rest back None some first k is few =
       let list = pop_front {T = T} queue sent value rest first (subst (λ xs. length xs ≤ queue) is few) in
-      record {
-        book = append-nil (items sent) ∙ ap items first;
-        given = append-nil back;
-        goes = list.0;
-        answers = ap (λ (o : Option (Item T)). answer_of_item o ∷ []) list.1;
-      }
+      grind (arith, append-nil, items)
   tells_told queue sent rest back (Some index) some first k is over =
       let list = pop_room {T = T} queue sent over.0 value index rest (omega arith) (sym is ∙ over.1) over.2 first in
       record {

@@ -22,13 +22,15 @@ use Rattle.model.specs.declared.families.loan.effects.Effect.TheVariants as effe
 use Rattle.laws_loan.proofs.Carried.{carried_on}
 use Rattle.laws_loan.proofs.Channel.{Channel, no_roles, words_in}
 use Rattle.laws_loan.proofs.Cuts.{IsOn}
-use Rattle.laws_loan.proofs.Giving.{OnCompletion, GivesBy, given_shows, gives_on}
-use Rattle.laws_loan.proofs.Invariant.{sends_at, counted_for, reclaims_in, Carries, HoldsNow}
+use Rattle.laws_loan.proofs.Giving.{GivesBy, gives_on}
+use Rattle.laws_loan.proofs.Invariant.{sends_at, counted_for, Carries, HoldsNow}
+use Rattle.laws_loan.proofs.Mine.{at_given, given_then}
 use Rattle.laws_loan.proofs.Parts.{submission_long, submission_old, submission_words}
 use Rattle.laws_loan.proofs.Sender.{party_then}
 use Rattle.laws_loan.proofs.Still.{AreStill, spots_still, receiver_still, placed_still}
 use Rattle.laws_loan.proofs.Submission as submission
 use Rattle.laws_loan.proofs.Told.{items, is_reclaiming, Tells}
+use Rattle.laws_loan.proofs.Turns.{Shows, sends_still}
 
 abbrev pub receive_at : ℕ → ℕ → ℕ → PopStage → OneWord → LoanFlight
 receive_at slots queue p stage room =
@@ -151,48 +153,23 @@ module _ {T : Type 0} (code : Coding T) (slots queue : ℕ) (s : Channel T) (lat
         carried_on p s.events told (refl, (refl, tt)) spanned from i q (h.passing i q (sym (spots_still i s.events told told_still) ∙ e))
         (λ carried. absurd carried)
 
-    on_completion_none : OnCompletion slots queue s latest turns p y_none s.completion told
-    on_completion_none =
-        let given = h.given in
+    shows_none : Shows slots queue s (given_then slots queue s s.completion (s.events ++ told) p) p y_none latest turns told
+    shows_none =
         let same = receiver_still s.events told told_still in
-        record {
-          other = other;
-          good = h.parts.completion;
-          placed = placed_still slots s.claims s.submission.waiting s.completion.waiting s.book s.events told told_still h.parts.placed;
-          tells = tells_none;
-          reclaiming = h.reclaiming ∙ ap reclaims_in (sym (span_of-other p 0 s.events told (λ e. other (sym e)) (refl, (refl, tt))));
-          write = omega arith;
-          receivers = (omega arith, omega arith);
-          moves = (tt, (tt, tt));
-          begins = (tt, (tt, tt));
-          answers = (tt, (tt, tt));
-          passing = passing_none;
-        }
+        let placed = placed_still slots s.claims s.submission.waiting s.completion.waiting s.book s.events told told_still h.parts.placed in
+        let span = span_of-other p 0 s.events told (λ e. other (sym e)) (refl, (refl, tt)) in
+        let still = sends_still latest y_none p other in
+        grind (arith, tells_none, passing_none)
 
     finds_none : IsOn queued (pop_asks queue (pops.TheVariants.LoadsWrite read)) → x.steps ≤ 2 * x.backs + 1
         → x.backs + since ≤ changes
         → Looks (pops.TheVariants.LoadsWrite read) false (Done answers.PoppedNone) effects.FindsNone
-    finds_none on steps paid = (
-      record {
-        words = words_are (pops.TheVariants.LoadsWrite read) on refl;
-        shows = given_shows slots queue s latest turns p y_none s.completion told h on_completion_none;
-        own = (refl, (refl, tt));
-        stands = (
-          (refl, refl),
-          (
-            (
-              refl,
-              grind arith,
-            ),
-            tt,
-          ),
-        );
-        here = record { answer = answers.PoppedNone; wrote = acted ∷ []; span = refl; steps = omega arith };
-        knows = omega arith;
-        gives = record { receiver = receives; alive = alive; pop = λ room stage known. known; passes = λ q i ne e. spots_still i s.events told told_still ∙ e };
-      },
-      refl,
-    )
+    finds_none on steps paid =
+        let words = words_are (pops.TheVariants.LoadsWrite read) on refl in
+        let others =
+        at_given slots queue s s.completion (s.events ++ told) p
+        (record { receiver = receives; alive = alive; pop = λ room stage known. known; passes = λ q i ne e. spots_still i s.events told told_still ∙ e }) in
+        grind (arith, shows_none)
 
   -- ---- each stage that takes nothing out
 

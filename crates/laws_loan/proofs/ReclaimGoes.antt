@@ -20,15 +20,15 @@ use Rattle.model.specs.Reading.{acts}
 use Rattle.laws_queues.proofs.Queues.Core.{Good}
 use Rattle.laws_loan.proofs.Channel.{Channel, no_roles, words_in}
 use Rattle.laws_loan.proofs.Invariant.{Hangs, sends_at, counted_for, hung, reclaims_in, Carries, HoldsNow}
-use Rattle.laws_loan.proofs.Knows.{reclaim_counts, reclaim_number, wrote_in, StageAt, ReclaimAt, At}
-use Rattle.laws_loan.proofs.OnQueues.{OnQueues, queues_then, queues_show}
+use Rattle.laws_loan.proofs.Knows.{reclaim_counts, reclaim_number, StageAt, ReclaimAt}
 use Rattle.laws_loan.proofs.Placed.{Placed}
 use Rattle.laws_loan.proofs.Reclaiming.{reclaim_at, goes_known, none_more}
 use Rattle.laws_loan.proofs.Rests.{KeepsSet, keeps_all}
 use Rattle.laws_loan.proofs.Rests as rests
 use Rattle.laws_loan.proofs.Sender.{party_then, Steps, StepBy}
-use Rattle.laws_loan.proofs.Theirs.{dead_stays}
+use Rattle.laws_loan.proofs.Theirs.{others_dead}
 use Rattle.laws_loan.proofs.Told.{is_reclaiming, Tells}
+use Rattle.laws_loan.proofs.Turns.{Shows, sends_now}
 
 module _ {T : Type 0} (code : Coding T) (slots queue : ℕ) (s : Channel T) (latest : List (ℕ × Party T))
     (turns changes since : ℕ) (x : Party T) (wrote : List (Event T)) where
@@ -50,7 +50,7 @@ module _ {T : Type 0} (code : Coding T) (slots queue : ℕ) (s : Channel T) (lat
   effect_at stage value = reclaim_effect slots queue (words_in s) stage value
 
   abbrev pub StepTo : Channel T → ReclaimStage → After LoanFlight (Answer T) → Effect → Type 0
-  StepTo s' stage after effect = StepBy code slots queue s latest turns changes since x s' (Open start wrote) calls.Reclaim (asked stage) after effect
+  StepTo s' stage after effect = StepBy code slots queue s latest turns changes since x 0 s' (Open start wrote) calls.Reclaim (asked stage) false after effect
 
   -- what a step of a reclaim that stands here comes to
   pub record Does (stage : ReclaimStage) : Type 0 where
@@ -78,7 +78,7 @@ module _ {T : Type 0} (code : Coding T) (slots queue : ℕ) (s : Channel T) (lat
       y_on = party_then s x since changes calls.Reclaim (asked now) false (GoOn (reclaim_at slots queue after_it))
 
       abbrev pub s_on : Channel T
-      s_on = queues_then slots queue s latest turns y_on k m s.book es
+      s_on = record s { submission = k; completion = m; book = s.book; events = s.events ++ es }
 
       -- what a step shows that writes these events, leaves the two queues so, and goes on there
       pub record Leads : Type 0 where
@@ -121,31 +121,17 @@ module _ {T : Type 0} (code : Coding T) (slots queue : ℕ) (s : Channel T) (lat
             (λ (theirs : q ≢ 0). subst (Carries i) (sym (span_of-other 0 q s.events es theirs leads.own)) (h.passing i q (leads.passing i q theirs e)))
             (cases_eq q 0)
 
-        on_queues : OnQueues slots queue s latest turns y_on k m s.book es
-        on_queues = grind (arith, calm, busy_none, reclaims, fold, open_then, passing_then)
+        shows_on : Shows slots queue s s_on 0 y_on latest turns es
+        shows_on = grind (arith, calm, busy_none, reclaims, fold, open_then, passing_then, sends_now)
 
         known_then : ReclaimAt slots queue s_on (wrote ++ es) after_it
         known_then = grind (arith, claims, none_more, publishes, gives_back, acts)
 
-        pub leads_on : Steps code slots queue s latest turns changes since x s_on (Open start wrote) calls.Reclaim
+        pub leads_on : Steps code slots queue s latest turns changes since x 0 s_on (Open start wrote) calls.Reclaim
             (asked now) false (GoOn (reclaim_at slots queue after_it)) es
         leads_on =
-            let wrote_is : wrote ++ es ≡ wrote_in (span_of 0 (s.events ++ es)) = sym (ap wrote_in open_then) in
-            record {
-              words = leads.words;
-              shows = queues_show slots queue s latest turns y_on k m s.book es h on_queues;
-              own = leads.own;
-              stands = leads.stands;
-              here =
-                  record {
-                    span = leads.span ∙ ap (λ es. Open start es) wrote_is;
-                    steps = subst (λ es. x.steps + step_count (asked now) ≤ reclaim_number slots es after_it) wrote_is leads.steps;
-                    at = subst (λ es. At slots queue s_on 0 es calls.Reclaim (reclaim_at slots queue after_it)) wrote_is (refl, refl, refl, known_then);
-                  };
-              knows = omega arith;
-              theirs = λ q ne. dead_stays slots queue s s_on known.dead refl leads.push q;
-              up = leads.up;
-            }
+            let others = others_dead slots queue s s_on known.dead refl leads.push in
+            grind (arith, shows_on, open_then, known_then)
 
     -- ---- a step that writes nothing, and changes no word
 
@@ -156,7 +142,7 @@ module _ {T : Type 0} (code : Coding T) (slots queue : ℕ) (s : Channel T) (lat
         (counted : reclaim_counts after_it ≡ 0)
         (stands : StageAt slots s.submission s.completion s.book.places wrote after_it)
         (steps : x.steps + step_count (asked now) ≤ reclaim_number slots wrote after_it) where
-      pub goes_still : Steps code slots queue s latest turns changes since x s_still (Open start wrote)
+      pub goes_still : Steps code slots queue s latest turns changes since x 0 s_still (Open start wrote)
           calls.Reclaim (asked now) false (GoOn (reclaim_at slots queue after_it)) []
       goes_still =
           rests.goes_on code slots queue s latest turns changes since x h straight calls.Reclaim wrote from (asked now) s.set

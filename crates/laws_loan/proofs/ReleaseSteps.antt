@@ -1,10 +1,9 @@
 -- The release with which a give-up, a send and a take-back end, as steps of the machine.
 use Rattle.laws_loan.proofs.Names.{◌≡◌, ℕ, ◌+◌, ◌-◌, ◌^◌, ◌<◌, ◌≤◌, false, Option, Some, None, List, [], ◌∷◌, ◌++◌}
-use Rattle.laws_loan.proofs.Names.{set, sym, ap, subst, ◌∙◌, append-nil, Ask, After, GoOn, ReleaseState}
-use Rattle.laws_loan.proofs.Names.{DefaultMode, Release, ReleaseStage, back_asks, back_takes, Answer, Event, Freed}
-use Rattle.laws_loan.proofs.Names.{Finished, LoanFlight, Effect, Party, Coding, ask_of, book_after, release_effect}
-use Rattle.laws_loan.proofs.Names.{Open, span_of, old_of, words_after, Trace, release_counts, release_number}
-use Rattle.laws_loan.proofs.Names.{release_wrote}
+use Rattle.laws_loan.proofs.Names.{set, sym, ap, subst, ◌∙◌, append-nil, Ask, After, GoOn, ReleaseState, DefaultMode}
+use Rattle.laws_loan.proofs.Names.{Release, ReleaseStage, back_asks, back_takes, Answer, Event, Freed, LoanFlight}
+use Rattle.laws_loan.proofs.Names.{Effect, Party, Coding, ask_of, book_after, release_effect, Open, span_of, old_of}
+use Rattle.laws_loan.proofs.Names.{words_after, Trace, release_counts, release_number, release_wrote}
 use Rattle.std.proofs.Common.{arith}
 use Rattle.steps.specs.declared.ask.After.TheVariants.{Done}
 use Rattle.steps.specs.declared.indices.unique.ReleaseStage as releases
@@ -68,7 +67,7 @@ module _ {T : Type 0} (code : Coding T) (slots queue : ℕ) (t : Trace T)
         (there.from ∙ ap (λ es. Open (starts.TheVariants.Loan r.start) es) (append-nil r.before)) (
           clears_steps code slots queue s t.world.latest t.world.turns t.world.changes since x index below r h
               there.found there.gives there.from few straight,
-          r.book None (book_after {T = T} s.book (Freed 0 index)),
+          r.so.book None (book_after {T = T} s.book (Freed 0 index)),
         )
 
     module _ (stage : ReleaseStage) (heavy : release_counts stage ≡ 1) (there : There stage) where
@@ -83,27 +82,22 @@ module _ {T : Type 0} (code : Coding T) (slots queue : ℕ) (t : Trace T)
           → With stage effects.Quiet (embedded r.at r.answer release)
       leads_on (GoOn release) l =
           from_step code slots queue t sound small x since r.start (asked stage) (GoOn (r.at release.stage))
-          effects.Quiet (record s { set = words_then; claims = s.claims; book = s.book; events = s.events ++ [] })
+          effects.Quiet _
           wrote_now
           (was_open code slots queue s t.world.latest t.world.turns t.world.changes since x index below r h stage
           heavy there.found there.gives there.from there.few straight) (
             goes_steps code slots queue s t.world.latest t.world.turns t.world.changes since x index below r h stage
                 heavy there.found there.gives there.from there.few straight release.stage l.0 l.1 l.2,
-            r.book None s.book,
+            r.so.book None s.book,
           )
       leads_on (Done state) l =
           from_step code slots queue t sound small x since r.start (asked stage) (Done r.answer) effects.Quiet
-          (record s {
-            set = words_then;
-            claims = s.claims;
-            book = s.book;
-            events = s.events ++ Finished 0 (starts.TheVariants.Loan r.start) r.answer ∷ [];
-          }) wrote_now
+          _ wrote_now
           (was_open code slots queue s t.world.latest t.world.turns t.world.changes since x index below r h stage
           heavy there.found there.gives there.from there.few straight) (
             ends_steps code slots queue s t.world.latest t.world.turns t.world.changes since x index below r h stage
                 heavy there.found there.gives there.from there.few straight l.0 l.1,
-            r.book (Some r.answer) s.book,
+            r.so.book (Some r.answer) s.book,
           )
 
       later : With stage effects.Quiet (embedded r.at r.answer (back_takes slots stage (old_of s.set (asked stage))))

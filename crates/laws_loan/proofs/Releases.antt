@@ -1,13 +1,13 @@
 -- The three calls that end with a release.
-use Rattle.laws_loan.proofs.Names.{◌≡◌, ℕ, ⊎_elim, List, [], ◌∷◌, refl, ReleaseStage, PoppedIndex, Published}
-use Rattle.laws_loan.proofs.Names.{HandedOut, TakenBack, Acted, Item, Index, LoanFlight, Send, GiveUp, TakeBack}
+use Rattle.laws_loan.proofs.Names.{ℕ, [], ◌∷◌, ReleaseStage, PoppedIndex, Published, HandedOut, TakenBack, Acted}
+use Rattle.laws_loan.proofs.Names.{Index, LoanFlight, Send, GiveUp, TakeBack}
 use Rattle.std.proofs.Common.{arith}
 use Rattle.steps.specs.declared.loan.send.SendStage as sends
 use Rattle.steps.specs.declared.loan.take_back.TakeBackStage as take_backs
 use Rattle.model.specs.declared.event.Answer.TheVariants.{Done}
 use Rattle.model.specs.declared.families.loan.LoanStart.TheVariants as calls
 use Rattle.laws_loan.proofs.Knows.{send_of}
-use Rattle.laws_loan.proofs.Releasing.{Releasing}
+use Rattle.laws_loan.proofs.Releasing.{Releasing, ReleasesLast}
 
 module _ (slots queue : ℕ) where
   abbrev pub give_up_at : ℕ → ReleaseStage → LoanFlight
@@ -23,6 +23,9 @@ module _ (slots queue : ℕ) where
       TakeBack (record { call = record { slots = slots; queue = queue; stage = take_backs.TheVariants.Releases index stage }; given = tt; room = tt })
 
 module _ (T : Type 0) (slots queue : ℕ) where
+  pub gives_up_so : (index : ℕ) → ReleasesLast T slots queue index (calls.GiveUp index) (give_up_at slots queue index) [] Done 0
+  gives_up_so x0 = grind arith
+
   abbrev pub gives_up : (index : ℕ) → Releasing T slots queue index
   gives_up index =
       record {
@@ -31,27 +34,14 @@ module _ (T : Type 0) (slots queue : ℕ) where
         before = [];
         answer = Done;
         base = 0;
-        counted = λ stage. refl;
-        calm = λ read stage. refl;
-        stands = λ s stage gives. (refl, refl, refl, refl, gives);
-        number = λ wrote stage backs. omega arith;
-        most = λ backs. omega arith;
-        knows = λ s since changes backs stage e. e;
-        other = λ wrote. refl;
-        carries = λ i carried. carried.0;
-        freed = λ i carried. let clash : index ∷ [] ≡ [] = carried.1 in absurd (cc);
-        may = (refl, record { claimed = refl; published = refl; handed_out = refl; given_back = refl; taken_back = refl; freed = refl });
-        done =
-            record {
-              moments = refl;
-              done = record { claimed = refl; published = refl; handed_out = refl; given_back = refl; taken_back = refl; freed = refl };
-            };
-        told = λ events. tt;
-        still = refl;
-        receiver = λ r. refl;
-        reclaims = λ b. refl;
-        book = λ outcome b. refl;
+        so = gives_up_so index;
       }
+
+  pub sends_back_so : (own oldest : ℕ)
+      → ReleasesLast T slots queue oldest (calls.Send own) (send_frees_at slots queue own oldest)
+      (Published 0 (Index own) ∷ HandedOut 0 (Index oldest) ∷ Acted 0 (send_of own) (PoppedIndex oldest) ∷ [])
+      (PoppedIndex oldest) 6
+  sends_back_so x0 x1 = grind arith
 
   abbrev pub sends_back : (own oldest : ℕ) → Releasing T slots queue oldest
   sends_back own oldest =
@@ -61,33 +51,13 @@ module _ (T : Type 0) (slots queue : ℕ) where
         before = Published 0 (Index own) ∷ HandedOut 0 (Index oldest) ∷ Acted 0 (send_of own) (PoppedIndex oldest) ∷ [];
         answer = PoppedIndex oldest;
         base = 6;
-        counted = λ stage. refl;
-        calm = λ read stage. refl;
-        stands = λ s stage gives. (refl, refl, refl, refl, refl, gives);
-        number = λ wrote stage backs. refl;
-        most = λ backs. omega arith;
-        knows = λ s since changes backs stage e. e;
-        other = λ wrote. refl;
-        carries = λ i carried. ⊎_elim
-            (λ own_one. let clash : ◌≡◌ {A = List (Item T)} (Index own ∷ []) [] = own_one.1 in absurd (cc))
-            (λ old. let same : ◌≡◌ {A = List (Item T)} (Index oldest ∷ []) (Index i ∷ []) = old.0 in cc)
-            carried;
-        freed = λ i carried. ⊎_elim
-            (λ own_one. let clash : ◌≡◌ {A = List (Item T)} (Index own ∷ []) [] = own_one.1 in absurd (cc))
-            (λ old. let clash : oldest ∷ [] ≡ [] = old.1 in absurd (cc))
-            carried;
-        may = record { claimed = refl; published = refl; handed_out = refl; given_back = refl; taken_back = refl; freed = refl };
-        done =
-            record {
-              moments = refl;
-              done = record { claimed = refl; published = refl; handed_out = refl; given_back = refl; taken_back = refl; freed = refl };
-            };
-        told = λ events. tt;
-        still = refl;
-        receiver = λ r. refl;
-        reclaims = λ b. refl;
-        book = λ outcome b. refl;
+        so = sends_back_so own oldest;
       }
+
+  pub takes_back_so : (index : ℕ)
+      → ReleasesLast T slots queue index calls.TakeBack (take_back_frees_at slots queue index) (TakenBack 0 index ∷ [])
+      (PoppedIndex index) 4
+  takes_back_so x0 = grind arith
 
   abbrev pub takes_back : (index : ℕ) → Releasing T slots queue index
   takes_back index =
@@ -97,24 +67,5 @@ module _ (T : Type 0) (slots queue : ℕ) where
         before = TakenBack 0 index ∷ [];
         answer = PoppedIndex index;
         base = 4;
-        counted = λ stage. refl;
-        calm = λ read stage. refl;
-        stands = λ s stage gives. (refl, refl, refl, refl, gives);
-        number = λ wrote stage backs. refl;
-        most = λ backs. omega arith;
-        knows = λ s since changes backs stage e. e;
-        other = λ wrote. refl;
-        carries = λ i carried. let same : index ∷ [] ≡ i ∷ [] = carried.0 in cc;
-        freed = λ i carried. let clash : index ∷ [] ≡ [] = carried.1 in absurd (cc);
-        may = record { claimed = refl; published = refl; handed_out = refl; given_back = refl; taken_back = refl; freed = refl };
-        done =
-            record {
-              moments = refl;
-              done = record { claimed = refl; published = refl; handed_out = refl; given_back = refl; taken_back = refl; freed = refl };
-            };
-        told = λ events. tt;
-        still = refl;
-        receiver = λ r. refl;
-        reclaims = λ b. refl;
-        book = λ outcome b. refl;
+        so = takes_back_so index;
       }

@@ -1,11 +1,10 @@
 -- The release with which a give-up, a send and a take-back end: of the index that is in passing in the call.
-use Rattle.laws_loan.proofs.Names.{◌≡◌, ◌≢◌, ℕ, ◌+◌, ◌<◌, ◌≤◌, inl, Bool, false, Option, Some, None, List, [], ◌∷◌}
-use Rattle.laws_loan.proofs.Names.{◌++◌, fold, set, refl, sym, ap, subst, ◌∙◌, append-nil, fold-append, Ask, After}
-use Rattle.laws_loan.proofs.Names.{GoOn, ReleaseState, DefaultMode, Release, ReleaseStage, back_asks, back_takes}
-use Rattle.laws_loan.proofs.Names.{Answer, Event, Freed, Finished, Book, LoanStart, LoanFlight, Party, Coding, ask_of}
-use Rattle.laws_loan.proofs.Names.{most_steps, AnswersRight, Free, Passing, move_of, spot_of, receiver_after}
-use Rattle.laws_loan.proofs.Names.{receiver_of, reclaims_after, Wrote, may_stand, ended_book, book_after, Span, Open}
-use Rattle.laws_loan.proofs.Names.{own_after, span_of, old_of, words_after, change_of, step_count, span_of-own}
+use Rattle.laws_loan.proofs.Names.{◌≡◌, ℕ, ◌+◌, ◌<◌, ◌≤◌, Bool, false, Option, Some, None, List, [], ◌∷◌, ◌++◌, set}
+use Rattle.laws_loan.proofs.Names.{refl, sym, ap, subst, ◌∙◌, append-nil, Ask, After, GoOn, ReleaseState, DefaultMode}
+use Rattle.laws_loan.proofs.Names.{Release, ReleaseStage, back_asks, back_takes, Answer, Event, Freed, Finished, Book}
+use Rattle.laws_loan.proofs.Names.{LoanStart, LoanFlight, Party, Coding, ask_of, most_steps, AnswersRight, Free}
+use Rattle.laws_loan.proofs.Names.{Passing, move_of, receiver_after, reclaims_after, Wrote, may_stand, ended_book}
+use Rattle.laws_loan.proofs.Names.{book_after, Span, Open, span_of, old_of, words_after, change_of, step_count}
 use Rattle.laws_loan.proofs.Names.{release_counts, release_number, release_wrote, ReleaseAt}
 use Rattle.std.proofs.Common.{arith}
 use Rattle.steps.specs.declared.ask.After.TheVariants.{Done}
@@ -13,18 +12,19 @@ use Rattle.steps.specs.declared.indices.unique.ReleaseStage as releases
 use Rattle.model.specs.declared.event.Start.TheVariants as starts
 use Rattle.model.specs.declared.families.Flight as flights
 use Rattle.laws_indices.proofs.Core as indices
-use Rattle.laws_loan.proofs.Carried.{moved_on}
 use Rattle.laws_loan.proofs.Channel.{Channel, words_in}
 use Rattle.laws_loan.proofs.Invariant.{sends_at, counted_for, hung, reclaims_in, Carries, HoldsNow}
-use Rattle.laws_loan.proofs.Knows.{counts, number_of, wrote_in, GivesAt, At, FlightKnows}
-use Rattle.laws_loan.proofs.OnSet.{OnSet, set_then, set_shows}
+use Rattle.laws_loan.proofs.Knows.{counts, number_of, GivesAt, At, FlightKnows}
+use Rattle.laws_loan.proofs.OneMove.{OneMove, carried, passes_on, same_receiver, span_after}
 use Rattle.laws_loan.proofs.Parts.{set_words}
 use Rattle.laws_loan.proofs.Rests as rests
 use Rattle.laws_loan.proofs.Sender.{party_then, Steps}
 use Rattle.laws_loan.proofs.SetSteps.{ReleaseLeads, ReleaseStep, claims_then, release_step}
-use Rattle.laws_loan.proofs.Spots.{passing_same, free_passes, passing_on, spot_other, spot_moved}
+use Rattle.laws_loan.proofs.Spots.{passing_same, free_passes}
 use Rattle.laws_loan.proofs.Table.{frees_it}
-use Rattle.laws_loan.proofs.Theirs.{stays_beside}
+use Rattle.laws_loan.proofs.Theirs.{others_beside}
+use Rattle.laws_loan.proofs.Told.{items}
+use Rattle.laws_loan.proofs.Turns.{Shows, sends_now}
 
 -- each stage takes one operation
 one_step : (slots index : ℕ) (stage : ReleaseStage) → step_count (ask_of (back_asks slots index stage)) ≡ 1
@@ -35,13 +35,9 @@ abbrev pub embedded : {A : Type 0} → (ReleaseStage → LoanFlight) → A → A
 embedded at answer (GoOn release) = GoOn (at release.stage)
 embedded at answer (Done state) = Done answer
 
--- a call that releases this index at its end, has written this before, and so many steps behind it
-pub record Releasing (T : Type 0) (slots queue index : ℕ) : Type 0 where
-  pub start : LoanStart
-  pub at : ReleaseStage → LoanFlight
-  pub before : List (Event T)
-  pub answer : Answer T
-  pub base : ℕ
+-- a call whose stages at its end release this index, which has written this before, and so many steps behind it
+pub record ReleasesLast (T : Type 0) (slots queue index : ℕ) (start : LoanStart) (at : ReleaseStage → LoanFlight)
+    (before : List (Event T)) (answer : Answer T) (base : ℕ) : Type 0 where
   pub counted : (stage : ReleaseStage) → counts (at stage) ≡ release_counts stage
   pub calm : (read : ℕ) (stage : ReleaseStage) → hung {T = T} read (Some (flights.TheVariants.Loan (at stage))) ≡ None
   pub stands : (s : Channel T) (stage : ReleaseStage) → GivesAt slots queue s index stage
@@ -59,6 +55,14 @@ pub record Releasing (T : Type 0) (slots queue index : ℕ) : Type 0 where
   pub receiver : (r : ℕ) → receiver_after r (Finished 0 (starts.Loan start) answer) ≡ r
   pub reclaims : (b : Bool) → reclaims_after b (Finished 0 (starts.Loan start) answer) ≡ b
   pub book : (outcome : Option (Answer T)) (b : Book) → ended_book 0 start outcome b ≡ b
+
+pub record Releasing (T : Type 0) (slots queue index : ℕ) : Type 0 where
+  pub start : LoanStart
+  pub at : ReleaseStage → LoanFlight
+  pub before : List (Event T)
+  pub answer : Answer T
+  pub base : ℕ
+  pub so : ReleasesLast T slots queue index start at before answer base
 
 module _ {T : Type 0} (code : Coding T) (slots queue : ℕ) (s : Channel T) (latest : List (ℕ × Party T))
     (turns changes since : ℕ) (x : Party T) (index : ℕ) (below : index < slots) (r : Releasing T slots queue index)
@@ -103,81 +107,52 @@ module _ {T : Type 0} (code : Coding T) (slots queue : ℕ) (s : Channel T) (lat
     book_freed = book_after {T = T} s.book (Freed 0 index)
 
     abbrev s_freed : Channel T
-    s_freed = set_then slots queue s latest turns y_freed (words_after s.set clears_ask) (set s.claims index None) book_freed freed_es
+    s_freed =
+        record s {
+          set = words_after s.set clears_ask;
+          claims = set s.claims index None;
+          book = book_freed;
+          events = s.events ++ Freed 0 index ∷ [];
+        }
+
+    one_move : OneMove 0 index s.events freed_es (Passing 0) Free
+    one_move = grind arith
 
     is_from : span_of 0 s.events ≡ Open (starts.Loan r.start) r.before
     is_from = from ∙ ap (λ es. Open (starts.Loan r.start) es) (append-nil r.before)
 
     open_then : span_of 0 (s.events ++ freed_es) ≡ Open (starts.Loan r.start) (r.before ++ freed_es)
-    open_then = span_of-own 0 s.events freed_es (refl, tt) ∙ ap (λ span. fold own_after span freed_es) is_from
+    open_then = span_after 0 index s.events freed_es (Passing 0) Free one_move (Open (starts.Loan r.start) r.before) is_from
 
-    same_receiver : receiver_of (s.events ++ freed_es) ≡ receiver_of s.events
-    same_receiver = fold-append receiver_after 1 s.events freed_es
-
-    now_free : spot_of index (s.events ++ freed_es) ≡ Free
-    now_free = spot_moved s.events (Freed 0 index) (record { index = index; from = Passing 0; to = Free }) refl
-
-    elsewhere : (i : ℕ) → index ≢ i → spot_of i (s.events ++ freed_es) ≡ spot_of i s.events
-    elsewhere i ne = spot_other s.events (Freed 0 index) (record { index = index; from = Passing 0; to = Free }) refl i ne
-
-    on_set : OnSet slots queue s latest turns y_freed (words_after s.set clears_ask) (set s.claims index None) book_freed freed_es
-    on_set =
+    shows_freed : Shows slots queue s s_freed 0 y_freed latest turns freed_es
+    shows_freed =
         let step = steps_set releases.TheVariants.ClearsFlag here gives in
-        let same = same_receiver in
-        record {
-          good =
-              subst (λ n. indices.Good slots (words_after s.set clears_ask) (set s.claims index None) n)
-              (sym (r.counted releases.TheVariants.LoadsHead)) step.leads.0;
-          unlocked = step.unlocked;
-          queue_stays = refl;
-          placed = frees_it slots s.claims s.submission.waiting s.completion.waiting s.book s.events h.parts.placed index below (Passing 0) gives.1 refl refl;
-          silent = record { publishes = refl; hands_out = refl; gives = refl; takes = refl; acts = refl };
-          calm_before = ap (hung s.submission.read) here ∙ r.calm s.submission.read releases.TheVariants.ClearsFlag;
-          calm_after = r.calm s.submission.read releases.TheVariants.LoadsHead;
-          reclaiming = h.reclaiming ∙ (ap reclaims_in is_from ∙ (r.other r.before ∙ (sym (r.other (r.before ++ freed_es)) ∙ sym (ap reclaims_in open_then))));
-          receivers = (omega arith, omega arith);
-          moves = ((below, inl gives.1), tt);
-          begins = (tt, tt);
-          answers = (tt, tt);
-          passing =
-              moved_on 0 s.events freed_es (refl, tt) (Open (starts.Loan r.start) r.before) is_from index elsewhere
-              h.passing (λ i ne carried. absurd (ne (sym (r.carries i carried)))) Free now_free (λ q e. absurd (free_passes q e));
-        }
+        let counted = r.so.counted releases.TheVariants.LoadsHead in
+        let calm = r.so.calm s.submission.read releases.TheVariants.LoadsHead in
+        let calm_before = r.so.calm s.submission.read releases.TheVariants.ClearsFlag in
+        let placed =
+        frees_it slots s.claims s.submission.waiting s.completion.waiting s.book s.events h.parts.placed index below (Passing 0) gives.1 refl refl in
+        let reclaiming = r.so.other r.before ∙ sym (r.so.other (r.before ++ freed_es)) in
+        let passing =
+        carried 0 index s.events freed_es (Passing 0) Free one_move (Open (starts.Loan r.start) r.before) is_from h.passing
+        (λ i ne held. absurd (ne (sym (r.so.carries i held)))) (λ q e. absurd (free_passes q e)) in
+        grind (arith, open_then, is_from, sends_now, append-nil, items, same_receiver, one_move)
 
-    pub clears_steps : Steps code slots queue s latest turns changes since x s_freed
+    pub clears_steps : Steps code slots queue s latest turns changes since x 0 s_freed
         (Open (starts.Loan r.start) r.before) r.start clears_ask false (GoOn (r.at releases.TheVariants.LoadsHead))
         freed_es
     clears_steps =
-        let wrote_is : r.before ++ freed_es ≡ wrote_in (span_of 0 (s.events ++ freed_es)) = sym (ap wrote_in open_then) in
-        record {
-          words = whole_words releases.TheVariants.ClearsFlag here gives;
-          shows = set_shows slots queue s latest turns y_freed (words_after s.set clears_ask) (set s.claims index None) book_freed freed_es h on_set;
-          own = (refl, tt);
-          stands = (r.may, tt);
-          here =
-              record {
-                span = ap (λ wrote. Open (starts.Loan r.start) wrote) wrote_is;
-                steps =
-                    subst (λ n. x.steps + 1 ≤ n)
-                    (sym (r.number (wrote_in (span_of 0 (s.events ++ freed_es))) releases.TheVariants.LoadsHead (x.backs + 0)))
-                    (omega arith);
-                at =
-                    subst (λ wrote. At slots queue s_freed
-                    0 wrote r.start (r.at releases.TheVariants.LoadsHead))
-                    wrote_is
-                    (r.stands s_freed
-                    releases.TheVariants.LoadsHead below);
-              };
-          knows =
-              r.knows
-              s_freed
-              (since + change_of (words_in s) clears_ask) (changes + change_of (words_in s) clears_ask) (x.backs + 0)
-              releases.TheVariants.LoadsHead (omega arith);
-          theirs = λ q ne.
-              stays_beside slots queue s s_freed q refl refl (λ room stage known. known) (λ i stage known. known)
-              (passing_on s.events freed_es index elsewhere (Passing 0) gives.1 q (λ e. ne (sym (passing_same 0 q e))));
-          up = record { write = omega arith; read = omega arith; paid = omega arith };
-        }
+        let words = whole_words releases.TheVariants.ClearsFlag here gives in
+        let may = r.so.may in
+        let number = r.so.number (r.before ++ freed_es) releases.TheVariants.LoadsHead (x.backs + 0) in
+        let stands = r.so.stands s_freed releases.TheVariants.LoadsHead below in
+        let knows =
+        r.so.knows s_freed (since + change_of (words_in s) clears_ask) (changes + change_of (words_in s) clears_ask)
+        (x.backs + 0) releases.TheVariants.LoadsHead (omega arith) in
+        let others =
+        others_beside slots queue s s_freed refl refl (λ room stage known. known) (λ i stage known. known)
+        (λ q ne. passes_on 0 index s.events freed_es (Passing 0) Free one_move q (λ e. ne (sym (passing_same 0 q e)))) in
+        grind (arith, shows_freed, open_then)
 
   -- ---- every later step
 
@@ -212,7 +187,7 @@ module _ {T : Type 0} (code : Coding T) (slots queue : ℕ) (s : Channel T) (lat
     leads = subst (λ hs. ReleaseLeads slots stage words_then hs (back_takes slots stage (old_of s.set ask))) (claims_for stage heavy) step.leads
 
     calm_now : hung s.submission.read (sends_at latest) ≡ None
-    calm_now = ap (hung s.submission.read) here ∙ r.calm s.submission.read stage
+    calm_now = ap (hung s.submission.read) here ∙ r.so.calm s.submission.read stage
 
     -- ---- it goes on
 
@@ -221,26 +196,26 @@ module _ {T : Type 0} (code : Coding T) (slots queue : ℕ) (s : Channel T) (lat
       abbrev s_on : Channel T
       s_on = record s { set = words_then; claims = s.claims; book = s.book; events = s.events ++ [] }
 
-      pub goes_steps : Steps code slots queue s latest turns changes since x s_on
+      pub goes_steps : Steps code slots queue s latest turns changes since x 0 s_on
           (Open (starts.Loan r.start) wrote_now) r.start ask false (GoOn (r.at stage')) []
       goes_steps =
           let at_then : At slots queue s_on 0 wrote_now r.start (r.at stage') =
           subst (λ es. At slots queue s_on 0 (r.before ++ es) r.start (r.at stage')) (wrote_for stage' heavy')
-          (r.stands s_on stage' (gives_for s_on stage' heavy'))
+          (r.so.stands s_on stage' (gives_for s_on stage' heavy'))
           in
           rests.goes_on code slots queue s latest turns changes since x h straight r.start wrote_now was_open ask words_then
           (r.at stage')
           (record {
             words = whole_words stage here gives;
-            good = subst (λ n. indices.Good slots words_then s.claims n) (sym heavy' ∙ sym (r.counted stage')) good;
+            good = subst (λ n. indices.Good slots words_then s.claims n) (sym heavy' ∙ sym (r.so.counted stage')) good;
             unlocked = step.unlocked;
             calm = calm_now;
           })
-          (r.calm s.submission.read stage')
-          (subst (λ n. x.steps + step_count ask ≤ n) (sym (r.number wrote_now stage' (x.backs + 0)))
+          (r.so.calm s.submission.read stage')
+          (subst (λ n. x.steps + step_count ask ≤ n) (sym (r.so.number wrote_now stage' (x.backs + 0)))
           (let one = one_step slots index stage in omega arith))
           at_then
-          (r.knows s_on (since + change_of (words_in s) ask) (changes + change_of (words_in s) ask) (x.backs + 0) stage' (omega arith))
+          (r.so.knows s_on (since + change_of (words_in s) ask) (changes + change_of (words_in s) ask) (x.backs + 0) stage' (omega arith))
 
     -- ---- it ends
 
@@ -248,13 +223,13 @@ module _ {T : Type 0} (code : Coding T) (slots queue : ℕ) (s : Channel T) (lat
       abbrev s_end : Channel T
       s_end = record s { set = words_then; claims = s.claims; book = s.book; events = s.events ++ Finished 0 (starts.Loan r.start) r.answer ∷ [] }
 
-      pub ends_steps : Steps code slots queue s latest turns changes since x s_end
+      pub ends_steps : Steps code slots queue s latest turns changes since x 0 s_end
           (Open (starts.Loan r.start) wrote_now) r.start ask false (Done r.answer) (Finished 0 (starts.Loan r.start) r.answer ∷ [])
       ends_steps =
-          let most = r.most (x.backs + 0) in
+          let most = r.so.most (x.backs + 0) in
           let one = one_step slots index stage in
           rests.ends code slots queue s latest turns changes since x h straight r.start wrote_now was_open ask words_then
           r.answer (record { words = whole_words stage here gives; good = good; unlocked = step.unlocked; calm = calm_now })
-          (record { moves = r.still; receiver = r.receiver; dead = λ q b. refl })
-          (r.reclaims (reclaims_in (Open (starts.Loan r.start) wrote_now)) ∙ r.other wrote_now) (r.told s.events) r.freed
-          r.done (omega arith)
+          (record { moves = r.so.still; receiver = r.so.receiver; dead = λ q b. refl })
+          (r.so.reclaims (reclaims_in (Open (starts.Loan r.start) wrote_now)) ∙ r.so.other wrote_now) (r.so.told s.events) r.so.freed
+          r.so.done (omega arith)

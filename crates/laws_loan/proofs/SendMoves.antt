@@ -1,12 +1,11 @@
 -- Every step of a send's push; here those over a full queue: it moves the read position, and loads the index that so leaves; or a
 -- receive has moved it before, and the send ends.
 use Rattle.laws_loan.proofs.Names.{◌≡◌, ◌≢◌, ℕ, suc, ◌+◌, ◌-◌, ◌%◌, ◌^◌, ◌<◌, ◌≤◌, ◌==◌, inl, inr, true, false, Bool}
-use Rattle.laws_loan.proofs.Names.{Option, List, [], ◌∷◌, ◌++◌, length, get_or, fold, refl, sym, ap, subst, ◌∙◌, None}
-use Rattle.laws_loan.proofs.Names.{append-nil, append_assoc, length-append, nat_tests, set-get_or, fold-append, Ask}
-use Rattle.laws_loan.proofs.Names.{After, GoOn, submission_word, load, Answer, Event, Published, HandedOut, Acted}
-use Rattle.laws_loan.proofs.Names.{Finished, Item, Index, Start, LoanFlight, Effect, Party, Coding, Passing, Waiting}
-use Rattle.laws_loan.proofs.Names.{spot_of, receiver_after, receiver_of, sent_at, words_of_index, answer_of_item}
-use Rattle.laws_loan.proofs.Names.{handed_out, Open, own_after, span_of, change_of, span_of-own, oldest, push_over}
+use Rattle.laws_loan.proofs.Names.{Option, List, [], ◌∷◌, ◌++◌, length, get_or, refl, sym, ap, subst, ◌∙◌, None}
+use Rattle.laws_loan.proofs.Names.{append-nil, append_assoc, length-append, nat_tests, set-get_or, Ask, After, GoOn}
+use Rattle.laws_loan.proofs.Names.{submission_word, load, Answer, Event, Published, HandedOut, Acted, Finished, Index}
+use Rattle.laws_loan.proofs.Names.{Start, LoanFlight, Effect, Party, Coding, Passing, Waiting, spot_of, sent_at}
+use Rattle.laws_loan.proofs.Names.{words_of_index, handed_out, Open, span_of, change_of, oldest, push_over}
 use Rattle.laws_loan.proofs.Names.{take_keeps_pop, KnowsOverflowPush, overflow_push_number, Core, taken}
 use Rattle.std.proofs.Common.{arith}
 use Rattle.steps.specs.declared.ask.After.TheVariants.{Done}
@@ -18,12 +17,11 @@ use Rattle.model.specs.declared.event.Answer.TheVariants as answers
 use Rattle.model.specs.declared.event.Start.TheVariants as starts
 use Rattle.model.specs.declared.families.loan.LoanStart.TheVariants as calls
 use Rattle.model.specs.declared.families.loan.effects.Effect.TheVariants as effects
-use Rattle.laws_loan.proofs.Carried.{moved_on}
 use Rattle.laws_loan.proofs.Channel.{Channel, words_in}
 use Rattle.laws_loan.proofs.Invariant.{sends_at, counted_for, hung, reclaims_in, Carries, HoldsNow}
-use Rattle.laws_loan.proofs.Knows.{Passes, wrote_in, At, PushAt, push_wrote}
+use Rattle.laws_loan.proofs.Knows.{Passes, PushAt, push_wrote}
 use Rattle.laws_loan.proofs.Lists.{first_there}
-use Rattle.laws_loan.proofs.OnQueues.{OnQueues, queues_show}
+use Rattle.laws_loan.proofs.OneMove.{OneMove, carried, now_there, passes_on, same_receiver, span_after}
 use Rattle.laws_loan.proofs.Parts.{submission_old}
 use Rattle.laws_loan.proofs.Placed.{Placed}
 use Rattle.laws_loan.proofs.Publishes.{stores_write}
@@ -34,12 +32,13 @@ use Rattle.laws_loan.proofs.Rooms.{sent_below, index_is}
 use Rattle.laws_loan.proofs.Sender.{party_then}
 use Rattle.laws_loan.proofs.Sends.{pushes_at, asked, old, queued, goes, effect_at, StepTo, Does, does_by, Here, reached, long, old_is, words_are, change_is}
 use Rattle.laws_loan.proofs.Sends.{loads_write, loads_read, stores_cell}
-use Rattle.laws_loan.proofs.Spots.{waits_there, passing_same, waiting_passes, passing_on, spot_other, spot_moved}
-use Rattle.laws_loan.proofs.Still.{AreStill, spots_still, placed_still}
+use Rattle.laws_loan.proofs.Spots.{waits_there, passing_same, waiting_passes}
+use Rattle.laws_loan.proofs.Still.{AreStill, placed_still}
 use Rattle.laws_loan.proofs.Submission as submission
 use Rattle.laws_loan.proofs.Table.{hands_it_out}
-use Rattle.laws_loan.proofs.Theirs.{stays_beside}
+use Rattle.laws_loan.proofs.Theirs.{others_beside}
 use Rattle.laws_loan.proofs.Told.{items, is_reclaiming, Tells}
+use Rattle.laws_loan.proofs.Turns.{Shows, sends_now}
 
 module _ {T : Type 0} (code : Coding T) (slots queue : ℕ) (s : Channel T) (latest : List (ℕ × Party T))
     (turns changes since : ℕ) (x : Party T) (h : HoldsNow slots queue s latest s.events turns)
@@ -144,23 +143,11 @@ module _ {T : Type 0} (code : Coding T) (slots queue : ℕ) (s : Channel T) (lat
     whole : (s.events ++ hands ∷ []) ++ acts ∷ [] ≡ s.events ++ told
     whole = append_assoc s.events (hands ∷ []) (acts ∷ [])
 
-    now_passing : spot_of u (s.events ++ told) ≡ Passing 0
-    now_passing =
-        ap (spot_of u) (sym whole)
-        ∙ (spots_still u (s.events ++ hands ∷ []) (acts ∷ []) acts_still
-        ∙ spot_moved s.events hands (record { index = u; from = Waiting; to = Passing 0 }) refl)
-
-    elsewhere : (i : ℕ) → u ≢ i → spot_of i (s.events ++ told) ≡ spot_of i s.events
-    elsewhere i ne =
-        ap (spot_of i) (sym whole)
-        ∙ (spots_still i (s.events ++ hands ∷ []) (acts ∷ []) acts_still
-        ∙ spot_other s.events hands (record { index = u; from = Waiting; to = Passing 0 }) refl i ne)
+    one_move : OneMove 0 u s.events told Waiting (Passing 0)
+    one_move = grind (arith, was_waiting)
 
     open_then : span_of 0 (s.events ++ told) ≡ Open call (publishes ∷ told)
-    open_then = span_of-own 0 s.events told (refl, (refl, tt)) ∙ ap (λ span. fold own_after span told) from
-
-    receiver_stays : receiver_of (s.events ++ told) ≡ receiver_of s.events
-    receiver_stays = fold-append receiver_after 1 s.events told
+    open_then = span_after 0 u s.events told Waiting (Passing 0) one_move (Open call (publishes ∷ [])) from
 
     placed_out : Placed slots s.claims rest s.completion.waiting s.book (s.events ++ told)
     placed_out =
@@ -176,71 +163,32 @@ module _ {T : Type 0} (code : Coding T) (slots queue : ℕ) (s : Channel T) (lat
     tells_out =
         let list = push_over {T = T} queue s.submission.waiting others u index rest is full first in
         subst (λ b. Tells queue b s.submission.waiting rest s.completion.waiting s.completion.waiting told) (sym quiet)
-        (record {
-          book = append-nil (items s.submission.waiting) ∙ ap items first;
-          given = append-nil s.completion.waiting;
-          goes = list.0;
-          answers = ap (λ (o : Option (Item T)). answer_of_item o ∷ []) list.1;
-        })
+        (grind (arith, append-nil, items))
 
-    on_queues_out : OnQueues slots queue s latest turns y_out k s.completion s.book told
-    on_queues_out =
-        let sent = h.sent in
-        let given = h.given in
-        let same = receiver_stays in
+    shows_out : Shows slots queue s s_out 0 y_out latest turns told
+    shows_out =
         let write = h.parts.submission.write in
         let shorter : length s.submission.waiting ≡ suc (length rest) = ap length first in
-        record {
-          busy_before = ap counted_for here;
-          busy_after = refl;
-          queue_stays = refl;
-          submission = submission.take_good queue h.parts.some h.parts.few s.submission h.parts.submission low_write u rest first;
-          completion = h.parts.completion;
-          placed = placed_out;
-          tells = tells_out;
-          hangs = omega arith;
-          sent = omega arith;
-          given = omega arith;
-          reclaiming = quiet ∙ sym (ap reclaims_in open_then);
-          receivers = (omega arith, omega arith);
-          moves = ((below, was_waiting), (tt, tt));
-          begins = (tt, (tt, tt));
-          answers = (tt, (tt, tt));
-          passing =
-              moved_on 0 s.events told (refl, (refl, tt)) (Open call (publishes ∷ [])) from u elsewhere h.passing
-              (λ i ne. none_carried i [] refl) (Passing 0) now_passing (λ q e. (sym (passing_same 0 q e), inr (refl, refl)));
-        }
+        let good = submission.take_good queue h.parts.some h.parts.few s.submission h.parts.submission low_write u rest first in
+        let passing =
+        carried 0 u s.events told Waiting (Passing 0) one_move (Open call (publishes ∷ [])) from h.passing
+        (λ i ne. none_carried i [] refl) (λ q e. (sym (passing_same 0 q e), inr (refl, refl))) in
+        grind (arith, open_then, sends_now, same_receiver, one_move, placed_out, tells_out, quiet, below, was_waiting)
 
     takes_out : To s_out (publishes ∷ []) moves (GoOn (pushes_at slots queue loads index)) (effects.TakesOut index u)
     takes_out =
         let some = h.parts.some in
-        let wrote_is : publishes ∷ told ≡ wrote_in (span_of 0 (s.events ++ told)) = sym (ap wrote_in open_then) in
         let change : change_of (words_in s) (asks moves) ≡ 1 =
         change_is code slots queue s latest turns changes since x h small index straight moves on
-        ∙ submission.take_changes queue h.parts.some h.parts.few s.submission h.parts.submission low_write u rest first in (
-          record {
-            words =
-                words_are code slots queue s latest turns changes since x h small index straight moves k on
-                (submission.take_words queue h.parts.some h.parts.few s.submission h.parts.submission low_write u rest first);
-            shows = queues_show slots queue s latest turns y_out k s.completion s.book told h on_queues_out;
-            own = (refl, (refl, tt));
-            stands = (record { claimed = refl; published = refl; handed_out = refl; given_back = refl; taken_back = refl; freed = refl }, ((refl, refl), tt));
-            here =
-                record {
-                  span = ap (λ wrote. Open call wrote) wrote_is;
-                  steps = omega arith;
-                  at =
-                      subst (λ wrote. At slots queue s_out 0 wrote (calls.Send index) (pushes_at slots queue loads index))
-                      wrote_is (refl, refl, refl, refl, refl, ((omega arith, omega arith, far), (below, now_passing)));
-                };
-            knows = omega arith;
-            theirs = λ q ne.
-                stays_beside slots queue s s_out q refl refl (take_keeps_pop queue s.submission rest far) (λ i stage known. known)
-                (passing_on s.events told u elsewhere Waiting was_waiting q (waiting_passes q));
-            up = record { write = omega arith; read = omega arith; paid = omega arith };
-          },
-          refl,
-        )
+        ∙ submission.take_changes queue h.parts.some h.parts.few s.submission h.parts.submission low_write u rest first in
+        let words =
+        words_are code slots queue s latest turns changes since x h small index straight moves k on
+        (submission.take_words queue h.parts.some h.parts.few s.submission h.parts.submission low_write u rest first) in
+        let there = now_there 0 u s.events told Waiting (Passing 0) one_move in
+        let others =
+        others_beside slots queue s s_out refl refl (take_keeps_pop queue s.submission rest far) (λ i stage known. known)
+        (λ q ne. passes_on 0 u s.events told Waiting (Passing 0) one_move q (waiting_passes q)) in
+        grind (arith, shows_out, open_then, below)
 
     -- as the call computes it
     moves_read : Does_at moves

@@ -1,10 +1,10 @@
--- A step of the sender's call, which writes events of its own alone: what it shows, and that it so comes to what the frame asks.
+-- A step of a party's call, which writes events of its own alone: what it shows, and that it so comes to what the frame asks.
+use Rattle.laws_loan.proofs.Names.{◌≡◌, ◌≢◌, ℕ, ◌+◌, Bool, Option, Some, List, [], ◌++◌, fold, ap, ◌∙◌, Ask, After}
+use Rattle.laws_loan.proofs.Names.{Answer, Event, Start, Flight, LoanStart, LoanFlight, Effect, Party, Coding}
+use Rattle.laws_loan.proofs.Names.{promise, ended_book, book_after, effects_of, Stands, Span, own_after, span_of}
+use Rattle.laws_loan.proofs.Names.{as_call, answer_in, words_after, change_of, step_count, party_after, ending_of}
+use Rattle.laws_loan.proofs.Names.{AreOwn, AllFollow, span_of-other, GoesUp}
 use Rattle.std.proofs.Common.{arith}
-use Rattle.laws_loan.proofs.Names.{◌≡◌, ◌≢◌, ℕ, ◌+◌, Bool, false, Option, Some, List, [], ◌++◌, fold, ap}
-use Rattle.laws_loan.proofs.Names.{◌∙◌, Ask, After, Answer, Event, Start, Flight, LoanStart, LoanFlight, Effect}
-use Rattle.laws_loan.proofs.Names.{Party, Coding, promise, ended_book, book_after, effects_of, Stands, Span}
-use Rattle.laws_loan.proofs.Names.{own_after, span_of, as_call, answer_in, words_after, change_of, step_count}
-use Rattle.laws_loan.proofs.Names.{party_after, ending_of, AreOwn, AllFollow, span_of-other, GoesUp}
 use Rattle.model.specs.declared.event.Start.TheVariants as starts
 use Rattle.model.specs.declared.families.Flight as flights
 use Rattle.model.specs.declared.families.Registry as registries
@@ -12,7 +12,7 @@ use Rattle.model.proofs.Frame as frame
 use Rattle.laws_loan.proofs.Channel.{Channel, words_in}
 use Rattle.laws_loan.proofs.Invariant.{family}
 use Rattle.laws_loan.proofs.Knows.{At}
-use Rattle.laws_loan.proofs.Theirs.{Stays, theirs_stay, knows_keeps}
+use Rattle.laws_loan.proofs.Theirs.{Others, knows_keeps}
 use Rattle.laws_loan.proofs.Turns.{Shows}
 
 module _ {T : Type 0} where
@@ -54,7 +54,8 @@ module _ {T : Type 0} (code : Coding T) (slots queue : ℕ) (s s' : Channel T) (
       frame.owes any s s' from p y latest s.events es changes changes' is inv
       (record { own = own; stands = stands; here = here; knows = knows; others = others; others_know = others_know })
 
-module _ {T : Type 0} (code : Coding T) (slots queue : ℕ) (s : Channel T) (latest : List (ℕ × Party T)) (turns changes since : ℕ) (x : Party T) where
+module _ {T : Type 0} (code : Coding T) (slots queue : ℕ) (s : Channel T) (latest : List (ℕ × Party T))
+    (turns changes since : ℕ) (x : Party T) (p : ℕ) where
   abbrev channel : frame.Family T
   channel = family code slots queue
 
@@ -62,27 +63,30 @@ module _ {T : Type 0} (code : Coding T) (slots queue : ℕ) (s : Channel T) (lat
   pub record Steps (s' : Channel T) (from : Span T) (start : LoanStart) (ask : Option Ask) (back : Bool)
       (after : After LoanFlight (Answer T)) (es : List (Event T)) : Type 0 where
     pub words : words_after (words_in s) ask ≡ words_in s'
-    pub shows : Shows slots queue s s' 0 (party_then s x since changes start ask back after) latest turns es
-    pub own : AreOwn 0 es
+    pub shows : Shows slots queue s s' p (party_then s x since changes start ask back after) latest turns es
+    pub own : AreOwn p es
     pub stands : AllFollow (Stands promise slots) from es
-    pub here : frame.Fits channel s' 0 (Some (party_then s x since changes start ask back after)) (fold own_after from es)
-    pub knows : frame.KnowsDoing channel s' 0 (s.events ++ es) (changes + change_of (words_in s) ask)
+    pub here : frame.Fits channel s' p (Some (party_then s x since changes start ask back after)) (fold own_after from es)
+    pub knows : frame.KnowsDoing channel s' p (s.events ++ es) (changes + change_of (words_in s) ask)
         (party_then s x since changes start ask back after).backs
         (party_then s x since changes start ask back after).doing
-    pub theirs : (q : ℕ) → q ≢ 0 → Stays slots queue s s' q
+    pub others : Others slots queue s s' p
     pub up : GoesUp s.submission s'.submission changes (changes + change_of (words_in s) ask)
 
+  -- the events of a step with this effect
+  abbrev pub told_by : LoanStart → After LoanFlight (Answer T) → Effect → List (Event T)
+  told_by start after effect = effects_of p effect (answer_in after) ++ ending_of p (starts.Loan start) (answer_in (any_call after))
+
   -- such a step with this effect, which leaves its book
-  abbrev pub StepBy : Channel T → Span T → LoanStart → Option Ask → After LoanFlight (Answer T) → Effect → Type 0
-  StepBy s' from start ask after effect =
-      Steps s' from start ask false after (effects_of 0 effect (answer_in after) ++ ending_of 0 (starts.Loan start) (answer_in after))
-      × (ended_book {T = T} 0 start (answer_in after) (fold (book_after {T = T}) s.book (effects_of 0 effect (answer_in after))) ≡ s'.book)
+  abbrev pub StepBy : Channel T → Span T → LoanStart → Option Ask → Bool → After LoanFlight (Answer T) → Effect → Type 0
+  StepBy s' from start ask back after effect =
+      Steps s' from start ask back after (told_by start after effect)
+      × (ended_book {T = T} p start (answer_in after) (fold (book_after {T = T}) s.book (effects_of p effect (answer_in after))) ≡ s'.book)
 
   module _ (s' : Channel T) (from : Span T) (start : LoanStart) (ask : Option Ask) (back : Bool)
       (after : After LoanFlight (Answer T)) (es : List (Event T)) (steps : Steps s' from start ask back after es) where
-    pub step_owes : span_of 0 s.events ≡ from → frame.Inv channel s latest s.events changes
-        → frame.Owes channel s' 0 (party_then s x since changes start ask back after) latest s.events es (changes + change_of (words_in s) ask)
+    pub step_owes : span_of p s.events ≡ from → frame.Inv channel s latest s.events changes
+        → frame.Owes channel s' p (party_then s x since changes start ask back after) latest s.events es (changes + change_of (words_in s) ask)
     step_owes =
-        owes_by code slots queue s s' 0 (party_then s x since changes start ask back after) latest from es changes
-        (changes + change_of (words_in s) ask) steps.shows.events steps.own
-        (λ q ne. theirs_stay slots queue s s' q ne (steps.theirs q ne)) steps.up steps.stands steps.here steps.knows
+        owes_by code slots queue s s' p (party_then s x since changes start ask back after) latest from es changes
+        (changes + change_of (words_in s) ask) steps.shows.events steps.own steps.others steps.up steps.stands steps.here steps.knows

@@ -1,8 +1,8 @@
 -- The push of a send, the pop of a take-back, the push of a give-back and what a receive looks at, as steps of the machine.
-use Rattle.laws_loan.proofs.Names.{◌≡◌, ℕ, ◌-◌, ◌^◌, ◌<◌, false, Bool, Option, List, [], fold, ap, ◌∙◌, Ask, After}
-use Rattle.laws_loan.proofs.Names.{OneWord, goes_back, Answer, Event, LoanStart, LoanFlight, Effect, Party, Coding}
-use Rattle.laws_loan.proofs.Names.{has_died, beside, ended_book, book_after, effects_of, take_back_effect}
-use Rattle.laws_loan.proofs.Names.{give_back_effect, Open, span_of, answer_in, Trace, StandsThere, Core}
+use Rattle.laws_loan.proofs.Names.{◌≡◌, ℕ, ◌-◌, ◌^◌, ◌<◌, false, Bool, Option, List, [], ap, ◌∙◌, Ask, After, OneWord}
+use Rattle.laws_loan.proofs.Names.{goes_back, Answer, Event, LoanStart, LoanFlight, Effect, Party, Coding, has_died}
+use Rattle.laws_loan.proofs.Names.{beside, take_back_effect, give_back_effect, Open, span_of, Trace, StandsThere}
+use Rattle.laws_loan.proofs.Names.{Core}
 use Rattle.steps.specs.declared.loan.take_back.TakeBackStage as take_back_stages
 use Rattle.steps.specs.declared.queues.overflow.PopStage as overflow_pops
 use Rattle.steps.specs.declared.queues.overflow.PushStage.{PushStage}
@@ -17,15 +17,15 @@ use Rattle.model.proofs.Scenes.{ComesFrom}
 use Rattle.laws_loan.proofs.Channel.{Channel, words_in}
 use Rattle.laws_loan.proofs.GiveBacks as give_backs
 use Rattle.laws_loan.proofs.GiveBacks.{give_at}
-use Rattle.laws_loan.proofs.Giving.{GivesBy}
+use Rattle.laws_loan.proofs.Giving.{GivesBy, s_given}
 use Rattle.laws_loan.proofs.Invariant.{HoldsNow}
+use Rattle.laws_loan.proofs.Knows.{push_wrote}
 use Rattle.laws_loan.proofs.Receives as receives
 use Rattle.laws_loan.proofs.Receives.{receive_at, IsLook}
 use Rattle.laws_loan.proofs.SendMoves as sends
-use Rattle.laws_loan.proofs.Sends.{pushes_at, asked, old, goes, effect_at}
 use Rattle.laws_loan.proofs.Sender.{StepBy}
-use Rattle.laws_loan.proofs.Knows.{push_wrote}
-use Rattle.laws_loan.proofs.StepLaw.{channel, holds_now, sender_comes, receiver_comes, ComesBy}
+use Rattle.laws_loan.proofs.Sends.{pushes_at, asked, old, goes, effect_at}
+use Rattle.laws_loan.proofs.StepLaw.{channel, holds_now, step_comes, ComesBy}
 use Rattle.laws_loan.proofs.TakeBacks as take_backs
 use Rattle.laws_loan.proofs.TakeBacks.{pops_at}
 
@@ -45,14 +45,11 @@ module _ {T : Type 0} (code : Coding T) (slots queue : ℕ) (t : Trace T)
   pub from_step : (start : LoanStart) (ask : Option Ask) (after : After LoanFlight (Answer T)) (effect : Effect)
       (s' : Channel T) (wrote : List (Event T))
       → span_of 0 sound.state.events ≡ Open (starts.TheVariants.Loan start) wrote
-      → StepBy code slots queue sound.state t.world.latest t.world.turns t.world.changes since x s'
-      (Open (starts.TheVariants.Loan start) wrote) start ask after effect
+      → StepBy code slots queue sound.state t.world.latest t.world.turns t.world.changes since x 0 s'
+      (Open (starts.TheVariants.Loan start) wrote) start ask false after effect
       → ComesBy code slots queue t sound x since 0 start ask false after effect
-  from_step start ask after effect s' wrote from step =
-      sender_comes code slots queue t sound x since start ask false after (effects_of 0 effect (answer_in after))
-      (ended_book {T = T} 0 start (answer_in after)
-      (fold (book_after {T = T}) sound.state.book (effects_of 0 effect (answer_in after))))
-      s' (Open (starts.TheVariants.Loan start) wrote) from step.1 step.0
+  from_step start ask after effect s' wrote =
+      step_comes code slots queue t sound x since 0 start ask false after effect s' (Open (starts.TheVariants.Loan start) wrote)
 
   -- of the receiver, whose call has written nothing before
   from_receiver : (p : ℕ) (start : LoanStart) (ask : Option Ask) (back : Bool) (after : After LoanFlight (Answer T))
@@ -60,11 +57,10 @@ module _ {T : Type 0} (code : Coding T) (slots queue : ℕ) (t : Trace T)
       → GivesBy code slots queue sound.state t.world.latest t.world.turns t.world.changes since x p k
       (Open (starts.TheVariants.Loan start) []) start ask back after effect
       → ComesBy code slots queue t sound x since p start ask back after effect
-  from_receiver p start ask back after effect k from step =
-      receiver_comes code slots queue t sound x since p start ask back after (effects_of p effect (answer_in after))
-      (ended_book {T = T} p start (answer_in after)
-      (fold (book_after {T = T}) sound.state.book (effects_of p effect (answer_in after))))
-      k (Open (starts.TheVariants.Loan start) []) from step.1 step.0
+  from_receiver p start ask back after effect k =
+      step_comes code slots queue t sound x since p start ask back after effect
+      (s_given code slots queue sound.state t.world.latest t.world.turns t.world.changes since x p k start after effect)
+      (Open (starts.TheVariants.Loan start) [])
 
   abbrev s : Channel T
   s = sound.state

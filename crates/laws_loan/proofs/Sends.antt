@@ -1,11 +1,11 @@
 -- The steps of a send until it releases an index: the sender pushes the submission queue.
 use Rattle.laws_loan.proofs.Names.{◌≡◌, ◌≢◌, ℕ, ◌+◌, ◌-◌, ◌^◌, ◌<◌, ◌≤◌, ◌==◌, false, Option, Some, None, List, []}
-use Rattle.laws_loan.proofs.Names.{◌++◌, length, refl, sym, ap, subst, ◌∙◌, append-nil, nat_tests, Ask, After, GoOn}
+use Rattle.laws_loan.proofs.Names.{◌++◌, length, refl, ap, subst, ◌∙◌, append-nil, nat_tests, Ask, After, GoOn}
 use Rattle.laws_loan.proofs.Names.{OneWord, submission_word, shifted, send_takes, load, went_on, Answer, Event, Start}
-use Rattle.laws_loan.proofs.Names.{LoanFlight, Send, Effect, Party, Coding, ask_of, spot_of, read_in}
-use Rattle.laws_loan.proofs.Names.{push_effect, as_it_is, popped, words_of_index, Open, span_of, as_call, old_of}
-use Rattle.laws_loan.proofs.Names.{words_after, change_of, step_count, fill_keeps_pop, KnowsOverflowPush}
-use Rattle.laws_loan.proofs.Names.{KnowsOverflowPop, overflow_push_number, Core, filled, layout}
+use Rattle.laws_loan.proofs.Names.{LoanFlight, Send, Effect, Party, Coding, ask_of, spot_of, read_in, push_effect}
+use Rattle.laws_loan.proofs.Names.{as_it_is, popped, words_of_index, Open, span_of, as_call, old_of, words_after}
+use Rattle.laws_loan.proofs.Names.{change_of, step_count, fill_keeps_pop, KnowsOverflowPush, KnowsOverflowPop}
+use Rattle.laws_loan.proofs.Names.{overflow_push_number, Core, filled, layout}
 use Rattle.std.proofs.Common.{arith}
 use Rattle.steps.specs.declared.loan.send.Send as send
 use Rattle.steps.specs.declared.loan.send.SendStage as sends
@@ -21,12 +21,13 @@ use Rattle.laws_queues.proofs.Queues.Core.{Good}
 use Rattle.laws_loan.proofs.Channel.{Channel, no_roles, words_in}
 use Rattle.laws_loan.proofs.Cuts.{IsOn}
 use Rattle.laws_loan.proofs.Invariant.{Hangs, sends_at, counted_for, hung, Carries, HoldsNow}
-use Rattle.laws_loan.proofs.Knows.{Passes, PushAt, push_wrote, wrote_in, At}
-use Rattle.laws_loan.proofs.OnQueues.{OnQueues, queues_show, silent_tells}
+use Rattle.laws_loan.proofs.Knows.{Passes, PushAt, push_wrote}
 use Rattle.laws_loan.proofs.Parts.{submission_old, submission_words, submission_change}
 use Rattle.laws_loan.proofs.Sender.{party_then, StepBy}
 use Rattle.laws_loan.proofs.Submission as submission
-use Rattle.laws_loan.proofs.Theirs.{stays_beside}
+use Rattle.laws_loan.proofs.Theirs.{others_beside}
+use Rattle.laws_loan.proofs.Told.{silent_tells}
+use Rattle.laws_loan.proofs.Turns.{Shows, sends_now}
 
 abbrev pub pushes_at : ℕ → ℕ → PushStage → ℕ → LoanFlight
 pushes_at slots queue stage index =
@@ -66,7 +67,7 @@ module _ {T : Type 0} (code : Coding T) (slots queue : ℕ) (s : Channel T) (lat
 
   abbrev pub StepTo : Channel T → List (Event T) → PushStage → After LoanFlight (Answer T) → Effect → Type 0
   StepTo s' wrote stage after effect =
-      StepBy code slots queue s latest turns changes since x s' (Open start wrote) (calls.Send index) (asked stage) after effect
+      StepBy code slots queue s latest turns changes since x 0 s' (Open start wrote) (calls.Send index) (asked stage) false after effect
 
   -- what a step of a send that stands here comes to
   pub record Does (stage : PushStage) : Type 0 where
@@ -145,32 +146,15 @@ module _ {T : Type 0} (code : Coding T) (slots queue : ℕ) (s : Channel T) (lat
     few_wait : length k.waiting ≤ queue
     few_wait = grind (arith, length)
 
-    on_queues_goes : OnQueues slots queue s latest turns y_on k s.completion s.book []
-    on_queues_goes = grind (arith, append-nil, idle, silent_tells, few_wait)
+    shows_on : Shows slots queue s s_on 0 y_on latest turns []
+    shows_on = grind (arith, append-nil, idle, silent_tells, few_wait, sends_now)
 
     pub goes_on : StepTo s_on [] now (GoOn (pushes_at slots queue after_it index)) effects.Quiet
     goes_on =
-        let wrote_is : [] ≡ wrote_in (span_of 0 (s.events ++ [])) = sym (ap wrote_in as_was) in (
-          record {
-            words = words_are now k on words;
-            shows = queues_show slots queue s latest turns y_on k s.completion s.book [] h on_queues_goes;
-            own = tt;
-            stands = tt;
-            here =
-                record {
-                  span = ap (λ wrote. Open start wrote) wrote_is;
-                  steps = omega arith;
-                  at =
-                      subst (λ wrote. At slots queue s_on 0 wrote (calls.Send index) (pushes_at slots queue after_it index))
-                      wrote_is (refl, refl, refl, refl, sym none, (known, stands));
-                };
-            knows = omega arith;
-            theirs = λ q ne.
-                stays_beside slots queue s s_on q refl refl pops (λ i stage known. known) (λ i e. ap (spot_of i) (append-nil s.events) ∙ e);
-            up = record { write = omega arith; read = omega arith; paid = omega arith };
-          },
-          refl,
-        )
+        let written = words_are now k on words in
+        let others =
+        others_beside slots queue s s_on refl refl pops (λ i stage known. known) (λ q ne i e. ap (spot_of i) (append-nil s.events) ∙ e) in
+        grind (arith, shows_on, as_was)
 
   -- ---- the loads, and the store into the cell
 

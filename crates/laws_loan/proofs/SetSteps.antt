@@ -1,19 +1,17 @@
 -- What a step of the sender's does to the words of the indices, to who has claimed what, and to whether its call is counted in
 -- the head. Nobody else takes an index or gives one back, so the head stays as it was loaded.
-use Rattle.laws_loan.proofs.Names.{◌≡◌, ◌≢◌, ℕ, ◌+◌, ◌-◌, ◌%◌, ◌^◌, ◌<◌, ◌≤◌, ◌==◌, ⊎_elim, nat_lt, Bool, true, false}
-use Rattle.laws_loan.proofs.Names.{bit_or, Option, Some, None, List, length, get_or, set, refl, sym, ap, subst, ◌∙◌}
-use Rattle.laws_loan.proofs.Names.{Ok, Err, cases_lt, nat_tests, set-get_or, Ask, Or, After, GoOn, ReleaseState}
-use Rattle.laws_loan.proofs.Names.{AcquireStage, DefaultMode, Release, ReleaseStage, next_word, flag_word, flag}
-use Rattle.laws_loan.proofs.Names.{has_flag, proposed, borrowed, locked, Acquired, at_acquire}
-use Rattle.laws_loan.proofs.Names.{acquire_asks, acquire_takes, acquire_sees, acquire_goes_back, head_taken}
-use Rattle.laws_loan.proofs.Names.{head_given_back, first_claim, back_asks, back_takes, inner_release, by_test, by_eq}
-use Rattle.laws_loan.proofs.Names.{ask_of, old_of, words_after, head_of, counted_in, holder, one_held, held_below}
-use Rattle.laws_loan.proofs.Names.{flag_within, is_claimed, head_stays, acquire_counts, acquire_number}
+use Rattle.laws_loan.proofs.Names.{◌≡◌, ◌≢◌, ℕ, ◌+◌, ◌-◌, ◌%◌, ◌^◌, ◌<◌, ◌≤◌, ◌==◌, ⊎_elim, Bool, true, false, bit_or}
+use Rattle.laws_loan.proofs.Names.{Option, Some, None, List, length, get_or, set, refl, sym, ap, subst, ◌∙◌, Ok, Err}
+use Rattle.laws_loan.proofs.Names.{cases_lt, nat_tests, set-get_or, Ask, Or, After, GoOn, ReleaseState, AcquireStage}
+use Rattle.laws_loan.proofs.Names.{DefaultMode, Release, ReleaseStage, next_word, flag_word, flag, has_flag, proposed}
+use Rattle.laws_loan.proofs.Names.{borrowed, locked, Acquired, acquire_asks, acquire_takes, acquire_sees}
+use Rattle.laws_loan.proofs.Names.{acquire_goes_back, head_taken, head_given_back, back_asks, back_takes, by_test}
+use Rattle.laws_loan.proofs.Names.{by_eq, ask_of, old_of, words_after, head_of, counted_in, holder, one_held}
+use Rattle.laws_loan.proofs.Names.{held_below, flag_within, is_claimed, head_stays, acquire_counts, acquire_number}
 use Rattle.laws_loan.proofs.Names.{release_counts, release_number, ReleaseAt, AllClaimed}
 use Rattle.std.proofs.Common.{arith}
 use Rattle.std.proofs.Common.{get_or-set_same}
 use Rattle.steps.specs.declared.ask.After.TheVariants.{Done}
-use Rattle.steps.specs.declared.indices.enums.ReleaseState.TheVariants.{Unlocked}
 use Rattle.steps.specs.declared.indices.enums.UniqueIndexSetAcquireFailure as failures
 use Rattle.steps.specs.declared.indices.unique.Acquire as acquire_calls
 use Rattle.steps.specs.declared.indices.unique.AcquireStage as acquires
@@ -56,11 +54,8 @@ module _ (c index : ℕ) (below : index < c) (ws : List ℕ) (hs : List (Option 
       let wide = g.wide in
       let low = flag_within c index below in
       let good : Good c (words_after ws (released_by releases.TheVariants.ClearsFlag)) (set hs index None) 1 = frees c ws hs index below 0 0 holds g in
-      record {
-        on = omega arith;
-        leads = (good, refl, omega arith);
-        unlocked = unlocked_for c (words_after ws (released_by releases.TheVariants.ClearsFlag)) (set hs index None) 1 good (omega arith);
-      }
+      let unlocked = unlocked_for c (words_after ws (released_by releases.TheVariants.ClearsFlag)) (set hs index None) 1 good (omega arith) in
+      grind arith
 
   -- while it is counted the set is not locked
   module _ (g : Good c ws hs 1) where
@@ -78,11 +73,8 @@ module _ (c index : ℕ) (below : index < c) (ws : List ℕ) (hs : List (Option 
     stores head =
         let wide = g.wide in
         let good : Good c (words_after ws (released_by (releases.TheVariants.StoresNext head))) hs 1 = stores_next c ws hs index (proposed head) 1 below g in
-        record {
-          on = omega arith;
-          leads = (good, refl, omega arith);
-          unlocked = unlocked_for c (words_after ws (released_by (releases.TheVariants.StoresNext head))) hs 1 good (omega arith);
-        }
+        let unlocked = unlocked_for c (words_after ws (released_by (releases.TheVariants.StoresNext head))) hs 1 good (omega arith) in
+        grind arith
 
     exchanges : (head : ℕ) → ReleaseStep (releases.TheVariants.ExchangesHead head)
     exchanges head = go (head_of ws == head) refl
@@ -91,46 +83,28 @@ module _ (c index : ℕ) (below : index < c) (ws : List ℕ) (hs : List (Option 
         go true t =
             let wide = g.wide in
             let is : head_of ws ≡ head = grind (arith, nat_tests) in
-            let goes : back_takes c (releases.TheVariants.ExchangesHead head) (head_of ws) ≡ Done Unlocked = rw t refl in
             let new : words_after ws (released_by (releases.TheVariants.ExchangesHead head))
             ≡ set ws 0 (head_given_back (head_of ws) index) =
             rw t (ap (λ h. set ws 0 (head_given_back h index)) (sym is)) in
             let good : Good c (words_after ws (released_by (releases.TheVariants.ExchangesHead head))) hs 0 =
             subst (λ w. Good c w hs 0) (sym new) (gives c ws hs 0 g index) in
-            record {
-              on = omega arith;
-              leads =
-                  subst (ReleaseLeads c (releases.TheVariants.ExchangesHead head)
-                  (words_after ws (released_by (releases.TheVariants.ExchangesHead head))) hs)
-                  (sym goes) (good, omega arith);
-              unlocked =
-                  subst (λ w. counted_in w ≢ locked) (sym new)
-                  (less_unlocked (head_given_back (head_of ws) index) (given_number (head_of ws) index counted.0));
-            }
+            let unlocked =
+            subst (λ w. counted_in w ≢ locked) (sym new)
+            (less_unlocked (head_given_back (head_of ws) index) (given_number (head_of ws) index counted.0)) in
+            grind arith
         go false t =
             let wide = g.wide in
-            let goes : back_takes c (releases.TheVariants.ExchangesHead head) (head_of ws)
-            ≡ GoOn (inner_release c releases.TheVariants.Subtracts) =
-            rw t refl in
             let same : words_after ws (released_by (releases.TheVariants.ExchangesHead head)) ≡ ws = rw t (set-get_or ws 0 0) in
             let good : Good c (words_after ws (released_by (releases.TheVariants.ExchangesHead head))) hs 1 = subst (λ w. Good c w hs 1) (sym same) g in
-            record {
-              on = omega arith;
-              leads =
-                  subst (ReleaseLeads c (releases.TheVariants.ExchangesHead head)
-                  (words_after ws (released_by (releases.TheVariants.ExchangesHead head))) hs)
-                  (sym goes) (good, refl, omega arith);
-              unlocked = unlocked_for c (words_after ws (released_by (releases.TheVariants.ExchangesHead head))) hs 1 good (omega arith);
-            }
+            let unlocked = unlocked_for c (words_after ws (released_by (releases.TheVariants.ExchangesHead head))) hs 1 good (omega arith) in
+            grind arith
 
     subtracts_one : ReleaseStep releases.TheVariants.Subtracts
     subtracts_one =
         let wide = g.wide in
-        record {
-          on = omega arith;
-          leads = (subtracts c ws hs 0 g, omega arith);
-          unlocked = less_unlocked ((head_of ws + (2 ^ 64 - 1)) % 2 ^ 64) (less_number (head_of ws) counted.0);
-        }
+        let good = subtracts c ws hs 0 g in
+        let unlocked = less_unlocked ((head_of ws + (2 ^ 64 - 1)) % 2 ^ 64) (less_number (head_of ws) counted.0) in
+        grind arith
 
   pub release_step : (stage : ReleaseStage) → ReleaseAt hs 0 index stage → Good c ws hs (release_counts stage) → ReleaseStep stage
   release_step releases.TheVariants.ClearsFlag at g = clears at g
@@ -216,27 +190,13 @@ module _ (c : ℕ) (ws : List ℕ) (hs : List (Option ℕ)) (opened : counted_in
         let wide = g.wide in
         let some = g.some in
         let t : (head_of ws == head) ≡ true = grind (arith, nat_tests) in
-        let goes : acquire_takes (call_at (acquires.TheVariants.ExchangesHead head next))
-        (acquires.TheVariants.ExchangesHead head next) (head_of ws)
-        ≡ GoOn (at_acquire (call_at (acquires.TheVariants.ExchangesHead head next)) (first_claim c head)) =
-        rw t refl in
         let new : words_after ws (acquired_by (acquires.TheVariants.ExchangesHead head next))
         ≡ set ws 0 (head_taken (head_of ws) next) =
         rw t (ap (λ h. set ws 0 (head_taken h next)) (sym is)) in
         let good : Good c (words_after ws (acquired_by (acquires.TheVariants.ExchangesHead head next))) hs 1 =
         subst (λ w. Good c w hs 1) (sym new) (takes c ws hs 0 next g opened (λ all. at.1 (ap borrowed (sym is) ∙ all))) in
-        record {
-          on = omega arith;
-          leads = subst (Leads (acquires.TheVariants.ExchangesHead head next)) (sym goes)
-              (by_test (λ stage. Leads (acquires.TheVariants.ExchangesHead head next)
-              (GoOn (at_acquire (call_at (acquires.TheVariants.ExchangesHead head next)) stage)))
-              (nat_lt (proposed head) c) (acquires.TheVariants.Claims (proposed head))
-              (acquires.TheVariants.Scans 0)
-              (λ own. let below : proposed head < c = grind (arith, nat_tests) in (good, refl, below, omega arith))
-              (λ none. (good, refl, (omega arith, λ i less. absurd (omega arith)), omega arith)));
-          stays = rw t refl;
-          unlocked = unlocked_for c (words_after ws (acquired_by (acquires.TheVariants.ExchangesHead head next))) hs 1 good (omega arith);
-        }
+        let unlocked = unlocked_for c (words_after ws (acquired_by (acquires.TheVariants.ExchangesHead head next))) hs 1 good (omega arith) in
+        grind (arith, nat_tests, by_test)
 
   -- ---- the claim of a flag
 

@@ -1,17 +1,15 @@
 -- From what a step shows to what it comes to for the frame.
-use Rattle.std.proofs.Common.{arith}
-use Rattle.laws_loan.proofs.Names.{◌≡◌, ℕ, ◌+◌, Bool, Option, List, ◌++◌, subst, fold, Ask, After, GoOn, Answer}
-use Rattle.laws_loan.proofs.Names.{Event, Book, LoanStart, LoanFlight, Effect, Party, Coding, ended_book, book_after}
+use Rattle.laws_loan.proofs.Names.{◌≡◌, ℕ, ◌+◌, Bool, Option, List, ◌++◌, subst, fold, Ask, After, Answer, Event}
+use Rattle.laws_loan.proofs.Names.{Book, LoanStart, LoanFlight, Effect, Party, Coding, ended_book, book_after}
 use Rattle.laws_loan.proofs.Names.{effects_of, put, Span, span_of, answer_in, words_after, change_of, step_count}
-use Rattle.laws_loan.proofs.Names.{party_after, ending_of, Trace, Core}
-use Rattle.steps.specs.declared.ask.After.TheVariants.{Done}
+use Rattle.laws_loan.proofs.Names.{party_after, ending_of, Trace}
+use Rattle.std.proofs.Common.{arith}
 use Rattle.model.specs.declared.event.Start as starts
 use Rattle.model.specs.declared.families.Registry as registries
 use Rattle.model.proofs.Frame as frame
 use Rattle.laws_loan.proofs.Channel.{Channel, words_in}
-use Rattle.laws_loan.proofs.Giving.{GivingStep, giving_owes, s_given}
 use Rattle.laws_loan.proofs.Invariant.{HoldsNow, family}
-use Rattle.laws_loan.proofs.Sender.{any_call, party_then, Steps, step_owes}
+use Rattle.laws_loan.proofs.Sender.{any_call, party_then, told_by, StepBy, step_owes}
 use Rattle.laws_loan.proofs.Turns.{Shows, now_more}
 
 module _ {T : Type 0} (code : Coding T) (slots queue : ℕ) where
@@ -71,54 +69,15 @@ module _ {T : Type 0} (code : Coding T) (slots queue : ℕ) where
               sound.holds.same owes;
         }
 
-    -- of the sender
-    pub sender_comes : (start : LoanStart) (ask : Option Ask) (back : Bool) (after : After LoanFlight (Answer T))
-        (wrote : List (Event T)) (book : Book) (s' : Channel T) (from : Span T)
-        → span_of 0 now.events ≡ from → book ≡ s'.book
-        → Steps code slots queue now t.world.latest t.world.turns t.world.changes since x s' from start ask back
-        after (wrote ++ ending_of 0 (starts.TheVariants.Loan start) (answer_in after))
-        → ComesWith 0 start ask back after wrote book
-    sender_comes start ask back (GoOn flight) wrote book s' from is kept steps =
-        comes 0 start ask back (GoOn flight)
-        (wrote ++ ending_of 0 (starts.TheVariants.Loan start) (answer_in (any_call {T = T} (GoOn flight)))) book s'
-        kept steps.words steps.shows
-        (step_owes code slots queue now t.world.latest t.world.turns t.world.changes since x s' from start ask back
-        (GoOn flight)
-        (wrote ++ ending_of 0 (starts.TheVariants.Loan start) (answer_in (any_call {T = T} (GoOn flight)))) steps is
-        inv_now)
-    sender_comes start ask back (Done answer) wrote book s' from is kept steps =
-        comes 0 start ask back (Done answer)
-        (wrote ++ ending_of 0 (starts.TheVariants.Loan start) (answer_in (any_call {T = T} (Done answer)))) book s'
-        kept steps.words steps.shows
-        (step_owes code slots queue now t.world.latest t.world.turns t.world.changes since x s' from start ask back
-        (Done answer)
-        (wrote ++ ending_of 0 (starts.TheVariants.Loan start) (answer_in (any_call {T = T} (Done answer)))) steps is
-        inv_now)
-
-    -- of the receiver, which changes the completion queue alone
-    pub receiver_comes : (p : ℕ) (start : LoanStart) (ask : Option Ask) (back : Bool)
-        (after : After LoanFlight (Answer T)) (wrote : List (Event T)) (book : Book) (k : Core ℕ) (from : Span T)
-        → span_of p now.events ≡ from → book ≡ now.book
-        → GivingStep code slots queue now t.world.latest t.world.turns t.world.changes since x p k from start ask
-        back after (wrote ++ ending_of p (starts.TheVariants.Loan start) (answer_in after))
-        → ComesWith p start ask back after wrote book
-    receiver_comes p start ask back (GoOn flight) wrote book k from is kept steps =
-        comes p start ask back (GoOn flight) (wrote ++ ending_of p (starts.TheVariants.Loan start) (answer_in (any_call {T = T} (GoOn flight)))) book
-        (s_given code slots queue now t.world.latest t.world.turns t.world.changes since x p k from start ask back
-        (GoOn flight)
-        (wrote ++ ending_of p (starts.TheVariants.Loan start) (answer_in (any_call {T = T} (GoOn flight)))))
-        kept steps.words steps.shows
-        (giving_owes code slots queue now t.world.latest t.world.turns t.world.changes since x p k from start ask
-        back (GoOn flight)
-        (wrote ++ ending_of p (starts.TheVariants.Loan start) (answer_in (any_call {T = T} (GoOn flight)))) steps is
-        inv_now)
-    receiver_comes p start ask back (Done answer) wrote book k from is kept steps =
-        comes p start ask back (Done answer) (wrote ++ ending_of p (starts.TheVariants.Loan start) (answer_in (any_call {T = T} (Done answer)))) book
-        (s_given code slots queue now t.world.latest t.world.turns t.world.changes since x p k from start ask back
-        (Done answer)
-        (wrote ++ ending_of p (starts.TheVariants.Loan start) (answer_in (any_call {T = T} (Done answer)))))
-        kept steps.words steps.shows
-        (giving_owes code slots queue now t.world.latest t.world.turns t.world.changes since x p k from start ask
-        back (Done answer)
-        (wrote ++ ending_of p (starts.TheVariants.Loan start) (answer_in (any_call {T = T} (Done answer)))) steps is
-        inv_now)
+    -- by this effect, which leaves this book
+    pub step_comes : (p : ℕ) (start : LoanStart) (ask : Option Ask) (back : Bool) (after : After LoanFlight (Answer T))
+        (effect : Effect) (s' : Channel T) (from : Span T) → span_of p now.events ≡ from
+        → StepBy code slots queue now t.world.latest t.world.turns t.world.changes since x p s' from start ask back after effect
+        → ComesBy p start ask back after effect
+    step_comes p start ask back after effect s' from is step =
+        comes p start ask back after
+        (told_by code slots queue now t.world.latest t.world.turns t.world.changes since x p start after effect)
+        (ended_book {T = T} p start (answer_in after) (fold (book_after {T = T}) now.book (effects_of p effect (answer_in after))))
+        s' step.1 step.0.words step.0.shows
+        (step_owes code slots queue now t.world.latest t.world.turns t.world.changes since x p s' from start ask back after
+        (told_by code slots queue now t.world.latest t.world.turns t.world.changes since x p start after effect) step.0 is inv_now)

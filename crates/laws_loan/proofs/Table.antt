@@ -1,16 +1,16 @@
 -- Each event of a loan channel by the table of its places: from where it moves its index, and what is so then.
-use Rattle.laws_loan.proofs.Names.{◌≡◌, ◌≢◌, ℕ, ◌<◌, ◌⊎◌, inl, inr, ⊎_elim, false, Option, Some, None, List, [], ◌∷◌}
-use Rattle.laws_loan.proofs.Names.{◌++◌, get_or, set, refl, sym, ap, subst, ◌∙◌, Place, place_at, Event, Begun}
+use Rattle.laws_loan.proofs.Names.{length-set, ◌≡◌, ◌≢◌, ℕ, ◌<◌, ◌⊎◌, inr, ⊎_elim, false, Option, Some, None, List}
+use Rattle.laws_loan.proofs.Names.{[], ◌∷◌, ◌++◌, get_or, set, refl, ap, subst, ◌∙◌, Place, place_at, Event, Begun}
 use Rattle.laws_loan.proofs.Names.{Published, HandedOut, Claimed, Freed, Returned, TakenBack, Finished, Index, Book}
 use Rattle.laws_loan.proofs.Names.{LoanStart, taken_from, holder_in, IsIn, Spot, Free, Passing, With, Waiting}
 use Rattle.laws_loan.proofs.Names.{Returning, Move, move_of, spot_of, receiver_of, book_after}
-use Rattle.std.proofs.Common.{arith, get_or-set_same}
+use Rattle.std.proofs.Common.{arith, get_or-set_same, get_or-set_other}
 use Rattle.steps.specs.declared.loan.places.Place.TheVariants as places
 use Rattle.model.specs.declared.event.Answer.TheVariants as answers
 use Rattle.model.specs.declared.event.Start.TheVariants.{Loan}
 use Rattle.model.specs.declared.families.loan.LoanStart.TheVariants as calls
-use Rattle.laws_loan.proofs.Lists.{first_there, lists_pass, lists_push, lists_pop}
-use Rattle.laws_loan.proofs.Placed.{claim_of, IsBy, Placed, same_all, set_one, placed_more}
+use Rattle.laws_loan.proofs.Lists.{first_there}
+use Rattle.laws_loan.proofs.Placed.{IsBy, Placed, placed_more}
 use Rattle.laws_loan.proofs.Spots.{is_waiting, is_returning, waits_there, returns_there}
 
 -- ---- where the sender's table may have an index
@@ -38,13 +38,6 @@ with_away x0 x1 = grind arith
 
 passing_away : (p : ℕ) → p ≢ 0 → IsAway (Passing p)
 passing_away x0 x1 = grind arith
-
--- what is sent can be anywhere but with the sender
-sent_in : (place : Place) (spot : Spot) → place ≡ places.Sent → spot ≢ Free → spot ≢ With 0 → IsIn place spot
-sent_in place spot e taken elsewhere = subst (λ p. IsIn p spot) (sym e) (taken, elsewhere)
-
-loaned_in : (place : Place) (spot : Spot) → place ≡ places.Loaned → (spot ≡ With 0) ⊎ (spot ≡ Passing 0) → IsIn place spot
-loaned_in place spot e h = subst (λ p. IsIn p spot) (sym e) h
 
 -- whose an index is that one party has
 by_passing : (q p : ℕ) → IsBy p (Passing q) → p ≡ q
@@ -77,19 +70,7 @@ module _ {T : Type 0} (slots : ℕ) (claims : List (Option ℕ)) (sent back : Li
     claims_it from =
         placed_more slots events (Claimed 0 i) (move Free (Passing 0)) refl claims (set claims i (Some 0)) sent sent
         back back book (record book { places = set book.places i places.Loaned }) h
-        (record {
-          below = below;
-          claim = get_or-set_same claims i (Some 0) None (let long = h.claims_long in omega arith);
-          other_claims = set_one i None (Some 0) claims;
-          waits = lists_pass is_waiting sent events (Claimed 0 i) h.waits (move Free (Passing 0)) refl (ap is_waiting from) refl;
-          returns = lists_pass is_returning back events (Claimed 0 i) h.returns (move Free (Passing 0)) refl (ap is_returning from) refl;
-          party = λ p by. inl (by_passing 0 p by);
-          place = loaned_in _ (Passing 0) (get_or-set_same book.places i places.Loaned places.Free (let long = h.places_long in omega arith)) (inr refl);
-          other_places = set_one i places.Free places.Loaned book.places;
-          holds = held i Free from;
-          other_holders = same_all i None book.holders;
-          calm = (refl, (λ r. refl), refl, refl);
-        })
+        (grind (arith, get_or-set_same, get_or-set_other, length-set, by_passing, held))
 
     -- and ends
     pub loan_ends : spot_of i events ≡ Passing 0 → place_at book.places i ≡ places.Loaned
@@ -97,23 +78,7 @@ module _ {T : Type 0} (slots : ℕ) (claims : List (Option ℕ)) (sent back : Li
     loan_ends from loaned =
         placed_more slots events (Finished 0 (Loan calls.Loan) (answers.Index i)) (move (Passing 0) (With 0)) refl
         claims claims sent sent back back book (record book { holders = set book.holders i (Some 0) }) h
-        (record {
-          below = below;
-          claim = h.claimed i below ∙ ap claim_of from;
-          other_claims = same_all i None claims;
-          waits =
-              lists_pass is_waiting sent events (Finished 0 (Loan calls.Loan) (answers.Index i)) h.waits
-              (move (Passing 0) (With 0)) refl (ap is_waiting from) refl;
-          returns =
-              lists_pass is_returning back events (Finished 0 (Loan calls.Loan) (answers.Index i)) h.returns
-              (move (Passing 0) (With 0)) refl (ap is_returning from) refl;
-          party = λ p by. inl (by_with 0 p by);
-          place = loaned_in _ (With 0) loaned (inl refl);
-          other_places = same_all i places.Free book.places;
-          holds = get_or-set_same book.holders i (Some 0) None (let long = h.holders_long in omega arith);
-          other_holders = set_one i None (Some 0) book.holders;
-          calm = (refl, (λ r. refl), refl, refl);
-        })
+        (grind (arith, get_or-set_same, get_or-set_other, length-set, by_with))
 
     -- a send or a give-up begins
     pub sender_begins : (start : LoanStart)
@@ -122,19 +87,7 @@ module _ {T : Type 0} (slots : ℕ) (claims : List (Option ℕ)) (sent back : Li
     sender_begins start is from =
         placed_more slots events (Begun 0 (Loan start)) (move (With 0) (Passing 0)) is claims claims sent sent back
         back book (record book { holders = set book.holders i None }) h
-        (record {
-          below = below;
-          claim = h.claimed i below ∙ ap claim_of from;
-          other_claims = same_all i None claims;
-          waits = lists_pass is_waiting sent events (Begun 0 (Loan start)) h.waits (move (With 0) (Passing 0)) is (ap is_waiting from) refl;
-          returns = lists_pass is_returning back events (Begun 0 (Loan start)) h.returns (move (With 0) (Passing 0)) is (ap is_returning from) refl;
-          party = λ p by. inl (by_passing 0 p by);
-          place = loaned_in _ (Passing 0) (loaned_there _ (stood i (With 0) from)) (inr refl);
-          other_places = same_all i places.Free book.places;
-          holds = get_or-set_same book.holders i None None (let long = h.holders_long in omega arith);
-          other_holders = set_one i None None book.holders;
-          calm = (refl, (λ r. refl), refl, refl);
-        })
+        (grind (arith, get_or-set_same, get_or-set_other, length-set, by_passing, loaned_there, stood))
 
     -- a send publishes it
     pub publishes_it : spot_of i events ≡ Passing 0
@@ -142,21 +95,7 @@ module _ {T : Type 0} (slots : ℕ) (claims : List (Option ℕ)) (sent back : Li
     publishes_it from =
         placed_more slots events (Published 0 (Index i)) (move (Passing 0) Waiting) refl claims claims sent
         (sent ++ i ∷ []) back back book (record book { places = set book.places i places.Sent }) h
-        (record {
-          below = below;
-          claim = h.claimed i below ∙ ap claim_of from;
-          other_claims = same_all i None claims;
-          waits = lists_push is_waiting sent events (Published 0 (Index i)) h.waits (move (Passing 0) Waiting) refl (ap is_waiting from) refl;
-          returns = lists_pass is_returning back events (Published 0 (Index i)) h.returns (move (Passing 0) Waiting) refl (ap is_returning from) refl;
-          party = λ p by. absurd (by_none p Waiting (λ e. absurd (cc)) (λ e. absurd (cc)) by);
-          place =
-              sent_in _ Waiting (get_or-set_same book.places i places.Sent places.Free (let long = h.places_long in omega arith))
-              (λ e. absurd (cc)) (λ e. absurd (cc));
-          other_places = set_one i places.Free places.Sent book.places;
-          holds = held i (Passing 0) from;
-          other_holders = same_all i None book.holders;
-          calm = (refl, (λ r. refl), refl, refl);
-        })
+        (grind (arith, get_or-set_same, get_or-set_other, length-set, by_none, held))
 
     -- it is freed, where it waits in neither queue
     pub frees_it : (spot : Spot) → spot_of i events ≡ spot → is_waiting spot ≡ false → is_returning spot ≡ false
@@ -164,19 +103,7 @@ module _ {T : Type 0} (slots : ℕ) (claims : List (Option ℕ)) (sent back : Li
     frees_it spot from neither nor =
         placed_more slots events (Freed 0 i) (move (Passing 0) Free) refl claims (set claims i None) sent sent back
         back book (record book { places = set book.places i places.Free; holders = set book.holders i None }) h
-        (record {
-          below = below;
-          claim = get_or-set_same claims i None None (let long = h.claims_long in omega arith);
-          other_claims = set_one i None None claims;
-          waits = lists_pass is_waiting sent events (Freed 0 i) h.waits (move (Passing 0) Free) refl (ap is_waiting from ∙ neither) refl;
-          returns = lists_pass is_returning back events (Freed 0 i) h.returns (move (Passing 0) Free) refl (ap is_returning from ∙ nor) refl;
-          party = λ p by. absurd (by_none p Free (λ e. absurd (cc)) (λ e. absurd (cc)) by);
-          place = subst (λ place. IsIn place Free) (sym (get_or-set_same book.places i places.Free places.Free (let long = h.places_long in omega arith))) refl;
-          other_places = set_one i places.Free places.Free book.places;
-          holds = get_or-set_same book.holders i None None (let long = h.holders_long in omega arith);
-          other_holders = set_one i None None book.holders;
-          calm = (refl, (λ r. refl), refl, refl);
-        })
+        (grind (arith, get_or-set_same, get_or-set_other, length-set, by_none))
 
     -- ---- the two queues
 
@@ -186,19 +113,7 @@ module _ {T : Type 0} (slots : ℕ) (claims : List (Option ℕ)) (sent back : Li
     hands_it_out p rest front whose =
         let from : spot_of i events ≡ Waiting = waits_there (spot_of i events) (first_there is_waiting sent rest events i front h.waits) in
         placed_more slots events (HandedOut p (Index i)) (move Waiting (Passing p)) refl claims claims sent rest back back book book h
-        (record {
-          below = below;
-          claim = h.claimed i below ∙ ap claim_of from;
-          other_claims = same_all i None claims;
-          waits = lists_pop is_waiting sent events (HandedOut p (Index i)) h.waits (move Waiting (Passing p)) refl rest front refl;
-          returns = lists_pass is_returning back events (HandedOut p (Index i)) h.returns (move Waiting (Passing p)) refl (ap is_returning from) refl;
-          party = λ q by. subst (λ n. (n ≡ 0) ⊎ (n ≡ receiver_of events)) (sym (by_passing p q by)) whose;
-          place = sent_in _ (Passing p) (sent_there _ Waiting (stood i Waiting from) waiting_away) (λ e. absurd (cc)) (λ e. absurd (cc));
-          other_places = same_all i places.Free book.places;
-          holds = held i Waiting from;
-          other_holders = same_all i None book.holders;
-          calm = (refl, (λ r. refl), refl, refl);
-        })
+        (grind (arith, by_passing, sent_there, stood, waiting_away, held))
 
     -- the first of those that were given back is taken back
     pub takes_it_back : (rest : List ℕ) → back ≡ i ∷ rest
@@ -206,19 +121,7 @@ module _ {T : Type 0} (slots : ℕ) (claims : List (Option ℕ)) (sent back : Li
     takes_it_back rest front =
         let from : spot_of i events ≡ Returning = returns_there (spot_of i events) (first_there is_returning back rest events i front h.returns) in
         placed_more slots events (TakenBack 0 i) (move Returning (Passing 0)) refl claims claims sent sent back rest book book h
-        (record {
-          below = below;
-          claim = h.claimed i below ∙ ap claim_of from;
-          other_claims = same_all i None claims;
-          waits = lists_pass is_waiting sent events (TakenBack 0 i) h.waits (move Returning (Passing 0)) refl (ap is_waiting from) refl;
-          returns = lists_pop is_returning back events (TakenBack 0 i) h.returns (move Returning (Passing 0)) refl rest front refl;
-          party = λ p by. inl (by_passing 0 p by);
-          place = sent_in _ (Passing 0) (sent_there _ Returning (stood i Returning from) returning_away) (λ e. absurd (cc)) (λ e. absurd (cc));
-          other_places = same_all i places.Free book.places;
-          holds = held i Returning from;
-          other_holders = same_all i None book.holders;
-          calm = (refl, (λ r. refl), refl, refl);
-        })
+        (grind (arith, by_passing, sent_there, stood, returning_away, held))
 
     -- ---- the receiver's index
 
@@ -234,23 +137,7 @@ module _ {T : Type 0} (slots : ℕ) (claims : List (Option ℕ)) (sent back : Li
           placed_more slots events (Finished p (Loan calls.Receive) (answers.PoppedIndex i))
           (move (Passing p) (With p)) refl claims claims sent sent back back book
           (record book { holders = set book.holders i (Some p) }) h
-          (record {
-            below = below;
-            claim = h.claimed i below ∙ ap claim_of from;
-            other_claims = same_all i None claims;
-            waits =
-                lists_pass is_waiting sent events (Finished p (Loan calls.Receive) (answers.PoppedIndex i)) h.waits
-                (move (Passing p) (With p)) refl (ap is_waiting from) refl;
-            returns =
-                lists_pass is_returning back events (Finished p (Loan calls.Receive) (answers.PoppedIndex i)) h.returns
-                (move (Passing p) (With p)) refl (ap is_returning from) refl;
-            party = λ q by. theirs q (by_with p q by);
-            place = sent_in _ (With p) (sent_there _ (Passing p) (stood i (Passing p) from) (passing_away p other)) (λ e. absurd (cc)) (λ e. other (cc));
-            other_places = same_all i places.Free book.places;
-            holds = get_or-set_same book.holders i (Some p) None (let long = h.holders_long in omega arith);
-            other_holders = set_one i None (Some p) book.holders;
-            calm = (refl, (λ r. refl), refl, refl);
-          })
+          (grind (arith, get_or-set_same, get_or-set_other, length-set, by_with, theirs, sent_there, stood, passing_away))
 
       -- a give-back of it begins
       pub receiver_begins : spot_of i events ≡ With p
@@ -258,37 +145,11 @@ module _ {T : Type 0} (slots : ℕ) (claims : List (Option ℕ)) (sent back : Li
       receiver_begins from =
           placed_more slots events (Begun p (Loan (calls.GiveBack i))) (move (With p) (Passing p)) refl claims
           claims sent sent back back book (record book { holders = set book.holders i None }) h
-          (record {
-            below = below;
-            claim = h.claimed i below ∙ ap claim_of from;
-            other_claims = same_all i None claims;
-            waits = lists_pass is_waiting sent events (Begun p (Loan (calls.GiveBack i))) h.waits (move (With p) (Passing p)) refl (ap is_waiting from) refl;
-            returns =
-                lists_pass is_returning back events (Begun p (Loan (calls.GiveBack i))) h.returns
-                (move (With p) (Passing p)) refl (ap is_returning from) refl;
-            party = λ q by. theirs q (by_passing p q by);
-            place = sent_in _ (Passing p) (sent_there _ (With p) (stood i (With p) from) (with_away p other)) (λ e. absurd (cc)) (λ e. absurd (cc));
-            other_places = same_all i places.Free book.places;
-            holds = get_or-set_same book.holders i None None (let long = h.holders_long in omega arith);
-            other_holders = set_one i None None book.holders;
-            calm = (refl, (λ r. refl), refl, refl);
-          })
+          (grind (arith, get_or-set_same, get_or-set_other, length-set, by_passing, theirs, sent_there, stood, with_away))
 
       -- and puts it into the completion queue
       pub returns_it : spot_of i events ≡ Passing p
           → Placed slots claims sent (back ++ i ∷ []) (book_after {T = T} book (Returned p i)) (events ++ Returned p i ∷ [])
       returns_it from =
           placed_more slots events (Returned p i) (move (Passing p) Returning) refl claims claims sent sent back (back ++ i ∷ []) book book h
-          (record {
-            below = below;
-            claim = h.claimed i below ∙ ap claim_of from;
-            other_claims = same_all i None claims;
-            waits = lists_pass is_waiting sent events (Returned p i) h.waits (move (Passing p) Returning) refl (ap is_waiting from) refl;
-            returns = lists_push is_returning back events (Returned p i) h.returns (move (Passing p) Returning) refl (ap is_returning from) refl;
-            party = λ q by. absurd (by_none q Returning (λ e. absurd (cc)) (λ e. absurd (cc)) by);
-            place = sent_in _ Returning (sent_there _ (Passing p) (stood i (Passing p) from) (passing_away p other)) (λ e. absurd (cc)) (λ e. absurd (cc));
-            other_places = same_all i places.Free book.places;
-            holds = held i (Passing p) from;
-            other_holders = same_all i None book.holders;
-            calm = (refl, (λ r. refl), refl, refl);
-          })
+          (grind (arith, by_none, sent_there, stood, passing_away, held))

@@ -1,13 +1,11 @@
 -- The steps of a take-back until it releases its index: the sender pops the completion queue.
-use Rattle.laws_loan.proofs.Names.{◌≡◌, ◌≢◌, ℕ, ◌+◌, ◌-◌, ◌^◌, ◌<◌, ◌≤◌, Bool, false, Option, Some, None, List, []}
-use Rattle.laws_loan.proofs.Names.{◌∷◌, ◌++◌, length, fold, refl, sym, ap, subst, ◌∙◌, append-nil, ◌==◌, ◌||◌, true}
-use Rattle.laws_loan.proofs.Names.{nat_tests, set-get_or, fold-append, Ask, After, GoOn, OneWord, completion_word}
-use Rattle.laws_loan.proofs.Names.{shifted, take_back_takes, went_on, Answer, Event, Finished, TakenBack, Start}
-use Rattle.laws_loan.proofs.Names.{LoanFlight, TakeBack, Effect, Party, Coding, one_word, ask_of, Passing, Returning}
-use Rattle.laws_loan.proofs.Names.{spot_of, receiver_after, receiver_of, taken_back, take_back_effect, as_it_is}
-use Rattle.laws_loan.proofs.Names.{popped, words_of_index, Span, Open, span_of, as_call, old_of}
-use Rattle.laws_loan.proofs.Names.{words_after, step_count, span_of-own, Core, taken, layout, in_one, KnowsPop}
-use Rattle.laws_loan.proofs.Names.{pop_number}
+use Rattle.laws_loan.proofs.Names.{◌≡◌, ℕ, ◌+◌, ◌-◌, ◌^◌, ◌<◌, ◌≤◌, Bool, false, Option, Some, None, List, [], ◌∷◌}
+use Rattle.laws_loan.proofs.Names.{◌++◌, length, refl, sym, ap, subst, ◌∙◌, append-nil, ◌==◌, ◌||◌, true, nat_tests}
+use Rattle.laws_loan.proofs.Names.{set-get_or, Ask, After, GoOn, OneWord, completion_word, shifted, take_back_takes}
+use Rattle.laws_loan.proofs.Names.{went_on, Answer, Event, Finished, TakenBack, Start, LoanFlight, TakeBack, Effect}
+use Rattle.laws_loan.proofs.Names.{Party, Coding, one_word, ask_of, Passing, Returning, spot_of, taken_back}
+use Rattle.laws_loan.proofs.Names.{take_back_effect, as_it_is, popped, words_of_index, Span, Open, span_of, as_call}
+use Rattle.laws_loan.proofs.Names.{old_of, words_after, step_count, Core, taken, layout, in_one, KnowsPop, pop_number}
 use Rattle.std.proofs.Common.{arith}
 use Rattle.steps.specs.declared.ask.After.TheVariants.{Done}
 use Rattle.steps.specs.declared.indices.unique.ReleaseStage as releases
@@ -20,14 +18,12 @@ use Rattle.model.specs.declared.event.Start.TheVariants as starts
 use Rattle.model.specs.declared.families.Flight as flights
 use Rattle.model.specs.declared.families.loan.LoanStart.TheVariants as calls
 use Rattle.model.specs.declared.families.loan.effects.Effect.TheVariants as effects
-use Rattle.laws_loan.proofs.Carried.{moved_on}
 use Rattle.laws_loan.proofs.Channel.{Channel, no_roles, words_in}
 use Rattle.laws_loan.proofs.Completion as completion
 use Rattle.laws_loan.proofs.Cuts.{IsOn}
-use Rattle.laws_loan.proofs.Invariant.{Hangs, sends_at, counted_for, reclaims_in, Carries, HoldsNow}
-use Rattle.laws_loan.proofs.Knows.{wrote_in, At}
+use Rattle.laws_loan.proofs.Invariant.{Hangs, sends_at, counted_for, Carries, HoldsNow}
 use Rattle.laws_loan.proofs.Lists.{first_there}
-use Rattle.laws_loan.proofs.OnQueues.{OnQueues, queues_then, queues_show, silent_tells}
+use Rattle.laws_loan.proofs.OneMove.{OneMove, carried, now_there, passes_on, same_receiver, span_after}
 use Rattle.laws_loan.proofs.Parts.{completion_long, completion_old, completion_words}
 use Rattle.laws_loan.proofs.Receives.{word_of}
 use Rattle.laws_loan.proofs.Releases.{take_back_frees_at}
@@ -35,10 +31,12 @@ use Rattle.laws_loan.proofs.Rests.{KeepsSet, keeps_all}
 use Rattle.laws_loan.proofs.Rests as rests
 use Rattle.laws_loan.proofs.Rooms.{back_below, index_is}
 use Rattle.laws_loan.proofs.Sender.{party_then, StepBy}
-use Rattle.laws_loan.proofs.Spots.{returns_there, passing_same, returning_passes, passing_on, spot_other, spot_moved}
+use Rattle.laws_loan.proofs.Spots.{returns_there, passing_same, returning_passes}
 use Rattle.laws_loan.proofs.Table.{takes_it_back}
-use Rattle.laws_loan.proofs.Theirs.{stays_beside}
+use Rattle.laws_loan.proofs.Theirs.{others_beside}
+use Rattle.laws_loan.proofs.Told.{silent_tells}
 use Rattle.laws_loan.proofs.Told.{is_reclaiming}
+use Rattle.laws_loan.proofs.Turns.{Shows, sends_now}
 
 abbrev pub pops_at : ℕ → ℕ → PopStage → OneWord → LoanFlight
 pops_at slots queue stage found =
@@ -71,7 +69,7 @@ module _ {T : Type 0} (code : Coding T) (slots queue : ℕ) (s : Channel T) (lat
       (take_backs.TheVariants.Pops stage found) value))
 
   abbrev StepTo : Channel T → PopStage → After LoanFlight (Answer T) → Effect → Type 0
-  StepTo s' stage after effect = StepBy code slots queue s latest turns changes since x s' spanned calls.TakeBack (asked stage) after effect
+  StepTo s' stage after effect = StepBy code slots queue s latest turns changes since x 0 s' spanned calls.TakeBack (asked stage) false after effect
 
   -- what a step of a take-back that stands here comes to
   pub record Does (stage : PopStage) (found : OneWord) : Type 0 where
@@ -181,7 +179,7 @@ module _ {T : Type 0} (code : Coding T) (slots queue : ℕ) (s : Channel T) (lat
     y_taken = party_then s x since changes calls.TakeBack (asked store_of_read) false (GoOn frees_at)
 
     abbrev s_taken : Channel T
-    s_taken = queues_then slots queue s latest turns y_taken s.submission without s.book (takes ∷ [])
+    s_taken = record s { submission = s.submission; completion = without; book = s.book; events = s.events ++ takes ∷ [] }
 
     below : index < slots
     below = back_below slots s.claims s.submission.waiting s.completion.waiting s.book s.events h.parts.placed index rest first
@@ -189,68 +187,32 @@ module _ {T : Type 0} (code : Coding T) (slots queue : ℕ) (s : Channel T) (lat
     was_returning : spot_of index s.events ≡ Returning
     was_returning = grind (arith, returns_there, first_there)
 
-    now_passing : spot_of index (s.events ++ takes ∷ []) ≡ Passing 0
-    now_passing = spot_moved s.events takes (record { index = index; from = Returning; to = Passing 0 }) refl
-
-    elsewhere : (i : ℕ) → index ≢ i → spot_of i (s.events ++ takes ∷ []) ≡ spot_of i s.events
-    elsewhere i ne = spot_other s.events takes (record { index = index; from = Returning; to = Passing 0 }) refl i ne
+    one_move : OneMove 0 index s.events (takes ∷ []) Returning (Passing 0)
+    one_move = grind (arith, was_returning)
 
     open_then : span_of 0 (s.events ++ takes ∷ []) ≡ Open start (takes ∷ [])
-    open_then = grind (arith, span_of-own, fold)
+    open_then = span_after 0 index s.events (takes ∷ []) Returning (Passing 0) one_move spanned from
 
-    receiver_stays : receiver_of (s.events ++ takes ∷ []) ≡ receiver_of s.events
-    receiver_stays = fold-append receiver_after 1 s.events (takes ∷ [])
-
-    on_queues_taken : OnQueues slots queue s latest turns y_taken s.submission without s.book (takes ∷ [])
-    on_queues_taken =
-        let sent = h.sent in
-        let given = h.given in
-        let same = receiver_stays in
-        record {
-          busy_before = idle;
-          busy_after = refl;
-          queue_stays = refl;
-          submission = h.parts.submission;
-          completion = completion.take_good slots some few s.completion h.parts.completion reached index rest first;
-          placed = takes_it_back slots s.claims s.submission.waiting s.completion.waiting s.book s.events h.parts.placed index below rest first;
-          tells =
-              silent_tells queue (is_reclaiming s.events) s.submission.waiting s.completion.waiting rest (takes ∷ [])
-              refl refl refl (append-nil s.completion.waiting ∙ first);
-          hangs = calm;
-          sent = omega arith;
-          given = omega arith;
-          reclaiming = h.reclaiming ∙ (ap reclaims_in from ∙ sym (ap reclaims_in open_then));
-          receivers = (omega arith, omega arith);
-          moves = ((below, was_returning), tt);
-          begins = (tt, tt);
-          answers = (tt, tt);
-          passing =
-              moved_on 0 s.events (takes ∷ []) (refl, tt) spanned from index elsewhere h.passing (λ i ne. none_carried i)
-              (Passing 0) now_passing (λ q e. (sym (passing_same 0 q e), (refl, refl)));
-        }
+    shows_taken : Shows slots queue s s_taken 0 y_taken latest turns (takes ∷ [])
+    shows_taken =
+        let good = completion.take_good slots some few s.completion h.parts.completion reached index rest first in
+        let placed = takes_it_back slots s.claims s.submission.waiting s.completion.waiting s.book s.events h.parts.placed index below rest first in
+        let tells =
+        silent_tells queue (is_reclaiming s.events) s.submission.waiting s.completion.waiting rest (takes ∷ [])
+        refl refl refl (append-nil s.completion.waiting ∙ first) in
+        let passing =
+        carried 0 index s.events (takes ∷ []) Returning (Passing 0) one_move spanned from h.passing (λ i ne. none_carried i)
+        (λ q e. (sym (passing_same 0 q e), (refl, refl))) in
+        grind (arith, open_then, sends_now, same_receiver, one_move, idle, calm, below, was_returning)
 
     takes_it : IsOn queued (pop_asks store_of_read) → x.steps ≤ 3 → StepTo s_taken store_of_read (GoOn frees_at) (effects.TakesBack index)
     takes_it on steps =
-        let wrote_is : takes ∷ [] ≡ wrote_in (span_of 0 (s.events ++ takes ∷ [])) = sym (ap wrote_in open_then) in (
-          record {
-            words = words_are store_of_read without on (completion.take_words slots some few s.completion h.parts.completion reached index rest first);
-            shows = queues_show slots queue s latest turns y_taken s.submission without s.book (takes ∷ []) h on_queues_taken;
-            own = (refl, tt);
-            stands = (record { claimed = refl; published = refl; handed_out = refl; given_back = refl; taken_back = refl; freed = refl }, tt);
-            here =
-                record {
-                  span = ap (λ wrote. Open start wrote) wrote_is;
-                  steps = omega arith;
-                  at = subst (λ wrote. At slots queue s_taken 0 wrote calls.TakeBack frees_at) wrote_is (refl, refl, refl, refl, (below, now_passing));
-                };
-            knows = omega arith;
-            theirs = λ q ne.
-                stays_beside slots queue s s_taken q refl refl (λ room stage known. known) (completion.take_keeps slots s.completion index rest first)
-                (passing_on s.events (takes ∷ []) index elsewhere Returning was_returning q (returning_passes q));
-            up = record { write = omega arith; read = omega arith; paid = omega arith };
-          },
-          refl,
-        )
+        let words = words_are store_of_read without on (completion.take_words slots some few s.completion h.parts.completion reached index rest first) in
+        let there = now_there 0 index s.events (takes ∷ []) Returning (Passing 0) one_move in
+        let others =
+        others_beside slots queue s s_taken refl refl (λ room stage known. known) (completion.take_keeps slots s.completion index rest first)
+        (λ q ne. passes_on 0 index s.events (takes ∷ []) Returning (Passing 0) one_move q (returning_passes q)) in
+        grind (arith, shows_taken, open_then, below)
 
   -- ---- each of its stages
 

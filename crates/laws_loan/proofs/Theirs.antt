@@ -1,7 +1,6 @@
 -- What a receiver's call goes on to know where the sender takes a step.
-use Rattle.laws_loan.proofs.Names.{◌≡◌, ◌≢◌, ℕ, true, false, List, OneWord, Event, LoanStart, LoanFlight}
-use Rattle.laws_loan.proofs.Names.{one_word, has_died, Passing, spot_of}
-use Rattle.laws_loan.proofs.Names.{KnowsOverflowPop, GoesUp, KnowsPush}
+use Rattle.laws_loan.proofs.Names.{◌≡◌, ◌≢◌, ℕ, true, false, List, OneWord, Event, LoanStart, LoanFlight, one_word}
+use Rattle.laws_loan.proofs.Names.{has_died, Passing, spot_of, KnowsOverflowPop, GoesUp, KnowsPush}
 use native.Mathlib.Omega.{arith}
 use Rattle.steps.specs.declared.queues.overflow.PopStage.{PopStage}
 use Rattle.steps.specs.declared.queues.ring.PushStage.{PushStage}
@@ -19,14 +18,14 @@ module _ {T : Type 0} (slots queue : ℕ) (s s' : Channel T) where
     pub push : (index : ℕ) (stage : PushStage) → KnowsPush one_word slots s.completion index stage → KnowsPush one_word slots s'.completion index stage
 
   -- where nothing of the book that it reads changes, and what it has in passing stays so
-  pub stays_beside : (q : ℕ) → s'.book.dead ≡ s.book.dead → s'.book.receiver ≡ s.book.receiver
+  stays_beside : (q : ℕ) → s'.book.dead ≡ s.book.dead → s'.book.receiver ≡ s.book.receiver
       → ((room : OneWord) (stage : PopStage) → KnowsOverflowPop queue s.submission room stage → KnowsOverflowPop queue s'.submission room stage)
       → ((i : ℕ) (stage : PushStage) → KnowsPush one_word slots s.completion i stage → KnowsPush one_word slots s'.completion i stage)
       → ((i : ℕ) → spot_of i s.events ≡ Passing q → spot_of i s'.events ≡ Passing q) → Stays q
   stays_beside x0 x1 x2 x3 x4 x5 = grind arith
 
   -- while a reclaim is under way the receiver is dead: its calls know nothing of the queue that a send pushes to, and have no index
-  pub dead_stays : has_died s.book.receiver s.book.dead ≡ true → s'.book.dead ≡ s.book.dead
+  dead_stays : has_died s.book.receiver s.book.dead ≡ true → s'.book.dead ≡ s.book.dead
       → ((index : ℕ) (stage : PushStage) → KnowsPush one_word slots s.completion index stage
       → KnowsPush one_word slots s'.completion index stage)
       → (q : ℕ) → Stays q
@@ -35,6 +34,22 @@ module _ {T : Type 0} (slots queue : ℕ) (s s' : Channel T) where
   pub theirs_stay : (q : ℕ) → q ≢ 0 → Stays q → (wrote : List (Event T)) (start : LoanStart) (flight : LoanFlight)
       → At slots queue s q wrote start flight → At slots queue s' q wrote start flight
   theirs_stay x0 x1 x2 x3 x4 x5 x6 = grind arith
+
+  -- what the calls of the others know
+  abbrev pub Others : ℕ → Type 0
+  Others p = (q : ℕ) → q ≢ p → (wrote : List (Event T)) (start : LoanStart) (flight : LoanFlight)
+      → At slots queue s q wrote start flight → At slots queue s' q wrote start flight
+
+  pub others_beside : s'.book.dead ≡ s.book.dead → s'.book.receiver ≡ s.book.receiver
+      → ((room : OneWord) (stage : PopStage) → KnowsOverflowPop queue s.submission room stage → KnowsOverflowPop queue s'.submission room stage)
+      → ((i : ℕ) (stage : PushStage) → KnowsPush one_word slots s.completion i stage → KnowsPush one_word slots s'.completion i stage)
+      → ((q : ℕ) → q ≢ 0 → (i : ℕ) → spot_of i s.events ≡ Passing q → spot_of i s'.events ≡ Passing q) → Others 0
+  others_beside dead receiver pops pushes passes q ne = theirs_stay q ne (stays_beside q dead receiver pops pushes (passes q ne))
+
+  pub others_dead : has_died s.book.receiver s.book.dead ≡ true → s'.book.dead ≡ s.book.dead
+      → ((index : ℕ) (stage : PushStage) → KnowsPush one_word slots s.completion index stage → KnowsPush one_word slots s'.completion index stage)
+      → Others 0
+  others_dead died dead pushes q ne = theirs_stay q ne (dead_stays died dead pushes q)
 
   -- its turns back are paid still, since each move of a position is a change
   module _ (changes changes' : ℕ) (up : GoesUp s.submission s'.submission changes changes') where

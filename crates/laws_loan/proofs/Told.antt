@@ -1,9 +1,10 @@
 -- What the events tell of the two queues, beside the indices that wait in them; and how a turn's events go on with it.
-use Rattle.std.proofs.Common.{arith}
 use Rattle.laws_loan.proofs.Names.{◌≡◌, ℕ, Bool, false, List, [], ◌∷◌, ◌++◌, map, take, fold, refl, sym, ap, subst}
-use Rattle.laws_loan.proofs.Names.{◌∙◌, append_assoc, flat_map-append, Event, Item, Index, gives_back, takes_back}
-use Rattle.laws_loan.proofs.Names.{given_back, taken_back, reclaims_after, queue_acts, as_queue, queue_moments}
-use Rattle.laws_loan.proofs.Names.{overflowing_list, hands_out, handed_out, IsLegal, standing, answers_from}
+use Rattle.laws_loan.proofs.Names.{◌∙◌, append-nil, append_assoc, flat_map-append, Event, Item, Index, gives_back}
+use Rattle.laws_loan.proofs.Names.{takes_back, given_back, taken_back, reclaims_after, queue_acts, as_queue}
+use Rattle.laws_loan.proofs.Names.{queue_moments, overflowing_list, hands_out, handed_out, IsLegal, standing}
+use Rattle.laws_loan.proofs.Names.{answers_from}
+use Rattle.std.proofs.Common.{arith}
 use Rattle.std.proofs.Common.{flat_map}
 use Rattle.model.specs.Families.Queues.Reading.{publishes, published}
 use Rattle.model.proofs.Replays.{calls_of, answers_of, standing_more, legal_more}
@@ -61,3 +62,9 @@ module _ {T : Type 0} where
               (legal_more (overflowing_list queue) (queue_moments events) (as_queue (is_reclaiming events) es)
               (items (take queue sent)) h.legal h.stand s.answers);
         }
+
+-- events that tell nothing of the submission queue, where of the completion queue they tell so
+pub silent_tells : {T : Type 0} (queue : ℕ) (reclaims : Bool) (sent back back' : List ℕ) (es : List (Event T))
+    → published es ≡ [] → handed_out es ≡ [] → as_queue reclaims es ≡ []
+    → back ++ given_back es ≡ taken_back es ++ back' → Tells queue reclaims sent sent back back' es
+silent_tells x0 x1 x2 x3 x4 x5 x6 x7 x8 x9 = grind (arith, items, append-nil)

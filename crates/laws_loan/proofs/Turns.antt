@@ -1,7 +1,8 @@
 -- What a turn of a loan channel shows, and that it so keeps what holds between two turns.
-use Rattle.laws_loan.proofs.Names.{◌≡◌, ℕ, ◌+◌, ◌≤◌, false, List, ◌++◌, fold, sym, subst, ◌∙◌, fold-append, Event}
-use Rattle.laws_loan.proofs.Names.{Party, MovesRight, BeginsRight, AnswersRight, Passing, spot_of, receiver_of}
-use Rattle.laws_loan.proofs.Names.{reclaims_after, put, span_of, AreRight, Each-append}
+use Rattle.laws_loan.proofs.Names.{◌≡◌, ◌≢◌, ap, Some, flight_of, doing_of, party_put_same, party_put_other, ℕ, ◌+◌}
+use Rattle.laws_loan.proofs.Names.{◌≤◌, false, List, ◌++◌, fold, sym, subst, fold-append, Event, Party, MovesRight}
+use Rattle.laws_loan.proofs.Names.{BeginsRight, AnswersRight, Passing, spot_of, receiver_of, reclaims_after, put}
+use Rattle.laws_loan.proofs.Names.{span_of, AreRight, Each-append}
 use Rattle.std.proofs.Common.{arith}
 use Rattle.laws_loan.proofs.Channel.{Channel, Holds}
 use Rattle.laws_loan.proofs.Invariant.{Hangs, sends_at, counted_for, hung, reclaims_in, Carries, HoldsNow}
@@ -25,23 +26,19 @@ module _ {T : Type 0} (slots queue : ℕ) (s s' : Channel T) (p : ℕ) (y : Part
 
   pub now_more : HoldsNow slots queue s latest s.events turns → Shows → HoldsNow slots queue s' (put p y latest) (s.events ++ es) (turns + 1)
   now_more h shows =
-      let low = shows.receivers.0 in
-      let high = shows.receivers.1 in
-      let some = h.receivers.0 in
-      let most = h.receivers.1 in
-      record {
-        same = shows.events;
-        parts = shows.parts;
-        told =
-            subst (Told queue s'.submission.waiting s'.completion.waiting) (sym shows.events)
-            (told_more queue s.submission.waiting s'.submission.waiting s.completion.waiting s'.completion.waiting s.events es h.told shows.tells);
-        hangs = shows.hangs;
-        reclaiming = fold-append reclaims_after false s.events es ∙ shows.reclaiming;
-        sent = shows.sent;
-        given = shows.given;
-        receivers = (omega arith, omega arith);
-        moves = Each-append (MovesRight slots) s.events es h.moves shows.moves;
-        begins = Each-append BeginsRight s.events es h.begins shows.begins;
-        answers = Each-append (AnswersRight slots) s.events es h.answers shows.answers;
-        passing = shows.passing;
-      }
+      let told =
+      subst (Told queue s'.submission.waiting s'.completion.waiting) (sym shows.events)
+      (told_more queue s.submission.waiting s'.submission.waiting s.completion.waiting s'.completion.waiting s.events es h.told shows.tells) in
+      let reclaiming = fold-append reclaims_after false s.events es in
+      let moves = Each-append (MovesRight slots) s.events es h.moves shows.moves in
+      let begins = Each-append BeginsRight s.events es h.begins shows.begins in
+      let answers = Each-append (AnswersRight slots) s.events es h.answers shows.answers in
+      grind arith
+
+-- the sender's call after a turn of its own, and after one of another party
+module _ {T : Type 0} (latest : List (ℕ × Party T)) (y : Party T) where
+  pub sends_now : sends_at (put 0 y latest) ≡ flight_of (Some y.doing)
+  sends_now = ap (λ o. flight_of (doing_of o)) (party_put_same 0 y latest)
+
+  pub sends_still : (p : ℕ) → p ≢ 0 → sends_at (put p y latest) ≡ sends_at latest
+  sends_still p other = ap (λ o. flight_of (doing_of o)) (party_put_other 0 p y latest (λ e. other (sym e)))

@@ -1,0 +1,59 @@
+-- The end of a reclaim: no index is sent any more, so each is free or with the sender.
+use Rattle.laws_loan.proofs.Names.{◌≡◌, ◌≢◌, ℕ, ◌+◌, ◌*◌, ◌-◌, ◌^◌, ◌<◌, ◌≤◌, false, Option, List, [], ◌∷◌, ◌++◌}
+use Rattle.laws_loan.proofs.Names.{append-nil, fold, refl, length, Ask, ReclaimStage, place_at, Answer, Number, Event}
+use Rattle.laws_loan.proofs.Names.{Party, Coding, Passing, spot_of, freed, Open, Ended, span_of, step_count}
+use Rattle.laws_loan.proofs.Names.{span_of-own}
+use Rattle.std.proofs.Common.{arith}
+use Rattle.steps.specs.declared.ask.After.TheVariants.{Done}
+use Rattle.steps.specs.declared.loan.places.Place.TheVariants as places
+use Rattle.model.specs.declared.event.Start.TheVariants as starts
+use Rattle.model.specs.declared.families.loan.LoanStart.TheVariants as calls
+use Rattle.laws_loan.proofs.Channel.{Channel}
+use Rattle.laws_loan.proofs.Invariant.{Carries, HoldsNow}
+use Rattle.laws_loan.proofs.Knows.{ReclaimAt}
+use Rattle.laws_loan.proofs.Reclaiming.{reclaimed, end_of, receiver_then, none_passing, placed_ended}
+use Rattle.laws_loan.proofs.Rests.{KeepsSet}
+use Rattle.laws_loan.proofs.Sender.{party_then, Steps}
+use Rattle.laws_loan.proofs.Sents.{IsHome, all_home}
+use Rattle.laws_loan.proofs.Theirs.{others_dead}
+use Rattle.laws_loan.proofs.Told.{items}
+use Rattle.laws_loan.proofs.Turns.{Shows, sends_now}
+
+module _ {T : Type 0} (code : Coding T) (slots queue : ℕ) (s : Channel T) (latest : List (ℕ × Party T))
+    (turns changes since : ℕ) (x : Party T) (h : HoldsNow slots queue s latest s.events turns) (wrote : List (Event T))
+    (from : span_of 0 s.events ≡ Open (starts.Loan calls.Reclaim) wrote) (straight : x.backs ≡ 0) (stage : ReclaimStage)
+    (known : ReclaimAt slots queue s wrote stage) (ask : Option Ask) (set' : List ℕ) (count : ℕ) where
+  abbrev answer : Answer T
+  answer = Number count
+
+  abbrev end : Event T
+  end = end_of answer
+
+  abbrev pub s_end : Channel T
+  s_end = record s { set = set'; claims = s.claims; book = reclaimed s.book; events = s.events ++ end_of (Number count) ∷ [] }
+
+  module _ (keeps : KeepsSet slots queue s latest ask set' 0) (drained : s.submission.waiting ≡ [])
+      (emptied : s.completion.waiting ≡ []) (none : (j : ℕ) → j < slots → place_at s.book.places j ≢ places.Sent)
+      (counted : length (freed wrote) ≡ count) (steps : x.steps + step_count ask ≤ 8 * (slots + 1) + 5 * slots)
+      (small : turns < 2 ^ 64 - 2) where
+    home : (i : ℕ) → IsHome (spot_of i s.events)
+    home = grind (arith, all_home)
+
+    ended_then : span_of 0 (s.events ++ end ∷ []) ≡ Ended (starts.Loan calls.Reclaim) answer wrote
+    ended_then = grind (arith, span_of-own, fold)
+
+    shows : Shows slots queue s s_end 0 (party_then s x since changes calls.Reclaim ask false (Done answer)) latest turns (end ∷ [])
+    shows =
+        let placed =
+        placed_ended s.events answer home slots s.claims s.submission.waiting s.completion.waiting s.book h.parts.placed
+        (let most = h.receivers.1 in omega arith) in
+        let passing : (i q : ℕ) → spot_of i (s.events ++ end ∷ []) ≡ Passing q → Carries i (span_of q (s.events ++ end ∷ [])) =
+        λ i q e. none_passing s.events answer home i q e in
+        grind (arith, ended_then, receiver_then, sends_now, append-nil, items, home)
+
+    pub reclaim_ends : Steps code slots queue s latest turns changes since x 0 s_end (Open (starts.Loan calls.Reclaim) wrote)
+        calls.Reclaim ask false (Done answer) (end ∷ [])
+    reclaim_ends =
+        let words = keeps.words in
+        let others = others_dead slots queue s s_end known.dead refl (λ index push known. known) in
+        grind (arith, shows)
