@@ -1,12 +1,12 @@
 //! The end of the channel that loans and sends.
-ghost use Rattle.std.specs.Prelude.{◌≡◌, ◌⊎◌, ◌+◌, ◌-◌, ◌^◌, ◌<◌, ◌↔◌, Some, IsTrue, IsFalse, IfOk, IfErr, IfSome, IfNone};
+ghost use Rattle.std.specs.Prelude.{◌≡◌, ◌+◌, ◌-◌, ◌^◌, ◌<◌, ◌↔◌, IsTrue, IsFalse, IfOk, IfErr, IfSome, IfNone};
 ghost use Rattle.std.specs.Prelude.{count_by, map, slice_set, vec_len};
 ghost use Rattle.lock_free.specs.Loan.Places.{is_sent, place_at, reclaimed, returned};
 ghost use Rattle.lock_free.specs.Loan.Sender.{completion_view, pass_view, set_of_sender, submission_of, submission_view, IsLoaned, IsSame};
 ghost use Rattle.lock_free.specs.declared.spsc.loan.places.Place.TheVariants.{Free, Loaned, Sent};
 ghost use Rattle.lock_free.specs.Queues.Item.TheVariants.{Index};
-ghost use Rattle.lock_free.specs.Queues.Overflowing.{consumer_queue, TookNone};
-ghost use Rattle.lock_free.specs.Queues.Told.{HasPublished, HasTakenFirst, PopDone, PopEmpty};
+ghost use Rattle.lock_free.specs.Queues.Overflowing.{consumer_queue, PushAdded, PushHandedBack, SameConsumerByCapacity};
+ghost use Rattle.lock_free.specs.Queues.Told.{PopDone, PopEmpty};
 ghost use Rattle.lock_free.specs.UniqueIndexSet.{set_of, view};
 
 use crate::error::LoanFailure;
@@ -161,13 +161,9 @@ impl<'a, X: Drop, K: Keeps<X>> Sender<'a, X, K> {
             (places_of self.new ≡ slice_set (places_of self.old) (loaned loan.entry) Sent) }
         ensures back { IfSome result (λ y. places_of self.new
             ≡ returned y (slice_set (places_of self.old) (loaned loan.entry) Sent)) }
-        ensures published { IfNone result
-            (HasPublished (Index (loaned loan.entry)) (submission_view (sender_of self.old)) (submission_view (sender_of self.new))) }
-        ensures handed_back { IfSome result
-            (λ y. HasPublished (Index (loaned loan.entry)) (submission_view (sender_of self.old)) (submission_view (sender_of self.new))
-            × HasTakenFirst (Index y) (submission_view (sender_of self.old)) (submission_view (sender_of self.new))
-            ⊎ (y ≡ loaned loan.entry)
-            × TookNone (submission_of (sender_of self.old)).capacity
+        ensures added { IfNone result
+            (PushAdded (loaned loan.entry) (submission_view (sender_of self.old)) (submission_view (sender_of self.new))) }
+        ensures handed_back { IfSome result (λ y. PushHandedBack (submission_of (sender_of self.old)).capacity (loaned loan.entry) y
             (submission_view (sender_of self.old)) (submission_view (sender_of self.new))) }
         ensures next { next_of self.old < 2 ^ 64 - 1 → next_of self.new ≡ next_of self.old + 1 }
         ensures same { IsSame (sender_of self.old) (sender_of self.new) }
@@ -238,7 +234,7 @@ impl<'a, X: Drop, K: Keeps<X>> Sender<'a, X, K> {
         requires { consumer_queue receiver.old ≡ submission_of (sender_of self.old) }
         ensures places { places_of self.new ≡ map reclaimed (places_of self.old) }
         ensures number { result ≡ count_by is_sent (places_of self.old) }
-        ensures receiver { consumer_queue receiver.new ≡ consumer_queue receiver.old }
+        ensures receiver { SameConsumerByCapacity receiver.old receiver.new }
         ensures next { next_of self.new ≡ next_of self.old }
         ensures same { IsSame (sender_of self.old) (sender_of self.new) }
     {

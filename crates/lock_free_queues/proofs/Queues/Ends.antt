@@ -1,7 +1,7 @@
 -- What a pop answers, taken together.
 use Rattle.lock_free_queues.proofs.Names.{Option, Some, None, IfSome, IfNone, Item, option_map}
 use Rattle.history.specs.declared.view.View.{View}
-use Rattle.lock_free_queues.specs.Queues.Told.{HasPopped, WasEmpty, PopDone, PopEmpty}
+use Rattle.lock_free_queues.specs.Queues.Told.{HasPopped, WasEmpty, PopDone, PopEmpty, FoundNone, PopOldest, PopFoundNone}
 
 module _ {T V : Type 0} (named : V → Item T) (old new : View T) where
   pub has_popped : (answer : Option V) → IfSome answer (λ x. PopDone (named x) old new) → IfNone answer (PopEmpty old new)
@@ -12,3 +12,14 @@ module _ {T V : Type 0} (named : V → Item T) (old new : View T) where
 pub was_empty : {T V : Type 0} (old new : View T) (answer : Option V) → IfNone answer (PopEmpty old new) → IfNone answer (WasEmpty old new)
 was_empty old new None empty = empty.1
 was_empty old new (Some x) empty = tt
+
+-- the same of a queue whose pushes take out too
+module _ {T V : Type 0} (named : V → Item T) (old new : View T) where
+  pub oldest_popped : (answer : Option V) → IfSome answer (λ x. PopOldest (named x) old new) → IfNone answer (PopFoundNone old new)
+      → HasPopped (option_map named answer) old new
+  oldest_popped None done none = none.0
+  oldest_popped (Some x) done none = done.0
+
+pub found_none : {T V : Type 0} (old new : View T) (answer : Option V) → IfNone answer (PopFoundNone old new) → IfNone answer (FoundNone old new)
+found_none old new None none = none.1
+found_none old new (Some x) none = tt

@@ -10,8 +10,8 @@ use Rattle.lock_free_queues.proofs.Names.{Over, called, over_lists_kept}
 use Rattle.steps.specs.Queues.Overflow.{pop_answer}
 use Rattle.steps.specs.Queues.Ring as rings
 use Rattle.model.specs.declared.turn.Kind.TheVariants as kinds
-use Rattle.lock_free_queues.specs.Queues.Overflowing.{HasActed, HasOverflowed, over_push_told, pushes_told}
-use Rattle.lock_free_queues.specs.Queues.Told.{HasPublished, HasPopped, WasAtEnd, popped_item, pop_told, HasTakenFirst, FoundNone}
+use Rattle.lock_free_queues.specs.Queues.Overflowing.{HasActed, HasOverflowed, PushAdded, PushReplaced, over_push_told, pushes_told}
+use Rattle.lock_free_queues.specs.Queues.Told.{HasPublished, HasPopped, WasAtEnd, popped_item, pop_told, HasTakenFirst, PopOldest, PopFoundNone}
 use Rattle.lock_free_queues.proofs.Queues.Ended.{was_at_end, has_popped, IsPop}
 use Rattle.lock_free_queues.proofs.Queues.Facts.{found_none, published_by}
 use Rattle.lock_free_queues.proofs.Queues.Indices.{in_room}
@@ -70,11 +70,6 @@ module _ {T : Type 0} (code : Coding T) (base w : View T) (h : IsHistory code ki
         oldest = first.1;
       }
 
-  pub over_both : (value : ℕ) (back : Option ℕ) → HasOverflowed value back base w
-      → IfSome back (λ y. HasPublished (Index value) base w × HasTakenFirst (Index y) base w)
-  over_both value None push = tt
-  over_both value (Some oldest) push = (over_published value (Some oldest) push, over_took value oldest push)
-
   -- ---- pops
 
   pub over_taken : (x : ℕ) → HasPopped (Some (Index x)) base w → HasTakenFirst (Index x) base w
@@ -85,12 +80,12 @@ module _ {T : Type 0} (code : Coding T) (base w : View T) (h : IsHistory code ki
       let first = first_of_all p (Index x) at.before at.after at.is in
       record { by = p; before = at.before; after = at.after; is = at.is; since = at.since; rest = first.0; oldest = first.1 }
 
-  pub over_taken_if : (o : Option ℕ) → HasPopped (option_map Index o) base w → IfSome o (λ x. HasTakenFirst (Index x) base w)
+  pub over_taken_if : (o : Option ℕ) → HasPopped (option_map Index o) base w → IfSome o (λ x. PopOldest (Index x) base w)
   over_taken_if None popping = tt
-  over_taken_if (Some x) popping = over_taken x popping
+  over_taken_if (Some x) popping = (popping, over_taken x popping)
 
-  pub over_empty_if : (o : Option ℕ) → HasPopped (option_map Index o) base w → IfNone o (FoundNone base w)
-  over_empty_if None popping = found_none code Overflow base.capacity base w h popping
+  pub over_empty_if : (o : Option ℕ) → HasPopped (option_map Index o) base w → IfNone o (PopFoundNone base w)
+  over_empty_if None popping = (popping, found_none code Overflow base.capacity base w h popping)
   over_empty_if (Some x) popping = tt
 
 -- ---- how they ended
@@ -118,15 +113,15 @@ module _ {T : Type 0} (code : Coding T) (base w : View T) (idle : base.going ≡
     abbrev Back : Option ℕ → Type 0
     Back back = HasOverflowed value back base w ⊎ (back ≡ Some value) × WasAtEnd base w
 
-    pub over_none : (back : Option ℕ) → Back back → IfNone back (HasPublished (Index value) base w)
-    over_none None (inl push) = over_published code base w h value None push
+    pub over_none : (back : Option ℕ) → Back back → IfNone back (PushAdded value base w)
+    over_none None (inl push) = (push, over_published code base w h value None push)
     over_none None (inr left) = (let no : None ≡ Some value = left.0 in absurd (cc))
     over_none (Some y) pushed = tt
 
     pub over_some : (back : Option ℕ) → Back back
-        → IfSome back (λ y. HasPublished (Index value) base w × HasTakenFirst (Index y) base w ⊎ (y ≡ value) × WasAtEnd base w)
+        → IfSome back (λ y. PushReplaced value y base w ⊎ (y ≡ value) × WasAtEnd base w)
     over_some None pushed = tt
-    over_some (Some y) (inl push) = inl (over_published code base w h value (Some y) push, over_took code base w h value y push)
+    over_some (Some y) (inl push) = inl (push, over_published code base w h value (Some y) push, over_took code base w h value y push)
     over_some (Some y) (inr left) = inr ((let both : Some y ≡ Some value = left.0 in cc), left.1)
 
   abbrev named : ℕ → Item T

@@ -1,9 +1,9 @@
 -- For clients that pass values from one thread to another: each call of a guard, and what the two threads come to.
-use Rattle.lock_free_queues.proofs.Names.{◌≡◌, ◌⊎◌, inl, inr, ℕ, ◌+◌, ◌<◌, ◌≤◌, Bool, true, false, Option, Some, None}
+use Rattle.lock_free_queues.proofs.Names.{◌≡◌, inl, inr, ℕ, ◌+◌, ◌<◌, ◌≤◌, Bool, true, false, Option, Some, None}
 use Rattle.lock_free_queues.proofs.Names.{List, [], ◌∷◌, ◌++◌, length, map, get_or, take, refl, sym, ap, subst, ◌∙◌, arith}
-use Rattle.lock_free_queues.proofs.Names.{append-nil, append_assoc, Role, Item, Kind, QueueKind, Coding, coding_of, machine_kind}
+use Rattle.lock_free_queues.proofs.Names.{append-nil, append_assoc, Role, Item, QueueKind, Coding, coding_of, machine_kind}
 use Rattle.lock_free_queues.proofs.Names.{published, handed_out, Goes, IsHistory, MissesNothing, first_view, IfSome, IfNone}
-use Rattle.std.proofs.Common.{length-append, true≢false}
+use Rattle.std.proofs.Common.{length-append}
 use Rattle.std.proofs.lemmas.List.{take_all, take_more}
 use Rattle.std.specs.Prelude.{is_some, not}
 use mathlib.Core.List.{map-append}

@@ -1,9 +1,9 @@
 -- For clients: what each call adds to what a pass has sent and received.
-use Rattle.lock_free_queues.proofs.Names.{◌≡◌, ◌⊎◌, inl, inr, ℕ, ◌+◌, ◌<◌, ◌≤◌, Bool, true, false, Some, None, List, []}
+use Rattle.lock_free_queues.proofs.Names.{◌≡◌, inl, inr, ℕ, ◌+◌, ◌<◌, ◌≤◌, true, List, []}
 use Rattle.lock_free_queues.proofs.Names.{◌∷◌, ◌++◌, length, map, get_or, take, refl, sym, ap, subst, ◌∙◌, arith}
 use Rattle.lock_free_queues.proofs.Names.{append-nil, append_assoc, flat_map, flat_map-append, Role, Event, Item}
 use Rattle.lock_free_queues.proofs.Names.{Kind, Coding, publishes, hands_out, published, handed_out, View, IsBeginning, Goes}
-use Rattle.std.proofs.Common.{length-append, true≢false}
+use Rattle.std.proofs.Common.{length-append}
 use Rattle.std.proofs.lemmas.List.{take_all, take_more}
 use mathlib.Core.List.{map-append}
 use Rattle.lock_free_queues.specs.Queues.Sent.{HasAppended, HasSent, HasReceived}

@@ -1,7 +1,7 @@
 -- What each call adds to how much its pass has published and taken out itself, what that says to who has the whole, and
 -- which roles a call moves.
-use Rattle.lock_free_queues.proofs.Names.{◌≡◌, ◌⊎◌, inl, inr, ℕ, ◌+◌, Bool, true, false, Some, None, List, [], ◌∷◌}
-use Rattle.lock_free_queues.proofs.Names.{length, refl, sym, ap, subst, ◌∙◌, sum_by, arith, sum_by-append, Role}
+use Rattle.lock_free_queues.proofs.Names.{◌≡◌, inl, inr, ℕ, ◌+◌, Bool, true, false, Some, None, List, [], ◌∷◌}
+use Rattle.lock_free_queues.proofs.Names.{length, refl, sym, ap, ◌∙◌, sum_by, arith, sum_by-append, Role}
 use Rattle.lock_free_queues.proofs.Names.{Producer, Consumer, Answer, Event, Begun, Published, HandedOut, Finished}
 use Rattle.lock_free_queues.proofs.Names.{Item, Start, LengthOf, publishes, hands_out, published, handed_out, View}
 use Rattle.lock_free_queues.proofs.Names.{Called, takes, gives, sum_first, IsAll, MissesNothing}

@@ -1,8 +1,8 @@
 -- For clients of the overflowing queue: what the calls of a pass took out, as the history grows, by pops and by pushes.
-use Rattle.std.proofs.Common.{◌≡◌, ◌⊎◌, inl, inr, ℕ, ◌+◌, ◌-◌, ◌^◌, ◌<◌, ◌≤◌, Bool, true, false, true≢false}
+use Rattle.std.proofs.Common.{◌≡◌, inl, inr, ℕ, ◌+◌, ◌-◌, ◌^◌, ◌<◌, ◌≤◌, Bool, true, false, true≢false}
 use Rattle.std.proofs.Common.{if◌then◌else◌, List, [], ◌∷◌, ◌++◌, length, map, get_or, take, sym, refl, ap, subst, ◌∙◌}
 use Rattle.std.proofs.Common.{arith, append-nil, append_assoc, length-append, sum_by}
-use Rattle.std.specs.Prelude.{Some, None, Option}
+use Rattle.std.specs.Prelude.{Some, None}
 use Rattle.std.proofs.lemmas.List.{take_all, take_more}
 use mathlib.Core.List.{map-append}
 use Rattle.lock_free_queues.proofs.Names.{sum_by-append, one_word, Event, Published, HandedOut, Acted, Finished, events_by}
@@ -11,7 +11,7 @@ use Rattle.lock_free_queues.proofs.Names.{publishes, published, by_more}
 use Rattle.model.specs.declared.families.queues.QueueKind as kinds
 use Rattle.lock_free_queues.specs.Queues.Merges.{StandIn, by_pop, by_push, taken, TookOut, HasPushedAll, HasPushedUpTo}
 use Rattle.lock_free_queues.specs.Queues.Merges.{HasTaken, HasDrained}
-use Rattle.lock_free_queues.specs.Queues.Overflowing.{GoesOn, HasOverflowed, TookNone}
+use Rattle.lock_free_queues.specs.Queues.Overflowing.{GoesOn, HasOverflowed, PushAdded, PushHandedBack, TookNone}
 use Rattle.lock_free_queues.specs.Queues.Sent.{HasAppended}
 use Rattle.lock_free_queues.specs.Queues.Sums.{puts, HasDone}
 use Rattle.lock_free_queues.specs.Queues.Told.{HasPublished, HasPopped, HasAcquired, HasReleased}
@@ -305,37 +305,25 @@ module _ (c : ℕ) (some : 0 < c) (xs back : List ℕ) (x : ℕ) (v w u : View �
         all = λ under. (let end = h.end in absurd (omega arith));
       }
 
-  pub adds : HasOverflowed x None w u ⊎ (None ≡ Some x) × TookNone c w u → HasPublished (Index x) w u → HasPushedUpTo (xs ++ x ∷ []) back v u
-  adds (inl h) p = pushes_one h p
-  adds (inr h) p = took_none_there back h.1
+  pub adds : PushAdded x w u → HasPushedUpTo (xs ++ x ∷ []) back v u
+  adds p = pushes_one p.0 p.1
 
-  pub returns_one : {Taken : Type 0} (y : ℕ) → HasOverflowed x (Some y) w u ⊎ (Some y ≡ Some x) × TookNone c w u
-      → HasPublished (Index x) w u × Taken ⊎ (y ≡ x) × TookNone c w u
-      → HasPushedUpTo (xs ++ x ∷ []) (back ++ y ∷ []) v u
-  returns_one y (inl h) (inl p) = replaces_one y h p.0
-  returns_one y (inl h) (inr p) = took_none_there (back ++ y ∷ []) p.1
-  returns_one y (inr h) p = took_none_there (back ++ y ∷ []) h.1
+  pub returns_one : (y : ℕ) → PushHandedBack c x y w u → HasPushedUpTo (xs ++ x ∷ []) (back ++ y ∷ []) v u
+  returns_one y (inl h) = replaces_one y h.0 h.1
+  returns_one y (inr h) = took_none_there (back ++ y ∷ []) h.1
 
 module _ (c : ℕ) (some : 0 < c) (all : List ℕ) (n x : ℕ) (back : List ℕ) (v w u : View ℕ) (lt : n < length all)
     (is : x ≡ get_or all n 0) (k : HasPushedUpTo (take n all) back v w) (goes : GoesOn c w u) where
   longer : take n all ++ x ∷ [] ≡ take (n + 1) all
   longer = ap (λ z. take n all ++ z ∷ []) is ∙ sym (take_more all n 0 lt)
 
-  pub pushes_next : (answer : Option ℕ) → answer ≡ None
-      → HasOverflowed x answer w u ⊎ (answer ≡ Some x) × TookNone c w u → HasPublished (Index x) w u
-      → HasPushedUpTo (take (n + 1) all) back v u
-  pushes_next answer none called p =
-      subst (λ xs. HasPushedUpTo xs back v u) longer
-      (adds c some (take n all) back x v w u k goes (subst (λ o. HasOverflowed x o w u ⊎ (o ≡ Some x) × TookNone c w u) none called) p)
+  pub pushes_next : PushAdded x w u → HasPushedUpTo (take (n + 1) all) back v u
+  pushes_next p = subst (λ xs. HasPushedUpTo xs back v u) longer (adds c some (take n all) back x v w u k goes p)
 
-  pub returns_next : {Taken : Type 0} (answer : Option ℕ) (y : ℕ) → answer ≡ Some y
-      → HasOverflowed x answer w u ⊎ (answer ≡ Some x) × TookNone c w u
-      → HasPublished (Index x) w u × Taken ⊎ (y ≡ x) × TookNone c w u
-      → HasPushedUpTo (take (n + 1) all) (back ++ y ∷ []) v u
-  returns_next answer y one called p =
+  pub returns_next : (y : ℕ) → PushHandedBack c x y w u → HasPushedUpTo (take (n + 1) all) (back ++ y ∷ []) v u
+  returns_next y p =
       subst (λ xs. HasPushedUpTo xs (back ++ y ∷ []) v u) longer
-      (returns_one c some (take n all) back x v w u k goes y
-      (subst (λ o. HasOverflowed x o w u ⊎ (o ≡ Some x) × TookNone c w u) one called) p)
+      (returns_one c some (take n all) back x v w u k goes y p)
 
 pub pushed_all : (c : ℕ) (all : List ℕ) (n : ℕ) (back : List ℕ) (role : Role) (v w u : View ℕ) → length all ≤ n
     → HasPushedUpTo (take n all) back v w → GoesOn c w u → HasReleased role w u → published u.seen ≡ published w.seen

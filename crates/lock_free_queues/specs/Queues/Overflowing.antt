@@ -17,11 +17,12 @@ use Rattle.history.specs.declared.view.View.{View}
 use Rattle.history.specs.History.{Called, IsHistory}
 use Rattle.history.specs.Overflow.{over_push_wrote, pushes_over}
 use Rattle.history.specs.Stages.{Calling}
-use Rattle.lock_free_queues.specs.Queues.Told.{WasAtEnd}
+use Rattle.lock_free_queues.specs.Queues.Told.{HasPublished, HasTakenFirst, WasAtEnd}
 pub use Rattle.lock_free_queues.specs.Queues.Rings.{Goes, MissesNothing, QueueId, queue_id, capacity_of, inner}
 pub use Rattle.lock_free_queues.specs.Queues.Rings.{token_queue, token_view, queue_of, producer_queue, consumer_queue}
 pub use Rattle.lock_free_queues.specs.Queues.Rings.{view, producer_view, consumer_view, IsPassOf, IsSameQueue}
 pub use Rattle.lock_free_queues.specs.Queues.Rings.{SamePass, SameProducer, SameConsumer, ToProducer, ToConsumer, FromProducer, FromConsumer}
+pub use Rattle.lock_free_queues.specs.Queues.Rings.{IsSameByCapacity, SameProducerByCapacity, SameConsumerByCapacity}
 
 -- it has seen a history of a queue of this capacity
 abbrev pub HasHistory : ℕ → View ℕ → Type 0
@@ -50,6 +51,22 @@ module _ {T : Type 0} where
 -- is a look
 abbrev pub TookNone : {T : Type 0} → ℕ → View T → View T → Type 0
 TookNone capacity old new = (capacity ≡ 0) × (new ≡ old) ⊎ WasAtEnd old new
+
+module _ {T : Type 0} where
+  -- a push that handed nothing back
+  abbrev pub PushAdded : ℕ → View T → View T → Type 0
+  PushAdded value old new = HasOverflowed value None old new × HasPublished (Index value) old new
+
+  -- one that took the oldest number out, to hand it back
+  abbrev pub PushReplaced : ℕ → ℕ → View T → View T → Type 0
+  PushReplaced value oldest old new =
+      HasOverflowed value (Some oldest) old new
+      × HasPublished (Index value) old new
+      × HasTakenFirst (Index oldest) old new
+
+  -- one that handed a number back: the oldest, or its own, where the queue takes none
+  abbrev pub PushHandedBack : ℕ → ℕ → ℕ → View T → View T → Type 0
+  PushHandedBack capacity value back old new = PushReplaced value back old new ⊎ (back ≡ value) × TookNone capacity old new
 
 -- ---- what the steps of a push are driven for
 

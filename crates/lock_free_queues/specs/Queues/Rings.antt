@@ -1,5 +1,5 @@
 -- Which queue a pass is for, and what it knows of the queue's history: of queues of any kind.
-use Rattle.std.specs.Prelude.{◌≡◌, ℕ}
+use Rattle.std.specs.Prelude.{◌≡◌, ℕ, ◌<◌}
 use Rattle.atomic_table.specs.Seated.{TableId}
 use Rattle.steps.specs.declared.words.Words.{Ghosts}
 use Rattle.model.specs.declared.families.queues.QueueKind.{QueueKind}
@@ -9,6 +9,7 @@ use Rattle.history.specs.History.{IsHistory}
 use Rattle.threaded.specs.Seats.{home_id}
 use Rattle.lock_free_queues.specs.Queues.Bounded.{machine_kind}
 pub use Rattle.history.specs.Passes.{Goes, MissesNothing}
+use Rattle.history.specs.Passes.{HasJoined}
 use Rattle.lock_free_queues.specs.declared.spsc.ring.rule.Kind as kinds
 use Rattle.lock_free_queues.specs.declared.spsc.ring.rule.RingRule.{RingRule}
 use Rattle.lock_free_queues.specs.declared.spsc.ring.Ring.{Ring}
@@ -81,6 +82,13 @@ module _ {E T : Type 0} {kind : kinds.Ghosts E} {words : Ghosts T} where
     pub queue : token_queue new ≡ token_queue old
     pub goes : GoesOn (code_of old) kind.KIND (token_queue old).capacity (token_view old) (token_view new)
 
+  -- the same of a call that takes no step where its queue has no capacity: nothing changes there
+  pub record IsSameByCapacity (old new : Held E T (RingRule E T) kind words) : Type 0 where
+    pub queue : token_queue new ≡ token_queue old
+    pub goes : 0 < (token_queue old).capacity
+        → GoesOn (code_of old) kind.KIND (token_queue old).capacity (token_view old) (token_view new)
+    pub none : (token_queue old).capacity ≡ 0 → token_view new ≡ token_view old
+
   -- and of what has a seat
   abbrev pub SamePass : Pass E T kind words → Pass E T kind words → Type 0
   SamePass old new = IsSameQueue old.token new.token
@@ -90,6 +98,12 @@ module _ {E T : Type 0} {kind : kinds.Ghosts E} {words : Ghosts T} where
 
   abbrev pub SameConsumer : Consumer E T kind words → Consumer E T kind words → Type 0
   SameConsumer old new = IsSameQueue old.token new.token
+
+  abbrev pub SameProducerByCapacity : Producer E T kind words → Producer E T kind words → Type 0
+  SameProducerByCapacity old new = IsSameByCapacity old.token new.token
+
+  abbrev pub SameConsumerByCapacity : Consumer E T kind words → Consumer E T kind words → Type 0
+  SameConsumerByCapacity old new = IsSameByCapacity old.token new.token
 
   -- a role is taken with a pass, and the pass comes back with it
   abbrev pub ToProducer : Pass E T kind words → Producer E T kind words → Type 0
@@ -103,3 +117,19 @@ module _ {E T : Type 0} {kind : kinds.Ghosts E} {words : Ghosts T} where
 
   abbrev pub FromConsumer : Consumer E T kind words → Pass E T kind words → Type 0
   FromConsumer end pass = IsSameQueue end.token pass.token
+
+  -- what a join leaves of a seat: it is of the same queue, and has what both had
+  pub record Joins (old other new : Held E T (RingRule E T) kind words) : Type 0 where
+    pub queue : token_queue new ≡ token_queue old
+    pub joined : HasJoined (token_view old) (token_view other) (token_view new)
+    pub history : HasHistory (code_of old) kind.KIND (token_queue old).capacity (token_view new)
+    pub all : MissesNothing (token_view new)
+
+  abbrev pub PassJoins : Pass E T kind words → Pass E T kind words → Pass E T kind words → Type 0
+  PassJoins old other new = Joins old.token other.token new.token
+
+  abbrev pub ProducerJoins : Producer E T kind words → Pass E T kind words → Producer E T kind words → Type 0
+  ProducerJoins old other new = Joins old.token other.token new.token
+
+  abbrev pub ConsumerJoins : Consumer E T kind words → Pass E T kind words → Consumer E T kind words → Type 0
+  ConsumerJoins old other new = Joins old.token other.token new.token

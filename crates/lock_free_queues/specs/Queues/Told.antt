@@ -142,6 +142,14 @@ module _ {T : Type 0} where
     pub since : IsBeginning old.seen before
     pub empty : waiting before ≡ []
 
+  -- a pop that took the oldest item out
+  abbrev pub PopOldest : Item T → View T → View T → Type 0
+  PopOldest item old new = HasPopped (Some item) old new × HasTakenFirst item old new
+
+  -- one that found none
+  abbrev pub PopFoundNone : View T → View T → Type 0
+  PopFoundNone old new = HasPopped None old new × FoundNone old new
+
   -- ---- lengths
 
   -- the answer is that of the number that waited at one moment of the call

@@ -1,5 +1,5 @@
 //! The calls of a sender, each an equation on its table.
-ghost use Rattle.std.specs.Prelude.{◌≡◌, ◌⊎◌, ◌↔◌, ◌+◌, ◌*◌, ◌<◌, max, Some, IsTrue};
+ghost use Rattle.std.specs.Prelude.{◌≡◌, ◌↔◌, ◌+◌, ◌*◌, ◌<◌, max, IsTrue};
 ghost use Rattle.std.specs.Prelude.{IfOk, IfErr, IfSome, IfNone, slice_set, map, replicate, count_by};
 ghost use Rattle.lock_free.specs.UniqueIndexSet.{view, made, set_of, capacity_of, IsPassOf};
 ghost use Rattle.steps.specs.declared.indices.enums.ReleaseState.TheVariants.{Unlocked};
@@ -11,8 +11,8 @@ ghost use Rattle.model.specs.Coding.{one_word};
 ghost use Rattle.history.specs.Steps.{TakesAtMost, TakesAlone};
 ghost use Rattle.lock_free_queues.specs.Queues.Calls as returns;
 ghost use Rattle.lock_free_queues.specs.Queues.Overflowing as sends;
-ghost use Rattle.lock_free_queues.specs.Queues.Overflowing.{HasOverflowed, TookNone};
-ghost use Rattle.lock_free_queues.specs.Queues.Told.{HasPublished, HasTakenFirst, PopDone, PopEmpty};
+ghost use Rattle.lock_free_queues.specs.Queues.Overflowing.{PushAdded, PushHandedBack, SameConsumerByCapacity};
+ghost use Rattle.lock_free_queues.specs.Queues.Told.{PopDone, PopEmpty};
 ghost use Rattle.lock_free.specs.declared.spsc.loan.places.Place.TheVariants.{Free, Loaned, Sent};
 ghost use Rattle.lock_free.specs.Loan.Places.{is_out, is_sent, place_at, returned, reclaimed, IsBookOf};
 ghost use Rattle.lock_free.specs.Loan.Sender.{places_of, pass_view, share_of, submission_view, completion_view};
@@ -30,14 +30,9 @@ use std::sync::Wait;
 
 /// Pops until a pop finds that nothing waits.
 fn empty_submission(rt: &impl Wait, receiver: &mut overflow::Consumer<'_>)
-    ensures queue { sends.consumer_queue receiver.new ≡ sends.consumer_queue receiver.old }
-    ensures goes { 0 < (sends.consumer_queue receiver.old).capacity
-        → sends.GoesOn (sends.consumer_queue receiver.old).capacity
-        (sends.consumer_view receiver.old) (sends.consumer_view receiver.new) }
+    ensures same { SameConsumerByCapacity receiver.old receiver.new }
     ensures emptied { 0 < (sends.consumer_queue receiver.old).capacity
         → HasEmptied (sends.consumer_view receiver.old) (sends.consumer_view receiver.new) }
-    ensures none { (sends.consumer_queue receiver.old).capacity ≡ 0
-        → sends.consumer_view receiver.new ≡ sends.consumer_view receiver.old }
 {
     for _ in rt.forever() {
         if receiver.pop(rt).is_none() {
@@ -206,16 +201,9 @@ impl<'a> LoanSender<'a> {
             (pass_view self.old) (pass_view self.new)) }
         ensures goes { 0 < (submission_of self.old).capacity
             → sends.GoesOn (submission_of self.old).capacity (submission_view self.old) (submission_view self.new) }
-        ensures called { HasOverflowed index result (submission_view self.old) (submission_view self.new)
-            ⊎ (result ≡ Some index)
-            × TookNone (submission_of self.old).capacity (submission_view self.old) (submission_view self.new) }
-        ensures published { IfNone result
-            (HasPublished (Index index) (submission_view self.old) (submission_view self.new)) }
-        ensures handed_back { IfSome result
-            (λ y. HasPublished (Index index) (submission_view self.old) (submission_view self.new)
-            × HasTakenFirst (Index y) (submission_view self.old) (submission_view self.new)
-            ⊎ (y ≡ index)
-            × TookNone (submission_of self.old).capacity (submission_view self.old) (submission_view self.new)) }
+        ensures added { IfNone result (PushAdded index (submission_view self.old) (submission_view self.new)) }
+        ensures handed_back { IfSome result (λ y. PushHandedBack (submission_of self.old).capacity index y
+            (submission_view self.old) (submission_view self.new)) }
         ensures completion { completion_view self.new ≡ completion_view self.old }
         ensures same { IsSame self.old self.new }
         ensures share { share_of self.new ≡ share_of self.old }
@@ -273,14 +261,9 @@ impl<'a> LoanSender<'a> {
         ensures submission { submission_view self.new ≡ submission_view self.old }
         ensures same { IsSame self.old self.new }
         ensures share { share_of self.new ≡ share_of self.old }
-        ensures receiver { sends.consumer_queue receiver.new ≡ sends.consumer_queue receiver.old }
-        ensures receiver_goes { 0 < (sends.consumer_queue receiver.old).capacity
-            → sends.GoesOn (sends.consumer_queue receiver.old).capacity
-            (sends.consumer_view receiver.old) (sends.consumer_view receiver.new) }
+        ensures receiver { SameConsumerByCapacity receiver.old receiver.new }
         ensures receiver_emptied { 0 < (sends.consumer_queue receiver.old).capacity
             → HasEmptied (sends.consumer_view receiver.old) (sends.consumer_view receiver.new) }
-        ensures receiver_none { (sends.consumer_queue receiver.old).capacity ≡ 0
-            → sends.consumer_view receiver.new ≡ sends.consumer_view receiver.old }
         ensures steps { TakesAtMost (5 * result) (pass_view self.old) (pass_view self.new) }
     {
         empty_submission(rt, receiver);

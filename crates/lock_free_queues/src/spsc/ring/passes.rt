@@ -1,11 +1,10 @@
 //! How passes are made of one another.
 ghost use Rattle.std.specs.Prelude.{◌≡◌, IfSome, IfNone};
-ghost use Rattle.model.specs.Coding.{coding_of};
 ghost use Rattle.history.specs.Steps.{TakesAtMost, JoinsWithin};
 ghost use Rattle.lock_free_queues.specs.Queues.Rings.{token_queue, token_view, queue_of, view, producer_queue};
-ghost use Rattle.lock_free_queues.specs.Queues.Rings.{producer_view, consumer_queue, consumer_view, HasHistory};
-ghost use Rattle.lock_free_queues.specs.Queues.Rings.{MissesNothing, IsSameQueue, SamePass};
-ghost use Rattle.lock_free_queues.specs.Queues.Told.{HasSplit, HasJoined, HasLooked};
+ghost use Rattle.lock_free_queues.specs.Queues.Rings.{producer_view, consumer_queue, consumer_view};
+ghost use Rattle.lock_free_queues.specs.Queues.Rings.{IsSameQueue, SamePass, Joins, PassJoins, ProducerJoins, ConsumerJoins};
+ghost use Rattle.lock_free_queues.specs.Queues.Told.{HasSplit, HasLooked};
 
 use super::rule::{Kind, RingRule};
 use super::{Consumer, Held, Pass, Producer, Token};
@@ -36,11 +35,7 @@ impl<E: Kind, T: Words> Held<E, T, RingRule<E, T>> {
     /// Takes in the other seat of the queue.
     pub fn join(&mut self, other: Token<E, T>)
         requires { token_queue other ≡ token_queue self.old }
-        ensures queue { token_queue self.new ≡ token_queue self.old }
-        ensures joined { HasJoined (token_view self.old) (token_view other) (token_view self.new) }
-        ensures history { HasHistory (coding_of T.WORDS T.words_of T.value_of) E.KIND (token_queue self.old).capacity
-            (token_view self.new) }
-        ensures all { MissesNothing (token_view self.new) }
+        ensures same { Joins self.old other self.new }
         ensures steps { JoinsWithin 2 (token_view self.old) (token_view other) (token_view self.new) }
     {
         let Held {
@@ -81,11 +76,7 @@ impl<E: Kind, T: Words> Pass<E, T> {
     /// two had seen all of it, and each event in it was made by one of them. At most two steps. This project's own.
     pub fn join(&mut self, other: Pass<E, T>)
         requires { queue_of other ≡ queue_of self.old }
-        ensures queue { queue_of self.new ≡ queue_of self.old }
-        ensures joined { HasJoined (view self.old) (view other) (view self.new) }
-        ensures history { HasHistory (coding_of T.WORDS T.words_of T.value_of) E.KIND (queue_of self.old).capacity
-            (view self.new) }
-        ensures all { MissesNothing (view self.new) }
+        ensures same { PassJoins self.old other self.new }
         ensures steps { JoinsWithin 2 (view self.old) (view other) (view self.new) }
     {
         let Pass { token } = other;
@@ -107,11 +98,7 @@ impl<'a, E: Kind, T: Words> Producer<'a, E, T> {
     /// Takes in a pass of the queue, as a pass does. At most two steps. This project's own.
     pub fn join(&mut self, other: Pass<E, T>)
         requires { queue_of other ≡ producer_queue self.old }
-        ensures queue { producer_queue self.new ≡ producer_queue self.old }
-        ensures joined { HasJoined (producer_view self.old) (view other) (producer_view self.new) }
-        ensures history { HasHistory (coding_of T.WORDS T.words_of T.value_of) E.KIND
-            (producer_queue self.old).capacity (producer_view self.new) }
-        ensures all { MissesNothing (producer_view self.new) }
+        ensures same { ProducerJoins self.old other self.new }
         ensures steps { JoinsWithin 2 (producer_view self.old) (view other) (producer_view self.new) }
     {
         let token = other.into_token();
@@ -123,11 +110,7 @@ impl<'a, E: Kind, T: Words> Consumer<'a, E, T> {
     /// Takes in a pass of the queue, as a pass does. At most two steps. This project's own.
     pub fn join(&mut self, other: Pass<E, T>)
         requires { queue_of other ≡ consumer_queue self.old }
-        ensures queue { consumer_queue self.new ≡ consumer_queue self.old }
-        ensures joined { HasJoined (consumer_view self.old) (view other) (consumer_view self.new) }
-        ensures history { HasHistory (coding_of T.WORDS T.words_of T.value_of) E.KIND
-            (consumer_queue self.old).capacity (consumer_view self.new) }
-        ensures all { MissesNothing (consumer_view self.new) }
+        ensures same { ConsumerJoins self.old other self.new }
         ensures steps { JoinsWithin 2 (consumer_view self.old) (view other) (consumer_view self.new) }
     {
         let token = other.into_token();

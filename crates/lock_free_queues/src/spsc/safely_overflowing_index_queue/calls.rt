@@ -1,6 +1,5 @@
 //! The push and the pop of `steps`, which a seat drives at a queue that has a capacity.
-ghost use Rattle.std.specs.Prelude.{◌≡◌, ◌⊎◌, ◌<◌, Some, IfSome, IfNone};
-ghost use Rattle.std.specs.Option.{option_map};
+ghost use Rattle.std.specs.Prelude.{◌≡◌, ◌⊎◌, ◌<◌, IfSome, IfNone};
 ghost use Rattle.steps.specs.declared.queues.roles.Role.{Role};
 ghost use Rattle.steps.specs.declared.queues.roles.Role.TheVariants as roles;
 ghost use Rattle.model.specs.declared.event.Item.TheVariants.{Index};
@@ -8,9 +7,9 @@ ghost use Rattle.model.specs.declared.turn.Kind.TheVariants as kinds;
 ghost use Rattle.model.specs.Coding.{one_word};
 ghost use Rattle.history.specs.Roles.{HasRole};
 ghost use Rattle.history.specs.Steps.{TakesAtMost, TakesAlone};
-ghost use Rattle.lock_free_queues.specs.Queues.Overflowing.{token_queue, token_view, IsSameQueue, HasOverflowed};
+ghost use Rattle.lock_free_queues.specs.Queues.Overflowing.{token_queue, token_view, IsSameQueue, PushAdded, PushReplaced};
 ghost use Rattle.lock_free_queues.specs.Queues.Roles.{Moved};
-ghost use Rattle.lock_free_queues.specs.Queues.Told.{HasPublished, WasAtEnd, HasPopped, HasTakenFirst, FoundNone};
+ghost use Rattle.lock_free_queues.specs.Queues.Told.{WasAtEnd, PopOldest, PopFoundNone};
 
 use super::drives::{Pops, Pushes};
 use crate::spsc::ring::Held;
@@ -27,11 +26,8 @@ impl Held<Overflowing, u64, RingRule<Overflowing, u64>> {
         requires role { HasRole roles.Producer (token_view self.old).made }
         requires some { 0 < self.old.capacity }
         ensures same { IsSameQueue self.old self.new }
-        ensures called { HasOverflowed value result (token_view self.old) (token_view self.new)
-            ⊎ (result ≡ Some value) × WasAtEnd (token_view self.old) (token_view self.new) }
-        ensures published { IfNone result (HasPublished (Index value) (token_view self.old) (token_view self.new)) }
-        ensures handed_back { IfSome result (λ y. HasPublished (Index value) (token_view self.old) (token_view self.new)
-            × HasTakenFirst (Index y) (token_view self.old) (token_view self.new)
+        ensures added { IfNone result (PushAdded value (token_view self.old) (token_view self.new)) }
+        ensures handed_back { IfSome result (λ y. PushReplaced value y (token_view self.old) (token_view self.new)
             ⊎ (y ≡ value) × WasAtEnd (token_view self.old) (token_view self.new)) }
         ensures roles { (r : Role) → Moved r 0 0 (token_view self.old).made (token_view self.new).made }
         ensures steps { TakesAtMost 6 (token_view self.old) (token_view self.new) }
@@ -47,9 +43,8 @@ impl Held<Overflowing, u64, RingRule<Overflowing, u64>> {
         requires role { HasRole roles.Consumer (token_view self.old).made }
         requires some { 0 < self.old.capacity }
         ensures same { IsSameQueue self.old self.new }
-        ensures popped { HasPopped (option_map Index result) (token_view self.old) (token_view self.new) }
-        ensures taken { IfSome result (λ x. HasTakenFirst (Index x) (token_view self.old) (token_view self.new)) }
-        ensures empty { IfNone result (FoundNone (token_view self.old) (token_view self.new)) }
+        ensures popped { IfSome result (λ x. PopOldest (Index x) (token_view self.old) (token_view self.new)) }
+        ensures empty { IfNone result (PopFoundNone (token_view self.old) (token_view self.new)) }
         ensures roles { (r : Role) → Moved r 0 0 (token_view self.old).made (token_view self.new).made }
         ensures steps { TakesAlone one_word kinds.Overflow (token_queue self.old).capacity 4 2 (token_view self.old)
             (token_view self.new) }

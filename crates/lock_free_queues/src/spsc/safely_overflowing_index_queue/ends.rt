@@ -1,12 +1,12 @@
 //! The calls of those that have a role. Without capacity no step is taken, and nothing changes.
-ghost use Rattle.std.specs.Prelude.{◌≡◌, ◌⊎◌, ◌<◌, Some, None, IfSome, IfNone};
-ghost use Rattle.std.specs.Option.{option_map};
+ghost use Rattle.std.specs.Prelude.{◌≡◌, ◌<◌, Some, None, IfSome, IfNone};
 ghost use Rattle.model.specs.declared.event.Item.TheVariants.{Index};
 ghost use Rattle.model.specs.declared.turn.Kind.TheVariants as kinds;
 ghost use Rattle.model.specs.Coding.{one_word};
 ghost use Rattle.history.specs.Steps.{TakesAtMost, TakesAlone};
-ghost use Rattle.lock_free_queues.specs.Queues.Overflowing.{producer_queue, producer_view, consumer_queue, consumer_view, GoesOn, HasOverflowed, TookNone};
-ghost use Rattle.lock_free_queues.specs.Queues.Told.{HasPublished, HasPopped, HasTakenFirst, FoundNone};
+ghost use Rattle.lock_free_queues.specs.Queues.Overflowing.{producer_queue, producer_view, consumer_queue, consumer_view};
+ghost use Rattle.lock_free_queues.specs.Queues.Overflowing.{PushAdded, PushHandedBack, SameProducerByCapacity, SameConsumerByCapacity};
+ghost use Rattle.lock_free_queues.specs.Queues.Told.{PopOldest, PopFoundNone};
 
 use super::{Consumer, Producer};
 use std::sync::Wait;
@@ -16,21 +16,11 @@ impl<'a> Producer<'a> {
     /// number itself comes back, and nothing is published, without capacity or where the write position is u64::MAX. At
     /// most 6 atomic steps. After `Producer::push` of the Rust crate.
     pub fn push(&mut self, value: u64) -> Option<u64>
-        ensures queue { producer_queue self.new ≡ producer_queue self.old }
-        ensures goes { 0 < (producer_queue self.old).capacity
-            → GoesOn (producer_queue self.old).capacity (producer_view self.old) (producer_view self.new) }
-        ensures called { HasOverflowed value result (producer_view self.old) (producer_view self.new)
-            ⊎ (result ≡ Some value)
-            × TookNone (producer_queue self.old).capacity (producer_view self.old) (producer_view self.new) }
-        ensures published { IfNone result (HasPublished (Index value) (producer_view self.old)
-            (producer_view self.new)) }
-        ensures handed_back { IfSome result (λ y. HasPublished (Index value) (producer_view self.old)
-            (producer_view self.new)
-            × HasTakenFirst (Index y) (producer_view self.old) (producer_view self.new)
-            ⊎ (y ≡ value)
-            × TookNone (producer_queue self.old).capacity (producer_view self.old) (producer_view self.new)) }
-        ensures own { (producer_queue self.old).capacity ≡ 0
-            → (result ≡ Some value) × (producer_view self.new ≡ producer_view self.old) }
+        ensures same { SameProducerByCapacity self.old self.new }
+        ensures added { IfNone result (PushAdded value (producer_view self.old) (producer_view self.new)) }
+        ensures handed_back { IfSome result (λ back. PushHandedBack (producer_queue self.old).capacity value back
+            (producer_view self.old) (producer_view self.new)) }
+        ensures own { (producer_queue self.old).capacity ≡ 0 → result ≡ Some value }
         ensures steps { TakesAtMost 6 (producer_view self.old) (producer_view self.new) }
     {
         if self.token.capacity == 0 {
@@ -45,17 +35,11 @@ impl<'a> Consumer<'a> {
     /// Takes the oldest number and returns it, or returns None where the queue is empty. At most 4 atomic steps, and 2
     /// more for each change of a word of the queue by others during the call. After `Consumer::pop` of the Rust crate.
     pub fn pop(&mut self, rt: &impl Wait) -> Option<u64>
-        ensures queue { consumer_queue self.new ≡ consumer_queue self.old }
-        ensures goes { 0 < (consumer_queue self.old).capacity
-            → GoesOn (consumer_queue self.old).capacity (consumer_view self.old) (consumer_view self.new) }
-        ensures called { 0 < (consumer_queue self.old).capacity
-            → HasPopped (option_map Index result) (consumer_view self.old) (consumer_view self.new) }
-        ensures popped { IfSome result (λ x. HasTakenFirst (Index x) (consumer_view self.old)
-            (consumer_view self.new)) }
+        ensures same { SameConsumerByCapacity self.old self.new }
+        ensures popped { IfSome result (λ x. PopOldest (Index x) (consumer_view self.old) (consumer_view self.new)) }
         ensures empty { 0 < (consumer_queue self.old).capacity
-            → IfNone result (FoundNone (consumer_view self.old) (consumer_view self.new)) }
-        ensures none { (consumer_queue self.old).capacity ≡ 0
-            → (result ≡ None) × (consumer_view self.new ≡ consumer_view self.old) }
+            → IfNone result (PopFoundNone (consumer_view self.old) (consumer_view self.new)) }
+        ensures none { (consumer_queue self.old).capacity ≡ 0 → result ≡ None }
         ensures steps { 0 < (consumer_queue self.old).capacity → TakesAlone one_word kinds.Overflow
             (consumer_queue self.old).capacity 4 2 (consumer_view self.old) (consumer_view self.new) }
     {

@@ -1,6 +1,8 @@
-use Rattle.lock_free.proofs.Names.{rules, ap, refl, subst, sym, ◌∙◌, ◌<◌, one_word}
+use Rattle.lock_free.proofs.Names.{ap, refl, subst, sym, ◌∙◌, ◌<◌, one_word}
 use Rattle.model.specs.declared.turn.Kind.TheVariants as kinds
 use Rattle.lock_free_queues.specs.Queues.Overflowing.{QueueId, GoesOn, consumer_queue, consumer_view}
+use Rattle.model.specs.declared.event.Item.TheVariants.{Index}
+use Rattle.lock_free_queues.proofs.Queues.Ends.{oldest_popped, found_none}
 use Rattle.lock_free.proofs.Loan.Told.{pops_none, pops_on, still_goes, is_emptied}
 use Rattle.lock_free.proofs.spsc.loan.calls.empty_submission.Goals as goal
 
@@ -15,31 +17,31 @@ pub loop-preserved : goal.loop-preserved
 loop-preserved g c =
     let room = ap (λ (q : QueueId). q.capacity) c.loop.invariant.queue in
     record {
-      queue = search rules;
+      queue = c.pop.ensures.same.queue ∙ c.loop.invariant.queue;
       popping = λ wide. (let some : 0 < (consumer_queue c.loop.receiver).capacity = subst (λ n. 0 < n) (sym room) wide in
           pops_on one_word kinds.Overflow _ (consumer_view c.args.receiver.now) (consumer_view c.loop.receiver)
-          (consumer_view c.pop.new.self) (c.loop.invariant.popping wide) (c.pop.ensures.goes some) c.pop.result c.is_none.result
-          c.is_none.ensures c.if-is_none.false (c.pop.ensures.called some));
-      none = λ none. (c.pop.ensures.none (room ∙ none)).1 ∙ c.loop.invariant.none none;
+          (consumer_view c.pop.new.self) (c.loop.invariant.popping wide) (c.pop.ensures.same.goes some) c.pop.result c.is_none.result
+          c.is_none.ensures c.if-is_none.false (oldest_popped Index _ _ c.pop.result c.pop.ensures.popped (c.pop.ensures.empty some)));
+      none = λ none. c.pop.ensures.same.none (room ∙ none) ∙ c.loop.invariant.none none;
     }
 
-pub returns-then-is_none-clause-goes : goal.returns-then-is_none-clause-goes
-returns-then-is_none-clause-goes g c wide =
+pub returns-then-is_none-clause-same : goal.returns-then-is_none-clause-same
+returns-then-is_none-clause-same g c =
     let room = ap (λ (q : QueueId). q.capacity) c.loop.invariant.queue in
-    let some : 0 < (consumer_queue c.loop.receiver).capacity = subst (λ n. 0 < n) (sym room) wide in
-    subst (λ n. GoesOn n (consumer_view c.args.receiver.now) (consumer_view c.pop.new.self)) room
-    (still_goes one_word kinds.Overflow _ (consumer_view c.args.receiver.now) (consumer_view c.loop.receiver)
-    (consumer_view c.pop.new.self) (c.loop.invariant.popping wide) (c.pop.ensures.goes some))
+    record {
+      queue = c.pop.ensures.same.queue ∙ c.loop.invariant.queue;
+      goes = λ wide. (let some : 0 < (consumer_queue c.loop.receiver).capacity = subst (λ n. 0 < n) (sym room) wide in
+          subst (λ n. GoesOn n (consumer_view c.args.receiver.now) (consumer_view c.pop.new.self)) room
+          (still_goes one_word kinds.Overflow _ (consumer_view c.args.receiver.now) (consumer_view c.loop.receiver)
+          (consumer_view c.pop.new.self) (c.loop.invariant.popping wide) (c.pop.ensures.same.goes some)));
+      none = λ none. c.pop.ensures.same.none (room ∙ none) ∙ c.loop.invariant.none none;
+    }
 
 pub returns-then-is_none-clause-emptied : goal.returns-then-is_none-clause-emptied
 returns-then-is_none-clause-emptied g c wide =
     let room = ap (λ (q : QueueId). q.capacity) c.loop.invariant.queue in
     let some : 0 < (consumer_queue c.loop.receiver).capacity = subst (λ n. 0 < n) (sym room) wide in
+    let empty = c.pop.ensures.empty some in
     is_emptied (consumer_view c.args.receiver.now) (consumer_view c.loop.receiver) (consumer_view c.pop.new.self)
     (c.loop.invariant.popping wide) c.pop.result c.is_none.result c.is_none.ensures c.if-is_none.true
-    (c.pop.ensures.called some) (c.pop.ensures.empty some)
-
-pub returns-then-is_none-clause-none : goal.returns-then-is_none-clause-none
-returns-then-is_none-clause-none g c none =
-    let room = ap (λ (q : QueueId). q.capacity) c.loop.invariant.queue in
-    (c.pop.ensures.none (room ∙ none)).1 ∙ c.loop.invariant.none none
+    (oldest_popped Index _ _ c.pop.result c.pop.ensures.popped empty) (found_none _ _ c.pop.result empty)

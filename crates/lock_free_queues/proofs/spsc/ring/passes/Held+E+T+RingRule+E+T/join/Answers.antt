@@ -1,9 +1,9 @@
-use Rattle.lock_free_queues.proofs.Names.{◌≡◌, ◌<◌, ◌+◌, ℕ, List, sym, ap, subst, ◌∙◌, arith, rules, TableId, coding_of, Coding, View, IsMachine}
+use Rattle.lock_free_queues.proofs.Names.{◌≡◌, ◌<◌, sym, ap, subst, ◌∙◌, arith, rules, TableId, coding_of, Coding, View, IsMachine}
 use Rattle.lock_free_queues.proofs.Names.{LooksAt, joined_view, joins}
 use Rattle.lock_free_queues.specs.Queues.Bounded.{machine_kind}
 use Rattle.steps.specs.declared.ask.Op.TheVariants.{Load}
 use Rattle.threaded.specs.Driver.{OwesAsk}
-use Rattle.threaded.specs.Seats.{seen, table_of, key_of}
+use Rattle.threaded.specs.Seats.{table_of, key_of}
 use Rattle.threaded.proofs.Shares.{positive}
 use Rattle.lock_free_queues.proofs.Queues.Reads.{owes_look}
 use Rattle.lock_free_queues.proofs.spsc.ring.passes.Held+E+T+RingRule+E+T.join.Goals as goal

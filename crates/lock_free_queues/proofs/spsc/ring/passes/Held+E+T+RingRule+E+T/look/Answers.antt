@@ -1,4 +1,4 @@
-use Rattle.lock_free_queues.proofs.Names.{◌≡◌, ◌<◌, ◌∙◌, sym, rules, arith, coding_of, LooksAt}
+use Rattle.lock_free_queues.proofs.Names.{◌<◌, ◌∙◌, sym, arith, coding_of, LooksAt}
 use Rattle.lock_free_queues.specs.Queues.Bounded.{machine_kind}
 use Rattle.threaded.specs.Seats.{seen, table_of, key_of}
 use Rattle.lock_free_queues.proofs.Queues.Reads.{owes_look, has_looked}

@@ -1,4 +1,4 @@
-use Rattle.lock_free_queues.proofs.Names.{◌≡◌, ◌<◌, ◌∙◌, sym, arith, coding_of}
+use Rattle.lock_free_queues.proofs.Names.{◌<◌, ◌∙◌, sym, arith, coding_of}
 use Rattle.threaded.specs.Seats.{seen, table_of, key_of}
 use Rattle.lock_free_queues.proofs.Queues.Reads.{owes_look, was_read, was_read_last, has_read}
 use Rattle.lock_free_queues.proofs.spsc.ring.reads.Held+E+T+RingRule+E+T.read.Goals as goal

@@ -1,10 +1,10 @@
-use Rattle.lock_free_queues.proofs.Names.{◌<◌, ◌^◌, IfSome, IfNone, sym, ap, subst, ◌∙◌, option_map, one_word, Index}
+use Rattle.lock_free_queues.proofs.Names.{◌<◌, ◌^◌, IfSome, IfNone, sym, ap, subst, ◌∙◌, one_word, Index}
 use Rattle.lock_free_queues.proofs.Names.{pops_over, At}
 use Rattle.steps.specs.Queues.Overflow.{first_pop, pop_answer}
 use Rattle.model.specs.declared.turn.Kind.TheVariants as kinds
 use Rattle.history.proofs.OverflowPops.{over_pop_keeps, over_pop_first}
 use Rattle.lock_free_queues.specs.Queues.Overflowing.{token_view}
-use Rattle.lock_free_queues.specs.Queues.Told.{HasPopped, HasTakenFirst, FoundNone}
+use Rattle.lock_free_queues.specs.Queues.Told.{PopOldest, PopFoundNone}
 use Rattle.lock_free_queues.proofs.Queues.OverEnded.{over_popped, over_taken_if, over_empty_if}
 use Rattle.history.specs.Steps.{TakesAlone}
 use Rattle.lock_free_queues.proofs.Queues.Paid.{over_pop_takes}
@@ -27,17 +27,9 @@ returns-clause-popped g c =
     let mine = c.args.self.now in
     let x = token_view mine in
     let w = c.drive_on-end.new.self.seat.me.0 in
-    subst (λ z. HasPopped (option_map Index z) x w) (sym c.answer.ensures)
-    (over_popped one_word x w mine.idle c.drive_on-end.result c.drive_on-end.new.room c.drive_on-end.ensures.end)
-
-pub returns-clause-taken : goal.returns-clause-taken
-returns-clause-taken g c =
-    let mine = c.args.self.now in
-    let x = token_view mine in
-    let w = c.drive_on-end.new.self.seat.me.0 in
     let ends = c.drive_on-end.ensures.end in
     let o = pop_answer c.drive_on-end.new.room.0 c.drive_on-end.result in
-    subst (λ z. IfSome z (λ k. HasTakenFirst (Index k) x w)) (sym c.answer.ensures)
+    subst (λ z. IfSome z (λ k. PopOldest (Index k) x w)) (sym c.answer.ensures)
     (over_taken_if one_word x w ends.history o (over_popped one_word x w mine.idle c.drive_on-end.result c.drive_on-end.new.room ends))
 
 pub returns-clause-empty : goal.returns-clause-empty
@@ -47,7 +39,7 @@ returns-clause-empty g c =
     let w = c.drive_on-end.new.self.seat.me.0 in
     let ends = c.drive_on-end.ensures.end in
     let o = pop_answer c.drive_on-end.new.room.0 c.drive_on-end.result in
-    subst (λ z. IfNone z (FoundNone x w)) (sym c.answer.ensures)
+    subst (λ z. IfNone z (PopFoundNone x w)) (sym c.answer.ensures)
     (over_empty_if one_word x w ends.history o (over_popped one_word x w mine.idle c.drive_on-end.result c.drive_on-end.new.room ends))
 
 pub returns-clause-steps : goal.returns-clause-steps

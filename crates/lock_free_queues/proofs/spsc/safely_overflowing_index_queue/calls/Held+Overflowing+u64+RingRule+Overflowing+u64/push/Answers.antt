@@ -1,9 +1,9 @@
-use Rattle.lock_free_queues.proofs.Names.{rules, ◌≡◌, ◌<◌, ◌^◌, ◌⊎◌, Some, IfSome, IfNone, sym, ap, subst, ◌∙◌}
-use Rattle.lock_free_queues.proofs.Names.{push_answer, one_word, Index, At, Goes}
+use Rattle.lock_free_queues.proofs.Names.{rules, ◌≡◌, ◌<◌, ◌^◌, ◌⊎◌, IfSome, IfNone, sym, ap, subst, ◌∙◌}
+use Rattle.lock_free_queues.proofs.Names.{push_answer, one_word, At, Goes}
 use Rattle.steps.specs.Queues.Overflow.{first_push}
 use Rattle.model.specs.declared.turn.Kind.TheVariants as kinds
-use Rattle.lock_free_queues.specs.Queues.Overflowing.{token_view, HasOverflowed, pushes_told}
-use Rattle.lock_free_queues.specs.Queues.Told.{HasPublished, WasAtEnd, HasTakenFirst}
+use Rattle.lock_free_queues.specs.Queues.Overflowing.{token_view, pushes_told, PushAdded, PushReplaced}
+use Rattle.lock_free_queues.specs.Queues.Told.{WasAtEnd}
 use Rattle.lock_free_queues.proofs.Queues.Facts.{goes_over}
 use Rattle.lock_free_queues.proofs.Queues.OverEnded.{over_pushed, over_none, over_some}
 use Rattle.lock_free_queues.proofs.Queues.OverPushes.{told_keeps, told_first}
@@ -22,16 +22,6 @@ drive-end-requires-clause-at c =
     (subst (λ n. 0 < n) (sym mine.known) c.requires.some) (subst (λ n. n < 2 ^ 32) (sym mine.known) mine.small)
     c.requires.role)
 
-pub returns-clause-called : goal.returns-clause-called
-returns-clause-called c =
-    let mine = c.args.self.now in
-    let v = c.args.value in
-    let x = token_view mine in
-    let w = c.drive-end.new.self.seat.me.0 in
-    subst (λ o. HasOverflowed v o x w ⊎ (o ≡ Some v) × WasAtEnd x w) (sym c.answer.ensures)
-    (over_pushed one_word x w mine.idle v mine.alone mine.some.0 c.requires.role c.drive-end.result
-    c.drive-end.new.room c.drive-end.ensures.end)
-
 pub returns-clause-same : goal.returns-clause-same
 returns-clause-same c =
     let mine = c.args.self.now in
@@ -45,15 +35,15 @@ returns-clause-same c =
           c.drive-end.ensures.end);
     }
 
-pub returns-clause-published : goal.returns-clause-published
-returns-clause-published c =
+pub returns-clause-added : goal.returns-clause-added
+returns-clause-added c =
     let mine = c.args.self.now in
     let v = c.args.value in
     let x = token_view mine in
     let w = c.drive-end.new.self.seat.me.0 in
     let o = push_answer v c.drive-end.new.room.0 c.drive-end.result in
     let goes = goes_over one_word kinds.Overflow (pushes_told v) x w c.drive-end.result c.drive-end.new.room c.drive-end.ensures.end in
-    subst (λ z. IfNone z (HasPublished (Index v) x w)) (sym c.answer.ensures)
+    subst (λ z. IfNone z (PushAdded v x w)) (sym c.answer.ensures)
     (over_none one_word x w mine.idle v goes.history o
     (over_pushed one_word x w mine.idle v mine.alone mine.some.0 c.requires.role c.drive-end.result
     c.drive-end.new.room c.drive-end.ensures.end))
@@ -66,8 +56,7 @@ returns-clause-handed_back c =
     let w = c.drive-end.new.self.seat.me.0 in
     let o = push_answer v c.drive-end.new.room.0 c.drive-end.result in
     let goes = goes_over one_word kinds.Overflow (pushes_told v) x w c.drive-end.result c.drive-end.new.room c.drive-end.ensures.end in
-    subst (λ z. IfSome z (λ y. HasPublished (Index v) x w × HasTakenFirst (Index y) x w ⊎ (y ≡ v) × WasAtEnd x w))
-    (sym c.answer.ensures)
+    subst (λ z. IfSome z (λ y. PushReplaced v y x w ⊎ (y ≡ v) × WasAtEnd x w)) (sym c.answer.ensures)
     (over_some one_word x w mine.idle v goes.history o
     (over_pushed one_word x w mine.idle v mine.alone mine.some.0 c.requires.role c.drive-end.result
     c.drive-end.new.room c.drive-end.ensures.end))
