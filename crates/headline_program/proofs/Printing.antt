@@ -24,10 +24,11 @@ use Rattle.texts.specs.declared.grammar.Command.{Command}
 use Rattle.texts.specs.declared.grammar.Command.TheVariants.{Once, Times}
 use Rattle.texts.specs.declared.grammar.Setup.{Setup}
 use Rattle.texts.specs.Grammar.{◌>>=◌, setup_of, command_of}
+use Rattle.texts.specs.Print.{refusal_text}
 use Rattle.texts.specs.Text.{lines, words}
-use Rattle.schedule.specs.Output.{two_words, outcome, outcome_as, refusal_where, Outcome, State, is_short, later}
+use Rattle.schedule.specs.Output.{two_words, outcome, outcome_as, has_memory, refusal_where, Outcome, State, is_short, later}
 use Rattle.schedule.specs.Output.{Printed, after_text, printed as printed_now, next_outcome, goes_on, nexts}
-use Rattle.schedule.specs.Output.{commanded, Output, stopped, before as behind, lines_from, capacity_cause, admitted}
+use Rattle.schedule.specs.Output.{commanded, Output, stopped, ran_out, line_then, lines_from, capacity_cause, admitted}
 use Rattle.schedule.specs.Output.{setup_error, machine_of, trace_of, opened, output_of_lines, output}
 use Rattle.headline_program.specs.Printing.{Line, Wrote, Refused, text_of, events_in, IsOfMachine}
 
@@ -88,13 +89,17 @@ written w before turn e r =
 
 refused : (w : World ℕ) (before : List (Event ℕ)) (turn : Turn ℕ) (refusal : Refusal) → IsReached (machine_in w before)
     → Prints w before (outcome_as w turn (Some refusal)).text (outcome_as w turn (Some refusal)).world
-refused w before turn refusal r =
-    record {
-      lines = Refused refusal ∷ [];
-      is = sym (append-nil _);
-      reached = subst (λ es. IsReached (machine_in w es)) (sym (append-nil before)) r;
-      same = same_making w;
-    }
+refused w before turn refusal r = by (has_memory refusal)
+  where
+    by : (had : Bool) → Prints w before (if had then refusal_text refusal else []) w
+    by false = nothing w before r
+    by true =
+        record {
+          lines = Refused refusal ∷ [];
+          is = sym (append-nil _);
+          reached = subst (λ es. IsReached (machine_in w es)) (sym (append-nil before)) r;
+          same = same_making w;
+        }
 
 either : (w : World ℕ) (before : List (Event ℕ)) (turn : Turn ℕ) (short : Bool) (o : Option Refusal) → refusal_of w turn ≡ o
     → IsReached (machine_in w before)
@@ -146,8 +151,14 @@ abbrev line_as : Kind → ℕ → List (List ℕ) → State → Result Command C
 line_as kind number lines s read =
     elim read [
       | Err cause ↦ stopped number cause
-      | Ok command ↦ behind (commanded command s).text (lines_from kind (number + 1) lines (commanded command s).state)
+      | Ok command ↦ line_then number (commanded command s) (lines_from kind (number + 1) lines (commanded command s).state)
     ]
+
+-- behind a line that lacked memory nothing is printed
+or_nothing : (had : Bool) (number : ℕ) (w : World ℕ) (before : List (Event ℕ)) (rest : Output) → IsReached (machine_in w before)
+    → Ends w before rest.text → Ends w before (if had then rest else ran_out number).text
+or_nothing true number w before rest r e = e
+or_nothing false number w before rest r e = record { new = w; prints = nothing w before r }
 
 choose_line : (kind : Kind) (number : ℕ) (lines : List (List ℕ)) (s : State) (before : List (Event ℕ)) (read : Result Command Cause)
     → IsReached (machine_in s.world before)
@@ -157,7 +168,8 @@ choose_line : (kind : Kind) (number : ℕ) (lines : List (List ℕ)) (s : State)
 choose_line kind number lines s before (Err cause) r rest = record { new = s.world; prints = nothing s.world before r }
 choose_line kind number lines s before (Ok c) r rest =
     let first = command c s before r in
-    let more = rest c first in
+    let more = or_nothing (commanded c s).has_memory number (commanded c s).state.world (before ++ flat_map events_in first.lines)
+    (lines_from kind (number + 1) lines (commanded c s).state) first.reached (rest c first) in
     record { new = more.new; prints = after_that s.world (commanded c s).state.world more.new before _ _ first more.prints }
 
 line_by_line : (kind : Kind) (number : ℕ) (lines : List (List ℕ)) (s : State) (before : List (Event ℕ)) → IsReached (machine_in s.world before)

@@ -2,6 +2,7 @@
 use Rattle.std.proofs.Common.{◌≡◌, ℕ, false, List, [], ◌∷◌, Ok, Err, refl, true, codes}
 use Rattle.std.specs.Fmt.{digits}
 use Rattle.texts.specs.declared.error.Cause.TheVariants as causes
+use Rattle.texts.specs.declared.error.ScheduleError.TheVariants as errors
 use Rattle.texts.specs.Bits.{set, any_set_call, bit_set_call, counting_bit_set_call}
 use Rattle.texts.specs.Container as container
 use Rattle.texts.specs.Indices.{mode_at, release, any_index_call, index_call}
@@ -134,12 +135,25 @@ no_room_to_send : output [] (codes "loan 1 0 1") ≡ stopped 1 causes.ProvidedCa
 unfolding output_of_lines machine_of setup_of number_at
 no_room_to_send = refl
 
--- memory refused to the second turn
-short_turn : output (false ∷ true ∷ []) (codes "index_queue 1 1\n0 begin acquire_producer\n0 next\n0 next")
-    ≡ printed_whole (codes "0 begun acquire_producer\nrefused NoMemory\n0 finished acquire_producer -> true\n")
+-- memory is refused to the second turn, and the run ends there
+short_turn : output (false ∷ true ∷ []) (codes "index_queue 1 1\n0 begin acquire_producer\n\n0 next\n0 next")
+    ≡ record { text = codes "0 begun acquire_producer\n"; end = Err (errors.OutOfMemory 4) }
 unfolding output_of_lines machine_of setup_of number_at lines_from command_of turn_of begin_of queue_call any_call
     next_of outcome event_text refusal_text digits
 short_turn = refl
+
+-- it is to the third of several turns, whose first two are printed
+short_of_several : output (false ∷ false ∷ false ∷ false ∷ false ∷ true ∷ []) (codes "counts 3 1\n0 begin set 1\n0 next\n0 begin reset_all\n0 next 9\n0 next")
+    ≡ record { text = codes "0 begun set 1\n0 counted 1\n0 finished set 1 -> 0\n0 begun reset_all\n0 taken_out 1 1\n"; end = Err (errors.OutOfMemory 5) }
+unfolding output_of_lines machine_of setup_of number_at lines_from command_of turn_of begin_of counting_bit_set_call
+    any_set_call set next_of nexts outcome event_text refusal_text digits
+short_of_several = refl
+
+-- a turn that is refused for another reason needs no memory
+refused_first : output (true ∷ []) (codes "index_queue 1 1\n0 next") ≡ printed_whole (codes "refused Idle\n")
+unfolding output_of_lines machine_of setup_of number_at lines_from command_of turn_of
+    next_of outcome event_text refusal_text digits
+refused_first = refl
 
 missing : output [] [] ≡ stopped 1 causes.MissingValue
 unfolding output_of_lines machine_of setup_of
@@ -155,7 +169,8 @@ unfolding output_of_lines machine_of setup_of number_at
 extra = refl
 
 -- the lines before a malformed one are printed, and empty lines are counted
-malformed : output [] (codes "index_queue 1 1\n\ndie 1\n0 begin push") ≡ record { text = codes "refused WrongCall\n"; end = Err (4, causes.MissingValue) }
+malformed : output [] (codes "index_queue 1 1\n\ndie 1\n0 begin push")
+    ≡ record { text = codes "refused WrongCall\n"; end = Err (errors.Malformed 4 causes.MissingValue) }
 unfolding output_of_lines machine_of setup_of number_at lines_from command_of turn_of death_of begin_of queue_call
     any_call item_call push_index outcome refusal_text
 malformed = refl

@@ -1,5 +1,6 @@
 -- A whole text, and a whole run.
-use Rattle.std.proofs.Common.{◌≡◌, ℕ, ◌≤◌, ◌==◌, Bool, Option, Result, Ok, Err, List, [], ◌∷◌, sym, ap, ◌∙◌, subst, append-nil, length, arith, IfSome, IfErr}
+use Rattle.std.proofs.Common.{◌≡◌, ◌⊎◌, inl, inr, ℕ, ◌≤◌, ◌==◌, Bool, Option, Result, Ok, Err, List, [], ◌∷◌, sym, ap}
+use Rattle.std.proofs.Common.{◌∙◌, subst, append-nil, length, arith, IfSome, IfErr}
 use Rattle.std.specs.Io.KnownBytes.{Appends, Keeps}
 use Rattle.std.proofs.KnownBytes.{Appends-nil, Appends-kept}
 use Rattle.std.proofs.lemmas.List.Splits.{length-slice_split}
@@ -8,7 +9,7 @@ use Rattle.model.specs.World.{World}
 use Rattle.texts.specs.declared.error.Cause.{Cause}
 use Rattle.texts.specs.declared.error.Cause.TheVariants.{MissingValue}
 use Rattle.texts.specs.declared.error.ScheduleError.{ScheduleError}
-use Rattle.texts.specs.declared.error.ScheduleError.TheVariants.{Malformed, ReadFailed, WriteFailed, NoMemory}
+use Rattle.texts.specs.declared.error.ScheduleError.TheVariants.{Malformed, ReadFailed, WriteFailed, NoMemory, OutOfMemory}
 use Rattle.texts.specs.declared.grammar.Setup.{Setup}
 use Rattle.texts.specs.Text.{lines, words}
 use Rattle.schedule.specs.Written.{AppendsPart}
@@ -26,7 +27,7 @@ few_lines input first rest e =
 
 stops : (input : List ℕ) (b : Option (List ℕ)) (cause : Cause) → output [] input ≡ stopped 1 cause
     → IsOutput (λ memory. output memory input) b b (Err (Malformed 1 cause))
-stops input b cause e = ([], ap (λ o. o.end) e, subst (Appends b b) (sym (ap (λ o. o.text) e)) (Appends-nil b))
+stops input b cause e = (ap (λ o. o.end) e, subst (Appends b b) (sym (ap (λ o. o.text) e)) (Appends-nil b))
 
 pub text_missing : (input : List ℕ) (b : Option (List ℕ)) → lines input ≡ [] → IsOutput (λ memory. output memory input) b b (Err (Malformed 1 MissingValue))
 unfolding output_of_lines
@@ -51,8 +52,10 @@ same_output : (one other : List Bool → Output) → ((memory : List Bool) → o
     → (b a : Option (List ℕ)) (r : Result (Unit {0}) ScheduleError)
     → IsOutput one b a r → IsOutput other b a r
 same_output one other same b a (Ok u) p =
-    (p.0, ap (λ o. o.end) (sym (same p.0)) ∙ p.1, subst (λ o. Appends b a o.text) (same p.0) p.2)
+    (ap (λ o. o.end) (sym (same [])) ∙ p.0, subst (λ o. Appends b a o.text) (same []) p.1)
 same_output one other same b a (Err (Malformed line cause)) p =
+    (ap (λ o. o.end) (sym (same [])) ∙ p.0, subst (λ o. Appends b a o.text) (same []) p.1)
+same_output one other same b a (Err (OutOfMemory line)) p =
     (p.0, ap (λ o. o.end) (sym (same p.0)) ∙ p.1, subst (λ o. Appends b a o.text) (same p.0) p.2)
 same_output one other same b a (Err WriteFailed) p = (p.0, subst (λ o. AppendsPart b a o.text) (same p.0) p.1)
 same_output one other same b a (Err ReadFailed) p = p
@@ -73,14 +76,31 @@ kept_part b m a text p q = (text, [], append-nil text, Appends-kept b m a text p
 
 pub flushed_end : (known b m a : Option (List ℕ)) (input : List ℕ) (r : Result (Unit {0}) ScheduleError) → IfSome known (λ bytes. bytes ≡ input)
     → IsOutput (λ memory. output memory input) b m (Ok tt) → Keeps m a → IfErr r (λ e. e ≡ WriteFailed) → IsRun known b a r
-flushed_end known b m a input (Ok u) read p q failed = (input, read, (p.0, p.1, Appends-kept b m a _ p.2 q))
+flushed_end known b m a input (Ok u) read p q failed = (input, read, (p.0, Appends-kept b m a _ p.1 q))
 flushed_end known b m a input (Err e) read p q failed =
-    subst (λ x. IsRun known b a (Err x)) (sym failed) (input, read, (p.0, kept_part b m a _ p.2 q))
+    subst (λ x. IsRun known b a (Err x)) (sym failed) (input, read, ([], kept_part b m a _ p.1 q))
 
-pub flush_failed : (known b m a : Option (List ℕ)) (input : List ℕ) (ended : ScheduleError) (line : ℕ) (cause : Cause) (e : ScheduleError)
+-- behind a malformed line, and behind one to a turn of which memory was refused
+pub flushed_malformed : (known b m a : Option (List ℕ)) (input : List ℕ) (ended : ScheduleError) (line : ℕ) (cause : Cause) (e : ScheduleError)
     → IfSome known (λ bytes. bytes ≡ input) → ended ≡ Malformed line cause → IsOutput (λ memory. output memory input) b m (Err ended)
-    → Keeps m a → e ≡ WriteFailed → IsRun known b a (Err e)
-flush_failed known b m a input ended line cause e read same p q failed =
-    let text : IsOutput (λ memory. output memory input) b m (Err (Malformed line cause)) =
-    subst (λ x. IsOutput (λ memory. output memory input) b m (Err x)) same p in
-    subst (λ x. IsRun known b a (Err x)) (sym failed) (input, read, (text.0, kept_part b m a _ text.2 q))
+    → Keeps m a → (e ≡ Malformed line cause) ⊎ (e ≡ WriteFailed) → IsRun known b a (Err e)
+flushed_malformed known b m a input ended line cause e read same p q either = by either
+  where
+    text : IsOutput (λ memory. output memory input) b m (Err (Malformed line cause))
+    text = subst (λ x. IsOutput (λ memory. output memory input) b m (Err x)) same p
+
+    by : (e ≡ Malformed line cause) ⊎ (e ≡ WriteFailed) → IsRun known b a (Err e)
+    by (inl is) = subst (λ x. IsRun known b a (Err x)) (sym is) (input, read, (text.0, Appends-kept b m a _ text.1 q))
+    by (inr is) = subst (λ x. IsRun known b a (Err x)) (sym is) (input, read, ([], kept_part b m a _ text.1 q))
+
+pub flushed_short : (known b m a : Option (List ℕ)) (input : List ℕ) (ended : ScheduleError) (line : ℕ) (e : ScheduleError)
+    → IfSome known (λ bytes. bytes ≡ input) → ended ≡ OutOfMemory line → IsOutput (λ memory. output memory input) b m (Err ended)
+    → Keeps m a → (e ≡ OutOfMemory line) ⊎ (e ≡ WriteFailed) → IsRun known b a (Err e)
+flushed_short known b m a input ended line e read same p q either = by either
+  where
+    text : IsOutput (λ memory. output memory input) b m (Err (OutOfMemory line))
+    text = subst (λ x. IsOutput (λ memory. output memory input) b m (Err x)) same p
+
+    by : (e ≡ OutOfMemory line) ⊎ (e ≡ WriteFailed) → IsRun known b a (Err e)
+    by (inl is) = subst (λ x. IsRun known b a (Err x)) (sym is) (input, read, (text.0, text.1, Appends-kept b m a _ text.2 q))
+    by (inr is) = subst (λ x. IsRun known b a (Err x)) (sym is) (input, read, (text.0, kept_part b m a _ text.2 q))

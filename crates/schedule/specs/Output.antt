@@ -16,6 +16,8 @@ use Rattle.model.specs.Refusals.{refusal_of, is_going}
 use Rattle.model.specs.Turns.{world_after, events_of}
 use Rattle.texts.specs.declared.error.Cause.{Cause}
 use Rattle.texts.specs.declared.error.Cause.TheVariants as causes
+use Rattle.texts.specs.declared.error.ScheduleError.{ScheduleError}
+use Rattle.texts.specs.declared.error.ScheduleError.TheVariants as errors
 use Rattle.texts.specs.declared.grammar.Command.{Command}
 use Rattle.texts.specs.declared.grammar.Command.TheVariants.{Once, Times}
 use Rattle.texts.specs.declared.grammar.Setup.{Setup}
@@ -33,10 +35,12 @@ two_words = coding_of 2 words_of_u128 value_of_u128
 abbrev pub world_of : machines.State ℕ → World ℕ
 world_of held = world_in two_words held
 
--- what a turn prints, whether it was taken, and the world after it
+-- what a turn prints, whether it was taken, whether it had memory,
+-- and the world after it
 pub record Outcome : Type 0 where
   pub text : List ℕ
   pub is_taken : Bool
+  pub has_memory : Bool
   pub world : World ℕ
 
 -- memory is refused last
@@ -45,11 +49,31 @@ refusal_where short (Some refusal) = Some refusal
 refusal_where true None = Some NoMemory
 refusal_where false None = None
 
+-- whether a turn that was refused so had memory
+abbrev pub has_memory : Refusal → Bool
+has_memory NoMemory = false
+has_memory refusal = true
+
+-- what is printed of a refused turn: nothing where memory was refused,
+-- since the run ends there
+abbrev pub refused_text : Refusal → List ℕ
+refused_text refusal = if has_memory refusal then refusal_text refusal else []
+
 abbrev pub outcome_as : World ℕ → Turn ℕ → Option Refusal → Outcome
 outcome_as w turn None =
-    record { text = events_text (events_of w turn); is_taken = true; world = world_after w turn }
+    record {
+      text = events_text (events_of w turn);
+      is_taken = true;
+      has_memory = true;
+      world = world_after w turn;
+    }
 outcome_as w turn (Some refusal) =
-    record { text = refusal_text refusal; is_taken = false; world = w }
+    record {
+      text = refused_text refusal;
+      is_taken = false;
+      has_memory = has_memory refusal;
+      world = w;
+    }
 
 -- of a turn to which memory is refused, or not
 unfoldable pub outcome : Bool → World ℕ → Turn ℕ → Outcome
@@ -71,19 +95,26 @@ abbrev pub later : List Bool → List Bool
 later [] = []
 later (short ∷ memory) = memory
 
+-- what is printed, whether no turn lacked memory, and the state then
 pub record Printed : Type 0 where
   pub text : List ℕ
+  pub has_memory : Bool
   pub state : State
 
 -- a text, and then another
 abbrev pub after_text : List ℕ → Printed → Printed
-after_text text p = record { text = text ++ p.text; state = p.state }
+after_text text p = record { text = text ++ p.text; has_memory = p.has_memory; state = p.state }
 
 abbrev pub next_outcome : State → Turn ℕ → Outcome
 next_outcome s turn = outcome (is_short s.memory) s.world turn
 
 abbrev pub printed : Outcome → List Bool → Printed
-printed o memory = record { text = o.text; state = record { world = o.world; memory = memory } }
+printed o memory =
+    record {
+      text = o.text;
+      has_memory = o.has_memory;
+      state = record { world = o.world; memory = memory };
+    }
 
 -- the turn was taken, and the party's call needs no decision and is not finished
 abbrev pub goes_on : ℕ → Outcome → Bool
@@ -91,7 +122,7 @@ goes_on party o = o.is_taken && is_going o.world party
 
 -- up to so many turns of a party's call
 unfoldable pub nexts : ℕ → ℕ → State → Printed
-nexts zero party s = record { text = []; state = s }
+nexts zero party s = record { text = []; has_memory = true; state = s }
 nexts (suc most) party s =
     let o = next_outcome s (Next party) in
     if goes_on party o
@@ -104,16 +135,25 @@ commanded (Times party most) s = nexts most party s
 
 -- ---- lines
 
--- what is printed, and the first malformed line with its cause
+-- what is printed, and the line that ends the run before the last: the
+-- first that is malformed, or has a turn to which memory is refused
 pub record Output : Type 0 where
   pub text : List ℕ
-  pub end : Result (Unit {0}) (ℕ × Cause)
+  pub end : Result (Unit {0}) ScheduleError
 
 abbrev pub stopped : ℕ → Cause → Output
-stopped number cause = record { text = []; end = Err (number, cause) }
+stopped number cause = record { text = []; end = Err (errors.Malformed number cause) }
+
+abbrev pub ran_out : ℕ → Output
+ran_out number = record { text = []; end = Err (errors.OutOfMemory number) }
 
 abbrev pub before : List ℕ → Output → Output
 before text o = record { text = text ++ o.text; end = o.end }
+
+-- a line of this number, and what comes behind it
+abbrev pub line_then : ℕ → Printed → Output → Output
+line_then number line rest =
+    before line.text (if line.has_memory then rest else ran_out number)
 
 -- the lines from this number on; an empty line says nothing
 unfoldable pub lines_from : Kind → ℕ → List (List ℕ) → State → Output
@@ -123,7 +163,7 @@ lines_from kind number ((b ∷ bs) ∷ lines) s =
     elim (command_of kind (words (b ∷ bs))) [
       | Err cause ↦ stopped number cause
       | Ok command ↦
-          before (commanded command s).text
+          line_then number (commanded command s)
           (lines_from kind (number + 1) lines (commanded command s).state)
     ]
 
@@ -170,7 +210,7 @@ output_of_lines memory (first ∷ lines) =
       | Ok setup ↦ lines_from setup.kind 2 lines (opened setup memory)
     ]
 
--- The output for these bytes, where memory is refused to the turns that the
--- list says. With the empty list it is to none.
+-- The output for these bytes, where memory is refused to the first turn of
+-- which the list says so. With the empty list it is to none.
 abbrev pub output : List Bool → List ℕ → Output
 output memory input = output_of_lines memory (lines input)

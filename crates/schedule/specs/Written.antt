@@ -21,3 +21,4 @@ IsUnread errors.ReadFailed = Unit {0}
 IsUnread errors.NoMemory = Unit {0}
 IsUnread errors.WriteFailed = ⊥
 IsUnread (errors.Malformed line cause) = ⊥
+IsUnread (errors.OutOfMemory line) = ⊥

@@ -99,6 +99,11 @@ pub fn run_all<T: Words>(machine: &mut Machine<T>, turns: &[Turn<T>]) -> Result<
     machine.run_all(turns)
 }
 
+/// Up to so many turns of the party's call, and why the first that is refused was.
+pub fn nexts<T: Words>(machine: &mut Machine<T>, party: u32, most: u64) -> Result<(), Stopped> {
+    machine.nexts(party, most)
+}
+
 /// Whether the party has a call under way that needs no decision.
 pub fn is_going<T: Words>(machine: &Machine<T>, party: u32) -> bool {
     machine.is_going(party)

@@ -1,8 +1,9 @@
 //! Writing to the end, so that a failure leaves a beginning of the text.
-ghost use Rattle.std.specs.Prelude.{◌≡◌, IfErr};
+ghost use Rattle.std.specs.Prelude.{◌≡◌, ◌⊎◌, IfErr};
 ghost use Rattle.std.specs.Io.KnownBytes.{Keeps};
 ghost use Rattle.texts.specs.Print.{events_text, refusal_text};
 ghost use Rattle.schedule.specs.Written.{Writes};
+ghost use Rattle.schedule.specs.Run.{TellsRefusal};
 
 use machine::event::Event;
 use machine::turn::Refusal;
@@ -59,6 +60,19 @@ pub fn put_refusal<W: Write>(writer: &mut W, refusal: Refusal) -> Result<(), Sch
     put(writer, Line::of_refusal(refusal).as_bytes())
 }
 
+/// The same of a turn that had memory. Of one to which it was refused nothing is written, and the answer is false.
+pub fn tell_refusal<W: Write>(writer: &mut W, refusal: Refusal) -> Result<bool, ScheduleError>
+    ensures { TellsRefusal refusal (W.contents writer.old) (W.contents writer.new) result }
+{
+    match refusal {
+        Refusal::NoMemory => Ok(false),
+        _ => match put_refusal(writer, refusal) {
+            Ok(()) => Ok(true),
+            Err(e) => Err(e),
+        },
+    }
+}
+
 /// Writes out what the writer kept back, or answers `WriteFailed`.
 pub fn flush<W: Write>(writer: &mut W) -> Result<(), ScheduleError>
     ensures kept { Keeps (W.contents writer.old) (W.contents writer.new) }
@@ -67,5 +81,16 @@ pub fn flush<W: Write>(writer: &mut W) -> Result<(), ScheduleError>
     match writer.flush() {
         Ok(()) => Ok(()),
         Err(_) => Err(ScheduleError::WriteFailed),
+    }
+}
+
+/// Writes out what the writer kept back, and answers this error, or that the write failed.
+pub fn flushed<W: Write>(writer: &mut W, error: ScheduleError) -> ScheduleError
+    ensures kept { Keeps (W.contents writer.old) (W.contents writer.new) }
+    ensures ended { (result ≡ error) ⊎ (result ≡ ScheduleError.WriteFailed) }
+{
+    match flush(writer) {
+        Ok(()) => error,
+        Err(e) => e,
     }
 }

@@ -9,7 +9,7 @@ ghost use Rattle.schedule.specs.Written.{AppendsPart};
 ghost use Rattle.texts.specs.declared.error.ScheduleError.{ScheduleError};
 
 use crate::input::whole_input;
-use crate::output::{flush, put_events, put_refusal};
+use crate::output::{flush, flushed, put_events, tell_refusal};
 use crate::told::status;
 use machine::Machine;
 use machine::event::Event;
@@ -23,7 +23,7 @@ use texts::grammar::{Command, Setup, command_of, setup_of};
 use texts::line::Line;
 use texts::text::{Rest, lines};
 
-// One turn, whose events are printed in the room of `line`. Whether it was taken.
+// One turn, whose events are printed in the room of `line`. Whether it had memory.
 #[inline(always)]
 fn take_turn<W: Write>(
     machine: &mut Machine<u128>,
@@ -40,10 +40,7 @@ fn take_turn<W: Write>(
             Ok(()) => Ok(true),
             Err(e) => Err(e),
         },
-        Err(refusal) => match put_refusal(writer, refusal) {
-            Ok(()) => Ok(false),
-            Err(e) => Err(e),
-        },
+        Err(refusal) => tell_refusal(writer, refusal),
     }
 }
 
@@ -55,14 +52,14 @@ fn events_from(events: &[Event<u128>], from: usize) -> &[Event<u128>]
     &events[from..]
 }
 
-// Up to so many turns of the party's call. What they write down is printed once all are taken.
+// Up to so many turns of the party's call. What they write down is printed once all are taken. Whether they had memory.
 fn take_nexts<W: Write>(
     machine: &mut Machine<u128>,
     party: u32,
     most: u64,
     line: &mut Line,
     writer: &mut W,
-) -> Result<(), ScheduleError>
+) -> Result<bool, ScheduleError>
     ensures { Prints (nexts most party) (world_of machine.old) (world_of machine.new)
         (W.contents writer.old) (W.contents writer.new) result }
 {
@@ -73,31 +70,28 @@ fn take_nexts<W: Write>(
         Err(e) => return Err(e),
     }
     match stopped {
-        Ok(()) => Ok(()),
+        Ok(()) => Ok(true),
         Err(stopped) => {
             if stopped.taken > 0 && !machine.is_going(party) {
-                return Ok(());
+                return Ok(true);
             }
-            put_refusal(writer, stopped.refusal)
+            tell_refusal(writer, stopped.refusal)
         }
     }
 }
 
-// What a line asks for.
+// What a line asks for. Whether it had memory.
 fn do_command<W: Write>(
     machine: &mut Machine<u128>,
     command: Command,
     line: &mut Line,
     writer: &mut W,
-) -> Result<(), ScheduleError>
+) -> Result<bool, ScheduleError>
     ensures { Prints (commanded command) (world_of machine.old) (world_of machine.new)
         (W.contents writer.old) (W.contents writer.new) result }
 {
     match command {
-        Command::Once(turn) => match take_turn(machine, turn, line, writer) {
-            Ok(_) => Ok(()),
-            Err(e) => Err(e),
-        },
+        Command::Once(turn) => take_turn(machine, turn, line, writer),
         Command::Times(party, most) => take_nexts(machine, party, most, line, writer),
     }
 }
@@ -122,7 +116,8 @@ fn do_lines<W: Write>(
         if !line.is_empty() {
             match command_of(kind, line) {
                 Ok(command) => match do_command(machine, command, &mut printed, writer) {
-                    Ok(()) => {}
+                    Ok(true) => {}
+                    Ok(false) => return Err(ScheduleError::OutOfMemory(number)),
                     Err(e) => return Err(e),
                 },
                 Err(cause) => return Err(ScheduleError::Malformed(number, cause)),
@@ -209,20 +204,21 @@ pub fn run_in<A: Allocator, R: Read, W: Write>(
     };
     match do_text(alloc, &input, writer) {
         Ok(()) => flush(writer),
-        Err(ScheduleError::Malformed(line, cause)) => match flush(writer) {
-            Ok(()) => Err(ScheduleError::Malformed(line, cause)),
-            Err(e) => Err(e),
-        },
+        Err(ScheduleError::Malformed(line, cause)) => {
+            Err(flushed(writer, ScheduleError::Malformed(line, cause)))
+        }
+        Err(ScheduleError::OutOfMemory(line)) => {
+            Err(flushed(writer, ScheduleError::OutOfMemory(line)))
+        }
         Err(e) => Err(e),
     }
 }
 
 /// Reads a schedule to its end, and then writes what each of its turns did, line by line.
 ///
-/// Malformed text, or a capacity that the kind does not admit, is `Malformed`; the output of all earlier lines has
-/// then been written. A failed read is `ReadFailed`. Where there is no memory for the input or the machine it is
-/// `NoMemory`. A failed write, also of what a writer kept back, is `WriteFailed`. A turn to which memory is refused is
-/// printed as refused, and the run goes on.
+/// Malformed text, or a capacity that the kind does not admit, is `Malformed`, and a turn to which memory is refused
+/// `OutOfMemory`, both behind the output of what came before. A failed read is `ReadFailed`. Without memory for the input
+/// or the machine it is `NoMemory`. A failed write, also of what a writer kept back, is `WriteFailed`.
 pub fn run<R: Read, W: Write>(
     alloc: Global,
     reader: &mut R,

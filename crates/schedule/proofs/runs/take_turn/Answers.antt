@@ -4,7 +4,7 @@ use Rattle.model.specs.Turns.{events_of}
 use Rattle.texts.specs.Print.{events_text}
 use Rattle.schedule.specs.Written.{AppendsPart}
 use Rattle.schedule.specs.Output.{world_of}
-use Rattle.schedule.proofs.Turns.{events_behind, taken_written, taken_failed, refused_written, refused_failed}
+use Rattle.schedule.proofs.Turns.{events_behind, taken_written, taken_failed, refused_told}
 use Rattle.schedule.proofs.runs.take_turn.Goals as goal
 
 pub returns-in-Ok-put_events : goal.returns-in-Ok-put_events
@@ -28,10 +28,6 @@ returns-in-Err-put_events g c =
     (subst (λ l. AppendsPart (g.W.Write.contents c.args.writer.now) (g.W.Write.contents c.put_events.new.writer) (events_text l))
     behind c.in-Err-put_events.ensures.1)
 
-pub returns-in-Ok-put_refusal : goal.returns-in-Ok-put_refusal
-returns-in-Ok-put_refusal g c = refused_written _ _ _ _ _ _ c.in-Err.ensures.refused (ap world_of c.in-Err.ensures.err) c.in-Ok-put_refusal.ensures
-
-pub returns-in-Err-put_refusal : goal.returns-in-Err-put_refusal
-returns-in-Err-put_refusal g c =
-    refused_failed _ (world_of c.step.new.self) _ _ _ _ _ c.in-Err.ensures.refused c.in-Err-put_refusal.ensures.0
-    c.in-Err-put_refusal.ensures.1
+pub returns-in-Err : goal.returns-in-Err
+returns-in-Err g c =
+    refused_told _ (world_of c.step.new.self) _ _ _ _ c.tell_refusal.result c.in-Err.ensures.refused (ap world_of c.in-Err.ensures.err) c.tell_refusal.ensures
