@@ -3,6 +3,7 @@ use lock_free::mpmc::unique_index_set_enums::UniqueIndexCreationError;
 use lock_free::spsc::index_queue::IndexQueue;
 use lock_free::spsc::queue::Queue;
 use lock_free::spsc::safely_overflowing_index_queue::SafelyOverflowingIndexQueue;
+use lock_free::spsc::{index_queue, queue, safely_overflowing_index_queue as overflowing};
 use std::alloc::Global;
 use std::test::Fail;
 use tests_calls::long_values::Three;
@@ -18,8 +19,20 @@ fn both(one: Right, other: Right) -> Right {
     Ok(one? && other?)
 }
 
+/// Whether a pass that is left looks, is split and joined.
+fn index_pass_goes_on(left: &mut index_queue::Pass) -> bool {
+    left.look();
+    match left.split() {
+        Some(further) => {
+            left.join(further);
+            true
+        }
+        None => false,
+    }
+}
+
 /// Whether a queue into which 7 was pushed is closed with just that in it. Also where it is refused to close, the pass that
-/// is left looks, is split and joined.
+/// is left goes on.
 fn index_queue(alloc: Global) -> Right {
     let (queue, mut left) = IndexQueue::new(alloc, 2)?;
     let Some(pass) = left.split() else {
@@ -31,13 +44,21 @@ fn index_queue(alloc: Global) -> Right {
     let pushed = producer.push(7);
     let pass = producer.release();
     let closed = queue.close(pass);
-    left.look();
-    let Some(further) = left.split() else {
-        return Ok(false);
-    };
-    left.join(further);
+    let goes_on = index_pass_goes_on(&mut left);
     let mut list = closed?;
-    Ok(pushed && list.pop() == Some(7) && list.pop().is_none())
+    Ok(pushed & goes_on & (list.pop() == Some(7)) & list.pop().is_none())
+}
+
+/// The same of a pass of a queue of values.
+fn value_pass_goes_on(left: &mut queue::Pass<Three>) -> bool {
+    left.look();
+    match left.split() {
+        Some(further) => {
+            left.join(further);
+            true
+        }
+        None => false,
+    }
 }
 
 /// The same of a queue of values.
@@ -52,13 +73,21 @@ fn value_queue(alloc: Global) -> Right {
     let pushed = producer.push(&Three(7, 8, 9));
     let pass = producer.release();
     let closed = queue.close(pass);
-    left.look();
-    let Some(further) = left.split() else {
-        return Ok(false);
-    };
-    left.join(further);
+    let goes_on = value_pass_goes_on(&mut left);
     let mut list = closed?;
-    Ok(pushed && list.pop() == Some(Three(7, 8, 9)) && list.pop().is_none())
+    Ok(pushed & goes_on & (list.pop() == Some(Three(7, 8, 9))) & list.pop().is_none())
+}
+
+/// The same of a pass of an overflowing queue.
+fn overflowing_pass_goes_on(left: &mut overflowing::Pass) -> bool {
+    left.look();
+    match left.split() {
+        Some(further) => {
+            left.join(further);
+            true
+        }
+        None => false,
+    }
 }
 
 /// The same of an overflowing queue, from which 6 has come back.
@@ -70,16 +99,12 @@ fn overflowing_queue(alloc: Global) -> Right {
     let Ok(mut producer) = queue.acquire_producer(pass) else {
         return Ok(false);
     };
-    let pushed = producer.push(6).is_none() && producer.push(7) == Some(6);
+    let pushed = producer.push(6).is_none() & (producer.push(7) == Some(6));
     let pass = producer.release();
     let closed = queue.close(pass);
-    left.look();
-    let Some(further) = left.split() else {
-        return Ok(false);
-    };
-    left.join(further);
+    let goes_on = overflowing_pass_goes_on(&mut left);
     let mut list = closed?;
-    Ok(pushed && list.pop() == Some(7) && list.pop().is_none())
+    Ok(pushed & goes_on & (list.pop() == Some(7)) & list.pop().is_none())
 }
 
 /// Where memory is refused to a close the test fails by that alone: another queue is made and closed then.

@@ -14,12 +14,20 @@ use std::sync::Wait;
 use std::test::Fail;
 
 /// One who uses a set of 100 indices.
-#[derive(Drop)]
 struct User<'a> {
     set: &'a RobustUniqueIndexSet,
     pass: Pass,
     ghost of: { IsPassOf set.now pass },
     ghost sized: { capacity_of set.now ≡ 100 },
+}
+
+impl<'a> Drop for User<'a> {
+    fn drop(self) {
+        let Self {
+            set: _,
+            pass: _pass,
+        } = self;
+    }
 }
 
 impl<'a> User<'a> {

@@ -14,20 +14,28 @@ use lock_free::spsc::safely_overflowing_index_queue::{
 use std::alloc::Global;
 use std::test::Fail;
 
+/// Drops what was made, so that nothing but the refusal is left of its types.
+fn opened<T: Drop, E>(made: Result<T, E>) -> Result<(), E> {
+    match made {
+        Ok(_) => Ok(()),
+        Err(error) => Err(error),
+    }
+}
+
 fn queues_of_one_caller(alloc: Global) -> Result<(), UniqueIndexCreationError> {
-    plain::IndexQueue::new(alloc, 2)?;
-    plain::SafelyOverflowingIndexQueue::new(alloc, 2)?;
-    plain::Queue::<u128>::new(alloc, 2)?;
-    plain::UnrestrictedAtomic::new(alloc, 7u128)?;
+    opened(plain::IndexQueue::new(alloc, 2))?;
+    opened(plain::SafelyOverflowingIndexQueue::new(alloc, 2))?;
+    opened(plain::Queue::<u128>::new(alloc, 2))?;
+    opened(plain::UnrestrictedAtomic::new(alloc, 7u128))?;
     Ok(())
 }
 
 fn sets_of_one_caller(alloc: Global) -> Result<(), UniqueIndexCreationError> {
-    plain::BitSet::new(alloc, 123)?;
-    plain::CountingBitSet::new(alloc, 123)?;
-    plain::UniqueIndexSet::new(alloc, 3)?;
-    plain::RobustUniqueIndexSet::new(alloc, 3)?;
-    plain::Container::<u128>::new(alloc, 3, 5)?;
+    opened(plain::BitSet::new(alloc, 123))?;
+    opened(plain::CountingBitSet::new(alloc, 123))?;
+    opened(plain::UniqueIndexSet::new(alloc, 3))?;
+    opened(plain::RobustUniqueIndexSet::new(alloc, 3))?;
+    opened(plain::Container::<u128>::new(alloc, 3, 5))?;
     Ok(())
 }
 
@@ -39,19 +47,19 @@ fn forms_of_one_caller(rt: HostRuntime) -> Result<(), Fail> {
 }
 
 fn queues(alloc: Global) -> Result<(), UniqueIndexCreationError> {
-    IndexQueue::new(alloc, 2)?;
-    SafelyOverflowingIndexQueue::new(alloc, 2)?;
-    Queue::<u128, 2>::new(alloc)?;
-    UnrestrictedAtomic::new(alloc, 7u128)?;
+    opened(IndexQueue::new(alloc, 2))?;
+    opened(SafelyOverflowingIndexQueue::new(alloc, 2))?;
+    opened(Queue::<u128, 2>::new(alloc))?;
+    opened(UnrestrictedAtomic::new(alloc, 7u128))?;
     Ok(())
 }
 
 fn sets(alloc: Global) -> Result<(), UniqueIndexCreationError> {
-    BitSet::new(alloc, 123)?;
-    CountingBitSet::new(alloc, 123)?;
-    UniqueIndexSet::new(alloc, 3)?;
-    RobustUniqueIndexSet::new(alloc, 3)?;
-    Container::<u128>::new(alloc, 3, 5)?;
+    opened(BitSet::new(alloc, 123))?;
+    opened(CountingBitSet::new(alloc, 123))?;
+    opened(UniqueIndexSet::new(alloc, 3))?;
+    opened(RobustUniqueIndexSet::new(alloc, 3))?;
+    opened(Container::<u128>::new(alloc, 3, 5))?;
     Ok(())
 }
 
@@ -63,19 +71,19 @@ fn forms_of_threads(rt: HostRuntime) -> Result<(), Fail> {
 }
 
 fn queues_of_types(alloc: Global) -> Result<(), UniqueIndexCreationError> {
-    FixedSizeIndexQueue::<2>::new(alloc)?;
-    FixedSizeSafelyOverflowingIndexQueue::<2>::new(alloc)?;
+    opened(FixedSizeIndexQueue::<2>::new(alloc))?;
+    opened(FixedSizeSafelyOverflowingIndexQueue::<2>::new(alloc))?;
     Ok(())
 }
 
 fn sets_of_types(alloc: Global) -> Result<(), UniqueIndexCreationError> {
-    FixedSizeBitSet::<123>::new(alloc)?;
-    FixedSizeCountingBitSet::<123>::new(alloc)?;
-    FixedSizeUniqueIndexSet::<3>::new(alloc)?;
-    StaticRobustUniqueIndexSet::<3>::new(alloc)?;
-    FixedSizeContainer::<u128, 3>::new(alloc, 5)?;
-    FixedSizeUniqueIndexSet::<8>::new_with_reduced_capacity(alloc, 3)?;
-    StaticRobustUniqueIndexSet::<8>::new_with_reduced_capacity(alloc, 3)?;
+    opened(FixedSizeBitSet::<123>::new(alloc))?;
+    opened(FixedSizeCountingBitSet::<123>::new(alloc))?;
+    opened(FixedSizeUniqueIndexSet::<3>::new(alloc))?;
+    opened(StaticRobustUniqueIndexSet::<3>::new(alloc))?;
+    opened(FixedSizeContainer::<u128, 3>::new(alloc, 5))?;
+    opened(FixedSizeUniqueIndexSet::<8>::new_with_reduced_capacity(alloc, 3))?;
+    opened(StaticRobustUniqueIndexSet::<8>::new_with_reduced_capacity(alloc, 3))?;
     Ok(())
 }
 

@@ -8,11 +8,19 @@ use std::sync::Wait;
 use std::test::Fail;
 
 /// One who uses a container.
-#[derive(Drop)]
 struct User<'a> {
     container: &'a Container<u32>,
     pass: Pass<u32>,
     ghost of: { IsPassOf container.now pass },
+}
+
+impl<'a> Drop for User<'a> {
+    fn drop(self) {
+        let Self {
+            container: _,
+            pass: _pass,
+        } = self;
+    }
 }
 
 impl<'a> User<'a> {

@@ -4,6 +4,8 @@
 #[cfg(test)]
 mod pool;
 #[cfg(test)]
+mod rooms;
+#[cfg(test)]
 mod slots;
 #[cfg(test)]
 mod threads;

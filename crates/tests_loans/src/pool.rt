@@ -14,8 +14,8 @@ fn fills<'a>(
     lender: &mut Lender<'a, String>,
     letters: u64,
 ) -> Option<Buffer<'a, String>> {
-    let mut buffer = lender.acquire(rt).ok()?;
     let text = text_of(alloc, letters).ok()?;
+    let mut buffer = lender.acquire(rt).ok()?;
     buffer.value = Some(text);
     buffer.number = letters;
     Some(buffer)
@@ -37,24 +37,78 @@ fn has(buffer: &Buffer<'_, String>, letters: u64) -> bool {
     }
 }
 
+/// Two buffers, with texts of three letters and of four.
+fn two<'a>(
+    rt: &impl Wait,
+    alloc: Global,
+    lender: &mut Lender<'a, String>,
+) -> Option<(Buffer<'a, String>, Buffer<'a, String>)> {
+    let one = fills(rt, alloc, lender, 3)?;
+    let other = fills(rt, alloc, lender, 4)?;
+    Some((one, other))
+}
+
+/// Whether no place is left.
+fn has_none(rt: &impl Wait, lender: &mut Lender<'_, String>) -> bool {
+    matches!(&lender.acquire(rt), Err(PoolFailure::NoPlace(_)))
+}
+
+/// Whether this place comes with its three letters. Its buffer is dropped. None where none comes.
+fn comes(rt: &impl Wait, lender: &mut Lender<'_, String>, place: u32) -> Option<bool> {
+    let buffer = lender.acquire(rt).ok()?;
+    Some(buffer.place() == place && has(&buffer, 3))
+}
+
+/// Whether this place comes empty. Its buffer is given back so. None where none comes.
+fn comes_empty(rt: &impl Wait, lender: &mut Lender<'_, String>, place: u32) -> Option<bool> {
+    let buffer = lender.acquire(rt).ok()?;
+    let is_empty = buffer.place() == place && buffer.value.is_none();
+    Some(is_empty & buffer.give_back().is_none())
+}
+
+/// Whether the place of one buffer comes with its value, and then empty, while another has the other place.
+fn keeps(rt: &impl Wait, lender: &mut Lender<'_, String>, one: Buffer<'_, String>) -> bool {
+    let place = one.place();
+    let mut right = one.give_back().is_none();
+    right &= comes(rt, lender, place) == Some(true);
+    right & (comes_empty(rt, lender, place) == Some(true))
+}
+
+/// Whether each of two buffers has a place of its own, and the first keeps its value. None where they are not to be had.
+fn two_keep(rt: &impl Wait, alloc: Global, lender: &mut Lender<'_, String>) -> Option<bool> {
+    let (one, other) = two(rt, alloc, lender)?;
+    let mut right = one.place() != other.place();
+    right &= has_none(rt, lender);
+    right &= keeps(rt, lender, one);
+    Some(right & other.give_back().is_none())
+}
+
 /// Each place is taken by one at a time, and what was laid back lies there with its number; nothing does after a drop.
 #[test]
 fn a_buffer_keeps_its_value(rt: HostRuntime) -> Result<(), Fail> {
     let mut pool: Pool<String> = Pool::new(rt.alloc(), 2)?;
     let mut lender = pool.lender().ok_or("no lender")?;
-    let one = fills(&rt, rt.alloc(), &mut lender, 3).ok_or("no buffer")?;
-    let other = fills(&rt, rt.alloc(), &mut lender, 4).ok_or("no buffer")?;
-    assert!(rt; one.place() != other.place());
-    assert!(rt; matches!(&lender.acquire(&rt), Err(PoolFailure::NoPlace(_))));
-    let place = one.place();
-    assert!(rt; one.give_back().is_none());
-    let one = lender.acquire(&rt).map_err(|_| "no buffer")?;
-    assert!(rt; one.place() == place && has(&one, 3));
-    drop(one);
-    let one = lender.acquire(&rt).map_err(|_| "no buffer")?;
-    assert!(rt; one.place() == place && one.value.is_none());
-    assert!(rt; one.give_back().is_none() && other.give_back().is_none());
+    assert!(rt; two_keep(&rt, rt.alloc(), &mut lender) == Some(true));
     Ok(())
+}
+
+/// Lays two texts back: the place of the first. None where it could not.
+fn lays_two(rt: &impl Wait, alloc: Global, lender: &mut Lender<'_, String>) -> Option<u32> {
+    let (one, other) = two(rt, alloc, lender)?;
+    let place = one.place();
+    let are_laid = one.give_back().is_none() & other.give_back().is_none();
+    if are_laid { Some(place) } else { None }
+}
+
+/// Whether this place has three letters, and the other one four. None where they are not to be had.
+fn are_own(rt: &impl Wait, lender: &mut Lender<'_, String>, place: u32) -> Option<bool> {
+    let one = lender.acquire(rt).ok()?;
+    let other = lender.acquire(rt).ok()?;
+    if one.place() == place {
+        Some(has(&one, 3) && has(&other, 4))
+    } else {
+        Some(has(&other, 3) && has(&one, 4))
+    }
 }
 
 /// Each place keeps its own value.
@@ -62,35 +116,44 @@ fn a_buffer_keeps_its_value(rt: HostRuntime) -> Result<(), Fail> {
 fn places_keep_their_own(rt: HostRuntime) -> Result<(), Fail> {
     let mut pool: Pool<String> = Pool::new(rt.alloc(), 2)?;
     let mut lender = pool.lender().ok_or("no lender")?;
-    let one = fills(&rt, rt.alloc(), &mut lender, 3).ok_or("no buffer")?;
-    let other = fills(&rt, rt.alloc(), &mut lender, 4).ok_or("no buffer")?;
-    let place = one.place();
-    assert!(rt; one.give_back().is_none() && other.give_back().is_none());
-    let one = lender.acquire(&rt).map_err(|_| "no buffer")?;
-    let other = lender.acquire(&rt).map_err(|_| "no buffer")?;
-    let is_first = one.place() == place;
-    let (first, second) = if is_first { (one, other) } else { (other, one) };
-    assert!(rt; has(&first, 3) && has(&second, 4));
+    let place = lays_two(&rt, rt.alloc(), &mut lender).ok_or("no buffer")?;
+    assert!(rt; are_own(&rt, &mut lender, place) == Some(true));
     Ok(())
 }
 
-/// Two threads fill a buffer each, and each gives back what the other filled.
-fn swap<R: Threads + Wait + Sync>(
+/// Whether a buffer has so many letters, and can be given back.
+fn has_and_gives_back(buffer: Buffer<'_, String>, letters: u64) -> bool {
+    let is_right = has(&buffer, letters);
+    is_right & buffer.give_back().is_none()
+}
+
+/// Two threads fill a buffer each.
+fn two_fill<'a, R: Threads + Wait + Sync>(
     rt: &R,
     alloc: Global,
-    one: &mut Lender<'_, String>,
-    other: &mut Lender<'_, String>,
-) -> Option<(bool, bool)> {
+    one: &mut Lender<'a, String>,
+    other: &mut Lender<'a, String>,
+) -> Option<(Buffer<'a, String>, Buffer<'a, String>)> {
     let (first, second) = thread::join(
         rt,
         move || fills(rt, alloc, one, 5),
         move || fills(rt, alloc, other, 6),
     );
-    let (first, second) = (first?, second?);
+    Some((first?, second?))
+}
+
+/// Two threads fill a buffer each, and each gives back what the other filled.
+fn swap<'a, R: Threads + Wait + Sync>(
+    rt: &R,
+    alloc: Global,
+    one: &mut Lender<'a, String>,
+    other: &mut Lender<'a, String>,
+) -> Option<(bool, bool)> {
+    let (first, second) = two_fill(rt, alloc, one, other)?;
     Some(thread::join(
         rt,
-        move || has(&second, 6) && second.give_back().is_none(),
-        move || has(&first, 5) && first.give_back().is_none(),
+        move || has_and_gives_back(second, 6),
+        move || has_and_gives_back(first, 5),
     ))
 }
 

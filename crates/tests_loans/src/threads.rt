@@ -20,10 +20,18 @@ const PLACES: usize = 8;
 const TRIES: u64 = 1 << 26;
 
 /// A number, and a text of so many letters: 0 to 63.
-#[derive(Drop)]
 struct Note {
     number: u64,
     text: String,
+}
+
+impl Drop for Note {
+    fn drop(self) {
+        let Self {
+            number: _,
+            text: _text,
+        } = self;
+    }
 }
 
 /// The rule that a note has the number that it is sent with.

@@ -4,14 +4,14 @@ use crate::stage::Stage;
 use crate::text::{number, numbers};
 use machine::event::{Event, Start};
 use machine::families::loan::is_loan;
-use machine::families::{Beside, Flight, Registry};
+use machine::families::{Beside, Registry};
 use machine::party::{Doing, Latest, Party, Progress, Seat};
 use machine::turn::{Kind, Refusal, Turn};
 use schedule::bare::read_words;
 use schedule::grammar::Setup;
 use std::alloc::Global;
 use std::collections::BTreeMap;
-use steps::ask::Want;
+use steps::ask::{Ask, Want};
 use steps::container::state::ContainerState;
 use steps::enums::OwnerId;
 use steps::indices::head::HeadDetails;
@@ -20,16 +20,59 @@ use turns::families::{self, is_asking};
 use turns::party::{flight_of, progress_of};
 use turns::words;
 
+/// The latest call of each party, for those who do not name the calls of all families.
+pub trait Calls {
+    /// The party begins the call, if it may.
+    fn begins(
+        &mut self,
+        kind: Kind,
+        capacity: u32,
+        kept: &Registry<u128>,
+        number: u32,
+        start: Start<u128>,
+    ) -> Result<(), Refusal>;
+
+    /// The party's call takes its step, or is handed a decision.
+    fn goes_on(
+        &mut self,
+        number: u32,
+        said: Option<bool>,
+        words: &mut Vec<u64>,
+        kept: &mut Registry<u128>,
+        events: &mut Vec<Event<u128>>,
+    ) -> Result<(), Refusal>;
+
+    fn progress(&self, party: u32) -> Option<Progress>;
+
+    fn is_going(&self, party: u32) -> bool;
+
+    /// A row of a call under way.
+    fn row(&self, party: u32, word: &str, rest: &str) -> Option<bool>;
+}
+
 /// Words, what a family keeps beside them, and the latest call of each party.
-#[derive(Drop)]
-pub struct Bare {
+pub struct Bare<C> {
     alloc: Global,
     kind: Kind,
     capacity: u32,
     words: Vec<u64>,
     kept: Registry<u128>,
-    latest: Latest<u128>,
+    calls: C,
     events: Vec<Event<u128>>,
+}
+
+impl<C: Drop> Drop for Bare<C> {
+    fn drop(self) {
+        let Self {
+            alloc: _,
+            kind: _,
+            capacity: _,
+            words: _words,
+            kept: _kept,
+            calls: _calls,
+            events: _events,
+        } = self;
+    }
 }
 
 // (of any values: of these alone the checker has a bug)
@@ -56,6 +99,25 @@ fn said_number(said: Option<bool>) -> u64 {
     }
 }
 
+/// What a step asks for, and what the call is handed.
+fn asked(
+    want: Want<()>,
+    said: Option<bool>,
+    words: &Vec<u64>,
+) -> Result<(Option<Ask>, u64), Refusal> {
+    match (want, said) {
+        (Want::Question(_), Some(_)) => Ok((None, said_number(said))),
+        (Want::Ask(ask), None) => Ok((Some(ask), words::old(words, Some(ask)))),
+        (Want::Nothing, None) => Ok((None, 0)),
+        _ => Err(Refusal::Undecided),
+    }
+}
+
+/// The party's call is done. It stands by itself since its flight ends here, in one of many ways.
+fn finish(party: &mut Party<u128>) {
+    party.doing = Doing::Over(0);
+}
+
 /// Lets a call take its step, or hands it a decision: as a machine does.
 fn advance(
     party: &mut Party<u128>,
@@ -70,12 +132,7 @@ fn advance(
         return Err(Refusal::Idle);
     };
     let (want, most) = families::going(flight);
-    let (ask, answer) = match (want, said) {
-        (Want::Question(_), Some(_)) => (None, said_number(said)),
-        (Want::Ask(ask), None) => (Some(ask), words::old(words, Some(ask))),
-        (Want::Nothing, None) => (None, 0),
-        _ => return Err(Refusal::Undecided),
-    };
+    let (ask, answer) = asked(want, said, words)?;
     if let Some(refusal) = families::going_refusal(flight, kept, said) {
         return Err(refusal);
     }
@@ -96,30 +153,55 @@ fn advance(
     party.backs = party.backs.wrapping_add(u64::from(went.back));
     if let Some(answer) = went.done {
         events.push_reserved(Event::Finished(number, party.start, answer));
-        party.doing = Doing::Over(0);
+        finish(party);
     }
     words::write(words, ask);
     Ok(())
 }
 
-impl Bare {
-    /// The calls of this kind and capacity, over the words of its opening, by the first line of a schedule.
-    pub fn opened(alloc: Global, line: &str) -> Option<Bare> {
-        let setup = read_words(line.as_bytes()).ok()?;
-        let (words, kept) = opening(alloc, setup)?;
-        Some(Bare {
-            alloc,
-            kind: setup.kind,
-            capacity: u32::try_from(setup.capacity).ok()?,
-            words,
-            kept,
-            latest: BTreeMap::new(alloc),
-            events: Vec::new(alloc),
-        })
-    }
+/// Where the latest call of each party is.
+pub struct Seats {
+    alloc: Global,
+    latest: Latest<u128>,
+}
 
-    /// The party's latest call is this one.
-    fn seats(&mut self, number: u32, party: Party<u128>) -> Result<(), Refusal> {
+impl Drop for Seats {
+    fn drop(self) {
+        let Self {
+            alloc: _,
+            latest: _latest,
+        } = self;
+    }
+}
+
+impl Seats {
+    pub fn new(alloc: Global) -> Seats {
+        Seats {
+            alloc,
+            latest: BTreeMap::new(alloc),
+        }
+    }
+}
+
+impl Calls for Seats {
+    fn begins(
+        &mut self,
+        kind: Kind,
+        capacity: u32,
+        kept: &Registry<u128>,
+        number: u32,
+        start: Start<u128>,
+    ) -> Result<(), Refusal> {
+        if flight_of(&self.latest, number).is_some() {
+            return Err(Refusal::Busy);
+        }
+        let flight = families::admit(self.alloc, kind, capacity, kept, number, &start)?;
+        let party = Party {
+            start,
+            steps: 0,
+            backs: 0,
+            doing: Doing::Going(flight, 0),
+        };
         let Ok(party) = Box::new(self.alloc, party) else {
             return Err(Refusal::NoMemory);
         };
@@ -129,25 +211,56 @@ impl Bare {
         }
     }
 
-    fn begins(&mut self, number: u32, start: Start<u128>) -> Result<(), Refusal> {
-        if flight_of(&self.latest, number).is_some() {
-            return Err(Refusal::Busy);
-        }
-        let flight = families::admit(
-            self.alloc,
-            self.kind,
-            self.capacity,
-            &self.kept,
-            number,
-            &start,
-        )?;
-        let party = Party {
-            start,
-            steps: 0,
-            backs: 0,
-            doing: Doing::Going(flight, 0),
+    fn goes_on(
+        &mut self,
+        number: u32,
+        said: Option<bool>,
+        words: &mut Vec<u64>,
+        kept: &mut Registry<u128>,
+        events: &mut Vec<Event<u128>>,
+    ) -> Result<(), Refusal> {
+        let beside = families::look_beside(kept, words, &self.latest, number);
+        let Some(seat) = self.latest.get_mut(&number) else {
+            return Err(Refusal::Idle);
         };
-        self.seats(number, party)?;
+        advance(&mut *seat.party, number, said, beside, words, kept, events)
+    }
+
+    fn progress(&self, party: u32) -> Option<Progress> {
+        progress_of(&self.latest, 0, party)
+    }
+
+    fn is_going(&self, party: u32) -> bool {
+        match flight_of(&self.latest, party) {
+            Some(flight) => !is_asking(flight),
+            None => false,
+        }
+    }
+
+    fn row(&self, party: u32, word: &str, rest: &str) -> Option<bool> {
+        calls::row(flight_of(&self.latest, party)?, word, rest)
+    }
+}
+
+impl<C: Calls + Drop> Bare<C> {
+    /// The calls of this kind and capacity, over the words of its opening, by the first line of a schedule.
+    pub fn opened(alloc: Global, calls: C, line: &str) -> Option<Bare<C>> {
+        let setup = read_words(line.as_bytes()).ok()?;
+        let (words, kept) = opening(alloc, setup)?;
+        Some(Bare {
+            alloc,
+            kind: setup.kind,
+            capacity: u32::try_from(setup.capacity).ok()?,
+            words,
+            kept,
+            calls,
+            events: Vec::new(alloc),
+        })
+    }
+
+    fn begins(&mut self, number: u32, start: Start<u128>) -> Result<(), Refusal> {
+        self.calls
+            .begins(self.kind, self.capacity, &self.kept, number, start)?;
         if !families::keep(&mut self.kept, self.capacity, &start, number) {
             return Err(Refusal::NoMemory);
         }
@@ -159,15 +272,9 @@ impl Bare {
     }
 
     fn goes_on(&mut self, number: u32, said: Option<bool>) -> Result<(), Refusal> {
-        let beside = families::look_beside(&self.kept, &self.words, &self.latest, number);
-        let Some(seat) = self.latest.get_mut(&number) else {
-            return Err(Refusal::Idle);
-        };
-        advance(
-            &mut *seat.party,
+        self.calls.goes_on(
             number,
             said,
-            beside,
             &mut self.words,
             &mut self.kept,
             &mut self.events,
@@ -223,10 +330,6 @@ impl Bare {
         Some(self.puts(0, details.value()))
     }
 
-    fn flight(&self, party: u32) -> Option<&Flight<u128>> {
-        flight_of(&self.latest, party)
-    }
-
     /// The party holds this index from now on.
     fn holds(&mut self, party: u32, index: u32) -> bool {
         match &mut self.kept {
@@ -239,7 +342,7 @@ impl Bare {
     }
 }
 
-impl Stage for Bare {
+impl<C: Calls + Drop> Stage for Bare<C> {
     fn kind(&self) -> Kind {
         self.kind
     }
@@ -262,14 +365,11 @@ impl Stage for Bare {
     }
 
     fn progress(&self, party: u32) -> Option<Progress> {
-        progress_of(&self.latest, 0, party)
+        self.calls.progress(party)
     }
 
     fn is_going(&self, party: u32) -> bool {
-        match self.flight(party) {
-            Some(flight) => !is_asking(flight),
-            None => false,
-        }
+        self.calls.is_going(party)
     }
 
     fn state(&self, party: u32) -> Option<&ContainerState<u128>> {
@@ -291,7 +391,7 @@ impl Stage for Bare {
     fn row_of(&mut self, party: u32, word: &str, rest: &str) -> Option<bool> {
         match word {
             "holds" => Some(self.holds(party, rest.parse().ok()?)),
-            _ => calls::row(self.flight(party)?, word, rest),
+            _ => self.calls.row(party, word, rest),
         }
     }
 }

@@ -1,12 +1,15 @@
 //! The blocks of a text, and the loop that plays the rows of one.
-use crate::bare::Bare;
+use crate::bare::{Bare, Seats};
 use crate::listed::Listed;
 use crate::numbers::Numbers;
-use crate::on_machine::OnMachine;
+use crate::on_machine::{OnMachine, TakesLists};
 use crate::played::Played;
 use crate::report::Report;
 use crate::run::{Broken, Run};
+use crate::stage::Stage;
 use crate::text::in_round;
+use machine::turn::Kind;
+use schedule::bare::{TakesTurns, made, read_words};
 use std::alloc::{AllocError, Global};
 
 /// What a row is played on.
@@ -16,10 +19,18 @@ pub trait Rows {
 }
 
 /// Rows that come so often one after another.
-#[derive(Drop)]
 struct Group {
     times: Option<u64>,
     lines: String,
+}
+
+impl Drop for Group {
+    fn drop(self) {
+        let Self {
+            times: _,
+            lines: _lines,
+        } = self;
+    }
 }
 
 impl Group {
@@ -153,6 +164,30 @@ pub fn play<P: Rows>(
     Ok(())
 }
 
+fn play_stage<S: Stage + Drop>(
+    alloc: Global,
+    stage: S,
+    title: &str,
+    rows: &str,
+    report: &mut Report,
+) -> Result<(), AllocError> {
+    let mut played = Played::new(alloc, stage);
+    play(alloc, &mut played, title, rows, report)
+}
+
+fn play_lists<M: TakesTurns<u128> + TakesLists + Drop>(
+    alloc: Global,
+    kind: Kind,
+    machine: M,
+    title: &str,
+    rows: &str,
+    report: &mut Report,
+) -> Result<(), AllocError> {
+    let stage = OnMachine::new(alloc, kind, machine);
+    play_stage(alloc, stage, title, rows, report)
+}
+
+/// On a machine by the first line of a schedule.
 fn play_machine(
     alloc: Global,
     title: &str,
@@ -160,11 +195,11 @@ fn play_machine(
     rows: &str,
     report: &mut Report,
 ) -> Result<(), AllocError> {
-    match OnMachine::opened(alloc, head) {
-        Some(stage) => {
-            let mut played = Played::new(alloc, stage);
-            play(alloc, &mut played, title, rows, report)
-        }
+    let Ok(setup) = read_words(head.as_bytes()) else {
+        return report.is_wrong(title, head);
+    };
+    match made(alloc, setup) {
+        Some(machine) => play_lists(alloc, setup.kind, machine, title, rows, report),
         None => report.is_wrong(title, head),
     }
 }
@@ -176,11 +211,8 @@ fn play_bare(
     rows: &str,
     report: &mut Report,
 ) -> Result<(), AllocError> {
-    match Bare::opened(alloc, head) {
-        Some(stage) => {
-            let mut played = Played::new(alloc, stage);
-            play(alloc, &mut played, title, rows, report)
-        }
+    match Bare::opened(alloc, Seats::new(alloc), head) {
+        Some(stage) => play_stage(alloc, stage, title, rows, report),
         None => report.is_wrong(title, head),
     }
 }

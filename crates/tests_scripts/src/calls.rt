@@ -9,61 +9,81 @@ use steps::ask::{Ask, Op, Question, Want};
 use steps::indices::unique::AcquireStage;
 use turns::families::{atomic, bits, container, going, indices, loan, queues};
 
-/// Whether the call begins a turn of its loop again once it is handed this.
-fn goes_back(flight: &Flight<u128>, answer: u64) -> bool {
-    match flight {
-        Flight::Queues(call) => queues::calls::goes_back(call, answer),
-        Flight::Atomic(call) => atomic::calls::goes_back(call, answer),
-        Flight::Bits(call) => bits::calls::goes_back(call, answer),
-        Flight::Indices(call) => indices::calls::goes_back(call, answer),
-        Flight::Robust(call) => indices::robust::calls::goes_back(call, answer),
-        Flight::Container(call) => container::calls::goes_back(call, answer),
-        Flight::Loan(call) => loan::calls::goes_back(call, answer),
+/// A call under way, for those who do not name the calls of all families: a function that does is proved with the types
+/// of all of them.
+pub trait Call {
+    /// Whether it begins a turn of its loop again once it is handed this.
+    fn goes_back(&self, answer: u64) -> bool;
+
+    /// The index at which an acquire scans the claim flags.
+    fn scanned(&self) -> Option<u32>;
+
+    /// Whose index a recovery frees where it is handed this, and which.
+    fn freed(&self, answer: u64) -> Option<(u64, u32)>;
+
+    /// The word in the room of a call that has one.
+    fn room(&self) -> Option<u64>;
+
+    fn wanted(&self) -> Want<()>;
+}
+
+impl Call for Flight<u128> {
+    fn goes_back(&self, answer: u64) -> bool {
+        match self {
+            Flight::Queues(call) => queues::calls::goes_back(call, answer),
+            Flight::Atomic(call) => atomic::calls::goes_back(call, answer),
+            Flight::Bits(call) => bits::calls::goes_back(call, answer),
+            Flight::Indices(call) => indices::calls::goes_back(call, answer),
+            Flight::Robust(call) => indices::robust::calls::goes_back(call, answer),
+            Flight::Container(call) => container::calls::goes_back(call, answer),
+            Flight::Loan(call) => loan::calls::goes_back(call, answer),
+        }
+    }
+
+    fn scanned(&self) -> Option<u32> {
+        let Flight::Indices(IndexFlight::Acquire(run)) = self else {
+            return None;
+        };
+        match run.call.stage {
+            AcquireStage::Scans { index } => Some(index),
+            _ => None,
+        }
+    }
+
+    fn freed(&self, answer: u64) -> Option<(u64, u32)> {
+        let Flight::Robust(RobustFlight::Recover(run)) = self else {
+            return None;
+        };
+        let (owner, index) = run.call.frees(answer)?;
+        Some((owner.value(), index))
+    }
+
+    fn room(&self) -> Option<u64> {
+        match self {
+            Flight::Queues(QueueFlight::Overflow(OverflowCall::Pop(run))) => Some(run.room.0),
+            Flight::Bits(BitsFlight::TakeAll(run)) => Some(run.room.0),
+            _ => None,
+        }
+    }
+
+    fn wanted(&self) -> Want<()> {
+        going(self).0
     }
 }
 
-/// `7 yes`: whether it does so where it is handed 7.
-fn is_back(flight: &Flight<u128>, rest: &str) -> Option<bool> {
+/// `7 yes`: whether it begins a turn of its loop again where it is handed 7.
+fn is_back<C: Call>(call: &C, rest: &str) -> Option<bool> {
     let (answer, back) = rest.split_once(' ')?;
-    Some(goes_back(flight, number(answer)?) == (back == "yes"))
+    Some(call.goes_back(number(answer)?) == (back == "yes"))
 }
 
-/// The index at which an acquire scans the claim flags.
-fn scanned(flight: &Flight<u128>) -> Option<u32> {
-    let Flight::Indices(IndexFlight::Acquire(run)) = flight else {
-        return None;
-    };
-    match run.call.stage {
-        AcquireStage::Scans { index } => Some(index),
-        _ => None,
-    }
-}
-
-/// Whose index a recovery frees where it is handed this, and which.
-fn freed(flight: &Flight<u128>, answer: u64) -> Option<(u64, u32)> {
-    let Flight::Robust(RobustFlight::Recover(run)) = flight else {
-        return None;
-    };
-    let (owner, index) = run.call.frees(answer)?;
-    Some((owner.value(), index))
-}
-
-/// `1 -> 2 0`: that of owner 2, index 0; or `1 -> none`.
-fn frees(flight: &Flight<u128>, rest: &str) -> Option<bool> {
+/// `1 -> 2 0`: that it frees an index of owner 2 where it is handed 1, index 0; or `1 -> none`.
+fn frees<C: Call>(call: &C, rest: &str) -> Option<bool> {
     let (answer, freed_so) = rest.split_once(" -> ")?;
-    let freed = freed(flight, number(answer)?);
+    let freed = call.freed(number(answer)?);
     match freed_so.split_once(' ') {
         Some((owner, index)) => Some(freed == Some((number(owner)?, index.parse().ok()?))),
         None => Some(freed_so == "none" && freed.is_none()),
-    }
-}
-
-/// The word in the room of a call that has one.
-fn room(flight: &Flight<u128>) -> Option<u64> {
-    match flight {
-        Flight::Queues(QueueFlight::Overflow(OverflowCall::Pop(run))) => Some(run.room.0),
-        Flight::Bits(BitsFlight::TakeAll(run)) => Some(run.room.0),
-        _ => None,
     }
 }
 
@@ -79,9 +99,9 @@ fn asks(question: Question<()>, rest: &str) -> Option<bool> {
 }
 
 /// `0`, or `0 of 1` with its owner: the index about which the call asks.
-fn is_asking(flight: &Flight<u128>, rest: &str) -> Option<bool> {
-    match going(flight) {
-        (Want::Question(question), _) => asks(question, rest),
+fn is_asking<C: Call>(call: &C, rest: &str) -> Option<bool> {
+    match call.wanted() {
+        Want::Question(question) => asks(question, rest),
         _ => Some(false),
     }
 }
@@ -101,23 +121,23 @@ fn operation(rest: &str) -> Option<Ask> {
 }
 
 /// What the call wants next: an operation, or `nothing`.
-fn wants(flight: &Flight<u128>, rest: &str) -> Option<bool> {
-    match going(flight) {
-        (Want::Ask(ask), _) => Some(ask == operation(rest)?),
-        (Want::Nothing, _) => Some(rest == "nothing"),
-        (Want::Question(_), _) => Some(false),
+fn wants<C: Call>(call: &C, rest: &str) -> Option<bool> {
+    match call.wanted() {
+        Want::Ask(ask) => Some(ask == operation(rest)?),
+        Want::Nothing => Some(rest == "nothing"),
+        Want::Question(_) => Some(false),
     }
 }
 
 /// A row of a call under way.
-pub fn row(flight: &Flight<u128>, word: &str, rest: &str) -> Option<bool> {
+pub fn row<C: Call>(call: &C, word: &str, rest: &str) -> Option<bool> {
     match word {
-        "back" => is_back(flight, rest),
-        "scans" => Some(scanned(flight)? == rest.parse().ok()?),
-        "frees" => frees(flight, rest),
-        "room" => Some(room(flight)? == number(rest)?),
-        "asks" => is_asking(flight, rest),
-        "wants" => wants(flight, rest),
+        "back" => is_back(call, rest),
+        "scans" => Some(call.scanned()? == rest.parse().ok()?),
+        "frees" => frees(call, rest),
+        "room" => Some(call.room()? == number(rest)?),
+        "asks" => is_asking(call, rest),
+        "wants" => wants(call, rest),
         _ => None,
     }
 }

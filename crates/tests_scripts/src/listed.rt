@@ -15,7 +15,6 @@ const ENOUGH: Most = Most {
 };
 
 /// A text, how far the search goes, and once it is listed what is printed and told.
-#[derive(Drop)]
 pub struct Listed {
     alloc: Global,
     stops: bool,
@@ -23,6 +22,19 @@ pub struct Listed {
     input: Vec<u8>,
     list: Vec<u8>,
     told: Vec<u8>,
+}
+
+impl Drop for Listed {
+    fn drop(self) {
+        let Self {
+            alloc: _,
+            stops: _,
+            most: _,
+            input: _input,
+            list: _list,
+            told: _told,
+        } = self;
+    }
 }
 
 impl Listed {
@@ -91,7 +103,8 @@ impl Listed {
     fn lines(&self, said: &str) -> Option<String> {
         let mut lines = String::new(self.alloc);
         for line in said.split("; ") {
-            write!(lines, "\n  {line}").ok()?;
+            lines.push_str("\n  ").ok()?;
+            lines.push_str(line).ok()?;
         }
         Some(lines)
     }
@@ -99,8 +112,8 @@ impl Listed {
     /// `35 schedules: 0 push 5 -> true; 1 pop -> none`: whether an outcome is so.
     fn is_outcome(&self, rest: &str) -> Option<bool> {
         let (schedules, said) = rest.split_once(": ")?;
-        let lines = self.lines(said)?;
-        let wanted = format!(in self.alloc; "{schedules}{lines}").ok()?;
+        let mut wanted = String::from_str(self.alloc, schedules).ok()?;
+        wanted.push_str(&self.lines(said)?).ok()?;
         Some(replayed::has_outcome(self.text(), ": ", wanted.as_str()))
     }
 

@@ -26,7 +26,9 @@ fn said_of(alloc: Global, name: &str, text: &str) -> io::Result<String> {
     let mut report = Report::new(alloc);
     let played = blocks::play_all(alloc, text, &mut report);
     if played.is_err() {
-        return Ok(format!(in alloc; "{name}: no memory\n")?);
+        let mut said = String::from_str(alloc, name)?;
+        said.push_str(": no memory\n")?;
+        return Ok(said);
     }
     Ok(report.said(alloc, name)?)
 }

@@ -7,7 +7,7 @@ use schedule::grammar::Setup;
 use std::alloc::Global;
 use steps::enums::UniqueIndexCreationError;
 
-#[derive(Drop)]
+#[derive(Clone, Copy)]
 pub struct Numbers {
     pub alloc: Global,
 }

@@ -5,31 +5,52 @@ use machine::event::Event;
 use machine::party::Progress;
 use machine::turn::{Kind, Refusal, Turn};
 use machine::{Machine, Stopped};
-use schedule::bare::{
-    is_going, line_of_refusal, made, read_command, read_words, run, run_all, state, step, text_of,
-    under_way,
-};
+use schedule::bare::{TakesTurns, line_of_refusal, read_command, run, run_all, text_of};
 use schedule::grammar::Command;
 use std::alloc::Global;
 use steps::container::state::ContainerState;
 
-#[derive(Drop)]
-pub struct OnMachine {
+/// What takes lists of turns: a machine, for those who name none.
+pub trait TakesLists {
+    fn run(&mut self, turns: &[Turn<u128>]) -> usize;
+
+    fn run_all(&mut self, turns: &[Turn<u128>]) -> Result<(), Stopped>;
+}
+
+impl TakesLists for Machine<u128> {
+    fn run(&mut self, turns: &[Turn<u128>]) -> usize {
+        run(self, turns)
+    }
+
+    fn run_all(&mut self, turns: &[Turn<u128>]) -> Result<(), Stopped> {
+        run_all(self, turns)
+    }
+}
+
+pub struct OnMachine<M> {
     kind: Kind,
-    machine: Machine<u128>,
+    machine: M,
     /// The turns of the list so far.
     list: Vec<Turn<u128>>,
 }
 
-impl OnMachine {
-    /// A machine by the first line of a schedule.
-    pub fn opened(alloc: Global, line: &str) -> Option<OnMachine> {
-        let setup = read_words(line.as_bytes()).ok()?;
-        Some(OnMachine {
-            kind: setup.kind,
-            machine: made(alloc, setup)?,
+impl<M: Drop> Drop for OnMachine<M> {
+    fn drop(self) {
+        let Self {
+            kind: _,
+            machine: _machine,
+            list: _list,
+        } = self;
+    }
+}
+
+impl<M: TakesLists> OnMachine<M> {
+    pub fn new(alloc: Global, kind: Kind, machine: M) -> OnMachine<M> {
+        OnMachine {
+            kind,
+            machine,
             list: Vec::new(alloc),
-        })
+        }
     }
 
     fn adds(&mut self, line: &str) -> Option<bool> {
@@ -44,14 +65,14 @@ impl OnMachine {
 
     /// Whether so many turns of the list are taken.
     fn takes(&mut self, taken: u64) -> bool {
-        let count = run(&mut self.machine, self.list.as_slice());
+        let count = self.machine.run(self.list.as_slice());
         self.list.clear();
         count as u64 == taken
     }
 
     /// Whether the list stops so: all of it is taken, or so many turns and then this refusal.
     fn stops(&mut self, wanted: &str) -> Option<bool> {
-        let ended = run_all(&mut self.machine, self.list.as_slice());
+        let ended = self.machine.run_all(self.list.as_slice());
         self.list.clear();
         match ended {
             Ok(()) => Some(wanted == "all"),
@@ -67,13 +88,13 @@ fn is_so(stopped: Stopped, wanted: &str) -> Option<bool> {
     Some(is_refusal && stopped.taken as u64 == number(taken)?)
 }
 
-impl Stage for OnMachine {
+impl<M: TakesTurns<u128> + TakesLists> Stage for OnMachine<M> {
     fn kind(&self) -> Kind {
         self.kind
     }
 
     fn step(&mut self, turn: Turn<u128>) -> Result<(), Refusal> {
-        step(&mut self.machine, turn)
+        self.machine.step(turn)
     }
 
     fn words(&self) -> &[u64] {
@@ -85,15 +106,15 @@ impl Stage for OnMachine {
     }
 
     fn progress(&self, party: u32) -> Option<Progress> {
-        under_way(&self.machine, party)
+        self.machine.under_way(party)
     }
 
     fn is_going(&self, party: u32) -> bool {
-        is_going(&self.machine, party)
+        self.machine.is_going(party)
     }
 
     fn state(&self, party: u32) -> Option<&ContainerState<u128>> {
-        state(&self.machine, party)
+        self.machine.state(party)
     }
 
     fn row(&mut self, word: &str, rest: &str) -> Option<bool> {

@@ -9,7 +9,7 @@ use std::io::{ErrorKind, Read, Write};
 const MANY: usize = 1_000_000;
 
 /// A reader that gives at most so many bytes at a call.
-#[derive(Drop)]
+#[derive(Clone, Copy)]
 struct Source<'a> {
     rest: &'a [u8],
     at_most: usize,
@@ -30,11 +30,31 @@ impl<'a> Read for Source<'a> {
 }
 
 /// A writer that takes at most so many bytes at a call.
-#[derive(Drop)]
 struct Sink {
     written: Vec<u8>,
     at_most: usize,
     calls_left: usize,
+}
+
+impl Drop for Sink {
+    fn drop(self) {
+        let Self {
+            written: _written,
+            at_most: _,
+            calls_left: _,
+        } = self;
+    }
+}
+
+impl Sink {
+    fn into_written(self) -> Vec<u8> {
+        let Self {
+            written,
+            at_most: _,
+            calls_left: _,
+        } = self;
+        written
+    }
 }
 
 impl Write for Sink {
@@ -77,7 +97,7 @@ impl<'a> Pieces<'a> {
             calls_left: writes,
         };
         let ended = ran_in(self.alloc, self.alloc, &mut reader, &mut writer);
-        (ended, writer.written)
+        (ended, writer.into_written())
     }
 
     /// Whether the end of a run is told so, with this exit.

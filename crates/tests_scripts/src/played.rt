@@ -8,17 +8,27 @@ use machine::families::queues::QueueStart;
 use machine::turn::Turn;
 use schedule::bare::{line_of, line_of_refusal, read_command, text_of};
 use schedule::grammar::Command;
+use schedule::pen::Pen;
 use std::alloc::Global;
 
 /// The most turns of a call that says how it ends, and not when.
 const MANY: u64 = 1000;
 
 /// A stage, and the place of the next event to look at.
-#[derive(Drop)]
 pub struct Played<S> {
     pub alloc: Global,
     pub stage: S,
     next: usize,
+}
+
+impl<S: Drop> Drop for Played<S> {
+    fn drop(self) {
+        let Self {
+            alloc: _,
+            stage: _stage,
+            next: _,
+        } = self;
+    }
 }
 
 /// Whether the event of a call that ends has this line.
@@ -85,7 +95,11 @@ impl<S: Stage> Played<S> {
 
     /// Whether the party begins the call and takes so many turns.
     fn begins(&mut self, party: u32, call: &str, turns: u64) -> Option<bool> {
-        let line = format!(in self.alloc; "{party} begin {call}").ok()?;
+        let mut line = Pen::new(self.alloc);
+        line.number("", party as usize);
+        line.put(" begin ");
+        line.put(call);
+        let line = line.done().ok()?;
         Some(self.is_taken(line.as_str()) && self.goes(party, turns))
     }
 

@@ -27,7 +27,9 @@ fn adds_answers(text: &mut String, run: &str, before: usize) -> Option<()> {
             if ended > before {
                 if let Some(said) = line.strip_prefix(party) {
                     let name = party.split_once(' ').map_or("", |it| it.0);
-                    write!(text, "\n  {name} {said}").ok()?;
+                    for part in ["\n  ", name, " ", said] {
+                        text.push_str(part).ok()?;
+                    }
                 }
             }
         }

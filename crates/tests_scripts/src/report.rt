@@ -1,13 +1,24 @@
 //! What came of the blocks of a text.
+use schedule::pen::Pen;
 use std::alloc::{AllocError, Global};
 
 /// How many blocks and rows were played, how many of these came out otherwise, and which.
-#[derive(Drop)]
 pub struct Report {
     blocks: u64,
     rows: u64,
     wrong: u64,
     told: String,
+}
+
+impl Drop for Report {
+    fn drop(self) {
+        let Self {
+            blocks: _,
+            rows: _,
+            wrong: _,
+            told: _told,
+        } = self;
+    }
 }
 
 impl Report {
@@ -47,6 +58,13 @@ impl Report {
             wrong,
             told,
         } = self;
-        format!(in alloc; "{name}: {blocks} blocks, {rows} rows right, {wrong} wrong\n{told}")
+        let mut pen = Pen::new(alloc);
+        pen.put(name);
+        pen.large(": ", u128::from(blocks));
+        pen.large(" blocks, ", u128::from(rows));
+        pen.large(" rows right, ", u128::from(wrong));
+        pen.put(" wrong\n");
+        pen.put(&told);
+        pen.done()
     }
 }

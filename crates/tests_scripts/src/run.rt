@@ -24,12 +24,22 @@ fn is_explained_so(alloc: Global, input: &[u8], output: &[u8], told: &[u8], exit
 }
 
 /// What the rows say so far.
-#[derive(Drop)]
 pub struct Run {
     alloc: Global,
     input: Vec<u8>,
     output: Vec<u8>,
     told: Vec<u8>,
+}
+
+impl Drop for Run {
+    fn drop(self) {
+        let Self {
+            alloc: _,
+            input: _input,
+            output: _output,
+            told: _told,
+        } = self;
+    }
 }
 
 impl Run {
@@ -104,10 +114,18 @@ impl Rows for Run {
 }
 
 /// Texts that begin alike and print nothing: what is told of each. The exit is 2.
-#[derive(Drop)]
 pub struct Broken {
     alloc: Global,
     first: Vec<u8>,
+}
+
+impl Drop for Broken {
+    fn drop(self) {
+        let Self {
+            alloc: _,
+            first: _first,
+        } = self;
+    }
 }
 
 impl Broken {

@@ -1,4 +1,5 @@
 //! What rows say: numbers, lists of them, escaped bytes, and what stands in braces for a number of the round.
+use schedule::pen::Pen;
 use std::alloc::Global;
 
 /// A number of 64 bits: `max` is the greatest, `max-1` the one before it.
@@ -133,21 +134,22 @@ fn value(text: &str, round: u64) -> Option<u64> {
     }
 }
 
-fn adds_value(line: &mut String, part: &str, round: u64) -> Option<()> {
+fn adds_value(line: &mut Pen, part: &str, round: u64) -> Option<()> {
     let (text, rest) = part.split_once('}')?;
-    let value = value(text, round)?;
-    write!(line, "{value}{rest}").ok()
+    line.large("", u128::from(value(text, round)?));
+    line.put(rest);
+    Some(())
 }
 
 /// The line in this round: `{5000+3$}` is 5,000 and three times the round's number, which begins at 0.
 pub fn in_round(alloc: Global, line: &str, round: u64) -> Option<String> {
-    let mut text = String::new(alloc);
+    let mut text = Pen::new(alloc);
     for (at, part) in line.split('{').enumerate() {
         if at == 0 {
-            text.push_str(part).ok()?;
+            text.put(part);
         } else {
             adds_value(&mut text, part, round)?;
         }
     }
-    Some(text)
+    text.done().ok()
 }

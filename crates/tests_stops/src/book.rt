@@ -55,7 +55,7 @@ fn owned(owners: &[u64; 4], owner: u64) -> u64 {
     let mut mask = 0u64;
     for index in 0..4usize {
         let of = owners[index];
-        if of != 0 && (owner == 0 || of == owner) {
+        if (of != 0) & ((owner == 0) | (of == owner)) {
             mask |= 1 << index;
         }
     }
@@ -212,7 +212,6 @@ fn keeps<T: Copy>(list: &mut Vec<T>, one: T) -> bool {
     list.push(one).is_ok() || list.push(one).is_ok()
 }
 
-#[derive(Drop)]
 pub struct Book {
     pub capacity: u64,
     /// Events so far.
@@ -241,6 +240,31 @@ pub struct Book {
     /// The decision that the turn makes, if it does.
     pub said: Said,
     pub has_memory: bool,
+}
+
+impl Drop for Book {
+    fn drop(self) {
+        let Self {
+            capacity: _,
+            now: _,
+            filled: _,
+            held: _,
+            settled: _,
+            stands: _,
+            values: _,
+            is_locked: _,
+            dead: _,
+            is_well_formed: _,
+            ended: _,
+            spans: _,
+            states: _,
+            shown: _,
+            stays: _stays,
+            copies: _copies,
+            said: _,
+            has_memory: _,
+        } = self;
+    }
 }
 
 impl Book {
@@ -289,9 +313,9 @@ impl Book {
     fn joins(&mut self, call: &Call, gives_back: bool) -> bool {
         let mut is_alone = true;
         for span in &mut self.spans {
-            let is_there = span.call.place == call.place && span.call.owner == call.owner;
-            let is_replace = span.is_open && span.call.name == Name::Replace;
-            span.is_well_formed &= !(gives_back && is_replace && is_there);
+            let is_there = (span.call.place == call.place) & (span.call.owner == call.owner);
+            let is_replace = span.is_open & (span.call.name == Name::Replace);
+            span.is_well_formed &= !(gives_back & is_replace & is_there);
             span.is_alone &= !span.is_open;
             is_alone &= !span.is_open;
         }
@@ -300,11 +324,11 @@ impl Book {
 
     fn begin(&mut self, told: &Told) {
         let call = told.call;
-        let gives_back = call.name == Name::Remove || call.name == Name::Replace;
+        let gives_back = (call.name == Name::Remove) | (call.name == Name::Replace);
         let is_settled = at(&self.settled, call.place) == call.owner;
         let mut span = span_of(call, self.now);
         span.is_alone = self.joins(&call, gives_back);
-        span.is_well_formed = is_settled || !gives_back;
+        span.is_well_formed = is_settled | !gives_back;
         if call.name == Name::Remove && is_settled {
             put(&mut self.settled, call.place, 0);
         }
@@ -330,7 +354,7 @@ impl Book {
         put_value(&mut self.values, index, 0);
         let now = self.now;
         for stay in &mut self.stays {
-            if stay.index == index && stay.hidden == u64::MAX {
+            if (stay.index == index) & (stay.hidden == u64::MAX) {
                 stay.hidden = now;
             }
         }
@@ -340,7 +364,7 @@ impl Book {
     fn settle(&mut self, told: &Told) {
         let now = self.now;
         for stay in &mut self.stays {
-            if stay.party == told.party && stay.settled == u64::MAX {
+            if (stay.party == told.party) & (stay.settled == u64::MAX) {
                 stay.settled = now;
             }
         }

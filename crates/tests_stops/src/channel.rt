@@ -28,10 +28,18 @@ pub fn put(numbers: &mut [u64; 8], place: u64, number: u64) {
 }
 
 /// Some indices in an order, at most eight.
-#[derive(Drop)]
 pub struct Line {
     pub indices: [u64; 8],
     pub length: u64,
+}
+
+impl Drop for Line {
+    fn drop(self) {
+        let Self {
+            indices: _,
+            length: _,
+        } = self;
+    }
 }
 
 impl Line {
@@ -116,7 +124,6 @@ fn index_of(told: &Told) -> u64 {
     }
 }
 
-#[derive(Drop)]
 pub struct Channel {
     pub slots: u64,
     pub queue: u64,
@@ -141,6 +148,28 @@ pub struct Channel {
     pub ended: [u64; ENDINGS],
     pub handed_out: u64,
     pub taken_back: u64,
+}
+
+impl Drop for Channel {
+    fn drop(self) {
+        let Self {
+            slots: _,
+            queue: _,
+            parties: _,
+            spots: _,
+            spans: _,
+            receiver: _,
+            dead: _,
+            sent: _sent,
+            returned: _returned,
+            list: _list,
+            now: _,
+            words: _,
+            ended: _,
+            handed_out: _,
+            taken_back: _,
+        } = self;
+    }
 }
 
 impl Channel {

@@ -3,9 +3,9 @@
 //! that are made whole on it first, and pairs of calls, each with its turns where no other comes between, the most steps
 //! that it takes, and how many more for each turn back. These bounds are those of docs/FIELD.md.
 use crate::judged::{Judged, Place, Wrong};
+use crate::made::{Machines, Makes, Wanted, made};
 use crate::replay::{Replay, Right, want};
 use crate::told::told_of;
-use machine::Machine;
 use machine::party::Progress;
 use machine::turn::{Kind, Refusal, Turn};
 use schedule::bare::{self, TakesTurns};
@@ -18,14 +18,6 @@ pub fn step<M: TakesTurns<u128>>(machine: &mut M, turn: Turn<u128>) -> bool {
     match machine.step(turn) {
         Err(Refusal::NoMemory) => machine.step(again).is_ok(),
         ended => ended.is_ok(),
-    }
-}
-
-/// A new machine, made once more where memory is refused to it, or None.
-fn made(alloc: Global, setup: Setup) -> Option<Machine<u128>> {
-    match bare::made(alloc, setup) {
-        Some(machine) => Some(machine),
-        None => bare::made(alloc, setup),
     }
 }
 
@@ -225,15 +217,15 @@ fn plays<M: TakesTurns<u128>>(
     judged(machine, row, one, other)
 }
 
-fn run(
-    alloc: Global,
+fn run<K: Makes>(
+    machines: &K,
     row: &Row<'_>,
     one: &Cut<'_>,
     other: &Cut<'_>,
     turns: u64,
     stops: bool,
 ) -> Right {
-    match made(alloc, row.setup) {
+    match made(machines) {
         Some(mut machine) => plays(&mut machine, row, one, other, turns, stops),
         None => Err("a machine is made where there is memory"),
     }
@@ -247,10 +239,14 @@ fn cuts(
     other: &Cut<'_>,
     judged: &mut Judged,
 ) -> Result<(), Wrong> {
+    let machines = Machines {
+        alloc,
+        wanted: Wanted::Of(row.setup),
+    };
     for turns in 0..one.turns.saturating_add(1) {
         for stops in [true, false] {
             judged.cuts = judged.cuts.wrapping_add(1);
-            if let Err(promise) = run(alloc, row, one, other, turns, stops) {
+            if let Err(promise) = run(&machines, row, one, other, turns, stops) {
                 let place = Place::Cut(judged.schedules, one.party, turns, stops);
                 return Err(Wrong { place, promise });
             }

@@ -3,13 +3,12 @@ use crate::book::ends::ENDINGS;
 use crate::book::{Book, at, put};
 use crate::cut::step;
 use crate::judged::{Judged, Place, Wrong};
+use crate::made::{Machines, Makes, Wanted, made};
 use crate::replay::{Right, want};
 use crate::told::{self, ANY, Call, Name, Said, container_turn};
-use machine::Machine;
-use machine::turn::{Kind, Turn};
-use schedule::bare::{self, TakesTurns};
+use machine::turn::Turn;
+use schedule::bare::TakesTurns;
 use std::alloc::Global;
-use steps::enums::UniqueIndexCreationError;
 
 /// How many schedules are drawn at each of four capacities, and what their seeds are made of.
 const SCHEDULES: u64 = 2_500;
@@ -17,9 +16,14 @@ const SCHEDULES: u64 = 2_500;
 pub const SEED: u64 = 0x9e37_79b9_7f4a_7c15;
 
 /// Numbers by xorshift: the same ones from the same seed.
-#[derive(Drop)]
 pub struct Draws {
     pub state: u64,
+}
+
+impl Drop for Draws {
+    fn drop(self) {
+        let Self { state: _ } = self;
+    }
 }
 
 impl Draws {
@@ -65,7 +69,6 @@ impl Draws {
 }
 
 /// A schedule that is being drawn.
-#[derive(Drop)]
 struct Run<M> {
     machine: M,
     book: Book,
@@ -76,6 +79,19 @@ struct Run<M> {
     turns: u64,
 }
 
+impl<M: Drop> Drop for Run<M> {
+    fn drop(self) {
+        let Self {
+            machine: _machine,
+            book: _book,
+            draws: _draws,
+            parties: _,
+            stopped: _,
+            turns: _,
+        } = self;
+    }
+}
+
 /// An index and its owner.
 type Handle = (u64, u64);
 
@@ -84,7 +100,7 @@ fn settled(book: &Book, first: u64) -> Option<Handle> {
     for next in 0..4 {
         let index = first.wrapping_add(next) % 4;
         let owner = at(&book.settled, index);
-        if owner != 0 && !book.is_replaced(index) {
+        if (owner != 0) & !book.is_replaced(index) {
             return Some((index, owner));
         }
     }
@@ -127,10 +143,10 @@ fn drawn_name(draws: &mut Draws) -> Name {
 
 /// A call of this name, with what it names.
 fn drawn_call(draws: &mut Draws, book: &Book, name: Name) -> Call {
-    let has_handle = name == Name::Remove || name == Name::Replace;
-    let has_value = name == Name::Add || name == Name::Replace;
-    let has_owner = name == Name::Add || name == Name::FindOf || name == Name::RecoverOf;
-    let has_mode = name == Name::Remove || name == Name::RecoverOf;
+    let has_handle = (name == Name::Remove) | (name == Name::Replace);
+    let has_value = (name == Name::Add) | (name == Name::Replace);
+    let has_owner = (name == Name::Add) | (name == Name::FindOf) | (name == Name::RecoverOf);
+    let has_mode = (name == Name::Remove) | (name == Name::RecoverOf);
     let (place, of_handle) = if has_handle {
         handle(draws, book)
     } else {
@@ -149,6 +165,20 @@ fn drawn_call(draws: &mut Draws, book: &Book, name: Name) -> Call {
 }
 
 impl<M: TakesTurns<u128>> Run<M> {
+    /// What a turn of this party has left.
+    fn judged(&mut self, party: u32, is_allowed: bool) -> Right {
+        self.book.read(&self.machine, party)?;
+        want(
+            !is_allowed | self.book.heeds(party),
+            "a no ends a find, and a yes is told",
+        )?;
+        want(
+            self.book.parties_right(&self.machine, self.parties),
+            "calls and states of the parties are as the events say, and within their steps",
+        )?;
+        self.book.words_right(self.machine.words())
+    }
+
     /// One turn, and what it has left.
     fn turn(&mut self, party: u32, turn: Turn<u128>, is_allowed: bool, said: Said) -> Right {
         self.turns = self.turns.wrapping_add(1);
@@ -159,14 +189,7 @@ impl<M: TakesTurns<u128>> Run<M> {
             step(&mut self.machine, turn) == is_allowed,
             "a turn is refused just where an owner is dead, or lives",
         )?;
-        self.book.read(&self.machine, party)?;
-        let heeds = !is_allowed || self.book.heeds(party);
-        want(heeds, "a no ends a find, and a yes is told")?;
-        want(
-            self.book.parties_right(&self.machine, self.parties),
-            "calls and states of the parties are as the events say, and within their steps",
-        )?;
-        self.book.words_right(self.machine.words())
+        self.judged(party, is_allowed)
     }
 
     /// An owner dies.
@@ -249,15 +272,6 @@ impl<M: TakesTurns<u128>> Run<M> {
     }
 }
 
-/// A new container, or None.
-fn made(
-    alloc: Global,
-    capacity: u64,
-    parties: u32,
-) -> Result<Machine<u128>, UniqueIndexCreationError> {
-    bare::made_of(alloc, Kind::Container, capacity as usize, parties)
-}
-
 /// How many parties a schedule has.
 fn drawn_parties(draws: &mut Draws) -> u32 {
     match draws.below(3) {
@@ -268,11 +282,20 @@ fn drawn_parties(draws: &mut Draws) -> u32 {
 }
 
 /// How often each ending came, and how many runs were well-formed, and ended locked.
-#[derive(Drop)]
 struct Tally {
     ended: [u64; ENDINGS],
     well_formed: u64,
     locked: u64,
+}
+
+impl Drop for Tally {
+    fn drop(self) {
+        let Self {
+            ended: _,
+            well_formed: _,
+            locked: _,
+        } = self;
+    }
 }
 
 impl Tally {
@@ -318,7 +341,21 @@ fn ran<M: TakesTurns<u128> + Drop>(
     Ok(())
 }
 
-/// The schedule of this seed. Its machine is made once more where memory is refused to it.
+fn ran_on<K: Makes>(
+    machines: &K,
+    book: Book,
+    draws: Draws,
+    parties: u32,
+    tally: &mut Tally,
+    judged: &mut Judged,
+) -> Right {
+    match made(machines) {
+        Some(machine) => ran(machine, book, draws, parties, tally, judged),
+        None => Err("a machine is made where there is memory"),
+    }
+}
+
+/// The schedule of this seed.
 fn schedule(
     alloc: Global,
     capacity: u64,
@@ -328,14 +365,12 @@ fn schedule(
 ) -> Right {
     let mut draws = Draws { state: seed };
     let parties = drawn_parties(&mut draws);
-    let machine = made(alloc, capacity, parties).or_else(|_| made(alloc, capacity, parties));
-    match machine {
-        Ok(machine) => {
-            let book = Book::new(alloc, capacity);
-            ran(machine, book, draws, parties, tally, judged)
-        }
-        Err(_) => Err("a machine is made where there is memory"),
-    }
+    let machines = Machines {
+        alloc,
+        wanted: Wanted::Container(capacity, parties),
+    };
+    let book = Book::new(alloc, capacity);
+    ran_on(&machines, book, draws, parties, tally, judged)
 }
 
 /// All schedules of this capacity, up to the first that breaks a promise.

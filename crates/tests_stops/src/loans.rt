@@ -5,18 +5,17 @@ use crate::channel::moves::{WITH, spot};
 use crate::channel::{Channel, at};
 use crate::drawn::{Draws, SEED};
 use crate::judged::{Judged, Place, Wrong};
+use crate::made::{Machines, Makes, Wanted, made};
 use crate::replay::{Right, want};
 use crate::told::{self, ANY, Call, Name, Said, loan_turn};
-use machine::Machine;
 use machine::turn::{Refusal, Turn};
-use schedule::bare::{self, TakesTurns};
+use schedule::bare::TakesTurns;
 use std::alloc::Global;
 
 /// How many schedules are drawn for each of five channels.
 const SCHEDULES: u64 = 2_000;
 
 /// A schedule that is being drawn.
-#[derive(Drop)]
 struct Run<M> {
     machine: M,
     channel: Channel,
@@ -28,8 +27,20 @@ struct Run<M> {
     turns: u64,
 }
 
+impl<M: Drop> Drop for Run<M> {
+    fn drop(self) {
+        let Self {
+            machine: _machine,
+            channel: _channel,
+            draws: _draws,
+            refused: _,
+            leaves: _,
+            turns: _,
+        } = self;
+    }
+}
+
 /// How often each refusal came, and each answer.
-#[derive(Drop)]
 struct Tally {
     refused: [u64; 8],
     ended: [u64; ENDINGS],
@@ -37,6 +48,18 @@ struct Tally {
     receivers: u64,
     handed_out: u64,
     taken_back: u64,
+}
+
+impl Drop for Tally {
+    fn drop(self) {
+        let Self {
+            refused: _,
+            ended: _,
+            receivers: _,
+            handed_out: _,
+            taken_back: _,
+        } = self;
+    }
 }
 
 /// What a sender begins, and a receiver.
@@ -228,18 +251,6 @@ impl<M: TakesTurns<u128>> Run<M> {
     }
 }
 
-/// A new channel, made once more where memory is refused to it, or None.
-fn made(alloc: Global, slots: u64, queue: u64, parties: u32) -> Option<Machine<u128>> {
-    let (slots, queue) = (slots as usize, queue as usize);
-    match bare::made_loan(alloc, slots, queue, parties) {
-        Ok(machine) => Some(machine),
-        Err(_) => match bare::made_loan(alloc, slots, queue, parties) {
-            Ok(machine) => Some(machine),
-            Err(_) => None,
-        },
-    }
-}
-
 impl Tally {
     fn take<M>(&mut self, run: &Run<M>) {
         for number in 0..8usize {
@@ -300,6 +311,20 @@ fn ran<M: TakesTurns<u128> + Drop>(
     Ok(())
 }
 
+fn ran_on<K: Makes>(
+    machines: &K,
+    channel: Channel,
+    draws: Draws,
+    leaves: Name,
+    tally: &mut Tally,
+    judged: &mut Judged,
+) -> Right {
+    match made(machines) {
+        Some(machine) => ran(machine, channel, draws, leaves, tally, judged),
+        None => Err("a channel is made where there is memory"),
+    }
+}
+
 /// The schedule of this seed.
 fn schedule(
     alloc: Global,
@@ -312,13 +337,12 @@ fn schedule(
     let mut draws = Draws { state: seed };
     let parties = draws.below(4).wrapping_add(2);
     let leaves = one_of(&mut draws, &LEAVES);
-    match made(alloc, slots, queue, party_of(parties)) {
-        Some(machine) => {
-            let channel = Channel::new(slots, queue, parties);
-            ran(machine, channel, draws, leaves, tally, judged)
-        }
-        None => Err("a channel is made where there is memory"),
-    }
+    let machines = Machines {
+        alloc,
+        wanted: Wanted::Channel(slots, queue, party_of(parties)),
+    };
+    let channel = Channel::new(slots, queue, parties);
+    ran_on(&machines, channel, draws, leaves, tally, judged)
 }
 
 /// All schedules of a channel of so many slots with a queue of this capacity, up to the first that breaks a promise.

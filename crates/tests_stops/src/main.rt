@@ -9,10 +9,12 @@ mod cut;
 mod drawn;
 mod judged;
 mod loans;
+mod made;
 mod replay;
 mod told;
 
 use judged::{Judged, Place, Wrong};
+use schedule::pen::Pen;
 use std::alloc::{Alloc, AllocError, Global};
 use std::env::{self, Env};
 use std::io::{self, Read};
@@ -60,6 +62,35 @@ fn ran(alloc: Global, part: Part, rows: &str, judged: &mut Judged) -> Result<(),
     }
 }
 
+fn put_place(pen: &mut Pen, place: Place) {
+    match place {
+        Place::Seed(seed) => pen.large(": seed ", u128::from(seed)),
+        Place::All => {}
+        Place::Row(pairs) => {
+            pen.large(": behind ", u128::from(pairs));
+            pen.put(" pairs");
+        }
+        Place::Cut(pair, party, turns, stops) => {
+            pen.large(": pair ", u128::from(pair));
+            pen.number(": party ", party as usize);
+            pen.put(if stops { " stops" } else { " goes on" });
+            pen.large(" after ", u128::from(turns));
+            pen.put(" turns");
+        }
+    }
+}
+
+fn put_judged(pen: &mut Pen, judged: &Judged) {
+    pen.large(": ", u128::from(judged.schedules));
+    if judged.cuts > 0 {
+        pen.large(" pairs, ", u128::from(judged.cuts));
+        pen.put(" cuts");
+    } else {
+        pen.large(" schedules, ", u128::from(judged.turns));
+        pen.put(" turns");
+    }
+}
+
 /// The line of a part, which says that all is as promised, or where it is not.
 fn line_of(
     alloc: Global,
@@ -67,29 +98,18 @@ fn line_of(
     judged: &Judged,
     ended: Result<(), Wrong>,
 ) -> Result<String, AllocError> {
-    let Judged {
-        schedules,
-        turns,
-        cuts,
-    } = *judged;
-    let Err(Wrong { place, promise }) = ended else {
-        return if cuts > 0 {
-            format!(in alloc; "{name}: {schedules} pairs, {cuts} cuts\n")
-        } else {
-            format!(in alloc; "{name}: {schedules} schedules, {turns} turns\n")
-        };
-    };
-    match place {
-        Place::Seed(seed) => format!(in alloc; "{name}: seed {seed}: not so: {promise}\n"),
-        Place::All => format!(in alloc; "{name}: not so: {promise}\n"),
-        Place::Row(pairs) => format!(in alloc; "{name}: behind {pairs} pairs: not so: {promise}\n"),
-        Place::Cut(pair, party, turns, stops) => {
-            let then = if stops { "stops" } else { "goes on" };
-            format!(in alloc;
-                "{name}: pair {pair}: party {party} {then} after {turns} turns: not so: {promise}\n"
-            )
+    let mut pen = Pen::new(alloc);
+    pen.put(name);
+    match ended {
+        Ok(()) => put_judged(&mut pen, judged),
+        Err(Wrong { place, promise }) => {
+            put_place(&mut pen, place);
+            pen.put(": not so: ");
+            pen.put(promise);
         }
     }
+    pen.put("\n");
+    pen.done()
 }
 
 fn main(rt: HostRuntime) -> io::Result<ExitCode> {

@@ -185,7 +185,6 @@ fn put_value(values: &mut [u128; 16], place: u64, value: u128) {
 }
 
 /// A structure as the events tell it.
-#[derive(Drop)]
 pub struct Replay {
     pub kind: Kind,
     pub capacity: u64,
@@ -211,6 +210,28 @@ pub struct Replay {
     pub visible: u64,
     /// The owner who is dead, or `ANY`.
     pub dead: u64,
+}
+
+impl Drop for Replay {
+    fn drop(self) {
+        let Self {
+            kind: _,
+            capacity: _,
+            spans: _,
+            stands: _,
+            held: _,
+            is_locked: _,
+            list: _list,
+            waits: _waits,
+            value: _,
+            wanted: _,
+            wanted_value: _,
+            numbers: _,
+            values: _,
+            visible: _,
+            dead: _,
+        } = self;
+    }
 }
 
 impl Replay {

@@ -156,11 +156,19 @@ fn between<R: Threads + Wait + Clock + Sync, P: Places + Send>(
 }
 
 /// One who uses a bit set.
-#[derive(Drop)]
 struct BitUser<'a> {
     set: &'a BitSet,
     pass: bit_set::Pass,
     ghost of: { IsPassOf set.now pass },
+}
+
+impl<'a> Drop for BitUser<'a> {
+    fn drop(self) {
+        let Self {
+            set: _,
+            pass: _pass,
+        } = self;
+    }
 }
 
 impl<'a> BitUser<'a> {
@@ -208,11 +216,19 @@ impl<'a> Places for BitUser<'a> {
 }
 
 /// One who uses a counting bit set.
-#[derive(Drop)]
 struct CountUser<'a> {
     set: &'a CountingBitSet,
     pass: counting_bit_set::Pass,
     ghost of: { IsCountsPassOf set.now pass },
+}
+
+impl<'a> Drop for CountUser<'a> {
+    fn drop(self) {
+        let Self {
+            set: _,
+            pass: _pass,
+        } = self;
+    }
 }
 
 impl<'a> Places for CountUser<'a> {

@@ -130,8 +130,7 @@ fn turns_are_seen<R: Wait + Threads + Clock + Sync>(
     rt: &R,
     user: &mut PairUser<'_>,
 ) -> Option<bool> {
-    let one = another_turns(user, 1, TURNS)?;
-    let other = another_turns(user, 2, TURNS)?;
+    let (one, other) = another_turns(user, 1, TURNS).zip(another_turns(user, 2, TURNS))?;
     seen_beside(rt, user, one, other)
 }
 
@@ -140,13 +139,8 @@ fn changes_are_seen<R: Wait + Threads + Clock + Sync>(
     rt: &R,
     user: &mut PairUser<'_>,
 ) -> Option<bool> {
-    let one = Changes {
-        user: user.another(1)?,
-    };
-    let other = Changes {
-        user: user.another(2)?,
-    };
-    seen_beside(rt, user, one, other)
+    let (one, other) = user.another(1).zip(user.another(2))?;
+    seen_beside(rt, user, Changes { user: one }, Changes { user: other })
 }
 
 /// What is done with a container.
@@ -170,28 +164,23 @@ fn owners_beside<R: Wait + Threads + Clock + Sync>(
     rt: &R,
     user: &mut PairUser<'_>,
 ) -> Option<bool> {
-    user.add(rt, 40)?;
-    user.add(rt, 2)?;
-    let one = Changes {
-        user: user.another(1)?,
-    };
-    let other = Changes {
-        user: user.another(2)?,
-    };
-    let finds = Finds {
-        user: user.another(1)?,
-    };
-    let recovers = Recovers {
-        user: user.of(user.owner)?,
-    };
-    let well = four_run(rt, one, other, finds, recovers);
-    Some(well && user.number(rt) == 0)
+    let are_added = user.add(rt, 40).is_some() & user.add(rt, 2).is_some();
+    let changing = user.another(1).zip(user.another(2));
+    let asking = user.another(1).zip(user.of(user.owner));
+    let ((one, other), (finds, recovers)) = changing.zip(asking)?;
+    let well = four_run(
+        rt,
+        Changes { user: one },
+        Changes { user: other },
+        Finds { user: finds },
+        Recovers { user: recovers },
+    );
+    Some(are_added && well && user.number(rt) == 0)
 }
 
 /// Whether two of one owner find each pair that they add. None where there are no further passes.
 fn two_of_one<R: Wait + Threads + Clock + Sync>(rt: &R, user: &mut PairUser<'_>) -> Option<bool> {
-    let one = another_turns(user, 1, TURNS)?;
-    let other = another_turns(user, 1, TURNS)?;
+    let (one, other) = another_turns(user, 1, TURNS).zip(another_turns(user, 1, TURNS))?;
     Some(two_run(rt, one, other))
 }
 

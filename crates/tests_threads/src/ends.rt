@@ -83,11 +83,19 @@ impl<'a> Takes for overflowing::Consumer<'a> {
 }
 
 /// One who has a pass of an index queue.
-#[derive(Drop)]
 pub struct QueueLength<'a> {
     queue: &'a index_queue::IndexQueue,
     pass: index_queue::Pass,
     ghost of: { IsPassOf queue.now pass },
+}
+
+impl<'a> Drop for QueueLength<'a> {
+    fn drop(self) {
+        let Self {
+            queue: _,
+            pass: _pass,
+        } = self;
+    }
 }
 
 impl<'a> QueueLength<'a> {

@@ -160,9 +160,26 @@ fn ends_early<R: Wait + Threads + Clock + Sync>(
     well & reclaims(rt, sends)
 }
 
-/// Makes a channel of so many slots and places in each queue, through which all loans pass, or of which the receiver ends
-/// early: whether it went well and nothing waits to be taken back in the end, and how many indices are borrowed then.
-/// None where there are no further passes.
+/// All loans pass, or the receiver ends early: whether it went well and nothing waits to be taken back in the end, and how many
+/// indices are borrowed then. None where the role is not to be had.
+fn passed<R: Wait + Threads + Clock + Sync>(
+    rt: &R,
+    sends: Sends<'_>,
+    receives: Receives<'_>,
+    is_early: bool,
+) -> Option<(bool, usize)> {
+    let mut sends = sends;
+    let well = if is_early {
+        ends_early(rt, &mut sends, receives)
+    } else {
+        let sends = SendsAll { sends: &mut sends };
+        two_run(rt, sends, ReceivesAll { receives })
+    };
+    let (borrowed, none) = sends.finish()?;
+    Some((well && none, borrowed))
+}
+
+/// The same through a new channel of so many slots and places in each queue. None where there are no further passes.
 fn passes<R: Wait + Threads + Clock + Sync>(
     rt: &R,
     alloc: Global,
@@ -178,20 +195,10 @@ fn passes<R: Wait + Threads + Clock + Sync>(
         returns,
     } = Channel::new(alloc, number, number, number)?;
     let ends = both(alloc, &set, slots, &submission, sends, &completion, returns);
-    let Some((mut sends, receives)) = ends else {
+    let Some((sends, receives)) = ends else {
         return Ok(None);
     };
-    let well = if is_early {
-        ends_early(rt, &mut sends, receives)
-    } else {
-        let sends = SendsAll { sends: &mut sends };
-        two_run(rt, sends, ReceivesAll { receives })
-    };
-    Ok(
-        sends
-            .finish()
-            .map(|(borrowed, none)| (well && none, borrowed)),
-    )
+    Ok(passed(rt, sends, receives, is_early))
 }
 
 /// Four slots and a queue as long, which never overflows.

@@ -99,21 +99,32 @@ fn are_all(back: &[u64], came: &[u64], left: &[u64]) -> bool {
     (handed, popped, waiting) == (back.len(), came.len(), left.len())
 }
 
-/// Whether both tasks on a queue go well, each in a thread. None where the roles are not to be had.
-fn beside<R: Wait + Threads + Clock + Sync>(
-    rt: &R,
-    queue: &SafelyOverflowingIndexQueue,
-    pass: &mut Pass,
-    back: &mut Vec<u64>,
-    came: &mut Vec<u64>,
-) -> Option<bool>
+/// The guard of those who push, by a pass that is split off.
+fn producer<'a>(queue: &'a SafelyOverflowingIndexQueue, pass: &mut Pass) -> Option<Producer<'a>>
     requires { IsPassOf queue.now pass.old }
     ensures { queue_of pass.new ≡ queue_of pass.old }
 {
-    let first = pass.split()?;
-    let second = pass.split()?;
-    let producer = queue.acquire_producer(first).ok()?;
-    let consumer = queue.acquire_consumer(second).ok()?;
+    let pass = pass.split()?;
+    queue.acquire_producer(pass).ok()
+}
+
+/// The guard of those who pop.
+fn consumer<'a>(queue: &'a SafelyOverflowingIndexQueue, pass: &mut Pass) -> Option<Consumer<'a>>
+    requires { IsPassOf queue.now pass.old }
+    ensures { queue_of pass.new ≡ queue_of pass.old }
+{
+    let pass = pass.split()?;
+    queue.acquire_consumer(pass).ok()
+}
+
+/// Whether both tasks on a queue go well, each in a thread. None where the roles are not to be had.
+fn beside<R: Wait + Threads + Clock + Sync>(
+    rt: &R,
+    ends: Option<(Producer<'_>, Consumer<'_>)>,
+    back: &mut Vec<u64>,
+    came: &mut Vec<u64>,
+) -> Option<bool> {
+    let (producer, consumer) = ends?;
     let overflows = Overflows { producer, back };
     let drains = Drains { consumer, came };
     Some(two_run(rt, overflows, drains))
@@ -142,7 +153,8 @@ fn numbers_come_or_are_handed_back(rt: HostRuntime) -> Result<(), Fail> {
     let mut came = Vec::with_capacity(rt.alloc(), 50_000)?;
     let mut left = Vec::with_capacity(rt.alloc(), 2)?;
     let (queue, mut pass) = SafelyOverflowingIndexQueue::new(rt.alloc(), 2)?;
-    let mut well = beside(&rt, &queue, &mut pass, &mut back, &mut came) == Some(true);
+    let ends = producer(&queue, &mut pass).zip(consumer(&queue, &mut pass));
+    let mut well = beside(&rt, ends, &mut back, &mut came) == Some(true);
     well &= is_left(queue, pass, &mut left);
     assert!(rt; well && are_all(back.as_slice(), came.as_slice(), left.as_slice()));
     Ok(())
@@ -155,9 +167,8 @@ fn logs<R: Wait + Threads + Clock + Sync>(
     rounds: &mut Rounds,
 ) -> Result<(), Fail> {
     let (queue, mut pass) = SafelyOverflowingIndexQueue::new(alloc, 3)?;
-    let other = pass.split().ok_or("no further pass")?;
-    let producer = queue.acquire_producer(pass).map_err(|_| "taken")?;
-    let consumer = queue.acquire_consumer(other).map_err(|_| "taken")?;
+    let ends = producer(&queue, &mut pass).zip(consumer(&queue, &mut pass));
+    let (producer, consumer) = ends.ok_or("not to be had")?;
     runs(rt, alloc, 3, producer, consumer, Nobody, rounds)
 }
 

@@ -63,9 +63,8 @@ fn recovers_beside<R: Wait + Threads + Clock + Sync>(
     user: &mut OwnerUser<'_>,
     dead: OwnerId,
 ) -> Option<bool> {
-    let first = another_turns(user, 1, TURNS)?;
-    let second = another_turns(user, 2, TURNS)?;
-    let user = user.another(4)?;
+    let turns = another_turns(user, 1, TURNS).zip(another_turns(user, 2, TURNS));
+    let ((first, second), user) = turns.zip(user.another(4))?;
     Some(three_run(rt, first, second, Recovers { user, dead }))
 }
 

@@ -17,12 +17,21 @@ use std::sync::Wait;
 pub type Pair = (u64, u64);
 
 /// An owner who uses a container.
-#[derive(Drop)]
 pub struct PairUser<'a> {
     pub container: &'a Container<Pair>,
     pub owner: OwnerId,
     pub pass: Pass<Pair>,
     ghost of: { IsPassOf container.now pass },
+}
+
+impl<'a> Drop for PairUser<'a> {
+    fn drop(self) {
+        let Self {
+            container: _,
+            owner: _,
+            pass: _pass,
+        } = self;
+    }
 }
 
 /// Whether each pair that a state shows has equal halves.

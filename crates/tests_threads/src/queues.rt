@@ -2,7 +2,7 @@
 ghost use Rattle.lock_free.specs.Queues.Rings.{inner, IsPassOf};
 
 use crate::bounds::are_within;
-use crate::ends::{Gives, GivesAll, QueueLength, TakesAll, next};
+use crate::ends::{Gives, GivesAll, QueueLength, Takes, TakesAll, next};
 use crate::limit::{Limit, SECONDS};
 use crate::logged::{OVERLAPS, ROUNDS, Rounds, runs};
 use crate::tasks::{Task, two_run};
@@ -15,74 +15,83 @@ use std::test::Fail;
 use std::thread::Threads;
 use std::time::Clock;
 
+/// A value of two numbers, which are equal.
+type Pair = (u64, u64);
+
 /// Both guards of a queue.
 pub fn ends<'a>(queue: &'a IndexQueue, pass: Pass) -> Option<(Producer<'a>, Consumer<'a>)>
     requires { IsPassOf queue.now pass }
 {
     let mut pass = pass;
     let other = pass.split()?;
-    let producer = queue.acquire_producer(pass).ok()?;
-    let consumer = queue.acquire_consumer(other).ok()?;
+    let Ok(producer) = queue.acquire_producer(pass) else {
+        return None;
+    };
+    let Ok(consumer) = queue.acquire_consumer(other) else {
+        return None;
+    };
+    Some((producer, consumer))
+}
+
+/// Both guards of a queue of pairs.
+fn pair_ends<'a>(
+    queue: &'a Queue<Pair, 4>,
+    pass: queue::Pass<Pair>,
+) -> Option<(queue::Producer<'a, Pair>, queue::Consumer<'a, Pair>)>
+    requires { IsPassOf (inner queue.now) pass }
+{
+    let mut pass = pass;
+    let other = pass.split()?;
+    let Ok(producer) = queue.acquire_producer(pass) else {
+        return None;
+    };
+    let Ok(consumer) = queue.acquire_consumer(other) else {
+        return None;
+    };
     Some((producer, consumer))
 }
 
 /// How many numbers come.
 const NUMBERS: u64 = 20_000;
 
-/// Whether all numbers come in order from one thread to another. None where the roles are not to be had.
-fn numbers_come<R: Wait + Threads + Clock + Sync>(
+/// Whether all numbers come in order from one thread to another.
+fn all_come<R: Wait + Threads + Clock + Sync, G: Gives + Send, T: Takes + Send>(
     rt: &R,
-    queue: &IndexQueue,
-    pass: Pass,
-) -> Option<bool>
-    requires { IsPassOf queue.now pass }
-{
-    let (producer, consumer) = ends(queue, pass)?;
+    gives: G,
+    takes: T,
+) -> bool {
     let gives = GivesAll {
-        end: producer,
+        end: gives,
         from: 0,
         to: NUMBERS,
     };
     let takes = TakesAll {
-        end: consumer,
+        end: takes,
         number: NUMBERS,
     };
-    Some(two_run(rt, gives, takes))
+    two_run(rt, gives, takes)
 }
 
-/// The same of pairs.
-fn pairs_come<R: Wait + Threads + Clock + Sync>(
+/// The same of both ends. None where the roles were not to be had.
+fn come<R: Wait + Threads + Clock + Sync, G: Gives + Send, T: Takes + Send>(
     rt: &R,
-    queue: &Queue<(u64, u64), 4>,
-    pass: queue::Pass<(u64, u64)>,
-) -> Option<bool>
-    requires { IsPassOf (inner queue.now) pass }
-{
-    let mut pass = pass;
-    let other = pass.split()?;
-    let gives = GivesAll {
-        end: queue.acquire_producer(pass).ok()?,
-        from: 0,
-        to: NUMBERS,
-    };
-    let takes = TakesAll {
-        end: queue.acquire_consumer(other).ok()?,
-        number: NUMBERS,
-    };
-    Some(two_run(rt, gives, takes))
+    ends: Option<(G, T)>,
+) -> Option<bool> {
+    let (gives, takes) = ends?;
+    Some(all_come(rt, gives, takes))
 }
 
 #[test]
 fn many_numbers(rt: HostRuntime) -> Result<(), Fail> {
     let (queue, pass) = FixedSizeIndexQueue::<8>::new(rt.alloc())?;
-    assert!(rt; numbers_come(&rt, &queue, pass) == Some(true));
+    assert!(rt; come(&rt, ends(&queue, pass)) == Some(true));
     Ok(())
 }
 
 #[test]
 fn many_pairs(rt: HostRuntime) -> Result<(), Fail> {
-    let (queue, pass) = Queue::<(u64, u64), 4>::new(rt.alloc())?;
-    assert!(rt; pairs_come(&rt, &queue, pass) == Some(true));
+    let (queue, pass) = Queue::<Pair, 4>::new(rt.alloc())?;
+    assert!(rt; come(&rt, pair_ends(&queue, pass)) == Some(true));
     Ok(())
 }
 
@@ -145,14 +154,14 @@ fn calls_within_bounds(rt: HostRuntime) -> Result<(), Fail> {
 
 /// One who gives a number into a queue, and takes another from another.
 #[derive(Drop)]
-struct Giver<'a> {
-    mine: Producer<'a>,
-    other: Consumer<'a>,
+struct Giver<G: Gives, T: Takes> {
+    mine: G,
+    other: T,
     gives: u64,
     takes: u64,
 }
 
-impl<'a> Giver<'a> {
+impl<G: Gives, T: Takes> Giver<G, T> {
     /// Gives its number, and waits for so many seconds: the number that comes.
     fn gives_and_takes(&mut self, rt: &(impl Wait + Clock), seconds: u64) -> Option<u64> {
         self.mine.gives(self.gives);
@@ -161,24 +170,18 @@ impl<'a> Giver<'a> {
     }
 }
 
-impl<'a> Task for Giver<'a> {
+impl<G: Gives, T: Takes> Task for Giver<G, T> {
     fn run(mut self, rt: &(impl Wait + Clock)) -> bool {
         self.gives_and_takes(rt, SECONDS) == Some(self.takes)
     }
 }
 
-/// Two, each of whom takes what the other gives.
-fn two_givers<'a>(
-    one: &'a IndexQueue,
-    of_one: Pass,
-    two: &'a IndexQueue,
-    of_two: Pass,
-) -> Option<(Giver<'a>, Giver<'a>)>
-    requires one { IsPassOf one.now of_one }
-    requires two { IsPassOf two.now of_two }
-{
-    let (to_one, from_one) = ends(one, of_one)?;
-    let (to_two, from_two) = ends(two, of_two)?;
+/// Two, each of whom takes what the other gives, at the ends of two queues. None where the roles were not to be had.
+fn two_givers<G: Gives, T: Takes>(
+    one: Option<(G, T)>,
+    two: Option<(G, T)>,
+) -> Option<(Giver<G, T>, Giver<G, T>)> {
+    let ((to_one, from_one), (to_two, from_two)) = one.zip(two)?;
     let first = Giver {
         mine: to_one,
         other: from_two,
@@ -195,32 +198,22 @@ fn two_givers<'a>(
 }
 
 /// Whether both take what the other gives, each in a thread.
-fn at_once<R: Wait + Threads + Clock + Sync>(
+fn at_once<R: Wait + Threads + Clock + Sync, G: Gives + Send, T: Takes + Send>(
     rt: &R,
-    one: &IndexQueue,
-    of_one: Pass,
-    two: &IndexQueue,
-    of_two: Pass,
-) -> Option<bool>
-    requires one { IsPassOf one.now of_one }
-    requires two { IsPassOf two.now of_two }
-{
-    let (first, second) = two_givers(one, of_one, two, of_two)?;
+    one: Option<(G, T)>,
+    two: Option<(G, T)>,
+) -> Option<bool> {
+    let (first, second) = two_givers(one, two)?;
     Some(two_run(rt, first, second))
 }
 
 /// What each takes, the second after the first has given up.
-fn in_turn(
+fn in_turn<G: Gives, T: Takes>(
     rt: &(impl Wait + Clock),
-    one: &IndexQueue,
-    of_one: Pass,
-    two: &IndexQueue,
-    of_two: Pass,
-) -> Option<(Option<u64>, Option<u64>)>
-    requires one { IsPassOf one.now of_one }
-    requires two { IsPassOf two.now of_two }
-{
-    let (mut first, mut second) = two_givers(one, of_one, two, of_two)?;
+    one: Option<(G, T)>,
+    two: Option<(G, T)>,
+) -> Option<(Option<u64>, Option<u64>)> {
+    let (mut first, mut second) = two_givers(one, two)?;
     let came = first.gives_and_takes(rt, 0);
     Some((came, second.gives_and_takes(rt, 0)))
 }
@@ -230,7 +223,8 @@ fn in_turn(
 fn two_that_wait_for_one_another(rt: HostRuntime) -> Result<(), Fail> {
     let (one, of_one) = IndexQueue::new(rt.alloc(), 1)?;
     let (two, of_two) = IndexQueue::new(rt.alloc(), 1)?;
-    assert!(rt; at_once(&rt, &one, of_one, &two, of_two) == Some(true));
+    let (first, second) = (ends(&one, of_one), ends(&two, of_two));
+    assert!(rt; at_once(&rt, first, second) == Some(true));
     Ok(())
 }
 
@@ -239,6 +233,7 @@ fn two_that_wait_for_one_another(rt: HostRuntime) -> Result<(), Fail> {
 fn one_after_the_other_the_first_waits_in_vain(rt: HostRuntime) -> Result<(), Fail> {
     let (one, of_one) = IndexQueue::new(rt.alloc(), 1)?;
     let (two, of_two) = IndexQueue::new(rt.alloc(), 1)?;
-    assert!(rt; in_turn(&rt, &one, of_one, &two, of_two) == Some((None, Some(1))));
+    let (first, second) = (ends(&one, of_one), ends(&two, of_two));
+    assert!(rt; in_turn(&rt, first, second) == Some((None, Some(1))));
     Ok(())
 }

@@ -1,7 +1,7 @@
 //! A role that goes from one thread to another.
 ghost use Rattle.lock_free.specs.Queues.Calls.{IsPassOf};
 
-use crate::ends::{GivesAll, TakesAll};
+use crate::ends::{Gives, GivesAll, Takes, TakesAll};
 use crate::limit::{Limit, SECONDS};
 use crate::queues::ends;
 use crate::tasks::{Task, three_run};
@@ -12,11 +12,19 @@ use std::thread::Threads;
 use std::time::Clock;
 
 /// A queue, with a pass for whoever will give.
-#[derive(Drop)]
 struct Heir<'a> {
     queue: &'a IndexQueue,
     pass: Pass,
     ghost of: { IsPassOf queue.now pass },
+}
+
+impl<'a> Drop for Heir<'a> {
+    fn drop(self) {
+        let Self {
+            queue: _,
+            pass: _pass,
+        } = self;
+    }
 }
 
 impl<'a> Heir<'a> {
@@ -63,7 +71,26 @@ impl<'a> Task for Heir<'a> {
 }
 
 /// Whether all numbers are given, of which an heir gives the second half once the first guard was dropped, and come in
-/// order. None where there are no further passes.
+/// order. None where the roles were not to be had.
+fn inherited<R: Wait + Threads + Clock + Sync, G: Gives + Send, T: Takes + Send, H: Task + Send>(
+    rt: &R,
+    ends: Option<(G, T)>,
+    heir: H,
+) -> Option<bool> {
+    let (gives, takes) = ends?;
+    let gives = GivesAll {
+        end: gives,
+        from: 0,
+        to: 500,
+    };
+    let takes = TakesAll {
+        end: takes,
+        number: 1000,
+    };
+    Some(three_run(rt, gives, heir, takes))
+}
+
+/// The same of this queue. None where there are no further passes.
 fn taken_up<R: Wait + Threads + Clock + Sync>(
     rt: &R,
     queue: &IndexQueue,
@@ -74,17 +101,7 @@ fn taken_up<R: Wait + Threads + Clock + Sync>(
     let mut pass = pass;
     let other = pass.split()?;
     let heir = Heir { queue, pass: other };
-    let (producer, consumer) = ends(queue, pass)?;
-    let gives = GivesAll {
-        end: producer,
-        from: 0,
-        to: 500,
-    };
-    let takes = TakesAll {
-        end: consumer,
-        number: 1000,
-    };
-    Some(three_run(rt, gives, heir, takes))
+    inherited(rt, ends(queue, pass), heir)
 }
 
 #[test]

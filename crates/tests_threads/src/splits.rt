@@ -18,52 +18,57 @@ const CAPACITIES: [usize; 5] = [2, 140, 300, 1000, 5000];
 /// Whether two further handles come, or why the structure is not made.
 type Come = Result<bool, UniqueIndexCreationError>;
 
+/// Whether both came. (They are dropped here, so that it is proved once for all kinds.)
+fn two_come<H: Drop>(one: Option<H>, other: Option<H>) -> bool {
+    one.is_some() & other.is_some()
+}
+
 fn bits(alloc: Global, capacity: usize) -> Come {
     let (set, pass) = BitSet::new(alloc, capacity)?;
     let mut handle = set.handle(pass);
-    Ok(handle.split().is_some() && handle.split().is_some())
+    Ok(two_come(handle.split(), handle.split()))
 }
 
 fn counts(alloc: Global, capacity: usize) -> Come {
     let (set, pass) = CountingBitSet::new(alloc, capacity)?;
     let mut handle = set.handle(pass);
-    Ok(handle.split().is_some() && handle.split().is_some())
+    Ok(two_come(handle.split(), handle.split()))
 }
 
 fn indices(alloc: Global, capacity: usize) -> Come {
     let (set, pass) = UniqueIndexSet::new(alloc, capacity)?;
     let mut handle = set.handle(pass);
-    Ok(handle.split().is_some() && handle.split().is_some())
+    Ok(two_come(handle.split(), handle.split()))
 }
 
 fn robust(alloc: Global, capacity: usize) -> Come {
     let (set, pass) = RobustUniqueIndexSet::new(alloc, capacity)?;
     let mut handle = set.handle(pass);
-    Ok(handle.split().is_some() && handle.split().is_some())
+    Ok(two_come(handle.split(), handle.split()))
 }
 
 fn container(alloc: Global, capacity: usize) -> Come {
     let (container, pass) = Container::<u64>::new(alloc, capacity, 1)?;
     let mut handle = container.handle(pass);
-    Ok(handle.split().is_some() && handle.split().is_some())
+    Ok(two_come(handle.split(), handle.split()))
 }
 
 fn index_queue(alloc: Global, capacity: usize) -> Come {
     let (queue, pass) = IndexQueue::new(alloc, capacity)?;
     let mut handle = queue.handle(pass);
-    Ok(handle.split().is_some() && handle.split().is_some())
+    Ok(two_come(handle.split(), handle.split()))
 }
 
 fn overflowing(alloc: Global, capacity: usize) -> Come {
     let (queue, pass) = SafelyOverflowingIndexQueue::new(alloc, capacity)?;
     let mut handle = queue.handle(pass);
-    Ok(handle.split().is_some() && handle.split().is_some())
+    Ok(two_come(handle.split(), handle.split()))
 }
 
 fn queue<const CAPACITY: usize>(alloc: Global) -> Come {
     let (queue, pass) = Queue::<Slow, CAPACITY>::new(alloc)?;
     let mut handle = queue.handle(pass);
-    Ok(handle.split().is_some() && handle.split().is_some())
+    Ok(two_come(handle.split(), handle.split()))
 }
 
 fn queues(alloc: Global) -> Come {
@@ -75,7 +80,7 @@ fn queues(alloc: Global) -> Come {
 fn values(alloc: Global) -> Come {
     let (value, pass) = UnrestrictedAtomic::new(alloc, Slow::of(1))?;
     let mut handle = value.handle(pass);
-    Ok(handle.split().is_some() && handle.split().is_some())
+    Ok(two_come(handle.split(), handle.split()))
 }
 
 #[test]

@@ -14,12 +14,21 @@ use std::thread::Threads;
 use std::time::Clock;
 
 /// One who takes indices of a set and gives them back.
-#[derive(Drop)]
 struct IndexUser<'a> {
     set: &'a UniqueIndexSet,
     holders: &'a Holders,
     pass: Pass,
     ghost of: { IsPassOf set.now pass },
+}
+
+impl<'a> Drop for IndexUser<'a> {
+    fn drop(self) {
+        let Self {
+            set: _,
+            holders: _,
+            pass: _pass,
+        } = self;
+    }
 }
 
 impl<'a> IndexUser<'a> {

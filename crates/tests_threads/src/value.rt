@@ -34,11 +34,19 @@ impl<'a> Task for Stores<'a> {
 }
 
 /// Loads until it sees the last pair: whether the halves of each pair are equal, and none is below the one before.
-#[derive(Drop)]
 struct Loads<'a> {
     value: &'a UnrestrictedAtomic<Pair>,
     pass: Pass<Pair>,
     ghost of: { IsPassOf value.now pass },
+}
+
+impl<'a> Drop for Loads<'a> {
+    fn drop(self) {
+        let Self {
+            value: _,
+            pass: _pass,
+        } = self;
+    }
 }
 
 impl<'a> Loads<'a> {
@@ -74,6 +82,23 @@ impl<'a> Task for Loads<'a> {
     }
 }
 
+/// One who loads, with a pass that is split off.
+fn loader<'a>(value: &'a UnrestrictedAtomic<Pair>, pass: &mut Pass<Pair>) -> Option<Loads<'a>>
+    requires { IsPassOf value.now pass.old }
+    ensures { IsPassOf value.now pass.new }
+{
+    let pass = pass.split()?;
+    Some(Loads { value, pass })
+}
+
+/// One who stores.
+fn storer<'a>(value: &'a UnrestrictedAtomic<Pair>, pass: Pass<Pair>) -> Option<Stores<'a>>
+    requires { IsPassOf value.now pass }
+{
+    let producer = value.acquire_producer(pass).ok()?;
+    Some(Stores { producer })
+}
+
 /// Whether one who stores and two who load see what they must. None where the role or a further pass is not to be had.
 fn stores_and_loads<R: Wait + Threads + Clock + Sync>(
     rt: &R,
@@ -82,12 +107,9 @@ fn stores_and_loads<R: Wait + Threads + Clock + Sync>(
 ) -> Option<bool>
     requires { IsPassOf value.now pass }
 {
-    let one = pass.split()?;
-    let other = pass.split()?;
-    let producer = value.acquire_producer(pass).ok()?;
-    let one = Loads { value, pass: one };
-    let other = Loads { value, pass: other };
-    Some(three_run(rt, Stores { producer }, one, other))
+    let loaders = loader(value, &mut pass).zip(loader(value, &mut pass));
+    let ((one, other), stores) = loaders.zip(storer(value, pass))?;
+    Some(three_run(rt, stores, one, other))
 }
 
 #[test]

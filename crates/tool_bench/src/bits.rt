@@ -3,8 +3,7 @@ ghost use Rattle.lock_free.specs.Bits.Calls as of_bits;
 ghost use Rattle.lock_free.specs.Counts.Calls as of_counts;
 
 use crate::hand::bits as by_hand;
-use crate::timing::{Row, Timed};
-use crate::usual::print_beside;
+use crate::timing::{Row, Timed, print_timed};
 use lock_free::mpmc::bit_set::{BitSet, Pass};
 use lock_free::mpmc::counting_bit_set;
 use lock_free::mpmc::counting_bit_set::{BitState, CountingBitSet};
@@ -35,7 +34,6 @@ pub const COUNT: usize = 5;
 pub const COUNT_AND_RESET_ALL: usize = 6;
 
 /// A bit set with a pass, on which these calls are made.
-#[derive(Drop)]
 struct Bits<'a, const CALLS: usize> {
     set: &'a BitSet,
     pass: Pass,
@@ -43,6 +41,17 @@ struct Bits<'a, const CALLS: usize> {
     // (the capacity less one: capacities are powers of two)
     mask: u64,
     ghost of: { of_bits.IsPassOf set.now pass },
+}
+
+impl<'a, const CALLS: usize> Drop for Bits<'a, CALLS> {
+    fn drop(self) {
+        let Self {
+            set: _,
+            pass: _pass,
+            hand: _hand,
+            mask: _,
+        } = self;
+    }
 }
 
 impl<'a, const CALLS: usize> Bits<'a, CALLS> {
@@ -151,16 +160,25 @@ pub fn bits_row<const CALLS: usize, R: Wait + Threads + CpuClock + Print + Sync>
         hand,
         mask: (row.capacity as u64).saturating_sub(1),
     };
-    print_beside(rt, alloc, row, timed)
+    print_timed(rt, alloc, row, timed)
 }
 
 /// Counts with a pass. A call counts a place, and but for `COUNT` takes all counts out.
-#[derive(Drop)]
 struct Counts<'a, const CALLS: usize> {
     set: &'a CountingBitSet,
     pass: counting_bit_set::Pass,
     hand: by_hand::Counts,
     ghost of: { of_counts.IsPassOf set.now pass },
+}
+
+impl<'a, const CALLS: usize> Drop for Counts<'a, CALLS> {
+    fn drop(self) {
+        let Self {
+            set: _,
+            pass: _pass,
+            hand: _hand,
+        } = self;
+    }
 }
 
 impl<'a, const CALLS: usize> Counts<'a, CALLS> {
@@ -231,5 +249,5 @@ pub fn counts_row<const CALLS: usize, R: Wait + Threads + CpuClock + Print + Syn
         pass,
         hand,
     };
-    print_beside(rt, alloc, row, timed)
+    print_timed(rt, alloc, row, timed)
 }

@@ -3,8 +3,8 @@ ghost use Rattle.lock_free.specs.UniqueIndexSet as of_unique;
 ghost use Rattle.lock_free.specs.RobustUniqueIndexSet as of_robust;
 
 use crate::hand::{robust, unique};
-use crate::timing::{Row, Timed};
-use crate::usual::print_beside;
+use crate::timing::{Row, Timed, print_timed};
+use crate::usual::print_beside_slab;
 use lock_free::mpmc::robust_unique_index_set;
 use lock_free::mpmc::robust_unique_index_set::{
     CallbackProgression, OwnerId, RobustUniqueIndexSet,
@@ -34,13 +34,28 @@ pub const RECOVER_ONE: usize = 4;
 /// Finds what he has, which is nothing.
 pub const FIND_OTHER: usize = 5;
 
+/// Asks whether the set is locked.
+pub const IS_LOCKED: usize = 6;
+
+/// Takes an index, and gives it back by the call that locks the set where it is the last, which it is not.
+pub const ACQUIRE_AND_RELEASE_OR_LOCK: usize = 7;
+
 /// A unique index set with a pass, on which these calls are made.
-#[derive(Drop)]
 struct Unique<'a, const CALLS: usize> {
     set: &'a UniqueIndexSet,
     pass: Pass,
     hand: unique::Unique,
     ghost of: { of_unique.IsPassOf set.now pass },
+}
+
+impl<'a, const CALLS: usize> Drop for Unique<'a, CALLS> {
+    fn drop(self) {
+        let Self {
+            set: _,
+            pass: _pass,
+            hand: _hand,
+        } = self;
+    }
 }
 
 impl<'a, const CALLS: usize> Unique<'a, CALLS> {
@@ -51,14 +66,10 @@ impl<'a, const CALLS: usize> Unique<'a, CALLS> {
             self.hand.acquire(rt);
         }
     }
-}
 
-impl<'a, const CALLS: usize> Timed for Unique<'a, CALLS> {
-    #[inline(never)]
-    fn ours<R: Wait>(&mut self, rt: &R, _number: u64) -> u64 {
-        if CALLS == BORROWED_INDICES {
-            return self.set.borrowed_indices(&mut self.pass) as u64;
-        }
+    /// Takes an index and gives it back.
+    #[inline(always)]
+    fn turns<R: Wait>(&mut self, rt: &R) -> u64 {
         match self.set.acquire_raw_index(rt, &mut self.pass) {
             Ok(index) => {
                 self.set.release_raw_index(index, &mut self.pass);
@@ -68,17 +79,40 @@ impl<'a, const CALLS: usize> Timed for Unique<'a, CALLS> {
         }
     }
 
+    /// The same, by the call that may lock the set.
+    #[inline(always)]
+    fn turns_or_locks<R: Wait>(&mut self, rt: &R) -> u64 {
+        match self.set.acquire_raw_index(rt, &mut self.pass) {
+            Ok(index) => match self.set.release_or_lock(rt, index, &mut self.pass) {
+                ReleaseState::Locked => 1,
+                ReleaseState::Unlocked => 0,
+            },
+            Err(_) => 2,
+        }
+    }
+}
+
+impl<'a, const CALLS: usize> Timed for Unique<'a, CALLS> {
+    #[inline(never)]
+    fn ours<R: Wait>(&mut self, rt: &R, _number: u64) -> u64 {
+        match CALLS {
+            BORROWED_INDICES => self.set.borrowed_indices(&mut self.pass) as u64,
+            IS_LOCKED => self.set.is_locked(&mut self.pass) as u64,
+            ACQUIRE_AND_RELEASE_OR_LOCK => self.turns_or_locks(rt),
+            _ => self.turns(rt),
+        }
+    }
+
     #[inline(never)]
     fn by_hand<R: Wait>(&mut self, rt: &R, _number: u64) -> u64 {
-        if CALLS == BORROWED_INDICES {
-            return self.hand.borrowed_indices();
-        }
-        match self.hand.acquire(rt) {
-            Some(index) => {
-                self.hand.release(index);
-                index as u64
-            }
-            None => 1 << 32,
+        match CALLS {
+            BORROWED_INDICES => self.hand.borrowed_indices(),
+            IS_LOCKED => self.hand.is_locked() as u64,
+            ACQUIRE_AND_RELEASE_OR_LOCK => match self.hand.acquire(rt) {
+                Some(index) => self.hand.release_or_lock(rt, index) as u64,
+                None => 2,
+            },
+            _ => self.hand.turns(rt),
         }
     }
 
@@ -109,11 +143,13 @@ pub fn unique_row<const CALLS: usize, R: Wait + Threads + CpuClock + Print + Syn
     if row.is_full {
         timed.fill(rt, row.capacity);
     }
-    print_beside(rt, alloc, row, timed)
+    if CALLS == ACQUIRE_AND_RELEASE_OR_LOCK {
+        timed.fill(rt, 1);
+    }
+    print_beside_slab(rt, alloc, row, timed)
 }
 
 /// A robust set with a pass, on which these calls are made, the owner that acquires, and the dead one.
-#[derive(Drop)]
 struct Robust<'a, const CALLS: usize> {
     set: &'a RobustUniqueIndexSet,
     pass: robust_unique_index_set::Pass,
@@ -121,6 +157,18 @@ struct Robust<'a, const CALLS: usize> {
     dead: OwnerId,
     hand: robust::Owners,
     ghost of: { of_robust.IsPassOf set.now pass },
+}
+
+impl<'a, const CALLS: usize> Drop for Robust<'a, CALLS> {
+    fn drop(self) {
+        let Self {
+            set: _,
+            pass: _pass,
+            owner: _,
+            dead: _,
+            hand: _hand,
+        } = self;
+    }
 }
 
 impl<'a, const CALLS: usize> Robust<'a, CALLS> {
@@ -248,5 +296,5 @@ pub fn robust_row<const CALLS: usize, R: Wait + Threads + CpuClock + Print + Syn
     if row.is_full {
         timed.fill(rt, row.capacity);
     }
-    print_beside(rt, alloc, row, timed)
+    print_timed(rt, alloc, row, timed)
 }

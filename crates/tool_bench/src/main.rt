@@ -7,10 +7,12 @@
 mod bits;
 mod bus;
 mod container;
+mod guards;
 mod hand;
 mod indices;
 mod looks;
 mod queues;
+mod records;
 mod table;
 mod timing;
 mod usual;
@@ -18,17 +20,21 @@ mod value;
 
 use bits::{bits_row, counts_row};
 use container::values_row;
+use guards::held_row;
 use indices::{robust_row, unique_row};
 use looks::looks_row;
 use queues::{length_row, numbers_row, overflowing_row};
+use records::records_row;
 use std::alloc::Global;
 use std::sync::Wait;
 use std::thread::Threads;
 use std::time::CpuClock;
 use std::{env, io};
-use table::{ALONE, Beside, CAPACITIES, Call, TOGETHER, VALUE_ALONE, VALUE_TOGETHER};
+use table::{
+    ALONE, Beside, CAPACITIES, Call, RECORDS_ALONE, TOGETHER, VALUE_ALONE, VALUE_TOGETHER,
+};
 use timing::Row;
-use value::value_row;
+use value::{load_row, store_row};
 
 /// Times the call of a row, and prints it.
 fn print_row<R: Wait + Threads + CpuClock + Print + Sync>(
@@ -46,8 +52,9 @@ fn print_row<R: Wait + Threads + CpuClock + Print + Sync>(
         Call::OverflowPushPop => overflowing_row::<{ queues::PUSH_AND_POP }, R>(rt, alloc, row),
         Call::OverflowPush => overflowing_row::<{ queues::PUSH }, R>(rt, alloc, row),
         Call::OverflowPop => overflowing_row::<{ queues::POP }, R>(rt, alloc, row),
-        Call::Store => value_row(rt, alloc, row, true),
-        Call::Load => value_row(rt, alloc, row, false),
+        Call::Records => records_row(rt, alloc, row),
+        Call::Store => store_row(rt, alloc, row),
+        Call::Load => load_row(rt, alloc, row),
         Call::Set => bits_row::<{ bits::SET }, R>(rt, alloc, row),
         Call::SetResetNext => bits_row::<{ bits::SET_AND_RESET_NEXT }, R>(rt, alloc, row),
         Call::ResetNext => bits_row::<{ bits::RESET_NEXT }, R>(rt, alloc, row),
@@ -71,6 +78,11 @@ fn print_row_of_indices<R: Wait + Threads + CpuClock + Print + Sync>(
             rt, alloc, row,
         ),
         Call::UniqueBorrowed => unique_row::<{ indices::BORROWED_INDICES }, R>(rt, alloc, row),
+        Call::UniqueIsLocked => unique_row::<{ indices::IS_LOCKED }, R>(rt, alloc, row),
+        Call::UniqueOrLock => unique_row::<{ indices::ACQUIRE_AND_RELEASE_OR_LOCK }, R>(
+            rt, alloc, row,
+        ),
+        Call::Held => held_row(rt, alloc, row),
         Call::Robust | Call::RobustNoneLeft => robust_row::<{ indices::ACQUIRE_AND_RELEASE }, R>(
             rt, alloc, row,
         ),
@@ -172,6 +184,14 @@ fn main(rt: HostRuntime) -> io::Result<()> {
         print_rows(&rt, alloc, wanted.as_str(), &TOGETHER, &[64], &[2, 4])
     } else {
         print_rows(&rt, alloc, wanted.as_str(), &VALUE_ALONE, &[1], &[1])?;
+        print_rows(
+            &rt,
+            alloc,
+            wanted.as_str(),
+            &RECORDS_ALONE,
+            &[records::CAPACITY as u32],
+            &[1],
+        )?;
         print_rows(&rt, alloc, wanted.as_str(), &ALONE, &CAPACITIES, &[1])
     }
 }

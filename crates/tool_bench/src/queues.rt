@@ -2,8 +2,8 @@
 ghost use Rattle.lock_free.specs.Queues.Rings as ends;
 
 use crate::hand::queues as by_hand;
-use crate::timing::{Row, Timed};
-use crate::usual::print_beside;
+use crate::timing::{Row, Timed, print_timed};
+use crate::usual::print_beside_ring;
 use lock_free::spsc::index_queue::{Consumer, IndexQueue, Pass, Producer};
 use lock_free::spsc::safely_overflowing_index_queue as overflow;
 use lock_free::spsc::safely_overflowing_index_queue::SafelyOverflowingIndexQueue;
@@ -28,31 +28,33 @@ pub const LEN: usize = 3;
 pub const IS_EMPTY: usize = 4;
 
 /// The two ends of an index queue, at which these calls are made.
-#[derive(Drop)]
 struct Numbers<'a, const CALLS: usize> {
     producer: Producer<'a>,
     consumer: Consumer<'a>,
     hand: by_hand::Numbers,
 }
 
-impl<'a, const CALLS: usize> Numbers<'a, CALLS> {
-    fn of(
-        queue: &'a IndexQueue,
-        mut pass: Pass,
-        hand: by_hand::Numbers,
-    ) -> Option<Numbers<'a, CALLS>>
-        requires { ends.IsPassOf queue.now pass }
-    {
-        let other = pass.split()?;
-        let producer = queue.acquire_producer(pass).ok()?;
-        let consumer = queue.acquire_consumer(other).ok()?;
-        Some(Numbers {
-            producer,
-            consumer,
-            hand,
-        })
+impl<'a, const CALLS: usize> Drop for Numbers<'a, CALLS> {
+    fn drop(self) {
+        let Self {
+            producer: _producer,
+            consumer: _consumer,
+            hand: _hand,
+        } = self;
     }
+}
 
+/// Both ends of an index queue.
+fn numbers_ends<'a>(queue: &'a IndexQueue, pass: Pass) -> Option<(Producer<'a>, Consumer<'a>)>
+    requires { ends.IsPassOf queue.now pass }
+{
+    let mut pass = pass;
+    let other = pass.split()?;
+    let producer = queue.acquire_producer(pass).ok();
+    producer.zip(queue.acquire_consumer(other).ok())
+}
+
+impl<'a, const CALLS: usize> Numbers<'a, CALLS> {
     fn fill(&mut self, number: u32) {
         for _ in 0..number {
             self.producer.push(0);
@@ -95,20 +97,34 @@ pub fn numbers_row<const CALLS: usize, R: Wait + Threads + CpuClock + Print + Sy
 ) -> Option<()> {
     let hand = by_hand::Numbers::new(alloc, row.capacity).ok()?;
     let (queue, pass) = IndexQueue::new(alloc, row.capacity as usize).ok()?;
-    let mut timed = Numbers::<'_, CALLS>::of(&queue, pass, hand)?;
+    let (producer, consumer) = numbers_ends(&queue, pass)?;
+    let mut timed = Numbers::<'_, CALLS> {
+        producer,
+        consumer,
+        hand,
+    };
     if row.is_full {
         timed.fill(row.capacity);
     }
-    print_beside(rt, alloc, row, timed)
+    print_beside_ring(rt, alloc, row, timed)
 }
 
 /// An index queue with a pass, on which these calls are made.
-#[derive(Drop)]
 struct Length<'a, const CALLS: usize> {
     queue: &'a IndexQueue,
     pass: Pass,
     hand: by_hand::Numbers,
     ghost of: { ends.IsPassOf queue.now pass },
+}
+
+impl<'a, const CALLS: usize> Drop for Length<'a, CALLS> {
+    fn drop(self) {
+        let Self {
+            queue: _,
+            pass: _pass,
+            hand: _hand,
+        } = self;
+    }
 }
 
 impl<'a, const CALLS: usize> Timed for Length<'a, CALLS> {
@@ -144,35 +160,40 @@ pub fn length_row<const CALLS: usize, R: Wait + Threads + CpuClock + Print + Syn
         pass,
         hand,
     };
-    print_beside(rt, alloc, row, timed)
+    print_timed(rt, alloc, row, timed)
 }
 
 /// The two ends of an overflowing queue, at which these calls are made.
-#[derive(Drop)]
 struct Overflowing<'a, const CALLS: usize> {
     producer: overflow::Producer<'a>,
     consumer: overflow::Consumer<'a>,
     hand: by_hand::Overflowing,
 }
 
-impl<'a, const CALLS: usize> Overflowing<'a, CALLS> {
-    fn of(
-        queue: &'a SafelyOverflowingIndexQueue,
-        mut pass: overflow::Pass,
-        hand: by_hand::Overflowing,
-    ) -> Option<Overflowing<'a, CALLS>>
-        requires { ends.IsPassOf queue.now pass }
-    {
-        let other = pass.split()?;
-        let producer = queue.acquire_producer(pass).ok()?;
-        let consumer = queue.acquire_consumer(other).ok()?;
-        Some(Overflowing {
-            producer,
-            consumer,
-            hand,
-        })
+impl<'a, const CALLS: usize> Drop for Overflowing<'a, CALLS> {
+    fn drop(self) {
+        let Self {
+            producer: _producer,
+            consumer: _consumer,
+            hand: _hand,
+        } = self;
     }
+}
 
+/// Both ends of an overflowing queue.
+fn overflowing_ends<'a>(
+    queue: &'a SafelyOverflowingIndexQueue,
+    pass: overflow::Pass,
+) -> Option<(overflow::Producer<'a>, overflow::Consumer<'a>)>
+    requires { ends.IsPassOf queue.now pass }
+{
+    let mut pass = pass;
+    let other = pass.split()?;
+    let producer = queue.acquire_producer(pass).ok();
+    producer.zip(queue.acquire_consumer(other).ok())
+}
+
+impl<'a, const CALLS: usize> Overflowing<'a, CALLS> {
     fn fill(&mut self, number: u32) {
         for _ in 0..number {
             self.producer.push(0);
@@ -215,9 +236,14 @@ pub fn overflowing_row<const CALLS: usize, R: Wait + Threads + CpuClock + Print 
 ) -> Option<()> {
     let hand = by_hand::Overflowing::new(alloc, row.capacity).ok()?;
     let (queue, pass) = SafelyOverflowingIndexQueue::new(alloc, row.capacity as usize).ok()?;
-    let mut timed = Overflowing::<'_, CALLS>::of(&queue, pass, hand)?;
+    let (producer, consumer) = overflowing_ends(&queue, pass)?;
+    let mut timed = Overflowing::<'_, CALLS> {
+        producer,
+        consumer,
+        hand,
+    };
     if row.is_full {
         timed.fill(row.capacity);
     }
-    print_beside(rt, alloc, row, timed)
+    print_timed(rt, alloc, row, timed)
 }

@@ -10,6 +10,7 @@ pub enum Call {
     Pop,
     Len,
     IsEmpty,
+    Records,
     OverflowPushPop,
     OverflowPush,
     OverflowPop,
@@ -23,6 +24,9 @@ pub enum Call {
     Unique,
     UniqueNoneLeft,
     UniqueBorrowed,
+    UniqueIsLocked,
+    UniqueOrLock,
+    Held,
     Robust,
     RobustNoneLeft,
     RobustBorrowed,
@@ -59,6 +63,7 @@ impl Call {
             Call::Pop => "index queue: pop of an empty one",
             Call::Len => "index queue: len",
             Call::IsEmpty => "index queue: is_empty",
+            Call::Records => "queue of 16 words: push and pop",
             Call::OverflowPushPop => "overflowing queue: push and pop",
             Call::OverflowPush => "overflowing queue: push into a full one",
             Call::OverflowPop => "overflowing queue: pop of an empty one",
@@ -72,6 +77,9 @@ impl Call {
             Call::Unique => "unique index set: acquire and release",
             Call::UniqueNoneLeft => "unique index set: acquire, none is left",
             Call::UniqueBorrowed => "unique index set: borrowed_indices",
+            Call::UniqueIsLocked => "unique index set: is_locked",
+            Call::UniqueOrLock => "unique index set: acquire and release_or_lock",
+            Call::Held => "unique index set: acquire and give_back of a guard",
             Call::Robust => "robust index set: acquire and release",
             Call::RobustNoneLeft => "robust index set: acquire, none is left",
             Call::RobustBorrowed => "robust index set: borrowed_indices",
@@ -122,7 +130,12 @@ impl Call {
     pub fn steps(self) -> (u64, u64, u64) {
         match self {
             Call::Store | Call::Load => (18, 0, 0),
-            Call::PushPop | Call::OverflowPushPop | Call::Unique => (8, 0, 0),
+            Call::PushPop
+            | Call::OverflowPushPop
+            | Call::Unique
+            | Call::UniqueOrLock
+            | Call::Held => (8, 0, 0),
+            Call::Records => (38, 0, 0),
             Call::Push | Call::Pop | Call::OverflowPop => (2, 0, 0),
             Call::Len | Call::IsEmpty => (4, 0, 0),
             Call::OverflowPush | Call::SetResetNext | Call::Replace => (6, 0, 0),
@@ -130,6 +143,7 @@ impl Call {
             | Call::Count
             | Call::UniqueNoneLeft
             | Call::UniqueBorrowed
+            | Call::UniqueIsLocked
             | Call::Unchanged => (1, 0, 0),
             Call::ResetNext | Call::CountResetAll | Call::Find | Call::FindEach | Call::FindOther =>
                 (1, 1, 0),
@@ -196,7 +210,7 @@ impl Beside {
 pub const CAPACITIES: [u32; 3] = [8, 64, 4096];
 
 /// In one thread, at each of the capacities.
-pub const ALONE: [(Call, Beside); 52] = [
+pub const ALONE: [(Call, Beside); 55] = [
     (Call::PushPop, Beside::Hand),
     (Call::PushPop, Beside::Ring),
     (Call::PushPop, Beside::Array),
@@ -220,6 +234,9 @@ pub const ALONE: [(Call, Beside); 52] = [
     (Call::Unique, Beside::Slab),
     (Call::UniqueNoneLeft, Beside::Hand),
     (Call::UniqueBorrowed, Beside::Hand),
+    (Call::UniqueIsLocked, Beside::Hand),
+    (Call::UniqueOrLock, Beside::Hand),
+    (Call::Held, Beside::Hand),
     (Call::Robust, Beside::Hand),
     (Call::RobustNoneLeft, Beside::Hand),
     (Call::RobustBorrowed, Beside::Hand),
@@ -258,6 +275,9 @@ pub const VALUE_ALONE: [(Call, Beside); 4] = [
     (Call::Load, Beside::Hand),
     (Call::Load, Beside::LockedLoad),
 ];
+
+/// The queue of values, which holds 64.
+pub const RECORDS_ALONE: [(Call, Beside); 1] = [(Call::Records, Beside::Hand)];
 
 /// In two threads at once, and in four.
 pub const TOGETHER: [(Call, Beside); 7] = [

@@ -78,13 +78,23 @@ fn enough<T: Timed, R: Wait + CpuClock>(rt: &R, timed: &mut T) -> io::Result<u64
 }
 
 /// One of those who make the calls: what its calls of a round took, and the sum of their answers.
-#[derive(Drop)]
 struct Caller<T> {
     timed: T,
     taken: u64,
     sum: u64,
     // (no two of them write to one line of a cache)
     _apart: [u64; 16],
+}
+
+impl<T: Drop> Drop for Caller<T> {
+    fn drop(self) {
+        let Self {
+            timed: _timed,
+            taken: _,
+            sum: _,
+            _apart: _,
+        } = self;
+    }
 }
 
 impl<T: Timed> Caller<T> {

@@ -22,10 +22,18 @@ trait Usual: Drop + Sized {
 }
 
 /// The two that are timed.
-#[derive(Drop)]
 struct Pair<T, U> {
     here: T,
     usual: U,
+}
+
+impl<T: Drop, U: Drop> Drop for Pair<T, U> {
+    fn drop(self) {
+        let Self {
+            here: _here,
+            usual: _usual,
+        } = self;
+    }
 }
 
 impl<T: Timed, U: Usual> Timed for Pair<T, U> {
@@ -47,10 +55,18 @@ impl<T: Timed, U: Usual> Timed for Pair<T, U> {
 }
 
 /// A push and a pop of a ring.
-#[derive(Drop)]
 struct Ring {
     producer: Producer<u64>,
     consumer: Consumer<u64>,
+}
+
+impl Drop for Ring {
+    fn drop(self) {
+        let Self {
+            producer: _producer,
+            consumer: _consumer,
+        } = self;
+    }
 }
 
 impl Ring {
@@ -72,9 +88,14 @@ impl Usual for Ring {
 }
 
 /// An entry of a slab is made and removed: its key.
-#[derive(Drop)]
 struct Entries {
     slab: Slab<u64>,
+}
+
+impl Drop for Entries {
+    fn drop(self) {
+        let Self { slab: _slab } = self;
+    }
 }
 
 impl Entries {
@@ -98,10 +119,18 @@ impl Usual for Entries {
 }
 
 /// Values, and how often they have changed.
-#[derive(Drop)]
 struct Values {
     values: Vec<u64>,
     changes: u64,
+}
+
+impl Drop for Values {
+    fn drop(self) {
+        let Self {
+            values: _values,
+            changes: _,
+        } = self;
+    }
 }
 
 impl Values {
@@ -144,7 +173,6 @@ impl Values {
 
 /// What several threads call: a queue of many producers and consumers, and by a lock a deque, the free indices on a
 /// stack, sixteen words, a slab, and values.
-#[derive(Drop)]
 struct Shared {
     array: ArrayQueue<u64>,
     deque: Mutex<VecDeque<u64>>,
@@ -152,6 +180,19 @@ struct Shared {
     words: Mutex<[u64; 16]>,
     slab: Mutex<Slab<u64>>,
     values: Mutex<Values>,
+}
+
+impl Drop for Shared {
+    fn drop(self) {
+        let Self {
+            array: _array,
+            deque: _deque,
+            free: _free,
+            words: _words,
+            slab: _slab,
+            values: _values,
+        } = self;
+    }
 }
 
 impl Shared {
@@ -216,13 +257,24 @@ impl Shared {
 }
 
 /// One who calls what is shared, and its copy of the values.
-#[derive(Drop)]
 struct Caller<'a> {
     shared: &'a Shared,
     copy: Values,
     capacity: usize,
     what: Beside,
     alloc: Global,
+}
+
+impl<'a> Drop for Caller<'a> {
+    fn drop(self) {
+        let Self {
+            shared: _,
+            copy: _copy,
+            capacity: _,
+            what: _,
+            alloc: _,
+        } = self;
+    }
 }
 
 impl<'a> Caller<'a> {
@@ -303,18 +355,54 @@ fn print_shared<T: Timed + Send, R: Wait + Threads + CpuClock + Print + Sync>(
     print_pair(rt, alloc, row, here, usual)
 }
 
-/// Prints the row of a call beside what it names. None where it cannot be timed or printed.
+/// Prints the row of a call beside the same steps by hand or beside one on what is shared. None where it cannot be timed or
+/// printed.
 pub fn print_beside<T: Timed + Send, R: Wait + Threads + CpuClock + Print + Sync>(
     rt: &R,
     alloc: Global,
     row: &Row<'_>,
     here: T,
 ) -> Option<()> {
-    let capacity = row.capacity as usize;
     match row.beside {
         Beside::Hand => print_timed(rt, alloc, row, here),
-        Beside::Ring => print_pair(rt, alloc, row, here, Ring::new(alloc, capacity)),
-        Beside::Slab => print_pair(rt, alloc, row, here, Entries::new(alloc, capacity)),
         _ => print_shared(rt, alloc, row, here),
+    }
+}
+
+/// The same, or beside a ring.
+pub fn print_beside_ring<T: Timed + Send, R: Wait + Threads + CpuClock + Print + Sync>(
+    rt: &R,
+    alloc: Global,
+    row: &Row<'_>,
+    here: T,
+) -> Option<()> {
+    match row.beside {
+        Beside::Ring => print_pair(
+            rt,
+            alloc,
+            row,
+            here,
+            Ring::new(alloc, row.capacity as usize),
+        ),
+        _ => print_beside(rt, alloc, row, here),
+    }
+}
+
+/// The same, or beside a slab.
+pub fn print_beside_slab<T: Timed + Send, R: Wait + Threads + CpuClock + Print + Sync>(
+    rt: &R,
+    alloc: Global,
+    row: &Row<'_>,
+    here: T,
+) -> Option<()> {
+    match row.beside {
+        Beside::Slab => print_pair(
+            rt,
+            alloc,
+            row,
+            here,
+            Entries::new(alloc, row.capacity as usize),
+        ),
+        _ => print_beside(rt, alloc, row, here),
     }
 }

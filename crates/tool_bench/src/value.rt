@@ -13,7 +13,21 @@ use std::time::CpuClock;
 
 /// A value of 16 words: these four, four times.
 #[derive(Clone, Copy)]
-struct Sixteen(u64, u64, u64, u64);
+pub struct Sixteen(u64, u64, u64, u64);
+
+impl Sixteen {
+    /// The value all of whose words are this one.
+    #[inline(always)]
+    pub fn of(word: u64) -> Sixteen {
+        Sixteen(word, word, word, word)
+    }
+
+    /// Its first word.
+    #[inline(always)]
+    pub fn first(&self) -> u64 {
+        self.0
+    }
+}
 
 impl Words for Sixteen {
     ghost use Rattle.std.specs.Prelude.{ℕ, refl, [], ◌∷◌, slice_index};
@@ -58,16 +72,24 @@ impl Words for Sixteen {
 }
 
 /// Stores a value.
-#[derive(Drop)]
 struct Stores<'a> {
     producer: Producer<'a, Sixteen>,
     hand: by_hand::Value<16>,
 }
 
+impl<'a> Drop for Stores<'a> {
+    fn drop(self) {
+        let Self {
+            producer: _producer,
+            hand: _hand,
+        } = self;
+    }
+}
+
 impl<'a> Timed for Stores<'a> {
     #[inline(never)]
     fn ours<R: Wait>(&mut self, _rt: &R, number: u64) -> u64 {
-        self.producer.store(Sixteen(number, number, number, number)) as u64
+        self.producer.store(Sixteen::of(number)) as u64
     }
 
     #[inline(never)]
@@ -77,12 +99,21 @@ impl<'a> Timed for Stores<'a> {
 }
 
 /// Loads the value.
-#[derive(Drop)]
 struct Loads<'a> {
     value: &'a UnrestrictedAtomic<Sixteen>,
     pass: Pass<Sixteen>,
     hand: by_hand::Value<16>,
     ghost of: { IsPassOf value.now pass },
+}
+
+impl<'a> Drop for Loads<'a> {
+    fn drop(self) {
+        let Self {
+            value: _,
+            pass: _pass,
+            hand: _hand,
+        } = self;
+    }
 }
 
 impl<'a> Timed for Loads<'a> {
@@ -107,19 +138,26 @@ impl<'a> Timed for Loads<'a> {
     }
 }
 
-/// Prints the row of a store or a load of the value.
-pub fn value_row<R: Wait + Threads + CpuClock + Print + Sync>(
+/// Prints the row of a store of the value.
+pub fn store_row<R: Wait + Threads + CpuClock + Print + Sync>(
     rt: &R,
     alloc: Global,
     row: &Row<'_>,
-    stores: bool,
 ) -> Option<()> {
     let hand = by_hand::Value::<16>::new(alloc).ok()?;
-    let (value, pass) = UnrestrictedAtomic::new(alloc, Sixteen(0, 0, 0, 0)).ok()?;
-    if stores {
-        let producer = value.acquire_producer(pass).ok()?;
-        return print_beside(rt, alloc, row, Stores { producer, hand });
-    }
+    let (value, pass) = UnrestrictedAtomic::new(alloc, Sixteen::of(0)).ok()?;
+    let producer = value.acquire_producer(pass).ok()?;
+    print_beside(rt, alloc, row, Stores { producer, hand })
+}
+
+/// Prints the row of a load of the value.
+pub fn load_row<R: Wait + Threads + CpuClock + Print + Sync>(
+    rt: &R,
+    alloc: Global,
+    row: &Row<'_>,
+) -> Option<()> {
+    let hand = by_hand::Value::<16>::new(alloc).ok()?;
+    let (value, pass) = UnrestrictedAtomic::new(alloc, Sixteen::of(0)).ok()?;
     let timed = Loads {
         value: &value,
         pass,

@@ -112,11 +112,21 @@ fn write_head(pen: &mut Pen, story: &Story, widths: &[usize]) {
     pen.put("\n");
 }
 
+// A number, at the right of four letters where it is short.
+fn write_number(pen: &mut Pen, number: usize) {
+    for least in [1000, 100, 10] {
+        if number < least {
+            pen.put(" ");
+        }
+    }
+    pen.number("", number);
+}
+
 // The line of a turn, with spaces behind it.
 fn row(alloc: Global, story: &Story, widths: &[usize], turn: usize) -> Result<String, AllocError> {
     let mut pen = Pen::new(alloc);
-    let number = turn.saturating_add(1);
-    pen.put(&format!(in alloc; "{number:>4}  ")?);
+    write_number(&mut pen, turn.saturating_add(1));
+    pen.put("  ");
     for (lane, width) in widths.iter().enumerate() {
         let from = pen.len();
         write_cell(&mut pen, story, lane, turn);

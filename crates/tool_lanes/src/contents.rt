@@ -4,6 +4,7 @@ use machine::event::{Answer, Event, Start};
 use machine::families::atomic::AtomicStart;
 use machine::families::queues::QueueStart;
 use machine::turn::Kind;
+use schedule::pen::Pen;
 use std::alloc::{AllocError, Global};
 
 /// The most items that are written out, and the letters behind which no further one is.
@@ -24,11 +25,20 @@ struct Item {
     value: Option<u128>,
 }
 
-#[derive(Drop)]
 pub struct Contents {
     kind: Kind,
     items: Vec<Item>,
     locked: bool,
+}
+
+impl Drop for Contents {
+    fn drop(self) {
+        let Self {
+            kind: _,
+            items: _items,
+            locked: _,
+        } = self;
+    }
 }
 
 /// Whether calls of this kind act as a whole, each at one moment.
@@ -265,56 +275,55 @@ impl Contents {
         }
     }
 
-    fn write_with(&self, text: &mut String, with: u64, surely: bool) -> Result<(), AllocError> {
-        let doubt = if surely { "" } else { "?" };
+    fn write_with(&self, pen: &mut Pen, with: u64, surely: bool) {
+        let with = u128::from(with);
         match self.kind {
-            Kind::Counts => write!(text, ": {with}"),
-            Kind::Indices => write!(text, " by {with}"),
-            Kind::Robust | Kind::Container => write!(text, " of {with}{doubt}"),
-            _ => Ok(()),
+            Kind::Counts => pen.large(": ", with),
+            Kind::Indices => pen.large(" by ", with),
+            Kind::Robust | Kind::Container => {
+                pen.large(" of ", with);
+                pen.put(if surely { "" } else { "?" });
+            }
+            _ => {}
         }
     }
 
-    fn write_item(&self, text: &mut String, item: Item) -> Result<(), AllocError> {
-        let key = item.key;
-        write!(text, "{key}")?;
+    fn write_item(&self, pen: &mut Pen, item: Item) {
+        pen.large("", item.key);
         if let Some(with) = item.with {
-            self.write_with(text, with, item.surely)?;
+            self.write_with(pen, with, item.surely);
         }
         if let Some(value) = item.value {
-            write!(text, ": {value}")?;
+            pen.large(": ", value);
         }
-        Ok(())
     }
 
-    fn write_items(&self, text: &mut String) -> Result<(), AllocError> {
+    fn write_items(&self, pen: &mut Pen) {
         for (at, item) in self.items.iter().enumerate() {
-            if at >= SHOWN || text.len() > WIDE {
-                let left = self.items.len().saturating_sub(at);
-                return write!(text, ", .. {left}{MORE}");
+            if (at >= SHOWN) | (pen.len() > WIDE) {
+                pen.number(", .. ", self.items.len().saturating_sub(at));
+                pen.put(MORE);
+                return;
             }
-            if at > 0 {
-                text.push_str(", ")?;
-            }
-            self.write_item(text, *item)?;
+            pen.put(if at > 0 { ", " } else { "" });
+            self.write_item(pen, *item);
         }
-        Ok(())
     }
 
     /// The contents as a text: a list in brackets, the oldest first, a set in braces, a single value as it is.
     pub fn text(&self, alloc: Global) -> Result<String, AllocError> {
-        let mut text = String::new(alloc);
+        let mut pen = Pen::new(alloc);
         let (open, close) = match self.kind {
             Kind::Atomic => ("", ""),
             Kind::IndexQueue | Kind::Overflow | Kind::Queue => ("[", "]"),
             _ => ("{", "}"),
         };
-        text.push_str(open)?;
-        self.write_items(&mut text)?;
-        text.push_str(close)?;
+        pen.put(open);
+        self.write_items(&mut pen);
+        pen.put(close);
         if self.locked {
-            text.push_str(" locked")?;
+            pen.put(" locked");
         }
-        Ok(text)
+        pen.done()
     }
 }

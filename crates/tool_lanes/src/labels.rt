@@ -38,7 +38,7 @@ pub fn line_at(pen: &mut Pen, class: &str, from: (usize, usize), to: (usize, usi
     pen.put("\"/>\n");
 }
 
-#[derive(Drop)]
+#[derive(Clone, Copy)]
 struct Label<'a> {
     x: usize,
     // Where its text begins: there, but for one that would not end on the page.
@@ -49,13 +49,22 @@ struct Label<'a> {
 }
 
 /// The labels of a lane, in the order in which they begin.
-#[derive(Drop)]
 pub struct Labels<'a> {
     labels: Vec<Label<'a>>,
     /// Where the last label of each level ends.
     ends: Vec<usize>,
     /// Where the page ends.
     right: usize,
+}
+
+impl<'a> Drop for Labels<'a> {
+    fn drop(self) {
+        let Self {
+            labels: _labels,
+            ends: _ends,
+            right: _,
+        } = self;
+    }
 }
 
 impl<'a> Labels<'a> {

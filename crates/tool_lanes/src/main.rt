@@ -10,8 +10,9 @@ mod story;
 mod svg;
 mod teller;
 
-use recorded::{MOST, record};
+use recorded::{MOST, Opening, opening_of, record};
 use schedule::arguments::{is_given, unread};
+use schedule::bare::{TakesTurns, made};
 use schedule::error::ScheduleError;
 use schedule::input::whole_input;
 use schedule::output::{flush, put};
@@ -71,6 +72,26 @@ fn draw_to<W: Write, E: Write>(
 }
 
 // Draws what the lines before a malformed one did, and then tells of that one.
+fn draw_on<M: TakesTurns<u128> + Drop, W: Write, E: Write>(
+    alloc: Global,
+    form: Form,
+    machine: M,
+    opening: Opening<'_>,
+    writer: &mut W,
+    errors: &mut E,
+) -> Result<(), ScheduleError> {
+    let run = record(alloc, machine, opening)?;
+    match tell(alloc, &run) {
+        Ok(story) => draw_to(alloc, form, &story, writer, errors)?,
+        Err(_) => return Err(ScheduleError::NoMemory),
+    }
+    match run.malformed {
+        Some((line, cause)) => Err(ScheduleError::Malformed(line, cause)),
+        None => Ok(()),
+    }
+}
+
+// The same on a machine of the first line.
 fn draw<R: Read, W: Write, E: Write>(
     alloc: Global,
     form: Form,
@@ -79,14 +100,10 @@ fn draw<R: Read, W: Write, E: Write>(
     errors: &mut E,
 ) -> Result<(), ScheduleError> {
     let input = whole_input(alloc, reader)?;
-    let run = record(alloc, &input)?;
-    match tell(alloc, &run) {
-        Ok(story) => draw_to(alloc, form, &story, writer, errors)?,
-        Err(_) => return Err(ScheduleError::NoMemory),
-    }
-    match run.malformed {
-        Some((line, cause)) => Err(ScheduleError::Malformed(line, cause)),
-        None => Ok(()),
+    let opening = opening_of(&input)?;
+    match made(alloc, opening.setup) {
+        Some(machine) => draw_on(alloc, form, machine, opening, writer, errors),
+        None => Err(ScheduleError::NoMemory),
     }
 }
 

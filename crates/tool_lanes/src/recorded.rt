@@ -1,9 +1,8 @@
 //! The turns of a schedule, with what each of them came to.
-use machine::Machine;
 use machine::event::Event;
 use machine::party::Progress;
 use machine::turn::{Refusal, Turn};
-use schedule::bare::{is_going, made, read_command, read_setup, step, under_way};
+use schedule::bare::{TakesTurns, read_command, read_setup};
 use schedule::error::{Cause, ScheduleError};
 use schedule::grammar::{Command, Setup};
 use schedule::text::{Rest, lines};
@@ -39,17 +38,37 @@ pub struct Taken {
     pub events: usize,
 }
 
-/// A run, up to its end or to the line that is malformed.
-#[derive(Drop)]
-pub struct Recorded {
+/// What a schedule begins with, and the lines after that, of at most so many bytes.
+#[derive(Clone, Copy)]
+pub struct Opening<'a> {
     pub setup: Setup,
-    pub machine: Machine<u128>,
+    lines: Rest<'a>,
+    bytes: usize,
+}
+
+/// A run, up to its end or to the line that is malformed, on a machine that is named by nobody here.
+pub struct Recorded<M> {
+    pub setup: Setup,
+    pub machine: M,
     pub turns: Vec<Taken>,
     /// The begins that were refused, in their order, as the event that did not come.
     pub unbegun: Vec<Event<u128>>,
     pub malformed: Option<(u64, Cause)>,
     /// Whether turns were left out, since there were too many to draw.
     pub cut: bool,
+}
+
+impl<M: Drop> Drop for Recorded<M> {
+    fn drop(self) {
+        let Self {
+            setup: _,
+            machine: _machine,
+            turns: _turns,
+            unbegun: _unbegun,
+            malformed: _,
+            cut: _,
+        } = self;
+    }
 }
 
 // What a step was, by how far its call had come before and after it.
@@ -83,7 +102,7 @@ fn did_of(turn: &Turn<u128>, before: Option<Progress>, after: Option<Progress>) 
     }
 }
 
-impl Recorded {
+impl<M: TakesTurns<u128>> Recorded<M> {
     fn push(&mut self, taken: Taken) -> Result<(), ScheduleError> {
         match self.turns.push(taken) {
             Ok(()) => Ok(()),
@@ -109,9 +128,9 @@ impl Recorded {
         }
         let party = party_of(&turn);
         let number = party.unwrap_or(0);
-        let before = under_way(&self.machine, number);
-        let refusal = step(&mut self.machine, turn).err();
-        let did = did_of(&turn, before, under_way(&self.machine, number));
+        let before = self.machine.under_way(number);
+        let refusal = self.machine.step(turn).err();
+        let did = did_of(&turn, before, self.machine.under_way(number));
         let taken = Taken {
             party: match party {
                 Some(number) if number < self.setup.parties => party,
@@ -125,7 +144,7 @@ impl Recorded {
         if refusal.is_some() {
             self.refuse(&turn)?;
         }
-        Ok(refusal.is_none() && is_going(&self.machine, number))
+        Ok(refusal.is_none() && self.machine.is_going(number))
     }
 
     // What a line asks for.
@@ -159,10 +178,10 @@ impl Recorded {
         }
     }
 
-    // The lines after the first, of which at most so many bytes are left.
-    fn lines(&mut self, bytes: usize, lines: Rest<'_>) -> Result<(), ScheduleError> {
-        let mut left = lines;
-        for at in 0..bytes {
+    // The lines after the first.
+    fn lines(&mut self, opening: Opening<'_>) -> Result<(), ScheduleError> {
+        let mut left = opening.lines;
+        for at in 0..opening.bytes {
             let Some((line, rest)) = left.first() else {
                 return Ok(());
             };
@@ -175,26 +194,35 @@ impl Recorded {
     }
 }
 
-/// Runs a schedule. A malformed line ends the run, with its number and cause; where it is the first, that is the error.
-pub fn record(alloc: Global, input: &[u8]) -> Result<Recorded, ScheduleError> {
+/// Reads the first line, of which a malformed word is the error.
+pub fn opening_of(input: &[u8]) -> Result<Opening<'_>, ScheduleError> {
     let Some((first, rest)) = lines(input).first() else {
         return Err(ScheduleError::Malformed(1, Cause::MissingValue));
     };
-    let setup = match read_setup(first) {
-        Ok(setup) => setup,
-        Err(cause) => return Err(ScheduleError::Malformed(1, cause)),
-    };
-    let Some(machine) = made(alloc, setup) else {
-        return Err(ScheduleError::NoMemory);
-    };
+    match read_setup(first) {
+        Ok(setup) => Ok(Opening {
+            setup,
+            lines: rest,
+            bytes: input.len(),
+        }),
+        Err(cause) => Err(ScheduleError::Malformed(1, cause)),
+    }
+}
+
+/// Runs a schedule on a machine of its first line. A malformed line ends the run, with its number and cause.
+pub fn record<M: TakesTurns<u128> + Drop>(
+    alloc: Global,
+    machine: M,
+    opening: Opening<'_>,
+) -> Result<Recorded<M>, ScheduleError> {
     let mut run = Recorded {
-        setup,
+        setup: opening.setup,
         machine,
         turns: Vec::new(alloc),
         unbegun: Vec::new(alloc),
         malformed: None,
         cut: false,
     };
-    run.lines(input.len(), rest)?;
+    run.lines(opening)?;
     Ok(run)
 }

@@ -1,10 +1,10 @@
 //! A run as it is drawn: lanes, calls from begin to end, marks, numbered acts, and the contents after each change.
 use crate::contents::MORE;
 use crate::recorded::Did;
+use schedule::pen::Pen;
 use std::alloc::{AllocError, Global};
 
 /// A call, from the turn in which it begins to the one in which it ends, or open for good.
-#[derive(Drop)]
 pub struct Call {
     pub lane: usize,
     pub begin: usize,
@@ -13,8 +13,19 @@ pub struct Call {
     pub text: String,
 }
 
+// A drop by hand, here and in the modules beside, is one call in the proof of whoever has one of these, on each way out.
+impl Drop for Call {
+    fn drop(self) {
+        let Self {
+            lane: _,
+            begin: _,
+            end: _,
+            text: _text,
+        } = self;
+    }
+}
+
 /// Something to be named at a turn in a lane.
-#[derive(Drop)]
 pub struct Mark {
     pub lane: usize,
     pub turn: usize,
@@ -22,8 +33,18 @@ pub struct Mark {
     pub refused: bool,
 }
 
+impl Drop for Mark {
+    fn drop(self) {
+        let Self {
+            lane: _,
+            turn: _,
+            text: _text,
+            refused: _,
+        } = self;
+    }
+}
+
 /// A call acts, or a change is made, and which one this is in the order of all, from 1 on.
-#[derive(Drop)]
 pub struct Act {
     pub lane: usize,
     pub turn: usize,
@@ -31,11 +52,30 @@ pub struct Act {
     pub text: String,
 }
 
+impl Drop for Act {
+    fn drop(self) {
+        let Self {
+            lane: _,
+            turn: _,
+            number: _,
+            text: _text,
+        } = self;
+    }
+}
+
 /// The contents from a turn on.
-#[derive(Drop)]
 pub struct After {
     pub turn: usize,
     pub text: String,
+}
+
+impl Drop for After {
+    fn drop(self) {
+        let Self {
+            turn: _,
+            text: _text,
+        } = self;
+    }
 }
 
 /// A turn of a lane.
@@ -46,7 +86,6 @@ pub struct Turned {
     pub refused: bool,
 }
 
-#[derive(Drop)]
 pub struct Story {
     pub title: String,
     /// What the numbers number.
@@ -61,6 +100,23 @@ pub struct Story {
     pub contents: Vec<After>,
     /// Whether turns are left out behind the last one.
     pub cut: bool,
+}
+
+impl Drop for Story {
+    fn drop(self) {
+        let Self {
+            title: _title,
+            order: _,
+            lanes: _lanes,
+            turns: _turns,
+            calls: _calls,
+            marks: _marks,
+            acts: _acts,
+            opening: _opening,
+            contents: _contents,
+            cut: _,
+        } = self;
+    }
 }
 
 /// What is told where turns are left out.
@@ -87,17 +143,19 @@ impl Call {
 impl Story {
     /// An act with whose it is, and in whose turn it comes where that is another's.
     pub fn told(&self, alloc: Global, act: &Act) -> Result<String, AllocError> {
-        let number = act.number;
-        let name = self.lane_name(act.lane);
-        let said = &act.text;
-        let mut text = format!(in alloc; "{number}. {name}: {said}")?;
+        let mut pen = Pen::new(alloc);
+        pen.number("", act.number);
+        pen.put(". ");
+        pen.put(self.lane_name(act.lane));
+        pen.put(": ");
+        pen.put(&act.text);
         if let Some(turned) = self.turns.get(act.turn) {
             if turned.lane != act.lane {
-                let other = self.lane_name(turned.lane);
-                write!(text, ", in a turn of {other}")?;
+                pen.put(", in a turn of ");
+                pen.put(self.lane_name(turned.lane));
             }
         }
-        Ok(text)
+        pen.done()
     }
 
     fn lane_name(&self, lane: usize) -> &str {

@@ -4,7 +4,9 @@ use crate::recorded::{Did, Recorded, Taken};
 use crate::story::{Act, After, Call, Mark, Story, Turned};
 use machine::event::Event;
 use machine::turn::{Kind, Refusal};
-use schedule::bare::{line_of, line_of_refusal, text_of};
+use schedule::bare::{TakesTurns, line_of, line_of_refusal, text_of};
+use schedule::grammar::Setup;
+use schedule::pen::Pen;
 use std::alloc::{AllocError, Global};
 
 // The first word, and what stands behind it.
@@ -43,13 +45,19 @@ fn parties_of(alloc: Global, turns: &[Taken]) -> Result<Vec<u32>, AllocError> {
     Ok(parties)
 }
 
-fn names_of(alloc: Global, run: &Recorded, parties: &[u32]) -> Result<Vec<String>, AllocError> {
+fn party_name(alloc: Global, party: u32) -> Result<String, AllocError> {
+    let mut pen = Pen::new(alloc);
+    pen.number("party ", party as usize);
+    pen.done()
+}
+
+fn names_of(alloc: Global, turns: &[Taken], parties: &[u32]) -> Result<Vec<String>, AllocError> {
     let mut names = Vec::new(alloc);
     for party in parties {
-        names.push(format!(in alloc; "party {party}")?)?;
+        names.push(party_name(alloc, *party)?)?;
     }
-    if run.turns.iter().any(|turn| turn.party.is_none()) {
-        names.push(format!(in alloc; "no party")?)?;
+    if turns.iter().any(|turn| turn.party.is_none()) {
+        names.push(String::from_str(alloc, "no party")?)?;
     }
     Ok(names)
 }
@@ -69,34 +77,42 @@ fn name_of(kind: Kind) -> &'static str {
     }
 }
 
-fn title_of(alloc: Global, run: &Recorded) -> Result<String, AllocError> {
-    let name = name_of(run.setup.kind);
-    let capacity = run.setup.capacity;
-    let number = run.setup.parties;
-    if let Kind::Loan = run.setup.kind {
-        let queue = run.setup.queue;
-        return format!(in alloc; "{name}, slots {capacity}, queue {queue}, parties {number}");
+fn title_of(alloc: Global, setup: Setup) -> Result<String, AllocError> {
+    let mut pen = Pen::new(alloc);
+    pen.put(name_of(setup.kind));
+    if let Kind::Loan = setup.kind {
+        pen.large(", slots ", u128::from(setup.capacity));
+        pen.large(", queue ", u128::from(setup.queue));
+    } else {
+        pen.large(", capacity ", u128::from(setup.capacity));
     }
-    format!(in alloc; "{name}, capacity {capacity}, parties {number}")
+    pen.number(", parties ", setup.parties as usize);
+    pen.done()
 }
 
-fn opening(alloc: Global, run: &Recorded, parties: &[u32]) -> Result<Story, AllocError> {
-    let order = if has_acts(run.setup.kind) {
+fn opening(
+    alloc: Global,
+    setup: Setup,
+    turns: &[Taken],
+    parties: &[u32],
+    cut: bool,
+) -> Result<Story, AllocError> {
+    let order = if has_acts(setup.kind) {
         "calls in the order in which they act"
     } else {
         "changes in their order"
     };
     Ok(Story {
-        title: title_of(alloc, run)?,
+        title: title_of(alloc, setup)?,
         order,
-        lanes: names_of(alloc, run, parties)?,
+        lanes: names_of(alloc, turns, parties)?,
         turns: Vec::new(alloc),
         calls: Vec::new(alloc),
         marks: Vec::new(alloc),
         acts: Vec::new(alloc),
-        opening: Contents::new(alloc, run.setup.kind)?.text(alloc)?,
+        opening: Contents::new(alloc, setup.kind)?.text(alloc)?,
         contents: Vec::new(alloc),
-        cut: run.cut,
+        cut,
     })
 }
 
@@ -105,11 +121,14 @@ fn refused_text(alloc: Global, begun: &Event<u128>, why: &str) -> Result<String,
     let line = line_of(begun);
     let (_, said) = halves(text_of(&line));
     let (_, call) = halves(said);
-    format!(in alloc; "{call}: {why}")
+    let mut pen = Pen::new(alloc);
+    pen.put(call);
+    pen.put(": ");
+    pen.put(why);
+    pen.done()
 }
 
 /// A story up to some turn.
-#[derive(Drop)]
 struct Teller<'a> {
     alloc: Global,
     parties: &'a [u32],
@@ -117,6 +136,18 @@ struct Teller<'a> {
     story: Story,
     /// The begins that were refused from here on.
     unbegun: &'a [Event<u128>],
+}
+
+impl<'a> Drop for Teller<'a> {
+    fn drop(self) {
+        let Self {
+            alloc: _,
+            parties: _,
+            contents: _contents,
+            story: _story,
+            unbegun: _,
+        } = self;
+    }
 }
 
 impl Teller<'_> {
@@ -163,7 +194,8 @@ impl Teller<'_> {
     ) -> Result<(), AllocError> {
         if let Some(last) = self.story.marks.last_mut() {
             if last.turn == turn && last.lane == lane {
-                return write!(last.text, ", {said}");
+                last.text.push_str(", ")?;
+                return last.text.push_str(said);
             }
         }
         self.story.marks.push(Mark {
@@ -191,7 +223,8 @@ impl Teller<'_> {
     }
 
     fn mark_death(&mut self, lane: usize, turn: usize, owner: &str) -> Result<(), AllocError> {
-        let text = format!(in self.alloc; "{owner} died")?;
+        let mut text = String::from_str(self.alloc, owner)?;
+        text.push_str(" died")?;
         self.mark(lane, turn, &text, false)
     }
 
@@ -270,24 +303,40 @@ impl Teller<'_> {
         }
         Ok(())
     }
+
+    // All turns, with these events.
+    fn turns(&mut self, turns: &[Taken], events: &[Event<u128>]) -> Result<(), AllocError> {
+        let mut before = 0;
+        for (turn, taken) in turns.iter().enumerate() {
+            let new = events.get(before..taken.events).unwrap_or(&[]);
+            self.turn(turn, taken, new)?;
+            before = taken.events;
+        }
+        Ok(())
+    }
+
+    fn into_story(self) -> Story {
+        let Self {
+            alloc: _,
+            parties: _,
+            contents: _contents,
+            story,
+            unbegun: _,
+        } = self;
+        story
+    }
 }
 
 /// A run, told.
-pub fn tell(alloc: Global, run: &Recorded) -> Result<Story, AllocError> {
+pub fn tell<M: TakesTurns<u128>>(alloc: Global, run: &Recorded<M>) -> Result<Story, AllocError> {
     let parties = parties_of(alloc, &run.turns)?;
     let mut teller = Teller {
         alloc,
         parties: &parties,
         contents: Contents::new(alloc, run.setup.kind)?,
-        story: opening(alloc, run, &parties)?,
+        story: opening(alloc, run.setup, &run.turns, &parties, run.cut)?,
         unbegun: run.unbegun.as_slice(),
     };
-    let events = run.machine.events();
-    let mut before = 0;
-    for (turn, taken) in run.turns.iter().enumerate() {
-        let new = events.get(before..taken.events).unwrap_or(&[]);
-        teller.turn(turn, taken, new)?;
-        before = taken.events;
-    }
-    Ok(teller.story)
+    teller.turns(&run.turns, run.machine.events())?;
+    Ok(teller.into_story())
 }

@@ -36,30 +36,43 @@ const NAMES: [&str; 11] = [
     "bus",
 ];
 
+/// Runs the program of this number in that order.
+fn run_at<R: Threads + Wait + Print + Sync>(
+    rt: &R,
+    alloc: Global,
+    number: usize,
+) -> io::Result<()> {
+    match number {
+        0 => relay::report(rt, alloc),
+        1 => relay_overflow::report(rt, alloc),
+        2 => relay_readings::report(rt, alloc),
+        3 => bells::report(rt, alloc),
+        4 => tallies::report(rt, alloc),
+        5 => pool::report(rt, alloc),
+        6 => leases::report(rt, alloc),
+        7 => loans::report(rt, alloc),
+        8 => registry::report(rt, alloc),
+        9 => closing::report(rt, alloc),
+        _ => bus::report(rt, alloc),
+    }
+}
+
 /// Runs the program of this name: whether there is one.
 fn run<R: Threads + Wait + Print + Sync>(rt: &R, alloc: Global, name: &str) -> io::Result<bool> {
-    match name {
-        "relay" => relay::report(rt, alloc)?,
-        "relay_overflow" => relay_overflow::report(rt, alloc)?,
-        "relay_readings" => relay_readings::report(rt, alloc)?,
-        "bells" => bells::report(rt, alloc)?,
-        "tallies" => tallies::report(rt, alloc)?,
-        "pool" => pool::report(rt, alloc)?,
-        "leases" => leases::report(rt, alloc)?,
-        "loans" => loans::report(rt, alloc)?,
-        "registry" => registry::report(rt, alloc)?,
-        "closing" => closing::report(rt, alloc)?,
-        "bus" => bus::report(rt, alloc)?,
-        _ => return Ok(false),
+    for number in 0..NAMES.len() {
+        if NAMES[number] == name {
+            run_at(rt, alloc, number)?;
+            return Ok(true);
+        }
     }
-    Ok(true)
+    Ok(false)
 }
 
 /// Runs all, each below a line with its name.
 fn run_all<R: Threads + Wait + Print + Sync>(rt: &R, alloc: Global) -> io::Result<()> {
-    for name in NAMES {
-        println!(rt; "== {name}")?;
-        run(rt, alloc, name)?;
+    for number in 0..NAMES.len() {
+        println!(rt; "== {}", NAMES[number])?;
+        run_at(rt, alloc, number)?;
     }
     Ok(())
 }

@@ -109,8 +109,9 @@ pub fn count_bells<R: Threads + Sync>(
 {
     // No count comes to 2^64.
     first.len().checked_add(second.len())?;
-    let opened = CountingBitSet::new(alloc, bells).ok()?;
-    let (set, mut mine) = opened;
+    let Ok((set, mut mine)) = CountingBitSet::new(alloc, bells) else {
+        return None;
+    };
     let taker = mine.split()?;
     let other = mine.split()?;
     let shared = &set;

@@ -68,12 +68,22 @@ pub const SIZES: Sizes = Sizes {
 };
 
 /// Those who take part, and a loan that is kept.
-#[derive(Drop)]
 pub struct Room<'a> {
     publisher: Publisher<'a, Words>,
     one: Option<Subscriber<'a, Words>>,
     other: Option<Subscriber<'a, Words>>,
     loan: Option<Loan<'a, Words>>,
+}
+
+impl<'a> Drop for Room<'a> {
+    fn drop(self) {
+        let Self {
+            publisher: _publisher,
+            one: _one,
+            other: _other,
+            loan: _loan,
+        } = self;
+    }
 }
 
 /// The seat that one takes as this owner.
@@ -119,6 +129,15 @@ fn reads(rt: &impl Wait, subscriber: &mut Subscriber<'_, Words>, number: u64) ->
 }
 
 impl<'a> Room<'a> {
+    fn new(publisher: Publisher<'a, Words>) -> Room<'a> {
+        Room {
+            publisher,
+            one: None,
+            other: None,
+            loan: None,
+        }
+    }
+
     fn subscriber(&mut self, who: Who) -> &mut Option<Subscriber<'a, Words>> {
         match who {
             Who::One => &mut self.one,
@@ -273,7 +292,21 @@ fn first_wrong_in(
     None
 }
 
-/// The same on a new bus, where the first steps are done once before.
+/// The same, where the first steps are done once before.
+fn first_wrong_after(
+    rt: &impl Wait,
+    room: &mut Room<'_>,
+    begin: &[Step],
+    steps: &[Step],
+    rounds: usize,
+) -> Option<usize> {
+    if first_wrong_in(rt, room, begin, 1).is_some() {
+        return Some(usize::MAX);
+    }
+    first_wrong_in(rt, room, steps, rounds)
+}
+
+/// The same on a new bus.
 pub fn first_wrong(
     rt: &impl Wait,
     alloc: Global,
@@ -286,17 +319,17 @@ pub fn first_wrong(
         Ok(spares) => spares,
         Err(_) => return Err(BusError::NoMemory),
     };
-    let publisher = bus.publisher(rt, alloc, pass, spares)?;
-    let mut room = Room {
-        publisher,
-        one: None,
-        other: None,
-        loan: None,
-    };
-    if first_wrong_in(rt, &mut room, begin, 1).is_some() {
-        return Ok(Some(usize::MAX));
-    }
-    Ok(first_wrong_in(rt, &mut room, steps, rounds))
+    let mut room = Room::new(bus.publisher(rt, alloc, pass, spares)?);
+    Ok(first_wrong_after(rt, &mut room, begin, steps, rounds))
+}
+
+/// How many records are left in the end, after a loan that is given up. None where there is no loan.
+fn left_after(rt: &impl Wait, publisher: Publisher<'_, Words>) -> Option<usize> {
+    let mut publisher = publisher;
+    let loan = publisher.loan(rt).ok()?;
+    publisher.give_up(loan);
+    let (_, left) = publisher.finish();
+    Some(left.len())
 }
 
 /// How many of so many records a publisher hands out in the end who gave up a loan. None where there is no loan.
@@ -305,11 +338,6 @@ pub fn left_of(rt: &impl Wait, alloc: Global, number: usize) -> Result<Option<us
     let Ok(spares) = spares(alloc, number, WORDS) else {
         return Err(BusError::NoMemory);
     };
-    let mut publisher = bus.publisher(rt, alloc, pass, spares)?;
-    let Ok(loan) = publisher.loan(rt) else {
-        return Ok(None);
-    };
-    publisher.give_up(loan);
-    let (_, left) = publisher.finish();
-    Ok(Some(left.len()))
+    let publisher = bus.publisher(rt, alloc, pass, spares)?;
+    Ok(left_after(rt, publisher))
 }

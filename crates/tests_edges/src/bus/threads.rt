@@ -39,13 +39,24 @@ const SIZES: Sizes = Sizes {
 };
 
 /// What the threads tell each other.
-#[derive(Drop)]
 struct Shared {
     published: AtomicU64,
     joined: AtomicU64,
     dead: AtomicU64,
     left: AtomicU64,
     is_over: AtomicU64,
+}
+
+impl Drop for Shared {
+    fn drop(self) {
+        let Self {
+            published: _published,
+            joined: _joined,
+            dead: _dead,
+            left: _left,
+            is_over: _is_over,
+        } = self;
+    }
 }
 
 /// Waits until it is so many. False at the limit.

@@ -5,11 +5,20 @@ use std::alloc::{AllocError, Global};
 use uses_slots::Keeps;
 
 /// A record: its number, so many words, and a text.
-#[derive(Drop)]
 pub struct Words {
     pub number: u64,
     pub all: Vec<u64>,
     pub text: String,
+}
+
+impl Drop for Words {
+    fn drop(self) {
+        let Self {
+            number: _,
+            all: _all,
+            text: _text,
+        } = self;
+    }
 }
 
 /// The rule that a record has the number that it is published with.

@@ -50,14 +50,14 @@ fn bounds(call: &Call, capacity: u64) -> (u64, u64) {
 fn is_bounded(call: &Call, capacity: u64, progress: &Progress) -> bool {
     let (most, more) = bounds(call, capacity);
     let most = most.saturating_add(more.saturating_mul(progress.backs));
-    progress.steps <= most && progress.backs <= progress.others
+    (progress.steps <= most) & (progress.backs <= progress.others)
 }
 
 impl Book {
     /// Whether its owner's death stops the call.
     fn is_stopped(&self, call: &Call) -> bool {
         let is_owners = [Name::Add, Name::Remove, Name::Replace].contains(&call.name);
-        is_owners && self.is_dead(call.owner)
+        is_owners & self.is_dead(call.owner)
     }
 
     pub fn is_open(&self, party: u32) -> bool {
@@ -75,8 +75,8 @@ impl Book {
     pub fn is_replaced(&self, index: u64) -> bool {
         let mut is_replaced = false;
         for span in &self.spans {
-            let is_one = span.is_open && span.call.name == Name::Replace;
-            is_replaced |= is_one && span.call.place == index;
+            let is_one = span.is_open & (span.call.name == Name::Replace);
+            is_replaced |= is_one & (span.call.place == index);
         }
         is_replaced
     }
@@ -93,7 +93,7 @@ impl Book {
     /// Whether the call of the party may go on, by a decision or without.
     pub fn may_go(&self, party: u32, decides: bool) -> bool {
         let span = self.span(party as u64);
-        span.is_open && span.asks == decides && !self.is_stopped(&span.call)
+        span.is_open & (span.asks == decides) & !self.is_stopped(&span.call)
     }
 
     /// The turn comes now, with this decision.
@@ -107,8 +107,8 @@ impl Book {
         let span = self.span(party as u64);
         let is_find = span.call.name == Name::FindOf;
         match self.said {
-            Said::False => !is_find || !span.is_open,
-            Said::True => is_find || span.told & bit(span.index) != 0,
+            Said::False => !is_find | !span.is_open,
+            Said::True => is_find | (span.told & bit(span.index) != 0),
             _ => true,
         }
     }
@@ -140,7 +140,7 @@ impl Book {
         for index in 0..4usize {
             let stands = kept.stands & (1 << index) != 0;
             match state.get(index) {
-                Some(value) => is_kept &= stands && *value == kept.values[index],
+                Some(value) => is_kept &= stands & (*value == kept.values[index]),
                 None => is_kept &= !stands,
             }
         }
@@ -153,14 +153,14 @@ impl Book {
         let progress = under_way(machine, party);
         let span = &self.spans[party as usize % 4];
         let is_under_way = progress.finished != span.is_open;
-        let goes = span.is_open && !span.asks;
+        let goes = span.is_open & !span.asks;
         let is_asking_right = machine.is_going(party) == goes;
         let is_in_bounds = is_bounded(&span.call, self.capacity, &progress);
-        let is_looking = span.is_open && is_look(span.call.name);
-        let is_replacing = span.is_open && span.call.name == Name::Replace;
-        self.is_well_formed &= !is_replacing || span.is_well_formed || progress.steps == 0;
-        let is_same = is_looking || self.is_state_kept(machine, party);
-        is_under_way && is_asking_right && is_in_bounds && is_same
+        let is_looking = span.is_open & is_look(span.call.name);
+        let is_replacing = span.is_open & (span.call.name == Name::Replace);
+        self.is_well_formed &= !is_replacing | span.is_well_formed | (progress.steps == 0);
+        let is_same = is_looking | self.is_state_kept(machine, party);
+        is_under_way & is_asking_right & is_in_bounds & is_same
     }
 
     /// Whether all parties are as the book has them.
@@ -182,9 +182,9 @@ impl Book {
             return !is_odd;
         }
         let value = value_at(&self.values, index);
-        let is_whole = word(words, first) == value.word(0)
-            && word(words, first.wrapping_add(1)) == value.word(1);
-        is_odd && is_whole
+        let is_first = word(words, first) == value.word(0);
+        let is_second = word(words, first.wrapping_add(1)) == value.word(1);
+        is_odd & is_first & is_second
     }
 
     fn is_cell_right(&self, words: &[u64], index: u64) -> bool {
@@ -205,7 +205,7 @@ impl Book {
         want(is_locked == self.is_locked, "the counter says the lock")?;
         want(are_owners, "a cell has its owner")?;
         want(
-            are_values || !self.is_well_formed,
+            are_values | !self.is_well_formed,
             "an element has its value",
         )
     }

@@ -401,17 +401,17 @@ impl Book {
     pub fn ends_right(&mut self, span: &Span, told: &Told) -> Right {
         let left = span.freed & !span.gone;
         want(
-            left == 0 || !self.is_well_formed,
+            (left == 0) | !self.is_well_formed,
             "what stood where it freed is hidden",
         )?;
         let mut is_answer = false;
         for number in 0..ENDINGS {
             let (name, said, needs, is_strict, promise) = &ENDS[number];
-            if *name == span.call.name && *said == told.said {
+            if (*name == span.call.name) & (*said == told.said) {
                 is_answer = true;
                 self.ended[number] = self.ended[number].wrapping_add(1);
-                let is_due = self.is_well_formed || !*is_strict;
-                want(!is_due || self.has_done(*needs, span, told), promise)?;
+                let is_free = *is_strict & !self.is_well_formed;
+                want(is_free | self.has_done(*needs, span, told), promise)?;
             }
         }
         want(is_answer, "a call answers as calls of its name do")

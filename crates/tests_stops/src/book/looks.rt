@@ -5,7 +5,7 @@ use crate::replay::bit;
 
 /// Whether this value is shown at this index.
 fn is_shown(shown: &Shown, index: u64, value: u128) -> bool {
-    shown.stands & bit(index) != 0 && value_at(&shown.values, index) == value
+    (shown.stands & bit(index) != 0) & (value_at(&shown.values, index) == value)
 }
 
 impl Book {
@@ -28,7 +28,7 @@ impl Book {
                 index,
                 value: value_at(&shown.values, index),
             };
-            are &= shown.stands & bit(index) == 0 || self.copies.contains(&copy);
+            are &= (shown.stands & bit(index) == 0) | self.copies.contains(&copy);
         }
         are
     }
@@ -37,8 +37,8 @@ impl Book {
     fn is_current(&self, span: &Span, shown: &Shown) -> bool {
         let mut is_current = true;
         for stay in &self.stays {
-            let is_due = stay.settled < span.begun && stay.hidden == u64::MAX;
-            is_current &= !is_due || is_shown(shown, stay.index, stay.value);
+            let is_due = (stay.settled < span.begun) & (stay.hidden == u64::MAX);
+            is_current &= !is_due | is_shown(shown, stay.index, stay.value);
         }
         is_current
     }
@@ -47,7 +47,7 @@ impl Book {
     fn stood_in(&self, span: &Span, shown: &Shown) -> u64 {
         let mut stood = span.empty_once & !shown.stands;
         for stay in &self.stays {
-            if stay.hidden > span.begun && is_shown(shown, stay.index, stay.value) {
+            if (stay.hidden > span.begun) & is_shown(shown, stay.index, stay.value) {
                 stood |= bit(stay.index);
             }
         }

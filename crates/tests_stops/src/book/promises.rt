@@ -7,7 +7,7 @@ use crate::told::{Name, Said, Told, What};
 /// index.
 type Step = (Name, What, &'static [What], bool);
 
-const STEPS: [Step; 19] = [
+static STEPS: [Step; 19] = [
     (Name::Add, What::Filled, &[What::Nothing], false),
     (Name::Add, What::Granted, &[What::Filled], false),
     (Name::Add, What::Hidden, &[What::Granted], false),
@@ -89,7 +89,7 @@ enum Need {
 /// An event, what has to be so, whether only in a well-formed run, and how that is told.
 type Promise = (What, Need, bool, &'static str);
 
-const PROMISES: [Promise; 26] = [
+static PROMISES: [Promise; 26] = [
     (
         What::Begun,
         Need::IsNotOpen,
@@ -232,14 +232,14 @@ const PROMISES: [Promise; 26] = [
 fn follows(span: &Span, index: u64, behind: &[What], ascends: bool) -> bool {
     let is_behind = behind.contains(&span.latest);
     let is_first = span.latest == What::Nothing;
-    let is_there = is_first || span.index == index;
-    (is_behind && is_there) || (ascends && !is_first && span.index < index)
+    let is_there = is_first | (span.index == index);
+    (is_behind & is_there) | (ascends & !is_first & (span.index < index))
 }
 
 /// Whether the call may write this next.
 fn may_write(span: &Span, told: &Told) -> bool {
     for (name, what, behind, ascends) in &STEPS {
-        if *name == span.call.name && *what == told.what {
+        if (*name == span.call.name) & (*what == told.what) {
             return follows(span, told.place, behind, *ascends);
         }
     }
@@ -249,22 +249,22 @@ fn may_write(span: &Span, told: &Told) -> bool {
 impl Book {
     /// Whether the call is under way, and of this index and this owner, where the event has one.
     fn is_its(&self, span: &Span, told: &Told) -> bool {
-        let is_owners = told.owner == 0 || span.call.owner == told.owner;
-        let is_there = told.place < self.capacity && fits(span.call.place, told.place);
-        span.is_open && is_owners && is_there
+        let is_owners = (told.owner == 0) | (span.call.owner == told.owner);
+        let is_there = (told.place < self.capacity) & fits(span.call.place, told.place);
+        span.is_open & is_owners & is_there
     }
 
     /// What the event says of its call.
     fn is_of_call(&self, need: Need, span: &Span, told: &Told) -> bool {
         let was_its = span.its_once & bit(told.place) != 0;
         match need {
-            Need::IsNotOpen => !span.is_open && told.party < 4,
-            Need::IsThisCall => span.is_open && span.call == told.call,
+            Need::IsNotOpen => !span.is_open & (told.party < 4),
+            Need::IsThisCall => span.is_open & (span.call == told.call),
             Need::IsItsValue => span.call.value == told.value,
             Need::MayLock => span.call.may_lock,
             Need::WasUnlocked => span.unlocked_once,
             Need::WasIts => was_its,
-            Need::FindsIts => was_its || span.call.name != Name::FindOf,
+            Need::FindsIts => was_its | (span.call.name != Name::FindOf),
             Need::SaidYes => self.said == Said::True,
             Need::FreesFor => self.is_dead(told.owner) == (span.call.name == Name::RecoverOf),
             _ => self.is_of_index(need, told),
@@ -284,27 +284,33 @@ impl Book {
             Need::IsDead => self.is_dead(told.owner),
             Need::IsHidden => !stands,
             Need::IsVisible => stands,
-            Need::IsWhole => stands && value_at(&self.values, told.place) == told.value,
+            Need::IsWhole => stands & (value_at(&self.values, told.place) == told.value),
             _ => false,
         }
+    }
+
+    /// Whether what the table says is so, if it is of this event.
+    fn keeps(&self, promise: &Promise, span: &Span, told: &Told) -> Right {
+        let (what, need, is_strict, promise) = *promise;
+        if (what != told.what) | (is_strict & !self.is_well_formed) {
+            return Ok(());
+        }
+        want(self.is_of_call(need, span, told), promise)
     }
 
     /// Whether all is so that is promised of the event, whose party's latest call is this.
     pub fn promised(&mut self, span: &Span, told: &Told) -> Right {
         let is_written = !matches!(told.what, What::Begun | What::Died | What::Finished);
         want(
-            !is_written || self.is_its(span, told),
+            !is_written | self.is_its(span, told),
             "a call writes of its own index and owner",
         )?;
         want(
-            !is_written || may_write(span, told),
+            !is_written | may_write(span, told),
             "a call writes in its order",
         )?;
-        for (what, need, is_strict, promise) in &PROMISES {
-            if *what == told.what {
-                let is_due = self.is_well_formed || !*is_strict;
-                want(!is_due || self.is_of_call(*need, span, told), promise)?;
-            }
+        for promise in &PROMISES {
+            self.keeps(promise, span, told)?;
         }
         if told.what == What::Finished {
             return self.ends_right(span, told);

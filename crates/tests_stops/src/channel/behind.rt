@@ -1,16 +1,17 @@
 //! Which turns are taken, and what the machine shows behind each.
 use super::moves::{FREE, PASSING, RETURNING, WAITING, WITH, spot};
-use super::{Channel, Line, at};
+use super::{Channel, Line, Span, at};
 use crate::cut::under_way;
 use crate::replay::{Right, bit, want};
 use crate::told::{Call, Name, told_of};
+use machine::party::Progress;
 use machine::turn::Refusal;
 use schedule::bare::TakesTurns;
 
 /// A call, the most steps that it takes, how many more for each slot, and for each turn back.
 type Bound = (Name, u64, u64, u64);
 
-const BOUNDS: [Bound; 7] = [
+static BOUNDS: [Bound; 7] = [
     (Name::Loan, 4, 1, 0),
     (Name::Send, 11, 0, 0),
     (Name::GiveUp, 5, 0, 0),
@@ -19,6 +20,34 @@ const BOUNDS: [Bound; 7] = [
     (Name::GiveBack, 4, 0, 0),
     (Name::Reclaim, 8, 13, 0),
 ];
+
+fn bound_of(name: Name) -> Option<&'static Bound> {
+    for bound in &BOUNDS {
+        if bound.0 == name {
+            return Some(bound);
+        }
+    }
+    None
+}
+
+/// Whether a call of so many slots has kept within this bound.
+fn is_within(bound: &Bound, slots: u64, span: &Span, progress: &Progress) -> Right {
+    let (_, most, each, back) = *bound;
+    let own = most.wrapping_add(each.wrapping_mul(slots));
+    let more = back.wrapping_mul(progress.backs);
+    want(
+        progress.steps <= own.wrapping_add(more),
+        "a call takes at most its steps",
+    )?;
+    want(
+        (progress.backs == 0) | (back > 0),
+        "a receive alone turns back",
+    )?;
+    want(
+        (progress.backs <= span.others) & (progress.others == span.others),
+        "a turn back is paid by a change of another",
+    )
+}
 
 /// The calls of the receiver, and those that name an index that their party has.
 const RECEIVES: [Name; 2] = [Name::Receive, Name::GiveBack];
@@ -92,7 +121,8 @@ impl Channel {
     fn is_queue(&self, line: &Line, base: u64, cells: u64, place: u64) -> bool {
         let read = self.word(base.wrapping_add(1));
         let mut is_queue = self.word(base).wrapping_sub(read) == line.length;
-        is_queue &= self.word(base.wrapping_add(2)) == 1 && self.word(base.wrapping_add(3)) == 1;
+        is_queue &= self.word(base.wrapping_add(2)) == 1;
+        is_queue &= self.word(base.wrapping_add(3)) == 1;
         for number in 0..line.length {
             let position = read.wrapping_add(number);
             let cell = if cells == 0 { 0 } else { position % cells };
@@ -109,6 +139,17 @@ impl Channel {
         is_queue && there == line.length
     }
 
+    /// The mask of the indices that are not free.
+    fn taken(&self) -> u64 {
+        let mut taken = 0u64;
+        for index in 0..self.slots {
+            if at(&self.spots, index) != FREE {
+                taken |= bit(index);
+            }
+        }
+        taken
+    }
+
     /// Whether the words hold what the events say.
     fn words_right(&self) -> Right {
         let submission = self.slots.wrapping_add(2);
@@ -122,50 +163,50 @@ impl Channel {
             self.is_queue(&self.returned, completion, self.slots, RETURNING),
             "what waits in the completion queue is what was given back, in order",
         )?;
-        let mut taken = 0u64;
-        for index in 0..self.slots {
-            if at(&self.spots, index) != FREE {
-                taken |= bit(index);
-            }
-        }
         want(
-            self.word(self.slots.wrapping_add(1)) == taken,
+            self.word(self.slots.wrapping_add(1)) == self.taken(),
             "an index is claimed where it is not free",
         )
     }
 
-    /// Whether the list by the acts is what waits, as far as it is bounded: a send that has published over a full queue
-    /// has not acted yet.
-    fn list_right(&self) -> Right {
-        let waiting = self.sent.length;
-        let mut is_list = self.list.length == waiting.min(self.queue);
+    /// Whether the list by the acts is what waits, as far as it is bounded.
+    fn is_list(&self) -> bool {
+        let mut is_list = self.list.length == self.sent.length.min(self.queue);
         for number in 0..self.list.length {
             is_list &= at(&self.list.indices, number) == at(&self.sent.indices, number);
         }
-        want(is_list, "the list by the acts is what waits")?;
+        is_list
+    }
+
+    /// The same, where a send that has published over a full queue has not acted yet.
+    fn list_right(&self) -> Right {
+        want(self.is_list(), "the list by the acts is what waits")?;
         let span = self.span(0);
-        let has_sent = span.is_open && span.call.name == Name::Send && at(&span.moved, 1) == 1;
-        let is_over = waiting > self.queue;
+        let is_send = span.is_open & (span.call.name == Name::Send);
+        let has_sent = is_send & (at(&span.moved, 1) == 1) & (span.acts == 0);
+        let is_over = self.sent.length > self.queue;
         want(
-            is_over == (has_sent && span.acts == 0),
+            is_over == has_sent,
             "a send that published acts in that turn where there is room",
         )
     }
 
-    /// Whether nobody has an index but the sender and the receiver, and one in passing is in a call under way.
+    /// Whether it is with the sender or the receiver where somebody has it, and one in passing is in a call under way.
+    fn is_spot_right(&self, stands: u64) -> bool {
+        let is_with = stands >= WITH;
+        let is_waiting = stands < PASSING;
+        let first = if is_with { WITH } else { PASSING };
+        let party = stands.wrapping_sub(first);
+        let is_one = (party == 0) | (party == self.receiver);
+        let span = self.span(party);
+        is_waiting | (is_one & (is_with | span.is_open))
+    }
+
+    /// Whether nobody has an index but the sender and the receiver.
     fn spots_right(&self) -> Right {
         let mut are_right = true;
         for index in 0..self.slots {
-            let stands = at(&self.spots, index);
-            let is_with = stands >= WITH;
-            let is_passing = stands >= PASSING && !is_with;
-            let first = if is_with { WITH } else { PASSING };
-            let party = stands.wrapping_sub(first);
-            are_right &= stands < PASSING || party == 0 || party == self.receiver;
-            if is_passing {
-                let span = self.span(party);
-                are_right &= span.is_open;
-            }
+            are_right &= self.is_spot_right(at(&self.spots, index));
         }
         want(
             are_right,
@@ -181,25 +222,10 @@ impl Channel {
             progress.finished != span.is_open,
             "a call is under way up to its end",
         )?;
-        for (name, most, each, back) in &BOUNDS {
-            if *name == span.call.name {
-                let own = most.wrapping_add(each.wrapping_mul(self.slots));
-                let more = back.wrapping_mul(progress.backs);
-                want(
-                    progress.steps <= own.wrapping_add(more),
-                    "a call takes at most its steps",
-                )?;
-                want(
-                    progress.backs == 0 || *back > 0,
-                    "a receive alone turns back",
-                )?;
-                want(
-                    progress.backs <= span.others && progress.others == span.others,
-                    "a turn back is paid by a change of another",
-                )?;
-            }
+        match bound_of(span.call.name) {
+            Some(bound) => is_within(bound, self.slots, span, &progress),
+            None => Ok(()),
         }
-        Ok(())
     }
 
     /// Keeps the words. Where one has changed, in a turn of this party, that is counted for the calls of the others.

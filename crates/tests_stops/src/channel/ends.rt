@@ -106,10 +106,29 @@ fn has_moved(span: &Span, told: &Told, kind: u64, wanted: u64) -> bool {
     let last = at(&span.last, kind);
     match wanted {
         NO => moved == 0,
-        ITS => moved == 1 && last == span.call.place,
-        SAID => moved == 1 && last == index_of(told),
+        ITS => (moved == 1) & (last == span.call.place),
+        SAID => (moved == 1) & (last == index_of(told)),
         _ => true,
     }
+}
+
+/// Whether the call has moved by each kind what the table says.
+fn has_moved_all(span: &Span, told: &Told, end: &End) -> bool {
+    let mut has_moved_all = true;
+    for (kind, one) in end.3.iter().enumerate() {
+        has_moved_all &= has_moved(span, told, kind as u64, *one);
+    }
+    has_moved_all
+}
+
+/// The ending of a call of this name with this answer.
+fn end_of(told: &Told) -> Option<&'static End> {
+    for end in &ENDS {
+        if (end.0 == told.call.name) & (end.1 == told.said) {
+            return Some(end);
+        }
+    }
+    None
 }
 
 impl Channel {
@@ -118,41 +137,49 @@ impl Channel {
         let mut are_home = true;
         for index in 0..8usize {
             let place = self.spots[index];
-            are_home &= place == FREE || place == spot(WITH, 0);
+            are_home &= (place == FREE) | (place == spot(WITH, 0));
         }
         are_home
     }
 
-    /// What stands as the call answers so.
-    fn stands_right(&self, span: &Span, told: &Told) -> Right {
+    fn none_is_free(&self) -> bool {
         let mut free = 0u64;
         for index in 0..self.slots {
             if at(&self.spots, index) == FREE {
                 free = free.wrapping_add(1);
             }
         }
-        let none_returned = self.returned.length == 0;
+        free == 0
+    }
+
+    /// What stands as a reclaim ends.
+    fn reclaimed_right(&self, span: &Span, told: &Told) -> Right {
+        want(
+            self.are_home(),
+            "after a reclaim each index is free or with the sender",
+        )?;
+        want(
+            (self.returned.length == 0) & (self.sent.length == 0),
+            "after a reclaim nothing waits in a queue",
+        )?;
+        want(
+            at(&span.moved, 5) == told.place,
+            "a reclaim answers how many it freed",
+        )
+    }
+
+    /// What stands as the call answers so.
+    fn stands_right(&self, span: &Span, told: &Told) -> Right {
         if told.call.name == Name::Reclaim {
-            want(
-                self.are_home(),
-                "after a reclaim each index is free or with the sender",
-            )?;
-            want(
-                none_returned && self.sent.length == 0,
-                "after a reclaim nothing waits in a queue",
-            )?;
-            return want(
-                at(&span.moved, 5) == told.place,
-                "a reclaim answers how many it freed",
-            );
+            return self.reclaimed_right(span, told);
         }
         want(
-            told.said != Said::OutOfIndices || free == 0,
+            (told.said != Said::OutOfIndices) | self.none_is_free(),
             "a loan fails where no index is free",
         )?;
-        let is_empty = told.call.name == Name::TakeBack && told.said == Said::NoValue;
+        let is_empty = (told.call.name == Name::TakeBack) & (told.said == Said::NoValue);
         want(
-            !is_empty || none_returned,
+            !is_empty | (self.returned.length == 0),
             "a take-back of nothing finds nothing returned",
         )
     }
@@ -160,7 +187,7 @@ impl Channel {
     /// Counts the ending.
     pub fn tally(&mut self, span: &Span, told: &Told) {
         for number in 0..ENDINGS {
-            if ENDS[number].0 == told.call.name && ENDS[number].1 == told.said {
+            if (ENDS[number].0 == told.call.name) & (ENDS[number].1 == told.said) {
                 self.ended[number] = self.ended[number].wrapping_add(1);
             }
         }
@@ -172,21 +199,15 @@ impl Channel {
 
     /// Whether the call of this span may end with this answer.
     pub fn ends_right(&self, span: &Span, told: &Told) -> Right {
-        for (name, said, acts, wanted, promise) in &ENDS {
-            if *name == told.call.name && *said == told.said {
-                let mut has_done = true;
-                for (kind, one) in wanted.iter().enumerate() {
-                    has_done &= has_moved(span, told, kind as u64, *one);
-                }
-                want(has_done, promise)?;
-                let is_same = span.acted == told.said && span.acted_with == index_of(told);
-                want(
-                    span.acts == *acts && (*acts == 0 || is_same),
-                    "a send or a receive acts once, with what it answers",
-                )?;
-                return self.stands_right(span, told);
-            }
-        }
-        Err("a call answers as calls of its name do")
+        let Some(end) = end_of(told) else {
+            return Err("a call answers as calls of its name do");
+        };
+        want(has_moved_all(span, told, end), end.4)?;
+        let is_same = (span.acted == told.said) & (span.acted_with == index_of(told));
+        want(
+            (span.acts == end.2) & ((end.2 == 0) | is_same),
+            "a send or a receive acts once, with what it answers",
+        )?;
+        self.stands_right(span, told)
     }
 }

@@ -18,7 +18,7 @@ pub const WITH: u64 = 200;
 /// An event, the call that writes it, its answer, the place that its index comes from and goes to, and how that is told.
 type Move = (What, Name, Said, u64, u64, &'static str);
 
-const MOVES: [Move; 17] = [
+static MOVES: [Move; 17] = [
     (
         What::Claimed,
         Name::Loan,
@@ -158,7 +158,7 @@ const MOVES: [Move; 17] = [
 ];
 
 /// The kinds of events that move an index, in the order in which a call may write them.
-pub const KINDS: [What; 6] = [
+pub static KINDS: [What; 6] = [
     What::Claimed,
     What::Published,
     What::HandedOut,
@@ -187,12 +187,48 @@ fn kind_of(what: What) -> u64 {
     kind
 }
 
+/// The span behind an event of this kind, which has moved this index.
+fn moved_by(span: &Span, kind: u64, index: u64) -> Span {
+    let mut next = *span;
+    next.kind = kind;
+    let moved = at(&span.moved, kind).wrapping_add(1);
+    put(&mut next.moved, kind, moved);
+    put(&mut next.last, kind, index);
+    next
+}
+
+/// The span behind an event that moves no index.
+fn after(span: &Span, told: &Told) -> Span {
+    let mut next = *span;
+    match told.what {
+        What::Begun => next = span_of(told.call, true),
+        What::Acted => {
+            next.acts = span.acts.wrapping_add(1);
+            next.acted = told.said;
+            next.acted_with = index_of(told);
+        }
+        What::Finished => next.is_open = false,
+        _ => {}
+    }
+    next
+}
+
+/// Where an event of a call moves an index from and to, if it does, and how that is told.
+fn move_of(what: What, name: Name, answer: Said) -> Option<&'static Move> {
+    for one in &MOVES {
+        if (one.0 == what) & (one.1 == name) & (one.2 == answer) {
+            return Some(one);
+        }
+    }
+    None
+}
+
 impl Channel {
     /// Whether a reclaim may free it: the dead receiver has it, or was in a call with it as it died.
     fn is_left(&self, span: &Span, place: u64) -> bool {
-        let is_of_receiver = place == spot(WITH, self.receiver)
-            || place == spot(PASSING, self.receiver);
-        span.call.name == Name::Reclaim && self.is_dead(self.receiver) && is_of_receiver
+        let is_with = place == spot(WITH, self.receiver);
+        let is_of_receiver = is_with | (place == spot(PASSING, self.receiver));
+        (span.call.name == Name::Reclaim) & self.is_dead(self.receiver) & is_of_receiver
     }
 
     /// The index of the event comes from where the table says, and goes where it says.
@@ -210,39 +246,37 @@ impl Channel {
         } else {
             Said::Nothing
         };
-        for (what, writer, answer, from, to, promise) in &MOVES {
-            if *what == told.what && *writer == name && *answer == said {
-                let is_left = told.what == What::Freed && self.is_left(span, stands);
-                let is_there = stands == spot(*from, told.party) || is_left;
-                want(index < self.slots && is_there, promise)?;
-                put(&mut self.spots, index, spot(*to, told.party));
-                return Ok(());
-            }
-        }
-        want(
-            kind_of(told.what) == 6,
-            "no call moves an index that is not to",
-        )
+        let Some((_, _, _, from, to, promise)) = move_of(told.what, name, said) else {
+            return want(
+                kind_of(told.what) == 6,
+                "no call moves an index that is not to",
+            );
+        };
+        let is_left = (told.what == What::Freed) & self.is_left(span, stands);
+        let is_there = (stands == spot(*from, told.party)) | is_left;
+        want((index < self.slots) & is_there, promise)?;
+        put(&mut self.spots, index, spot(*to, told.party));
+        Ok(())
     }
 
     /// An event is of the party whose turn it is, but a send that waits for room acts as the receiver makes it.
     pub fn is_of_turn(&self, span: &Span, told: &Told, party: u64) -> Right {
         let is_begun = told.what == What::Begun;
         let is_death = told.what == What::Died;
-        let is_call = told.what == What::Acted || told.what == What::Finished;
-        let is_none = told.what == What::Acted && told.said == Said::NoValue;
-        let makes_room = party == self.receiver && self.sent.length == self.queue;
-        let is_sends = is_none && told.call.name == Name::Send && makes_room;
+        let is_call = (told.what == What::Acted) | (told.what == What::Finished);
+        let is_none = (told.what == What::Acted) & (told.said == Said::NoValue);
+        let makes_room = (party == self.receiver) & (self.sent.length == self.queue);
+        let is_sends = is_none & (told.call.name == Name::Send) & makes_room;
         want(
-            is_death || told.party == party || is_sends,
+            is_death | (told.party == party) | is_sends,
             "a party writes in its own turns",
         )?;
         want(
-            is_death || span.is_open != is_begun,
+            is_death | (span.is_open != is_begun),
             "a party has one call at a time, and writes in it",
         )?;
         want(
-            !is_call || span.call == told.call,
+            !is_call | (span.call == told.call),
             "acts and ends are of the call under way",
         )
     }
@@ -250,29 +284,16 @@ impl Channel {
     /// The span behind the event. What a call moves it moves in the order of the kinds; a reclaim moves many by a kind,
     /// and frees ascending.
     pub fn span_after(&self, span: &Span, told: &Told) -> Result<Span, &'static str> {
-        let index = index_of(told);
-        let mut next = *span;
         let kind = kind_of(told.what);
-        if kind < 6 {
-            let is_next = kind > span.kind || at(&span.moved, kind) == 0 && kind == span.kind;
-            let ascends = told.what != What::Freed || index > at(&span.last, kind);
-            let goes_on = span.call.name == Name::Reclaim && kind == span.kind && ascends;
-            want(is_next || goes_on, "a call moves indices in its order")?;
-            next.kind = kind;
-            let moved = at(&span.moved, kind).wrapping_add(1);
-            put(&mut next.moved, kind, moved);
-            put(&mut next.last, kind, index);
+        if kind >= 6 {
+            return Ok(after(span, told));
         }
-        match told.what {
-            What::Begun => next = span_of(told.call, true),
-            What::Acted => {
-                next.acts = span.acts.wrapping_add(1);
-                next.acted = told.said;
-                next.acted_with = index;
-            }
-            What::Finished => next.is_open = false,
-            _ => {}
-        }
-        Ok(next)
+        let index = index_of(told);
+        let is_same = kind == span.kind;
+        let is_next = (kind > span.kind) | (is_same & (at(&span.moved, kind) == 0));
+        let ascends = (told.what != What::Freed) | (index > at(&span.last, kind));
+        let goes_on = (span.call.name == Name::Reclaim) & is_same & ascends;
+        want(is_next | goes_on, "a call moves indices in its order")?;
+        Ok(moved_by(span, kind, index))
     }
 }

@@ -42,7 +42,7 @@ enum Needs {
 /// A call and its answer: how much it has put and taken, what else has to be so, and how that is told.
 type End = (Name, Said, u64, u64, Needs, &'static str);
 
-const ENDS: [End; 45] = [
+static ENDS: [End; 45] = [
     (
         Name::Push,
         Said::True,
@@ -391,13 +391,23 @@ const ENDS: [End; 45] = [
     ),
 ];
 
+/// The ending of a call of this name with this answer.
+fn end_of(name: Name, said: Said) -> Option<&'static End> {
+    for end in &ENDS {
+        if (end.0 == name) & (end.1 == said) {
+            return Some(end);
+        }
+    }
+    None
+}
+
 /// The calls that act.
 const ACTING: [Name; 4] = [Name::Push, Name::Pop, Name::Store, Name::Load];
 
 /// Whether a push, a pop, a store or a load acted with this answer, and no other call did.
 fn has_acted(span: &Span, told: &Told) -> bool {
     if ACTING.contains(&span.call.name) {
-        span.acted == told.said && span.acted_value == told.value
+        (span.acted == told.said) & (span.acted_value == told.value)
     } else {
         span.acted == Said::Nothing
     }
@@ -406,16 +416,16 @@ fn has_acted(span: &Span, told: &Told) -> bool {
 impl Replay {
     /// Whether the place has this owner, or is that of no owner.
     fn is_filled(&self, place: u64, owner: u64) -> bool {
-        at(&self.numbers, place) == owner && self.stands & bit(place) != 0
+        (at(&self.numbers, place) == owner) & (self.stands & bit(place) != 0)
     }
 
     /// The indices that are held, being taken or given back.
     fn in_use(&self) -> u64 {
         let mut count = places_in(self.stands);
         for span in &self.spans {
-            let is_taking = span.call.name == Name::Acquire && span.gave == 0;
-            let is_giving = span.call.name == Name::Release && span.took > 0;
-            if span.is_open && (is_taking || is_giving) {
+            let is_taking = (span.call.name == Name::Acquire) & (span.gave == 0);
+            let is_giving = (span.call.name == Name::Release) & (span.took > 0);
+            if span.is_open & (is_taking | is_giving) {
                 count = count.wrapping_add(1);
             }
         }
@@ -426,9 +436,9 @@ impl Replay {
     fn has_recovered(&self, span: &Span) -> bool {
         let mut has_freed = true;
         for index in 0..16 {
-            has_freed &= span.told & bit(index) == 0 || !self.is_filled(index, span.owner);
+            has_freed &= (span.told & bit(index) == 0) | !self.is_filled(index, span.owner);
         }
-        has_freed && !self.is_locked && span.always & !span.asked == 0
+        has_freed & !self.is_locked & (span.always & !span.asked == 0)
     }
 
     fn is_so(&self, needs: Needs, span: &Span, told: &Told) -> bool {
@@ -445,15 +455,17 @@ impl Replay {
             Needs::AreOut => self.in_use() > self.capacity,
             Needs::WereFilled => places_in(span.ever) >= self.capacity,
             Needs::IsLocked => self.is_locked,
-            Needs::IsInUse => span.locks == 0 && (is_kept || self.in_use() >= 2),
-            Needs::WasFilled => span.locks == 0 && (is_kept || span.ever != 0),
-            Needs::IsGranted => span.granted == 1 && span.number == number,
+            Needs::IsInUse => (span.locks == 0) & (is_kept | (self.in_use() >= 2)),
+            Needs::WasFilled => (span.locks == 0) & (is_kept | (span.ever != 0)),
+            Needs::IsGranted => (span.granted == 1) & (span.number == number),
             Needs::IsNotIts => !self.is_filled(span.call.place, span.call.owner),
             Needs::HasRecovered => self.has_recovered(span),
             Needs::HasReplaced => span.placed == 1,
-            Needs::IsPlaced => span.granted == 1 && span.placed == 1 && span.number == number,
+            Needs::IsPlaced => {
+                (span.granted == 1) & (span.placed == 1) & (span.number == number)
+            }
             Needs::HasCopied => {
-                places_in(span.stayed) <= number && number <= places_in(span.copied)
+                (places_in(span.stayed) <= number) & (number <= places_in(span.copied))
             }
         }
     }
@@ -464,12 +476,10 @@ impl Replay {
             has_acted(span, told),
             "pushes, pops, stores and loads act with what they answer",
         )?;
-        for (name, said, gave, took, needs, promise) in &ENDS {
-            if *name == span.call.name && *said == told.said {
-                let has_done = fits(*gave, span.gave) && fits(*took, span.took);
-                return want(has_done && self.is_so(*needs, span, told), promise);
-            }
-        }
-        Err("a call answers as calls of its name do")
+        let Some((_, _, gave, took, needs, promise)) = end_of(span.call.name, told.said) else {
+            return Err("a call answers as calls of its name do");
+        };
+        let has_done = fits(*gave, span.gave) & fits(*took, span.took);
+        want(has_done & self.is_so(*needs, span, told), promise)
     }
 }

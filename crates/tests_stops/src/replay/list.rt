@@ -1,9 +1,18 @@
 //! A list of up to eight values, which is as many as a run has.
-#[derive(Drop)]
 pub struct List {
     items: [u128; 8],
     first: usize,
     end: usize,
+}
+
+impl Drop for List {
+    fn drop(self) {
+        let Self {
+            items: _,
+            first: _,
+            end: _,
+        } = self;
+    }
 }
 
 impl List {

@@ -73,7 +73,7 @@ const COPIES: &[Name] = &[Name::GetState, Name::RecoverOf];
 
 const RESETS: &[Name] = &[Name::ResetNext, Name::ResetAll];
 
-const PROMISES: [Promise; 49] = [
+static PROMISES: [Promise; 49] = [
     (
         What::Begun,
         &[],
@@ -335,24 +335,24 @@ impl Replay {
     fn is_of_call(&self, need: Need, span: &Span, told: &Told) -> bool {
         let place = bit(told.place);
         match need {
-            Need::IsNotOpen => !span.is_open && told.party < 3,
-            Need::IsThisCall => span.is_open && span.call == told.call,
+            Need::IsNotOpen => !span.is_open & (told.party < 3),
+            Need::IsThisCall => span.is_open & (span.call == told.call),
             Need::IsItsPlace => {
-                fits(span.call.place, told.place) && fits(span.call.owner, told.owner)
+                fits(span.call.place, told.place) & fits(span.call.owner, told.owner)
             }
             Need::IsItsValue => span.call.value == told.value,
             Need::IsItsIndex if span.call.name == Name::Replace => span.call.place == told.place,
-            Need::IsItsIndex => span.granted == 1 && span.number == told.place,
-            Need::MayLock => span.is_open && span.call.may_lock && span.took > 0,
-            Need::HasFilled => span.gave == 1 && span.number == told.place,
+            Need::IsItsIndex => (span.granted == 1) & (span.number == told.place),
+            Need::MayLock => span.is_open & span.call.may_lock & (span.took > 0),
+            Need::HasFilled => (span.gave == 1) & (span.number == told.place),
             Need::Ascends => span.asked < place,
-            Need::HasAsked => span.asked & place != 0 && span.owner == told.owner,
+            Need::HasAsked => (span.asked & place != 0) & (span.owner == told.owner),
             Need::WasTold => {
-                let was_told = span.told & place != 0 && span.owner == told.owner;
-                was_told || !RECOVERS.contains(&span.call.name)
+                let was_told = (span.told & place != 0) & (span.owner == told.owner);
+                was_told | !RECOVERS.contains(&span.call.name)
             }
             Need::HasNotActed => span.acted == Said::Nothing,
-            Need::MayHandOut => span.call.name == Name::Pop || self.kind == Kind::Overflow,
+            Need::MayHandOut => (span.call.name == Name::Pop) | (self.kind == Kind::Overflow),
             _ => self.is_of_place(need, span, told),
         }
     }
@@ -362,17 +362,17 @@ impl Replay {
         let place = bit(told.place);
         let number = at(&self.numbers, told.place);
         match need {
-            Need::ActsSo => self.wanted == told.said && self.wanted_value == told.value,
-            Need::IsFull => told.said != Said::False || self.waits.len() == self.capacity,
+            Need::ActsSo => (self.wanted == told.said) & (self.wanted_value == told.value),
+            Need::IsFull => (told.said != Said::False) | (self.waits.len() == self.capacity),
             Need::IsEmpty => {
-                let is_none = told.said == Said::NoValue && span.call.name == Name::Pop;
-                !is_none || self.waits.len() == 0
+                let is_none = (told.said == Said::NoValue) & (span.call.name == Name::Pop);
+                !is_none | (self.waits.len() == 0)
             }
-            Need::IsOldest => self.waits.len() > 0 && self.waits.at(0) == told.value,
+            Need::IsOldest => (self.waits.len() > 0) & (self.waits.at(0) == told.value),
             Need::IsWithin => told.place < self.capacity,
-            Need::IsFree => told.place < self.capacity && self.stands & place == 0,
-            Need::IsFilled => number == told.owner && self.stands & place != 0,
-            Need::WasCounted => number > 0 && number as u128 == told.value,
+            Need::IsFree => (told.place < self.capacity) & (self.stands & place == 0),
+            Need::IsFilled => (number == told.owner) & (self.stands & place != 0),
+            Need::WasCounted => (number > 0) & (number as u128 == told.value),
             Need::IsNotHeld => self.held & place == 0,
             Need::NoneHeld if self.kind == Kind::Indices => self.stands == 0,
             Need::NoneHeld => self.held == 0,
@@ -380,7 +380,8 @@ impl Replay {
             Need::IsHidden => self.visible & place == 0,
             Need::IsVisible => self.visible & place != 0,
             Need::IsWhole => {
-                self.visible & place != 0 && value_at(&self.values, told.place) == told.value
+                let value = value_at(&self.values, told.place);
+                (self.visible & place != 0) & (value == told.value)
             }
             Need::Lives => self.dead != told.owner,
             Need::IsDead => self.dead == told.owner,
@@ -388,14 +389,21 @@ impl Replay {
         }
     }
 
+    /// Whether what the table says is so, if it is of this event.
+    fn keeps(&self, promise: &Promise, span: &Span, told: &Told) -> Right {
+        let (what, names, need, promise) = *promise;
+        if what != told.what {
+            return Ok(());
+        }
+        let is_one = span.is_open & names.contains(&span.call.name);
+        let is_named = is_one | names.is_empty();
+        want(is_named & self.is_of_call(need, span, told), promise)
+    }
+
     /// Whether all is so that is promised of the event, whose party's latest call is this.
     pub fn promised(&self, span: &Span, told: &Told) -> Right {
-        for (what, names, need, promise) in &PROMISES {
-            if *what == told.what {
-                let is_one = span.is_open && names.contains(&span.call.name);
-                let is_named = is_one || names.is_empty();
-                want(is_named && self.is_of_call(*need, span, told), promise)?;
-            }
+        for promise in &PROMISES {
+            self.keeps(promise, span, told)?;
         }
         if told.what == What::Finished {
             return self.ends_right(span, told);

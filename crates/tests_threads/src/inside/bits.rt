@@ -94,28 +94,39 @@ impl<'a> GoesOn for SetsCounts<'a> {
     }
 }
 
-/// Whether one goes on while another is inside a reset of a bit set.
+/// Whether one goes on while another is inside a reset of a bit set. None where there is no further handle.
+fn bits_go_on_with<R: Wait + Threads + Clock + Sync>(
+    rt: &R,
+    handle: bit_set::Handle<'_>,
+) -> Option<bool> {
+    let mut handle = handle;
+    let other = handle.split()?;
+    let is_set = 0 < handle.capacity() && handle.set(rt, 0);
+    Some(is_set & goes_on_beside(rt, ResetsBits { handle }, SetsBits { handle: other }))
+}
+
+/// The same in a new set.
 fn bits_go_on<R: Wait + Threads + Clock + Sync>(rt: &R, alloc: Global) -> Result<bool, Fail> {
     let (set, pass) = BitSet::new(alloc, PLACES)?;
-    let mut handle = set.handle(pass);
-    let other = handle.split().ok_or("no further handle")?;
-    if handle.capacity() == 0 || !handle.set(rt, 0) {
-        return Ok(false);
-    }
-    let resets = ResetsBits { handle };
-    Ok(goes_on_beside(rt, resets, SetsBits { handle: other }))
+    let went = bits_go_on_with(rt, set.handle(pass));
+    Ok(went.ok_or("no further handle")?)
 }
 
 /// The same of a counting bit set.
+fn counts_go_on_with<R: Wait + Threads + Clock + Sync>(
+    rt: &R,
+    handle: counting_bit_set::Handle<'_>,
+) -> Option<bool> {
+    let mut handle = handle;
+    let other = handle.split()?;
+    let is_first = 0 < handle.capacity() && handle.set(0) == 0;
+    Some(is_first & goes_on_beside(rt, ResetsCounts { handle }, SetsCounts { handle: other }))
+}
+
 fn counts_go_on<R: Wait + Threads + Clock + Sync>(rt: &R, alloc: Global) -> Result<bool, Fail> {
     let (set, pass) = CountingBitSet::new(alloc, PLACES)?;
-    let mut handle = set.handle(pass);
-    let other = handle.split().ok_or("no further handle")?;
-    if handle.capacity() == 0 || handle.set(0) != 0 {
-        return Ok(false);
-    }
-    let resets = ResetsCounts { handle };
-    Ok(goes_on_beside(rt, resets, SetsCounts { handle: other }))
+    let went = counts_go_on_with(rt, set.handle(pass));
+    Ok(went.ok_or("no further handle")?)
 }
 
 #[test]

@@ -23,13 +23,24 @@ enum Place {
 }
 
 /// Makes the call.
-#[derive(Drop)]
 struct Calls<'a> {
     handle: Handle<'a, Slow>,
     state: ContainerState<Slow>,
     key: ContainerHandle,
     owner: OwnerId,
     place: Place,
+}
+
+impl<'a> Drop for Calls<'a> {
+    fn drop(self) {
+        let Self {
+            handle: _handle,
+            state: _state,
+            key: _,
+            owner: _,
+            place: _,
+        } = self;
+    }
 }
 
 impl<'a> Calls<'a> {
@@ -122,7 +133,44 @@ impl<'a> GoesOn for Changes<'a> {
     }
 }
 
-/// Whether another owner goes on while one is inside that call, in a container with one value, which takes long to read.
+/// One who makes that call, in a container to which it adds a value that takes long to read. None where there is no room or no
+/// memory.
+fn caller<'a>(
+    rt: &impl Wait,
+    handle: Handle<'a, Slow>,
+    owner: OwnerId,
+    place: Place,
+) -> Option<Calls<'a>> {
+    let mut handle = handle;
+    let state = handle.get_state(rt).ok()?;
+    let key = handle.add(rt, Slow::of(SLOW_TO_READ), owner).ok()?;
+    Some(Calls {
+        handle,
+        state,
+        key,
+        owner,
+        place,
+    })
+}
+
+/// Whether another owner goes on while one is inside that call. None where there is no further handle, no room or no memory.
+fn goes_on_with<R: Wait + Threads + Clock + Sync>(
+    rt: &R,
+    handle: Handle<'_, Slow>,
+    one: OwnerId,
+    owner: OwnerId,
+    place: Place,
+) -> Option<bool> {
+    let mut handle = handle;
+    let (other, calls) = handle.split().zip(caller(rt, handle, one, place))?;
+    let changes = Changes {
+        handle: other,
+        owner,
+    };
+    Some(goes_on_beside(rt, calls, changes))
+}
+
+/// The same in a new container with one value, which takes long to read.
 fn goes_on<R: Wait + Threads + Clock + Sync>(
     rt: &R,
     alloc: Global,
@@ -130,22 +178,8 @@ fn goes_on<R: Wait + Threads + Clock + Sync>(
 ) -> Result<bool, Fail> {
     let (one, owner) = (OwnerId::new(1)?, OwnerId::new(2)?);
     let (container, pass) = Container::<Slow>::new(alloc, 5, 1)?;
-    let mut handle = container.handle(pass);
-    let other = handle.split().ok_or("no further handle")?;
-    let state = handle.get_state(rt)?;
-    let key = handle.add(rt, Slow::of(SLOW_TO_READ), one)?;
-    let calls = Calls {
-        handle,
-        state,
-        key,
-        owner: one,
-        place,
-    };
-    let changes = Changes {
-        handle: other,
-        owner,
-    };
-    Ok(goes_on_beside(rt, calls, changes))
+    let went = goes_on_with(rt, container.handle(pass), one, owner, place);
+    Ok(went.ok_or("not to be had")?)
 }
 
 #[test]

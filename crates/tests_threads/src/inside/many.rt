@@ -101,43 +101,50 @@ impl<'a> GoesOn for AddsValues<'a> {
     }
 }
 
-/// Whether one goes on while another looks for a place that stands, in a new set.
-fn bits_go_on<R: Wait + Threads + Clock + Sync>(rt: &R, alloc: Global) -> Result<bool, Fail> {
-    let (set, pass) = BitSet::new(alloc, MANY)?;
-    let mut handle = set.handle(pass);
-    let other = handle.split().ok_or("no further handle")?;
+/// Whether one goes on while another looks for a place that stands. None where there is no further handle.
+fn bits_go_on_with<R: Wait + Threads + Clock + Sync>(
+    rt: &R,
+    handle: bit_set::Handle<'_>,
+) -> Option<bool> {
+    let mut handle = handle;
+    let other = handle.split()?;
     let looks = LooksForPlace { handle };
-    Ok(goes_on_beside(rt, looks, SetsPlaces { handle: other }))
+    Some(goes_on_beside(rt, looks, SetsPlaces { handle: other }))
 }
 
-/// Whether one goes on while another counts the indices of a set.
+/// The same in a new set.
+fn bits_go_on<R: Wait + Threads + Clock + Sync>(rt: &R, alloc: Global) -> Result<bool, Fail> {
+    let (set, pass) = BitSet::new(alloc, MANY)?;
+    let went = bits_go_on_with(rt, set.handle(pass));
+    Ok(went.ok_or("no further handle")?)
+}
+
+/// Whether one goes on while another counts the indices of a set. None where there are no further handles.
 fn indices_go_on<R: Wait + Threads + Clock + Sync>(
     rt: &R,
     set: &mut robust::Handle<'_>,
     owner: OwnerId,
-) -> Result<bool, Fail> {
-    let handle = set.split().ok_or("no further handle")?;
-    let other = set.split().ok_or("no further handle")?;
+) -> Option<bool> {
+    let (handle, other) = set.split().zip(set.split())?;
     let takes = TakesIndices {
         handle: other,
         owner,
     };
-    Ok(goes_on_beside(rt, CountsIndices { handle }, takes))
+    Some(goes_on_beside(rt, CountsIndices { handle }, takes))
 }
 
-/// Whether one goes on while another counts the values of a container.
+/// The same of the values of a container.
 fn values_go_on<R: Wait + Threads + Clock + Sync>(
     rt: &R,
     container: &mut container::Handle<'_, u64>,
     owner: OwnerId,
-) -> Result<bool, Fail> {
-    let handle = container.split().ok_or("no further handle")?;
-    let other = container.split().ok_or("no further handle")?;
+) -> Option<bool> {
+    let (handle, other) = container.split().zip(container.split())?;
     let adds = AddsValues {
         handle: other,
         owner,
     };
-    Ok(goes_on_beside(rt, CountsValues { handle }, adds))
+    Some(goes_on_beside(rt, CountsValues { handle }, adds))
 }
 
 #[test]
@@ -160,7 +167,7 @@ fn beside_a_count_of_indices(rt: HostRuntime) -> Result<(), Fail> {
     let mut well = false;
     for _ in 0..ROUNDS {
         if !well {
-            well = indices_go_on(&rt, &mut handle, owner)?;
+            well = indices_go_on(&rt, &mut handle, owner).ok_or("no further handle")?;
         }
     }
     assert!(rt; well);
@@ -175,7 +182,7 @@ fn beside_a_count_of_values(rt: HostRuntime) -> Result<(), Fail> {
     let mut well = false;
     for _ in 0..ROUNDS {
         if !well {
-            well = values_go_on(&rt, &mut handle, owner)?;
+            well = values_go_on(&rt, &mut handle, owner).ok_or("no further handle")?;
         }
     }
     assert!(rt; well);

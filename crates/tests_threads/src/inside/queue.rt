@@ -36,10 +36,18 @@ impl<'a> Stays for Pops<'a> {
 }
 
 /// Pops from a queue to which nothing comes, and asks for its length.
-#[derive(Drop)]
 struct PopsBeside<'a> {
     consumer: Consumer<'a, Slow>,
     handle: Handle<'a, Slow>,
+}
+
+impl<'a> Drop for PopsBeside<'a> {
+    fn drop(self) {
+        let Self {
+            consumer: _consumer,
+            handle: _handle,
+        } = self;
+    }
 }
 
 impl<'a> GoesOn for PopsBeside<'a> {
@@ -50,10 +58,18 @@ impl<'a> GoesOn for PopsBeside<'a> {
 }
 
 /// Pushes to a queue of two, from which at most one is taken, and asks for its length.
-#[derive(Drop)]
 struct PushesBeside<'a> {
     producer: Producer<'a, Slow>,
     handle: Handle<'a, Slow>,
+}
+
+impl<'a> Drop for PushesBeside<'a> {
+    fn drop(self) {
+        let Self {
+            producer: _producer,
+            handle: _handle,
+        } = self;
+    }
 }
 
 impl<'a> GoesOn for PushesBeside<'a> {
@@ -64,6 +80,33 @@ impl<'a> GoesOn for PushesBeside<'a> {
     }
 }
 
+/// The end that is pushed at, by a handle that is split off.
+fn producer<'a>(handle: &mut Handle<'a, Slow>) -> Option<Producer<'a, Slow>> {
+    handle.split()?.acquire_producer().ok()
+}
+
+/// The end that is popped at.
+fn consumer<'a>(handle: &mut Handle<'a, Slow>) -> Option<Consumer<'a, Slow>> {
+    handle.split()?.acquire_consumer().ok()
+}
+
+/// Whether one goes on while another is inside a push. None where the roles are not to be had.
+fn beside_push<R: Wait + Threads + Clock + Sync>(rt: &R, handle: Handle<'_, Slow>) -> Option<bool> {
+    let mut handle = handle;
+    let (producer, consumer) = producer(&mut handle).zip(consumer(&mut handle))?;
+    let pops = PopsBeside { consumer, handle };
+    Some(goes_on_beside(rt, Pushes { producer }, pops))
+}
+
+/// The same of a pop.
+fn beside_pop<R: Wait + Threads + Clock + Sync>(rt: &R, handle: Handle<'_, Slow>) -> Option<bool> {
+    let mut handle = handle;
+    let (mut producer, consumer) = producer(&mut handle).zip(consumer(&mut handle))?;
+    let is_pushed = producer.push(&Slow::of(SLOW_TO_READ));
+    let pushes = PushesBeside { producer, handle };
+    Some(is_pushed & goes_on_beside(rt, Pops { consumer }, pushes))
+}
+
 /// Whether one goes on while another is inside a push, or a pop.
 fn goes_on<R: Wait + Threads + Clock + Sync>(
     rt: &R,
@@ -71,18 +114,13 @@ fn goes_on<R: Wait + Threads + Clock + Sync>(
     is_push: bool,
 ) -> Result<bool, Fail> {
     let (queue, pass) = Queue::<Slow, 2>::new(alloc)?;
-    let mut handle = queue.handle(pass);
-    let pushing = handle.split().ok_or("no further handle")?;
-    let popping = handle.split().ok_or("no further handle")?;
-    let mut producer = pushing.acquire_producer().map_err(|_| "taken")?;
-    let consumer = popping.acquire_consumer().map_err(|_| "taken")?;
-    if is_push {
-        let pops = PopsBeside { consumer, handle };
-        return Ok(goes_on_beside(rt, Pushes { producer }, pops));
-    }
-    let is_pushed = producer.push(&Slow::of(SLOW_TO_READ));
-    let pushes = PushesBeside { producer, handle };
-    Ok(is_pushed && goes_on_beside(rt, Pops { consumer }, pushes))
+    let handle = queue.handle(pass);
+    let went = if is_push {
+        beside_push(rt, handle)
+    } else {
+        beside_pop(rt, handle)
+    };
+    Ok(went.ok_or("not to be had")?)
 }
 
 #[test]

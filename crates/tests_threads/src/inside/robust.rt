@@ -110,16 +110,17 @@ impl<'a> GoesOn for Acquires<'a> {
     }
 }
 
-/// Whether another owner goes on while one is inside a call that comes to the one index of an owner, of three.
-fn goes_on<R: Wait + Threads + Clock + Sync>(
+/// Whether another owner goes on while one is inside a call that comes to the one index of an owner. None where there is no
+/// further handle.
+fn goes_on_with<R: Wait + Threads + Clock + Sync>(
     rt: &R,
-    alloc: Global,
+    handle: Handle<'_>,
+    dead: OwnerId,
+    owner: OwnerId,
     place: Place,
-) -> Result<bool, Fail> {
-    let (dead, owner) = (OwnerId::new(1)?, OwnerId::new(2)?);
-    let (set, pass) = RobustUniqueIndexSet::new(alloc, 3)?;
-    let mut handle = set.handle(pass);
-    let other = handle.split().ok_or("no further handle")?;
+) -> Option<bool> {
+    let mut handle = handle;
+    let other = handle.split()?;
     let has_one = handle.acquire(rt, dead).is_ok();
     let visits = Visits {
         handle,
@@ -130,7 +131,19 @@ fn goes_on<R: Wait + Threads + Clock + Sync>(
         handle: other,
         owner,
     };
-    Ok(has_one && goes_on_beside(rt, visits, acquires))
+    Some(has_one & goes_on_beside(rt, visits, acquires))
+}
+
+/// The same in a new set of three indices.
+fn goes_on<R: Wait + Threads + Clock + Sync>(
+    rt: &R,
+    alloc: Global,
+    place: Place,
+) -> Result<bool, Fail> {
+    let (dead, owner) = (OwnerId::new(1)?, OwnerId::new(2)?);
+    let (set, pass) = RobustUniqueIndexSet::new(alloc, 3)?;
+    let went = goes_on_with(rt, set.handle(pass), dead, owner, place);
+    Ok(went.ok_or("no further handle")?)
 }
 
 #[test]

@@ -39,16 +39,47 @@ impl<'a> Stays for Stores<'a> {
 }
 
 /// Stores and loads.
-#[derive(Drop)]
 struct Both<'a> {
     producer: Producer<'a, Slow>,
     handle: Handle<'a, Slow>,
+}
+
+impl<'a> Drop for Both<'a> {
+    fn drop(self) {
+        let Self {
+            producer: _producer,
+            handle: _handle,
+        } = self;
+    }
 }
 
 impl<'a> GoesOn for Both<'a> {
     fn goes_on(&mut self, rt: &impl Wait, at: u64) -> bool {
         self.producer.store(Slow::of(at)) && self.handle.load(rt).number == at
     }
+}
+
+/// The role of the one who stores, by a handle that is split off.
+fn producer<'a>(handle: &mut Handle<'a, Slow>) -> Option<Producer<'a, Slow>> {
+    handle.split()?.acquire_producer().ok()
+}
+
+/// Whether one goes on while another is inside a load. None where the role or a further handle is not to be had.
+fn beside_load<R: Wait + Threads + Clock + Sync>(rt: &R, handle: Handle<'_, Slow>) -> Option<bool> {
+    let mut handle = handle;
+    let (producer, other) = producer(&mut handle).zip(handle.split())?;
+    let both = Both { producer, handle };
+    Some(goes_on_beside(rt, Loads { handle: other }, both))
+}
+
+/// The same of a store.
+fn beside_store<R: Wait + Threads + Clock + Sync>(
+    rt: &R,
+    handle: Handle<'_, Slow>,
+) -> Option<bool> {
+    let mut handle = handle;
+    let producer = producer(&mut handle)?;
+    Some(goes_on_beside(rt, Stores { producer }, Loads { handle }))
 }
 
 /// Whether one goes on while another is inside a load, or a store.
@@ -59,16 +90,13 @@ fn goes_on<R: Wait + Threads + Clock + Sync>(
 ) -> Result<bool, Fail> {
     let first = if is_load { SLOW_TO_READ } else { 7 };
     let (value, pass) = UnrestrictedAtomic::new(alloc, Slow::of(first))?;
-    let mut handle = value.handle(pass);
-    let storing = handle.split().ok_or("no further handle")?;
-    let other = handle.split().ok_or("no further handle")?;
-    let producer = storing.acquire_producer().map_err(|_| "taken")?;
-    if is_load {
-        let both = Both { producer, handle };
-        Ok(goes_on_beside(rt, Loads { handle: other }, both))
+    let handle = value.handle(pass);
+    let went = if is_load {
+        beside_load(rt, handle)
     } else {
-        Ok(goes_on_beside(rt, Stores { producer }, Loads { handle }))
-    }
+        beside_store(rt, handle)
+    };
+    Ok(went.ok_or("not to be had")?)
 }
 
 #[test]

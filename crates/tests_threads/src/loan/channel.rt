@@ -54,7 +54,6 @@ impl Channel {
 }
 
 /// One who sends, with further passes.
-#[derive(Drop)]
 pub struct Sends<'a> {
     set: &'a UniqueIndexSet,
     submission: &'a SafelyOverflowingIndexQueue,
@@ -68,11 +67,32 @@ pub struct Sends<'a> {
     ghost from: { IsSenderOf set.now sender },
 }
 
+impl<'a> Drop for Sends<'a> {
+    fn drop(self) {
+        let Self {
+            set: _,
+            submission: _,
+            receives: _receives,
+            completion: _,
+            last: _last,
+            sender: _sender,
+        } = self;
+    }
+}
+
 /// One who receives, and gives back.
-#[derive(Drop)]
 pub struct Receives<'a> {
     consumer: Consumer<'a>,
     producer: Producer<'a>,
+}
+
+impl<'a> Drop for Receives<'a> {
+    fn drop(self) {
+        let Self {
+            consumer: _consumer,
+            producer: _producer,
+        } = self;
+    }
 }
 
 /// A sender that is made of these.
@@ -105,12 +125,8 @@ impl<'a> Receives<'a> {
         requires submission { ends.IsPassOf submission.now sends }
         requires completion { ends.IsPassOf completion.now returns }
     {
-        let Ok(consumer) = submission.acquire_consumer(sends) else {
-            return None;
-        };
-        let Ok(producer) = completion.acquire_producer(returns) else {
-            return None;
-        };
+        let consumer = submission.acquire_consumer(sends).ok();
+        let (consumer, producer) = consumer.zip(completion.acquire_producer(returns).ok())?;
         Some(Receives { consumer, producer })
     }
 
@@ -193,9 +209,17 @@ impl<'a> Sends<'a> {
 
     /// How many indices are borrowed, by the pass that the sender had, and whether nothing waits to be taken back.
     pub fn finish(self) -> Option<(usize, bool)> {
-        let mut pass = self.sender.finish();
-        let borrowed = self.set.borrowed_indices(&mut pass);
-        let Ok(mut consumer) = self.completion.acquire_consumer(self.last) else {
+        let Self {
+            set,
+            submission: _,
+            receives: _receives,
+            completion,
+            last,
+            sender,
+        } = self;
+        let mut pass = sender.finish();
+        let borrowed = set.borrowed_indices(&mut pass);
+        let Ok(mut consumer) = completion.acquire_consumer(last) else {
             return None;
         };
         Some((borrowed, consumer.pop().is_none()))

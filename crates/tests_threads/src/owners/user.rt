@@ -16,13 +16,23 @@ use lock_free::mpmc::unique_index_set_enums::{
 use std::sync::Wait;
 
 /// An owner who uses a set.
-#[derive(Drop)]
 pub struct OwnerUser<'a> {
     set: &'a RobustUniqueIndexSet,
     holders: &'a Holders,
     pub owner: OwnerId,
     pass: Pass,
     ghost of: { IsPassOf set.now pass },
+}
+
+impl<'a> Drop for OwnerUser<'a> {
+    fn drop(self) {
+        let Self {
+            set: _,
+            holders: _,
+            owner: _,
+            pass: _pass,
+        } = self;
+    }
 }
 
 impl<'a> OwnerUser<'a> {

@@ -43,10 +43,18 @@ pub fn pause(looks: u32) {
 }
 
 /// The two ends of a way that records go.
-#[derive(Drop)]
 pub struct Ends<W, D> {
     pub writer: W,
     pub reader: D,
+}
+
+impl<W: Drop, D: Drop> Drop for Ends<W, D> {
+    fn drop(self) {
+        let Self {
+            writer: _writer,
+            reader: _reader,
+        } = self;
+    }
 }
 
 /// Writes so many records: whether there was room for each.

@@ -25,10 +25,18 @@ const STOPPED: u64 = 1;
 const AFTER: u64 = 2;
 
 /// How far a round has come: how many of the three write records, and whether the fourth is stopped.
-#[derive(Drop)]
 struct Stop {
     begun: AtomicU64,
     phase: AtomicU64,
+}
+
+impl Drop for Stop {
+    fn drop(self) {
+        let Self {
+            begun: _begun,
+            phase: _phase,
+        } = self;
+    }
 }
 
 impl Stop {
@@ -94,9 +102,14 @@ impl<'a> Uses for UsesPool<'a> {
 }
 
 /// Who writes a record under a lock.
-#[derive(Drop)]
 struct UsesLock<'a> {
     record: &'a Mutex<Vec<u64>>,
+}
+
+impl<'a> Drop for UsesLock<'a> {
+    fn drop(self) {
+        let Self { record: _ } = self;
+    }
 }
 
 impl<'a> Uses for UsesLock<'a> {
@@ -141,12 +154,22 @@ fn goes_on<U: Uses, R: Wait + Clock>(rt: &R, uses: &mut U, stop: &Stop) -> u64 {
 }
 
 /// The four.
-#[derive(Drop)]
 struct Four<U> {
     one: U,
     two: U,
     three: U,
     four: U,
+}
+
+impl<U: Drop> Drop for Four<U> {
+    fn drop(self) {
+        let Self {
+            one: _one,
+            two: _two,
+            three: _three,
+            four: _four,
+        } = self;
+    }
 }
 
 impl<U: Uses + Send> Four<U> {

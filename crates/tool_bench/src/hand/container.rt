@@ -7,10 +7,15 @@ use std::alloc::{AllocError, Global};
 use std::sync::Wait;
 
 /// The counter, the owner of each index, how many changes there were, the number of each element, and the elements.
-#[derive(Drop)]
 pub struct Values {
     owners: Owners,
     ghost sized: { owners.words.size ≡ 2 + (owners.capacity + owners.capacity) + owners.capacity },
+}
+
+impl Drop for Values {
+    fn drop(self) {
+        let Self { owners: _owners } = self;
+    }
 }
 
 impl Values {

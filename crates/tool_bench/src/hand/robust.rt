@@ -12,11 +12,19 @@ pub const LOCKED: u64 = u64::MAX;
 const GREATEST: u64 = u64::MAX - 1;
 
 /// The counter, the owner of each index, and further words.
-#[derive(Drop)]
 pub struct Owners {
     pub words: Words,
     pub capacity: u32,
     ghost sized: { 1 + capacity ≤ words.size },
+}
+
+impl Drop for Owners {
+    fn drop(self) {
+        let Self {
+            words: _words,
+            capacity: _,
+        } = self;
+    }
 }
 
 impl Owners {

@@ -6,11 +6,16 @@ use std::alloc::{AllocError, Global};
 use std::sync::Wait;
 
 /// A value of so many words.
-#[derive(Drop)]
 pub struct Value<const N: usize> {
     words: Words,
     ghost some: { (0 < N) × (N < 1000) },
     ghost sized: { words.size ≡ 2 + (N + N) },
+}
+
+impl<const N: usize> Drop for Value<N> {
+    fn drop(self) {
+        let Self { words: _words } = self;
+    }
 }
 
 impl<const N: usize> Value<N> {

@@ -82,7 +82,52 @@ fn loan_one(rt: &impl Wait, sender: &mut LoanSender<'_>) -> u32
     unreachable!()
 }
 
-/// Writes so many records, each in a slot of its own, and sends their slots: the pass.
+/// The one who sends, of a pass of each.
+fn make_sender<'a>(
+    alloc: Global,
+    set: &'a UniqueIndexSet,
+    pass: Pass,
+    submission: &'a SafelyOverflowingIndexQueue,
+    into: overflow::Pass,
+    completion: &'a IndexQueue,
+    from: index_queue::Pass,
+) -> Result<LoanSender<'a>, LoansError>
+    requires set { IsPassOf set.now pass }
+    requires nothing { HoldsNothing (made pass) }
+    requires submission { ends.IsPassOf submission.now into }
+    requires completion { ends.IsPassOf completion.now from }
+    ensures { IfOk result (λ s. set_of_sender s ≡ set_of pass) }
+{
+    let Ok(producer) = submission.acquire_producer(into) else {
+        return Err(LoansError::Taken);
+    };
+    let Ok(consumer) = completion.acquire_consumer(from) else {
+        return Err(LoansError::Taken);
+    };
+    match LoanSender::new(alloc, set, pass, producer, consumer) {
+        Ok(sender) => Ok(sender),
+        Err(_) => Err(LoansError::NoMemory),
+    }
+}
+
+/// Writes so many records, each in a slot of its own, and sends their slots.
+fn send_all(
+    rt: &impl Wait,
+    slots: &[Mutex<Record>],
+    sender: &mut LoanSender<'_>,
+    count: u32,
+) -> Result<(), LoansError>
+    ensures { set_of_sender sender.new ≡ set_of_sender sender.old }
+{
+    for number in 0..count {
+        let index = loan_one(rt, sender);
+        write_in(slots, index, number)?;
+        sender.send(index);
+    }
+    Ok(())
+}
+
+/// The same by one who is made of these: the pass.
 fn send_records(
     rt: &impl Wait,
     alloc: Global,
@@ -101,20 +146,8 @@ fn send_records(
     requires completion { ends.IsPassOf completion.now from }
     ensures { IfOk result (λ p. set_of p ≡ set_of pass) }
 {
-    let Ok(producer) = submission.acquire_producer(into) else {
-        return Err(LoansError::Taken);
-    };
-    let Ok(consumer) = completion.acquire_consumer(from) else {
-        return Err(LoansError::Taken);
-    };
-    let Ok(mut sender) = LoanSender::new(alloc, set, pass, producer, consumer) else {
-        return Err(LoansError::NoMemory);
-    };
-    for number in 0..count {
-        let index = loan_one(rt, &mut sender);
-        write_in(slots, index, number)?;
-        sender.send(index);
-    }
+    let mut sender = make_sender(alloc, set, pass, submission, into, completion, from)?;
+    send_all(rt, slots, &mut sender, count)?;
     Ok(sender.finish())
 }
 
@@ -139,6 +172,35 @@ fn receive_one(
 }
 
 /// Reads so many records, and gives each slot back.
+fn receive_all(
+    rt: &impl Wait,
+    alloc: Global,
+    slots: &[Mutex<Record>],
+    consumer: &mut overflow::Consumer<'_>,
+    producer: &mut index_queue::Producer<'_>,
+    count: u32,
+) -> Result<Vec<Reading>, LoansError>
+    ensures written { IfOk result (λ r. All IsWritten r.items) }
+    ensures count { IfOk result (λ r. length r.items ≡ count) }
+{
+    let mut readings = Vec::new(alloc);
+    for _ in rt.forever() {
+        if readings.len() >= count as usize {
+            break;
+        }
+        match receive_one(rt, slots, consumer, producer)? {
+            Some(reading) => {
+                if readings.push(reading).is_err() {
+                    return Err(LoansError::NoMemory);
+                }
+            }
+            None => thread::yield_now(),
+        }
+    }
+    Ok(readings)
+}
+
+/// The same by one who has a pass of each queue.
 fn receive_records(
     rt: &impl Wait,
     alloc: Global,
@@ -160,24 +222,71 @@ fn receive_records(
     let Ok(mut producer) = completion.acquire_producer(into) else {
         return Err(LoansError::Taken);
     };
-    let mut readings = Vec::new(alloc);
-    for _ in rt.forever() {
-        if readings.len() >= count as usize {
-            break;
-        }
-        match receive_one(rt, slots, &mut consumer, &mut producer)? {
-            Some(reading) => {
-                if readings.push(reading).is_err() {
-                    return Err(LoansError::NoMemory);
-                }
-            }
-            None => thread::yield_now(),
-        }
-    }
-    Ok(readings)
+    receive_all(rt, alloc, slots, &mut consumer, &mut producer, count)
 }
 
-/// Passes so many records from one thread to another, by four slots: what was read of each.
+/// Passes so many records from one thread to another, with both passes of each queue: what was read of each.
+fn pass_between<R: Threads + Wait + Sync>(
+    rt: &R,
+    alloc: Global,
+    slots: &[Mutex<Record>],
+    submission: &SafelyOverflowingIndexQueue,
+    into: overflow::Pass,
+    receiving: overflow::Pass,
+    completion: &IndexQueue,
+    from: index_queue::Pass,
+    giving: index_queue::Pass,
+    count: u32,
+) -> Result<Vec<Reading>, LoansError>
+    requires submission { ends.IsPassOf submission.now into × ends.IsPassOf submission.now receiving }
+    requires completion { ends.IsPassOf completion.now from × ends.IsPassOf completion.now giving }
+    ensures written { IfOk result (λ r. All IsWritten r.items) }
+    ensures count { IfOk result (λ r. length r.items ≡ count) }
+{
+    let (set, pass) = UniqueIndexSet::new(alloc, SLOTS as usize)?;
+    let indices = &set;
+    let (sent, received) = thread::join(
+        rt,
+        move || send_records(
+            rt, alloc, slots, indices, pass, submission, into, completion, from, count,
+        ),
+        move || receive_records(
+            rt, alloc, slots, submission, receiving, completion, giving, count,
+        ),
+    );
+    sent?;
+    received
+}
+
+/// The same by two queues that are made for it.
+fn pass_by<R: Threads + Wait + Sync>(
+    rt: &R,
+    alloc: Global,
+    slots: &[Mutex<Record>],
+    count: u32,
+) -> Result<Vec<Reading>, LoansError>
+    ensures written { IfOk result (λ r. All IsWritten r.items) }
+    ensures count { IfOk result (λ r. length r.items ≡ count) }
+{
+    let (submission, mut into) = SafelyOverflowingIndexQueue::new(alloc, SLOTS as usize)?;
+    let (completion, mut from) = IndexQueue::new(alloc, SLOTS as usize)?;
+    let receiving = into.split().ok_or(LoansError::NoPass)?;
+    let giving = from.split().ok_or(LoansError::NoPass)?;
+    pass_between(
+        rt,
+        alloc,
+        slots,
+        &submission,
+        into,
+        receiving,
+        &completion,
+        from,
+        giving,
+        count,
+    )
+}
+
+/// The same of records that are made for it, by four slots.
 pub fn pass_records<R: Threads + Wait + Sync>(
     rt: &R,
     alloc: Global,
@@ -187,20 +296,5 @@ pub fn pass_records<R: Threads + Wait + Sync>(
     ensures count { IfOk result (λ r. length r.items ≡ count) }
 {
     let records = make_slots(alloc)?;
-    let (set, pass) = UniqueIndexSet::new(alloc, SLOTS as usize)?;
-    let (submission, mut into) = SafelyOverflowingIndexQueue::new(alloc, SLOTS as usize)?;
-    let (completion, mut from) = IndexQueue::new(alloc, SLOTS as usize)?;
-    let receiving = into.split().ok_or(LoansError::NoPass)?;
-    let giving = from.split().ok_or(LoansError::NoPass)?;
-    let slots = records.as_slice();
-    let (indices, sends, returns) = (&set, &submission, &completion);
-    let (sent, received) = thread::join(
-        rt,
-        move || send_records(
-            rt, alloc, slots, indices, pass, sends, into, returns, from, count,
-        ),
-        move || receive_records(rt, alloc, slots, sends, receiving, returns, giving, count),
-    );
-    sent?;
-    received
+    pass_by(rt, alloc, records.as_slice(), count)
 }

@@ -21,7 +21,7 @@ returns c =
     c.release.ensures.same c.release.ensures.released c.release.ensures.list in
     let all : 1 ∷ 2 ∷ [] ≡ x ∷ list.values =
     left_over c.in_ok-queue.mine c.split.new.self c.in_ok-other.other c.release-pass.result c.release.result c.join.new.self 4 list index_tells
-    (first_of (search rules, grind (arith, common_steps))) (search rules) sent received c.join.ensures.joined c.join.ensures.all (search rules) in
+    (first_of (search rules, grind (arith, common_steps))) (search rules) sent received c.join.ensures.same.joined c.join.ensures.same.all (search rules) in
     let rest : list.values ≡ 2 ∷ [] = cc in (
       cc,
       c.pop-first.ensures.answer ∙ ap (λ ys. slice_get ys 0) rest,

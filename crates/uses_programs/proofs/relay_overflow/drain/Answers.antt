@@ -2,6 +2,7 @@ use Rattle.std.proofs.Common.{rules, arith, ap, subst, sym, ◌≡◌, ◌<◌, 
 use Rattle.uses_programs.proofs.Names.{common_steps, option_map, HasPopped}
 use Rattle.lock_free.specs.Queues.Item.TheVariants.{Index}
 use Rattle.lock_free.specs.Queues.Overflowing.{consumer_view, consumer_queue, QueueId}
+use Rattle.lock_free_queues.proofs.Queues.Ends.{oldest_popped}
 use Rattle.lock_free_queues.proofs.Queues.TakenOut.{takes_here, takes_one, drained}
 use Rattle.uses_programs.proofs.relay_overflow.drain.Goals as goal
 
@@ -17,9 +18,9 @@ loop-preserved g c =
       c.loop.invariant.1 ++ c.in-Some-pop.number ∷ [],
       items ∙ (ap (λ z. z ++ c.in-Some-pop.number ∷ []) c.loop.invariant.2 ∙ append_assoc _ c.loop.invariant.1 (c.in-Some-pop.number ∷ [])),
       λ some. (let wide : 0 < (consumer_queue c.loop.consumer).capacity = subst (λ n. 0 < n) (sym same) some in
-          takes_one _ _ _ _ _ _ (c.loop.invariant.3 some) (c.pop.ensures.goes wide)
+          takes_one _ _ _ _ _ _ (c.loop.invariant.3 some) (c.pop.ensures.same.goes wide)
           (subst (λ o. HasPopped (option_map Index o) (consumer_view c.loop.consumer) (consumer_view c.pop.new.self))
-          is (c.pop.ensures.called wide))),
+          is (oldest_popped Index _ _ c.pop.result c.pop.ensures.popped (c.pop.ensures.empty wide)))),
     )
 
 pub returns-in-None-pop-clause-drained : goal.returns-in-None-pop-clause-drained
@@ -27,6 +28,6 @@ returns-in-None-pop-clause-drained g c some =
     let same = ap (λ (q : QueueId). q.capacity) c.loop.invariant.0 in
     let wide : 0 < (consumer_queue c.loop.consumer).capacity = subst (λ n. 0 < n) (sym same) some in
     let is : c.pop.result ≡ None = first_of (search rules, grind (arith, common_steps)) in
-    drained _ _ _ c.loop.invariant.1 _ _ _ c.loop.invariant.2 (c.loop.invariant.3 some) (c.pop.ensures.goes wide)
+    drained _ _ _ c.loop.invariant.1 _ _ _ c.loop.invariant.2 (c.loop.invariant.3 some) (c.pop.ensures.same.goes wide)
     (subst (λ o. HasPopped (option_map Index o) (consumer_view c.loop.consumer) (consumer_view c.pop.new.self)) is
-    (c.pop.ensures.called wide))
+    (oldest_popped Index _ _ c.pop.result c.pop.ensures.popped (c.pop.ensures.empty wide)))

@@ -27,4 +27,4 @@ returns g c =
     drains (first_of (search rules, grind (arith, common_steps))) in
     let fits : length all < 2 ^ 64 - 1 = first_of (search rules, grind (arith, common_steps)) in
     overflowed _ 4 roles.Consumer all back came c.drain.new.numbers.items _ _ _ _ _ _ _ _ fits first cut pushed
-    popped c.join.ensures.joined c.join.ensures.all c.in-Ok.ensures.acquired.0.goes c.in-Ok.ensures.acquired.1 drain
+    popped c.join.ensures.same.joined c.join.ensures.same.all c.in-Ok.ensures.acquired.0.goes c.in-Ok.ensures.acquired.1 drain

@@ -4,6 +4,7 @@ use Rattle.lock_free.specs.Queues.Item.TheVariants.{Index}
 use Rattle.lock_free.specs.Queues.Overflowing.{view, consumer_view, consumer_queue, QueueId}
 use Rattle.lock_free.specs.Queues.Role.TheVariants as roles
 use Rattle.lock_free_queues.specs.Queues.Merges.{HasTaken}
+use Rattle.lock_free_queues.proofs.Queues.Ends.{oldest_popped}
 use Rattle.lock_free_queues.proofs.Queues.TakenOut.{takes_none, takes_one, takes_nothing, takes_all}
 use Rattle.uses_programs.proofs.relay_overflow.pop_some.Goals as goal
 
@@ -25,9 +26,9 @@ loop-preserved g c =
       λ some. (let wide : 0 < (consumer_queue c.loop.consumer).capacity = subst (λ n. 0 < n) (sym same) some in
           subst (λ z. HasTaken z (view c.args.pass) (consumer_view c.pop.new.self)) (sym items)
           (takes_one _ c.loop.numbers.items c.in-Some.number (view c.args.pass) (consumer_view c.loop.consumer)
-          (consumer_view c.pop.new.self) (c.loop.invariant.1 some) (c.pop.ensures.goes wide)
+          (consumer_view c.pop.new.self) (c.loop.invariant.1 some) (c.pop.ensures.same.goes wide)
           (subst (λ o. HasPopped (option_map Index o) (consumer_view c.loop.consumer) (consumer_view c.pop.new.self))
-          is (c.pop.ensures.called wide)))),
+          is (oldest_popped Index _ _ c.pop.result c.pop.ensures.popped (c.pop.ensures.empty wide))))),
     )
 
 pub loop-preserved-in-None : goal.loop-preserved-in-None
@@ -37,9 +38,9 @@ loop-preserved-in-None g c =
       search rules,
       λ some. (let wide : 0 < (consumer_queue c.loop.consumer).capacity = subst (λ n. 0 < n) (sym same) some in
           takes_nothing _ c.loop.numbers.items (view c.args.pass) (consumer_view c.loop.consumer)
-          (consumer_view c.pop.new.self) (c.loop.invariant.1 some) (c.pop.ensures.goes wide)
+          (consumer_view c.pop.new.self) (c.loop.invariant.1 some) (c.pop.ensures.same.goes wide)
           (subst (λ o. HasPopped (option_map Index o) (consumer_view c.loop.consumer) (consumer_view c.pop.new.self))
-          is (c.pop.ensures.called wide))),
+          is (oldest_popped Index _ _ c.pop.result c.pop.ensures.popped (c.pop.ensures.empty wide)))),
     )
 
 pub returns-clause-popped : goal.returns-clause-popped

@@ -1,4 +1,4 @@
-use Rattle.std.proofs.Common.{rules, arith, subst, sym, refl, ap, ◌≡◌, ◌+◌, ◌<◌, [], ◌∷◌, ◌++◌, take, Ok, Some, None}
+use Rattle.std.proofs.Common.{rules, arith, subst, sym, refl, ap, ◌≡◌, ◌+◌, ◌<◌, [], ◌∷◌, ◌++◌, take, Ok}
 use Rattle.uses_programs.proofs.Names.{common_steps, IfOk-at_ok}
 use Rattle.lock_free.specs.Queues.Overflowing.{view, producer_view, producer_queue, QueueId}
 use Rattle.lock_free.specs.Queues.Role.TheVariants as roles
@@ -19,29 +19,26 @@ loop-next-init c =
 pub loop-next-preserved : goal.loop-next-preserved
 loop-next-preserved c =
     let items : c.push-in-Some.new.self.items ≡ c.loop-next.handed_back.items ++ c.in-Some.back ∷ [] = grind (arith, common_steps) in
-    let same = ap (λ (q : QueueId). q.capacity) c.loop-next.invariant.0 in
-    let is : c.push.result ≡ Some c.in-Some.back = first_of (search rules, grind (arith, common_steps)) in (
+    let same = ap (λ (q : QueueId). q.capacity) c.loop-next.invariant.0 in (
       search rules,
       search rules,
       λ some. (let wide : 0 < (producer_queue c.loop-next.producer).capacity = subst (λ n. 0 < n) (sym same) some in
           subst (λ z. HasPushedUpTo (take (c.loop-next.next + 1) c.args.numbers.now) z (view c.args.pass) (producer_view c.push.new.self)) (sym items)
           (returns_next _ wide c.args.numbers.now c.loop-next.next _ c.loop-next.handed_back.items
           (view c.args.pass) (producer_view c.loop-next.producer) (producer_view c.push.new.self) (search rules)
-          refl (c.loop-next.invariant.2 some) (c.push.ensures.goes wide) c.push.result c.in-Some.back is
-          c.push.ensures.called c.in-Some.ensures.handed_back)),
+          refl (c.loop-next.invariant.2 some) (c.push.ensures.same.goes wide) c.in-Some.back
+          c.in-Some.ensures.handed_back)),
     )
 
 pub loop-next-preserved-in-None : goal.loop-next-preserved-in-None
 loop-next-preserved-in-None c =
-    let same = ap (λ (q : QueueId). q.capacity) c.loop-next.invariant.0 in
-    let is : c.push.result ≡ None = first_of (search rules, grind (arith, common_steps)) in (
+    let same = ap (λ (q : QueueId). q.capacity) c.loop-next.invariant.0 in (
       search rules,
       search rules,
       λ some. (let wide : 0 < (producer_queue c.loop-next.producer).capacity = subst (λ n. 0 < n) (sym same) some in
           pushes_next _ wide c.args.numbers.now c.loop-next.next _ c.loop-next.handed_back.items (view c.args.pass)
           (producer_view c.loop-next.producer) (producer_view c.push.new.self) (search rules) refl
-          (c.loop-next.invariant.2 some) (c.push.ensures.goes wide) c.push.result is c.push.ensures.called
-          c.in-None.ensures.published),
+          (c.loop-next.invariant.2 some) (c.push.ensures.same.goes wide) c.in-None.ensures.added),
     )
 
 pub returns-clause-pushed : goal.returns-clause-pushed

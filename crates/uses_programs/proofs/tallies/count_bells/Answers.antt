@@ -8,11 +8,11 @@ use Rattle.uses_programs.proofs.tallies.count_bells.Goals as goal
 
 pub read_counts-requires-clause-whole : goal.read_counts-requires-clause-whole
 read_counts-requires-clause-whole g c =
-    let first : share c.in_ok-opened.opened.1 ≡ all_shares = search rules in
-    let half : share c.split.new.self ≡ half_of (share c.in_ok-opened.opened.1) = search rules in
-    let third : share c.in_ok-taker.taker ≡ half_of (share c.in_ok-opened.opened.1) = search rules in
-    let mine : share c.split-2.new.self ≡ half_of (share c.split.new.self) = search rules in
-    let other : share c.in_ok-other.other ≡ half_of (share c.split.new.self) = search rules in
+    let first : share c.in-Ok.mine ≡ all_shares = c.in-Ok.ensures.share in
+    let half : share c.split.new.self ≡ half_of (share c.in-Ok.mine) = c.in_ok-taker.ensures.cut.share in
+    let third : share c.in_ok-taker.taker ≡ half_of (share c.in-Ok.mine) = c.in_ok-taker.ensures.cut.right_share in
+    let mine : share c.split-2.new.self ≡ half_of (share c.split.new.self) = c.in_ok-other.ensures.cut.share in
+    let other : share c.in_ok-other.other ≡ half_of (share c.split.new.self) = c.in_ok-other.ensures.cut.right_share in
     let x : share c.in_ok-pass.pass ≡ both_of (share c.split-2.new.self) (share c.in_ok-other.other) = search rules in
     let y : share c.join-rung.result.1 ≡ share c.in_ok-taker.taker = search rules in
     subst IsAll (sym (c.join.ensures.joined.share ∙ ap (λ (z : Share × Share). both_of z.0 z.1) (λ i. (x i, y i))))
@@ -22,18 +22,18 @@ pub returns : goal.returns
 returns g c bell lt =
     let rung = c.in_ok-pass.pass in
     let joined = c.join.new.self in
-    let first : share c.in_ok-opened.opened.1 ≡ all_shares = search rules in
-    let half : share c.split.new.self ≡ half_of (share c.in_ok-opened.opened.1) = search rules in
-    let third : share c.in_ok-taker.taker ≡ half_of (share c.in_ok-opened.opened.1) = search rules in
-    let mine : share c.split-2.new.self ≡ half_of (share c.split.new.self) = search rules in
-    let other : share c.in_ok-other.other ≡ half_of (share c.split.new.self) = search rules in
+    let first : share c.in-Ok.mine ≡ all_shares = c.in-Ok.ensures.share in
+    let half : share c.split.new.self ≡ half_of (share c.in-Ok.mine) = c.in_ok-taker.ensures.cut.share in
+    let third : share c.in_ok-taker.taker ≡ half_of (share c.in-Ok.mine) = c.in_ok-taker.ensures.cut.right_share in
+    let mine : share c.split-2.new.self ≡ half_of (share c.split.new.self) = c.in_ok-other.ensures.cut.share in
+    let other : share c.in_ok-other.other ≡ half_of (share c.split.new.self) = c.in_ok-other.ensures.cut.right_share in
     let x : share c.in_ok-pass.pass ≡ both_of (share c.split-2.new.self) (share c.in_ok-other.other) = search rules in
     let y : share c.join-rung.result.1 ≡ share c.in_ok-taker.taker = search rules in
     let all =
     c.join.ensures.all (subst IsAll (sym (c.join.ensures.joined.share ∙ ap (λ (z : Share × Share). both_of z.0 z.1) (λ i. (x i, y i))))
     (split_twice _ _ _ _ _ first half third mine other)) in
     let rang : BothCount c.args.first.now c.args.second.now (made rung) = search rules in
-    let fresh : made c.in_ok-taker.taker ≡ [] = search rules in
+    let fresh : made c.in_ok-taker.taker ≡ [] = c.in_ok-taker.ensures.cut.right_made in
     let never : CountsNone (made c.in_ok-taker.taker) (made c.join-rung.result.1) = search rules in
     let seen_within = takes_within _ (history joined) c.join.ensures.history bell in
     let a : counts bell (history joined) ≡ counts bell (made joined) = all (λ e. cond (is_count_of bell e) 1 0) in
