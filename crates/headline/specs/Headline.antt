@@ -105,31 +105,33 @@ module _ {T : Type 0} where
 
   -- ---- indices of owners
 
-  -- No index is filled for two owners. In a well-formed run no index has two holders, and none has one once the set is locked.
-  -- Who is answered an index of the set was granted it in that call, and it is freed of the owner that fills it, by a release
-  -- for him or by a recovery that was told so.
-  --
-  -- A recovery that answers Unlocked has left no owner an index of his that it was told to free. It has asked about each index
-  -- that was filled with one owner during the whole call, or until the call itself freed it. In the mode that locks, for each
-  -- index that it freed there is a moment of the call, after it had freed this index, at which some index stood filled.
+  -- What every run of a robust set keeps. The second and the third field are of well-formed runs.
   pub record RobustRuns (t : Trace T) : Type 0 where
+    -- No index is filled for two owners.
     pub no_two_fill : NoTwoHold fills t.events
+    -- No index has two holders.
     pub no_two_hold : IsWellFormed t.events → NoTwoHold grants t.events
+    -- No index has a holder once the set is locked.
     pub none_once_locked : IsWellFormed t.events → NoneOnceLocked grants t.events
+    -- An acquire that answers an index has filled it for its owner and was granted it, and the set has that index.
     pub acquired : (p index owner : ℕ) (before : List (Event T))
         → Follows (Finished p (Robust (Acquire owner)) (Index index)) before t.events
         → (set_acts_of p before ≡ Fills index owner ∷ Grants index owner ∷ []) × (index < t.world.capacity)
+    -- An index that is freed was filled for that owner, and a release for the owner frees it, or a recovery that was told to.
     pub freed : (p index owner : ℕ) (before : List (Event T))
         → Follows (FreedOf p index owner) before t.events
         → (holders fills index before ≡ owner ∷ []) × GivesBack p index owner before
+    -- A recovery that answers Unlocked has left an owner no index of its own that the recovery was told to free.
     pub recovered : (p index owner : ℕ) (mode : ReleaseMode) (before : List (Event T))
         → Follows (Finished p (Robust (Recover mode)) (State Unlocked)) before t.events
         → IsOneOf (Yes index owner) (set_acts_of p before)
         → filled_of index before ≢ Some owner
+    -- Such a recovery has asked about each index that one owner filled during the whole call, or until the call itself freed it.
     pub asked_each : (p index owner : ℕ) (mode : ReleaseMode) (before : List (Event T))
         → Follows (Finished p (Robust (Recover mode)) (State Unlocked)) before t.events
         → HeldThroughout p (StillToFree p owner index) before
         → IsOneOf (Asks index owner) (set_acts_of p before)
+    -- In the mode that locks, for each index that it freed, some index stood filled at a moment of the call after that.
     pub locks : (p index owner : ℕ) (before : List (Event T))
         → Follows (Finished p (Robust (Recover LockIfLastIndex)) (State Unlocked)) before t.events
         → IsOneOf (Frees index owner) (set_acts_of p before)
@@ -137,61 +139,69 @@ module _ {T : Type 0} where
 
   -- ---- the container
 
-  -- The same is true of its indices, where a run is well-formed if its removes are, but a recovery frees only its owner's, which
-  -- it was told to free or was shown empty. In a run whose replaces are well-formed too, what is copied is the element that
-  -- stands, whole, and an add or a replace that succeeded has placed its argument. What a party's call asks about is what it has
-  -- copied last. What a party's state shows, while no look of that party is under way, the party has copied.
-  --
-  -- A recovery that answers Unlocked has left its owner no index that it was told to free, or was shown empty. Each index that
-  -- was filled with its owner during the whole call, or until the call itself freed it, it has asked about or was shown empty. A
-  -- call waits for a decision just where it asks about a value.
-  --
-  -- The number of changes is that of the adds, removes and replaces that succeeded, and of the recoveries. An update of a state
-  -- that answers true has met a change since the look began that last brought it up to date, and one that answers false has
-  -- met none since that look ended.
+  -- What every run of a container keeps. A run is well-formed here if its removes are; `IsWellFormedRun` asks it of its replaces too.
   pub record ContainerRuns (t : Trace T) : Type 0 where
+    -- No index is filled for two owners.
     pub no_two_fill : NoTwoHold fills t.events
+    -- No index has two holders.
     pub no_two_hold : IsWellFormed t.events → NoTwoHold grants t.events
+    -- No index has a holder once the container is locked.
     pub none_once_locked : IsWellFormed t.events → NoneOnceLocked grants t.events
+    -- An add that answers an index has filled it for its owner and was granted it, and the container has that index.
     pub acquired : (p index owner : ℕ) (value : T) (before : List (Event T))
         → Follows (Finished p (Container (containers.Add value owner)) (Index index)) before t.events
         → (set_acts_of p before ≡ Fills index owner ∷ Grants index owner ∷ []) × (index < t.world.capacity)
+    -- An index that is freed was filled for that owner. A remove for the owner frees it, or a recovery of the owner that was told to
+    -- free it or was shown it empty.
     pub freed : (p index owner : ℕ) (before : List (Event T))
         → Follows (FreedOf p index owner) before t.events
         → (holders fills index before ≡ owner ∷ []) × GivesBack p index owner before
+    -- What a call copies is the element that stands there, whole.
     pub copied : IsWellFormedRun t → (p index : ℕ) (value : T) (before : List (Event T))
         → Follows (Copied p index value) before t.events
         → contents_of index before ≡ Some value
+    -- An add that answers an index has placed its value there.
     pub added : IsWellFormedRun t → (p index owner : ℕ) (value : T) (before : List (Event T))
         → Follows (Finished p (Container (containers.Add value owner)) (Index index)) before t.events
         → places (acts_of p before) ≡ (index, value) ∷ []
+    -- A replace that answers Done has placed its value at its index.
     pub replaced : IsWellFormedRun t → (p index owner : ℕ) (value : T) (before : List (Event T))
         → Follows (Finished p (Container (containers.Replace index value owner)) Done) before t.events
         → places (acts_of p before) ≡ (index, value) ∷ []
+    -- What a call asks about is the value that it has copied last.
     pub asked : (p index : ℕ) (value : T) → question_at t p ≡ Some (index, value)
         → IsLatest (Copies index value) (acts_of p t.events)
+    -- While a party has no look under way, it has copied each value that its state shows.
     pub shown : (p index : ℕ) (state : ContainerState T) (value : T)
         → is_looking (flight_in t.world p) ≡ false
         → state_in t.world.kept p ≡ Some state
         → shows state index ≡ Some value
         → IsOneOf (Copied p index value) t.events
+    -- A recovery that answers Unlocked has left its owner no index that it was told to free or was shown empty.
     pub recovered : (p index owner : ℕ) (mode : ReleaseMode) (before : List (Event T))
         → Follows (Finished p (Container (containers.Recover owner mode)) (State Unlocked)) before t.events
         → IsOneOf (Yes index owner) (set_acts_of p before) ⊎ IsOneOf (Sees index) (acts_of p before)
         → filled_of index before ≢ Some owner
+    -- Such a recovery has asked about each index that its owner filled during the whole call, or until the call itself freed it,
+    -- or was shown it empty.
     pub asked_each : (p index owner : ℕ) (mode : ReleaseMode) (before : List (Event T))
         → Follows (Finished p (Container (containers.Recover owner mode)) (State Unlocked)) before t.events
         → HeldThroughout p (StillToFree p owner index) before
         → IsOneOf (Asks index owner) (set_acts_of p before) ⊎ IsOneOf (Sees index) (acts_of p before)
+    -- In the mode that locks, for each index that it freed, some index stood filled at a moment of the call after that.
     pub locks : (p index owner : ℕ) (before : List (Event T))
         → Follows (Finished p (Container (containers.Recover owner LockIfLastIndex)) (State Unlocked)) before t.events
         → IsOneOf (Frees index owner) (set_acts_of p before)
         → FilledSinceFreed p owner index before
+    -- A call waits for a decision exactly where it asks about a value.
     pub waits : (p : ℕ) → waits_at t p ≡ is_some (question_at t p)
+    -- The number of changes counts the adds, removes and replaces that succeeded, and the recoveries.
     pub changes : slice_index t.world.words (change_word t.world.capacity) ≡ changes_of t.events
+    -- An update of a state that answers true has met a change since the look began that last brought that state up to date.
     pub met : (p : ℕ) (before : List (Event T))
         → Follows (Finished p (Container containers.UpdateState) (Truth true)) before t.events
         → (seen_by p before).least < changes_of before
+    -- One that answers false has met no change since that look ended.
     pub met_none : (p : ℕ) (before : List (Event T))
         → Follows (Finished p (Container containers.UpdateState) (Truth false)) before t.events
         → changes_of before ≡ (seen_by p before).most
@@ -209,33 +219,38 @@ module _ {T : Type 0} where
   is_send_or_receive (Loan channels.Receive) = true
   is_send_or_receive start = false
 
-  -- No index is with two parties. A loan has claimed the index of the channel that it answers, and a receive has taken the index
-  -- that it answers out of the submission queue. An index is freed by a call of the party that has it, or, where a receiver
-  -- that has died had it, by a reclaim.
-  --
-  -- Each finished send and receive acts at one moment inside it, and no call acts more than once. In the order of these moments
-  -- they act as pushes and pops of one list that overflows, from which a reclaim pops each index that it takes out of the
-  -- submission queue. What waits in a queue is what was put there and not yet taken out.
+  -- What every run of a loan channel keeps. Its sends and receives act as the pushes and pops of one list that overflows, each
+  -- at one moment inside the call.
   pub record ChannelRuns (queue : ℕ) (t : Trace T) : Type 0 where
+    -- The submission queue has this capacity.
     pub length : queue_in t.world.kept ≡ Some queue
+    -- No index is with two parties.
     pub no_two_hold : NoTwoHold loans t.events
+    -- A loan that answers an index has claimed it, and the channel has that index.
     pub acquired : (p index : ℕ) (before : List (Event T))
         → Follows (Finished p (Loan channels.Loan) (Index index)) before t.events
         → (channel.claimed (wrote_in (span_of p before)) ≡ index ∷ []) × (index < t.world.capacity)
+    -- A receive that answers an index has taken it out of the submission queue.
     pub received : (p index : ℕ) (before : List (Event T))
         → Follows (Finished p (Loan channels.Receive) (PoppedIndex index)) before t.events
         → (handed_out (wrote_in (span_of p before)) ≡ items.Index index ∷ []) × (index < t.world.capacity)
+    -- The party that has an index frees it. A reclaim frees what a receiver had that has died.
     pub freed : (p index : ℕ) (before : List (Event T))
         → Follows (Freed p index) before t.events
         → (holders loans index before ≡ p ∷ []) ⊎ IsLeftOver p index before
+    -- Each finished send and receive acts at one moment inside it.
     pub inside : (p : ℕ) (start : Start T) (answer : Answer T) (before : List (Event T))
         → is_send_or_receive start ≡ true
         → Follows (Finished p start answer) before t.events
         → ActedOnce p start answer before
+    -- No call acts more than once.
     pub once : AtMostOnce t.events
+    -- In the order of these moments they act on one list that overflows. A reclaim pops from it what it takes out of the queue.
     pub list : IsLegal (overflowing_list queue) (queue_moments t.events)
+    -- What waits in the submission queue was sent there and not yet taken out.
     pub sent : published t.events
         ≡ handed_out t.events ++ sent_in t.world.coding t.world.capacity queue t.world.words
+    -- What waits in the completion queue was given back there and not yet taken out.
     pub returned : map items.Index (given_back t.events)
         ≡ map items.Index (taken_back t.events)
         ++ given_back_in t.world.coding t.world.capacity queue t.world.words
@@ -254,16 +269,17 @@ module _ {T : Type 0} where
 
   -- ---- any kind
 
-  -- Of each party's latest call: each turn back to the start of a loop is paid by a change that another party has made to a word
-  -- since the call began, and its steps, which are its operations on words, are bounded, by its turns back and, for one that is
-  -- wait-free or obstruction-free, by the constants of that guarantee.
+  -- How much each party's latest call has done.
   pub record MakesProgress (t : Trace T) : Type 0 where
+    -- Each turn back to the start of a loop is paid by a change that another party has made to a word since the call began.
     pub paid : (p : ℕ) (g : Progress) → progress_in t.world p ≡ Some g → g.backs ≤ g.others
+    -- Its steps, which are its operations on words, are bounded by its turns back.
     pub bounded : (p : ℕ) (start : Start T) (g : Progress)
         → call_in (span_of p t.events) ≡ Some start
         → progress_in t.world p ≡ Some g
         → g.steps
         ≤ (promise_of t.world.kind).most_steps t.world.capacity t.world.coding.size start g.backs
+    -- A call that is wait-free or obstruction-free keeps within the constants of that guarantee.
     pub guaranteed : (p : ℕ) (start : Start T) (g : Progress)
         → call_in (span_of p t.events) ≡ Some start
         → progress_in t.world p ≡ Some g
@@ -277,28 +293,30 @@ module _ {T : Type 0} where
 
   -- ---- one turn
 
-  -- A turn that was taken changes one word at most, as its operation says, leaves the calls of all other parties where they
-  -- stood and the capacity of a submission queue as it was, and writes behind what was written. A turn without a decision in
-  -- which a call asks for no operation ends the call, so that none goes on so for ever.
-  --
-  -- If a turn of a robust set writes that a call asks about an index of an owner, the call then asks about that index of that
-  -- owner. A find there that loads a cell then asks about its index if it is filled with the owner of the find, and else about
-  -- no index. In a robust set and in a container a call does not wait right after a decision.
+  -- What a turn that was taken does.
   pub record Takes (old : Trace T) (turn : Turn T) (new : Trace T) : Type 0 where
+    -- It changes one word at most, as its operation says.
     pub one_word : new.world.words ≡ words_after old.world.words (ask_in old.world turn)
+    -- The calls of all other parties stay where they stood.
     pub others_stay : (q : ℕ) → ¬ IsParty turn q → flight_in new.world q ≡ flight_in old.world q
+    -- It writes behind what was written.
     pub grows : (wrote : List (Event T)) × (new.events ≡ old.events ++ wrote)
+    -- The capacity of a submission queue stays as it was.
     pub keeps_queue : queue_in new.world.kept ≡ queue_in old.world.kept
+    -- A turn without a decision in which a call asks for no operation ends that call. So no call goes on so for ever.
     pub ends : (p : ℕ) → turn ≡ Next p → ask_in old.world turn ≡ None → flight_in new.world p ≡ None
+    -- If a turn of a robust set writes that a call asks about an owner's index, the call then asks about that index of that owner.
     pub asks : old.world.kind ≡ kinds.Robust → (p index owner : ℕ) (wrote : List (Event T))
         → new.events ≡ old.events ++ wrote
         → IsOneOf (Asked p index owner) wrote
         → owned_of new.world.coding (flight_in new.world p) ≡ Some (index, owner)
+    -- A find of a robust set that loads a cell then asks about its index if the owner of the find fills it, and else about none.
     pub finds : old.world.kind ≡ kinds.Robust → (p index owner : ℕ) → turn ≡ Next p
         → IsIn p (Robust (Find owner)) old
         → ask_in old.world turn ≡ Some (loads_cell index)
         → asked_of new.world.coding (flight_in new.world p)
         ≡ index_if owner index (filled_of index old.events)
+    -- In a robust set and in a container a call does not wait right after a decision.
     pub answered : (old.world.kind ≡ kinds.Robust) ⊎ (old.world.kind ≡ kinds.Container)
         → (p : ℕ) (said : Bool) → turn ≡ Decide p said
         → waits_at new p ≡ false

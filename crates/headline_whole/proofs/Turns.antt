@@ -35,11 +35,14 @@ use Rattle.headline_whole.specs.Whole.{RunsWhole}
 use Rattle.headline_whole.proofs.Courses.{NoneEnds, Course, Holding, IsMadeSo, Steps, Rules}
 use Rattle.headline_whole.proofs.Runs.{Rests, Goes, Stands, whole_before, shut_rests, no_flight, goes_on, hears}
 
+-- `C` is how a structure of this kind goes from call to call, `H` what a machine of it holds, `L` the rules that both keep.
 module _ {T : Type 0} (C : Course T) (H : Holding C) (code : Coding T) (kind : Kind) (capacity : ℕ) (L : Rules C H code kind capacity) where
+  -- The call of the story is the one that its party has under way.
   pub under_way : (t : Trace T) (story : Story T) (h : Goes C H t story) → flight_in t.world h.party ≡ Some h.flight
   under_way t story h =
       ap (λ (o : Option (Party T)). flight_of (doing_of o)) h.found ∙ ap (λ (d : Doing T). flight_of (Some d)) h.doing
 
+  -- A begin ends no call, and a death ends none.
   begun_ends_none : (p : ℕ) (start : Start T) → NoneEnds (Begun p start ∷ [])
   begun_ends_none p start is_call = refl
 
@@ -48,6 +51,7 @@ module _ {T : Type 0} (C : Course T) (H : Holding C) (code : Coding T) (kind : K
 
   -- ---- a call begins
 
+  -- The party of a call that is under way has an open span.
   busy : (t : Trace T) (story : Story T) → IsReached t → (h : Goes C H t story) → IsShut (span_of h.party t.events) → ⊥
   busy t story r h shut =
       let kept = reached_kept laws_of t r in
@@ -57,6 +61,7 @@ module _ {T : Type 0} (C : Course T) (H : Holding C) (code : Coding T) (kind : K
       shut_rests (promise_of t.world.kind) t.world.capacity t.world.coding.size (span_of h.party t.events) g (ap is_over h.doing) shut
       (subst (Progresses (promise_of t.world.kind) t.world.capacity t.world.coding.size (span_of h.party t.events)) is (kept.progress h.party))
 
+  -- From a machine at rest, a begin that is not refused puts a call under way.
   begins : (t : Trace T) (story : Story T) → IsReached t → IsMadeSo code kind capacity t → (p : ℕ) (start : Start T)
       → refusal_of t.world (Begin p start) ≡ None → ((q : ℕ) → IsShut (span_of q t.events))
       → Stands C H t story → Stands C H (after_turn t (Begin p start)) (story_after t.world (Begin p start) story)
@@ -92,12 +97,14 @@ module _ {T : Type 0} (C : Course T) (H : Holding C) (code : Coding T) (kind : K
 
   -- ---- a call goes on
 
+  -- A `Next` that is not refused meets no question.
   undecided : (w : World T) (p : ℕ) → call_refusal w (Next p) ≡ None → is_due w.coding (flight_in w p) ≡ false
   undecided w p e =
       let idle = row_passed _ _ _ e in
       let due = row_passed _ _ _ idle.1 in
       due.0
 
+  -- What a step of the call under way leads to, by the rules of its structure.
   going : (t : Trace T) (story : Story T) (h : Goes C H t story) → t.world.coding ≡ code → is_question (want_of t.world.coding h.flight) ≡ false
       → Steps C H h.object h.turns h.party h.call.start story.told (words_after t.world.words (ask_of (want_of t.world.coding h.flight)))
       (step_in t.world h.party h.call h.flight (old_of t.world.words (ask_of (want_of t.world.coding h.flight))))
@@ -111,6 +118,7 @@ module _ {T : Type 0} (C : Course T) (H : Holding C) (code : Coding T) (kind : K
       (beside_of t.world.words t.world.kept t.world.latest h.party) h.under none)
       calm
 
+  -- The same of a decision.
   hearing : (t : Trace T) (story : Story T) (h : Goes C H t story) → t.world.coding ≡ code → (said : Bool)
       → is_question (want_of t.world.coding h.flight) ≡ true
       → Steps C H h.object h.turns h.party h.call.start (story.told ++ decided t.world.coding (Some h.flight) said) t.world.words
@@ -125,6 +133,7 @@ module _ {T : Type 0} (C : Course T) (H : Holding C) (code : Coding T) (kind : K
       (beside_of t.world.words t.world.kept t.world.latest h.party) said h.under is)
       due
 
+  -- A `Next` that is not refused takes a step of the call under way.
   nexts : (t : Trace T) (story : Story T) (p : ℕ) → IsMadeSo code kind capacity t → refusal_of t.world (Next p) ≡ None → Stands C H t story
       → Stands C H (after_turn t (Next p)) (story_after t.world (Next p) story)
   nexts t story p made free (inl h) =
@@ -141,6 +150,7 @@ module _ {T : Type 0} (C : Course T) (H : Holding C) (code : Coding T) (kind : K
       (λ ne. no_flight (flight_in t.world p) may.flight (h.others p ne) may.is)
       (cases_eq p h.party)
 
+  -- A `Decide` that is not refused tells the call under way what was decided.
   decides : (t : Trace T) (story : Story T) (p : ℕ) (said : Bool) → IsMadeSo code kind capacity t → refusal_of t.world (Decide p said) ≡ None
       → Stands C H t story → Stands C H (after_turn t (Decide p said)) (story_after t.world (Decide p said) story)
   decides t story p said made free (inl h) =

@@ -313,17 +313,20 @@ impl<T: Words> Machine<T> {
         let _ = &self.parts;
     }
 
-    /// The shared words as they are now. Of a queue: the write position, the read position, the producer's role, the
-    /// consumer's role (1 while it is free), and the cells, of which an overflowing
-    /// queue has one more than its capacity. Of the single value: the version, the producer's role, and two cells of
-    /// `T::WORDS` words each, of which the one with the number (version - 1) mod 2 has the value that stands. Of a bit
-    /// set: the reset position, and then one word for each 64 places begun, in which place b is bit b mod 64 of the word
-    /// 1 + b / 64. Of a counting bit set: the count of each place. Of the unique index set: the head, the next
-    /// index of each index, and the claim flags, 64 to a word. Of the robust index set: the counter, and for each index a
-    /// cell with its owner, or `u64::MAX`. Of the container: those of a robust index set, how often it has changed, the
-    /// number of each element, which is odd while a value stands there, and `T::WORDS` words for each. Of the loan
-    /// channel: those of its unique index set, of the submission queue, which is an overflowing one, and of the completion
-    /// queue.
+    /// The shared words as they are now.
+    ///
+    /// - Queue: the write position, the read position, the producer's role, the consumer's role (1 while it is free), and
+    ///   the cells. An overflowing queue has one cell more than its capacity.
+    /// - Single value: the version, the producer's role, and two cells of `T::WORDS` words. The cell numbered (version - 1)
+    ///   mod 2 has the value that stands.
+    /// - Bit set: the reset position, then a word for each 64 places begun. Place b is bit b mod 64 of word 1 + b / 64.
+    /// - Counting bit set: the count of each place.
+    /// - Unique index set: the head, the next index of each index, and the claim flags, 64 to a word.
+    /// - Robust index set: the counter, and for each index a cell with its owner, or `u64::MAX`.
+    /// - Container: the words of a robust index set, how often it has changed, each element's number, which is odd while a
+    ///   value stands there, and `T::WORDS` words an element.
+    /// - Loan channel: the words of its unique index set, of the submission queue, which overflows, and of the completion
+    ///   queue.
     pub fn words(&self) -> &[u64]
         ensures { result.now ≡ self.now.words }
     {
