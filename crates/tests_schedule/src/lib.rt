@@ -9,8 +9,6 @@ mod failures;
 #[cfg(test)]
 mod memory;
 #[cfg(test)]
-mod several;
-#[cfg(test)]
 mod sizes;
 #[cfg(test)]
 mod stopped;
