@@ -61,7 +61,7 @@ len_stays capacity c (LoadsReadAgain write read) old is = go (old == read)
     go true = tt
     go false = is
 
--- a machine of this kind has the calls of this queue
+-- each call that begins on a machine of the kind `machine` is one of a queue of the kind `kind`
 abbrev pub HasCalls : Type 0 → QueueKind → Kind → ℕ → Type 0
 HasCalls T kind machine capacity =
     (start : Start T) (flight : Flight T) (kept : Registry T) → first_of machine capacity start kept ≡ Some flight
@@ -92,7 +92,7 @@ module _ {T : Type 0} where
     false_true : {A : Type 0} (b : Bool) → b ≡ false → b ≡ true → A
     false_true b f t = absurd (cc)
 
-    -- a call that is none of the list's leaves the list
+    -- a call that is none of the list's own, and leaves the list as it was, answers as the object says
     beside : (start : QueueStart T) (answer : Answer T) (last : List ℕ) → is_list_call (starts.Queues start) ≡ false
         → Holds (turns + 1) last → read last ≡ read words
         → Answers (list_reading kind capacity Holds read) turns words (starts.Queues start) answer last

@@ -53,7 +53,7 @@ admitted_bits x0 x1 = grind arith
 admitted_counts : (c : ℕ) → capacity_error kinds.Counts c ≡ None → c < 2 ^ 32
 admitted_counts x0 x1 = grind arith
 
--- all elements are 0, and the start is as it was
+-- once all elements are 0 the words are those of an empty set, whose search begins where it began
 record Emptied (capacity : ℕ) (words : List ℕ) : Type 0 where
   pub fits : Represents capacity (cleared words 1 (elements capacity))
   pub places : places_in capacity (cleared words 1 (elements capacity)) ≡ emptied (places_in capacity words)

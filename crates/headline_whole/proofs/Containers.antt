@@ -49,7 +49,7 @@ module _ {T : Type 0} where
   states_stay (registries.Loan book) owner = refl
   states_stay kept owner = refl
 
-  -- no other call than a look writes them
+  -- No step of a call but of a look writes the states of the parties.
   states_same : (code : Coding T) (words : List ℕ) (beside : Option (ℕ × ℕ)) (p : ℕ) (start : Start T) (flight : Flight T) (old : ℕ)
       (kept : Registry T) → Agree start flight kept → states_in (step_of code words beside p start flight old kept).kept ≡ states_in kept
   states_same code words beside p (starts.Queues start) (flights.Queues flight) old (registries.Queues roles) h = refl
@@ -74,7 +74,7 @@ module _ {T : Type 0} (code : Coding T) (coded : IsCoding code) (capacity : ℕ)
   abbrev pub seen : List ℕ → (ℕ → Option (Snapshot T)) → Viewed T
   seen words views = record { contents = map_in code capacity words; views = views }
 
-  -- a call that goes on from its words alone
+  -- A call that is no look is under way, which goes on from the words alone.
   pub record Talking (first_words : List ℕ) (views : ℕ → Option (Snapshot T)) (p : ℕ) (start : Start T) (told : List (Decision T))
       (flight : Flight T) (words : List ℕ) (kept : Registry T) : Type 0 where
     pub agrees : Agree start flight kept

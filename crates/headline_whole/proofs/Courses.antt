@@ -21,11 +21,12 @@ use Rattle.headline_whole.specs.Dialogues.{Request, Reply, Decision, decided, as
 use Rattle.headline_whole.specs.Whole as whole
 
 module _ {T : Type 0} where
-  -- none of these ends a call
+  -- none of the events `es` ends a call
   abbrev pub NoneEnds : List (Event T) → Type 0
   NoneEnds es = (is_call : Start T → Bool) → flat_map (whole.answer_in is_call) es ≡ []
 
--- an object of a run: what its calls do to it, what they say, and what it is after these events and finished calls
+-- An object of a run: what a call makes of it (`after`) and may say (`Says`), and when it is the object after these events and
+-- finished calls (`HasAnswered`), also after events that end no call (`quiet`) and after one call more (`once`).
 pub record Course (T : Type 0) : Type 1 where
   pub State : Type 0
   pub after : State → Request T → State
@@ -40,22 +41,25 @@ pub record Course (T : Type 0) : Type 1 where
       (calls ++ (as_request p start told, as_reply told answer) ∷ [])
 
 module _ {T : Type 0} where
-  -- the trace is one of such a machine
+  -- the trace is one of a machine with this coding, kind and capacity
   pub record IsMadeSo (z : Coding T) (k : Kind) (c : ℕ) (t : Trace T) : Type 0 where
     pub coding : t.world.coding ≡ z
     pub kind : t.world.kind ≡ k
     pub capacity : t.world.capacity ≡ c
 
+  -- `C` is how a structure goes from call to call.
   module _ (C : Course T) where
-    -- how words and what is kept hold the object, where the machine has taken so many turns
+    -- how words and what is kept hold the object (`Holds turns words kept`), and which object they hold
     pub record Holding : Type 1 where
       pub Holds : ℕ → List ℕ → Registry T → Type 0
       pub read : List ℕ → Registry T → C.State
-      -- a call of this party is under way that began where the object was this and so many turns were taken, and was told this
-      pub Under : C.State → ℕ → ℕ → Start T → List (Decision T) → Flight T → List ℕ → Registry T → Type 0
+      -- The call `start` of party `p` is under way. It began where the object was `s` and `turns` turns were taken, and was told
+      -- `told` since. It stands at `flight` over `words` and what is kept.
+      pub Under : (s : C.State) (turns p : ℕ) (start : Start T) (told : List (Decision T)) (flight : Flight T) (words : List ℕ)
+          (kept : Registry T) → Type 0
 
     module _ (H : Holding) where
-      -- what has become of it
+      -- the same of a call after its step: it is still under way, or has answered as the object says and left the object so
       abbrev pub Came : C.State → ℕ → ℕ → Start T → List (Decision T) → After (Flight T) (Answer T) → List ℕ → Registry T → Type 0
       Came s turns p start told (GoOn flight) words kept = H.Under s turns p start told flight words kept
       Came s turns p start told (Done answer) words kept =
@@ -90,6 +94,6 @@ module _ {T : Type 0} where
             → is_question (want_of code flight) ≡ true
             → Steps s turns p start (told ++ decided code (Some flight) said) words
             (step_of code words beside p start flight (number_of said) kept)
-        -- the object at the opening
+        -- at the opening, where nothing has happened, the object is the one that the words hold
         pub first : (queue : ℕ)
             → C.HasAnswered (H.read (words_opened kind code.size capacity queue) (kept_opened kind capacity queue)) [] []

@@ -121,7 +121,7 @@ pub same_flight : {T : Type 0} (a b : Flight T) → ◌≡◌ {A = Option (Fligh
 same_flight a b e = cc
 
 module _ {T : Type 0} (code : Coding T) where
-  -- alone from here it ends, and this holds of its answer and of the words then
+  -- the call at `flight` runs alone over `words` to its end, and P holds of its answer and of the words then
   abbrev pub FlightRuns : (Answer T → List ℕ → Type 0) → Flight T → List ℕ → Type 0
   FlightRuns P flight words =
       Runs (λ (f : Flight T) (given : Unit {0}). want_of code f) (λ f given old. after_of code f old) (λ f (room : Unit {0}) old. room) tt
@@ -130,12 +130,12 @@ module _ {T : Type 0} (code : Coding T) where
   -- ---- a call that puts questions
 
   module _ (P : List (Decision T) → Answer T → List ℕ → Type 0) where
-    -- what has become of it, once it was told this
+    -- after a step of a call that was told `told`: `rest` holds where it goes on, and P where it is done
     abbrev pub Turns : (List (Decision T) → Flight T → List ℕ → Type 0) → List (Decision T) → After (Flight T) (Answer T) → List ℕ → Type 0
     Turns rest told (GoOn flight) words = rest told flight words
     Turns rest told (Done answer) words = P told answer words
 
-    -- it has ended, or whatever it is told it goes on from there
+    -- at a stop of the call: P holds where it has ended, and at a question `Turns` holds whatever is decided
     abbrev pub AtStop : (List (Decision T) → Flight T → List ℕ → Type 0) → List (Decision T) → Stop (Flight T) (Answer T) → List ℕ → Type 0
     AtStop rest told (Ended answer) words = P told answer words
     AtStop rest told (Asked question flight) words =
@@ -146,7 +146,8 @@ module _ {T : Type 0} (code : Coding T) where
         Halts (λ (f : Flight T) (given : Unit {0}). want_of code f) (λ f given old. after_of code f old) (λ f (room : Unit {0}) old. room) tt
         (λ stop room last. AtStop rest told stop last) flight tt words
 
-    -- alone from here it asks fewer questions than this, and whatever it is told, P holds of what it was told and of its answer
+    -- The call at `flight`, alone over `words`, asks fewer questions than the number. Whatever it is told, P holds of all that it
+    -- was told and of its answer.
     abbrev pub Talks : ℕ → List (Decision T) → Flight T → List ℕ → Type 0
     Talks zero told flight words = ⊥
     Talks (suc n) told flight words = Halting (Talks n) told flight words
@@ -181,7 +182,7 @@ module _ {T : Type 0} (code : Coding T) where
           subst (λ s. AtStop rest told s words) t.0 (subst (AtStop rest told stop) t.2 holds)
       heard n stop room last flight wants.TheVariants.Nothing a words holds is t = absurd (cc)
 
-      -- where a machine takes a step of it that needs no decision, it goes on or has ended so
+      -- after a step of a machine that needs no decision, the call still halts, or has ended with P
       pub talk_goes : (flight : Flight T) (words : List ℕ) → Halting rest told flight words → is_question (want_of code flight) ≡ false
           → Turns (Halting rest) told (after_of code flight (old_of words (ask_of (want_of code flight)))) (words_after words (ask_of (want_of code flight)))
       talk_goes flight words h calm = go h.steps h.few h.stops
@@ -200,7 +201,7 @@ module _ {T : Type 0} (code : Coding T) where
               (moved n h.stop h.last_room h.last_words flight (want_of code flight) (after_of code flight (answer_in words (want_of code flight))) words
               (omega arith) h.holds calm t))
 
-      -- and where it is told yes or no
+      -- after a yes or no, the call goes on with `rest`, or has ended with P
       pub talk_hears : (flight : Flight T) (words : List ℕ) → Halting rest told flight words → is_question (want_of code flight) ≡ true → (said : Bool)
           → Turns rest (told ++ decided code (Some flight) said) (after_of code flight (number_of said)) words
       talk_hears flight words h is = go h.steps h.stops
@@ -214,7 +215,7 @@ module _ {T : Type 0} (code : Coding T) where
               heard n h.stop h.last_room h.last_words flight (want_of code flight) (after_of code flight (answer_in words (want_of code flight))) words
               h.holds is t
 
-    -- a call that puts no question
+    -- a call that puts no question asks fewer than one question
     pub talks_once : (Q : Answer T → List ℕ → Type 0) (told : List (Decision T)) (flight : Flight T) (words : List ℕ)
         → ((answer : Answer T) (last : List ℕ) → Q answer last → P told answer last) → FlightRuns Q flight words → Talks 1 told flight words
     talks_once Q told flight words so h =
@@ -235,13 +236,13 @@ module _ {T : Type 0} (code : Coding T) where
     abbrev pub came : M → After C E → After (Flight T) (Answer T)
     came room a = as_call (λ c. flight c room) (λ e. answer e room) a
 
-    -- each step of the one is a step of the other, as long as this holds of it, which stays
+    -- each step of the call `c` of `steps` is a step of the call `flight c room`, as long as `Low` holds of `c`, and it goes on to hold
     pub record IsFlight : Type 0 where
       pub wants : (c : C) (room : M) → Low c → want_of code (flight c room) ≡ want c given
       pub goes : (c : C) (room : M) (old : ℕ) → Low c → after_of code (flight c room) old ≡ came (kept c room old) (after c given old)
       pub stays : (c : C) (old : ℕ) → Low c → LowThen Low (after c given old)
 
-    -- where the one stops, the other stops
+    -- where the call of `steps` stops, the other stops there too
     abbrev pub lift_stop : Stop C E → M → Stop (Flight T) (Answer T)
     lift_stop (Ended e) room = Ended (answer e room)
     lift_stop (Asked question call) room = Asked question (flight call room)

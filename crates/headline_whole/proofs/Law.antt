@@ -15,7 +15,7 @@ use Rattle.headline_whole.proofs.Agree.{Agree}
 pub use Rattle.headline_whole.proofs.Courses.{IsMadeSo}
 use Rattle.headline_whole.proofs.Flights.{FlightRuns}
 
--- how words hold an object, where the machine has taken so many turns
+-- how words hold an object (`Holds turns words`), and which object they hold (`read`)
 pub record Reading (T : Type 0) : Type 1 where
   pub State : Type 0
   pub spec : Specification T State
@@ -24,7 +24,7 @@ pub record Reading (T : Type 0) : Type 1 where
 
 module _ {T : Type 0} where
   module _ (R : Reading T) where
-    -- a call that has begun on these words answers so and leaves these
+    -- the call `start`, which began on `words`, gives `answer` as the object says, and leaves the words `last`, which hold the object
     pub record Answers (turns : ℕ) (words : List ℕ) (start : Start T) (answer : Answer T) (last : List ℕ) : Type 0 where
       pub said : R.spec.is_call start ≡ true → answer ≡ R.spec.object.answer (R.read words) start
       pub holds : R.Holds (turns + 1) last

@@ -102,7 +102,8 @@ module _ {T : Type 0} (code : Coding T) (coded : IsCoding code) (capacity : ℕ)
         Runs (λ (c : Look T) (given : Numbers). look_want code.size c) (look_after code.size) (look_kept code.value_of code.size) old.seen
         (Ends old) call room words
 
-    -- a look of this party is under way that began on these words, where the states of the parties showed this
+    -- A look of party `p`, which began on `first_words`, where the states of the parties showed `views`, is under way at `call`. Now
+    -- the words are `words`, and the states are `states`.
     pub record Looking (which : LookOf) (call : Look T) (words : List ℕ) (states : List (ℕ × ContainerState T)) : Type 0 where
       pub state : ContainerState T
       pub found : state_of p states ≡ Some state

@@ -197,7 +197,7 @@ module _ {T : Type 0} (code : Coding T) (capacity : ℕ) where
     -- ---- a recovery
 
     module _ (owner : ℕ) (mode : ReleaseMode) (lives : owner < empty) where
-      -- the index of the question that comes after so many
+      -- the index that the question of number `n` is about
       abbrev asked_at : ℕ → ℕ
       asked_at n = slice_index (map (λ (o : Owned). o.index) (to_ask (map_in code capacity words) owner)) n
 
@@ -269,7 +269,7 @@ module _ {T : Type 0} (code : Coding T) (capacity : ℕ) where
           (t : Recovers done call room now ws)
           (rest : (d : Recover T (Buffer 128)) (room : Buffer 128) (later : List (Decision T)) (last : List ℕ) → Recovers (done + 1) d room later last
           → Talks code (At (calls.Recover owner mode)) m later (recover_flight d room) last) where
-        -- it asks about the index that comes next
+        -- a question of the recovery is about the index that comes next
         recover_asks : (question : Question (Unit {0})) (put : Recover T (Buffer 128)) (r : Buffer 128) (last : List ℕ)
             → StopsAlike (recover_want code.size) (recover_after code.size) (recover_kept kept_at) dead call room ws (stops.Asked question put) r last
             → recover_want code.size put dead ≡ wants.Question (questions.Value (asked_at (length now)) tt)

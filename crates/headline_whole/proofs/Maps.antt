@@ -49,13 +49,14 @@ module _ {T : Type 0} (code : Coding T) (capacity : ℕ) where
   abbrev pub map_in : List ℕ → Contents T
   map_in words = contents_in code.value_of code.size capacity 0 words
 
-  -- a call that puts no question, of a party whose state shows this, has answered so and leaves these words
+  -- the call `start`, which puts no question, of a party whose state shows `view`, began on `words`, and has given `answer` and left `last`
   pub record Answers (words : List ℕ) (view : Option (Snapshot T)) (start : ContainerStart T) (answer : Answer T) (last : List ℕ) : Type 0 where
     pub said : answer ≡ map_answer capacity (map_in words) view (starts.Container start) []
     pub holds : Holds code.value_of code.size capacity 0 last
     pub object : map_in last ≡ map_after capacity (map_in words) (starts.Container start) []
 
-  -- a call of this party that began on these words, where the states of the parties show this, and was told this, has answered so
+  -- the call `start` of party `p` began on `words`, where the states of the parties show `views`, was told `told`, and has given
+  -- `answer` and left `last`
   pub record Ends (words : List ℕ) (views : ℕ → Option (Snapshot T)) (p : ℕ) (start : Start T) (told : List (Decision T)) (answer : Answer T)
       (last : List ℕ) : Type 0 where
     pub said : as_reply told answer

@@ -54,7 +54,7 @@ map_cut_off f c xs = go (nat_lt c (length xs)) ∙ ap (λ n. if nat_lt c n then 
     go true = front_map f xs
     go false = refl
 
--- with a position, a push is that of the list: at capacity 0 there is no value, and the pushed one is handed back
+-- What a push does to the queue `q` is what it does to a list. At capacity 0 the pushed value itself is handed back.
 record PushesOver (q : Bounded ℕ) (value : ℕ) : Type 0 where
   pub back : handed_back q value ≡ cut_off q.capacity (q.values ++ value ∷ [])
   pub values : (pushed_over q value).values ≡ cut q.capacity (q.values ++ value ∷ [])
@@ -99,7 +99,7 @@ pushes_over (suc c) first values value position few =
 -- ---- the words
 
 module _ (T : Type 0) (capacity : ℕ) where
-  -- the machine has taken so many turns, which raised the write position so far at most
+  -- the words hold the list, and the write position is at most the number of turns that the machine has taken
   abbrev pub Holds : ℕ → List ℕ → Type 0
   Holds turns words = Represents capacity words × (slice_index words 0 ≤ turns)
 

@@ -86,7 +86,7 @@ no_owner : (n : ℕ) → map owner_in (replicate n empty) ≡ replicate n None
 no_owner zero = refl
 no_owner (suc n) = λ i. None ∷ no_owner n i
 
--- a call that begins names an owner, where it names one
+-- where a call begins only if `b` is true, and one has begun, `b` is true and the flight is that call
 pub named_if : {F C : Type 0} (outer : C → F) (call : C) (flight : F) (b : Bool)
     → option_map outer (if b then Some call else None) ≡ Some flight → (b ≡ true) × (outer call ≡ flight)
 named_if outer call flight true e = (refl, cc)
@@ -99,7 +99,7 @@ module _ {T : Type 0} where
   abbrev pub robust_speech : (capacity : ℕ) → Speech (robust_course capacity)
   robust_speech capacity = record { Holds = λ turns words. Represents capacity words; read = owners_in }
 
-  -- a call that puts no question has answered so and leaves these words
+  -- the call `start`, which puts no question, began on `words`, and has given `answer` and left `last`
   pub record Answers (capacity : ℕ) (words : List ℕ) (start : RobustStart) (answer : Answer T) (last : List ℕ) : Type 0 where
     pub said : answer ≡ owners_answer (owners_in words) (starts.Robust start) []
     pub holds : Represents capacity last

@@ -17,7 +17,7 @@ use Rattle.headline_whole.proofs.Law.{Reading, Answers, Law}
 use Rattle.headline_whole.proofs.Talks.{Speech, Ends, talking, talk_rules}
 
 module _ {T : Type 0} (R : Reading T) where
-  -- what has been answered is what the object answers, and this is the object now
+  -- the answers in `events` are those of the object, which is `object` after them
   pub record HasAnswered (object : R.State) (events : List (Event T)) : Type 0 where
     pub legal : AnswersAs R.spec events
     pub stands : standing R.spec.object (answered R.spec.is_call events) ≡ object

@@ -12,7 +12,7 @@ module _ {T State : Type 0} (D : Dialogue T State) where
   abbrev replies : List (Request T × Reply T) → List (Reply T)
   replies calls = map (λ x. x.1) calls
 
-  -- what has been replied is what the object replies, and this is the object now
+  -- the replies in `calls` are those of the object, which is `object` after them
   pub record HasReplied (object : State) (calls : List (Request T × Reply T)) : Type 0 where
     pub legal : RepliesAs D calls
     pub stands : stands_after D calls ≡ object

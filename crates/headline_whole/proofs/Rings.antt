@@ -59,7 +59,7 @@ module _ (words : List ℕ) (at new : ℕ) (low : 2 ≤ at) (high : at < 4) wher
         ap value_of (words_same (slice_set words at new) words (4 + size * (q % capacity)) size
         (λ i from below. other_word i (λ e. absurd (omega arith))))
 
-    -- as many values, from the same position on
+    -- the list has as many values, from the same position on
     pub values_kept : values_from value_of size capacity (slice_set words at new) (slice_index (slice_set words at new) 1)
         (slice_index (slice_set words at new) 0 - slice_index (slice_set words at new) 1)
         ≡ values_from value_of size capacity words (slice_index words 1) (slice_index words 0 - slice_index words 1)
@@ -70,7 +70,7 @@ module _ (words : List ℕ) (at new : ℕ) (low : 2 ≤ at) (high : at < 4) wher
 
 -- ---- the list
 
--- the machine has taken so many turns, which raised the write position so far at most
+-- the words hold the list, and the write position is at most the number of turns that the machine has taken
 abbrev pub Holds : ℕ → ℕ → ℕ → List ℕ → Type 0
 Holds size capacity turns words = Represents size capacity words × (slice_index words 0 ≤ turns)
 

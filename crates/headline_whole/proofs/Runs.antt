@@ -49,7 +49,7 @@ module _ {T : Type 0} where
   shut_rests promise capacity size (Open start wrote) g on shut h = shut
   shut_rests promise capacity size (Ended start answer wrote) g on shut h = let over : g.finished ≡ true = h.1 in absurd (cc)
 
-  -- where none of these ends a call, no call has finished in them
+  -- where no event of `es` ends a call, no call has finished in `es`
   pub none_finished : (told : List (Decision T)) (es : List (Event T)) → flat_map (whole.answer_in (λ start. true)) es ≡ []
       → flat_map (finished_in told) es ≡ []
   none_finished told [] none = refl
@@ -86,6 +86,7 @@ module _ {T : Type 0} where
 
 -- ---- the invariant
 
+-- `C` is how a structure goes from call to call, `H` what a machine of it holds.
 module _ {T : Type 0} (C : Course T) (H : Holding C) where
   pub record Rests (t : Trace T) (calls : List (Request T × Reply T)) : Type 0 where
     pub none : (q : ℕ) → flight_in t.world q ≡ None

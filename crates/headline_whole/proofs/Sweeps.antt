@@ -14,7 +14,7 @@ use Rattle.plain.specs.declared.drive.Stop.TheVariants.{Ended}
 use Rattle.plain.specs.Alone.{answer_in, words_then, room_then, stepped, StopsFrom, StopsIn}
 use Rattle.plain.proofs.Alone.{Runs}
 
--- so many words from this one on are 0 now
+-- the words after `n` of them, from the word `k` on, became 0
 abbrev pub cleared : List ℕ → ℕ → ℕ → List ℕ
 cleared words k zero = words
 cleared words k (suc n) = cleared (slice_set words k 0) (suc k) n
@@ -89,7 +89,7 @@ sweeps (suc n) k e is room words =
           (sym (goes_on k e (omega arith) (slice_index words k))) rest.1)),
     )
 
--- where there is no word, it goes on without one
+-- the call ends at once where there is no word to empty
 pub sweeps_none : (k : ℕ) (room : OneWord) (words : List ℕ) → (last_room : OneWord) × Ends 1 last_room words (record { word = k; end = k }) room words
 sweeps_none k room words = (
   record { 0 = 0 },

@@ -18,14 +18,15 @@ use Rattle.headline_whole.proofs.Agree.{Agree, goes_so, agrees_then, agrees_stil
 use Rattle.headline_whole.proofs.Courses.{Course, IsMadeSo, Holding, Came, Steps, Rules}
 use Rattle.headline_whole.proofs.Flights.{Turns, Talks, talk_goes, talk_hears}
 
+-- `C` is how a structure goes from call to call.
 module _ {T : Type 0} (C : Course T) where
-  -- how words hold the object, where the machine has taken so many turns
+  -- how words hold the object (`Holds turns words`), and which object they hold (`read`)
   pub record Speech : Type 1 where
     pub Holds : ℕ → List ℕ → Type 0
     pub read : List ℕ → C.State
 
   module _ (S : Speech) (code : Coding T) where
-    -- a call that began on this object and was told this answers so and leaves these words
+    -- the call `start` of party `p`, which began on the object `s` and was told `told`, gives `answer` and leaves the words `last`
     abbrev pub Ends : C.State → ℕ → ℕ → Start T → List (Decision T) → Answer T → List ℕ → Type 0
     Ends s turns p start told answer last =
         C.Says s (as_request p start told) (as_reply told answer) × S.Holds (turns + 1) last
@@ -43,7 +44,7 @@ module _ {T : Type 0} (C : Course T) where
           Under = Speaks;
         }
 
-    -- what there is to show of the calls of a kind
+    -- what has to be shown of the calls of a kind
     pub record Begins (kind : Kind) (capacity : ℕ) : Type 0 where
       pub later : (m n : ℕ) (words : List ℕ) → m ≤ n → S.Holds m words → S.Holds n words
       pub opens : (queue : ℕ) → S.Holds 0 (words_opened kind code.size capacity queue)

@@ -13,7 +13,7 @@ use Rattle.model.specs.Turns.{number_of}
 use Rattle.headline_whole.specs.Dialogues.{Decision}
 use Rattle.headline_whole.specs.Objects.{visited, agreed}
 
--- a decision, as a find is told it
+-- whether a find goes on after its closure has answered this
 abbrev pub goes_on : CallbackProgression → Bool
 goes_on Continue = true
 goes_on Stop = false
@@ -80,7 +80,7 @@ module _ {T : Type 0} where
     some_questions [] index = refl
     some_questions (x ∷ before) index = ap (λ xs. shows x ∷ xs) (some_questions before index)
 
-    -- who was told so was told this
+    -- A find over the indices `all` was told `told`: its questions are those of the visited indices, of which there are `n`.
     pub record WasTold (all : List ℕ) (n : ℕ) (told : List (Decision T)) : Type 0 where
       pub asked : map question_of told ≡ map shows (visited all (map yes_of told))
       pub number : n ≡ length (visited all (map yes_of told))
@@ -123,7 +123,7 @@ module _ {T : Type 0} where
 
   -- ---- a recovery
 
-  -- so many calls of a closure that each writes one decision
+  -- Where each call of a closure writes one decision, there are as many decisions as calls.
   pub folds_long : {X : Type 0} (R : List (Decision T) → X → List (Decision T) → Type 0)
       → ((p : List (Decision T)) (x : X) (q : List (Decision T)) → R p x q → length q ≡ length p + 1)
       → (xs : List X) (p q : List (Decision T)) → FoldsTo R p xs q → length q ≡ length p + length xs
@@ -156,7 +156,7 @@ module _ {T : Type 0} where
     questions_so [] = refl
     questions_so (a ∷ asked) = ap (λ xs. shows a.of ∷ xs) (questions_so asked)
 
-    -- all were asked about, and those of a yes are these
+    -- each question of `all` was put, and those that were answered yes are the agreed ones of `asked`
     pub record WasAsked (asked : List Asked) (told : List (Decision T)) : Type 0 where
       pub questions_are : map question_of told ≡ map shows all
       pub agreed_are : agreed all (map yes_of told) ≡ calls.agreed asked

@@ -264,14 +264,14 @@ module _ {T : Type 0} (C : Course T) (H : Holding C) (code : Coding T) (kind : K
             });
       }
 
-  -- so it stands at the end of the run
+  -- What stands between two turns stands at the end of each run whose calls run whole.
   pub stands_whole : (t : Trace T) (r : IsReached t) → IsMadeSo code kind capacity t → RunsWhole t.events → Stands C H t (story_of t r)
   stands_whole t r made runs =
       let ran = run_keeps r.turns (opened t.world.coding t.world.kind t.world.capacity r.queue t.world.parties) no_calls
       (opens t r made r.queue r.queued) in
       subst (λ (u : Trace T). Stands C H u (story_of t r)) (sym r.is) (ran.stands (subst (λ (u : Trace T). RunsWhole u.events) r.is runs))
 
-  -- there a state of the object has answered so
+  -- After such a run there is a state of the object after the finished calls, whose answers they gave.
   pub answers_whole : (t : Trace T) (r : IsReached t) → IsMadeSo code kind capacity t → RunsWhole t.events
       → (s : C.State) × C.HasAnswered s t.events (calls_of t r)
   answers_whole t r made runs =

@@ -31,7 +31,7 @@ pub record Request (T : Type 0) : Type 0 where
   pub start : Start T
   pub decisions : List Bool
 
--- the questions that it puts, in order, and its answer
+-- what a call says: the questions that it puts, in order, and its answer
 pub record Reply (T : Type 0) : Type 0 where
   pub questions : List (Question T)
   pub answer : Answer T
@@ -42,17 +42,17 @@ pub record Dialogue (T State : Type 0) : Type 0 where
   pub reply : State → Request T → Reply T
 
 module _ {T State : Type 0} where
-  -- what it replies to these calls, one after another
+  -- what the object `o`, from the state `s` on, replies to calls one after another
   abbrev pub replies_from : Dialogue T State → State → List (Request T) → List (Reply T)
   replies_from o s [] = []
   replies_from o s (call ∷ calls) = o.reply s call ∷ replies_from o (o.after s call) calls
 
-  -- call after call these are its replies, from its opening on
+  -- each call of the list has the reply of the object, call after call from its opening on
   abbrev pub RepliesAs : Dialogue T State → List (Request T × Reply T) → Type 0
   RepliesAs o calls =
       replies_from o o.opening (map (λ x. x.0) calls) ≡ map (λ x. x.1) calls
 
-  -- the object after these calls
+  -- the object's state after the calls, from its opening on
   abbrev pub stands_after : Dialogue T State → List (Request T × Reply T) → State
   stands_after o calls = fold o.after o.opening (map (λ x. x.0) calls)
 
@@ -98,7 +98,7 @@ module _ {T : Type 0} where
   told_after w (Decide p said) told = told ++ decided w.coding (flight_in w p) said
   told_after w (Die owner) told = told
 
-  -- a call that has finished, once it was told this
+  -- a finished call of party `p`, as a request and as a reply, by what it was told
   abbrev pub as_request : ℕ → Start T → List (Decision T) → Request T
   as_request p start told = record { party = p; start = start; decisions = map (λ d. d.yes) told }
 
@@ -110,7 +110,7 @@ module _ {T : Type 0} where
       (as_request p start told, as_reply told answer) ∷ []
   finished_in told e = []
 
-  -- a turn that is not refused
+  -- the story after a turn that is not refused
   abbrev pub story_after : World T → Turn T → Story T → Story T
   story_after w turn story =
       record {
@@ -123,14 +123,14 @@ module _ {T : Type 0} where
   unless_refused old new None = new
   unless_refused old new (Some refusal) = old
 
-  -- these turns, one after another, from a trace on; a refused one changes nothing
+  -- the story after turns, one after another, from the trace `t` on; a refused turn changes nothing
   abbrev pub story_on : List (Turn T) → Trace T → Story T → Story T
   story_on [] t story = story
   story_on (turn ∷ turns) t story =
       story_on turns (attempt t turn)
       (unless_refused story (story_after t.world turn story) (refusal_of t.world turn))
 
-  -- what these turns have made of the calls of a run, from its opening on
+  -- the story of a run: what its turns have made of its calls, from its opening on
   abbrev pub story_of : (t : Trace T) → IsReached t → Story T
   story_of t r =
       story_on r.turns (opened t.world.coding t.world.kind t.world.capacity r.queue t.world.parties)
@@ -147,10 +147,10 @@ module _ {T : Type 0} where
   is_end (Finished p start answer) = true
   is_end e = false
 
-  -- the end of a call that has replied so
+  -- the event with which a call and its reply ended
   abbrev pub as_end : Request T × Reply T → Event T
   as_end x = Finished x.0.party x.0.start x.1.answer
 
-  -- these are all the calls that end in these events, in order
+  -- `calls` are all the calls that end in `events`, in order
   abbrev pub AreFinished : List (Request T × Reply T) → List (Event T) → Type 0
   AreFinished calls events = map as_end calls ≡ filter is_end events

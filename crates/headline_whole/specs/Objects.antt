@@ -53,7 +53,7 @@ pub record Viewed (T : Type 0) : Type 0 where
 
 -- ---- what a find and a recovery are told
 
--- the indices that a find comes to: all of these, or those up to the one at which it is told to stop
+-- the indices that a find comes to: all of the list, or those up to the one at which it is told to stop
 abbrev pub visited : List ℕ → List Bool → List ℕ
 visited [] decisions = []
 visited (index ∷ indices) (true ∷ decisions) = index ∷ visited indices decisions
@@ -65,7 +65,7 @@ agreed (o ∷ owned) (true ∷ decisions) = o ∷ agreed owned decisions
 agreed (o ∷ owned) (false ∷ decisions) = agreed owned decisions
 agreed owned decisions = []
 
--- the robust set after a recovery that was told so
+-- the robust set after a recovery that was told these decisions
 abbrev pub owners_freed : Owners → ReleaseMode → List Bool → Owners
 owners_freed s mode decisions = owners.recovered mode s (agreed (owners.to_recover s) decisions)
 
@@ -216,7 +216,7 @@ module _ {T : Type 0} where
   abbrev pub about : Contents T → ℕ → Question T
   about s index = showing (slice_index_or s.values index None) (questions.Value index tt)
 
-  -- the container after a recovery that was told so
+  -- the container after a recovery that was told these decisions
   abbrev pub map_freed : Contents T → ℕ → ReleaseMode → List Bool → Contents T
   map_freed s owner mode decisions =
       visits.one_change (visits.all_freed mode s (agreed (visits.to_ask s owner) decisions))
@@ -250,7 +250,7 @@ module _ {T : Type 0} where
   view_of s None = states.blank (contents.capacity s)
   view_of s (Some view) = view
 
-  -- what it shows after a call of the party: that of a new state, or what it showed brought up to date
+  -- what a party's state shows after a call of the party: that of a new state, or what it showed brought up to date
   abbrev pub view_after : Contents T → Start T → Option (Snapshot T) → Option (Snapshot T)
   view_after s (Container containers.GetState) view =
       Some (states.updated s (states.blank (contents.capacity s)))
@@ -260,7 +260,7 @@ module _ {T : Type 0} where
   abbrev pub number_shown : Snapshot T → ℕ
   number_shown view = count_by is_some view.values
 
-  -- of a call of a party whose state shows this
+  -- the answer to a call of a party whose state shows `view`
   abbrev pub map_answer : ℕ → Contents T → Option (Snapshot T) → Start T → List Bool → Answer T
   map_answer capacity s view (Container (containers.Add value owner)) decisions =
       add_answer (contents.added s owner)

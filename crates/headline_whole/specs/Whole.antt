@@ -19,7 +19,7 @@ module _ {T : Type 0} where
       → Follows (Begun p start) before events
       → (q : ℕ) → IsShut (span_of q before)
 
-  -- a call that has finished, if it is one of these, with its answer
+  -- the call that ends with this event, if it is one of those that `is_call` picks, with its answer
   abbrev pub answer_in : (Start T → Bool) → Event T → List (Start T × Answer T)
   answer_in is_call (Finished p start answer) = if is_call start then (start, answer) ∷ [] else []
   answer_in is_call e = []

@@ -17,12 +17,11 @@ use Rattle.model.specs.Families.Container.Steps.{effects}
 use Rattle.model.proofs.Frame as frame
 use Rattle.laws_container.specs.Open.{IsOpenContainer}
 use Rattle.laws_container.proofs.Bounds.{bounds}
-use Rattle.laws_container.proofs.Invariant.{ContainerNow, Represents, FlightAt, family_by}
+use Rattle.laws_container.proofs.Invariant.{ContainerNow, FlightAt, family_by}
 use Rattle.laws_container.proofs.Knows as knows
 use Rattle.laws_container.proofs.Living.{has_not_died, step_is_free}
 use Rattle.laws_container.proofs.OpenRuns.{reached_open_sound, reached_open_lives, reached_open_wide}
 use Rattle.laws_container.proofs.OpenRuns.{reached_open_kept, reached_open_tells}
-use Rattle.laws_container.proofs.Sound.{kept_is}
 use Rattle.laws_container.proofs.Terms.{Terms}
 use Rattle.history.specs.declared.view.View.{View}
 use Rattle.history.specs.History.{IsRun, IsMachine, call_in}
@@ -95,7 +94,7 @@ module _ {T : Type 0} (code : Coding T) (capacity : ℕ) where
       let s = container_sound t r in (
         s.state.dead,
         s.state.states,
-        (kept_is t.world.kept t.world.words s.state s.fit).0,
+        s.fit.kept,
         λ owner. has_not_died by_word t.world.coding t.world.capacity t s
             (all_live t r) owner,
       )
@@ -110,15 +109,15 @@ module _ {T : Type 0} (code : Coding T) (capacity : ℕ) where
       step_is_free by_word t.world.coding t.world.capacity t (container_sound t r) (all_live t r) flight
   no_rows t r c z all done start flight at = absurd at
 
-  writes_there : (y : Coding T) (words ws : List ℕ) (beside : Option (ℕ × ℕ)) (c z p old : ℕ) (all : List SetAct) (done : List (Act T)) (kept : Registry T)
-      (s : ContainerNow T) (start : Start T) (flight : Flight T) → Represents kept ws s → FlightAt c z all done start flight
+  writes_there : (y : Coding T) (words : List ℕ) (beside : Option (ℕ × ℕ)) (c z p old : ℕ) (all : List SetAct) (done : List (Act T)) (kept : Registry T)
+      (s : ContainerNow T) (start : Start T) (flight : Flight T) → kept ≡ registries.TheVariants.Container s.dead s.states → FlightAt c z all done start flight
       → (step_of y words beside p start flight old kept).wrote ≡ kept_effects y kept p flight old
-  writes_there x0 x1 x2 x3 x4 x5 x6 x7 x8 x9 x10 x11 x12 x13 x14 x15 = grind arith
+  writes_there x0 x1 x2 x3 x4 x5 x6 x7 x8 x9 x10 x11 x12 x13 x14 = grind arith
 
-  goes_there : (y : Coding T) (words ws : List ℕ) (beside : Option (ℕ × ℕ)) (c z p old : ℕ) (all : List SetAct) (done : List (Act T)) (kept : Registry T)
-      (s : ContainerNow T) (start : Start T) (flight : Flight T) → Represents kept ws s → FlightAt c z all done start flight
+  goes_there : (y : Coding T) (words : List ℕ) (beside : Option (ℕ × ℕ)) (c z p old : ℕ) (all : List SetAct) (done : List (Act T)) (kept : Registry T)
+      (s : ContainerNow T) (start : Start T) (flight : Flight T) → kept ≡ registries.TheVariants.Container s.dead s.states → FlightAt c z all done start flight
       → (step_of y words beside p start flight old kept).after ≡ goes_of y p flight old kept
-  goes_there x0 x1 x2 x3 x4 x5 x6 x7 x8 x9 x10 x11 x12 x13 x14 x15 = grind arith
+  goes_there x0 x1 x2 x3 x4 x5 x6 x7 x8 x9 x10 x11 x12 x13 x14 = grind arith
 
   steps_on : (t : Trace T) → IsOn t → (p : ℕ) (start : Start T) (flight : Flight T) → call_in t.world p ≡ Some (start, flight)
       → StepsOn code kinds.Container capacity (container_words code capacity) container_effects t p flight
@@ -135,15 +134,15 @@ module _ {T : Type 0} (code : Coding T) (capacity : ℕ) where
         writes = λ x n found. (
             let same : here.x ≡ x = (let both : Some here.x ≡ Some x = sym here.found ∙ found in cc) in
             subst (λ (z : Party T). (step_in w p z flight n).wrote ≡ container_effects w p flight n) same
-            (writes_there w.coding w.words w.words (beside_of w.words w.kept w.latest p) w.capacity w.coding.size p n all done w.kept s.state
-            here.x.start flight s.fit mine));
+            (writes_there w.coding w.words (beside_of w.words w.kept w.latest p) w.capacity w.coding.size p n all done w.kept s.state
+            here.x.start flight s.fit.kept mine));
         someone = λ n. all_someone p (container_effects w p flight n) (effects_of_party w.coding w.kept p flight n);
         beside = λ n q ne. by_other p q (container_effects w p flight n) ne (effects_of_party w.coding w.kept p flight n);
         goes = λ x n found. (
             let same : here.x ≡ x = (let both : Some here.x ≡ Some x = sym here.found ∙ found in cc) in
             subst (λ (z : Party T). (step_in w p z flight n).after ≡ goes_of w.coding p flight n w.kept) same
-            (goes_there w.coding w.words w.words (beside_of w.words w.kept w.latest p) w.capacity w.coding.size p n all done w.kept s.state
-            here.x.start flight s.fit mine));
+            (goes_there w.coding w.words (beside_of w.words w.kept w.latest p) w.capacity w.coding.size p n all done w.kept s.state
+            here.x.start flight s.fit.kept mine));
       }
 
   states_stay : (t : Trace T) (r : IsOn t) (turn : Turn T) → open_refusal t.world turn ≡ None → (q : ℕ) → is_look_of t.world q turn ≡ false

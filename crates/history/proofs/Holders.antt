@@ -33,7 +33,7 @@ use Rattle.laws_queues.proofs.Queues.Invariant.{family}
 use Rattle.laws_queues.proofs.Queues.Values as values
 use Rattle.steps.specs.Copied.{value_in}
 use Rattle.laws_queues.proofs.Queues.Knows.{At}
-use Rattle.laws_queues.proofs.Queues.Sound.{kept_is, opening_sound, fresh_laws, IsFreshTurn}
+use Rattle.laws_queues.proofs.Queues.Sound.{opening_sound, fresh_laws, IsFreshTurn}
 use Rattle.history.specs.History.{IsRun, IsHistory}
 use Rattle.history.specs.Roles.{ByHolder, ByHolderOf, role_after, marks}
 use Rattle.history.specs.Known.{events_by}
@@ -139,9 +139,12 @@ module _ {T : Type 0} (c : ℕ) where
           flight at))
       any_right p n waits start flight kept e at = absurd at
 
+      same_kept : t.world.kept ≡ registries.TheVariants.Queues s.state.roles
+      same_kept = s.fit.kept
+
       answer_right : (p n : ℕ) (x : Party T) → party_of p t.world.latest ≡ Some x → (doing : Doing T)
           → x.doing ≡ doing → Right t.events (events_of_answer t.world p x n doing)
-      answer_right x0 x1 x2 x3 x4 x5 = grind (arith, stands_there, family, kept_is, both, step_in, any_right, ending_right)
+      answer_right x0 x1 x2 x3 x4 x5 = grind (arith, stands_there, family, same_kept, both, step_in, any_right, ending_right)
 
       next_right : (p : ℕ) (o : Option (Party T)) → party_of p t.world.latest ≡ o → Right t.events (Rattle.model.specs.Turns.events_of_next t.world p o)
       next_right x0 x1 x2 = grind (arith, answer_right)

@@ -15,8 +15,8 @@ use Rattle.model.specs.Families.Indices.Promises.{KeepsHolders}
 use Rattle.model.specs.Families.Indices.Steps.{wrote}
 use Rattle.model.proofs.Frame as frame
 use Rattle.laws_indices.proofs.Core as core
-use Rattle.laws_indices.proofs.Invariant.{IndexSet, Represents, FlightAt, family}
-use Rattle.laws_indices.proofs.Sound.{kept_is, kept_on, reached_on_sound}
+use Rattle.laws_indices.proofs.Invariant.{IndexSet, FlightAt, family}
+use Rattle.laws_indices.proofs.Sound.{kept_on, reached_on_sound}
 use Rattle.history.specs.declared.view.View.{View}
 use Rattle.history.specs.Held.{Holds}
 use Rattle.history.specs.History.{IsRun, call_in}
@@ -49,23 +49,23 @@ module _ {T : Type 0} (code : Coding T) (capacity : ℕ) where
   size : (t : Trace T) → IsIndices t → length t.world.words ≡ core.size capacity
   size t r =
       let s = sound t r in
-      ap length (kept_is t.world.kept t.world.words s.state s.fit).1 ∙ (s.holds.good.wide ∙ ap core.size r.sized)
+      ap length s.fit.words ∙ (s.holds.good.wide ∙ ap core.size r.sized)
 
   no_rows : (z : Coding T) (c : ℕ) (kept : Registry T) (holders : List (Option ℕ)) (p : ℕ) (start : Start T) (flight : Flight T)
       → FlightAt c holders p start flight → first_row (going_rows z kept (Some flight) None) ≡ None
   no_rows x0 x1 x2 x3 x4 x5 x6 x7 = grind arith
 
-  writes_there : (z : Coding T) (words ws : List ℕ) (beside : Option (ℕ × ℕ)) (c p old : ℕ) (kept : Registry T)
+  writes_there : (z : Coding T) (words : List ℕ) (beside : Option (ℕ × ℕ)) (c p old : ℕ) (kept : Registry T)
       (s : IndexSet) (start : Start T) (flight : Flight T)
-      → Represents kept ws s → FlightAt c s.holders p start flight
+      → kept ≡ registries.TheVariants.Indices s.holders → FlightAt c s.holders p start flight
       → (step_of z words beside p start flight old kept).wrote ≡ index_effects p flight old
-  writes_there x0 x1 x2 x3 x4 x5 x6 x7 x8 x9 x10 x11 x12 = grind arith
+  writes_there x0 x1 x2 x3 x4 x5 x6 x7 x8 x9 x10 x11 = grind arith
 
-  goes_there : (z : Coding T) (words ws : List ℕ) (beside : Option (ℕ × ℕ)) (c p old : ℕ) (kept : Registry T)
+  goes_there : (z : Coding T) (words : List ℕ) (beside : Option (ℕ × ℕ)) (c p old : ℕ) (kept : Registry T)
       (s : IndexSet) (start : Start T) (flight : Flight T)
-      → Represents kept ws s → FlightAt c s.holders p start flight
+      → kept ≡ registries.TheVariants.Indices s.holders → FlightAt c s.holders p start flight
       → (step_of z words beside p start flight old kept).after ≡ after_of z flight old
-  goes_there x0 x1 x2 x3 x4 x5 x6 x7 x8 x9 x10 x11 x12 = grind arith
+  goes_there x0 x1 x2 x3 x4 x5 x6 x7 x8 x9 x10 x11 = grind arith
 
   own_there : (c p old : ℕ) (holders : List (Option ℕ)) (start : Start T) (flight : Flight T)
       → FlightAt c holders p start flight → AreOf p (index_effects p flight old)
@@ -86,13 +86,13 @@ module _ {T : Type 0} (code : Coding T) (capacity : ℕ) where
         writes = λ x n found. (
             let same : here.x ≡ x = (let both : Some here.x ≡ Some x = sym here.found ∙ found in cc) in
             subst (λ (z : Party T). (step_in w p z flight n).wrote ≡ index_effects p flight n) same
-            (writes_there w.coding w.words w.words (beside_of w.words w.kept w.latest p) w.capacity p n w.kept
-            s.state here.x.start flight s.fit mine));
+            (writes_there w.coding w.words (beside_of w.words w.kept w.latest p) w.capacity p n w.kept
+            s.state here.x.start flight s.fit.kept mine));
         goes = λ x n found. (
             let same : here.x ≡ x = (let both : Some here.x ≡ Some x = sym here.found ∙ found in cc) in
             subst (λ (z : Party T). (step_in w p z flight n).after ≡ after_of w.coding flight n) same
-            (goes_there w.coding w.words w.words (beside_of w.words w.kept w.latest p) w.capacity p n w.kept s.state
-            here.x.start flight s.fit mine));
+            (goes_there w.coding w.words (beside_of w.words w.kept w.latest p) w.capacity p n w.kept s.state
+            here.x.start flight s.fit.kept mine));
       }
 
   pub indices_owe : KindLaws code kinds.TheVariants.Indices capacity (core.size capacity) index_effects
@@ -100,7 +100,7 @@ module _ {T : Type 0} (code : Coding T) (capacity : ℕ) where
     size = size;
     goes_on = goes_on;
     alone = λ going late h. h;
-    stateless = λ t r. (let s = sound t r in subst IsStateless (sym (kept_is t.world.kept t.world.words s.state s.fit).0) tt);
+    stateless = λ t r. (let s = sound t r in subst IsStateless (sym s.fit.kept) tt);
   }
 
   -- how many steps its calls take
@@ -118,7 +118,7 @@ module _ {T : Type 0} (code : Coding T) (base : View T) where
   IsOn t = IsRun code kinds.TheVariants.Indices base.capacity t
 
   kept_there : (t : Trace T) → IsOn t → (holders : List (Option ℕ)) × (t.world.kept ≡ registries.TheVariants.Indices holders)
-  kept_there t r = let s = sound code base.capacity t r in (s.state.holders, (kept_is t.world.kept t.world.words s.state s.fit).0)
+  kept_there t r = let s = sound code base.capacity t r in (s.state.holders, s.fit.kept)
 
   -- a call that names no index always may, as the party that the pass was last
   module _ {C M E : Type 0} (call : Calling T C M E) (start : IndexStart) (c : C) (m : M)

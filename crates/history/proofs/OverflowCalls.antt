@@ -24,7 +24,6 @@ use Rattle.model.specs.declared.turn.Kind.TheVariants as kinds
 use Rattle.model.specs.Families.Queues.Steps.{effects_of}
 use Rattle.laws_queues.proofs.Queues.Core.{Core, word_at}
 use Rattle.laws_queues.proofs.Queues.Invariant.{family}
-use Rattle.laws_queues.proofs.Queues.Sound.{kept_is}
 use Rattle.history.specs.declared.view.View.{View}
 use Rattle.history.specs.History.{IsMachine}
 use Rattle.history.specs.Known.{events_by}
@@ -127,7 +126,7 @@ module _ {T : Type 0} (code : Coding T) (v : ℕ) where
       let at = stands t.world p pushing.start (pushing.flight c m) met.there in
       let now = stands_there (family t.world.coding queues.TheVariants.Overflow t.world.capacity) t s p at.x at.since (pushing.flight c m) at.found at.doing in
       let k = s.state.core in
-      let words : t.world.words ≡ layout s.state.roles k = (kept_is t.world.kept t.world.words s.state s.fit).1 in
+      let words : t.world.words ≡ layout s.state.roles k = s.fit.words in
       let span : Open at.x.start (overflow_wrote t.world.capacity k p v c.stage) ≡ Open pushing.start es =
       sym now.span ∙ (met.span none ∙ spans_on pushing.start [] es are) in
       record {

@@ -29,7 +29,7 @@ use Rattle.model.proofs.Frame as frame
 use Rattle.laws_queues.proofs.Overflow.Waiting.{Pushing}
 use Rattle.laws_queues.proofs.Queues.Core.{Core, Good}
 use Rattle.laws_queues.proofs.Queues.Invariant.{family}
-use Rattle.laws_queues.proofs.Queues.Sound.{kept_is, opening_sound, fresh_laws, IsFreshTurn}
+use Rattle.laws_queues.proofs.Queues.Sound.{opening_sound, fresh_laws, IsFreshTurn}
 use Rattle.history.specs.History.{IsRun, IsHistory}
 use Rattle.history.specs.Overflow.{ByOverHolder}
 use Rattle.history.specs.Roles.{ByHolderOf}
@@ -177,7 +177,7 @@ module _ {T : Type 0} (c : ℕ) where
 
   module _ (en : Coding T) (t : Trace T) (s : frame.Sound (family en queues.TheVariants.Overflow c) t) where
     its_words : t.world.words ≡ layout s.state.roles s.state.core
-    its_words = (kept_is t.world.kept t.world.words s.state s.fit).1
+    its_words = s.fit.words
 
     its_waiting : waiting t.events ≡ map Index s.state.core.waiting
     its_waiting = waiting_is t.events (map Index s.state.core.waiting) s.holds.book
@@ -207,7 +207,7 @@ module _ {T : Type 0} (c : ℕ) where
     over_right p n (Queues Pop) (flights.TheVariants.Queues (Overflow (overflows.TheVariants.Pop run))) at handed =
         pop_right t.world.words run.call.capacity p n (beside_of t.world.words t.world.kept t.world.latest p)
         run.call.stage (answer_in (after t.world.coding (Overflow (overflows.TheVariants.Pop run)) n)) t.events
-        (λ q v e. (beside_waits en c t en c s t.world.kept p q v e (kept_is t.world.kept t.world.words s.state s.fit).0).producer)
+        (λ q v e. (beside_waits en c t en c s t.world.kept p q v e s.fit.kept).producer)
         (pop_fits s.state.core t.world.words t.events s.holds.good its_waiting its_read its_cell run.room
         run.call.capacity n run.call.stage at.1 at.2 (pop_handed run n handed))
         (s.holds.consumers ∙ at.0)
@@ -224,7 +224,7 @@ module _ {T : Type 0} (c : ℕ) where
         let there = stands_there (family en queues.TheVariants.Overflow c) t s p x since flight found doing in
         let fact =
         facts en c t.world en c p n s.state.roles s.state.core x.start flight t.world.kept
-        (kept_is t.world.kept t.world.words s.state s.fit).0 there.at in
+        s.fit.kept there.at in
         subst (Right t.events) (sym fact.writes) (over_right p n x.start flight there.at handed)
 
 module _ {T : Type 0} (code : Coding T) (capacity : ℕ) where

@@ -14,12 +14,12 @@ use Rattle.steps.specs.declared.queues.overflow.Pop.{Pop as Popping}
 use Rattle.steps.specs.declared.queues.overflow.PopStage as pops
 use Rattle.steps.specs.Queues.Overflow.{cell_word, first_pop, pop_asks, pop_want, pop_takes, pop_after}
 use Rattle.steps.specs.Queues.Overflow.{pop_keeps, pop_kept, pop_answer}
+use Rattle.model.specs.declared.families.Registry as registries
 use Rattle.model.specs.declared.families.queues.QueueKind as queues
 use Rattle.model.specs.declared.turn.Kind.TheVariants as kinds
 use Rattle.model.specs.Families.Queues.Steps.{effects_of}
 use Rattle.laws_queues.proofs.Queues.Core.{word_at}
 use Rattle.laws_queues.proofs.Queues.Invariant.{family}
-use Rattle.laws_queues.proofs.Queues.Sound.{kept_is}
 use Rattle.history.specs.declared.view.View.{View}
 use Rattle.history.specs.History.{IsMachine}
 use Rattle.history.specs.Known.{events_by}
@@ -111,7 +111,7 @@ module _ {T : Type 0} (code : Coding T) where
       front : (read : ℕ) → c.stage ≡ pops.TheVariants.MovesRead read → n ≡ read → slice_index t.world.words (cell_word c.capacity read) ≡ m.0
       front read stage e =
           let k = s.state.core in
-          let words = (kept_is t.world.kept t.world.words s.state s.fit).1 in
+          let words = s.fit.words in
           let mine : KnowsOverflowPop t.world.capacity k m (pops.TheVariants.MovesRead read) = subst (KnowsOverflowPop t.world.capacity k m) stage knows in
           let found : slice_index t.world.words 1 ≡ n = subst (λ z. old_of t.world.words (ask_of (pop_asks c.capacity z)) ≡ n) stage met.found in
           let here : read ≡ k.read = sym e ∙ (sym found ∙ ap (λ ws. slice_index ws 1) words) in
@@ -127,8 +127,11 @@ module _ {T : Type 0} (code : Coding T) where
           (cell_word c.capacity read) (read % (c.capacity + 1)) refl
           ∙ (ap (λ z. get_or k.cells (read % (z + 1)) 0) size ∙ (ap (λ z. get_or k.cells (z % (t.world.capacity + 1)) 0) here ∙ value)))
 
+      same_kept : t.world.kept ≡ registries.TheVariants.Queues s.state.roles
+      same_kept = s.fit.kept
+
       apart : (q v : ℕ) → beside_of t.world.words t.world.kept t.world.latest p ≡ Some (q, v) → p ≢ q
-      apart x0 x1 x2 x3 = grind (arith, kept_is, beside_waits, s, pop_is_no_push)
+      apart x0 x1 x2 x3 = grind (arith, same_kept, beside_waits, s, pop_is_no_push)
 
   -- what it writes of its own as it ends
   abbrev Tells : ℕ → ℕ → Popping → OneWord → Trace T → pops.PopStage → Bool → Type 0

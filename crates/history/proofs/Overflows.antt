@@ -20,7 +20,6 @@ use Rattle.model.specs.Families.Queues.Steps.{effects_of}
 use Rattle.model.proofs.Frame as frame
 use Rattle.laws_queues.proofs.Queues.Core.{Core}
 use Rattle.laws_queues.proofs.Queues.Invariant.{family}
-use Rattle.laws_queues.proofs.Queues.Sound.{kept_is}
 use Rattle.laws_queues.proofs.Overflow.Waiting.{pending_is, IsPending, Pushing}
 use Rattle.history.specs.History.{IsLate, call_at, call_of, call_in}
 use Rattle.history.specs.Known.{events_by, of_none}
@@ -171,7 +170,7 @@ module _ {T : Type 0} (code : Coding T) (capacity : ℕ) where
     beside_late is_over p n r ne (flights.TheVariants.Queues (Overflow (overflows.TheVariants.Push run))) = own_late p r _ ne (push_own t.world p run n)
     beside_late is_over p n r ne (flights.TheVariants.Queues (Overflow (overflows.TheVariants.Pop run))) =
         let s = sound_of code capacity queues.TheVariants.Overflow t is_over in
-        let kept = (kept_is t.world.kept t.world.words s.state s.fit).0 in
+        let kept = s.fit.kept in
         pop_late p r n ne _ run.call.capacity (beside_of t.world.words t.world.kept t.world.latest p)
         (λ q v e. beside_waits t t.world.coding t.world.capacity s t.world.kept p q v e kept) run.call.stage
     beside_late is_over p n r ne (flights.TheVariants.Queues (OnRole call)) = none_late kinds.Overflow (call_in t.world r)
@@ -182,7 +181,7 @@ module _ {T : Type 0} (code : Coding T) (capacity : ℕ) where
 
   stateless : (t : Trace T) → IsOver t → IsStateless t.world.kept
   stateless t run =
-      (let s = sound_of code capacity queues.TheVariants.Overflow t run in subst IsStateless (sym (kept_is t.world.kept t.world.words s.state s.fit).0) tt)
+      (let s = sound_of code capacity queues.TheVariants.Overflow t run in subst IsStateless (sym s.fit.kept) tt)
 
   steps_on : (t : Trace T) → IsOver t → (p : ℕ) (start : Start T) (flight : Flight T)
       → call_in t.world p ≡ Some (start, flight)
@@ -191,7 +190,7 @@ module _ {T : Type 0} (code : Coding T) (capacity : ℕ) where
       let s = sound_of code capacity queues.TheVariants.Overflow t run in
       let here = stands t.world p start flight at in
       let there = stands_there (family t.world.coding queues.TheVariants.Overflow t.world.capacity) t s p here.x here.since flight here.found here.doing in
-      let kept = (kept_is t.world.kept t.world.words s.state s.fit).0 in
+      let kept = s.fit.kept in
       let fact = λ (x : Party T) (n : ℕ) (found : party_of p t.world.latest ≡ Some x).
       (let same : here.x ≡ x = (let both : Some here.x ≡ Some x = sym here.found ∙ found in cc) in
       subst (λ (st : Start T). Facts t.world p n st flight t.world.kept) (ap (λ (y : Party T). y.start) same)

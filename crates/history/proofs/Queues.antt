@@ -5,7 +5,7 @@ use Rattle.history.proofs.Names.{Registry, QueueKind, QueueStart, PushIndex, Pop
 use Rattle.history.proofs.Names.{Party, Coding, first_of, step_of, beside_of, after_of, going_rows, read_in}
 use Rattle.history.proofs.Names.{cells_of, words_of_cell, IsKeptBy, push_effect, pop_effect}
 use Rattle.history.proofs.Names.{party_of, first_row, answer_in, Trace, stands_there}
-use Rattle.history.proofs.Names.{machine_kind, promised_by, free, Val, encoded, Ring, of_indices, of_values, kind_of}
+use Rattle.history.proofs.Names.{machine_kind, promised_by, free, layout, Val, encoded, Ring, of_indices, of_values, kind_of}
 use Rattle.model.specs.declared.event.Item.TheVariants.{Index, Value}
 use Rattle.model.specs.declared.families.Flight as flights
 use Rattle.model.specs.declared.families.Registry as registries
@@ -23,7 +23,7 @@ use Rattle.steps.specs.declared.queues.roles.Role.{Role}
 use Rattle.model.specs.Families.Queues.Steps.{effects_of}
 use Rattle.model.proofs.Frame as frame
 use Rattle.laws_queues.proofs.Queues.Invariant.{Queue, family}
-use Rattle.laws_queues.proofs.Queues.Sound.{kept_is, kept_on, sound_on}
+use Rattle.laws_queues.proofs.Queues.Sound.{kept_on, sound_on}
 use Rattle.history.specs.declared.view.View.{View}
 use Rattle.history.specs.Known.{owned}
 use Rattle.history.specs.Roles.{holder, role_after, HasRole}
@@ -82,7 +82,14 @@ module _ {T : Type 0} (code : Coding T) (capacity : ℕ) (kd : QueueKind) where
 
   -- its words
   pub sized_so : (t : Trace T) → IsOf t → length t.world.words ≡ 4 + words_of_cell code.size kd * cells_of kd capacity
-  sized_so x0 x1 = grind (arith, sound_of, length, words_of_cell, cells_of, encoded, cell_sizes, kept_is)
+  sized_so t run =
+      let s = sound_of t run in
+      let cells : length s.state.core.cells ≡ words_of_cell code.size kd * cells_of kd capacity =
+      s.holds.good.cells
+      ∙ (ap (λ c. (encoded t.world.coding kd).size * cells_of kd c) run.sized
+      ∙ (ap (λ (z : Coding T). (encoded z kd).size * cells_of kd capacity) run.coded ∙ cell_sizes kd code)) in
+      let four : length (layout s.state.roles s.state.core) ≡ 4 + length s.state.core.cells = omega arith in
+      ap length s.fit.words ∙ (four ∙ ap (λ n. 4 + n) cells)
 
 -- ---- what a bounded queue owes, of indices or of values
 
@@ -120,12 +127,11 @@ module _ {T : Type 0} (code : Coding T) (capacity : ℕ) (r : Ring) where
       let s = sound_of code capacity (kind_of r) t run in
       let here = stands t.world p start flight at in
       let there = stands_there (family t.world.coding (kind_of r) t.world.capacity) t s p here.x here.since flight here.found here.doing in
-      let is = kept_is t.world.kept t.world.words s.state s.fit in
       let waits = beside_of t.world.words t.world.kept t.world.latest p in
       let fact = λ (x : Party T) (n : ℕ) (found : party_of p t.world.latest ≡ Some x).
       (let same : here.x ≡ x = (let both : Some here.x ≡ Some x = sym here.found ∙ found in cc) in
       subst (λ (st : Start T). Facts t.world.coding t.world.words waits p n st flight t.world.kept) (ap (λ (y : Party T). y.start) same)
-      (facts t.world.coding t.world.words waits t.world.capacity p n s.state here.x.start flight t.world.kept is.0 there.at))
+      (facts t.world.coding t.world.words waits t.world.capacity p n s.state here.x.start flight t.world.kept s.fit.kept there.at))
       in
       record {
         may = (fact here.x 0 here.found).may;
@@ -139,7 +145,7 @@ module _ {T : Type 0} (code : Coding T) (capacity : ℕ) (r : Ring) where
     size = size;
     goes_on = goes_on;
     alone = alone r;
-    stateless = λ t run. (let s = sound_of code capacity (kind_of r) t run in subst IsStateless (sym (kept_is t.world.kept t.world.words s.state s.fit).0) tt);
+    stateless = λ t run. (let s = sound_of code capacity (kind_of r) t run in subst IsStateless (sym s.fit.kept) tt);
   }
     where
       alone : (q : Ring) (going : Option (Start T × Flight T)) (late : List (Event T)) → IsLate (machine_kind (kind_of q)) going late → late ≡ []
@@ -180,7 +186,7 @@ module _ {T : Type 0} (code : Coding T) (kd : QueueKind) (base : View T) where
       (kept_on kd t r.of_kind on.reached.coded on.reached.admitted on.fresh)))
 
   kept_there : (t : Trace T) → IsOn t → (roles : Roles) × (t.world.kept ≡ registries.TheVariants.Queues roles)
-  kept_there x0 x1 = grind (arith, sound_of, kept_is)
+  kept_there t r = let s = sound_of code base.capacity kd t r in (s.state.roles, s.fit.kept)
 
   abbrev AllOf : Trace T → (ℕ → ℕ) → ℕ → Type 0
   AllOf t owner j = (f : Event T → ℕ) → sum_by f base.made ≡ sum_by (owned owner j f) t.events

@@ -12,11 +12,10 @@ use Rattle.model.specs.declared.turn.Kind.TheVariants as kinds
 use Rattle.model.specs.Families.Indices.Robust.Opening.{call_rows, kept_rows}
 use Rattle.model.specs.Families.Indices.Robust.Steps.{effects}
 use Rattle.model.proofs.Frame as frame
-use Rattle.laws_robust.proofs.Invariant.{RobustSet, Represents, FlightAt, family_by}
+use Rattle.laws_robust.proofs.Invariant.{RobustSet, FlightAt, family_by}
 use Rattle.laws_robust.proofs.Living.{has_not_died, step_is_free}
 use Rattle.laws_robust.proofs.OpenRuns.{reached_open_sound, reached_open_lives, reached_open_kept}
 use Rattle.laws_robust.proofs.Kept.{acquire_most, release_most, count_most, lock_most, held_paid}
-use Rattle.laws_robust.proofs.Sound.{kept_is}
 use Rattle.laws_robust.proofs.Standing.{lock_number, for_back, for_index, recover_number, find_number, number_of}
 use Rattle.laws_robust.proofs.Standing.{LockAt, FindAt, RecoverAt, At}
 use Rattle.steps.specs.declared.indices.enums.ReleaseMode.TheVariants.{LockIfLastIndex}
@@ -93,15 +92,15 @@ module _ {T : Type 0} (code : Coding T) (capacity : ℕ) where
       (all_live t r) flight
   no_rows t r c all start flight at = absurd at
 
-  writes_there : (z : Coding T) (words ws : List ℕ) (beside : Option (ℕ × ℕ)) (c p old : ℕ) (all : List SetAct) (kept : Registry T) (s : RobustSet T)
-      (start : Start T) (flight : Flight T) → Represents kept ws s → FlightAt c all start flight
+  writes_there : (z : Coding T) (words : List ℕ) (beside : Option (ℕ × ℕ)) (c p old : ℕ) (all : List SetAct) (kept : Registry T) (s : RobustSet T)
+      (start : Start T) (flight : Flight T) → kept ≡ registries.TheVariants.Owners s.dead → FlightAt c all start flight
       → (step_of z words beside p start flight old kept).wrote ≡ robust_effects p flight old
-  writes_there x0 x1 x2 x3 x4 x5 x6 x7 x8 x9 x10 x11 x12 x13 = grind arith
+  writes_there x0 x1 x2 x3 x4 x5 x6 x7 x8 x9 x10 x11 x12 = grind arith
 
-  goes_there : (z : Coding T) (words ws : List ℕ) (beside : Option (ℕ × ℕ)) (c p old : ℕ) (all : List SetAct) (kept : Registry T) (s : RobustSet T)
-      (start : Start T) (flight : Flight T) → Represents kept ws s → FlightAt c all start flight
+  goes_there : (z : Coding T) (words : List ℕ) (beside : Option (ℕ × ℕ)) (c p old : ℕ) (all : List SetAct) (kept : Registry T) (s : RobustSet T)
+      (start : Start T) (flight : Flight T) → kept ≡ registries.TheVariants.Owners s.dead → FlightAt c all start flight
       → (step_of z words beside p start flight old kept).after ≡ after_of z flight old
-  goes_there x0 x1 x2 x3 x4 x5 x6 x7 x8 x9 x10 x11 x12 x13 = grind arith
+  goes_there x0 x1 x2 x3 x4 x5 x6 x7 x8 x9 x10 x11 x12 = grind arith
 
   goes_on : (t : Trace T) → IsRobust t → (p : ℕ) (start : Start T) (flight : Flight T) → call_in t.world p ≡ Some (start, flight)
       → CallGoesOn code kinds.Robust capacity (cells_and_counter capacity) robust_effects t p flight
@@ -118,11 +117,11 @@ module _ {T : Type 0} (code : Coding T) (capacity : ℕ) where
         writes = λ x n found. (
             let same : here.x ≡ x = (let both : Some here.x ≡ Some x = sym here.found ∙ found in cc) in
             subst (λ (z : Party T). (step_in w p z flight n).wrote ≡ robust_effects p flight n) same
-            (writes_there w.coding w.words w.words (beside_of w.words w.kept w.latest p) w.capacity p n done w.kept s.state here.x.start flight s.fit mine));
+            (writes_there w.coding w.words (beside_of w.words w.kept w.latest p) w.capacity p n done w.kept s.state here.x.start flight s.fit.kept mine));
         goes = λ x n found. (
             let same : here.x ≡ x = (let both : Some here.x ≡ Some x = sym here.found ∙ found in cc) in
             subst (λ (z : Party T). (step_in w p z flight n).after ≡ after_of w.coding flight n) same
-            (goes_there w.coding w.words w.words (beside_of w.words w.kept w.latest p) w.capacity p n done w.kept s.state here.x.start flight s.fit mine));
+            (goes_there w.coding w.words (beside_of w.words w.kept w.latest p) w.capacity p n done w.kept s.state here.x.start flight s.fit.kept mine));
       }
 
   pub robusts_owe : KindLaws code kinds.Robust capacity (cells_and_counter capacity) robust_effects
@@ -130,7 +129,7 @@ module _ {T : Type 0} (code : Coding T) (capacity : ℕ) where
     size = robust_size;
     goes_on = goes_on;
     alone = λ going late h. h;
-    stateless = λ t r. (let s = robust_sound t r in subst IsStateless (sym (kept_is t.world.kept t.world.words s.state s.fit).0) tt);
+    stateless = λ t r. (let s = robust_sound t r in subst IsStateless (sym s.fit.kept) tt);
   }
 
   robust_bounds : (z : Coding T) (c : ℕ) → frame.Bounds (family_by Word z c)
@@ -155,7 +154,7 @@ module _ {T : Type 0} (code : Coding T) (base : View T) where
   kept_there t r =
       let s = robust_sound code base.capacity t r in (
         s.state.dead,
-        (kept_is t.world.kept t.world.words s.state s.fit).0,
+        s.fit.kept,
         λ owner. has_not_died t.world.coding t.world.capacity t s
             (all_live code base.capacity t r) owner,
       )

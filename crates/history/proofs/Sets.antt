@@ -53,10 +53,10 @@ module _ {T : Type 0} (K : SetOutline T) (laws : (code : Coding T) (c : ℕ) →
   sound t r = sound_on K laws t r.of_kind (on t r.reached)
 
   pub bare : (t : Trace T) → IsSet t → t.world.kept ≡ (opening_of K.kind).kept capacity
-  bare t r = (sound t r).fit.0 ∙ sym ((laws code capacity).bare)
+  bare t r = (sound t r).fit.kept ∙ sym ((laws code capacity).bare)
 
   size : (t : Trace T) → IsSet t → length t.world.words ≡ words
-  size t r = let s = sound t r in ap length s.fit.1 ∙ sized t.world.capacity s.state.words t.events t.world.turns r.sized s.holds.0
+  size t r = let s = sound t r in ap length s.fit.words ∙ sized t.world.capacity s.state.words t.events t.world.turns r.sized s.holds.0
 
   no_rows : (t : Trace T) (At : BitsStart → BitsFlight → Type 0) (start : Start T) (flight : Flight T)
       → FlightAt At start flight → first_row (going_rows t.world.coding t.world.kept (Some flight) None) ≡ None
@@ -92,7 +92,7 @@ module _ {T : Type 0} (K : SetOutline T) (laws : (code : Coding T) (c : ℕ) →
         writes = λ x n found. (
             let same : here.x ≡ x = (let both : Some here.x ≡ Some x = sym here.found ∙ found in cc) in
             subst (λ (z : Party T). (step_in t.world p z flight n).wrote ≡ set_effects p flight n) same
-            (writes_there t p n (K.At t.world.capacity wrote) t.world.kept here.x.start flight (s.fit.0) mine));
+            (writes_there t p n (K.At t.world.capacity wrote) t.world.kept here.x.start flight (s.fit.kept) mine));
         goes = λ x n found. (
             let same : here.x ≡ x = (let both : Some here.x ≡ Some x = sym here.found ∙ found in cc) in
             let orders = sets.orders K laws t.world.coding t.world.capacity in
@@ -103,7 +103,7 @@ module _ {T : Type 0} (K : SetOutline T) (laws : (code : Coding T) (c : ℕ) →
 
   pub sets_owe : ((going : Option (Start T × Flight T)) (late : List (Event T)) → IsLate K.kind going late → late ≡ [])
       → KindLaws code K.kind capacity words set_effects
-  sets_owe alone = record { size = size; goes_on = goes_on; alone = alone; stateless = λ t r. subst IsStateless (sym (sound t r).fit.0) tt }
+  sets_owe alone = record { size = size; goes_on = goes_on; alone = alone; stateless = λ t r. subst IsStateless (sym (sound t r).fit.kept) tt }
 
   set_bounds : (z : Coding T) (c : ℕ) → frame.Bounds (family K z c)
   set_bounds z c =

@@ -17,7 +17,7 @@ use Rattle.model.specs.Families.Atomic.Reading.{holder_after, holder_of}
 use Rattle.model.specs.Families.Atomic.Roles.{GrantsRight, KeepsHolder}
 use Rattle.model.proofs.Frame as frame
 use Rattle.laws_value.proofs.Invariant.{Value, family}
-use Rattle.laws_value.proofs.Sound.{kept_is, kept_on, sound_on}
+use Rattle.laws_value.proofs.Sound.{kept_on, sound_on}
 use Rattle.history.specs.declared.view.View.{View}
 use Rattle.history.specs.History.{IsRun, IsOfParties, call_in}
 use Rattle.history.specs.Known.{owned}
@@ -70,7 +70,7 @@ module _ {T : Type 0} (code : Coding T) (capacity : ℕ) where
   size t r =
       let s = value_sound t r in
       let cells : length s.state.core.cells ≡ code.size * 2 = s.holds.good.cells ∙ ap (λ (z : Coding T). z.size * 2) r.coded in
-      ap length (kept_is t.world.kept t.world.words s.state s.fit).1 ∙ omega arith
+      ap length s.fit.words ∙ omega arith
 
   goes_on : (t : Trace T) → IsOn t → (p : ℕ) (start : Start T) (flight : Flight T)
       → call_in t.world p ≡ Some (start, flight)
@@ -79,12 +79,11 @@ module _ {T : Type 0} (code : Coding T) (capacity : ℕ) where
       let s = value_sound t r in
       let here = stands t.world p start flight at in
       let there = stands_there (family t.world.coding t.world.capacity) t s p here.x here.since flight here.found here.doing in
-      let is = kept_is t.world.kept t.world.words s.state s.fit in
       let waits = beside_of t.world.words t.world.kept t.world.latest p in
       let fact = λ (x : Party T) (n : ℕ) (found : party_of p t.world.latest ≡ Some x).
       (let same : here.x ≡ x = (let both : Some here.x ≡ Some x = sym here.found ∙ found in cc) in
       subst (λ (st : Start T). Facts t.world.coding t.world.words waits p n st flight t.world.kept) (ap (λ (y : Party T). y.start) same)
-      (facts t.world.coding t.world.words waits t.world.capacity p n s.state here.x.start flight t.world.kept is.0 there.at))
+      (facts t.world.coding t.world.words waits t.world.capacity p n s.state here.x.start flight t.world.kept s.fit.kept there.at))
       in
       record {
         may = (fact here.x 0 here.found).may;
@@ -98,7 +97,7 @@ module _ {T : Type 0} (code : Coding T) (capacity : ℕ) where
     size = size;
     goes_on = goes_on;
     alone = λ going late h. h;
-    stateless = λ t r. (let s = value_sound t r in subst IsStateless (sym (kept_is t.world.kept t.world.words s.state s.fit).0) tt);
+    stateless = λ t r. (let s = value_sound t r in subst IsStateless (sym s.fit.kept) tt);
   }
 
   -- what the model promises of each run
@@ -147,7 +146,7 @@ module _ {T C M E : Type 0} (code : Coding T) (base : View T) (call : Calling T 
   AllOf t owner j = (f : Event T → ℕ) → sum_by f base.made ≡ sum_by (owned owner j f) t.events
 
   kept_there : (t : Trace T) → IsAt t → (holder : Option ℕ) × (t.world.kept ≡ registries.TheVariants.Atomic holder)
-  kept_there t r = let s = value_sound code base.capacity t r in (s.state.holder, (kept_is t.world.kept t.world.words s.state s.fit).0)
+  kept_there t r = let s = value_sound code base.capacity t r in (s.state.holder, s.fit.kept)
 
   -- a party that lacks no role for it may begin
   as_party : (t : Trace T) (owner : ℕ → ℕ) (j p : ℕ) → IsAt t → owner p ≡ j → call.by base.party p

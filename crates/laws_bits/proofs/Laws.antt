@@ -191,7 +191,7 @@ module _ {T : Type 0} (K : SetOutline T) where
         record {
           promise = L.promise;
           bounds = record { most = λ s p backs start flight at. most code c L _ backs start flight at; paid = λ s p events. paid code c L p events s.words };
-          promised = λ t s few. L.keeps_promise t s.capacity few (subst (λ ws. K.Holds c ws t.events t.world.turns) (sym s.fit.1) s.holds.0);
+          promised = λ t s few. L.keeps_promise t s.capacity few (subst (λ ws. K.Holds c ws t.events t.world.turns) (sym s.fit.words) s.holds.0);
           writes = λ t s p x since small start flight here. writes code c L t p s.state.words _ start flight here.at;
           decides = λ t s p x since said start flight asks here. laws.asks_none _ (no_question code c L _ start flight here.at) asks;
           goes = λ s p. told code c L _ p;

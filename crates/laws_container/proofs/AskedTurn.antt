@@ -22,7 +22,7 @@ use Rattle.laws_container.proofs.AskedLeft.{call_in, made, question_left, questi
 use Rattle.laws_container.proofs.Invariant.{family_by, view, wrote_of}
 use Rattle.laws_container.proofs.Knows.{Knows}
 use Rattle.laws_container.proofs.LooksTell.{no_end}
-use Rattle.laws_container.proofs.Sound.{MayGoOn, Shown, kept_is, kept_now, is_there, begins_own}
+use Rattle.laws_container.proofs.Sound.{MayGoOn, Shown, kept_now, is_there, begins_own}
 use Rattle.laws_container.proofs.Stages.{any_call}
 use Rattle.laws_container.proofs.Standing.{At}
 use Rattle.laws_container.proofs.Terms.{Terms}
@@ -132,7 +132,7 @@ module _ {T : Type 0} (shown : Shown T) (terms : Terms) (code : Coding T) (c : �
     went : (flight : Flight T) → x.doing ≡ Going flight since → From t.world.coding t.world.kept x.start flight
     went flight doing =
         subst (λ y. From y t.world.kept x.start flight) (sym s.coding)
-        (subst (λ kept. From code kept x.start flight) (sym (kept_is t.world.kept t.world.words s.state s.fit).0)
+        (subst (λ kept. From code kept x.start flight) (sym s.fit.kept)
         (by_names x.start flight (stands_there (family_by terms code c) t s q x since flight found doing)))
 
   -- ---- a step

@@ -21,7 +21,6 @@ use Rattle.laws_container.specs.Open.{is_for_gone, steps_for_gone}
 use Rattle.laws_container.proofs.Allowed.{allowed_open}
 use Rattle.laws_container.proofs.Invariant.{family_by, wrote_of}
 use Rattle.laws_container.proofs.WellFormed.{each_less}
-use Rattle.laws_container.proofs.Sound.{kept_is}
 use Rattle.laws_container.proofs.Stages.{any_call}
 use Rattle.laws_container.proofs.Standing.{At}
 use Rattle.laws_container.proofs.Terms.{Terms}
@@ -166,7 +165,7 @@ module _ {T : Type 0} (terms : Terms) (code : Coding T) (c : ℕ) (t : Trace T) 
     went : (flight : Flight T) → party_of p t.world.latest ≡ Some x → x.doing ≡ Going flight since → Minds flight → Spans (writes t.world.kept x.start flight)
         → Honest (writes t.world.kept x.start flight)
     went flight found doing minds =
-        subst (λ kept. Spans (writes kept x.start flight) → Honest (writes kept x.start flight)) (sym (kept_is t.world.kept t.world.words s.state s.fit).0)
+        subst (λ kept. Spans (writes kept x.start flight) → Honest (writes kept x.start flight)) (sym s.fit.kept)
         (by_name x.start flight (stands_there (family_by terms code c) t s p x since flight found doing) minds)
 
   -- what its word holds

@@ -2,7 +2,7 @@
 -- must show to keep it.
 use Rattle.laws_container.proofs.Names.{◌≡◌, ◌≢◌, ⊎_elim, ℕ, ◌+◌, ◌-◌, ◌^◌, ◌<◌, ◌≤◌, true, false, Some, is_some}
 use Rattle.laws_container.proofs.Names.{List, ◌++◌, length, fold, refl, sym, ap, subst, ◌∙◌, arith, cases_eq}
-use Rattle.laws_container.proofs.Names.{total_words, ContainerState, Event, Start, Flight, Registry, Party, Coding}
+use Rattle.laws_container.proofs.Names.{total_words, ContainerState, Event, Start, Flight, Party, Coding}
 use Rattle.laws_container.proofs.Names.{IsCoding, is_looking, ContainsRight, promise, Act, acts, contents_of}
 use Rattle.laws_container.proofs.Names.{announced_of, acts_of, state_of, fresh, SetAct, is_dead, set_acts, wrote_in}
 use Rattle.laws_container.proofs.Names.{set_acts_of, party_of, put, doing_of, flight_of, Stands, Each, Span}
@@ -54,9 +54,6 @@ pub record Scene (T : Type 0) : Type 0 where
   pub events : List (Event T)
 
 module _ {T : Type 0} where
-  abbrev pub Represents : Registry T → List ℕ → ContainerNow T → Type 0
-  Represents kept words s = (kept ≡ registries.TheVariants.Container s.dead s.states) × (words ≡ s.words)
-
   -- the turn as one of its set of indices
   abbrev pub of_set : Scene T → set.Scene T
   of_set scene =

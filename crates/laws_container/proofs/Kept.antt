@@ -37,10 +37,10 @@ module _ {T : Type 0} (terms : Terms) (code : Coding T) (t : Trace T) (s : frame
   c = t.world.capacity
 
   words_are : t.world.words ≡ s.state.words
-  words_are = s.fit.1
+  words_are = s.fit.words
 
   kept_are : t.world.kept ≡ registries.TheVariants.Container s.state.dead s.state.states
-  kept_are = s.fit.0
+  kept_are = s.fit.kept
 
   -- what a party's call under way knows
   asked_by : (p index : ℕ) (value : T) (o : Option (Party T))

@@ -21,7 +21,7 @@ use Rattle.model.proofs.Frame as frame
 use Rattle.laws_container.proofs.Invariant.{family_by}
 use Rattle.laws_container.proofs.Looks.{looks_as, written_other}
 use Rattle.laws_container.proofs.LooksTell.{LookEnd, ended, looks_right, looks_own, looks_leave}
-use Rattle.laws_container.proofs.Sound.{MayGoOn, Shown, kept_is, kept_now}
+use Rattle.laws_container.proofs.Sound.{MayGoOn, Shown, kept_now}
 use Rattle.laws_container.proofs.Stages.{any_call}
 use Rattle.laws_container.proofs.Standing.{look_at, look_number}
 use Rattle.laws_container.proofs.Terms.{Terms}
@@ -101,9 +101,8 @@ module _ {T : Type 0} (shown : Shown T) (terms : Terms) (code : Coding T) (c : �
 
   any_stays : (n : ℕ) (flight : Flight T) → x.doing ≡ Going flight since → Stays n t.world.coding t.world.kept x.start flight
   any_stays n flight doing =
-      let same = kept_is t.world.kept t.world.words s.state s.fit in
       subst (λ y. Stays n y t.world.kept x.start flight) (sym s.coding)
-      (subst (λ kept. Stays n code kept x.start flight) (sym same.0)
+      (subst (λ kept. Stays n code kept x.start flight) (sym s.fit.kept)
       (step_stays n x.start flight (stands_there (family_by terms code c) t s q x since flight found doing)))
 
 -- ---- any turn

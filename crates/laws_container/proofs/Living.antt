@@ -11,7 +11,6 @@ use Rattle.model.proofs.Frame as frame
 use Rattle.laws_robust.proofs.Alive.{Leaves}
 use Rattle.laws_robust.proofs.Told.{joined}
 use Rattle.laws_container.proofs.Invariant.{family_by}
-use Rattle.laws_container.proofs.Sound.{kept_is}
 use Rattle.laws_container.proofs.Stages.{any_call}
 use Rattle.laws_container.proofs.Terms.{Terms}
 use Rattle.laws_container.proofs.Written.{all_effects}
@@ -46,7 +45,7 @@ module _ {T : Type 0} (terms : Terms) (code : Coding T) (c : ℕ) (t : Trace T) 
   pub steps_leave : StepsLeave t
   steps_leave p x since flight answer found doing =
       let there = stands_there (family_by terms code c) t s p x since flight found doing in
-      subst (λ kept. AllByRecursion Leaves (writes p answer kept x.start flight)) (sym (kept_is t.world.kept t.world.words s.state s.fit).0)
+      subst (λ kept. AllByRecursion Leaves (writes p answer kept x.start flight)) (sym s.fit.kept)
       (step_leaves p answer x.start flight there.at)
 
   -- ---- what is not refused

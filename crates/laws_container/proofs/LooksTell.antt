@@ -24,7 +24,7 @@ use Rattle.laws_container.proofs.Looks.{looks_as}
 use Rattle.laws_container.proofs.LooksEnd.{look_tells, look_leaves}
 pub use Rattle.laws_container.proofs.Moves.{look_asks_none}
 use Rattle.laws_container.proofs.WellFormed.{IsWellFormedSoFar}
-use Rattle.laws_container.proofs.Sound.{MayGoOn, Shown, kept_is, kept_now, scene_of, inv_with, IsThere, is_there}
+use Rattle.laws_container.proofs.Sound.{MayGoOn, Shown, kept_now, scene_of, inv_with, IsThere, is_there}
 use Rattle.laws_container.proofs.Stages.{all, done, any_call}
 use Rattle.laws_container.proofs.Standing.{look_at, LookAt, At}
 use Rattle.laws_container.proofs.Terms.{Terms}
@@ -201,13 +201,12 @@ module _ {T : Type 0} (shown : Shown T) (terms : Terms) (code : Coding T) (c : �
         → (is_question (want_of t.world.coding flight) ≡ false → n ≡ old_of t.world.words (ask_of (want_of t.world.coding flight)))
         → StepFrom n t.world.coding t.world.kept x.start flight
     any_look n flight doing is =
-        let same = kept_is t.world.kept t.world.words s.state s.fit in
         subst (λ y. StepFrom n y t.world.kept x.start flight) (sym s.coding)
-        (subst (λ kept. StepFrom n code kept x.start flight) (sym same.0)
+        (subst (λ kept. StepFrom n code kept x.start flight) (sym s.fit.kept)
         (step_look n x.start flight (stands_there (family_by terms code c) t s q x since flight found doing)
         (λ no.
         is (subst (λ y. is_question (want_of y flight) ≡ false) (sym s.coding) no)
-        ∙ (ap (λ ws. old_of ws (ask_of (want_of t.world.coding flight))) same.1 ∙ ap (λ y. old_of s.state.words (ask_of (want_of y flight))) s.coding))))
+        ∙ (ap (λ ws. old_of ws (ask_of (want_of t.world.coding flight))) s.fit.words ∙ ap (λ y. old_of s.state.words (ask_of (want_of y flight))) s.coding))))
 
   -- ---- any turn
 
@@ -295,7 +294,7 @@ module _ {T : Type 0} (shown : Shown T) (terms : Terms) (code : Coding T) (c : �
         ap (λ kept. state_in kept end.party) (sym l.kept_then) ∙ is in
         let told = look_tells scene inv l.which l.stage l.there.here stands l.there.knows l.there.steps alone_now answer state l.done left in
         let was : state_in t.world.kept end.party ≡ state_of end.party s.state.states =
-        ap (λ kept. state_in kept end.party) (kept_is t.world.kept t.world.words s.state s.fit).0 in
+        ap (λ kept. state_in kept end.party) s.fit.kept in
         let events_new : new.events
         ≡ t.events ++ ((effects code end.party (state_of end.party s.state.states) (look_at l.which c l.stage) (old l.stage)
         ++ questions end.party (look_at l.which c l.stage) (old l.stage))

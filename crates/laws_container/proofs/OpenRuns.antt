@@ -28,7 +28,7 @@ use Rattle.laws_container.proofs.Invariant.{family_by}
 use Rattle.laws_container.proofs.Kept.{cells, lock, dead, questions, states, contained}
 use Rattle.laws_container.proofs.Living.{steps_leave}
 use Rattle.laws_container.proofs.WellFormed.{well_formed_on}
-use Rattle.laws_container.proofs.Sound.{MayGoOn, IsRightly, MayRecoverIn, kept_is, kept_now, recovers_by, comes, decides, begin_comes, opening_sound}
+use Rattle.laws_container.proofs.Sound.{MayGoOn, IsRightly, MayRecoverIn, kept_now, recovers_by, comes, decides, begin_comes, opening_sound}
 use Rattle.laws_container.proofs.Terms.{Terms}
 use Rattle.laws_container.proofs.TurnTells.{tells_if}
 
@@ -61,12 +61,12 @@ module _ {T : Type 0} (kept : Bool) (code : Coding T) (c : ℕ) where
     begun p start flight recovers free e =
         let now = kept_now shown terms code c t s in
         let y = party_at_begin start flight t.world.changes in
-        let named : first_of kinds.TheVariants.Container c start now ≡ Some flight = rw (s.kind, s.capacity, s.fit.0) at e in
+        let named : first_of kinds.TheVariants.Container c start now ≡ Some flight = rw (s.kind, s.capacity, s.fit.kept) at e in
         let kept_same : kept_after_begin t.world.coding t.world.capacity start p t.world.kept ≡ kept_after_begin code c start p now =
-        rw (s.coding, s.capacity, s.fit.0) refl in
+        rw (s.coding, s.capacity, s.fit.kept) refl in
         subst (λ kept. frame.Comes (family_by terms code c) t p kept t.world.words y (Begun p start ∷ []) t.world.changes) (sym kept_same)
         (subst (λ words. frame.Comes (family_by terms code c) t p (kept_after_begin code c start p now) words y (Begun p start ∷ []) t.world.changes)
-        (sym s.fit.1) (begin_comes shown terms code c t s p start flight recovers free named))
+        (sym s.fit.words) (begin_comes shown terms code c t s p start flight recovers free named))
 
     begins : (p : ℕ) (start : Start T) → MayRecoverIn shown terms code c t s p start → flight_in t.world p ≡ None
         → is_none (first_of t.world.kind t.world.capacity start t.world.kept) ≡ false → Sound (after_turn t (Begin p start))
@@ -94,9 +94,9 @@ module _ {T : Type 0} (kept : Bool) (code : Coding T) (c : ℕ) where
     open_turn_sound (Next p) e faithful =
         let F = family_by terms code c in
         let rows : first_row (going_rows code (kept_now shown terms code c t s) (flight_in t.world p) None) ≡ None =
-        rw (s.coding, s.fit.0) at (next_passes t.world p e) in
+        rw (s.coding, s.fit.kept) at (next_passes t.world p e) in
         frame.next_sound F t p s (λ x flight since u.
-        comes_from F t s p x since s.state.words (kept_now shown terms code c t s) flight s.fit.1 s.fit.0
+        comes_from F t s p x since s.state.words (kept_now shown terms code c t s) flight s.fit.words s.fit.kept
         (comes shown terms code c t s p x since u.found may x.start flight
         (rightly p x since u.found flight (λ keeps. subst (λ o. is_for_gone t.events o ≡ false) u.is (faithful keeps)))
         (subst (λ o. first_row (going_rows code (kept_now shown terms code c t s) o None) ≡ None) u.is rows)
@@ -110,7 +110,7 @@ module _ {T : Type 0} (kept : Bool) (code : Coding T) (c : ℕ) where
         subst (λ y. is_due y (flight_in t.world p) ≡ true) s.coding (frame.is_true (is_due t.world.coding (flight_in t.world p)) d.0) in
         let F = family_by terms code c in
         frame.decision_sound F t p said s (λ x flight since u.
-        decides_from F t s p x since said s.state.words (kept_now shown terms code c t s) flight s.fit.1 s.fit.0
+        decides_from F t s p x since said s.state.words (kept_now shown terms code c t s) flight s.fit.words s.fit.kept
         (decides shown terms code c t s p x since u.found may said x.start flight (subst (λ o. is_due code o ≡ true) u.is due)
         (stands_there F t s p x since flight u.found u.doing)))
         (party_of p t.world.latest) refl
@@ -227,7 +227,7 @@ module _ {T : Type 0} (t : Trace T) (is : t.world.kind ≡ kinds.TheVariants.Con
   pub reached_open_wide : length t.world.words ≡ total_words t.world.capacity t.world.coding.size
   reached_open_wide =
       let s = reached_open_sound in
-      ap length (kept_is t.world.kept t.world.words s.state s.fit).1 ∙ s.holds.elements.wide
+      ap length s.fit.words ∙ s.holds.elements.wide
 
   pub reached_open_kept : IsOpenContainer t r
   reached_open_kept =
@@ -239,7 +239,7 @@ module _ {T : Type 0} (t : Trace T) (is : t.world.kind ≡ kinds.TheVariants.Con
         recovers = s.holds.elements.recovers;
         answers =
             subst (λ ws. Each (AnswersBy Word (counter_of ws ≡ greatest) w.capacity) t.events)
-            (sym (kept_is w.kept w.words s.state s.fit).1) s.holds.elements.answers;
+            (sym s.fit.words) s.holds.elements.answers;
         cells = cells any w.coding t s;
         lock = lock any w.coding t s;
         lives = reached_open_lives;

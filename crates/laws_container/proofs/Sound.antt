@@ -23,7 +23,7 @@ use Rattle.model.proofs.FamilyLaws.{Turns, AllTurns}
 use Rattle.model.proofs.Frame as frame
 use Rattle.model.proofs.Scenes.{DecidesFrom}
 use Rattle.laws_robust.proofs.Invariant as set
-use Rattle.laws_container.proofs.Invariant.{outline, ContainerNow, Scene, Represents, Inv, Elements, Does, Shows, Knowing}
+use Rattle.laws_container.proofs.Invariant.{outline, ContainerNow, Scene, Inv, Elements, Does, Shows, Knowing}
 use Rattle.laws_container.proofs.Invariant.{moment, before, view, family, family_by, wrote_of, at_written, owes}
 use Rattle.laws_container.proofs.Invariant.{holds_more, then_is}
 use Rattle.laws_container.specs.Gone.{acts_for_gone}
@@ -85,10 +85,6 @@ pub record Shown (T : Type 0) : Type 0 where
   pub opens : (terms : Terms) (code : Coding T) (c : ℕ) → IsCoding code → 1 ≤ c → c < 2 ^ 32 → Opens terms code c
 
 module _ {T : Type 0} where
-  pub kept_is : (kept : Registry T) (words : List ℕ) (s : ContainerNow T) → Represents kept words s
-      → (kept ≡ registries.TheVariants.Container s.dead s.states) × (words ≡ s.words)
-  kept_is kept words s h = h
-
   -- a call that begins on the container is one of its own, for an owner that is none of an empty cell
   abbrev pub IsOwn : ℕ → Start T → Flight T → Type 0
   IsOwn c (Container start) (flights.TheVariants.Container flight) = (first c start ≡ flight) × (names_owner start ≡ true)
@@ -196,7 +192,7 @@ module _ {T : Type 0} (shown : Shown T) (terms : Terms) (code : Coding T) (c : �
         (passes flight None r) rightly there.steps there.knows in
         record {
           state = _;
-          fit = (refl, refl);
+          fit = record { kept = refl; words = refl };
           holds = holds_more (scene_of p x since) _ _ (Open (Container start) (wrote_of p t.events)) _ _ _ moves s.state state_is s.holds s.inv;
           owes = owes (scene_of p x since) _ _ (Open (Container start) (wrote_of p t.events)) _ _ _ moves s.state state_is s.holds s.inv there.here.span;
         }
@@ -215,7 +211,7 @@ module _ {T : Type 0} (shown : Shown T) (terms : Terms) (code : Coding T) (c : �
         there.here asks there.steps there.knows in
         record {
           state = _;
-          fit = (refl, refl);
+          fit = record { kept = refl; words = refl };
           holds = holds_more (scene_of p x since) _ _ (Open (Container start) (wrote_of p t.events)) _ _ _ moves s.state state_is s.holds s.inv;
           owes = owes (scene_of p x since) _ _ (Open (Container start) (wrote_of p t.events)) _ _ _ moves s.state state_is s.holds s.inv there.here.span;
         }
@@ -257,7 +253,7 @@ module _ {T : Type 0} (shown : Shown T) (terms : Terms) (code : Coding T) (c : �
         in
         record {
           state = then_is scene s.state.words states' y (Begun p (Container start) ∷ []);
-          fit = (refl, refl);
+          fit = record { kept = refl; words = refl };
           holds =
               holds_more scene s.state.words states' (span_of p t.events) y (Begun p (Container start) ∷ [])
               t.world.changes shows s.state state_is s.holds s.inv;
@@ -296,11 +292,11 @@ module _ {T : Type 0} (shown : Shown T) (terms : Terms) (code : Coding T) (c : �
   death_comes : (o : ℕ) → MayDie t.world o → frame.ComesByDeath (family_by terms code c) t s o
   death_comes o may =
       let g = s.holds.good in
-      let alive : is_dead o t.events ≡ false = sym (g.died o) ∙ subst (λ kept. families.is_dead kept o ≡ false) s.fit.0 may.lives in
+      let alive : is_dead o t.events ≡ false = sym (g.died o) ∙ subst (λ kept. families.is_dead kept o ≡ false) s.fit.kept may.lives in
       let d = shown.dies terms code c s.state.words s.state.dead s.state.states t.world.latest t.events t.world.turns o g s.holds.elements alive in
       record {
         state = died_now o;
-        fit = (ap (λ kept. kept_after_death kept o) s.fit.0, s.fit.1);
+        fit = record { kept = ap (λ kept. kept_after_death kept o) s.fit.kept; words = s.fit.words };
         holds = record { same = refl; same_latest = refl; begun = λ p x found. omega arith; good = d.good; elements = d.elements };
         calls = λ q start flight at.
             let wrote : wrote_of q (t.events ++ Died o ∷ []) ≡ wrote_of q s.state.events =

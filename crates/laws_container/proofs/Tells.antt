@@ -27,7 +27,7 @@ use Rattle.laws_container.proofs.Finds.{nothing_stands, none_counts, found_none,
 use Rattle.laws_container.proofs.Invariant.{Scene, Inv, before, family_by}
 use Rattle.laws_container.proofs.Knows.{HasFoundBelow, Knows}
 use Rattle.laws_container.proofs.WellFormed.{IsWellFormedSoFar}
-use Rattle.laws_container.proofs.Sound.{MayGoOn, Shown, kept_is, kept_now, scene_of, inv_with, is_there}
+use Rattle.laws_container.proofs.Sound.{MayGoOn, Shown, kept_now, scene_of, inv_with, is_there}
 use Rattle.laws_container.proofs.Stages.{IsHere, all, done, sees_now, any_call, was_well_formed}
 use Rattle.laws_container.proofs.Standing.{find_at, At, FindAt}
 use Rattle.laws_container.proofs.Terms.{Terms}
@@ -289,7 +289,9 @@ module _ {T : Type 0} (shown : Shown T) (terms : Terms) (code : Coding T) (c : �
     there_is = stands_there (family_by terms code c) t s q x since flight found doing
 
     by_now : Wrote code (kept_now shown terms code c t s) x.start flight
-    by_now = grind (arith, kept_now, kept_is)
+    by_now =
+        subst (λ kept. Wrote code kept x.start flight) s.fit.kept
+        (subst (λ y. Wrote y t.world.kept x.start flight) s.coding e)
 
     pub own_party : q ≡ p
     own_party = own_end x.start flight there_is by_now
@@ -299,7 +301,7 @@ module _ {T : Type 0} (shown : Shown T) (terms : Terms) (code : Coding T) (c : �
     all_counted due told asks loads =
         counted due told x.start flight there_is (subst (λ y. is_question (want_of y flight) ≡ due) s.coding asks)
         (λ no. loads no
-        ∙ (ap (λ ws. old_of ws (ask_of (want_of t.world.coding flight))) (kept_is t.world.kept t.world.words s.state s.fit).1
+        ∙ (ap (λ ws. old_of ws (ask_of (want_of t.world.coding flight))) s.fit.words
         ∙ ap (λ y. old_of s.state.words (ask_of (want_of y flight))) s.coding))
         by_now
 

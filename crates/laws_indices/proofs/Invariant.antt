@@ -3,7 +3,7 @@
 use Rattle.std.proofs.Common.{◌≡◌, ◌≢◌, ℕ, ◌+◌, ◌<◌, ◌≤◌, ⊎_elim, if◌then◌else◌, false, nat_lt, Option, Some}
 use Rattle.std.proofs.Common.{None, List, [], ◌++◌, fold, refl, sym, ap, subst, ◌∙◌, arith}
 use Rattle.laws_indices.proofs.Names.{cases_eq, fold-append, says_locked, NoIndex, Event, Finished, Start, Flight}
-use Rattle.laws_indices.proofs.Names.{Registry, IndexFlight, Party, Coding, CountsRight, GoesStraight, party_of, put}
+use Rattle.laws_indices.proofs.Names.{IndexFlight, Party, Coding, CountsRight, GoesStraight, party_of, put}
 use Rattle.laws_indices.proofs.Names.{doing_of, flight_of, Scene}
 use Rattle.steps.specs.declared.indices.enums.UniqueIndexSetAcquireFailure.TheVariants.{OutOfIndices}
 use Rattle.model.specs.declared.event.Answer.TheVariants.{Number}
@@ -28,9 +28,6 @@ pub record IndexSet : Type 0 where
   pub words : List ℕ
   pub holders : List (Option ℕ)
   pub seats : ℕ  -- the parties from this number on have begun no call
-
-abbrev pub Represents : {T : Type 0} → Registry T → List ℕ → IndexSet → Type 0
-Represents kept words s = (kept ≡ registries.TheVariants.Indices s.holders) × (words ≡ s.words)
 
 -- a turn of this party needs a seat for it
 abbrev pub seats_with : ℕ → ℕ → ℕ

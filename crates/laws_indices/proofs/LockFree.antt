@@ -360,7 +360,7 @@ module _ {T : Type 0} (t : Trace T) (s : Sound (family t.world.coding t.world.ca
   good : Good t.world.capacity t.world.words s.state.holders (busy (scene_of outline t.world.coding t.world.capacity t s p x.steps x.backs since))
   good =
       subst (λ ws. Good t.world.capacity ws s.state.holders (busy (scene_of outline t.world.coding t.world.capacity t s p x.steps x.backs since)))
-      (sym s.fit.1) s.holds.good
+      (sym s.fit.words) s.holds.good
 
   flight_falls : (start : Start T) (flight : Flight T) → FlightAt t.world.capacity s.state.holders p start flight
       → party_of p t.world.latest ≡ Some x → x.doing ≡ Going flight since → flight_of (doing_of (party_of p t.world.latest)) ≡ Some flight

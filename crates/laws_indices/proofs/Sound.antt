@@ -2,7 +2,7 @@
 -- set, then the end. No call of the set acts.
 use Rattle.std.proofs.Common.{◌≡◌, ℕ, ◌<◌, ◌≤◌, false, Option, None, List, replicate, refl, sym, arith}
 use Rattle.std.specs.List.{AllByRecursion}
-use Rattle.laws_indices.proofs.Names.{locked, Answer, Start, Indices, Flight, Registry, Coding, Trace}
+use Rattle.laws_indices.proofs.Names.{locked, Answer, Start, Indices, Flight, Coding, Trace}
 use Rattle.model.specs.declared.families.Flight as flights
 use Rattle.model.specs.declared.families.Registry as registries
 use Rattle.model.specs.declared.turn.Kind as kinds
@@ -22,19 +22,18 @@ use Rattle.model.proofs.Orders.{Keeps, Orders}
 use Rattle.model.proofs.Readings.{Each-nil}
 use Rattle.model.proofs.Scenes.{step_from}
 use Rattle.laws_indices.proofs.Core.{held_below}
-use Rattle.laws_indices.proofs.Invariant.{IndexSet, Represents, FlightAt, outline, family, holds_more}
+use Rattle.laws_indices.proofs.Invariant.{IndexSet, FlightAt, outline, family, holds_more}
 use Rattle.laws_indices.proofs.Opening.{nobody_holds, none_held, opening_good, admitted_is}
 use Rattle.laws_indices.proofs.Stages.{same_tally}
 use Rattle.laws_indices.proofs.Steps.{step_shows, begin_shows}
 
-pub kept_is : {T : Type 0} → (kept : Registry T) (words : List ℕ) (s : IndexSet) → Represents kept words s
-    → (kept ≡ registries.TheVariants.Indices s.holders) × (words ≡ s.words)
-kept_is kept words s h = h
-
 module _ {T : Type 0} where
   -- what the invariant says in the promises' words
   set_kept : (code : Coding T) (c : ℕ) (t : Trace T) → frame.Sound (family code c) t → IsIndexSet t
-  set_kept x0 x1 x2 x3 = grind arith
+  set_kept code c t s =
+      let kept = s.fit.kept in
+      let words = s.fit.words in
+      grind arith
 
   all_effects : (p : ℕ) (freed : Option ℕ) (outcome : Option (Answer T)) → AllByRecursion (IsEffectOf {T = T} (Next p)) (effects p freed outcome)
   all_effects x0 x1 x2 = grind arith

@@ -150,11 +150,11 @@ module _ {T : Type 0} (code : Coding T) (slots queue : ℕ) where
       let inv : frame.Inv channel s w.latest s.events w.changes = subst (λ es. frame.Inv channel s w.latest es w.changes) (sym same) sound.inv in
       let over : IsShut (span_of p s.events) = frame.shut channel s p (party_of p w.latest) (span_of p s.events) may.free (inv.calls p) in
       let rows : first_row (kept_rows {T = T} w.capacity start (registries.TheVariants.Loan s.book) p) ≡ None =
-      subst (λ kept. first_row (kept_rows {T = T} w.capacity start kept p) ≡ None) is.0 may.rows in
+      subst (λ kept. first_row (kept_rows {T = T} w.capacity start kept p) ≡ None) is.kept may.rows in
       let passed : first_row (call_rows slots s.book p start) ≡ None = subst (λ n. first_row (call_rows n s.book p start) ≡ None) sound.capacity rows in
       let named : first_of {T = T} kinds.TheVariants.Loan w.capacity (starts.Loan start) (registries.TheVariants.Loan s.book)
       ≡ Some (flights.TheVariants.Loan flight) =
-      subst (λ kept. first_of {T = T} kinds.TheVariants.Loan w.capacity (starts.Loan start) kept ≡ Some (flights.TheVariants.Loan flight)) is.0
+      subst (λ kept. first_of {T = T} kinds.TheVariants.Loan w.capacity (starts.Loan start) kept ≡ Some (flights.TheVariants.Loan flight)) is.kept
       (subst (λ kind. first_of {T = T} kind w.capacity (starts.Loan start) w.kept ≡ Some (flights.TheVariants.Loan flight)) sound.kind e)
       in
       let own : first slots s.book start ≡ flight =
@@ -167,10 +167,10 @@ module _ {T : Type 0} (code : Coding T) (slots queue : ℕ) where
       subst (λ kept. frame.Comes channel t p (kept_after_begin w.coding w.capacity (starts.Loan start) p kept) w.words
       (party_at_begin (starts.Loan start) (flights.TheVariants.Loan flight) w.changes)
       (Begun p (starts.Loan start) ∷ []) w.changes)
-      (sym is.0)
+      (sym is.kept)
       (record {
         state = then_state;
-        fit = (refl, is.1);
+        fit = (refl, is.words);
         holds =
             subst (λ es. HoldsNow slots queue then_state _ (es ++ Begun p (starts.Loan start) ∷ []) (w.turns + 1)) same
             (holds_then code slots queue s w.latest w.turns w.changes p start flight h inv may.free known);
@@ -183,7 +183,7 @@ module _ {T : Type 0} (code : Coding T) (slots queue : ℕ) where
       let s = sound.state in
       let is = kept_is w.kept w.words s sound.fit in
       let named : first_of kinds.TheVariants.Loan w.capacity start (registries.TheVariants.Loan s.book) ≡ Some flight =
-      subst (λ kept. first_of kinds.TheVariants.Loan w.capacity start kept ≡ Some flight) is.0
+      subst (λ kept. first_of kinds.TheVariants.Loan w.capacity start kept ≡ Some flight) is.kept
       (subst (λ kind. first_of kind w.capacity start w.kept ≡ Some flight) sound.kind e)
       in
       absurd (begins_own w.capacity s.book start flight named)

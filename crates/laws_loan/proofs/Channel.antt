@@ -1,7 +1,7 @@
 -- The state of a loan channel's machine: its three parts with what they hold, its book and the events, what holds of them
 -- between two turns, and how it opens.
 use Rattle.laws_loan.proofs.Names.{◌≡◌, ◌≢◌, ℕ, zero, suc, ◌+◌, ◌^◌, ◌<◌, ◌≤◌, Option, None, List, [], ◌++◌}
-use Rattle.laws_loan.proofs.Names.{replicate, refl, length-replicate, Place, locked, place_at, Event, Registry}
+use Rattle.laws_loan.proofs.Names.{replicate, refl, ap, length-replicate, Place, locked, place_at, Event, Registry}
 use Rattle.laws_loan.proofs.Names.{Book, opening_words, opening_book, opening_kept, KeepsBook, Free}
 use Rattle.laws_loan.proofs.Names.{words_of_index, Core, layout}
 use Rattle.std.proofs.Common.{arith}
@@ -9,6 +9,7 @@ use Rattle.steps.specs.declared.loan.places.Place.TheVariants as places
 use Rattle.model.specs.declared.families.Registry as registries
 use Rattle.model.specs.declared.families.queues.Roles.{Roles}
 use Rattle.model.specs.Families.Indices.Opening as index_opening
+use Rattle.model.proofs.Family as families
 use Rattle.laws_indices.proofs.Core as indices
 use Rattle.laws_indices.proofs.Opening.{nobody_holds, opening_good}
 use Rattle.laws_queues.proofs.Queues.Core as queues
@@ -36,8 +37,10 @@ Represents (registries.TheVariants.Loan book) words s = (book ≡ s.book) × (wo
 Represents kept words s = ⊥
 
 pub kept_is : {T : Type 0} (kept : Registry T) (words : List ℕ) (s : Channel T) → Represents kept words s
-    → (kept ≡ registries.TheVariants.Loan s.book) × (words ≡ words_in s)
-kept_is x0 x1 x2 x3 = grind arith
+    → families.Represents kept words (registries.TheVariants.Loan s.book) (words_in s)
+kept_is (registries.TheVariants.Loan book) words s fit =
+    record { kept = ap (λ (b : Book). registries.TheVariants.Loan b) fit.0; words = fit.1 }
+kept_is kept words s fit = absurd fit
 
 -- ---- what holds between two turns
 

@@ -76,7 +76,10 @@ module _ {T : Type 0} (code : Coding T) (slots queue : ℕ) (t : Trace T)
 
   step_in_order : (flight : Flight T) → party_of p t.world.latest ≡ Some x → x.doing ≡ Going flight since
       → InOrder t p promise t.world.coding t.world.words t.world.kept x.start flight
-  step_in_order x0 x1 x2 = grind (arith, kept_is, in_order_from, promise, in_order, stands_there)
+  step_in_order flight found doing =
+      let is = kept_is t.world.kept t.world.words s.state s.fit in
+      in_order_from t p promise t.world.coding (words_in s.state) (registries.TheVariants.Loan s.state.book) x.start flight is.words is.kept
+      (in_order x.start flight (stands_there (channel code slots queue) t s p x since flight found doing))
 
 -- a call of a loan channel goes on as its table says
 told : {T : Type 0} (code z : Coding T) (slots queue : ℕ) (words : List ℕ) (push : Option (ℕ × ℕ)) (s : Channel T)

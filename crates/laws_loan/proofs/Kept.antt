@@ -43,11 +43,11 @@ module _ {T : Type 0} where
       let busy = counted_for (sends_at w.latest) in
       let sent : sent_in w.coding w.capacity k.book.queue w.words ≡ items k.submission.waiting =
       ap (λ q. sent_in w.coding w.capacity q w.words) parts.capacity
-      ∙ (ap (sent_in w.coding w.capacity queue) is.1 ∙ sent_is w.coding w.capacity queue k busy parts)
+      ∙ (ap (sent_in w.coding w.capacity queue) is.words ∙ sent_is w.coding w.capacity queue k busy parts)
       in
       let back : given_back_in w.coding w.capacity k.book.queue w.words ≡ items k.completion.waiting =
       ap (λ q. given_back_in w.coding w.capacity q w.words) parts.capacity
-      ∙ (ap (given_back_in w.coding w.capacity queue) is.1 ∙ back_is w.coding w.capacity queue k busy parts)
+      ∙ (ap (given_back_in w.coding w.capacity queue) is.words ∙ back_is w.coding w.capacity queue k busy parts)
       in
       let flag : (index : ℕ) → index < w.capacity
       → has_flag (get_or w.words (flag_word w.capacity index) 0) index ≡ is_some (claim_of (spot_of index t.events)) =
@@ -55,7 +55,7 @@ module _ {T : Type 0} where
       let wide = parts.set.wide in
       let within = flag_within w.capacity index below in
       let read : get_or w.words (flag_word w.capacity index) 0 ≡ get_or k.set (flag_word w.capacity index) 0 =
-      ap (λ ws. get_or ws (flag_word w.capacity index) 0) is.1
+      ap (λ ws. get_or ws (flag_word w.capacity index) 0) is.words
       ∙ get_or_append_left k.set (layout no_roles k.submission ++ layout no_roles k.completion) 0
       (flag_word w.capacity index) (omega arith)
       in
@@ -63,13 +63,13 @@ module _ {T : Type 0} where
       ∙ (parts.set.flags index below
       ∙ (ap is_some (parts.placed.claimed index below) ∙ ap (λ es. is_some (claim_of (spot_of index es))) hold.same))
       in
-      subst (λ kept. IsChannelBy kept t) (sym is.0)
+      subst (λ kept. IsChannelBy kept t) (sym is.kept)
       (record {
         moves = hold.moves;
         begins = hold.begins;
         answers = hold.answers;
         lives = lives;
-        table = λ index. subst (λ kept. place_in kept index ≡ place_of index t.events) is.0 (tabled index);
+        table = λ index. subst (λ kept. place_in kept index ≡ place_of index t.events) is.kept (tabled index);
         passing = λ index p e. carried_open index (span_of p t.events) (hold.passing index p e);
         parties = λ index p by. subst (λ es. IsBy p (spot_of index es) → (p ≡ 0) ⊎ (p ≡ receiver_of es)) hold.same (parts.placed.parties index p) by;
         flags =

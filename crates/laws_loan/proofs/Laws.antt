@@ -97,7 +97,7 @@ module _ {T : Type 0} (code : Coding T) (slots queue : ℕ) (t : Trace T)
       → frame.ComesByStep (channel code slots queue) t p x flight since (asked t.world.coding flight) (old_of t.world.words (asked t.world.coding flight))
   step_comes p flight r found doing =
       let is = kept_is t.world.kept t.world.words sound.state sound.fit in
-      comes_from (channel code slots queue) t sound p x since (words_in sound.state) (registries.TheVariants.Loan sound.state.book) flight is.1 is.0
+      comes_from (channel code slots queue) t sound p x since (words_in sound.state) (registries.TheVariants.Loan sound.state.book) flight is.words is.kept
       (comes p x.start flight r (stands_there (channel code slots queue) t sound p x since flight found doing))
 
 module _ {T : Type 0} (code : Coding T) (slots queue : ℕ) where

@@ -77,7 +77,7 @@ module _ {T : Type 0} (code : Coding T) (slots queue : ℕ) where
     turn_right (Decide p said) e = decided p said (decision_passes t.world p said e) (party_of p t.world.latest) refl
     turn_right (Die o) e =
         let is = kept_is t.world.kept t.world.words sound.state sound.fit in
-        (alive_by o (subst (λ kept. is_dead kept o ≡ false) is.0 (may_die t.world o e).lives), tt)
+        (alive_by o (subst (λ kept. is_dead kept o ≡ false) is.kept (may_die t.world o e).lives), tt)
 
     pub turn_lives : (turn : Turn T) → call_refusal t.world turn ≡ None → Each LivesRight t.events → Each LivesRight (after_turn t turn).events
     turn_lives turn e all = Each-append LivesRight t.events (events_of t.world turn) all (turn_right turn e)

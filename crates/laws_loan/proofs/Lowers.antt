@@ -112,7 +112,7 @@ module _ {T : Type 0} (code : Coding T) (slots queue : ℕ) where
     dead = has_died r s.book.dead
 
     pub is_kept : t.world.kept ≡ registries.TheVariants.Loan s.book
-    is_kept = (kept_is t.world.kept t.world.words s sound.fit).0
+    is_kept = (kept_is t.world.kept t.world.words s sound.fit).kept
 
     -- no sender is the receiver
     pub not_sender : r ≢ 0

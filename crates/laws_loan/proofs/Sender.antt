@@ -1,4 +1,4 @@
--- A step of a party's call, which writes events of its own alone: what it shows, and that it so comes to what the frame asks.
+-- A step of a party's call, which writes events of this party alone: what it has to show, and that this is all that the frame asks.
 use Rattle.laws_loan.proofs.Names.{◌≡◌, ◌≢◌, ℕ, ◌+◌, Bool, Option, Some, List, [], ◌++◌, fold, ap, ◌∙◌, Ask, After}
 use Rattle.laws_loan.proofs.Names.{Answer, Event, Start, Flight, LoanStart, LoanFlight, Effect, Party, Coding}
 use Rattle.laws_loan.proofs.Names.{promise, ended_book, book_after, effects_of, Stands, Span, own_after, span_of}

@@ -99,7 +99,7 @@ module _ {T : Type 0} (code : Coding T) (slots queue : ℕ) where
 
   module _ (t : Trace T) (sound : frame.Sound (channel code slots queue) t) (tabled : IsTabled t) where
     is_kept : t.world.kept ≡ registries.TheVariants.Loan sound.state.book
-    is_kept = (kept_is t.world.kept t.world.words sound.state sound.fit).0
+    is_kept = (kept_is t.world.kept t.world.words sound.state sound.fit).kept
 
     -- what the events of a turn that moves no index leave
     as_before : (i : ℕ) (e : Event T) → ((place : Place) → place_after i place e ≡ place) → place_of i (t.events ++ e ∷ []) ≡ place_of i t.events

@@ -32,14 +32,14 @@ module _ {T : Type 0} where
   moments_more : (events es : List (Event T)) → queue_moments (events ++ es) ≡ queue_moments events ++ as_queue (is_reclaiming events) es
   moments_more events es = as_queue_more false events es
 
-  -- with a submission queue of this capacity, in which these wait, and a completion queue in which these do
+  -- what the events tell of a channel: `queue` is the capacity of its submission queue, `sent` waits in that, and `back` in the completion queue
   pub record Told (queue : ℕ) (sent back : List ℕ) (events : List (Event T)) : Type 0 where
     pub book : published events ≡ handed_out events ++ items sent
     pub given : given_back events ≡ taken_back events ++ back
     pub stand : standing (overflowing_list queue) (queue_moments events) ≡ items (take queue sent)
     pub legal : IsLegal (overflowing_list queue) (queue_moments events)
 
-  -- what a turn's events tell, before which a reclaim was under way or not, and after which these wait
+  -- what a turn's events `es` tell, where before them `sent` and `back` waited, and a reclaim was under way or not, and after them `sent'` and `back'` wait
   pub record Tells (queue : ℕ) (reclaims : Bool) (sent sent' back back' : List ℕ) (es : List (Event T)) : Type 0 where
     pub book : items sent ++ published es ≡ handed_out es ++ items sent'
     pub given : back ++ given_back es ≡ taken_back es ++ back'

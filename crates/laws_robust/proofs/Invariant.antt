@@ -2,7 +2,7 @@
 -- what a turn must show to keep it.
 use Rattle.laws_robust.proofs.Names.{◌≡◌, ◌≢◌, ℕ, ◌+◌, ◌-◌, ◌^◌, ◌<◌, ◌≤◌, ◌==◌, false, Some, List, ◌++◌, length}
 use Rattle.laws_robust.proofs.Names.{fold, refl, sym, ap, subst, ◌∙◌, arith, empty, locked, greatest, Event, Start}
-use Rattle.laws_robust.proofs.Names.{Flight, Registry, Party, Coding, is_locked, has_died, cell_of, SetDoes}
+use Rattle.laws_robust.proofs.Names.{Flight, Party, Coding, is_locked, has_died, cell_of, SetDoes}
 use Rattle.laws_robust.proofs.Names.{HoldsRight, promise, SetAct, set_acts, filled_of, is_dead, wrote_in, set_acts_of}
 use Rattle.laws_robust.proofs.Names.{party_of, put, Stands, Each, Span, own_after, span_of, AreOwn, AllFollow}
 use Rattle.laws_robust.proofs.Names.{AreRight, Each-append, span_of-other}
@@ -67,9 +67,6 @@ pub worn_then : (by : GoneBy) (words words' : List ℕ) → HasRoom by words →
 worn_then x0 x1 x2 x3 x4 x5 = grind arith
 
 module _ {T : Type 0} where
-  abbrev pub Represents : Registry T → List ℕ → RobustSet T → Type 0
-  Represents kept words s = (kept ≡ registries.TheVariants.Owners s.dead) × (words ≡ s.words)
-
   -- what is so of the words, of the dead and of the events, after so many turns
   pub record Good (by : GoneBy) (c : ℕ) (words dead : List ℕ) (events : List (Event T)) (turns : ℕ) : Type 0 where
     pub some : 1 ≤ c

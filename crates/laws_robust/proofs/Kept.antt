@@ -68,7 +68,7 @@ module _ {T : Type 0} where
         asks = asks_right t.events s.holds.asks;
         holds = λ well_formed. g.holds (well_formed, tt);
         answers = answers_right ⊥ (λ worn. worn) Death t.world.capacity t.events tt g.answers;
-        cells = λ index below. ap (λ ws. cell ws index) s.fit.1 ∙ g.cells index below;
-        lock = rw s.fit.1 g.lock;
-        dead = subst (λ kept. KeepsDead kept t.events) (sym s.fit.0) (λ owner. g.died owner);
+        cells = λ index below. ap (λ ws. cell ws index) s.fit.words ∙ g.cells index below;
+        lock = rw s.fit.words g.lock;
+        dead = subst (λ kept. KeepsDead kept t.events) (sym s.fit.kept) (λ owner. g.died owner);
       }

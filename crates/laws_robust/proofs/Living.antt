@@ -11,7 +11,6 @@ use Rattle.model.proofs.Frame as frame
 use Rattle.laws_robust.specs.Gone.{Word}
 use Rattle.laws_robust.proofs.Alive.{Leaves, AllLive, StepsLeave, end_leaves}
 use Rattle.laws_robust.proofs.Invariant.{family_by}
-use Rattle.laws_robust.proofs.Sound.{kept_is}
 use Rattle.laws_robust.proofs.Told.{joined}
 use Rattle.laws_robust.proofs.Written.{effects_hold}
 
@@ -27,8 +26,11 @@ module _ {T : Type 0} (code : Coding T) (c : ℕ) (t : Trace T) (s : frame.Sound
         → AllByRecursion Leaves (writes (registries.TheVariants.Owners s.state.dead) start flight)
     step_leaves x0 x1 x2 = grind (arith, joined, effects, effects_hold, end_leaves, after)
 
+  same_kept : t.world.kept ≡ registries.TheVariants.Owners s.state.dead
+  same_kept = s.fit.kept
+
   pub steps_leave : StepsLeave t
-  steps_leave x0 x1 x2 x3 x4 x5 x6 = grind (arith, stands_there, kept_is, step_leaves)
+  steps_leave x0 x1 x2 x3 x4 x5 x6 = grind (arith, stands_there, same_kept, step_leaves)
 
   -- ---- what is not refused
 
@@ -45,4 +47,4 @@ module _ {T : Type 0} (code : Coding T) (c : ℕ) (t : Trace T) (s : frame.Sound
 
     -- a step of a call of the set
     pub step_is_free : (flight : RobustFlight) → first_row (going_rows t.world.coding t.world.kept (Some (flights.TheVariants.Robust flight)) None) ≡ None
-    step_is_free x0 = grind (arith, first_row, kept_is, acts_for_none, frees_none)
+    step_is_free x0 = grind (arith, first_row, same_kept, acts_for_none, frees_none)

@@ -56,7 +56,7 @@ module _ {T : Type 0} (code : Coding T) (c : ℕ) where
       (frame.is_true (is_due t.world.coding (flight_in t.world p)) d.0) in
       let F = family_by Word code c in
       frame.decision_sound F t p said s (λ x flight since u.
-      decides_from F t s p x since said s.state.words (registries.TheVariants.Owners s.state.dead) flight s.fit.1 s.fit.0
+      decides_from F t s p x since said s.state.words (registries.TheVariants.Owners s.state.dead) flight s.fit.words s.fit.kept
       (decides Word code c t s p x since u.found tt said x.start flight (may_decide t s p x since u.found flight said)
       (subst (λ o. is_due code o ≡ true) u.is due) (stands_there F t s p x since flight u.found u.doing)))
       (party_of p t.world.latest) refl
@@ -82,7 +82,10 @@ module _ {T : Type 0} where
       (opening_there (outline Word) (May Word) (all_turns Word) t is r.coded r.admitted, λ owner. refl)).1
 
   open_kept : (code : Coding T) (t : Trace T) → frame.Sound (family_by Word code t.world.capacity) t → AllLive t.events → IsOpenSet t
-  open_kept code t s lives = grind arith
+  open_kept code t s lives =
+      let kept = s.fit.kept in
+      let words = s.fit.words in
+      grind arith
 
   pub reached_open_kept : (t : Trace T) → t.world.kind ≡ kinds.TheVariants.Robust → IsReachedOpen t → IsOpenSet t
   reached_open_kept t is r = open_kept t.world.coding t (reached_open_sound t is r) (reached_open_lives t is r)

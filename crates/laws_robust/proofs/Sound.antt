@@ -3,7 +3,7 @@ use Rattle.laws_robust.proofs.Names.{◌≡◌, ◌≢◌, ℕ, ◌-◌, ◌^◌
 use Rattle.laws_robust.proofs.Names.{List, [], ◌∷◌, ◌++◌, refl, sym, ap, subst, ◌∙◌, arith, ReleaseMode, AcquireStage}
 use Rattle.laws_robust.proofs.Names.{FindStage, Count, Lock, Raise, RecoverStage, GiveBack, ReleaseStage}
 use Rattle.laws_robust.proofs.Names.{acquire_asks, empty, raise_want, count_want, lock_want, release_asks}
-use Rattle.laws_robust.proofs.Names.{Begun, Died, Start, Robust, Flight, Registry, RobustStart, RobustFlight}
+use Rattle.laws_robust.proofs.Names.{Begun, Died, Start, Robust, Flight, RobustStart, RobustFlight}
 use Rattle.laws_robust.proofs.Names.{Party, Coding, first_of, want_of, is_question, going_rows}
 use Rattle.laws_robust.proofs.Names.{kept_after_death, kept_after_begin, want, has_died, dead_with, acts_for_dead}
 use Rattle.laws_robust.proofs.Names.{frees_living, opening_words, set_acts, is_dead, wrote_in}
@@ -31,7 +31,7 @@ use Rattle.laws_robust.proofs.Deaths.{death_good, death_known}
 use Rattle.laws_robust.proofs.Effects.{both_ways}
 use Rattle.laws_robust.proofs.Finds.{find_step, find_decided}
 use Rattle.laws_robust.proofs.Firsts.{IsFirst, first_is, begins_own}
-use Rattle.laws_robust.proofs.Invariant.{outline, RobustSet, Represents, Scene, Inv, Shows, HasRoom, room_of_few, family}
+use Rattle.laws_robust.proofs.Invariant.{outline, Scene, Inv, Shows, HasRoom, room_of_few, family}
 use Rattle.laws_robust.proofs.Invariant.{family_by, wrote_of, at_written, owes, holds_more}
 use Rattle.laws_robust.proofs.Knows.{Knows}
 use Rattle.laws_robust.proofs.Standing.{acquire_at, find_at, recover_at, borrowed_at, At, FindAt, RecoverAt}
@@ -41,11 +41,6 @@ use Rattle.laws_robust.proofs.Opening.{opening_good, admitted_is}
 use Rattle.laws_robust.proofs.RecoverSteps.{recover_step, recover_decided}
 use Rattle.laws_robust.proofs.Releases.{release_step}
 use Rattle.laws_robust.proofs.Stages.{IsHere, all, now, StepOf, DecisionOf}
-
-module _ {T : Type 0} where
-  pub kept_is : (kept : Registry T) (words : List ℕ) (s : RobustSet T) → Represents kept words s
-      → (kept ≡ registries.TheVariants.Owners s.dead) × (words ≡ s.words)
-  kept_is kept words s h = h
 
 -- ---- a step of a call that passes its rows
 
@@ -178,11 +173,11 @@ module _ {T : Type 0} (by : GoneBy) (code : Coding T) (c : ℕ) (t : Trace T) (s
 
   -- the counter has room, as of the words that the state holds
   room_there : HasRoom by t.world.words → HasRoom by s.state.words
-  room_there room = subst (HasRoom by) s.fit.1 room
+  room_there room = subst (HasRoom by) s.fit.words room
 
-  -- it has where few turns were taken
+  -- the counter has room where few turns were taken
   pub has_room : t.world.turns < 2 ^ 64 - 2 → HasRoom by t.world.words
-  has_room small = subst (HasRoom by) (sym s.fit.1) (room_of_few by c s.state.words s.state.dead t.events t.world.turns s.holds.good small)
+  has_room small = subst (HasRoom by) (sym s.fit.words) (room_of_few by c s.state.words s.state.dead t.events t.world.turns s.holds.good small)
 
   module _ (p : ℕ) (x : Party T) (since : ℕ) (found : party_of p t.world.latest ≡ Some x) where
     pub inv_with : HasRoom by t.world.words → Inv (scene_of p x since)
@@ -227,7 +222,7 @@ module _ {T : Type 0} (by : GoneBy) (code : Coding T) (c : ℕ) (t : Trace T) (s
         let moves = step_moves (scene_of p x since) (inv_with room) start flight there.here there.at (passes flight None r).0 there.steps there.knows in
         record {
           state = _;
-          fit = (refl, refl);
+          fit = record { kept = refl; words = refl };
           holds = holds_more (scene_of p x since) _ (Open (Robust start) (wrote_of p t.events)) _ _ _ moves s.holds s.inv;
           owes = owes (scene_of p x since) _ (Open (Robust start) (wrote_of p t.events)) _ _ _ moves s.holds s.inv there.here;
         }
@@ -249,7 +244,7 @@ module _ {T : Type 0} (by : GoneBy) (code : Coding T) (c : ℕ) (t : Trace T) (s
         let moves = decision_moves (scene_of p x since) (inv_with room) said start flight there.here there.at r asks there.steps there.knows in
         record {
           state = _;
-          fit = (refl, refl);
+          fit = record { kept = refl; words = refl };
           holds = holds_more (scene_of p x since) _ (Open (Robust start) (wrote_of p t.events)) _ _ _ moves s.holds s.inv;
           owes = owes (scene_of p x since) _ (Open (Robust start) (wrote_of p t.events)) _ _ _ moves s.holds s.inv there.here;
         }
@@ -293,7 +288,7 @@ module _ {T : Type 0} (by : GoneBy) (code : Coding T) (c : ℕ) (t : Trace T) (s
         in
         record {
           state = _;
-          fit = (refl, refl);
+          fit = record { kept = refl; words = refl };
           holds = holds_more scene s.state.words (span_of p t.events) y (Begun p (Robust start) ∷ []) t.world.changes shows s.holds s.inv;
           owes = owes scene s.state.words (span_of p t.events) y (Begun p (Robust start) ∷ []) t.world.changes shows s.holds s.inv refl;
         }
@@ -321,10 +316,10 @@ module _ {T : Type 0} (by : GoneBy) (code : Coding T) (c : ℕ) (t : Trace T) (s
   death_comes : (o : ℕ) → MayDie t.world o → frame.ComesByDeath (family_by by code c) t s o
   death_comes o may =
       let g = s.holds.good in
-      let alive : is_dead o t.events ≡ false = sym (g.died o) ∙ subst (λ kept. families.is_dead kept o ≡ false) s.fit.0 may.lives in
+      let alive : is_dead o t.events ≡ false = sym (g.died o) ∙ subst (λ kept. families.is_dead kept o ≡ false) s.fit.kept may.lives in
       record {
         state = record { words = s.state.words; dead = dead_with o s.state.dead; events = t.events ++ Died o ∷ [] };
-        fit = (ap (λ kept. kept_after_death kept o) s.fit.0, s.fit.1);
+        fit = record { kept = ap (λ kept. kept_after_death kept o) s.fit.kept; words = s.fit.words };
         holds =
             record {
               same = refl;

@@ -21,7 +21,7 @@ use Rattle.laws_robust.proofs.Invariant.{Scene, Inv, family}
 use Rattle.laws_robust.proofs.Knows.{Knows}
 use Rattle.laws_robust.proofs.Standing.{find_at, At, FindAt}
 use Rattle.laws_robust.specs.Gone.{Death}
-use Rattle.laws_robust.proofs.Sound.{kept_is, scene_of, inv_of, is_there}
+use Rattle.laws_robust.proofs.Sound.{scene_of, inv_of, is_there}
 use Rattle.laws_robust.proofs.Stages.{all, now, any_call}
 use Rattle.laws_robust.proofs.Written.{all_effects}
 
@@ -123,7 +123,7 @@ module _ {T : Type 0} where
       there = stands_there (family code c) t s q x since flight found doing
 
       by_owners : Wrote (registries.TheVariants.Owners s.state.dead) x.start flight
-      by_owners = grind (arith, kept_is)
+      by_owners = subst (λ kept. Wrote kept x.start flight) s.fit.kept e
 
       pub own_party : q ≡ p
       own_party = own_end x.start flight there by_owners
@@ -134,7 +134,7 @@ module _ {T : Type 0} where
       all_counted due told asks loads =
           counted due told x.start flight there asks
           (λ no. loads no
-          ∙ ap (λ ws. old_of ws (ask_of (want_of t.world.coding flight))) (kept_is t.world.kept t.world.words s.state s.fit).1)
+          ∙ ap (λ ws. old_of ws (ask_of (want_of t.world.coding flight))) s.fit.words)
           by_owners
 
   -- ---- any turn

@@ -19,7 +19,7 @@ use Rattle.model.proofs.Frame as frame
 use Rattle.laws_robust.proofs.Invariant.{family}
 use Rattle.laws_robust.proofs.Knows.{Knows}
 use Rattle.laws_robust.specs.Gone.{Death}
-use Rattle.laws_robust.proofs.Sound.{kept_is, scene_of}
+use Rattle.laws_robust.proofs.Sound.{scene_of}
 use Rattle.laws_robust.proofs.Stages.{all, now, any_call}
 use Rattle.laws_robust.proofs.Standing.{recover_at, At}
 use Rattle.laws_robust.proofs.Written.{effects_hold}
@@ -53,7 +53,7 @@ module _ {T : Type 0} (code : Coding T) (c : ℕ) (t : Trace T) (s : frame.Sound
   own = registries.TheVariants.Owners s.state.dead
 
   same_kept : t.world.kept ≡ own
-  same_kept = (kept_is t.world.kept t.world.words s.state s.fit).0
+  same_kept = s.fit.kept
 
   -- ---- a decision
 

@@ -24,7 +24,7 @@ use Rattle.model.specs.declared.families.Registry.TheVariants as registries
 use Rattle.model.specs.declared.families.indices.robust.calls.RobustFlight.TheVariants as calls
 use Rattle.model.specs.declared.turn.Kind as kinds
 use Rattle.model.specs.Families.Indices.Robust.Steps.{effects, freed}
-use Rattle.laws_robust.proofs.Sound.{kept_is, reached_sound}
+use Rattle.laws_robust.proofs.Sound.{reached_sound}
 use Rattle.laws_turns.specs.Questions.{AsksIt, AsksAtOnce}
 
 module _ {T : Type 0} where
@@ -173,4 +173,4 @@ module _ {T : Type 0} where
   asks_at_once t turn is r wrote e =
       let s = reached_sound t is r in
       subst (AllByRecursion (AsksIt (world_after t.world turn))) (append_cancel_left t.events (events_of t.world turn) wrote e)
-      (turn_asks t.world s.state.dead (kept_is t.world.kept t.world.words s.state s.fit).0 turn)
+      (turn_asks t.world s.state.dead s.fit.kept turn)

@@ -24,7 +24,7 @@ use Rattle.laws_robust.proofs.Opening.{admitted_is}
 use Rattle.laws_container.proofs.Allowed.{IsAllowed, allowed_by}
 use Rattle.laws_container.proofs.Invariant.{family, family_by}
 use Rattle.laws_container.proofs.Opening.{opens}
-use Rattle.laws_container.proofs.Sound.{kept_is, reached_sound, is_there}
+use Rattle.laws_container.proofs.Sound.{reached_sound, is_there}
 use Rattle.laws_container.proofs.Stages.{any_call}
 use Rattle.laws_container.proofs.Terms.{Terms}
 use Rattle.laws_turns.specs.Changes.{change_in, changes_of, CountsChanges}
@@ -70,10 +70,10 @@ module _ {T : Type 0} (terms : Terms) (t : Trace T) (s : frame.Sound (family_by 
   fam = family_by terms t.world.coding t.world.capacity
 
   same_words : t.world.words ≡ s.state.words
-  same_words = (kept_is t.world.kept t.world.words s.state s.fit).1
+  same_words = s.fit.words
 
   same_kept : t.world.kept ≡ registries.TheVariants.Container s.state.dead s.state.states
-  same_kept = (kept_is t.world.kept t.world.words s.state s.fit).0
+  same_kept = s.fit.kept
 
   -- the words that a turn leaves
   leaves : (turn : Turn T) → (ask : Option Ask) → ask_in t.world turn ≡ ask
@@ -188,7 +188,7 @@ module _ {T : Type 0} where
   few_changes : (t : Trace T) (s : frame.Sound (family t.world.coding t.world.capacity) t) → CountsChanges t → t.world.turns < 2 ^ 64 - 2
       → changes_of t.events < 2 ^ 64 - 1
   few_changes t s h small =
-      let same = (kept_is t.world.kept t.world.words s.state s.fit).1 in
+      let same = s.fit.words in
       let now : change_at t.world.capacity s.state.words ≡ changes_of t.events = subst (λ ws. change_at t.world.capacity ws ≡ changes_of t.events) same h in
       let few = s.holds.elements.change refl in
       omega arith

@@ -16,7 +16,7 @@ use Rattle.model.specs.declared.turn.Kind as kinds
 use Rattle.model.specs.Families.Indices.Robust.Calls.{want, after}
 use Rattle.model.proofs.Frame as frame
 use Rattle.laws_robust.proofs.Invariant.{family}
-use Rattle.laws_robust.proofs.Sound.{kept_is, reached_sound}
+use Rattle.laws_robust.proofs.Sound.{reached_sound}
 use Rattle.laws_robust.proofs.Stages.{any_call}
 use Rattle.laws_robust.proofs.Standing.{At}
 use Rattle.laws_turns.specs.Questions.{FindsAsking, index_if, loads_cell}
@@ -63,7 +63,7 @@ module _ {T : Type 0} (t : Trace T) (is : t.world.kind ≡ kinds.TheVariants.Rob
   s = reached_sound t is r
 
   pub cell_is : (i : ℕ) → i < c → slice_index t.world.words (cell_word i) ≡ cell_of (filled_of i t.events)
-  cell_is i below = ap (λ ws. cell ws i) (kept_is t.world.kept t.world.words s.state s.fit).1 ∙ s.holds.good.cells i below
+  cell_is i below = ap (λ ws. cell ws i) s.fit.words ∙ s.holds.good.cells i below
 
   -- ---- a find
 

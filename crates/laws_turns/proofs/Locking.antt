@@ -20,7 +20,7 @@ use Rattle.model.specs.Families.Indices.Robust.Calls.{want, after}
 use Rattle.model.specs.Families.Indices.Robust.Steps.{effects}
 use Rattle.model.proofs.Frame as frame
 use Rattle.laws_robust.proofs.Invariant.{family}
-use Rattle.laws_robust.proofs.Sound.{kept_is, reached_sound, is_there}
+use Rattle.laws_robust.proofs.Sound.{reached_sound, is_there}
 use Rattle.laws_robust.proofs.Standing.{At, RecoverAt}
 use Rattle.laws_turns.specs.Recoveries.{LocksRight}
 use Rattle.laws_turns.proofs.LockKnows.{StageKnows, CallKnows, FlightKnows, flight_later}
@@ -45,10 +45,10 @@ module _ {T : Type 0} (t : Trace T) (is : t.world.kind ≡ kinds.TheVariants.Rob
   s = reached_sound t is r
 
   same_kept : t.world.kept ≡ registries.TheVariants.Owners s.state.dead
-  same_kept = (kept_is t.world.kept t.world.words s.state s.fit).0
+  same_kept = s.fit.kept
 
   same_words : t.world.words ≡ s.state.words
-  same_words = (kept_is t.world.kept t.world.words s.state s.fit).1
+  same_words = s.fit.words
 
   -- ---- the other parties
 

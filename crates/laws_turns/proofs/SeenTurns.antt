@@ -26,7 +26,7 @@ use Rattle.model.specs.declared.families.container.calls.ContainerFlight as call
 use Rattle.model.specs.Families.Container.Calls.{want, after}
 use Rattle.model.proofs.Frame as frame
 use Rattle.laws_container.proofs.Invariant.{family_by}
-use Rattle.laws_container.proofs.Sound.{MayGoOn, kept_is, is_there}
+use Rattle.laws_container.proofs.Sound.{MayGoOn, is_there}
 use Rattle.laws_container.proofs.Standing.{At}
 use Rattle.laws_container.proofs.Terms.{Terms}
 use Rattle.laws_turns.specs.Changes.{Seen, seen_by, CountsChanges, MeetsChanges}
@@ -53,10 +53,10 @@ module _ {T : Type 0} (terms : Terms) (t : Trace T) (s : frame.Sound (family_by 
   now_kept = registries.TheVariants.Container s.state.dead s.state.states
 
   same_words : t.world.words ≡ s.state.words
-  same_words = (kept_is t.world.kept t.world.words s.state s.fit).1
+  same_words = s.fit.words
 
   pub same_kept : t.world.kept ≡ now_kept
-  same_kept = (kept_is t.world.kept t.world.words s.state s.fit).0
+  same_kept = s.fit.kept
 
   -- ---- the other parties
 

@@ -51,8 +51,8 @@ module _ {T : Type 0} where
   seen_by p events =
       fold (seen_after p) (record { changes = 0; begun = 0; least = 0; most = 0 }) events
 
-  -- An update that answers true has met a change: one that ended after the look began that last brought the
-  -- state up to date. Where one answers false, none has ended since that look did.
+  -- The look meant is the party's last that brought its state up to date. An update that answers true has met a
+  -- change that ended after that look began. Where one answers false, no change has ended since that look did.
   abbrev pub MeetsChanges : List (Event T) → Event T → Type 0
   MeetsChanges before (Finished p (Container UpdateState) (Truth true)) =
       (seen_by p before).least < changes_of before

@@ -4,7 +4,7 @@ use Rattle.std.proofs.Common.{◌≡◌, ◌≢◌, ℕ, ◌+◌, ◌^◌, ◌<�
 use Rattle.std.proofs.Common.{length-append, arith, refl, sym, ap, subst, ◌∙◌}
 use Rattle.std.proofs.lemmas.List.Concat.{flat_map-append}
 use Rattle.std.proofs.lemmas.List.Sums.{fold-append}
-use Rattle.laws_value.proofs.Names.{Event, Start, Flight, Registry, AtomicStart, AtomicFlight, Party, Coding, IsCoding}
+use Rattle.laws_value.proofs.Names.{Event, Start, Flight, AtomicStart, AtomicFlight, Party, Coding, IsCoding}
 use Rattle.laws_value.proofs.Names.{Scene}
 use Rattle.model.specs.declared.event.Start as any_starts
 use Rattle.model.specs.declared.families.Flight as flights
@@ -29,9 +29,6 @@ use Rattle.laws_value.proofs.Knows.{number_of, At, KnowsFlight}
 pub record Value : Type 0 where
   pub holder : Option ℕ
   pub core : Core
-
-abbrev pub Represents : {T : Type 0} → Registry T → List ℕ → Value → Type 0
-Represents kept words s = (kept ≡ registries.TheVariants.Atomic s.holder) × (words ≡ layout s.holder s.core)
 
 module _ {T : Type 0} where
   -- what is so of the value and of the events

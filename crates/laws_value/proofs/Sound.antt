@@ -5,7 +5,7 @@ use Rattle.std.proofs.Common.{arith, false, suc, ◌%◌, ◌≤◌, drop, take,
 use Rattle.std.proofs.lemmas.List.{length-replicate, get_or-drop, length-drop}
 use Rattle.std.proofs.Math.Nat.{mul-le-mul_left}
 use Rattle.std.specs.List.{AllByRecursion}
-use Rattle.laws_value.proofs.Names.{cell_word, Ask, Registry, Next, Answer, Event, Start, Atomic, Flight, AtomicStart}
+use Rattle.laws_value.proofs.Names.{cell_word, Ask, Next, Answer, Event, Start, Atomic, Flight, AtomicStart}
 use Rattle.laws_value.proofs.Names.{AtomicFlight, Party, Coding, IsCoding, old_of, ask_of, want, after, scene_of}
 use Rattle.laws_value.proofs.Names.{inv_of}
 use Rattle.model.specs.declared.families.Registry as registries
@@ -31,14 +31,10 @@ use Rattle.laws_queues.proofs.Queues.Runs.{run_sound}
 use Rattle.laws_queues.proofs.Queues.Sound.{IsFreshTurn, IsFreshRun}
 use Rattle.laws_queues.proofs.Queues.Knows.{any_fresh}
 use Rattle.laws_value.proofs.Core.{layout, zeros, Core, Good, same_words}
-use Rattle.laws_value.proofs.Invariant.{Value, Represents, outline, family, holds_more}
+use Rattle.laws_value.proofs.Invariant.{Value, outline, family, holds_more}
 use Rattle.laws_value.proofs.Steps.{step_shows, begin_shows, few_turns, step_moves}
 use Rattle.laws_value.proofs.Knows.{At}
 use Rattle.laws_value.proofs.Stages.{told_after}
-
-pub kept_is : {T : Type 0} → (kept : Registry T) (words : List ℕ) (s : Value) → Represents kept words s
-    → (kept ≡ registries.TheVariants.Atomic s.holder) × (words ≡ layout s.holder s.core)
-kept_is kept words s h = h
 
 -- ---- the value in the words
 
@@ -80,13 +76,14 @@ module _ {T : Type 0} (code : Coding T) (c : ℕ) (t : Trace T) (s : frame.Sound
   value_kept : t.world.coding ≡ code → IsValue t
   value_kept same =
       let w = t.world in
-      let cell : cell_in code.size w.words ≡ s.state.core.now = ap (cell_in code.size) s.fit.1 ∙ cell_is code.size s.state.holder s.state.core s.holds.good in
+      let cell : cell_in code.size w.words ≡ s.state.core.now =
+      ap (cell_in code.size) s.fit.words ∙ cell_is code.size s.state.holder s.state.core s.holds.good in
       record {
         moments = rw same s.holds.legal;
         answers = rw same s.holds.answers;
         cell = rw same (ap code.value_of cell ∙ sym s.holds.stand);
         roles = s.holds.grants;
-        holder = subst (λ kept. KeepsHolder kept t.events) (sym s.fit.0) (sym s.holds.holders);
+        holder = subst (λ kept. KeepsHolder kept t.events) (sym s.fit.kept) (sym s.holds.holders);
       }
 
   writes : (p : ℕ) (x : Party T) (since : ℕ) → t.world.turns < 2 ^ 64 - 2 → (start : Start T) (flight : Flight T)
@@ -103,7 +100,7 @@ module _ {T : Type 0} (code : Coding T) (c : ℕ) (t : Trace T) (s : frame.Sound
       let old = old_of words (ask_of (want z flight)) in
       let outcome : Option (Answer T) = answer_in (after z flight old) in
       let asks : ask_in t.world (Next p) ≡ ask_of (want z flight) = rw here.found refl in
-      let handed : old ≡ old_of t.world.words (ask_in t.world (Next p)) = rw (s.fit.1, asks) refl in
+      let handed : old ≡ old_of t.world.words (ask_in t.world (Next p)) = rw (s.fit.words, asks) refl in
       record {
         effects = [];
         acts = acted p start outcome;

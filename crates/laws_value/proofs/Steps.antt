@@ -49,7 +49,7 @@ found_fresh x0 x1 x2 x3 = grind arith
 
 module _ {T : Type 0} (code : Coding T) (c : ℕ) (t : Trace T) (s : frame.Sound (family code c) t) where
   pub version_is : get_or t.world.words 0 0 ≡ s.state.core.version
-  version_is = ap (λ ws. get_or ws 0 0) s.fit.1
+  version_is = ap (λ ws. get_or ws 0 0) s.fit.words
 
   -- the version counts the stores
   pub version_counts : get_or t.world.words 0 0 ≡ length (stored t.events) + 1

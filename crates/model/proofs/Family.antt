@@ -38,6 +38,11 @@ pub record Scene (T State : Type 0) : Type 0 where
   pub events : List (Event T)
   pub turns : ℕ
 
+-- what is kept and the words are those of a state, which has this registry and this list
+pub record Represents {T : Type 0} (registry : Registry T) (list : List ℕ) (its_registry : Registry T) (its_list : List ℕ) : Type 0 where
+  pub kept : registry ≡ its_registry
+  pub words : list ≡ its_list
+
 -- what a family says of itself, for each coding and each capacity
 pub record Outline (T : Type 0) : Type 1 where
   pub kind : Kind
@@ -64,7 +69,7 @@ module _ {T : Type 0} (K : Outline T) where
         promise = K.promise;
         capacity = c;
         State = K.State;
-        Represents = λ kept words s. (kept ≡ K.kept s) × (words ≡ K.words s);
+        Represents = λ kept words s. Represents kept words (K.kept s) (K.words s);
         Holds = λ s latest events turns. K.Holds code c s latest events turns;
         written = λ s p flight. K.written c s p flight;
         number = λ wrote. K.number code c;

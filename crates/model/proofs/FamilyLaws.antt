@@ -89,7 +89,7 @@ module _ {T : Type 0} (K : Outline T) where
         kind = refl;
         capacity = refl;
         state = opens.state;
-        fit = (opens.kept, opens.words);
+        fit = record { kept = opens.kept; words = opens.words };
         holds = opens.holds;
         inv = record { spans = Each-nil _; calls = λ p. refl; knows = λ p. tt };
       }
@@ -119,7 +119,7 @@ module _ {T : Type 0} (K : Outline T) where
         → Staying scene s' was y es changes'
     pub knows : (scene : Scene T K.State) (s' : K.State) (was : Option (Flight T)) (y : Party T) (es : List (Event T)) (changes' : ℕ)
         → Knowing scene s' was y es changes'
-    -- of a call that begins, and of one that goes on
+    -- what is owed of a call that begins, and of a step of one that goes on
     pub begin : (t : Trace T) (s : Sound (family K code c) t) (p : ℕ) (start : Start T) (flight : Flight T) → MayBegin t.world p start
         → first_of K.kind c start (K.kept s.state) ≡ Some flight → first_row ((begin_of K.kind c start).rows (K.kept s.state) p) ≡ None
         → Begins K (scene_of K code c t s p 0 0 t.world.changes) start flight
@@ -145,7 +145,7 @@ module _ {T : Type 0} (K : Outline T) where
           let scene = scene_of K code c t s p steps backs since in
           record {
             state = s';
-            fit = (refl, refl);
+            fit = record { kept = refl; words = refl };
             holds = A.holds_on scene s' was y es changes' under shows.preserves s.holds;
             owes =
                 frame.owes (family K code c) s.state s' from p y t.world.latest t.events es t.world.changes changes' is s.inv
@@ -189,7 +189,7 @@ module _ {T : Type 0} (K : Outline T) where
           step = λ t s p x since may found start flight rows here.
               step_alone t s p x since start flight here (A.step t s p x since may found start flight here);
           decision = λ t s p x since said may found start flight rows asks here. asks_none _ (A.no_question s.state p start flight here.at) asks;
-          death = frame.no_death (family K code c) (λ kept words state fit. rw fit.0 (A.no_owners state));
+          death = frame.no_death (family K code c) (λ kept words state fit. rw fit.kept (A.no_owners state));
         }
 
   -- what it owes of its promises there
@@ -221,28 +221,28 @@ module _ {T : Type 0} (K : Outline T) where
 
       rows_here : (flight : Flight T) (said : Option Bool) → first_row (going_rows t.world.coding t.world.kept (Some flight) said) ≡ None
           → first_row (going_rows code (K.kept s.state) (Some flight) said) ≡ None
-      rows_here flight said rows = rw (s.coding, s.fit.0) at rows
+      rows_here flight said rows = rw (s.coding, s.fit.kept) at rows
 
       kept_here : (start : Start T) → kept_after_begin t.world.coding t.world.capacity start p t.world.kept ≡ kept_after_begin code c start p (K.kept s.state)
-      kept_here start = rw (s.coding, s.capacity, s.fit.0) refl
+      kept_here start = rw (s.coding, s.capacity, s.fit.kept) refl
 
       begin_comes : {May : Trace T → Turn T → Type 0} → Turns code c May → (start : Start T) (flight : Flight T)
           → MayBegin t.world p start → first_of t.world.kind t.world.capacity start t.world.kept ≡ Some flight
           → Comes F t p (kept_after_begin t.world.coding t.world.capacity start p t.world.kept) t.world.words
           (party_at_begin start flight t.world.changes) (Begun p start ∷ []) t.world.changes
       begin_comes turns start flight may e =
-          let named : first_of K.kind c start (K.kept s.state) ≡ Some flight = rw (s.kind, s.capacity, s.fit.0) at e in
-          let rows : first_row ((begin_of K.kind c start).rows (K.kept s.state) p) ≡ None = rw (s.kind, s.capacity, s.fit.0) at may.rows in
-          comes_at F t p _ _ _ _ _ _ _ (kept_here start) s.fit.1 (turns.begin t s p start flight may named rows)
+          let named : first_of K.kind c start (K.kept s.state) ≡ Some flight = rw (s.kind, s.capacity, s.fit.kept) at e in
+          let rows : first_row ((begin_of K.kind c start).rows (K.kept s.state) p) ≡ None = rw (s.kind, s.capacity, s.fit.kept) at may.rows in
+          comes_at F t p _ _ _ _ _ _ _ (kept_here start) s.fit.words (turns.begin t s p start flight may named rows)
 
     pub laws : (May : Trace T → Turn T → Type 0) → Turns code c May → frame.LawsWhere F May
     laws May turns =
         record {
           step = λ t p x flight since s may passed found doing.
-              comes_from F t s p x since (K.words s.state) (K.kept s.state) flight s.fit.1 s.fit.0
+              comes_from F t s p x since (K.words s.state) (K.kept s.state) flight s.fit.words s.fit.kept
               (turns.step t s p x since may found x.start flight (rows_here t s p flight None passed) (stands_there F t s p x since flight found doing));
           decision = λ t p x flight since said s may passed found doing asks.
-              decides_from F t s p x since said (K.words s.state) (K.kept s.state) flight s.fit.1 s.fit.0
+              decides_from F t s p x since said (K.words s.state) (K.kept s.state) flight s.fit.words s.fit.kept
               (turns.decision t s p x since said may found x.start flight (rows_here t s p flight (Some said) passed) (asks_here t s p flight asks)
               (stands_there F t s p x since flight found doing));
           begin = λ t p start flight s may begins e. begin_comes t s p turns start flight begins e;
@@ -267,14 +267,14 @@ module _ {T : Type 0} (K : Outline T) where
     orders L =
         record {
           step = λ t p x flight since s small found doing.
-              in_order_from t p K.promise t.world.coding (K.words s.state) (K.kept s.state) x.start flight s.fit.1 s.fit.0
+              in_order_from t p K.promise t.world.coding (K.words s.state) (K.kept s.state) x.start flight s.fit.words s.fit.kept
               (in_order t (Next p) p refl x.start _ (L.writes t s p x since small x.start flight (stands_there F t s p x since flight found doing)));
           decision = λ t p x flight since said s small found doing asks.
-              decided_in_order_from t p K.promise said t.world.coding (K.words s.state) (K.kept s.state) x.start flight s.fit.1 s.fit.0
+              decided_in_order_from t p K.promise said t.world.coding (K.words s.state) (K.kept s.state) x.start flight s.fit.words s.fit.kept
               (in_order t (Decide p said) p refl x.start _
               (L.decides t s p x since said x.start flight (asks_here t s p flight asks) (stands_there F t s p x since flight found doing)));
           after = λ t p x flight since answer s found doing.
-              rw s.fit.0
+              rw s.fit.kept
               (L.goes s.state p x.start flight (stands_there F t s p x since flight found doing).at t.world.coding t.world.words
               (beside_of t.world.words (K.kept s.state) t.world.latest p) answer);
           tells = L.tells;

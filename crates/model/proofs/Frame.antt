@@ -215,7 +215,8 @@ module _ {T : Type 0} (F : Family T) where
     pub holds : F.Holds state t.world.latest t.events t.world.turns
     pub inv : Inv state t.world.latest t.events t.world.changes
 
-  -- what a turn comes to that leaves these words, this beside them, and the party so
+  -- A turn after which the machine has `kept`, `words` and `changes`, party `p` is `y`, and `es` follow the events: the family's state
+  -- then, and what holds of it.
   pub record Comes (t : Trace T) (p : ℕ) (kept : Registry T) (words : List ℕ) (y : Party T) (es : List (Event T)) (changes : ℕ) : Type 0 where
     pub state : F.State
     pub fit : F.Represents kept words state

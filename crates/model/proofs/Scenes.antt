@@ -32,7 +32,7 @@ module _ {T : Type 0} where
     abbrev pub step_from : Coding T → List ℕ → Registry T → Start T → Flight T → Step (Flight T) (Registry T) T
     step_from z words kept start flight = answered_from z (old_of words (asked z flight)) words kept start flight
 
-    -- what it writes down is in order
+    -- what the step writes down is in order
     abbrev pub InOrder : Promise T → Coding T → List ℕ → Registry T → Start T → Flight T → Type 0
     InOrder promise z words kept start flight =
         WritesInOrder promise t (Next p) (t.events ++ events_of_step p start (step_from z words kept start flight))
@@ -42,7 +42,7 @@ module _ {T : Type 0} where
         → InOrder promise z t.world.words t.world.kept start flight
     in_order_from x0 x1 x2 x3 x4 x5 x6 x7 x8 = grind arith
 
-    -- and what a decision writes down
+    -- what a decision writes down is in order
     abbrev pub DecidedInOrder : Promise T → Bool → Coding T → List ℕ → Registry T → Start T → Flight T → Type 0
     DecidedInOrder promise said z words kept start flight =
         WritesInOrder promise t (Decide p said) (t.events ++ events_of_step p start (answered_from z (number_of said) words kept start flight))
@@ -53,7 +53,7 @@ module _ {T : Type 0} where
     decided_in_order_from x0 x1 x2 x3 x4 x5 x6 x7 x8 x9 = grind arith
 
   module _ (F : Family T) (t : Trace T) (s : Sound F t) (p : ℕ) (x : Party T) (since : ℕ) where
-    -- a call of this name is under way
+    -- the call `start` of party `p` is under way and stands at `flight`
     pub record StandsThere (start : Start T) (flight : Flight T) : Type 0 where
       pub found : flight_of (doing_of (party_of p t.world.latest)) ≡ Some flight
       pub span : span_of p t.events ≡ Open start (F.written s.state p flight)
@@ -64,7 +64,7 @@ module _ {T : Type 0} where
     pub stands_there : (flight : Flight T) → party_of p t.world.latest ≡ Some x → x.doing ≡ Going flight since → StandsThere x.start flight
     stands_there x0 x1 x2 = grind (arith, under_way, knows_now)
 
-    -- what the step comes to
+    -- what the step of the call `start`, which stands at `flight`, comes to from `words` and `kept`
     abbrev pub ComesFrom : Coding T → List ℕ → Registry T → Start T → Flight T → Type 0
     ComesFrom z words kept start flight =
         Comes F t p (step_from t p z words kept start flight).kept (words_after words (asked z flight))
@@ -78,7 +78,7 @@ module _ {T : Type 0} where
         → ComesByStep F t p x flight since (asked t.world.coding flight) (old_of t.world.words (asked t.world.coding flight))
     comes_from x0 x1 x2 x3 x4 x5 = grind arith
 
-    -- what a decision comes to
+    -- the same of a decision, of which the call is handed `answer`
     abbrev pub DecidesFrom : Coding T → ℕ → List ℕ → Registry T → Start T → Flight T → Type 0
     DecidesFrom z answer words kept start flight =
         Comes F t p (answered_from t p z answer words kept start flight).kept (words_after words None)

@@ -1,4 +1,4 @@
--- The families of calls: one line a family, which passes on to what stands in its own room.
+-- The families of calls: one line a family, which passes on to what stands in the family's own folder.
 use Rattle.std.specs.Prelude.{ℕ, Bool, true, false, not, Option, Some, None, is_none, List, [], ◌∷◌, nat_le}
 use Rattle.steps.specs.declared.ask.After.{After}
 use Rattle.steps.specs.declared.ask.After.TheVariants.{GoOn}

@@ -43,8 +43,8 @@ pub enum Start<T> {
     Loan(LoanStart),
 }
 
-// `clone` by hand, here and below, and no `Debug`: a derive goes through every field of every case, and the proof of
-// that takes a minute.
+// `clone` is by hand, here and below, and there is no `Debug`. A derive goes through every field of every case, and the
+// proof of that takes a minute.
 impl<T: Copy> Clone for Start<T> {
     ghost is_clone = { λ x y. y ≡ x };
 

@@ -35,7 +35,7 @@ pub enum Flight<T> {
     Loan(LoanFlight),
 }
 
-// A drop by hand, here and in `party`, is one call in the proof of whoever has a machine; one that is derived is proved
+// A drop by hand, here and in `party`, is one call in the proof of whoever has a machine. One that is derived is proved
 // again in each crate above, down to the last call.
 impl<T: Drop> Drop for Flight<T> {
     fn drop(self) {

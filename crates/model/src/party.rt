@@ -19,9 +19,9 @@ pub struct Progress {
 
 /// Where a party's latest call stands.
 pub enum Doing<T> {
-    /// It goes on. So many changes of words were made before it began, or by itself.
+    /// It goes on. The number is how many changes of words were made before it began, or by itself.
     Going(Flight<T>, u64),
-    /// It is done. So many changes were made by others while it was under way.
+    /// It is done. The number is how many changes others made while it was under way.
     Over(u64),
 }
 
@@ -53,7 +53,7 @@ impl<T: Drop> Drop for Party<T> {
     }
 }
 
-/// A party in memory of its own: a map of parties keeps, and moves, only where each is.
+/// A party in memory of its own: a map of parties keeps, and moves, only where each is. No seat at a table is meant.
 pub struct Seat<T> {
     pub party: Box<Party<T>>,
 }

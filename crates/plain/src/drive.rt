@@ -134,7 +134,7 @@ fn drive_words_to_stop<C: Routine>(
     ensures alone { StopsAlike C.want_of C.after C.kept given.now call room.old words.old
         result room.new words.new }
 {
-    // The first steps stand by themselves, so that a compiler sees at each of them at which stage the call is.
+    // The first steps stand by themselves, so that a compiler sees at each of them the call's stage.
     let mut call = match four_steps(words, call, given, room) {
         After::GoOn(next) => next,
         After::Done(stop) => return stop,

@@ -27,14 +27,19 @@ pub trait Routine: Copy {
     /// What the call answers in the end.
     type Answer;
 
+    /// What the call asks for next, which `ask` returns.
     ghost want_of: { Self → Self.Given → Want (Unit {0}) };
 
+    /// The call after the answer to what it asked for, or its end, which `take` returns.
     ghost after: { Self → Self.Given → ℕ → After Self Self.End };
 
+    /// The room after that answer, as `take` leaves it.
     ghost kept: { Self → Self.Room → ℕ → Self.Room };
 
+    /// The value that `value` returns.
     ghost value_of: { Self.Given → Self.Room → Self.Value };
 
+    /// The answer that `answer` returns.
     ghost answer_of: { Self.End → Self.Given → Self.Room → Self.Answer };
 
     /// What the call wants next. It takes no step. A question about a value names
@@ -56,6 +61,7 @@ pub trait Routine: Copy {
     fn answer(end: Self::End, given: &Self::Given, room: &Self::Room) -> Self::Answer
         ensures { result ≡ answer_of end given.now room.now };
 
+    /// What a store answers changes nothing: neither how the call goes on nor its room.
     ghost store_tells_nothing: { (c : Self) (given : Self.Given) (room : Self.Room) (m n : ℕ)
         → IsTrue (is_store (want_of c given))
         → (after c given m ≡ after c given n) × (kept c room m ≡ kept c room n) };

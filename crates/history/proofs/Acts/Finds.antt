@@ -154,7 +154,7 @@ module _ {T : Type 0} where
         let s = bits_sound in
         let there = stands_there (family bits.bit_set t.world.coding t.world.capacity) t s p x since flight (is ∙ found) d in
         sided_more p x.start (answer_in (step_in t.world p x flight old).after) (step_in t.world p x flight old).wrote
-        (step_sided t t.world.capacity p old (wrote_in (span_of p s.state.events)) t.world.kept x.start flight s.fit.0 there.at)
+        (step_sided t t.world.capacity p old (wrote_in (span_of p s.state.events)) t.world.kept x.start flight s.fit.kept there.at)
 
     next_one : (p : ℕ) (o : Option (Party T)) → party_of p t.world.latest ≡ o → OneSided (events_of_next t.world p o)
     next_one p None e = inl (λ b. refl)
@@ -225,7 +225,7 @@ module _ {T : Type 0} where
         go false z =
             let s = counts_sound in
             let some : 1 ≤ old = grind (arith, nat_tests) in
-            let same : old ≡ get_or s.state.words word 0 = is some ∙ ap (λ ws. get_or ws word 0) s.fit.1 in
+            let same : old ≡ get_or s.state.words word 0 = is some ∙ ap (λ ws. get_or ws word 0) s.fit.words in
             let low : get_or s.state.words word 0 < 2 ^ 64 = s.holds.0.low word in
             let whole = s.holds.0.conserved word in
             let all : counts word t.events ≡ takes word t.events + old + 2 ^ 64 * whole.0 = rw same whole.1 in
@@ -253,7 +253,7 @@ module _ {T : Type 0} where
         let s = counts_sound in
         let there = stands_there (family counting.counting_set t.world.coding t.world.capacity) t s p x since flight found d in
         count_step t.world.capacity p old (wrote_in (span_of p s.state.events)) t.world.kept x.start flight
-        (answer_in (step_in t.world p x flight old).after) s.fit.0 there.at (hears flight since refl)
+        (answer_in (step_in t.world p x flight old).after) s.fit.kept there.at (hears flight since refl)
 
     next_counts : (p : ℕ) (o : Option (Party T)) → party_of p t.world.latest ≡ o → AreRight CountFinds t.events (events_of_next t.world p o)
     next_counts x0 x1 x2 = grind (arith, counts_go, hears_next)

@@ -60,4 +60,4 @@ module _ {T : Type 0} where
   pub bits_go_on : (t : Trace T) → t.world.kind ≡ kinds.TheVariants.Bits → IsReachedOn t → IsBitSet t
   bits_go_on t is r =
       let s = sound_on bit_set laws t is r in
-      bits_kept t.world.capacity t refl (subst (λ ws. Holds t.world.capacity ws t.events) (sym s.fit.1) s.holds.0)
+      bits_kept t.world.capacity t refl (subst (λ ws. Holds t.world.capacity ws t.events) (sym s.fit.words) s.holds.0)

@@ -41,4 +41,4 @@ module _ {T : Type 0} where
   pub counts_go_on : (t : Trace T) → t.world.kind ≡ kinds.TheVariants.Counts → IsReachedOn t → IsCountingOn t
   counts_go_on t is r =
       let s = sound_on counting_set laws t is r in
-      counts_on t.world.capacity t refl (subst (λ ws. Holds t.world.capacity ws t.events t.world.turns) (sym s.fit.1) s.holds.0)
+      counts_on t.world.capacity t refl (subst (λ ws. Holds t.world.capacity ws t.events t.world.turns) (sym s.fit.words) s.holds.0)

@@ -31,7 +31,7 @@ pub record Queue (V : Type 0) : Type 0 where
   pub core : Core V
 
 abbrev pub Represents : {T V : Type 0} → Registry T → List ℕ → Queue V → Type 0
-Represents kept words s = (kept ≡ registries.TheVariants.Queues s.roles) × (words ≡ layout s.roles s.core)
+Represents kept words s = families.Represents kept words (registries.TheVariants.Queues s.roles) (layout s.roles s.core)
 
 abbrev number : {T : Type 0} → Coding T → Flight T → ℕ → ℕ
 number en (flights.TheVariants.Queues flight) backs = number_of en flight backs

@@ -276,7 +276,7 @@ module _ {T : Type 0} (en : Coding T) (law : IsCoding en) (kd : QueueKind) (c : 
       let reached = s.holds.reached in
       let good = s.holds.good.write in
       let place : Positions kd t (Next p) p refl (λ q his. his) s.state.core.write s.state.core.read =
-      record { rest = _; words = s.fit.1; few = omega arith; low = omega arith } in
+      record { rest = _; words = s.fit.words; few = omega arith; low = omega arith } in
       record {
         effects = did p effect;
         acts = acts_of p start effect outcome;

@@ -6,7 +6,7 @@ use Rattle.laws_queues.proofs.Names.{map, slice_get, take, drop, refl, sym, ap, 
 use Rattle.laws_queues.proofs.Names.{length-map, take-map, Item, Index, Value, Roles, QueueKind, IndexQueue, Coding}
 use Rattle.laws_queues.proofs.Names.{IsCoding, item_at, cell_of, stored, waiting_in, cells_of, IsQueue, promise}
 use Rattle.laws_queues.proofs.Names.{KeepsHolders, published, handed_out, Trace, ◌^◌, Option, None, replicate}
-use Rattle.laws_queues.proofs.Names.{length-replicate, take-nil, Start, Flight, Registry, opening_of, goes_of, step_of}
+use Rattle.laws_queues.proofs.Names.{length-replicate, take-nil, Start, Flight, opening_of, goes_of, step_of}
 use Rattle.laws_queues.proofs.Names.{list_of, words_of_cell, IsKept, Turn, Next, opening, capacity_error, Each-nil}
 use native.Mathlib.Nat.{mul-le-mul_left}
 use Rattle.std.proofs.Common.{arith}
@@ -29,10 +29,6 @@ use Rattle.laws_queues.proofs.Queues.Justified.{writes}
 use Rattle.laws_queues.proofs.Queues.Pending.{none_hangs}
 use Rattle.laws_queues.proofs.Queues.Runs.{run_sound}
 use Rattle.laws_queues.proofs.Queues.Steps.{comes, begin_comes, no_question, few_turns}
-
-pub kept_is : {T V : Type 0} → (kept : Registry T) (words : List ℕ) (s : Queue V) → Represents kept words s
-    → (kept ≡ registries.TheVariants.Queues s.roles) × (words ≡ layout s.roles s.core)
-kept_is kept words s h = h
 
 cell_size : {T : Type 0} → (en : Coding T) (kd : QueueKind) → words_of_cell en.size kd ≡ (encoded en kd).size
 cell_size en IndexQueue = refl
@@ -132,11 +128,11 @@ module _ {T : Type 0} (en : Coding T) where
       let w = t.world in
       let k = s.state.core in
       let good = s.holds.good in
-      let rest : waiting_in en kd c w.words ≡ map (item kd) k.waiting = ap (waiting_in en kd c) s.fit.1 ∙ stored_waiting law kd c s.state.roles k good in
+      let rest : waiting_in en kd c w.words ≡ map (item kd) k.waiting = ap (waiting_in en kd c) s.fit.words ∙ stored_waiting law kd c s.state.roles k good in
       let long : length (map {B = Item T} (item kd) k.waiting) ≡ length k.waiting = length-map k.waiting (item {T = T} kd) in
       let few = good.few in
-      let read : get_or w.words 1 0 ≡ k.read = ap (λ ws. get_or ws 1 0) s.fit.1 in
-      let write : get_or w.words 0 0 ≡ k.write = ap (λ ws. get_or ws 0 0) s.fit.1 in
+      let read : get_or w.words 1 0 ≡ k.read = ap (λ ws. get_or ws 1 0) s.fit.words in
+      let write : get_or w.words 0 0 ≡ k.write = ap (λ ws. get_or ws 0 0) s.fit.words in
       let ahead = good.write in
       let joined : length (published t.events) ≡ length (handed_out t.events) + length k.waiting =
       ap length s.holds.book ∙ (length-append (handed_out t.events) (map (item kd) k.waiting) ∙ ap (λ n. length (handed_out t.events) + n) long)
@@ -157,7 +153,7 @@ module _ {T : Type 0} (en : Coding T) where
         answers = rw same_capacity s.holds.answers;
         lengths = rw same_capacity s.holds.lengths;
         roles = s.holds.grants;
-        holders = subst (λ kept. KeepsHolders kept t.events) (sym s.fit.0) (sym s.holds.producers, sym s.holds.consumers);
+        holders = subst (λ kept. KeepsHolders kept t.events) (sym s.fit.kept) (sym s.holds.producers, sym s.holds.consumers);
       }
 
 promise_is : {T : Type 0} (kd : QueueKind) → promise_of {T = T} (machine_kind kd) ≡ promise kd
@@ -190,8 +186,8 @@ module _ {T : Type 0} (en : Coding T) (law : IsCoding en) where
       let is = opening_fits en kd c in
       record {
         state = empty_queue en kd c;
-        kept = is.0;
-        words = is.1;
+        kept = is.kept;
+        words = is.words;
         holds =
             record {
               fits = fits;
@@ -236,7 +232,7 @@ module _ {T : Type 0} (en : Coding T) (law : IsCoding en) where
         step = λ t s p x since fresh found start flight rows here. comes en law kd c t s p x since fresh start flight here;
         decision = λ t s p x since said may found start flight rows asks here.
             laws.asks_none _ (no_question en kd c s.state p start flight here.at) asks;
-        death = frame.no_death (family en kd c) (λ kept words state fit. rw fit.0 refl);
+        death = frame.no_death (family en kd c) (λ kept words state fit. rw fit.kept refl);
       }
 
   owed : (kd : QueueKind) (c : ℕ) → Owed (outline kd) en c

@@ -200,7 +200,7 @@ some_mapped x0 x1 x2 = grind arith
 
 module _ {T : Type 0} (en : Coding T) (kd : QueueKind) (c : ℕ) (t : Trace T) (s : frame.Sound (family en kd c) t) where
   pub write_is : get_or t.world.words 0 0 ≡ s.state.core.write
-  write_is = ap (λ ws. get_or ws 0 0) s.fit.1
+  write_is = ap (λ ws. get_or ws 0 0) s.fit.words
 
   -- few turns are few positions
   pub few_turns : t.world.turns < 2 ^ 64 - 2 → (p : ℕ) → IsFreshTurn t (Next p)
@@ -241,7 +241,7 @@ module _ {T : Type 0} (en : Coding T) (law : IsCoding en) (kd : QueueKind) (c : 
         (here.found, here.span) in
         record {
           state = record { roles = _; core = moves.0 };
-          fit = (refl, moves.1);
+          fit = record { kept = refl; words = moves.1 };
           holds = holds_more en kd (scene_of x since) _ moves.0 _ _ _ s.holds moves.2;
           owes = moves.3;
         }
@@ -288,7 +288,7 @@ module _ {T : Type 0} (en : Coding T) (law : IsCoding en) (kd : QueueKind) (c : 
       in
       record {
         state = s.state;
-        fit = (refl, refl);
+        fit = record { kept = refl; words = refl };
         holds = holds_more en kd scene _ _ _ _ _ s.holds (queue_part en kd scene _ _ _ _ _ _ shows);
         owes = owes en kd scene _ _ _ _ _ _ shows refl (inv_of y t.world.changes);
       }

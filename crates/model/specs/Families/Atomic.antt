@@ -1,4 +1,4 @@
--- The room of the single value: its calls, its words at the opening, what
+-- The family of the single value: its calls, its words at the opening, what
 -- their steps write down, and what they promise.
 pub mod Bounds
 pub mod Calls

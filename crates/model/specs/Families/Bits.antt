@@ -1,4 +1,4 @@
--- The room of the bit sets and of the counting bit sets: their calls, their words at the
+-- The family of the bit sets and of the counting bit sets: their calls, their words at the
 -- opening, what their steps write down, and what they promise.
 pub mod Bounds
 pub mod Calls

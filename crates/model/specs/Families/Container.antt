@@ -1,4 +1,4 @@
--- The room of the container: its calls, its words at the opening, the states of its parties, what
+-- The family of the container: its calls, its words at the opening, the states of its parties, what
 -- its steps write down, and what it promises.
 pub mod Bounds
 pub mod Calls

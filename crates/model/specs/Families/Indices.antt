@@ -1,4 +1,4 @@
--- The room of the unique index set: its calls, its words at the opening, what their steps write
+-- The family of the unique index set: its calls, its words at the opening, what their steps write
 -- down, and what they promise.
 pub mod Bounds
 pub mod Calls

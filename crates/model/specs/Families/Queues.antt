@@ -1,4 +1,4 @@
--- The room of the queues: their calls, their words at the opening, what
+-- The family of the queues: their calls, their words at the opening, what
 -- their steps write down, and what they promise.
 pub mod Book
 pub mod Bounds

@@ -1,4 +1,4 @@
--- What the structure of each kind promises: one line a kind, which passes on to the room of its family.
+-- What the structure of each kind promises: one line a kind, which passes on to the files of its family.
 use Rattle.model.specs.declared.families.queues.QueueKind as queue_kinds
 use Rattle.model.specs.declared.turn.Kind.{Kind}
 use Rattle.model.specs.declared.turn.Kind.TheVariants.{IndexQueue, Overflow, Queue, Atomic, Bits, Counts, Indices, Robust, Container, Loan}

@@ -128,10 +128,12 @@ module _ {T : Type 0} where
   IsEffectOf turn (Died o) = ⊥
   IsEffectOf turn e = IfSome (whose e) (IsParty turn)
 
+  -- at this event a call takes effect
   abbrev pub IsAct : Event T → Type 0
   IsAct (Acted p start answer) = Unit {0}
   IsAct e = ⊥
 
+  -- with this event the call of the turn's party ends
   abbrev pub IsEndOf : Turn T → Event T → Type 0
   IsEndOf turn (Finished p start answer) = IsParty turn p
   IsEndOf turn e = ⊥

@@ -1,5 +1,5 @@
 //! The unique index set, which hands indices out and takes them back: its calls by name, and what stands in the files
-//! beside this one. The robust index set, whose indices have owners, has a room of its own within.
+//! beside this one. The robust index set, whose indices have owners, has files of its own within.
 pub mod calls;
 pub mod holders;
 pub mod robust;

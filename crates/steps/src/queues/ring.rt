@@ -33,7 +33,7 @@ pub fn cell_word(capacity: u32, words: u8, position: u64) -> usize
     if capacity == 0 {
         FIRST_CELL
     } else if capacity & (capacity - 1) == 0 {
-        // A power of two is divided by with a mask, which takes a small part of a division's time.
+        // Where the capacity is a power of two a mask gives the same, in a small part of a division's time.
         FIRST_CELL + words as usize * (position & (capacity - 1) as u64) as usize
     } else {
         FIRST_CELL + words as usize * (position % capacity as u64) as usize

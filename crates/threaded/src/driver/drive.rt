@@ -176,7 +176,7 @@ impl<V, K, Q: Rule<V, K>> Seated<V, K, Q> {
         ensures capacity { Q.capacity_seen (seen self.new) ≡ Q.capacity_seen (seen self.old) }
         ensures end { D.ends given.now (seen self.old) result room.new (seen self.new) }
     {
-        // The first steps stand by themselves, so that a compiler sees at each of them at which stage the call is.
+        // The first steps stand by themselves, so that a compiler sees at each of them the call's stage.
         let call = match self.once::<Brand, C, D>(call, given, room) {
             After::GoOn(next) => next,
             After::Done(end) => return end,

@@ -1,4 +1,4 @@
--- The room of the robust index set: its calls, its words at the opening, who has died, what its
+-- The family of the robust index set: its calls, its words at the opening, who has died, what its
 -- steps write down, and what it promises.
 pub mod Bounds
 pub mod Calls

@@ -1,6 +1,6 @@
 use Rattle.plain.proofs.Robust.Finding.{Searching}
-use Rattle.plain.proofs.robust_unique_index_set.find.Given as goal
+use Rattle.plain.proofs.robust_unique_index_set.find.Given as given
 
-abbrev pub invariant-loop : goal.invariant-loop
+abbrev pub invariant-loop : given.invariant-loop
 invariant-loop g l =
-    Searching (λ p x a q. goal.F-step g p x a q) l.fn.visit l.fn.capacity l.fn.owner l.fn.words.items l.counter l.call l.visit l.words.items
+    Searching (λ p x a q. given.F-step g p x a q) l.fn.visit l.fn.capacity l.fn.owner l.fn.words.items l.counter l.call l.visit l.words.items

@@ -1,7 +1,7 @@
 use Rattle.plain.proofs.Robust.Recovering.{Recovering}
-use Rattle.plain.proofs.robust_unique_index_set.recover.Given as goal
+use Rattle.plain.proofs.robust_unique_index_set.recover.Given as given
 
-abbrev pub invariant-loop : goal.invariant-loop
+abbrev pub invariant-loop : given.invariant-loop
 invariant-loop g l =
-    Recovering (λ p o i b q. goal.F-step g p o i b q) (λ s o i t. goal.S-step g s o i tt t) l.fn.mode l.fn.predicate
+    Recovering (λ p o i b q. given.F-step g p o i b q) (λ s o i t. given.S-step g s o i tt t) l.fn.mode l.fn.predicate
     l.fn.recovered l.fn.capacity l.fn.words.items l.counter l.call l.predicate l.recovered l.words.items

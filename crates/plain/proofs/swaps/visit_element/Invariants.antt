@@ -1,6 +1,6 @@
 use Rattle.plain.proofs.Places.Empties.{Visiting}
-use Rattle.plain.proofs.swaps.visit_element.Given as goal
+use Rattle.plain.proofs.swaps.visit_element.Given as given
 
-abbrev pub invariant-loop-place : goal.invariant-loop-place
+abbrev pub invariant-loop-place : given.invariant-loop-place
 invariant-loop-place g l =
-    Visiting (goal.F-pre g) (goal.F-step g) l.found l.end l.first l.fn.visit l.place l.left l.visit
+    Visiting (given.F-pre g) (given.F-step g) l.found l.end l.first l.fn.visit l.place l.left l.visit

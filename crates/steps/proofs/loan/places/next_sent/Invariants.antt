@@ -1,7 +1,7 @@
 use Rattle.std.proofs.Common.{◌≡◌}
 use Rattle.steps.specs.Loan.Places.{next_sent}
-use Rattle.steps.proofs.loan.places.next_sent.Given as goal
+use Rattle.steps.proofs.loan.places.next_sent.Given as given
 
-abbrev pub invariant-slots : goal.invariant-slots
+abbrev pub invariant-slots : given.invariant-slots
 invariant-slots l =
     next_sent l.fn.places.items l.slots l.fn.from ≡ next_sent l.places.items l.slots l.index

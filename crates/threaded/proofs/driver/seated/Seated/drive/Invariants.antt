@@ -1,17 +1,17 @@
 use Rattle.std.proofs.Common.{◌≡◌}
 use Rattle.threaded.specs.Driver.{Told}
 use Rattle.threaded.specs.Seats.{seen, IsSame}
-use Rattle.threaded.proofs.driver.seated.Seated.drive.Given as goal
+use Rattle.threaded.proofs.driver.seated.Seated.drive.Given as given
 
-abbrev pub invariant-loop-next : goal.invariant-loop-next
+abbrev pub invariant-loop-next : given.invariant-loop-next
 invariant-loop-next g l =
     IsSame l.fn.self l.self × (g.Q.Rule.capacity_seen (seen l.self) ≡ g.Q.Rule.capacity_seen (seen l.fn.self))
     × g.D.Drives.at l.fn.given (seen l.fn.self) (seen l.self) l.call l.room
 
-abbrev pub decreases-loop-next : goal.decreases-loop-next
+abbrev pub decreases-loop-next : given.decreases-loop-next
 decreases-loop-next g l = g.C.Ends.left l.call
 
-abbrev pub ghosts-once : goal.ghosts-once
+abbrev pub ghosts-once : given.ghosts-once
 ghosts-once g a =
     record {
       told =

@@ -1,19 +1,19 @@
 use Rattle.std.proofs.Common.{◌≡◌}
 use Rattle.threaded.specs.Driver.{Told}
 use Rattle.threaded.specs.Seats.{seen, IsSame}
-use Rattle.threaded.proofs.driver.seated.Seated.drive_on.Given as goal
+use Rattle.threaded.proofs.driver.seated.Seated.drive_on.Given as given
 
-abbrev pub invariant-steps : goal.invariant-steps
+abbrev pub invariant-steps : given.invariant-steps
 invariant-steps g l =
     IsSame l.fn.self l.self × (g.Q.Rule.capacity_seen (seen l.self) ≡ g.Q.Rule.capacity_seen (seen l.fn.self))
     × g.D.Drives.at l.fn.given (seen l.fn.self) (seen l.self) l.call l.room
 
-abbrev pub invariant-alike : goal.invariant-alike
+abbrev pub invariant-alike : given.invariant-alike
 invariant-alike g l =
     IsSame l.fn.self l.self × (g.Q.Rule.capacity_seen (seen l.self) ≡ g.Q.Rule.capacity_seen (seen l.fn.self))
     × g.D.Drives.at l.fn.given (seen l.fn.self) (seen l.self) l.call l.room
 
-abbrev pub ghosts-once : goal.ghosts-once
+abbrev pub ghosts-once : given.ghosts-once
 ghosts-once g a =
     record {
       told =

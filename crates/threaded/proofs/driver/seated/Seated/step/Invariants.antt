@@ -1,7 +1,7 @@
 use Rattle.threaded.specs.Driver.{Told}
-use Rattle.threaded.proofs.driver.seated.Seated.step.Given as goal
+use Rattle.threaded.proofs.driver.seated.Seated.step.Given as given
 
-abbrev pub ghosts-once : goal.ghosts-once
+abbrev pub ghosts-once : given.ghosts-once
 ghosts-once g a =
     record {
       told =
