@@ -3,33 +3,33 @@ use Rattle.std.proofs.Common.{◌≡◌, ℕ, zero, suc, ◌+◌, Bool, true, fa
 use Rattle.std.proofs.Common.{refl, sym, ap, subst, ◌∙◌, append_assoc, append-nil, arith}
 use Rattle.std.proofs.lemmas.List.Concat.{flat_map-append}
 use Rattle.std.specs.List.{flat_map}
-use Rattle.steps.specs.Words.{words_of_u128, value_of_u128, given_back_u128}
+use Rattle.steps.specs.Words.{given_back_u128}
 use Rattle.steps.specs.declared.enums.UniqueIndexCreationError.{UniqueIndexCreationError}
 use Rattle.steps.specs.declared.enums.UniqueIndexCreationError.TheVariants as creation
 use Rattle.model.specs.declared.event.Event.{Event}
 use Rattle.model.specs.declared.turn.Kind.{Kind}
-use Rattle.model.specs.declared.turn.Kind.TheVariants as kinds
 use Rattle.model.specs.declared.turn.Refusal.{Refusal}
 use Rattle.model.specs.declared.turn.Refusal.TheVariants.{NoMemory}
 use Rattle.model.specs.declared.turn.Turn.{Turn}
 use Rattle.model.specs.declared.turn.Turn.TheVariants.{Next}
 use Rattle.model.specs.Coding.{IsCoding}
-use Rattle.model.specs.Families.Loan.Opening.{is_loan}
 use Rattle.model.specs.Refusals.{refusal_of}
 use Rattle.model.specs.Turns.{IsReached, world_after, events_of}
-use Rattle.model.specs.World.{World, Trace, opening, loan_opening, capacity_error, loan_error}
+use Rattle.model.specs.World.{World, Trace, capacity_error, loan_error}
 use Rattle.model.proofs.Reached.{SameMaking, turn_making, reached_more, reached_opening, reached_loan}
 use Rattle.texts.specs.declared.error.Cause.{Cause}
 use Rattle.texts.specs.declared.grammar.Command.{Command}
 use Rattle.texts.specs.declared.grammar.Command.TheVariants.{Once, Times}
 use Rattle.texts.specs.declared.grammar.Setup.{Setup}
-use Rattle.texts.specs.Grammar.{◌>>=◌, setup_of, command_of}
+use Rattle.texts.specs.declared.grammar.Shape.{Shape}
+use Rattle.texts.specs.declared.grammar.Shape.TheVariants as shapes
+use Rattle.texts.specs.Grammar.{◌>>=◌, kind_in, capacity_in, setup_of, command_of}
 use Rattle.texts.specs.Print.{refusal_text}
 use Rattle.texts.specs.Text.{lines, words}
 use Rattle.schedule.specs.Output.{two_words, outcome, outcome_as, has_memory, refusal_where, Outcome, State, is_short, later}
 use Rattle.schedule.specs.Output.{Printed, after_text, printed as printed_now, next_outcome, goes_on, nexts}
 use Rattle.schedule.specs.Output.{commanded, Output, stopped, ran_out, line_then, lines_from, capacity_cause, admitted}
-use Rattle.schedule.specs.Output.{setup_error, machine_of, trace_of, opened, output_of_lines, output}
+use Rattle.schedule.specs.Output.{shape_error, setup_error, machine_of, trace_of, opened, output_of_lines, output}
 use Rattle.headline_program.specs.Printing.{Line, Wrote, Refused, text_of, events_in, IsOfMachine}
 
 -- ---- what is printed as a world becomes another, behind these events
@@ -200,62 +200,26 @@ no_memory_of true b e = cc
 no_memory_of false true e = cc
 no_memory_of false false e = cc
 
-opens : (setup : Setup) (b : Bool) → is_loan setup.kind ≡ b
-    → capacity_cause (if b then loan_error setup.capacity setup.queue else capacity_error setup.kind setup.capacity) ≡ None
-    → IsReached (if b then loan_opening two_words setup.capacity setup.queue setup.parties
-    else opening two_words setup.kind setup.capacity setup.parties)
-opens setup true loan e =
-    reached_loan two_words setup.capacity setup.queue setup.parties coded
-    (no_cause (loan_error setup.capacity setup.queue) (no_memory_of _ _) e)
-opens setup false loan e =
-    reached_opening two_words setup.kind setup.capacity setup.parties coded
-    (no_cause (capacity_error setup.kind setup.capacity) (no_memory_of _ _) e)
-
 pub record Made (setup : Setup) : Type 0 where
   pub reached : IsReached (machine_in (trace_of setup).world [])
-  pub kind : (trace_of setup).world.kind ≡ setup.kind
-  pub capacity : (trace_of setup).world.capacity ≡ setup.capacity
+  pub kind : (trace_of setup).world.kind ≡ kind_in setup.shape
+  pub capacity : (trace_of setup).world.capacity ≡ capacity_in setup.shape
   pub parties : (trace_of setup).world.parties ≡ setup.parties
 
-abbrev opening_if : Setup → Bool → Trace ℕ
-opening_if setup b =
-    if b then loan_opening two_words setup.capacity setup.queue setup.parties else opening two_words setup.kind setup.capacity setup.parties
-
-abbrev error_if : Setup → Bool → Option UniqueIndexCreationError
-error_if setup b = if b then loan_error setup.capacity setup.queue else capacity_error setup.kind setup.capacity
-
-loan_kind : (kind : Kind) → is_loan kind ≡ true → kind ≡ kinds.Loan
-loan_kind kinds.Loan t = refl
-loan_kind kinds.IndexQueue t = absurd (cc)
-loan_kind kinds.Overflow t = absurd (cc)
-loan_kind kinds.Queue t = absurd (cc)
-loan_kind kinds.Atomic t = absurd (cc)
-loan_kind kinds.Bits t = absurd (cc)
-loan_kind kinds.Counts t = absurd (cc)
-loan_kind kinds.Indices t = absurd (cc)
-loan_kind kinds.Robust t = absurd (cc)
-loan_kind kinds.Container t = absurd (cc)
-
-made : (setup : Setup) (b : Bool) → is_loan setup.kind ≡ b → capacity_cause (setup_error setup) ≡ None → Made setup
-made setup true loan e =
-    let here : trace_of setup ≡ loan_opening two_words setup.capacity setup.queue setup.parties = ap (opening_if setup) loan in
-    let error : setup_error setup ≡ loan_error setup.capacity setup.queue = ap (error_if setup) loan in
+made : (parties : ℕ) (shape : Shape) → capacity_cause (shape_error shape) ≡ None → Made (record { shape = shape; parties = parties })
+made parties (shapes.Of kind capacity) e =
     record {
-      reached = subst (λ (t : Trace ℕ). IsReached (machine_in t.world [])) (sym here)
-          (opens setup true loan (ap capacity_cause (sym error) ∙ e));
-      kind = ap (λ (t : Trace ℕ). t.world.kind) here ∙ sym (loan_kind setup.kind loan);
-      capacity = ap (λ (t : Trace ℕ). t.world.capacity) here;
-      parties = ap (λ (t : Trace ℕ). t.world.parties) here;
+      reached = reached_opening two_words kind capacity parties coded (no_cause (capacity_error kind capacity) (no_memory_of _ _) e);
+      kind = refl;
+      capacity = refl;
+      parties = refl;
     }
-made setup false loan e =
-    let here : trace_of setup ≡ opening two_words setup.kind setup.capacity setup.parties = ap (opening_if setup) loan in
-    let error : setup_error setup ≡ capacity_error setup.kind setup.capacity = ap (error_if setup) loan in
+made parties (shapes.Loan slots queue) e =
     record {
-      reached = subst (λ (t : Trace ℕ). IsReached (machine_in t.world [])) (sym here)
-          (opens setup false loan (ap capacity_cause (sym error) ∙ e));
-      kind = ap (λ (t : Trace ℕ). t.world.kind) here;
-      capacity = ap (λ (t : Trace ℕ). t.world.capacity) here;
-      parties = ap (λ (t : Trace ℕ). t.world.parties) here;
+      reached = reached_loan two_words slots queue parties coded (no_cause (loan_error slots queue) (no_memory_of _ _) e);
+      kind = refl;
+      capacity = refl;
+      parties = refl;
     }
 
 after_setup : (read : Result Setup Cause) (setup : Setup)
@@ -266,7 +230,7 @@ after_setup (Ok s) setup e = go (capacity_cause (setup_error s)) refl e
     go : (c : Option Cause) → capacity_cause (setup_error s) ≡ c → admitted s c ≡ Ok setup → Made setup
     go None none is =
         let same : s ≡ setup = cc in
-        subst Made same (made s (is_loan s.kind) refl none)
+        subst Made same (made s.parties s.shape none)
     go (Some cause) some is = absurd (cc)
 
 reads : (first : List ℕ) (setup : Setup) → machine_of (words first) ≡ Ok setup → Made setup
@@ -275,10 +239,10 @@ reads first setup e = after_setup (setup_of (words first)) setup e
 
 abbrev first_as : List (List ℕ) → List Bool → Result Setup Cause → Output
 first_as rest memory read =
-    elim read [ Err cause ↦ stopped 1 cause | Ok setup ↦ lines_from setup.kind 2 rest (opened setup memory) ]
+    elim read [ Err cause ↦ stopped 1 cause | Ok setup ↦ lines_from (kind_in setup.shape) 2 rest (opened setup memory) ]
 
 prints_of : (memory : List Bool) (first : List ℕ) (rest : List (List ℕ)) (setup : Setup) → machine_of (words first) ≡ Ok setup
-    → output_of_lines memory (first ∷ rest) ≡ lines_from setup.kind 2 rest (opened setup memory)
+    → output_of_lines memory (first ∷ rest) ≡ lines_from (kind_in setup.shape) 2 rest (opened setup memory)
 unfolding output_of_lines
 prints_of memory first rest setup e = ap (first_as rest memory) e
 
@@ -286,7 +250,7 @@ printed : (memory : List Bool) (first : List ℕ) (rest : List (List ℕ)) (setu
     → IsOfMachine setup (output_of_lines memory (first ∷ rest)).text
 printed memory first rest setup e =
     let m = reads first setup e in
-    let ends = line_by_line setup.kind 2 rest (opened setup memory) [] m.reached in
+    let ends = line_by_line (kind_in setup.shape) 2 rest (opened setup memory) [] m.reached in
     record {
       trace = machine_in ends.new (flat_map events_in ends.prints.lines);
       reached = ends.prints.reached;

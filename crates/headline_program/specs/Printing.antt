@@ -6,6 +6,7 @@ use Rattle.model.specs.declared.turn.Refusal.{Refusal}
 use Rattle.model.specs.Turns.{IsReached}
 use Rattle.model.specs.World.{Trace}
 use Rattle.texts.specs.declared.grammar.Setup.{Setup}
+use Rattle.texts.specs.Grammar.{kind_in, capacity_in}
 use Rattle.texts.specs.Print.{events_text, refusal_text}
 
 -- what is printed for a turn: its events, or why it was refused
@@ -26,8 +27,8 @@ events_in (Refused refusal) = []
 pub record IsOfMachine (setup : Setup) (printed : List ℕ) : Type 0 where
   pub trace : Trace ℕ
   pub reached : IsReached trace
-  pub kind : trace.world.kind ≡ setup.kind
-  pub capacity : trace.world.capacity ≡ setup.capacity
+  pub kind : trace.world.kind ≡ kind_in setup.shape
+  pub capacity : trace.world.capacity ≡ capacity_in setup.shape
   pub parties : trace.world.parties ≡ setup.parties
   pub lines : List Line
   pub events : trace.events ≡ flat_map events_in lines

@@ -28,7 +28,8 @@ pub struct Machine<T: Words> {
     unlooked: Unlooked<T>,
 }
 
-// A drop by hand is one call in a caller's proof, on each way out; one that is derived is as many as it has fields below.
+// A drop by hand is one call in a caller's proof, on each way out. One that is derived is as many as it has fields
+// below.
 impl<T: Words> Drop for Machine<T> {
     fn drop(self) {
         let Self {
@@ -74,6 +75,8 @@ impl<T: Words> Machine<T> {
     ghost use Rattle.model.specs.Progress.{KeepsGuarantees};
     ghost use Rattle.model.specs.declared.families.Registry.TheVariants as registries;
     ghost use Rattle.model.specs.declared.families.loan.Book.{Book};
+    ghost use Rattle.steps.specs.declared.enums.UniqueIndexCreationError.TheVariants.{NoMemory};
+    ghost use Rattle.parts.specs.Parts.{trace_of};
     ghost use Rattle.machine.specs.States.{IsStateIn};
     ghost use Rattle.model.specs.declared.turn.Turn.TheVariants.{Next};
     ghost use Rattle.model.specs.Promises.{IsKept, WritesEvents, TellsBeside, AreTurns};
@@ -98,14 +101,7 @@ impl<T: Words> Machine<T> {
         ensures refused { IfErr result (IsCreationError kind capacity) }
     {
         let parts = Parts::new(alloc, kind, capacity, parties)?;
-        let Ok(mut state) = ContainerState::new(alloc, 0, 0) else {
-            return Err(UniqueIndexCreationError::NoMemory);
-        };
-        state.capacity = parts.capacity;
-        Ok(Machine {
-            parts,
-            unlooked: Unlooked { state },
-        })
+        Self::made(alloc, parts)
     }
 
     /// A loan channel of so many slots, with a submission queue of this capacity. Each index is free, party 0 is the
@@ -127,6 +123,16 @@ impl<T: Words> Machine<T> {
         ensures refused { IfErr result (IsLoanError slots queue) }
     {
         let parts = Parts::new_loan(alloc, slots, queue, parties)?;
+        Self::made(alloc, parts)
+    }
+
+    // The machine of these parts, unless memory for the state before a first look is refused.
+    fn made(alloc: Global, parts: Parts<T>) -> Result<Machine<T>, UniqueIndexCreationError>
+        requires { IsReached (trace_of ⟦<T as Coded>⟧.coding parts) }
+        ensures ok { IfOk result (λ m. trace_in ⟦<T as Coded>⟧.coding m
+            ≡ trace_of ⟦<T as Coded>⟧.coding parts) }
+        ensures refused { IfErr result (λ e. e ≡ NoMemory) }
+    {
         let Ok(mut state) = ContainerState::new(alloc, 0, 0) else {
             return Err(UniqueIndexCreationError::NoMemory);
         };

@@ -1,5 +1,5 @@
 //! The parts of a machine, and what each turn does to them.
-ghost use Rattle.std.specs.Prelude.{◌≡◌, ◌+◌, ◌-◌, ◌^◌, ◌≤◌, ◌<◌, true, false, None, OnOk, OnErr, IfOk, IfErr, replicate};
+ghost use Rattle.std.specs.Prelude.{◌≡◌, [], ◌+◌, ◌-◌, ◌^◌, ◌≤◌, ◌<◌, true, false, None, OnOk, OnErr, IfOk, IfErr, replicate};
 ghost use Rattle.model.specs.Families.{kept_after_begin};
 ghost use Rattle.model.specs.Parties.{put};
 ghost use Rattle.model.specs.World.{opening, loan_opening, capacity_error, loan_error, IsCreationError, IsLoanError};
@@ -38,7 +38,8 @@ pub struct Parts<T> {
     pub events: Vec<Event<T>>,
 }
 
-// A drop by hand is one call in a caller's proof, on each way out; one that is derived is as many as it has fields below.
+// A drop by hand is one call in a caller's proof, on each way out. One that is derived is as many as it has fields
+// below.
 impl<T: Drop> Drop for Parts<T> {
     fn drop(self) {
         let Self {
@@ -155,10 +156,9 @@ fn take_step<T: Words>(
         return Err(Refusal::Idle);
     };
     let (want, most) = families::going(flight);
-    let (ask, answer) = match (want, said) {
-        (Want::Question(_), Some(said)) => (None, number_of(said)),
-        (Want::Ask(ask), None) => (Some(ask), words::old(words, Some(ask))),
-        (Want::Nothing, None) => (None, 0),
+    let ask = match (want, said) {
+        (Want::Ask(ask), None) => Some(ask),
+        (Want::Question(_), Some(_)) | (Want::Nothing, None) => None,
         _ => return Err(Refusal::Undecided),
     };
     if let Some(refusal) = families::going_refusal(flight, kept, said) {
@@ -167,7 +167,11 @@ fn take_step<T: Words>(
     let Ok(()) = events.reserve(most + 1) else {
         return Err(Refusal::NoMemory);
     };
-    let change = words::change(words, ask);
+    let access = words::read(words, ask);
+    let answer = match said {
+        Some(said) => number_of(said),
+        None => access.old,
+    };
     let went = families::advance(
         flight,
         number,
@@ -178,8 +182,8 @@ fn take_step<T: Words>(
         kept,
         events,
     );
-    *changes += change;
-    *since += change;
+    *changes += access.change;
+    *since += access.change;
     party.steps += words::count(ask);
     party.backs += one_if(went.back);
     if let Some(answer) = went.done {
@@ -187,7 +191,7 @@ fn take_step<T: Words>(
         let others = changes.saturating_sub(*since);
         finish(party, others);
     }
-    words::write(words, ask);
+    words::write(words, access);
     Ok(())
 }
 
@@ -243,6 +247,40 @@ fn take_steps<T: Words>(
     most
 }
 
+/// The parts of a machine that opens with these words, and with this beside them. Nothing has happened.
+fn made<T>(
+    alloc: Global,
+    kind: Kind,
+    capacity: u32,
+    parties: u32,
+    words: Vec<u64>,
+    kept: Registry<T>,
+) -> Parts<T>
+    ensures { state_of result ≡ record {
+      kind = kind;
+      capacity = capacity;
+      parties = parties;
+      words = words.items;
+      kept = kept;
+      latest = [];
+      changes = 0;
+      turns = 0;
+      events = [];
+    } }
+{
+    Parts {
+        kind,
+        capacity,
+        parties,
+        words,
+        kept,
+        latest: BTreeMap::new(alloc),
+        changes: 0,
+        turns: 0,
+        events: Vec::new(alloc),
+    }
+}
+
 impl<T: Words> Parts<T> {
     /// The parts of a machine in which nothing has happened.
     pub fn new(
@@ -263,17 +301,7 @@ impl<T: Words> Parts<T> {
         let Ok((words, kept)) = families::opening::<T>(alloc, kind, capacity) else {
             return Err(UniqueIndexCreationError::NoMemory);
         };
-        Ok(Parts {
-            kind,
-            capacity,
-            parties,
-            words,
-            kept,
-            latest: BTreeMap::new(alloc),
-            changes: 0,
-            turns: 0,
-            events: Vec::new(alloc),
-        })
+        Ok(made(alloc, kind, capacity, parties, words, kept))
     }
 
     /// The same of a loan channel of so many slots, with a submission queue of this capacity.
@@ -296,17 +324,7 @@ impl<T: Words> Parts<T> {
         let Ok((words, kept)) = opened else {
             return Err(UniqueIndexCreationError::NoMemory);
         };
-        Ok(Parts {
-            kind: Kind::Loan,
-            capacity,
-            parties,
-            words,
-            kept,
-            latest: BTreeMap::new(alloc),
-            changes: 0,
-            turns: 0,
-            events: Vec::new(alloc),
-        })
+        Ok(made(alloc, Kind::Loan, capacity, parties, words, kept))
     }
 
     /// The party begins this call, unless that is refused.

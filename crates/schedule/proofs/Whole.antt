@@ -5,12 +5,14 @@ use Rattle.std.specs.Io.KnownBytes.{Appends, Keeps}
 use Rattle.std.proofs.KnownBytes.{Appends-nil, Appends-kept}
 use Rattle.std.proofs.lemmas.List.Splits.{length-slice_split}
 use Rattle.std.proofs.lemmas.List.Sums.{count_by-le-length}
+use Rattle.model.specs.declared.turn.Kind.{Kind}
 use Rattle.model.specs.World.{World}
 use Rattle.texts.specs.declared.error.Cause.{Cause}
 use Rattle.texts.specs.declared.error.Cause.TheVariants.{MissingValue}
 use Rattle.texts.specs.declared.error.ScheduleError.{ScheduleError}
 use Rattle.texts.specs.declared.error.ScheduleError.TheVariants.{Malformed, ReadFailed, WriteFailed, NoMemory, OutOfMemory}
 use Rattle.texts.specs.declared.grammar.Setup.{Setup}
+use Rattle.texts.specs.Grammar.{kind_in}
 use Rattle.texts.specs.Text.{lines, words}
 use Rattle.schedule.specs.Written.{AppendsPart}
 use Rattle.schedule.specs.Output.{Output, stopped, machine_of, trace_of, lines_from, opened, output_of_lines, output}
@@ -34,7 +36,7 @@ unfolding output_of_lines
 text_missing input b e = stops input b MissingValue (ap (output_of_lines []) e)
 
 abbrev first_as : List (List ℕ) → List Bool → Result Setup Cause → Output
-first_as rest memory read = elim read [ Err cause ↦ stopped 1 cause | Ok setup ↦ lines_from setup.kind 2 rest (opened setup memory) ]
+first_as rest memory read = elim read [ Err cause ↦ stopped 1 cause | Ok setup ↦ lines_from (kind_in setup.shape) 2 rest (opened setup memory) ]
 
 first_read : (input first : List ℕ) (rest : List (List ℕ)) (memory : List Bool) → lines input ≡ first ∷ rest
     → output memory input ≡ first_as rest memory (machine_of (words first))
@@ -61,12 +63,14 @@ same_output one other same b a (Err WriteFailed) p = (p.0, subst (λ o. AppendsP
 same_output one other same b a (Err ReadFailed) p = p
 same_output one other same b a (Err NoMemory) p = p
 
-pub text_lines : (input first : List ℕ) (rest : List (List ℕ)) (setup : Setup) (w : World ℕ) (b a : Option (List ℕ)) (r : Result (Unit {0}) ScheduleError)
-    → lines input ≡ first ∷ rest → machine_of (words first) ≡ Ok setup → w ≡ (trace_of setup).world
-    → IsOutput (output_from setup.kind rest w) b a r → IsOutput (λ memory. output memory input) b a r
-text_lines input first rest setup w b a r e read same p =
-    same_output (output_from setup.kind rest w) (λ memory. output memory input)
-    (λ memory. ap (λ v. output_from setup.kind rest v memory) same ∙ sym (first_read input first rest memory e ∙ ap (first_as rest memory) read))
+pub text_lines : (input first : List ℕ) (rest : List (List ℕ)) (setup : Setup) (kind : Kind) (w : World ℕ) (b a : Option (List ℕ))
+    → (r : Result (Unit {0}) ScheduleError) → lines input ≡ first ∷ rest → machine_of (words first) ≡ Ok setup → kind ≡ kind_in setup.shape
+    → w ≡ (trace_of setup).world → IsOutput (output_from kind rest w) b a r → IsOutput (λ memory. output memory input) b a r
+text_lines input first rest setup kind w b a r e read named same p =
+    same_output (output_from kind rest w) (λ memory. output memory input)
+    (λ memory. ap (λ k. output_from k rest w memory) named
+    ∙ (ap (λ v. output_from (kind_in setup.shape) rest v memory) same
+    ∙ sym (first_read input first rest memory e ∙ ap (first_as rest memory) read)))
     b a r p
 
 -- ---- what the writer kept back

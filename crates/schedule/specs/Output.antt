@@ -10,7 +10,6 @@ use Rattle.model.specs.declared.turn.Turn.TheVariants.{Next}
 use Rattle.steps.specs.Words.{words_of_u128, value_of_u128}
 use Rattle.model.specs.Coding.{Coding, coding_of}
 use Rattle.model.specs.World as machines
-use Rattle.model.specs.Families.Loan.Opening.{is_loan}
 use Rattle.model.specs.World.{World, Trace, opening, loan_opening, capacity_error, loan_error, world_in}
 use Rattle.model.specs.Refusals.{refusal_of, is_going}
 use Rattle.model.specs.Turns.{world_after, events_of}
@@ -21,8 +20,10 @@ use Rattle.texts.specs.declared.error.ScheduleError.TheVariants as errors
 use Rattle.texts.specs.declared.grammar.Command.{Command}
 use Rattle.texts.specs.declared.grammar.Command.TheVariants.{Once, Times}
 use Rattle.texts.specs.declared.grammar.Setup.{Setup}
+use Rattle.texts.specs.declared.grammar.Shape.{Shape}
+use Rattle.texts.specs.declared.grammar.Shape.TheVariants as shapes
 use Rattle.texts.specs.Text.{lines, words}
-use Rattle.texts.specs.Grammar.{◌>>=◌, setup_of, command_of}
+use Rattle.texts.specs.Grammar.{◌>>=◌, kind_in, setup_of, command_of}
 use Rattle.texts.specs.Print.{events_text, refusal_text}
 
 -- ---- one turn
@@ -43,13 +44,13 @@ pub record Outcome : Type 0 where
   pub has_memory : Bool
   pub world : World ℕ
 
--- memory is refused last
+-- why a turn is refused: for memory only where nothing else refuses it
 abbrev pub refusal_where : Bool → Option Refusal → Option Refusal
 refusal_where short (Some refusal) = Some refusal
 refusal_where true None = Some NoMemory
 refusal_where false None = None
 
--- whether a turn that was refused so had memory
+-- whether a turn had memory that was refused for this
 abbrev pub has_memory : Refusal → Bool
 has_memory NoMemory = false
 has_memory refusal = true
@@ -75,7 +76,7 @@ outcome_as w turn (Some refusal) =
       world = w;
     }
 
--- of a turn to which memory is refused, or not
+-- the outcome of a turn, to which memory is refused or not
 unfoldable pub outcome : Bool → World ℕ → Turn ℕ → Outcome
 outcome short w turn = outcome_as w turn (refusal_where short (refusal_of w turn))
 
@@ -135,8 +136,8 @@ commanded (Times party most) s = nexts most party s
 
 -- ---- lines
 
--- what is printed, and the line that ends the run before the last: the
--- first that is malformed, or has a turn to which memory is refused
+-- what is printed, and how the run ends: well, or at the first line that is
+-- malformed or has a turn to which memory is refused
 pub record Output : Type 0 where
   pub text : List ℕ
   pub end : Result (Unit {0}) ScheduleError
@@ -181,23 +182,26 @@ admitted setup None = Ok setup
 admitted setup (Some cause) = Err cause
 
 -- of a loan channel both its numbers are tested
+abbrev pub shape_error : Shape → Option UniqueIndexCreationError
+shape_error (shapes.Of kind capacity) = capacity_error kind capacity
+shape_error (shapes.Loan slots queue) = loan_error slots queue
+
 abbrev pub setup_error : Setup → Option UniqueIndexCreationError
-setup_error setup =
-    if is_loan setup.kind
-    then loan_error setup.capacity setup.queue
-    else capacity_error setup.kind setup.capacity
+setup_error setup = shape_error setup.shape
 
 unfoldable pub machine_of : List (List ℕ) → Result Setup Cause
 machine_of ws = do
   setup ← setup_of ws
   admitted setup (capacity_cause (setup_error setup))
 
+-- the machine of a structure, before its first turn
+abbrev pub trace_with : ℕ → Shape → Trace ℕ
+trace_with parties (shapes.Of kind capacity) = opening two_words kind capacity parties
+trace_with parties (shapes.Loan slots queue) = loan_opening two_words slots queue parties
+
 -- the machine of a first line
 abbrev pub trace_of : Setup → Trace ℕ
-trace_of setup =
-    if is_loan setup.kind
-    then loan_opening two_words setup.capacity setup.queue setup.parties
-    else opening two_words setup.kind setup.capacity setup.parties
+trace_of setup = trace_with setup.parties setup.shape
 
 abbrev pub opened : Setup → List Bool → State
 opened setup memory = record { world = (trace_of setup).world; memory = memory }
@@ -207,10 +211,11 @@ output_of_lines memory [] = stopped 1 causes.MissingValue
 output_of_lines memory (first ∷ lines) =
     elim (machine_of (words first)) [
       | Err cause ↦ stopped 1 cause
-      | Ok setup ↦ lines_from setup.kind 2 lines (opened setup memory)
+      | Ok setup ↦ lines_from (kind_in setup.shape) 2 lines (opened setup memory)
     ]
 
 -- The output for these bytes, where memory is refused to the first turn of
--- which the list says so. With the empty list it is to none.
+-- which the list says so and that nothing else refuses. With the empty list
+-- it is refused to none.
 abbrev pub output : List Bool → List ℕ → Output
 output memory input = output_of_lines memory (lines input)

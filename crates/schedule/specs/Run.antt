@@ -10,8 +10,8 @@ use Rattle.schedule.specs.Written.{AppendsPart}
 
 -- ---- a turn
 
--- the line of a refused turn was written, or nothing where memory was refused,
--- and whether it was not; or a beginning where a write failed
+-- The line of a refused turn was written, and the answer is true. Where memory was refused nothing
+-- was written, and the answer is false. Where a write failed a beginning of the line was written.
 abbrev pub TellsRefusal : Refusal → Option (List ℕ) → Option (List ℕ)
     → Result Bool ScheduleError → Type 0
 TellsRefusal refusal before after (Ok had) =
@@ -19,8 +19,8 @@ TellsRefusal refusal before after (Ok had) =
 TellsRefusal refusal before after (Err e) =
     (e ≡ errors.WriteFailed) × AppendsPart before after (refused_text refusal)
 
--- a turn had memory or not, and its text was written, or a
--- beginning of it where a write failed
+-- The text of a turn was written, and the answer is whether the turn had memory. Where a write failed
+-- a beginning of the text was written.
 abbrev pub IsTurn : Outcome → World ℕ → Option (List ℕ) → Option (List ℕ)
     → Result Bool ScheduleError → Type 0
 IsTurn o new before after (Ok had) =

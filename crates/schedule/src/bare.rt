@@ -84,22 +84,22 @@ pub fn made(alloc: Global, setup: Setup) -> Option<Machine<u128>> {
     runs::made_of(alloc, setup).ok()
 }
 
-/// One turn.
+/// Takes one turn. The error says why it was refused.
 pub fn step<T: Words>(machine: &mut Machine<T>, turn: Turn<T>) -> Result<(), Refusal> {
     machine.step(turn)
 }
 
-/// The turns up to the first that is refused, and how many these are.
+/// Takes the turns up to the first that is refused, and answers how many these are.
 pub fn run<T: Words>(machine: &mut Machine<T>, turns: &[Turn<T>]) -> usize {
     machine.run(turns)
 }
 
-/// The turns up to the first that is refused, and why that was.
+/// Takes the turns up to the first that is refused. The error says how many were taken, and why the next was refused.
 pub fn run_all<T: Words>(machine: &mut Machine<T>, turns: &[Turn<T>]) -> Result<(), Stopped> {
     machine.run_all(turns)
 }
 
-/// Up to so many turns of the party's call, and why the first that is refused was.
+/// Takes up to so many turns of the party's call. The error says how many were taken, and why the next was refused.
 pub fn nexts<T: Words>(machine: &mut Machine<T>, party: u32, most: u64) -> Result<(), Stopped> {
     machine.nexts(party, most)
 }

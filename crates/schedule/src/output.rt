@@ -60,7 +60,7 @@ pub fn put_refusal<W: Write>(writer: &mut W, refusal: Refusal) -> Result<(), Sch
     put(writer, Line::of_refusal(refusal).as_bytes())
 }
 
-/// The same of a turn that had memory. Of one to which it was refused nothing is written, and the answer is false.
+/// Writes the line of a refused turn and answers true. Where memory was refused it writes nothing and answers false.
 pub fn tell_refusal<W: Write>(writer: &mut W, refusal: Refusal) -> Result<bool, ScheduleError>
     ensures { TellsRefusal refusal (W.contents writer.old) (W.contents writer.new) result }
 {

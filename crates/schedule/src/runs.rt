@@ -13,17 +13,16 @@ use crate::output::{flush, flushed, put_events, tell_refusal};
 use crate::told::status;
 use machine::Machine;
 use machine::event::Event;
-use machine::families::loan::is_loan;
 use machine::turn::{Kind, Turn, capacity_error, loan_error};
 use std::alloc::{Allocator, Global};
 use std::io::{BufWriter, Read, Write};
 use steps::enums::UniqueIndexCreationError;
 use texts::error::{Cause, ScheduleError};
-use texts::grammar::{Command, Setup, command_of, setup_of};
+use texts::grammar::{Command, Setup, Shape, command_of, setup_of};
 use texts::line::Line;
 use texts::text::{Rest, lines};
 
-// One turn, whose events are printed in the room of `line`. Whether it had memory.
+// Takes one turn, and prints its events, each made in the room of `line`. It answers whether the turn had memory.
 #[inline(always)]
 fn take_turn<W: Write>(
     machine: &mut Machine<u128>,
@@ -52,7 +51,8 @@ fn events_from(events: &[Event<u128>], from: usize) -> &[Event<u128>]
     &events[from..]
 }
 
-// Up to so many turns of the party's call. What they write down is printed once all are taken. Whether they had memory.
+// Takes up to so many turns of the party's call, and prints what they wrote down once all are taken. It answers whether
+// they had memory.
 fn take_nexts<W: Write>(
     machine: &mut Machine<u128>,
     party: u32,
@@ -80,7 +80,7 @@ fn take_nexts<W: Write>(
     }
 }
 
-// What a line asks for. Whether it had memory.
+// Does what a line asks for. It answers whether all turns had memory.
 fn do_command<W: Write>(
     machine: &mut Machine<u128>,
     command: Command,
@@ -96,7 +96,7 @@ fn do_command<W: Write>(
     }
 }
 
-// The lines after the first.
+// Does the lines after the first.
 fn do_lines<W: Write>(
     kind: Kind,
     lines: Rest<'_>,
@@ -133,10 +133,9 @@ fn do_lines<W: Write>(
 fn setup_error(setup: Setup) -> Option<UniqueIndexCreationError>
     ensures { result ≡ setup_error setup }
 {
-    if is_loan(setup.kind) {
-        loan_error(setup.capacity as usize, setup.queue as usize)
-    } else {
-        capacity_error(setup.kind, setup.capacity as usize)
+    match setup.shape {
+        Shape::Of(kind, capacity) => capacity_error(kind, capacity as usize),
+        Shape::Loan(slots, queue) => loan_error(slots as usize, queue as usize),
     }
 }
 
@@ -144,11 +143,11 @@ fn setup_error(setup: Setup) -> Option<UniqueIndexCreationError>
 pub fn made_of(alloc: Global, setup: Setup) -> Result<Machine<u128>, UniqueIndexCreationError>
     ensures { IfOk result (λ machine. world_of machine ≡ (trace_of setup).world) }
 {
-    let capacity = setup.capacity as usize;
-    if is_loan(setup.kind) {
-        Machine::new_loan(alloc, capacity, setup.queue as usize, setup.parties)
-    } else {
-        Machine::new(alloc, setup.kind, capacity, setup.parties)
+    match setup.shape {
+        Shape::Of(kind, capacity) => Machine::new(alloc, kind, capacity as usize, setup.parties),
+        Shape::Loan(slots, queue) => {
+            Machine::new_loan(alloc, slots as usize, queue as usize, setup.parties)
+        }
     }
 }
 
@@ -169,7 +168,7 @@ pub fn machine_of(line: &[u8]) -> Result<Setup, Cause>
     }
 }
 
-// The whole text.
+// Does the whole text.
 fn do_text<W: Write>(alloc: Global, input: &[u8], writer: &mut W) -> Result<(), ScheduleError>
     requires { length input.now < 2 ^ 63 }
     ensures { IsOutput (λ memory. output memory input.now)
@@ -183,7 +182,7 @@ fn do_text<W: Write>(alloc: Global, input: &[u8], writer: &mut W) -> Result<(), 
         Err(cause) => return Err(ScheduleError::Malformed(1, cause)),
     };
     match made_of(alloc, setup) {
-        Ok(mut machine) => do_lines(setup.kind, rest, &mut machine, writer),
+        Ok(mut machine) => do_lines(setup.shape.kind(), rest, &mut machine, writer),
         Err(_) => Err(ScheduleError::NoMemory),
     }
 }
@@ -217,8 +216,8 @@ pub fn run_in<A: Allocator, R: Read, W: Write>(
 /// Reads a schedule to its end, and then writes what each of its turns did, line by line.
 ///
 /// Malformed text, or a capacity that the kind does not admit, is `Malformed`, and a turn to which memory is refused
-/// `OutOfMemory`, both behind the output of what came before. A failed read is `ReadFailed`. Without memory for the input
-/// or the machine it is `NoMemory`. A failed write, also of what a writer kept back, is `WriteFailed`.
+/// `OutOfMemory`. In both cases the output of all turns before it has been written. A failed read is `ReadFailed`. Without
+/// memory for the input or the machine it is `NoMemory`. A failed write, also of what a writer kept back, is `WriteFailed`.
 pub fn run<R: Read, W: Write>(
     alloc: Global,
     reader: &mut R,

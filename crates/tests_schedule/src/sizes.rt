@@ -32,7 +32,7 @@ fn shows<T: Words + PartialEq>(machine: &Machine<T>, first: &T, second: &T) -> b
     }
 }
 
-/// Whether two values are added, shown, and the first of them replaced: each call takes a step more for each word.
+/// Whether two values are added, shown, and the first of them replaced. Each call takes a step more for each word.
 fn goes_on<T: Words + PartialEq>(
     machine: &mut Machine<T>,
     first: T,

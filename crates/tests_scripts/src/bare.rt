@@ -3,12 +3,11 @@ use crate::calls;
 use crate::stage::Stage;
 use crate::text::{number, numbers};
 use machine::event::{Event, Start};
-use machine::families::loan::is_loan;
 use machine::families::{Beside, Registry};
 use machine::party::{Doing, Latest, Party, Progress, Seat};
 use machine::turn::{Kind, Refusal, Turn};
 use schedule::bare::read_words;
-use schedule::grammar::Setup;
+use schedule::grammar::Shape;
 use std::alloc::Global;
 use std::collections::BTreeMap;
 use steps::ask::{Ask, Want};
@@ -84,36 +83,25 @@ fn write_death<T: Copy>(events: &mut Vec<Event<T>>, owner: OwnerId) -> bool {
     true
 }
 
-fn opening(alloc: Global, setup: Setup) -> Option<(Vec<u64>, Registry<u128>)> {
-    let capacity = u32::try_from(setup.capacity).ok()?;
-    if is_loan(setup.kind) {
-        return open::<u128>(alloc, capacity, u32::try_from(setup.queue).ok()?).ok();
-    }
-    families::opening::<u128>(alloc, setup.kind, capacity).ok()
-}
-
-fn said_number(said: Option<bool>) -> u64 {
-    match said {
-        Some(true) => 1,
-        _ => 0,
+fn opening(alloc: Global, shape: Shape) -> Option<(Vec<u64>, Registry<u128>)> {
+    let capacity = u32::try_from(shape.capacity()).ok()?;
+    match shape {
+        Shape::Of(kind, _) => families::opening::<u128>(alloc, kind, capacity).ok(),
+        Shape::Loan(_, queue) => open::<u128>(alloc, capacity, u32::try_from(queue).ok()?).ok(),
     }
 }
 
-/// What a step asks for, and what the call is handed.
-fn asked(
-    want: Want<()>,
-    said: Option<bool>,
-    words: &Vec<u64>,
-) -> Result<(Option<Ask>, u64), Refusal> {
+/// The operation that a step does, and none with a decision.
+fn asked(want: Want<()>, said: Option<bool>) -> Result<Option<Ask>, Refusal> {
     match (want, said) {
-        (Want::Question(_), Some(_)) => Ok((None, said_number(said))),
-        (Want::Ask(ask), None) => Ok((Some(ask), words::old(words, Some(ask)))),
-        (Want::Nothing, None) => Ok((None, 0)),
+        (Want::Ask(ask), None) => Ok(Some(ask)),
+        (Want::Question(_), Some(_)) | (Want::Nothing, None) => Ok(None),
         _ => Err(Refusal::Undecided),
     }
 }
 
-/// The party's call is done. It stands by itself since its flight ends here, in one of many ways.
+/// Marks the party's call as done. It is a function of its own since the call's flight is dropped here, which has many
+/// cases.
 fn finish(party: &mut Party<u128>) {
     party.doing = Doing::Over(0);
 }
@@ -132,12 +120,17 @@ fn advance(
         return Err(Refusal::Idle);
     };
     let (want, most) = families::going(flight);
-    let (ask, answer) = asked(want, said, words)?;
+    let ask = asked(want, said)?;
     if let Some(refusal) = families::going_refusal(flight, kept, said) {
         return Err(refusal);
     }
     let Ok(()) = events.reserve(most + 1) else {
         return Err(Refusal::NoMemory);
+    };
+    let access = words::read(words, ask);
+    let answer = match said {
+        Some(said) => u64::from(said),
+        None => access.old,
     };
     let went = families::advance(
         flight,
@@ -155,7 +148,7 @@ fn advance(
         events.push_reserved(Event::Finished(number, party.start, answer));
         finish(party);
     }
-    words::write(words, ask);
+    words::write(words, access);
     Ok(())
 }
 
@@ -243,14 +236,14 @@ impl Calls for Seats {
 }
 
 impl<C: Calls + Drop> Bare<C> {
-    /// The calls of this kind and capacity, over the words of its opening, by the first line of a schedule.
+    /// Opens what the first line of a schedule names: the words of its opening, beside these calls.
     pub fn opened(alloc: Global, calls: C, line: &str) -> Option<Bare<C>> {
-        let setup = read_words(line.as_bytes()).ok()?;
-        let (words, kept) = opening(alloc, setup)?;
+        let shape = read_words(line.as_bytes()).ok()?.shape;
+        let (words, kept) = opening(alloc, shape)?;
         Some(Bare {
             alloc,
-            kind: setup.kind,
-            capacity: u32::try_from(setup.capacity).ok()?,
+            kind: shape.kind(),
+            capacity: u32::try_from(shape.capacity()).ok()?,
             words,
             kept,
             calls,

@@ -199,7 +199,7 @@ fn play_machine(
         return report.is_wrong(title, head);
     };
     match made(alloc, setup) {
-        Some(machine) => play_lists(alloc, setup.kind, machine, title, rows, report),
+        Some(machine) => play_lists(alloc, setup.shape.kind(), machine, title, rows, report),
         None => report.is_wrong(title, head),
     }
 }

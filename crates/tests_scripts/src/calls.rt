@@ -77,7 +77,7 @@ fn is_back<C: Call>(call: &C, rest: &str) -> Option<bool> {
     Some(call.goes_back(number(answer)?) == (back == "yes"))
 }
 
-/// `1 -> 2 0`: that it frees an index of owner 2 where it is handed 1, index 0; or `1 -> none`.
+/// `1 -> 2 0`: where it is handed 1, the call frees index 0 of owner 2. `1 -> none`: it frees nothing.
 fn frees<C: Call>(call: &C, rest: &str) -> Option<bool> {
     let (answer, freed_so) = rest.split_once(" -> ")?;
     let freed = call.freed(number(answer)?);

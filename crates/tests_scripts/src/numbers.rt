@@ -3,7 +3,7 @@ use crate::blocks::Rows;
 use machine::Machine;
 use machine::turn::{capacity_error, loan_error};
 use schedule::bare::{made, made_of, read_words};
-use schedule::grammar::Setup;
+use schedule::grammar::{Setup, Shape};
 use std::alloc::Global;
 use steps::enums::UniqueIndexCreationError;
 
@@ -29,8 +29,8 @@ impl Numbers {
     fn error_making(&self, setup: Setup) -> Option<UniqueIndexCreationError> {
         let machine: Result<Machine<u128>, UniqueIndexCreationError> = made_of(
             self.alloc,
-            setup.kind,
-            setup.capacity as usize,
+            setup.shape.kind(),
+            setup.shape.capacity() as usize,
             setup.parties,
         );
         machine.err()
@@ -41,10 +41,16 @@ impl Numbers {
     }
 
     fn is_so(&self, word: &str, setup: Setup, wanted: &str) -> Option<bool> {
-        let capacity = setup.capacity as usize;
         match word {
-            "capacity" => Some(name(capacity_error(setup.kind, capacity)) == wanted),
-            "numbers" => Some(name(loan_error(capacity, setup.queue as usize)) == wanted),
+            "capacity" => Some(
+                name(capacity_error(setup.shape.kind(), setup.shape.capacity() as usize)) == wanted,
+            ),
+            "numbers" => match setup.shape {
+                Shape::Loan(slots, queue) => Some(
+                    name(loan_error(slots as usize, queue as usize)) == wanted,
+                ),
+                Shape::Of(_, _) => None,
+            },
             "made" => Some(name(self.error_making(setup)) == wanted),
             "words" => Some(Ok(self.words(setup)?) == wanted.parse::<u64>()),
             _ => None,

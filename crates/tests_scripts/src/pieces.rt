@@ -115,7 +115,8 @@ impl<'a> Pieces<'a> {
         }
     }
 
-    /// Whether nothing is written where this read fails, and all of it where that many are enough: whether they are.
+    /// Lets the read of this number fail, and answers whether so many reads are enough. If they are, all has to be
+    /// written, and else nothing. None where that is not so.
     fn reads_right(&self, reads: usize) -> Option<bool> {
         let (ended, written) = self.ends(reads, MANY);
         if ended.is_ok() {
@@ -128,7 +129,8 @@ impl<'a> Pieces<'a> {
         }
     }
 
-    /// Whether a beginning is written where this write fails, and all of it where that many are enough: whether they are.
+    /// Lets the write of this number fail, and answers whether so many writes are enough. If they are, all has to be
+    /// written, and else a beginning. None where that is not so.
     fn writes_right(&self, writes: usize) -> Option<bool> {
         let (ended, written) = self.ends(MANY, writes);
         if ended.is_ok() {

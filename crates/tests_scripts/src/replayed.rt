@@ -16,7 +16,8 @@ pub fn has_outcome(list: &str, separator: &str, wanted: &str) -> bool {
     has
 }
 
-/// Appends, for each party, what its calls came to, without the first so many: a run says it of all in one order.
+/// Appends what the calls came to, party by party, without the first `before` calls. A run tells it of all parties in one
+/// order.
 fn adds_answers(text: &mut String, run: &str, before: usize) -> Option<()> {
     for party in ["0 finished ", "1 finished ", "2 finished "] {
         let mut ended = 0usize;

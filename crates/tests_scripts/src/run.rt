@@ -68,7 +68,8 @@ impl Run {
         self.input.get((place as usize).wrapping_sub(1)) == Some(&b'\n')
     }
 
-    /// `7 5`: whether the run ends right that is read and written in pieces of so many bytes, where a call fails too.
+    /// `7 5`: whether a run that is read and written in pieces of so many bytes ends right. It has to do so where a read
+    /// or a write fails, too.
     fn fails_right(&self, sizes: &str) -> Option<bool> {
         let (read, write) = sizes.split_once(' ')?;
         let pieces = Pieces {

@@ -4,6 +4,7 @@ use machine::party::Progress;
 use machine::turn::{Kind, Refusal, Turn};
 use steps::container::state::ContainerState;
 
+/// What takes turns and answers rows about itself. No stage of a call is meant.
 pub trait Stage {
     fn kind(&self) -> Kind;
 

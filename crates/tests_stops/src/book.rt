@@ -309,7 +309,8 @@ impl Book {
         self.spans[party as usize % 4] = span;
     }
 
-    /// A call begins: those under way are no longer alone, and a replace is not where a remove or a replace begins.
+    /// A call begins, so those under way are no longer alone. A replace is no longer well-formed where a remove or a
+    /// replace of its handle begins. It answers whether no other call is under way.
     fn joins(&mut self, call: &Call, gives_back: bool) -> bool {
         let mut is_alone = true;
         for span in &mut self.spans {

@@ -203,7 +203,8 @@ impl Channel {
         &self.spans[party as usize % 8]
     }
 
-    /// What the list answers to a push of this index: the oldest where it was full, or a number that is no index.
+    /// What the list answers to a push of this index. It is the oldest where the list was full, or else a number that
+    /// is no index.
     fn list_push(&mut self, index: u64) -> u64 {
         self.list.push(index);
         if self.list.length > self.queue {
@@ -213,8 +214,8 @@ impl Channel {
         }
     }
 
-    /// A send is a push of one bounded list that hands its oldest out, a receive a pop, and so is each index that a reclaim
-    /// hands out.
+    /// A send is a push of one bounded list that hands its oldest out. A receive is a pop, and so is each index that a
+    /// reclaim hands out.
     fn act(&mut self, span: &Span, told: &Told) -> Right {
         let index = index_of(told);
         let answer = if told.said == Said::NoValue {

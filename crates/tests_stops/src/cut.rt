@@ -129,7 +129,7 @@ fn opens<M: TakesTurns<u128>>(machine: &mut M, row: &Row<'_>) -> bool {
     let mut are_whole = true;
     for line in row.calls.lines() {
         if !line.starts_with("cut ") {
-            are_whole &= begins(machine, row.setup.kind, line);
+            are_whole &= begins(machine, row.setup.shape.kind(), line);
             are_whole &= ends(machine, 0) && ends(machine, 1);
         }
     }
@@ -186,7 +186,7 @@ fn judged<M: TakesTurns<u128>>(
     one: &Cut<'_>,
     other: &Cut<'_>,
 ) -> Right {
-    let mut replay = Replay::new(row.setup.kind, row.setup.capacity);
+    let mut replay = Replay::new(row.setup.shape.kind(), row.setup.shape.capacity());
     replayed(machine, &mut replay)?;
     is_bounded(machine, &replay, one)?;
     is_bounded(machine, &replay, other)
@@ -201,7 +201,7 @@ fn plays<M: TakesTurns<u128>>(
     turns: u64,
     stops: bool,
 ) -> Right {
-    let kind = row.setup.kind;
+    let kind = row.setup.shape.kind();
     want(
         opens(machine, row),
         "a call begins where nothing forbids it, goes on and ends",

@@ -17,7 +17,7 @@ pub enum Place {
     All,
     /// The row behind so many pairs.
     Row(u64),
-    /// A pair by its number, where the call of this party goes on or stops for good after so many turns.
+    /// A pair by its number. The call of this party goes on or stops for good after so many turns.
     Cut(u64, u32, u64, bool),
 }
 

@@ -264,8 +264,9 @@ impl Tally {
         self.receivers = self.receivers.max(run.channel.receiver);
     }
 
-    /// Whether each answer and each refusal came, a third receiver, and a reclaim that found two indices in each queue where
-    /// so many can be; an index that comes back to a send only where the queue is shorter than the slots are many.
+    /// Whether each answer and each refusal came, and a third receiver. A reclaim has to have found two indices in each
+    /// queue where so many can be. An index has to come back to a send only where the queue is shorter than the slots
+    /// are many.
     fn is_whole(&self, slots: u64, queue: u64) -> Right {
         let is_short = queue < slots;
         let mut are_answers = true;

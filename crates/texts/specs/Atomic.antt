@@ -1,19 +1,14 @@
 -- The calls of the single value, as a schedule names them and as they print.
-use Rattle.std.specs.Prelude.{ℕ, ◌-◌, ◌^◌, List, ◌++◌, Option, Some, None, Result, Ok, Err, if◌then◌else◌, bytes_eq, codes, decimal}
+use Rattle.std.specs.Prelude.{ℕ, ◌-◌, ◌^◌, List, ◌++◌, Result, Ok, Err, if◌then◌else◌, bytes_eq, codes, decimal}
 use Rattle.model.specs.declared.event.Start.{Start}
 use Rattle.model.specs.declared.event.Start as starts
 use Rattle.model.specs.declared.families.atomic.AtomicStart.{AtomicStart}
 use Rattle.model.specs.declared.families.atomic.AtomicStart.TheVariants.{AcquireProducer, ReleaseProducer, Store, Load}
-use Rattle.model.specs.declared.turn.Kind.{Kind}
-use Rattle.model.specs.declared.turn.Kind as kinds
 use Rattle.texts.specs.declared.error.Cause.{Cause}
 use Rattle.texts.specs.declared.error.Cause.TheVariants.{UnknownCall}
 use Rattle.texts.specs.Reading.{◌>>=◌, number_at}
 
 -- ---- how they are read
-
-abbrev pub kind_of : List ℕ → Option Kind
-kind_of name = if bytes_eq name (codes "atomic") then Some kinds.TheVariants.Atomic else None
 
 unfoldable pub store : List (List ℕ) → Result (AtomicStart ℕ × List (List ℕ)) Cause
 store ws = do

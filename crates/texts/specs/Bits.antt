@@ -1,23 +1,14 @@
 -- The calls of the bit sets and of the counting bit sets, as a schedule names them and as they print.
-use Rattle.std.specs.Prelude.{ℕ, ◌-◌, ◌^◌, List, ◌++◌, Option, Some, None, Result, Ok, Err, if◌then◌else◌, bytes_eq, codes, decimal}
+use Rattle.std.specs.Prelude.{ℕ, ◌-◌, ◌^◌, List, ◌++◌, Result, Ok, Err, if◌then◌else◌, bytes_eq, codes, decimal}
 use Rattle.model.specs.declared.event.Start.{Start}
 use Rattle.model.specs.declared.event.Start as starts
 use Rattle.model.specs.declared.families.bits.BitsStart.{BitsStart}
 use Rattle.model.specs.declared.families.bits.BitsStart.TheVariants.{Set, ResetNext, ResetAll}
-use Rattle.model.specs.declared.turn.Kind.{Kind}
-use Rattle.model.specs.declared.turn.Kind as kinds
-use Rattle.model.specs.declared.turn.Kind.TheVariants.{Counts}
 use Rattle.texts.specs.declared.error.Cause.{Cause}
 use Rattle.texts.specs.declared.error.Cause.TheVariants.{UnknownCall}
 use Rattle.texts.specs.Reading.{◌>>=◌, number_at}
 
 -- ---- how they are read
-
-abbrev pub kind_of : List ℕ → Option Kind
-kind_of name =
-    if bytes_eq name (codes "bits") then Some kinds.TheVariants.Bits
-    else if bytes_eq name (codes "counts") then Some Counts
-    else None
 
 unfoldable pub set : List (List ℕ) → Result (BitsStart × List (List ℕ)) Cause
 set ws = do

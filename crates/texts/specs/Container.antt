@@ -10,8 +10,6 @@ use Rattle.model.specs.declared.families.container.ContainerStart.{ContainerStar
 use Rattle.model.specs.declared.families.container.ContainerStart.TheVariants.{Add, Remove, Replace, Find, Recover}
 use Rattle.model.specs.declared.families.container.ContainerStart.TheVariants.{GetState, UpdateState, Len, IsEmpty}
 use Rattle.model.specs.declared.families.container.ContainerStart.TheVariants.{IsLocked}
-use Rattle.model.specs.declared.turn.Kind.{Kind}
-use Rattle.model.specs.declared.turn.Kind as kinds
 use Rattle.texts.specs.declared.error.Cause.{Cause}
 use Rattle.texts.specs.declared.error.Cause.TheVariants.{UnknownCall}
 use Rattle.texts.specs.Indices.{mode_at, mode_text}
@@ -19,10 +17,6 @@ use Rattle.texts.specs.Indices.Robust.{owned_text}
 use Rattle.texts.specs.Reading.{◌>>=◌, number_at, owner_at}
 
 -- ---- how they are read
-
-abbrev pub kind_of : List ℕ → Option Kind
-kind_of name =
-    if bytes_eq name (codes "container") then Some kinds.TheVariants.Container else None
 
 unfoldable pub add : List (List ℕ) → Result (ContainerStart ℕ × List (List ℕ)) Cause
 add ws = do

@@ -1,7 +1,7 @@
--- The families of calls: a line for each kind, call, answer and event, which goes straight to its
--- page. An answer or an event can be several families': one that is no more than words and numbers
--- prints here.
-use Rattle.std.specs.Prelude.{ℕ, Bool, true, false, List, [], ◌∷◌, ◌++◌, Option, Some, None, Result, codes, decimal}
+-- The families of calls: the name of each kind, and a line for each call, answer and event, which
+-- passes on to the family's file. An answer or an event that several families can have, of words and
+-- numbers alone, prints here.
+use Rattle.std.specs.Prelude.{ℕ, Bool, true, false, List, ◌++◌, Option, Some, None, Result, if◌then◌else◌, bytes_eq, codes, decimal}
 use Rattle.model.specs.declared.event.Answer.{Answer}
 use Rattle.model.specs.declared.event.Answer.TheVariants as answers
 use Rattle.model.specs.declared.event.Event.{Event}
@@ -21,16 +21,20 @@ use Rattle.texts.specs.Queues as queues
 
 -- ---- how they are read
 
--- what the first says that says anything
-abbrev pub first_of : {A : Type 0} → List (Option A) → Option A
-first_of [] = None
-first_of (said ∷ more) = elim said [ Some x ↦ Some x | None ↦ first_of more ]
-
 -- the kind of this name
 abbrev pub kind_named : List ℕ → Option Kind
 kind_named name =
-    first_of (queues.kind_of name ∷ atomic.kind_of name ∷ bits.kind_of name ∷ indices.kind_of name
-    ∷ robust.kind_of name ∷ container.kind_of name ∷ loan.kind_of name ∷ [])
+    if bytes_eq name (codes "index_queue") then Some kinds.IndexQueue
+    else if bytes_eq name (codes "overflow") then Some kinds.Overflow
+    else if bytes_eq name (codes "queue") then Some kinds.Queue
+    else if bytes_eq name (codes "atomic") then Some kinds.Atomic
+    else if bytes_eq name (codes "bits") then Some kinds.Bits
+    else if bytes_eq name (codes "counts") then Some kinds.Counts
+    else if bytes_eq name (codes "indices") then Some kinds.Indices
+    else if bytes_eq name (codes "robust") then Some kinds.Robust
+    else if bytes_eq name (codes "container") then Some kinds.Container
+    else if bytes_eq name (codes "loan") then Some kinds.Loan
+    else None
 
 -- the call of this name on a structure of this kind; both queues of indices have the same calls
 abbrev pub call_named : Kind → List ℕ → List (List ℕ) → Result (Start ℕ × List (List ℕ)) Cause

@@ -1,6 +1,7 @@
 -- What a line says, read from left to right: a value, or the first cause that is met.
 use Rattle.std.specs.Prelude.{ℕ, ◌-◌, ◌^◌, ◌==◌, Bool, true, false, List, [], ◌∷◌, Some, None, Result, Ok, Err, if◌then◌else◌, bytes_eq, codes}
 use Rattle.model.specs.declared.turn.Kind.{Kind}
+use Rattle.model.specs.declared.turn.Kind.TheVariants as kinds
 use Rattle.model.specs.declared.turn.Turn.TheVariants.{Begin, Next, Decide, Die}
 use Rattle.model.specs.Families.Loan.Opening.{is_loan}
 use Rattle.texts.specs.declared.error.Cause.{Cause}
@@ -8,29 +9,44 @@ use Rattle.texts.specs.declared.error.Cause.TheVariants.{BadValue, UnknownKind, 
 use Rattle.texts.specs.declared.grammar.Command.{Command}
 use Rattle.texts.specs.declared.grammar.Command.TheVariants.{Once, Times}
 use Rattle.texts.specs.declared.grammar.Setup.{Setup}
+use Rattle.texts.specs.declared.grammar.Shape.{Shape}
+use Rattle.texts.specs.declared.grammar.Shape.TheVariants as shapes
 use Rattle.texts.specs.Families.{kind_named, call_named}
 unfoldable pub use Rattle.texts.specs.Reading.{Gives, ◌>>=◌, next_word, ended, number_at, owner_at}
 use Rattle.texts.specs.Text.{number_of}
 
 -- ---- the first line
 
+-- the kind of a structure
+abbrev pub kind_in : Shape → Kind
+kind_in (shapes.Of kind capacity) = kind
+kind_in (shapes.Loan slots queue) = kinds.Loan
+
+-- its capacity, of a loan channel its slots
+abbrev pub capacity_in : Shape → ℕ
+capacity_in (shapes.Of kind capacity) = capacity
+capacity_in (shapes.Loan slots queue) = slots
+
 abbrev pub kind_of : List ℕ → Result Kind Cause
 kind_of name = elim (kind_named name) [ Some kind ↦ Ok kind | None ↦ Err UnknownKind ]
 
--- the capacity of a loan channel's queue; any other kind has none
-abbrev pub queue_at : Kind → List (List ℕ) → Result (ℕ × List (List ℕ)) Cause
-queue_at kind ws = if is_loan kind then number_at (2 ^ 64 - 1) ws else Ok (0, ws)
+-- a structure of a kind: of a loan channel its slots and its queue, of any other its capacity
+abbrev pub shape_at : Kind → List (List ℕ) → Result (Shape × List (List ℕ)) Cause
+shape_at kind ws = do
+  capacity ← number_at (2 ^ 64 - 1) ws
+  if is_loan kind
+      then (number_at (2 ^ 64 - 1) capacity.1 >>= λ queue. Ok (shapes.Loan capacity.0 queue.0, queue.1))
+      else Ok (shapes.Of kind capacity.0, capacity.1)
 
--- a kind, a capacity, of a loan channel that of its queue too, and how many parties
+-- a kind, the numbers of its structure, and how many parties
 unfoldable pub setup_of : List (List ℕ) → Result Setup Cause
 setup_of ws = do
   name ← next_word ws
   kind ← kind_of name.0
-  capacity ← number_at (2 ^ 64 - 1) name.1
-  queue ← queue_at kind capacity.1
-  parties ← number_at (2 ^ 32 - 1) queue.1
+  shape ← shape_at kind name.1
+  parties ← number_at (2 ^ 32 - 1) shape.1
   end ← ended parties.1
-  Ok (record { kind = kind; capacity = capacity.0; queue = queue.0; parties = parties.0 })
+  Ok (record { shape = shape.0; parties = parties.0 })
 
 -- ---- turns
 

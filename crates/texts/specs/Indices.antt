@@ -1,6 +1,6 @@
 -- The calls of the unique index set, as a schedule names them and as they print. The robust index
--- set has a room of its own within.
-use Rattle.std.specs.Prelude.{ℕ, ◌-◌, ◌^◌, List, ◌++◌, Option, Some, None, Result, Ok, Err, if◌then◌else◌, bytes_eq, codes, decimal}
+-- set has files of its own within.
+use Rattle.std.specs.Prelude.{ℕ, ◌-◌, ◌^◌, List, ◌++◌, Result, Ok, Err, if◌then◌else◌, bytes_eq, codes, decimal}
 use Rattle.steps.specs.declared.indices.enums.ReleaseMode.{ReleaseMode}
 use Rattle.steps.specs.declared.indices.enums.ReleaseMode.TheVariants.{LockIfLastIndex, Default}
 use Rattle.steps.specs.declared.indices.enums.ReleaseState.{ReleaseState}
@@ -11,17 +11,12 @@ use Rattle.model.specs.declared.event.Start.{Start}
 use Rattle.model.specs.declared.event.Start.TheVariants.{Indices}
 use Rattle.model.specs.declared.families.indices.IndexStart.{IndexStart}
 use Rattle.model.specs.declared.families.indices.IndexStart.TheVariants.{Acquire, Release, BorrowedIndices, IsLocked}
-use Rattle.model.specs.declared.turn.Kind.{Kind}
-use Rattle.model.specs.declared.turn.Kind as kinds
 use Rattle.texts.specs.declared.error.Cause.{Cause}
 use Rattle.texts.specs.declared.error.Cause.TheVariants.{BadValue, UnknownCall}
 use Rattle.texts.specs.Reading.{◌>>=◌, next_word, number_at}
 pub mod Robust
 
 -- ---- how they are read
-
-abbrev pub kind_of : List ℕ → Option Kind
-kind_of name = if bytes_eq name (codes "indices") then Some kinds.TheVariants.Indices else None
 
 abbrev pub mode_of : List ℕ → Result ReleaseMode Cause
 mode_of word =

@@ -4,16 +4,11 @@ use Rattle.model.specs.declared.event.Start.{Start}
 use Rattle.model.specs.declared.event.Start as starts
 use Rattle.model.specs.declared.families.loan.LoanStart.{LoanStart}
 use Rattle.model.specs.declared.families.loan.LoanStart.TheVariants.{Loan, Send, GiveUp, TakeBack, Receive, GiveBack, Reclaim}
-use Rattle.model.specs.declared.turn.Kind.{Kind}
-use Rattle.model.specs.declared.turn.Kind as kinds
 use Rattle.texts.specs.declared.error.Cause.{Cause}
 use Rattle.texts.specs.declared.error.Cause.TheVariants.{UnknownCall}
 use Rattle.texts.specs.Reading.{◌>>=◌, number_at}
 
 -- ---- how they are read
-
-abbrev pub kind_of : List ℕ → Option Kind
-kind_of name = if bytes_eq name (codes "loan") then Some kinds.TheVariants.Loan else None
 
 unfoldable pub send : List (List ℕ) → Result (LoanStart × List (List ℕ)) Cause
 send ws = do

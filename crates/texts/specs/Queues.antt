@@ -8,20 +8,11 @@ use Rattle.model.specs.declared.families.queues.QueueStart.{QueueStart}
 use Rattle.model.specs.declared.families.queues.QueueStart.TheVariants.{AcquireProducer, ReleaseProducer}
 use Rattle.model.specs.declared.families.queues.QueueStart.TheVariants.{AcquireConsumer, ReleaseConsumer, PushIndex}
 use Rattle.model.specs.declared.families.queues.QueueStart.TheVariants.{Push, Pop, Len, IsEmpty, IsFull}
-use Rattle.model.specs.declared.turn.Kind.{Kind}
-use Rattle.model.specs.declared.turn.Kind.TheVariants.{IndexQueue, Overflow, Queue}
 use Rattle.texts.specs.declared.error.Cause.{Cause}
 use Rattle.texts.specs.declared.error.Cause.TheVariants.{UnknownCall}
 use Rattle.texts.specs.Reading.{◌>>=◌, number_at}
 
 -- ---- how they are read
-
-abbrev pub kind_of : List ℕ → Option Kind
-kind_of name =
-    if bytes_eq name (codes "index_queue") then Some IndexQueue
-    else if bytes_eq name (codes "overflow") then Some Overflow
-    else if bytes_eq name (codes "queue") then Some Queue
-    else None
 
 abbrev pub role_call : List ℕ → Option (QueueStart ℕ)
 role_call name =

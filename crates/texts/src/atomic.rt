@@ -2,7 +2,7 @@
 ghost use Rattle.std.specs.Prelude.{◌≡◌, ◌+◌, ◌≤◌, ◌++◌, length};
 ghost use Rattle.texts.specs.Text.{words_left};
 ghost use Rattle.texts.specs.Grammar.{Gives};
-ghost use Rattle.texts.specs.Atomic.{kind_of, store, any_value_call, value_call, call_text};
+ghost use Rattle.texts.specs.Atomic.{store, any_value_call, value_call, call_text};
 
 use crate::error::Cause;
 use crate::grammar::number_at;
@@ -10,18 +10,6 @@ use crate::line::Line;
 use crate::text::Rest;
 use model::event::Start;
 use model::families::atomic::AtomicStart;
-use model::turn::Kind;
-
-/// The kind of this name.
-pub fn kind_of(name: &[u8]) -> Option<Kind>
-    ensures { result ≡ kind_of name.now }
-{
-    if name == b"atomic".as_slice() {
-        Some(Kind::Atomic)
-    } else {
-        None
-    }
-}
 
 #[tactic(auto, unfolding(crate::specs::Atomic::store))]
 fn store(words: Rest<'_>) -> Result<(AtomicStart<u128>, Rest<'_>), Cause>

@@ -2,7 +2,7 @@
 ghost use Rattle.std.specs.Prelude.{◌≡◌, ◌+◌, ◌≤◌, ◌++◌, length, codes, decimal};
 ghost use Rattle.texts.specs.Text.{words_left};
 ghost use Rattle.texts.specs.Grammar.{Gives};
-ghost use Rattle.texts.specs.Bits.{kind_of, set, any_set_call, any_bit_set_call, bit_set_call, counting_bit_set_call, call_text, taken_text};
+ghost use Rattle.texts.specs.Bits.{set, any_set_call, any_bit_set_call, bit_set_call, counting_bit_set_call, call_text, taken_text};
 
 use crate::error::Cause;
 use crate::grammar::number_at;
@@ -10,20 +10,6 @@ use crate::line::Line;
 use crate::text::Rest;
 use model::event::Start;
 use model::families::bits::BitsStart;
-use model::turn::Kind;
-
-/// The kind of this name.
-pub fn kind_of(name: &[u8]) -> Option<Kind>
-    ensures { result ≡ kind_of name.now }
-{
-    if name == b"bits".as_slice() {
-        Some(Kind::Bits)
-    } else if name == b"counts".as_slice() {
-        Some(Kind::Counts)
-    } else {
-        None
-    }
-}
 
 #[tactic(auto, unfolding(crate::specs::Bits::set))]
 fn set(words: Rest<'_>) -> Result<(BitsStart, Rest<'_>), Cause>

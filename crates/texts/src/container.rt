@@ -2,7 +2,7 @@
 ghost use Rattle.std.specs.Prelude.{◌≡◌, ◌+◌, ◌≤◌, ◌++◌, length, decimal};
 ghost use Rattle.texts.specs.Text.{words_left};
 ghost use Rattle.texts.specs.Grammar.{Gives};
-ghost use Rattle.texts.specs.Container.{kind_of, add, remove, replace, find, recover, look_call, any_container_call};
+ghost use Rattle.texts.specs.Container.{add, remove, replace, find, recover, look_call, any_container_call};
 ghost use Rattle.texts.specs.Container.{container_call, placed_text, call_text, add_failure_text, remove_error_text};
 
 use crate::error::Cause;
@@ -12,19 +12,7 @@ use crate::line::Line;
 use crate::text::Rest;
 use model::event::Start;
 use model::families::container::ContainerStart;
-use model::turn::Kind;
 use steps::container::enums::{ContainerAddFailure, ContainerRemoveError};
-
-/// The kind of this name.
-pub fn kind_of(name: &[u8]) -> Option<Kind>
-    ensures { result ≡ kind_of name.now }
-{
-    if name == b"container".as_slice() {
-        Some(Kind::Container)
-    } else {
-        None
-    }
-}
 
 // What holds an owner is passed on by a match: the borrow checker has no rule for `?` on it.
 

@@ -1,5 +1,5 @@
-//! The families of calls: a line for each kind, call, answer and event, which goes straight to its room. An answer or an
-//! event can be several families': one that is no more than words and numbers prints here.
+//! The families of calls: the name of each kind, and a line for each call, answer and event, which passes on to the
+//! family's file. An answer or an event that several families can have, of words and numbers alone, prints here.
 ghost use Rattle.std.specs.Prelude.{◌≡◌, ◌+◌, ◌≤◌, ◌++◌, length};
 ghost use Rattle.texts.specs.Families.{kind_named, call_named, some_text, text_of_call, text_of_answer, answered_text, text_of_event};
 ghost use Rattle.texts.specs.Grammar.{Gives};
@@ -13,32 +13,33 @@ use crate::{atomic, bits, container, indices, loan, queues};
 use model::event::{Answer, Event, Start};
 use model::turn::Kind;
 
-// The first that is not None.
-macro_rules! first_some {
-    ($last:expr) => {
-        $last
-    };
-    ($first:expr, $($rest:expr),+) => {
-        match $first {
-            Some(said) => Some(said),
-            None => first_some!($($rest),+),
-        }
-    };
-}
-
 /// The kind of this name.
 pub fn kind_of(name: &[u8]) -> Option<Kind>
     ensures { result ≡ kind_named name.now }
 {
-    first_some!(
-        queues::kind_of(name),
-        atomic::kind_of(name),
-        bits::kind_of(name),
-        indices::kind_of(name),
-        robust::kind_of(name),
-        container::kind_of(name),
-        loan::kind_of(name)
-    )
+    if name == b"index_queue".as_slice() {
+        Some(Kind::IndexQueue)
+    } else if name == b"overflow".as_slice() {
+        Some(Kind::Overflow)
+    } else if name == b"queue".as_slice() {
+        Some(Kind::Queue)
+    } else if name == b"atomic".as_slice() {
+        Some(Kind::Atomic)
+    } else if name == b"bits".as_slice() {
+        Some(Kind::Bits)
+    } else if name == b"counts".as_slice() {
+        Some(Kind::Counts)
+    } else if name == b"indices".as_slice() {
+        Some(Kind::Indices)
+    } else if name == b"robust".as_slice() {
+        Some(Kind::Robust)
+    } else if name == b"container".as_slice() {
+        Some(Kind::Container)
+    } else if name == b"loan".as_slice() {
+        Some(Kind::Loan)
+    } else {
+        None
+    }
 }
 
 /// The call of this name on a structure of this kind, with its arguments, and the words behind them.

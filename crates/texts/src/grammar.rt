@@ -1,7 +1,7 @@
 //! What a line says, read word by word.
 ghost use Rattle.std.specs.Prelude.{◌≡◌, ◌≤◌, ◌-◌, ◌==◌, IfOk};
 ghost use Rattle.texts.specs.Text.{words_left, words};
-ghost use Rattle.texts.specs.Grammar.{Gives, next_word, ended, number_at, owner_at, kind_of, queue_at, setup_of};
+ghost use Rattle.texts.specs.Grammar.{Gives, next_word, ended, number_at, owner_at, kind_in, capacity_in, kind_of, shape_at, setup_of};
 ghost use Rattle.texts.specs.Grammar.{begin_of, count_of, next_of, decision_of, turn_of, death_of, command_of};
 
 use crate::error::Cause;
@@ -14,12 +14,41 @@ use steps::enums::OwnerId;
 /// The greatest number of an owner.
 const GREATEST_OWNER: u128 = 0xffff_ffff_ffff_fffe;
 
-/// The first line: the machine, before its capacity is tested. The second number is that of a loan channel's queue.
+/// A structure, before its capacity is tested.
+#[derive(Clone, Copy)]
+pub enum Shape {
+    /// One of this kind and capacity. No text gives a loan channel so; it would have as long a queue as slots.
+    Of(Kind, u64),
+    /// A loan channel of so many slots, with a submission queue of this capacity.
+    Loan(u64, u64),
+}
+
+impl Shape {
+    /// The kind of the structure.
+    pub fn kind(self) -> Kind
+        ensures { result ≡ kind_in self }
+    {
+        match self {
+            Shape::Of(kind, _) => kind,
+            Shape::Loan(_, _) => Kind::Loan,
+        }
+    }
+
+    /// The capacity, of a loan channel its slots.
+    pub fn capacity(self) -> u64
+        ensures { result ≡ capacity_in self }
+    {
+        match self {
+            Shape::Of(_, capacity) => capacity,
+            Shape::Loan(slots, _) => slots,
+        }
+    }
+}
+
+/// The first line: the machine, before its capacity is tested.
 #[derive(Clone, Copy)]
 pub struct Setup {
-    pub kind: Kind,
-    pub capacity: u64,
-    pub queue: u64,
+    pub shape: Shape,
     pub parties: u32,
 }
 
@@ -87,15 +116,16 @@ fn kind_of(name: &[u8]) -> Result<Kind, Cause>
     }
 }
 
-// The capacity of a loan channel's queue, and the words behind it. Any other kind has none.
-fn queue_at(kind: Kind, words: Rest<'_>) -> Result<(u64, Rest<'_>), Cause>
-    ensures { Gives (λ x. (x.0, words_left x.1)) result (queue_at kind (words_left words.entry)) }
+// A structure of this kind, and the words behind it: of a loan channel its slots and its queue, of any other its capacity.
+fn shape_at(kind: Kind, words: Rest<'_>) -> Result<(Shape, Rest<'_>), Cause>
+    ensures { Gives (λ x. (x.0, words_left x.1)) result (shape_at kind (words_left words.entry)) }
 {
+    let (capacity, rest) = number_at(u128::from(u64::MAX), words)?;
     if !is_loan(kind) {
-        return Ok((0, words));
+        return Ok((Shape::Of(kind, capacity as u64), rest));
     }
-    let (queue, rest) = number_at(u128::from(u64::MAX), words)?;
-    Ok((queue as u64, rest))
+    let (queue, rest) = number_at(u128::from(u64::MAX), rest)?;
+    Ok((Shape::Loan(capacity as u64, queue as u64), rest))
 }
 
 /// Reads the first line: a kind, a capacity, of a loan channel that of its queue too, and how many parties. The error is
@@ -106,14 +136,11 @@ pub fn setup_of(line: &[u8]) -> Result<Setup, Cause>
 {
     let (name, rest) = next_word(words(line))?;
     let kind = kind_of(name)?;
-    let (capacity, rest) = number_at(u128::from(u64::MAX), rest)?;
-    let (queue, rest) = queue_at(kind, rest)?;
+    let (shape, rest) = shape_at(kind, rest)?;
     let (parties, rest) = number_at(u128::from(u32::MAX), rest)?;
     ended(rest)?;
     Ok(Setup {
-        kind,
-        capacity: capacity as u64,
-        queue,
+        shape,
         parties: parties as u32,
     })
 }

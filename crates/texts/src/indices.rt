@@ -1,9 +1,9 @@
-//! The calls of the unique index set, as a schedule names them and as they print. The robust index set has a room of
+//! The calls of the unique index set, as a schedule names them and as they print. The robust index set has files of
 //! its own within.
 ghost use Rattle.std.specs.Prelude.{◌≡◌, ◌+◌, ◌≤◌, ◌++◌, length};
 ghost use Rattle.texts.specs.Text.{words_left};
 ghost use Rattle.texts.specs.Grammar.{Gives};
-ghost use Rattle.texts.specs.Indices.{kind_of, mode_of, mode_at, release, any_index_call, index_call, mode_text, call_text, failure_text, state_text};
+ghost use Rattle.texts.specs.Indices.{mode_of, mode_at, release, any_index_call, index_call, mode_text, call_text, failure_text, state_text};
 
 pub mod robust;
 
@@ -13,19 +13,7 @@ use crate::line::Line;
 use crate::text::Rest;
 use model::event::Start;
 use model::families::indices::IndexStart;
-use model::turn::Kind;
 use steps::indices::enums::{ReleaseMode, ReleaseState, UniqueIndexSetAcquireFailure};
-
-/// The kind of this name.
-pub fn kind_of(name: &[u8]) -> Option<Kind>
-    ensures { result ≡ kind_of name.now }
-{
-    if name == b"indices".as_slice() {
-        Some(Kind::Indices)
-    } else {
-        None
-    }
-}
 
 fn mode_of(word: &[u8]) -> Result<ReleaseMode, Cause>
     ensures { Gives (λ mode. mode) result (mode_of word.now) }

@@ -2,7 +2,7 @@
 ghost use Rattle.std.specs.Prelude.{◌≡◌, ◌+◌, ◌≤◌, ◌++◌, length};
 ghost use Rattle.texts.specs.Text.{words_left};
 ghost use Rattle.texts.specs.Grammar.{Gives};
-ghost use Rattle.texts.specs.Loan.{kind_of, send, give_up, give_back, bare_call, any_loan_call, loan_call, call_text};
+ghost use Rattle.texts.specs.Loan.{send, give_up, give_back, bare_call, any_loan_call, loan_call, call_text};
 
 use crate::error::Cause;
 use crate::grammar::number_at;
@@ -10,18 +10,6 @@ use crate::line::Line;
 use crate::text::Rest;
 use model::event::Start;
 use model::families::loan::LoanStart;
-use model::turn::Kind;
-
-/// The kind of this name.
-pub fn kind_of(name: &[u8]) -> Option<Kind>
-    ensures { result ≡ kind_of name.now }
-{
-    if name == b"loan".as_slice() {
-        Some(Kind::Loan)
-    } else {
-        None
-    }
-}
 
 #[tactic(auto, unfolding(crate::specs::Loan::send))]
 fn send(words: Rest<'_>) -> Result<(LoanStart, Rest<'_>), Cause>

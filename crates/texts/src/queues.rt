@@ -2,7 +2,7 @@
 ghost use Rattle.std.specs.Prelude.{◌≡◌, ◌+◌, ◌≤◌, ◌++◌, length, decimal};
 ghost use Rattle.texts.specs.Text.{words_left};
 ghost use Rattle.texts.specs.Grammar.{Gives};
-ghost use Rattle.texts.specs.Queues.{kind_of, role_call, length_call, push_index, push_value, push_call, item_call};
+ghost use Rattle.texts.specs.Queues.{role_call, length_call, push_index, push_value, push_call, item_call};
 ghost use Rattle.texts.specs.Queues.{any_call, queue_call, index_queue_call, value_queue_call, call_text, item_text};
 
 use crate::error::Cause;
@@ -11,22 +11,6 @@ use crate::line::Line;
 use crate::text::Rest;
 use model::event::{Item, Start};
 use model::families::queues::QueueStart;
-use model::turn::Kind;
-
-/// The kind of this name.
-pub fn kind_of(name: &[u8]) -> Option<Kind>
-    ensures { result ≡ kind_of name.now }
-{
-    if name == b"index_queue".as_slice() {
-        Some(Kind::IndexQueue)
-    } else if name == b"overflow".as_slice() {
-        Some(Kind::Overflow)
-    } else if name == b"queue".as_slice() {
-        Some(Kind::Queue)
-    } else {
-        None
-    }
-}
 
 fn role_call(name: &[u8]) -> Option<QueueStart<u128>>
     ensures { result ≡ role_call name.now }

@@ -60,7 +60,8 @@ fn write_marks(pen: &mut Pen, story: &Story, lane: usize, turn: usize) {
     }
 }
 
-// What a lane shows at a turn: what its party did, the answer with which its call ends, the numbers of its acts.
+// What a lane shows at a turn. That is what its party did, the answer with which its call ends, and the numbers of its
+// acts.
 fn write_cell(pen: &mut Pen, story: &Story, lane: usize, turn: usize) {
     let from = pen.len();
     let goes_on = write_calls(pen, story, lane, turn);
@@ -112,7 +113,7 @@ fn write_head(pen: &mut Pen, story: &Story, widths: &[usize]) {
     pen.put("\n");
 }
 
-// A number, at the right of four letters where it is short.
+// Writes a number, with spaces in front up to four places.
 fn write_number(pen: &mut Pen, number: usize) {
     for least in [1000, 100, 10] {
         if number < least {

@@ -15,8 +15,8 @@ const WIDE: usize = 60;
 /// What stands behind the number of those that are not.
 pub const MORE: &str = " more";
 
-// A value; a flag; a place with its count; an index with the party or the owner that has it, surely or not yet, and
-// with the value that stands there.
+// A value, a flag, a place with its count, or an index. An index has with it the party or the owner that has it, surely
+// or not yet, and the value that stands there.
 #[derive(Clone, Copy)]
 struct Item {
     key: u128,

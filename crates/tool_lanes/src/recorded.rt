@@ -46,7 +46,7 @@ pub struct Opening<'a> {
     bytes: usize,
 }
 
-/// A run, up to its end or to the line that is malformed, on a machine that is named by nobody here.
+/// A run over any machine, up to its end or to the line that is malformed.
 pub struct Recorded<M> {
     pub setup: Setup,
     pub machine: M,
@@ -166,7 +166,7 @@ impl<M: TakesTurns<u128>> Recorded<M> {
         if line.is_empty() {
             return Ok(true);
         }
-        match read_command(self.setup.kind, line) {
+        match read_command(self.setup.shape.kind(), line) {
             Ok(command) => {
                 self.command(command)?;
                 Ok(true)

@@ -13,7 +13,7 @@ pub struct Call {
     pub text: String,
 }
 
-// A drop by hand, here and in the modules beside, is one call in the proof of whoever has one of these, on each way out.
+// A drop by hand, here and in the modules beside, is one call in a caller's proof, on each way out.
 impl Drop for Call {
     fn drop(self) {
         let Self {

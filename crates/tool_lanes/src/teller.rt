@@ -5,7 +5,7 @@ use crate::story::{Act, After, Call, Mark, Story, Turned};
 use machine::event::Event;
 use machine::turn::{Kind, Refusal};
 use schedule::bare::{TakesTurns, line_of, line_of_refusal, text_of};
-use schedule::grammar::Setup;
+use schedule::grammar::{Setup, Shape};
 use schedule::pen::Pen;
 use std::alloc::{AllocError, Global};
 
@@ -79,12 +79,13 @@ fn name_of(kind: Kind) -> &'static str {
 
 fn title_of(alloc: Global, setup: Setup) -> Result<String, AllocError> {
     let mut pen = Pen::new(alloc);
-    pen.put(name_of(setup.kind));
-    if let Kind::Loan = setup.kind {
-        pen.large(", slots ", u128::from(setup.capacity));
-        pen.large(", queue ", u128::from(setup.queue));
-    } else {
-        pen.large(", capacity ", u128::from(setup.capacity));
+    pen.put(name_of(setup.shape.kind()));
+    match setup.shape {
+        Shape::Of(_, capacity) => pen.large(", capacity ", u128::from(capacity)),
+        Shape::Loan(slots, queue) => {
+            pen.large(", slots ", u128::from(slots));
+            pen.large(", queue ", u128::from(queue));
+        }
     }
     pen.number(", parties ", setup.parties as usize);
     pen.done()
@@ -97,7 +98,7 @@ fn opening(
     parties: &[u32],
     cut: bool,
 ) -> Result<Story, AllocError> {
-    let order = if has_acts(setup.kind) {
+    let order = if has_acts(setup.shape.kind()) {
         "calls in the order in which they act"
     } else {
         "changes in their order"
@@ -110,7 +111,7 @@ fn opening(
         calls: Vec::new(alloc),
         marks: Vec::new(alloc),
         acts: Vec::new(alloc),
-        opening: Contents::new(alloc, setup.kind)?.text(alloc)?,
+        opening: Contents::new(alloc, setup.shape.kind())?.text(alloc)?,
         contents: Vec::new(alloc),
         cut,
     })
@@ -333,7 +334,7 @@ pub fn tell<M: TakesTurns<u128>>(alloc: Global, run: &Recorded<M>) -> Result<Sto
     let mut teller = Teller {
         alloc,
         parties: &parties,
-        contents: Contents::new(alloc, run.setup.kind)?,
+        contents: Contents::new(alloc, run.setup.shape.kind())?,
         story: opening(alloc, run.setup, &run.turns, &parties, run.cut)?,
         unbegun: run.unbegun.as_slice(),
     };

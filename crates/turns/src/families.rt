@@ -1,4 +1,4 @@
-//! The families of calls. Each has a room of its own, and here one line where a machine passes on to it.
+//! The families of calls. Each has files of its own, and here one line where a machine passes on to it.
 ghost use Rattle.std.specs.Prelude.{◌≡◌, ◌+◌, ◌≤◌, ◌++◌, ◌⊎◌, true, false, None, Some, OnOk, IfOk, IfErr, vec_len, vec_capacity};
 ghost use Rattle.steps.specs.Ask.{CameTo};
 ghost use Rattle.model.specs.Families.{opening_of, first_of, begin_rows, want_of, is_question, most_of, beside_of};

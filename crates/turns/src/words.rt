@@ -1,5 +1,5 @@
 //! One operation on one word of a machine.
-ghost use Rattle.std.specs.Prelude.{◌≡◌, slice_index};
+ghost use Rattle.std.specs.Prelude.{◌≡◌, slice_index, slice_set};
 ghost use Rattle.model.specs.Turns.{old_of, words_after, change_of, step_count};
 
 use steps::ask::Ask;
@@ -11,41 +11,53 @@ pub fn word_at(words: &Vec<u64>, word: usize) -> u64
     if word < words.len() { words[word] } else { 0 }
 }
 
-/// The value of the asked word, or 0 where none is asked for or there is no such word.
-pub fn old(words: &Vec<u64>, ask: Option<Ask>) -> u64
-    ensures { result ≡ old_of words.now.items ask }
-{
-    match ask {
-        Some(ask) => word_at(words, ask.word),
-        None => 0,
-    }
+/// What an operation finds in its word, and what it leaves there.
+#[derive(Clone, Copy)]
+pub struct Access {
+    /// The word's place.
+    pub word: usize,
+    /// What it has.
+    pub old: u64,
+    /// What the operation leaves.
+    pub new: u64,
+    /// 1 where the value changes, else 0.
+    pub change: u64,
 }
 
-/// 1 where the operation changes the value of its word, else 0.
-pub fn change(words: &Vec<u64>, ask: Option<Ask>) -> u64
-    ensures { result ≡ change_of words.now.items ask }
+/// Looks up what the operation finds and leaves, for `write` to do. Where none is asked for, or there is no such word, the
+/// place is the one behind the last word, where `write` does nothing.
+pub fn read(words: &Vec<u64>, ask: Option<Ask>) -> Access
+    ensures old { result.old ≡ old_of words.now.items ask }
+    ensures change { result.change ≡ change_of words.now.items ask }
+    ensures written { slice_set words.now.items result.word result.new
+        ≡ words_after words.now.items ask }
 {
     match ask {
-        Some(ask) => {
-            if ask.word < words.len() && ask.op.apply(words[ask.word]) != words[ask.word] {
-                1
-            } else {
-                0
+        Some(ask) if ask.word < words.len() => {
+            let old = words[ask.word];
+            let new = ask.op.apply(old);
+            Access {
+                word: ask.word,
+                old,
+                new,
+                change: if new == old { 0 } else { 1 },
             }
         }
-        None => 0,
+        _ => Access {
+            word: words.len(),
+            old: 0,
+            new: 0,
+            change: 0,
+        },
     }
 }
 
 /// Does the operation.
-pub fn write(words: &mut Vec<u64>, ask: Option<Ask>)
-    ensures { words.new.items ≡ words_after words.old.items ask }
+pub fn write(words: &mut Vec<u64>, access: Access)
+    ensures { words.new.items ≡ slice_set words.old.items access.word access.new }
 {
-    if let Some(ask) = ask {
-        let new = ask.op.apply(old(words, Some(ask)));
-        if ask.word < words.len() {
-            words[ask.word] = new;
-        }
+    if access.word < words.len() {
+        words[access.word] = access.new;
     }
 }
 

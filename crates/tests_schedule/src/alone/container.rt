@@ -40,7 +40,7 @@ fn replace<T: Words + Drop>(
     }
 }
 
-/// Takes at most so many steps of a look of the state: what it answers and its steps, where it has ended.
+/// Takes at most so many steps of a look of the state. Where it has ended, these are what it answers and its steps.
 fn looks<T: Words>(
     state: &mut ContainerState<T>,
     most: u64,

@@ -32,7 +32,8 @@ pub(crate) fn answer_to(asked: Option<Ask>, words: &mut [u64]) -> u64 {
     }
 }
 
-/// Takes at most so many steps of the call by value: its answer and its steps, or the call where it has not ended.
+/// Takes at most so many steps of the call by value. It returns the call's answer and steps, or the call where it has
+/// not ended.
 fn by_value<C: Call + Drop>(
     mut call: C,
     most: u64,
@@ -69,8 +70,8 @@ where
     None
 }
 
-/// Takes at most so many steps of the call in both ways, each over words of its own: its answer and its steps, or the
-/// call where it has not ended, and None where the two ways part.
+/// Takes at most so many steps of the call in both ways, each over words of its own. It returns the call's answer and
+/// steps, or the call where it has not ended, and None where the two ways part.
 fn run<C: Routine + Drop, const N: usize>(
     call: Running<C, C::Given, C::Room>,
     most: u64,

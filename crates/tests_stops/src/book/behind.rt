@@ -30,7 +30,8 @@ fn word(words: &[u64], place: u64) -> u64 {
     }
 }
 
-/// The most steps of a call, and how many more for each turn back: those of docs/FIELD.md, for values of two words.
+/// The most steps of a call, and how many more for each turn back. They are those of docs/FIELD.md, for values of two
+/// words.
 fn bounds(call: &Call, capacity: u64) -> (u64, u64) {
     let each = capacity.wrapping_mul(capacity.wrapping_add(12));
     match call.name {

@@ -3,8 +3,8 @@ use super::{Book, Span, at, value_at};
 use crate::replay::{Right, bit, fits, want};
 use crate::told::{Name, Said, Told, What};
 
-/// A call, what it writes, behind what it may do so at the same index, and whether it may so behind anything of a lower
-/// index.
+/// A call, what it writes, and behind what it may write it at the same index. The last is whether it may also write it
+/// behind anything of a lower index.
 type Step = (Name, What, &'static [What], bool);
 
 static STEPS: [Step; 19] = [

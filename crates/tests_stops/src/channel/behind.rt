@@ -116,8 +116,8 @@ impl Channel {
         }
     }
 
-    /// Whether the queue that begins at this word, with so many cells, has these indices in this order, and whether they
-    /// are those of this place. Nobody takes its roles.
+    /// Whether the queue that begins at this word, with so many cells, has these indices in this order. They have to be
+    /// those of this place. Nobody takes its roles.
     fn is_queue(&self, line: &Line, base: u64, cells: u64, place: u64) -> bool {
         let read = self.word(base.wrapping_add(1));
         let mut is_queue = self.word(base).wrapping_sub(read) == line.length;
@@ -191,7 +191,8 @@ impl Channel {
         )
     }
 
-    /// Whether it is with the sender or the receiver where somebody has it, and one in passing is in a call under way.
+    /// Whether it is with the sender or the receiver where somebody has it. One in passing has to be in a call under
+    /// way.
     fn is_spot_right(&self, stands: u64) -> bool {
         let is_with = stands >= WITH;
         let is_waiting = stands < PASSING;

@@ -4,7 +4,7 @@ use super::{Channel, Span, at, index_of};
 use crate::replay::{Right, want};
 use crate::told::{Name, Said, Told};
 
-/// How many indices a call has moved by a kind of event: none, one and its own, one and what it answers, or any.
+/// How many indices a call has moved by a kind of event. It is none, one and its own, one and what it answers, or any.
 const NO: u64 = 0;
 
 const ITS: u64 = 1;

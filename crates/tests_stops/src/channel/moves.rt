@@ -15,7 +15,8 @@ pub const PASSING: u64 = 100;
 
 pub const WITH: u64 = 200;
 
-/// An event, the call that writes it, its answer, the place that its index comes from and goes to, and how that is told.
+/// An event, with the call that writes it and its answer. Then come the places that its index comes from and goes to,
+/// and how that is told.
 type Move = (What, Name, Said, u64, u64, &'static str);
 
 static MOVES: [Move; 17] = [
@@ -224,7 +225,7 @@ fn move_of(what: What, name: Name, answer: Said) -> Option<&'static Move> {
 }
 
 impl Channel {
-    /// Whether a reclaim may free it: the dead receiver has it, or was in a call with it as it died.
+    /// Whether a reclaim may free it. The dead receiver has to have it, or to have died in a call with it.
     fn is_left(&self, span: &Span, place: u64) -> bool {
         let is_with = place == spot(WITH, self.receiver);
         let is_of_receiver = is_with | (place == spot(PASSING, self.receiver));

@@ -39,7 +39,7 @@ enum Needs {
     HasRecovered,
 }
 
-/// A call and its answer: how much it has put and taken, what else has to be so, and how that is told.
+/// A call and its answer. Then come how much it has put and taken, what else has to be so, and how that is told.
 type End = (Name, Said, u64, u64, Needs, &'static str);
 
 static ENDS: [End; 45] = [

@@ -51,7 +51,8 @@ pub enum Need {
     IsDead,
 }
 
-/// An event, the calls that may write it, no matter which where none is named, what has to be so, and how that is told.
+/// An event, with the calls that may write it, or with none where any may. Then come what has to be so, and how that is
+/// told.
 type Promise = (What, &'static [Name], Need, &'static str);
 
 const ADDS: &[Name] = &[Name::AcquireFor, Name::Add];

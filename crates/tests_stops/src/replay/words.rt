@@ -50,8 +50,8 @@ impl Replay {
         word(words, flags) == self.stands && says_locked(word(words, 0)) == self.is_locked
     }
 
-    /// Owners, whether it is locked, and behind the number of changes a number of each element, odd where a value stands,
-    /// and its words.
+    /// Whether the words are right: owners and lock, and behind the number of changes the elements. Each element has a
+    /// number, which is odd where a value stands, and its words.
     fn values_stand(&self, words: &[u64]) -> bool {
         let mut stand = self.owners_stand(words) && (word(words, 0) == u64::MAX) == self.is_locked;
         for (index, value) in self.values.iter().enumerate() {

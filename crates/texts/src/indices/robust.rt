@@ -2,7 +2,7 @@
 ghost use Rattle.std.specs.Prelude.{◌≡◌, ◌+◌, ◌≤◌, ◌++◌, length, decimal};
 ghost use Rattle.texts.specs.Text.{words_left};
 ghost use Rattle.texts.specs.Grammar.{Gives};
-ghost use Rattle.texts.specs.Indices.Robust.{kind_of, acquire, release, find, recover, any_robust_call, robust_call, owned_text, call_text, failure_text};
+ghost use Rattle.texts.specs.Indices.Robust.{acquire, release, find, recover, any_robust_call, robust_call, owned_text, call_text, failure_text};
 
 use super::mode_at;
 use crate::error::Cause;
@@ -11,20 +11,8 @@ use crate::line::Line;
 use crate::text::Rest;
 use model::event::Start;
 use model::families::indices::robust::RobustStart;
-use model::turn::Kind;
 use steps::enums::OwnerId;
 use steps::indices::enums::RobustUniqueIndexSetReleaseError;
-
-/// The kind of this name.
-pub fn kind_of(name: &[u8]) -> Option<Kind>
-    ensures { result ≡ kind_of name.now }
-{
-    if name == b"robust".as_slice() {
-        Some(Kind::Robust)
-    } else {
-        None
-    }
-}
 
 // What holds an owner is passed on by a match: the borrow checker has no rule for `?` on it.
 

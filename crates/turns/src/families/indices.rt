@@ -1,5 +1,5 @@
 //! The unique index set: how it opens, which call begins, how it goes on, and what that writes down. The robust index
-//! set has a room of its own within.
+//! set has files of its own within.
 pub mod calls;
 pub mod effects;
 pub mod opening;

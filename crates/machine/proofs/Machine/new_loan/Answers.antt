@@ -4,8 +4,8 @@ use Rattle.parts.specs.Parts.{trace_of}
 use Rattle.model.proofs.Reached.{reached_is, reached_loan}
 use Rattle.machine.proofs.Machine.new_loan.Goals as goal
 
-pub invariant_of-result-2 : goal.invariant_of-result-2
-invariant_of-result-2 g c =
+pub made-requires : goal.made-requires
+made-requires g c =
     let laws = g.met.T.Words in
     let coded : IsCoding (coding_of g.T.Words.WORDS g.T.Words.words_of g.T.Words.value_of) =
     record { some = laws.some; few = laws.few; sized = laws.sized; given_back = laws.given_back } in

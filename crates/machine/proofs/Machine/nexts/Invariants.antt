@@ -4,9 +4,9 @@ use Rattle.model.specs.declared.turn.Turn.TheVariants.{Next}
 use Rattle.model.specs.Turns.{after_turns, AreAllowed}
 use Rattle.model.specs.Promises.{IsKept}
 use Rattle.model.specs.World.{trace_in}
-use Rattle.machine.proofs.Machine.nexts.Given as goal
+use Rattle.machine.proofs.Machine.nexts.Given as given
 
-abbrev pub invariant-loop-taken : goal.invariant-loop-taken
+abbrev pub invariant-loop-taken : given.invariant-loop-taken
 invariant-loop-taken g l =
     record {
       allowed : AreAllowed (trace_in (coding_of g.T.Words.WORDS g.T.Words.words_of g.T.Words.value_of) l.fn.self)

@@ -2,9 +2,9 @@ use Rattle.std.proofs.Common.{◌+◌, ◌≤◌}
 use Rattle.model.specs.Coding.{coding_of}
 use Rattle.model.specs.Small.{HasSmallCounts}
 use Rattle.parts.specs.Parts.{around, Steps}
-use Rattle.parts.proofs.parts.take_steps.Given as goal
+use Rattle.parts.proofs.parts.take_steps.Given as given
 
-abbrev pub invariant-loop-taken : goal.invariant-loop-taken
+abbrev pub invariant-loop-taken : given.invariant-loop-taken
 invariant-loop-taken g l =
     record {
       steps : Steps (coding_of g.T.Words.WORDS g.T.Words.words_of g.T.Words.value_of) l.number l.taken

@@ -2,9 +2,9 @@ use Rattle.std.proofs.Common.{◌≡◌, ℕ, ◌+◌, ◌<◌, ◌^◌, ◌++�
 use Rattle.std.specs.Io.KnownBytes.{Appends}
 use Rattle.schedule.specs.Output.{world_of, lines_from, before}
 use Rattle.texts.specs.Text.{words_left}
-use Rattle.schedule.proofs.runs.do_lines.Given as goal
+use Rattle.schedule.proofs.runs.do_lines.Given as given
 
-abbrev pub invariant-loop-line : goal.invariant-loop-line
+abbrev pub invariant-loop-line : given.invariant-loop-line
 invariant-loop-line g l = record {
   numbered : l.number + length (words_left l.left) < 2 ^ 64;
   written : (memory : List Bool) × (text : List ℕ)
@@ -13,5 +13,5 @@ invariant-loop-line g l = record {
       × Appends (g.W.Write.contents l.fn.writer) (g.W.Write.contents l.writer) text;
 }
 
-abbrev pub decreases-loop-line : goal.decreases-loop-line
+abbrev pub decreases-loop-line : given.decreases-loop-line
 decreases-loop-line g l = length (words_left l.left)

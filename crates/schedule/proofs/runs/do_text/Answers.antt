@@ -14,5 +14,5 @@ do_lines-requires g c = omega (arith, few_lines c.args.input.now c.in-Some.first
 
 pub returns-in-Ok-made_of : goal.returns-in-Ok-made_of
 returns-in-Ok-made_of g c =
-    text_lines c.args.input.now c.in-Some.first.now _ c.in-Ok.setup (world_of c.in-Ok-made_of.machine) _ _ c.do_lines.result
-    (sym c.lines.ensures ∙ c.in-Some.ensures) c.in-Ok.ensures c.in-Ok-made_of.ensures c.do_lines.ensures
+    text_lines c.args.input.now c.in-Some.first.now _ c.in-Ok.setup c.kind.result (world_of c.in-Ok-made_of.machine) _ _ c.do_lines.result
+    (sym c.lines.ensures ∙ c.in-Some.ensures) c.in-Ok.ensures c.kind.ensures c.in-Ok-made_of.ensures c.do_lines.ensures

@@ -1,5 +1,5 @@
 use Rattle.std.proofs.Common.{◌≤◌}
-use Rattle.schedule.proofs.wrong.Grammar.wrong.Given as goal
+use Rattle.schedule.proofs.wrong.Grammar.wrong.Given as given
 
-abbrev pub invariant-loop-at : goal.invariant-loop-at
+abbrev pub invariant-loop-at : given.invariant-loop-at
 invariant-loop-at l = l.start ≤ l.at

@@ -1,7 +1,7 @@
 use Rattle.std.proofs.Common.{◌≡◌, ◌<◌, ◌≤◌, ◌^◌, ◌++◌, decimal, drop, length}
-use Rattle.texts.proofs.line.Line.push_number.Given as goal
+use Rattle.texts.proofs.line.Line.push_number.Given as given
 
-abbrev pub invariant-loop-rest : goal.invariant-loop-rest
+abbrev pub invariant-loop-rest : given.invariant-loop-rest
 invariant-loop-rest l = record {
   fits : l.rest < 10 ^ 39;
   digits : decimal l.rest ++ drop l.at l.digits ≡ decimal l.number;
@@ -10,5 +10,5 @@ invariant-loop-rest l = record {
   sized : length l.digits ≡ 39;
 }
 
-abbrev pub decreases-loop-rest : goal.decreases-loop-rest
+abbrev pub decreases-loop-rest : given.decreases-loop-rest
 decreases-loop-rest l = l.rest

@@ -1,9 +1,9 @@
 use Rattle.std.proofs.Common.{◌≡◌, ◌∷◌, ◌+◌, ◌≤◌}
 use Rattle.std.specs.List.{range_with_len}
 use Rattle.std.specs.Prelude.{vec_len, vec_capacity}
-use Rattle.turns.proofs.families.indices.opening.open.Given as goal
+use Rattle.turns.proofs.families.indices.opening.open.Given as given
 
-abbrev pub invariant-loop-index : goal.invariant-loop-index
+abbrev pub invariant-loop-index : given.invariant-loop-index
 invariant-loop-index g l =
     (l.words.items ≡ 0 ∷ range_with_len 1 l.index)
     × (vec_len l.words ≡ 1 + l.index)
