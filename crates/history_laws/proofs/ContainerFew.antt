@@ -41,7 +41,7 @@ use Rattle.laws_container.proofs.Invariant.{family_by}
 use Rattle.laws_container.proofs.Kept.{contained}
 use Rattle.laws_container.proofs.Living.{steps_leave}
 use Rattle.laws_container.proofs.OpenRuns.{open_turn_sound}
-use Rattle.laws_container.proofs.Sound.{kept_is, opening_sound}
+use Rattle.laws_container.proofs.Sound.{opening_sound}
 use Rattle.laws_container.proofs.Terms.{Terms}
 use Rattle.laws_container.proofs.WellFormed.{well_formed_on}
 use Rattle.history_laws.specs.Owners.{changes, BeginsAlone, LocksApart}
@@ -135,7 +135,7 @@ module _ {T : Type 0} (code : Coding T) (c : ℕ) where
 
   reset : (t : Trace T) → KeptSound t → (m : ℕ) → Bounds t m → KeptSound (with_turns m t)
   reset t s m b =
-      let words : t.world.words ≡ s.state.words = (kept_is t.world.kept t.world.words s.state s.fit).1 in
+      let words : t.world.words ≡ s.state.words = s.fit.words in
       let g = s.holds.good in
       let e = s.holds.elements in
       record {
@@ -296,7 +296,7 @@ module _ {T : Type 0} (t : Trace T) (is : t.world.kind ≡ kinds.TheVariants.Con
 
   -- nothing stands there yet
   words_first : start.world.words ≡ kept_first.state.words
-  words_first = (kept_is start.world.kept start.world.words kept_first.state kept_first.fit).1
+  words_first = kept_first.fit.words
 
   counts_first : (i : ℕ) → i < c → count_at c start.world.words i ≤ 0
   counts_first i below = subst (λ ws. count_at c ws i ≤ 0) (sym words_first) (kept_first.holds.elements.counts refl i below)

@@ -43,7 +43,6 @@ use Rattle.model.proofs.Scenes.{stands_there}
 use Rattle.laws_indices.proofs.Sums.{sum_below, sum_moved, sum_longer}
 use Rattle.laws_robust.specs.Open.{open_refusal}
 use Rattle.laws_container.proofs.Invariant.{family_by, FlightAt}
-use Rattle.laws_container.proofs.Sound.{kept_is}
 use Rattle.history_laws.specs.Containers.{rise, rises}
 use Rattle.history_laws.proofs.ContainerLifts.{container_lifts, lifts_left, IsWithin, is_within, container_lift, keeps, begins as begins_so}
 use Rattle.history_laws.proofs.ContainerWorn.{Sound, terms, some_same}
@@ -252,7 +251,7 @@ module _ {T : Type 0} (code : Coding T) (c : ℕ) (t : Trace T) (s : Sound code 
   inside : n < length ws
   inside =
       let wide = s.holds.elements.wide in
-      let same = ap length (kept_is t.world.kept t.world.words s.state s.fit).1 in
+      let same = ap length s.fit.words in
       omega arith
 
   pays_in : (p : ℕ) (all : List SetAct) (done : List (Act T)) (start : Start T) (flight : Flight T)
@@ -269,7 +268,7 @@ module _ {T : Type 0} (code : Coding T) (c : ℕ) (t : Trace T) (s : Sound code 
   decides_in p answer all done start flight at = absurd at
 
   owners : t.world.kept ≡ Kept
-  owners = (kept_is t.world.kept t.world.words s.state s.fit).0
+  owners = s.fit.kept
 
   module _ (p : ℕ) (x : Party T) (flight : Flight T) (since : ℕ) (found : party_of p t.world.latest ≡ Some x) (doing : x.doing ≡ Going flight since) where
     at : FlightAt c code.size (set_acts_of p s.state.events) (acts_of p s.state.events) x.start flight

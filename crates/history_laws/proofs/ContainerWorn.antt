@@ -47,7 +47,7 @@ use Rattle.laws_robust.proofs.Opening.{admitted_is}
 use Rattle.laws_container.proofs.Everything.{shown}
 use Rattle.laws_container.proofs.Invariant.{family_by, FlightAt}
 use Rattle.laws_container.proofs.OpenRuns.{open_turn_sound}
-use Rattle.laws_container.proofs.Sound.{kept_is, opening_sound}
+use Rattle.laws_container.proofs.Sound.{opening_sound}
 use Rattle.laws_container.proofs.Terms.{Terms}
 use Rattle.history_laws.specs.Owners.{may_lock, is_locking, LocksApart}
 use Rattle.history_laws.proofs.OwnersWords.{counter_of}
@@ -175,7 +175,7 @@ module _ {T : Type 0} (code : Coding T) (c : ℕ) where
     PaysIn z p ask answer kept start flight = PaysBy ws flight ask (step_of z ws (beside_of ws kept t.world.latest p) p start flight answer kept)
 
     owners : t.world.kept ≡ Kept
-    owners = (kept_is t.world.kept t.world.words s.state s.fit).0
+    owners = s.fit.kept
 
     pays_in : (p : ℕ) (all : List SetAct) (done : List (Act T)) (start : Start T) (flight : Flight T)
         → FlightAt c code.size all done start flight → 0 < length ws
@@ -229,7 +229,7 @@ module _ {T : Type 0} (code : Coding T) (c : ℕ) where
               (subst (λ kind. first_of kind t.world.capacity start t.world.kept ≡ Some flight) s.kind e);
           spans = λ q e. spans_there q (party_of q t.world.latest) refl e;
           lock =
-              subst (λ words. (counter_of words == locked) ≡ is_locked t.events) (sym (kept_is t.world.kept t.world.words s.state s.fit).1) s.holds.good.lock;
+              subst (λ words. (counter_of words == locked) ≡ is_locked t.events) (sym s.fit.words) s.holds.good.lock;
         }
 
 -- ---- any run

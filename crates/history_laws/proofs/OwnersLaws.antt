@@ -4,8 +4,8 @@ use Rattle.std.proofs.lemmas.List.Sums.{sum_by-append, sum_by-cons}
 use Rattle.model.specs.declared.event.Event.{Event}
 use Rattle.model.specs.declared.event.Event.TheVariants.{Begun}
 use Rattle.model.specs.Coding.{Coding}
-use Rattle.lock_free_owners.specs.Robust.Told.{IsWorn}
-use Rattle.lock_free_owners.specs.Container.Told as containers
+use Rattle.lock_free_owners.specs.Robust.Contracts.{IsWorn}
+use Rattle.lock_free_owners.specs.Container.Contracts as containers
 use Rattle.history_laws.specs.Owners.{changes, LocksApart, lock_call, lock_calls}
 use Rattle.history_laws.proofs.RobustWorn as robust
 use Rattle.history_laws.proofs.RobustWorn.{worn_after}

@@ -1,6 +1,6 @@
 -- What each turn of a robust index set, or of a container, owes so that its counter stays bounded, and so every open run.
 use Rattle.std.proofs.Common.{◌≡◌, ◌≢◌, inl, inr, ℕ, ◌+◌, ◌*◌, ◌<◌, ◌≤◌, ◌==◌, not, Bool, true, false, true≢false}
-use Rattle.std.proofs.Common.{Option, Some, None, is_some, is_none, List, [], ◌∷◌, ◌++◌}
+use Rattle.std.proofs.Common.{Option, Some, None, is_none, List, [], ◌∷◌, ◌++◌}
 use Rattle.std.proofs.Common.{fold, length, length-set, refl, sym, ap, subst, ◌∙◌, append_assoc, arith, eq-eqb}
 use Rattle.std.proofs.lemmas.List.Sums.{fold-append}
 use Rattle.steps.specs.Indices.Robust.Parts.{locked}
@@ -11,10 +11,8 @@ use Rattle.model.specs.declared.event.Answer.{Answer}
 use Rattle.model.specs.declared.event.Event.{Event}
 use Rattle.model.specs.declared.event.Event.TheVariants.{Begun, Locked}
 use Rattle.model.specs.declared.event.Start.{Start}
-use Rattle.model.specs.declared.event.Start.TheVariants.{Container}
 use Rattle.model.specs.declared.families.Flight.{Flight}
 use Rattle.model.specs.declared.families.Registry.{Registry}
-use Rattle.model.specs.declared.families.container.ContainerStart.TheVariants.{Recover}
 use Rattle.model.specs.declared.party.Doing.{Doing}
 use Rattle.model.specs.declared.party.Doing.TheVariants.{Going, Over}
 use Rattle.model.specs.declared.party.Party.{Party}
@@ -25,7 +23,7 @@ use Rattle.model.specs.Families.{first_of, want_of, ask_of, is_question}
 use Rattle.model.specs.Families.Indices.Reading.{is_locked, locked_after}
 use Rattle.model.specs.Parties.{party_of, doing_of, flight_of}
 use Rattle.model.specs.Reading.{Each, span_of}
-use Rattle.model.specs.Refusals.{is_due, call_refusal}
+use Rattle.model.specs.Refusals.{is_due}
 use Rattle.model.specs.Step.{Step, answer_in}
 use Rattle.laws_turns.proofs.Taken.{MayStart, taken_open}
 use Rattle.model.specs.Turns.{old_of, words_after, number_of, ask_of_doing, party_at_begin, after_begin, doing_after, after_step, step_in}

@@ -1,4 +1,4 @@
--- What a call of a robust index set under way can still add to the counter, and that each of its steps keeps to it.
+-- What a call of a robust index set can still add to the counter while it is under way, and that each of its steps stays within that.
 use Rattle.std.proofs.Common.{◌≡◌, ◌≢◌, ℕ, ◌+◌, ◌*◌, ◌≤◌, ◌==◌, nat_lt, Bool, true, false, refl, arith}
 use Rattle.steps.specs.Indices.Robust.Acquire.{Acquired, acquire_takes}
 use Rattle.steps.specs.Indices.Robust.Find.{find_after}

@@ -40,7 +40,7 @@ use Rattle.laws_robust.specs.Open.{IsReachedOpen}
 use Rattle.laws_robust.proofs.Invariant.{family_by, FlightAt}
 use Rattle.laws_robust.proofs.OpenRuns.{open_turn_sound}
 use Rattle.laws_robust.proofs.Opening.{admitted_is}
-use Rattle.laws_robust.proofs.Sound.{kept_is, opening_sound}
+use Rattle.laws_robust.proofs.Sound.{opening_sound}
 use Rattle.history_laws.specs.Owners.{changes, may_lock, is_locking, LocksApart}
 use Rattle.history_laws.proofs.OwnersWords.{counter_of}
 use Rattle.history_laws.proofs.RobustPays.{robust_left, robust_locks, robust_then, robust_old, RobustStands, SameMode, robust_mode, robust_pays}
@@ -127,7 +127,7 @@ module _ {T : Type 0} (code : Coding T) (c : ℕ) where
         PaysBy ws flight ask (step_of t.world.coding ws (beside_of ws kept t.world.latest p) p start flight answer kept)
 
     owners : t.world.kept ≡ registries.TheVariants.Owners s.state.dead
-    owners = (kept_is t.world.kept t.world.words s.state s.fit).0
+    owners = s.fit.kept
 
     pays_in : (p : ℕ) (all : List SetAct) (start : Start T) (flight : Flight T) → FlightAt c all start flight → 0 < length ws
         → PaysIn p (ask_of (want_of t.world.coding flight)) (old_of ws (ask_of (want_of t.world.coding flight)))
@@ -178,7 +178,7 @@ module _ {T : Type 0} (code : Coding T) (c : ℕ) where
               (subst (λ kind. first_of kind t.world.capacity start t.world.kept ≡ Some flight) s.kind e);
           spans = λ q e. spans_there q (party_of q t.world.latest) refl e;
           lock =
-              subst (λ words. (counter_of words == locked) ≡ is_locked t.events) (sym (kept_is t.world.kept t.world.words s.state s.fit).1) s.holds.good.lock;
+              subst (λ words. (counter_of words == locked) ≡ is_locked t.events) (sym s.fit.words) s.holds.good.lock;
         }
 
 -- ---- any run

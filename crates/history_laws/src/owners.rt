@@ -4,8 +4,8 @@
 ghost use Rattle.std.specs.Prelude.{◌≡◌, ◌-◌, ◌*◌, ◌^◌, ◌≤◌, ℕ, List};
 ghost use Rattle.model.specs.declared.event.Event.{Event};
 ghost use Rattle.model.specs.Coding.{Coding};
-ghost use Rattle.lock_free_owners.specs.Robust.Told.{IsWorn};
-ghost use Rattle.lock_free_owners.specs.Container.Told as containers;
+ghost use Rattle.lock_free_owners.specs.Robust.Contracts.{IsWorn};
+ghost use Rattle.lock_free_owners.specs.Container.Contracts as containers;
 ghost use Rattle.history_laws.specs.Owners.{changes, lock_calls, LocksApart};
 
 /// Where no two calls that may lock overlap, the counter is at its end only after a third of 2^64 - 2 changes: indices

@@ -18,5 +18,5 @@ pub use Rattle.lock_free_queues.specs.Queues.Positions
 pub use Rattle.lock_free_queues.specs.Queues.Rings
 pub use Rattle.lock_free_queues.specs.Queues.Roles
 pub use Rattle.lock_free_queues.specs.Queues.Sums
-pub use Rattle.lock_free_queues.specs.Queues.Told
+pub use Rattle.lock_free_queues.specs.Queues.Contracts
 pub use Rattle.lock_free_queues.specs.Queues.Values

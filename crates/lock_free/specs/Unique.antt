@@ -1,5 +1,5 @@
 -- The words of the contracts of unique index sets.
 pub mod Held
 pub mod Pools
-pub mod Told
+pub mod Contracts
 pub mod Handles

@@ -58,9 +58,17 @@ abbrev pub MissesNothing : Pass → Type 0
 MissesNothing p = passes.MissesNothing (view p)
 
 -- what each call leaves of a pass, and what the pass knows from then on
-pub record GoesOn (old new : Pass) : Type 0 where
+pub record SamePass (old new : Pass) : Type 0 where
   pub set : set_of new ≡ set_of old
   pub share : share new ≡ share old
+  pub sound : IsSound (view new)
+  pub history : HasHistory new
+  pub all : MissesNothing new
+
+-- what a join leaves of a pass, which has what both had
+pub record PassJoins (old other new : Pass) : Type 0 where
+  pub set : set_of new ≡ set_of old
+  pub joined : passes.HasJoined (view old) (view other) (view new)
   pub sound : IsSound (view new)
   pub history : HasHistory new
   pub all : MissesNothing new

@@ -4,6 +4,6 @@ pub use Rattle.history.specs.Value as Reading
 pub use Rattle.history.specs.ValueOpened as Opened
 pub use Rattle.lock_free_value.specs.Calls
 pub use Rattle.lock_free_value.specs.Roles
-pub use Rattle.lock_free_value.specs.Told
+pub use Rattle.lock_free_value.specs.ValueContracts as Contracts
 pub use Rattle.lock_free_value.specs.Versions
 pub use Rattle.lock_free_value.specs.Handles

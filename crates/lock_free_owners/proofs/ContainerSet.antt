@@ -12,6 +12,7 @@ pub mod LookElements
 pub mod Counted
 pub mod FindCounts
 pub mod FindTurns
+pub mod FindCells
 pub mod Finds
 pub mod RecoverTurns
 pub mod RecoverCells

@@ -1,14 +1,14 @@
 pub mod Names
 pub mod Idle
-pub mod Told
+pub mod Contracts
 pub mod Turns
 pub mod Bare
 pub mod Settling
 pub mod LookTurns
 pub mod FindTurns
-pub mod FindTold
+pub mod FindContract
 pub mod RecoverTurns
-pub mod RecoverTold
+pub mod RecoverContract
 pub mod Callable
 pub mod Visits
 pub mod Questions

@@ -1,6 +1,6 @@
 pub mod Stages
 pub mod Callable
-pub mod Told
+pub mod Contracts
 pub mod Finding
 pub mod Recovering
 pub mod Turns

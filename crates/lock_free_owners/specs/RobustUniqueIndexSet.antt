@@ -56,9 +56,16 @@ abbrev pub MissesNothing : Pass → Type 0
 MissesNothing p = passes.MissesNothing (view p)
 
 -- what each call leaves of a pass, and what the pass knows from then on
-pub record GoesOn (old new : Pass) : Type 0 where
+pub record SamePass (old new : Pass) : Type 0 where
   pub set : set_of new ≡ set_of old
   pub goes : passes.Goes one_word kinds.Robust (set_of old).capacity (view old) (view new)
+
+-- what a join leaves of a pass, which has what both had
+pub record PassJoins (old other new : Pass) : Type 0 where
+  pub set : set_of new ≡ set_of old
+  pub joined : passes.HasJoined (view old) (view other) (view new)
+  pub history : HasHistory new
+  pub all : MissesNothing new
 
 -- a capacity from 1 to 2^32 - 1 is admitted
 abbrev pub set_refusal : ℕ → Option UniqueIndexCreationError

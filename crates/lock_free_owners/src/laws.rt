@@ -9,8 +9,8 @@ ghost use Rattle.model.specs.Reading.{Each};
 ghost use Rattle.laws_container.specs.Open.{IsFaithfulRun};
 ghost use Rattle.laws_turns.specs.Changes.{changes_of, MeetsChanges};
 ghost use Rattle.history.specs.History.{IsHistory};
-ghost use Rattle.lock_free_owners.specs.Robust.Told.{IsSound};
-ghost use Rattle.lock_free_owners.specs.Container.Told as containers;
+ghost use Rattle.lock_free_owners.specs.Robust.Contracts.{IsSound};
+ghost use Rattle.lock_free_owners.specs.Container.Contracts as containers;
 
 /// Each event does to the set what it may, and each answer is right. A recovery asks about what has the owner named.
 /// Where nobody acts for an owner who is gone nor gives back what is not his, no index is granted that somebody holds.

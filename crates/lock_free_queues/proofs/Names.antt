@@ -32,8 +32,7 @@ pub use Rattle.history.specs.Views.{Looks, LooksAt, WhenIdle, first_view, joined
 pub use Rattle.history.specs.declared.view.View.{View}
 pub use Rattle.laws_queues.proofs.Queues.Core.{cell_within, take_all}
 pub use Rattle.laws_queues.proofs.Queues.Invariant.{family, machine_kind, waiting_is}
-pub use Rattle.laws_queues.proofs.Queues.Knows.{Hangs, IsFreshCall, free}
-pub use Rattle.laws_queues.proofs.Queues.Sound.{kept_is}
+pub use Rattle.laws_queues.proofs.Queues.Knows.{Hangs, IsFreshCall, free, layout}
 pub use Rattle.laws_queues.proofs.Queues.Values.{Val, encoded, item}
 pub use Rattle.laws_queues.proofs.Ring.Kinds.{Ring, Room, are_words, flight, kind_of, of_indices, of_values, put_in}
 pub use Rattle.laws_queues.proofs.Ring.Kinds.{read_in, with_word, words_in}

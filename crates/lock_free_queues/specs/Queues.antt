@@ -7,7 +7,7 @@ pub mod Rings
 pub mod Calls
 pub mod Values
 pub mod Overflowing
-pub mod Told
+pub mod Contracts
 pub mod Sums
 pub mod Sent
 pub mod Relays

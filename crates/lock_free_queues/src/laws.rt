@@ -30,10 +30,10 @@ ghost use Rattle.steps.specs.Objects.Lists.{Bounded};
 ghost use Rattle.lock_free_queues.specs.Queues.Closes.{Closes, IsWhatWaits, IsNewestThatWaits};
 ghost use Rattle.lock_free_queues.specs.Queues.Sent.{HasSent, HasReceived, HasPassed, TellsApart};
 ghost use Rattle.lock_free_queues.specs.Queues.Sums.{puts, gets, HasDone};
-ghost use Rattle.lock_free_queues.specs.Queues.Told.{HasPushed, HasPublished, WasFull, HasPopped};
-ghost use Rattle.lock_free_queues.specs.Queues.Told.{PushDone, PushRefused, PopDone, PopEmpty};
-ghost use Rattle.lock_free_queues.specs.Queues.Told.{HasTakenOut, HasTakenFirst, WasEmpty, FoundNone, HasMeasured};
-ghost use Rattle.lock_free_queues.specs.Queues.Told.{HasAcquired, HasReleased, HasSplit, HasJoined};
+ghost use Rattle.lock_free_queues.specs.Queues.Contracts.{HasPushed, HasPublished, WasFull, HasPopped};
+ghost use Rattle.lock_free_queues.specs.Queues.Contracts.{PushDone, PushRefused, PopDone, PopEmpty};
+ghost use Rattle.lock_free_queues.specs.Queues.Contracts.{HasTakenOut, HasTakenFirst, WasEmpty, FoundNone, HasMeasured};
+ghost use Rattle.lock_free_queues.specs.Queues.Contracts.{HasAcquired, HasReleased, HasSplit, HasJoined};
 
 pub mod relays;
 

@@ -34,7 +34,7 @@ use Rattle.history.proofs.Paid.{AllowsOne, TakesBy, takes, left_takes}
 use Rattle.history.proofs.Values.{value_goes_on, value_pays, producer_by}
 use Rattle.lock_free_value.specs.Calls.{GoesOn, WasAtEnd}
 use Rattle.lock_free_value.specs.Roles.{Moved}
-use Rattle.lock_free_value.specs.Told.{HasAcquired, HasReleased, HasStored, HasLoaded}
+use Rattle.lock_free_value.specs.ValueContracts.{HasAcquired, HasReleased, HasStored, HasLoaded}
 
 module _ {T : Type 0} where
   -- the first event of the party stands somewhere

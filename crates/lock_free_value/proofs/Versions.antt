@@ -12,7 +12,7 @@ use Rattle.lock_free_value.specs.Calls.{MissesNothing}
 use Rattle.history.proofs.ValueHolders.{history_by_producers}
 use Rattle.history.proofs.ValueLaws.{answers_right, load_tells}
 use Rattle.history.proofs.Values.{value_goes_on}
-use Rattle.lock_free_value.specs.Told.{HasStored, HasLoaded}
+use Rattle.lock_free_value.specs.ValueContracts.{HasStored, HasLoaded}
 use Rattle.lock_free_value.specs.Versions.{IsStored, IsLoaded, IsSound}
 
 -- lists that begin with as many of the same are the same so far

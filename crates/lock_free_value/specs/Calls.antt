@@ -9,7 +9,7 @@ use Rattle.threaded.specs.Seats.{home_id}
 use Rattle.history.specs.declared.view.View.{View}
 use Rattle.history.specs.History.{IsHistory}
 pub use Rattle.history.specs.Passes.{MissesNothing}
-use Rattle.history.specs.Passes.{Goes}
+use Rattle.history.specs.Passes.{Goes, HasJoined}
 use Rattle.lock_free_value.specs.declared.spmc.unrestricted_atomic.UnrestrictedAtomic.{UnrestrictedAtomic}
 use Rattle.lock_free_value.specs.declared.spmc.unrestricted_atomic.Held.{Held}
 use Rattle.lock_free_value.specs.declared.spmc.unrestricted_atomic.Pass.{Pass}
@@ -67,7 +67,7 @@ module _ {T : Type 0} {words : Ghosts T} where
     pub table : table_of new ≡ table_of old
     pub goes : GoesOn (code_of old) (seen old) (seen new)
 
-  -- and of what has a seat
+  -- the same of a pass and of the producer, by their seats
   abbrev pub SamePass : Pass T words → Pass T words → Type 0
   SamePass old new = IsSame old.token new.token
 
@@ -80,3 +80,16 @@ module _ {T : Type 0} {words : Ghosts T} where
 
   abbrev pub FromProducer : Producer T words → Pass T words → Type 0
   FromProducer end pass = IsSame end.token pass.token
+
+  -- what a join leaves of a seat: it is of the same value, and has what both had
+  pub record Joins (old other new : Held T (ValueRule T) words) : Type 0 where
+    pub table : table_of new ≡ table_of old
+    pub joined : HasJoined (seen old) (seen other) (seen new)
+    pub history : HasHistory (code_of old) (seen new)
+    pub all : MissesNothing (seen new)
+
+  abbrev pub PassJoins : Pass T words → Pass T words → Pass T words → Type 0
+  PassJoins old other new = Joins old.token other.token new.token
+
+  abbrev pub ProducerJoins : Producer T words → Pass T words → Producer T words → Type 0
+  ProducerJoins old other new = Joins old.token other.token new.token

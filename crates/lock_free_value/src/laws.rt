@@ -13,7 +13,7 @@ ghost use Rattle.history.specs.History.{IsBeginning, IsHistory};
 ghost use Rattle.threaded.specs.Shares.{IsAll};
 ghost use Rattle.history.specs.Value.{IsLast};
 ghost use Rattle.lock_free_value.specs.Calls.{MissesNothing};
-ghost use Rattle.lock_free_value.specs.Told.{HasStored, HasLoaded};
+ghost use Rattle.lock_free_value.specs.ValueContracts.{HasStored, HasLoaded};
 ghost use Rattle.lock_free_value.specs.Versions.{IsStored, IsLoaded, IsSound};
 
 /// A history of a value is linearizable as one value.

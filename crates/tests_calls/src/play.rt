@@ -33,8 +33,8 @@ pub trait Call: Copy {
     /// A drawn one, for a structure of this capacity, which is to fill up or to run empty for now.
     fn draw(draws: &mut Draws, capacity: usize, fills: bool) -> Self;
 
-    /// The calls that use each place or index alone, on a structure that was made anew: the one of this number, if
-    /// there are as many. Where there are no places there are none.
+    /// The calls that use each place or index alone, on a structure that was made anew. It answers the one of this
+    /// number, if there are as many. Where there are no places there are none.
     fn each(at: usize, capacity: usize) -> Option<Self>;
 
     /// The calls at the end, which show what is left: the one of this number, if there are as many.

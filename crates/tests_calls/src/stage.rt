@@ -5,7 +5,7 @@ use std::alloc::Global;
 use std::ops::Range;
 use steps::enums::UniqueIndexCreationError;
 
-/// A block, and on which form it is played.
+/// A block, and on which form it is played. No scene of a proof is meant.
 #[derive(Clone, Copy)]
 pub struct Scene<'a> {
     pub alloc: Global,
@@ -102,7 +102,7 @@ impl Count {
     }
 }
 
-/// What has come of a block so far.
+/// What has come of a block so far. No stage of a call is meant.
 #[derive(Drop)]
 pub struct Stage {
     alloc: Global,

@@ -85,7 +85,7 @@ fn on_greater(rt: &impl Wait, scene: Scene<'_>, of: u64, stage: &mut Stage) -> O
     Some(())
 }
 
-/// The head says more than the capacity: `of 8` is a set of reduced capacity, `at 7` one of one caller at a generation.
+/// The head says more than the capacity. `of 8` is a set of reduced capacity, `at 7` one of one caller at a generation.
 fn forms_of(
     rt: &impl Wait,
     scene: Scene<'_>,

@@ -28,7 +28,8 @@ impl Form for Plain {
     }
 }
 
-/// Who uses an index queue: a type of its own, since the checker does not get through what is generic in the kind.
+/// Who uses an index queue. It is a type of its own, since the checker does not get through what is generic in the
+/// kind.
 #[derive(Drop)]
 struct IndexUser<'a> {
     user: User<'a, Numbers, u64>,

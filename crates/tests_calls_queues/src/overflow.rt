@@ -30,7 +30,8 @@ impl Form for Plain {
     }
 }
 
-/// Who uses an overflowing queue: a type of its own, since the checker does not get through what is generic in the kind.
+/// Who uses an overflowing queue. It is a type of its own, since the checker does not get through what is generic in
+/// the kind.
 #[derive(Drop)]
 struct OverflowUser<'a> {
     user: User<'a, Overflowing, u64>,

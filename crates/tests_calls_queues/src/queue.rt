@@ -36,8 +36,8 @@ impl<'a, T: Numbered> Answers<QueueCall> for ValueUser<'a, T> {
     }
 }
 
-/// Plays the block on a queue of one caller and on one of threads, and what follows the line `close` on what is left of
-/// both.
+/// Plays the block on a queue of one caller and on one of threads. What follows the line `close` it plays on what is
+/// left of both.
 fn plays_both<T: Numbered, const CAPACITY: usize>(
     rt: &impl Wait,
     scene: Scene<'_>,
@@ -84,7 +84,8 @@ fn on_new<T: Numbered, const CAPACITY: usize>(
     plays_both(rt, scene, stage, alone, queue, pass)
 }
 
-fn on<T: Numbered, const CAPACITY: usize>(
+/// Plays the block on a queue of this type, with both positions at the one that is given, if any.
+fn forms_of<T: Numbered, const CAPACITY: usize>(
     rt: &impl Wait,
     scene: Scene<'_>,
     stage: &mut Stage,
@@ -100,62 +101,62 @@ fn on<T: Numbered, const CAPACITY: usize>(
 
 fn of_u32(rt: &impl Wait, scene: Scene<'_>, stage: &mut Stage, at: Option<u64>) -> Option<()> {
     match scene.capacity {
-        1 => on::<u32, 1>(rt, scene, stage, at),
-        2 => on::<u32, 2>(rt, scene, stage, at),
+        1 => forms_of::<u32, 1>(rt, scene, stage, at),
+        2 => forms_of::<u32, 2>(rt, scene, stage, at),
         _ => None,
     }
 }
 
 fn of_u64(rt: &impl Wait, scene: Scene<'_>, stage: &mut Stage, at: Option<u64>) -> Option<()> {
     match scene.capacity {
-        5 => on::<u64, 5>(rt, scene, stage, at),
-        64 => on::<u64, 64>(rt, scene, stage, at),
-        1000 => on::<u64, 1000>(rt, scene, stage, at),
+        5 => forms_of::<u64, 5>(rt, scene, stage, at),
+        64 => forms_of::<u64, 64>(rt, scene, stage, at),
+        1000 => forms_of::<u64, 1000>(rt, scene, stage, at),
         _ => None,
     }
 }
 
 fn of_u128(rt: &impl Wait, scene: Scene<'_>, stage: &mut Stage, at: Option<u64>) -> Option<()> {
     match scene.capacity {
-        1 => on::<u128, 1>(rt, scene, stage, at),
-        2 => on::<u128, 2>(rt, scene, stage, at),
-        3 => on::<u128, 3>(rt, scene, stage, at),
-        9 => on::<u128, 9>(rt, scene, stage, at),
-        63 => on::<u128, 63>(rt, scene, stage, at),
-        5000 => on::<u128, 5000>(rt, scene, stage, at),
+        1 => forms_of::<u128, 1>(rt, scene, stage, at),
+        2 => forms_of::<u128, 2>(rt, scene, stage, at),
+        3 => forms_of::<u128, 3>(rt, scene, stage, at),
+        9 => forms_of::<u128, 9>(rt, scene, stage, at),
+        63 => forms_of::<u128, 63>(rt, scene, stage, at),
+        5000 => forms_of::<u128, 5000>(rt, scene, stage, at),
         _ => None,
     }
 }
 
 fn of_pairs(rt: &impl Wait, scene: Scene<'_>, stage: &mut Stage, at: Option<u64>) -> Option<()> {
     match scene.capacity {
-        0 => on::<(u64, u64), 0>(rt, scene, stage, at),
-        2 => on::<(u64, u64), 2>(rt, scene, stage, at),
-        1000 => on::<(u64, u64), 1000>(rt, scene, stage, at),
+        0 => forms_of::<(u64, u64), 0>(rt, scene, stage, at),
+        2 => forms_of::<(u64, u64), 2>(rt, scene, stage, at),
+        1000 => forms_of::<(u64, u64), 1000>(rt, scene, stage, at),
         _ => None,
     }
 }
 
 fn of_three(rt: &impl Wait, scene: Scene<'_>, stage: &mut Stage, at: Option<u64>) -> Option<()> {
     match scene.capacity {
-        65 => on::<Three, 65>(rt, scene, stage, at),
-        130 => on::<Three, 130>(rt, scene, stage, at),
+        65 => forms_of::<Three, 65>(rt, scene, stage, at),
+        130 => forms_of::<Three, 130>(rt, scene, stage, at),
         _ => None,
     }
 }
 
 fn of_sixteen(rt: &impl Wait, scene: Scene<'_>, stage: &mut Stage, at: Option<u64>) -> Option<()> {
     match scene.capacity {
-        0 => on::<Sixteen, 0>(rt, scene, stage, at),
-        2 => on::<Sixteen, 2>(rt, scene, stage, at),
-        4_294_967_296 => on::<Sixteen, 4_294_967_296>(rt, scene, stage, at),
+        0 => forms_of::<Sixteen, 0>(rt, scene, stage, at),
+        2 => forms_of::<Sixteen, 2>(rt, scene, stage, at),
+        4_294_967_296 => forms_of::<Sixteen, 4_294_967_296>(rt, scene, stage, at),
         _ => None,
     }
 }
 
 fn of_greatest(rt: &impl Wait, scene: Scene<'_>, stage: &mut Stage, at: Option<u64>) -> Option<()> {
     match scene.capacity {
-        3 => on::<Greatest, 3>(rt, scene, stage, at),
+        3 => forms_of::<Greatest, 3>(rt, scene, stage, at),
         _ => None,
     }
 }

@@ -235,7 +235,8 @@ fn on_version<T: Numbered>(
     Ok(())
 }
 
-fn on<T: Numbered>(
+/// Plays the block on a value of this type that begins as the first line says.
+fn forms_of<T: Numbered>(
     rt: &impl Wait,
     scene: Scene<'_>,
     stage: &mut Stage,
@@ -256,7 +257,8 @@ fn on<T: Numbered>(
     Some(())
 }
 
-/// Plays the block on a value of the type that its first line names, from what it is first, and from this version on.
+/// Plays the block on a value of the type that its first line names. That line also has what the value is at first and,
+/// behind `at`, its first version.
 pub fn forms(
     rt: &impl Wait,
     scene: Scene<'_>,
@@ -268,13 +270,13 @@ pub fn forms(
     let at = words.after("at");
     let scene = scene.of_capacity(1).on("threads");
     match values {
-        "u32" => on::<u32>(rt, scene, stage, first, at),
-        "u64" => on::<u64>(rt, scene, stage, first, at),
-        "u128" => on::<u128>(rt, scene, stage, first, at),
-        "pairs" => on::<(u64, u64)>(rt, scene, stage, first, at),
-        "three" => on::<Three>(rt, scene, stage, first, at),
-        "sixteen" => on::<Sixteen>(rt, scene, stage, first, at),
-        "greatest" => on::<Greatest>(rt, scene, stage, first, at),
+        "u32" => forms_of::<u32>(rt, scene, stage, first, at),
+        "u64" => forms_of::<u64>(rt, scene, stage, first, at),
+        "u128" => forms_of::<u128>(rt, scene, stage, first, at),
+        "pairs" => forms_of::<(u64, u64)>(rt, scene, stage, first, at),
+        "three" => forms_of::<Three>(rt, scene, stage, first, at),
+        "sixteen" => forms_of::<Sixteen>(rt, scene, stage, first, at),
+        "greatest" => forms_of::<Greatest>(rt, scene, stage, first, at),
         _ => None,
     }
 }

@@ -15,9 +15,10 @@ use std::sync::Wait;
 use std::test::Fail;
 use tests_calls::long_values::Greatest;
 
-/// How many places each structure has, and how often it is made: 33 MB and more, if nothing were given back.
+/// How many places each structure has. If nothing were given back, all that are made would take 33 MB and more.
 const PLACES: usize = 5000;
 
+/// How often each structure is made.
 const ROUNDS: u64 = 1000;
 
 /// A value takes 2 KB, so it is made more often.

@@ -46,7 +46,8 @@ fn of_two(alloc: Global, owner: OwnerId) -> Result<Option<bool>, UniqueIndexCrea
     Ok(second_state(&mut container).map(|right| right && added))
 }
 
-/// Where memory is refused to a second state the test fails by that alone: the first one tells that nothing has changed.
+/// Where memory is refused to the second state the test fails by `no memory` alone. The first state then shows that
+/// nothing has changed.
 #[test]
 fn a_refused_state(rt: HostRuntime) -> Result<(), Fail> {
     let owner = OwnerId::new(1)?;

@@ -80,7 +80,8 @@ fn of_two(
     Ok(second_state(rt, &mut user).map(|right| right && added))
 }
 
-/// Where memory is refused to a second state the test fails by that alone: the first one tells that nothing has changed.
+/// Where memory is refused to the second state the test fails by `no memory` alone. The first state then shows that
+/// nothing has changed.
 #[test]
 fn a_refused_state(rt: HostRuntime) -> Result<(), Fail> {
     let owner = OwnerId::new(1)?;

@@ -83,7 +83,8 @@ fn two_keep(rt: &impl Wait, alloc: Global, lender: &mut Lender<'_, String>) -> O
     Some(right & other.give_back().is_none())
 }
 
-/// Each place is taken by one at a time, and what was laid back lies there with its number; nothing does after a drop.
+/// Each place is taken by one at a time, and what was laid back lies there with its number. After a drop nothing lies
+/// there.
 #[test]
 fn a_buffer_keeps_its_value(rt: HostRuntime) -> Result<(), Fail> {
     let mut pool: Pool<String> = Pool::new(rt.alloc(), 2)?;

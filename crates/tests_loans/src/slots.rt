@@ -81,7 +81,7 @@ fn is_left(slots: &Slots<u64>) -> Option<bool> {
     Some(!is_readable(slots, 0) & is_takable(slots, 0))
 }
 
-/// A slot is taken by one at a time, and not while somebody reads it; and it is not read while it is taken.
+/// A slot is taken by one at a time, and not while somebody reads it. Nobody reads it while it is taken.
 #[test]
 fn a_slot_is_read_or_written(rt: HostRuntime) -> Result<(), Fail> {
     let slots: Slots<u64> = Slots::new(rt.alloc(), 1)?;
@@ -116,7 +116,7 @@ fn is_held(slots: &Slots<u64>) -> bool {
     was_free & !is_takable(slots, 0) & !is_readable(slots, 0)
 }
 
-/// A reading that is forgotten holds its slot, which can still be read; a writing that is forgotten holds it from all.
+/// A reading that is forgotten holds its slot, which can still be read. A writing that is forgotten holds it from all.
 #[test]
 fn what_is_forgotten_holds_its_slot(rt: HostRuntime) -> Result<(), Fail> {
     let slots: Slots<u64> = Slots::new(rt.alloc(), 1)?;

@@ -80,7 +80,7 @@ fn next_loan<'a>(
     None
 }
 
-/// Sends the note of the next number on a loan: false where it is handed back, or where there is no memory.
+/// Sends the note of the next number on a loan. False where it is handed back, or where there is no memory.
 fn sends_next<'a>(
     sender: &mut Sender<'a, Note, OwnNumber>,
     mut loan: Loan<'a, Note, OwnNumber>,
@@ -104,8 +104,8 @@ fn sends_all(rt: &impl Wait, sender: &mut Sender<'_, Note, OwnNumber>) -> bool {
     true
 }
 
-/// The number that a note was sent with, and the one that stands in it, which is the same by the rule. None where its text is
-/// another one.
+/// The number that a note was sent with, and the one that stands in it. They are the same by the rule. None where its text
+/// is another one.
 fn numbers_of(receiver: &Receiver<'_, Note, OwnNumber>, sample: &Sample) -> Option<(u64, u64)>
     ensures { IfSome result (λ r. r.0 ≡ r.1) }
 {

@@ -13,7 +13,8 @@ use uses_loans::sender::Sender;
 /// How many places there are.
 const PLACES: usize = 4;
 
-/// Three texts go into a queue of two, of which the first comes back; the others are read, and all places are free in the end.
+/// Three texts go into a queue of two, of which the first comes back. The others are read, and all places are free in the
+/// end.
 const TEXTS: [Step; 10] = [
     Sends("one", None),
     Sends("two and two", None),
@@ -27,8 +28,8 @@ const TEXTS: [Step; 10] = [
     IsNext(3),
 ];
 
-/// A place is loaned until no place is left, and then until no value is left; what was dropped can be regained, and what is in
-/// hand cannot.
+/// A place is loaned until no place is left, and then until no value is left. What was dropped can be regained, and what is
+/// in hand cannot.
 const LOANS: [Step; 12] = [
     LoansOne,
     LoansOther,
@@ -44,8 +45,8 @@ const LOANS: [Step; 12] = [
     HasNoValue,
 ];
 
-/// Does the steps on a new channel of so many places, with so many texts to write: the first that does not come to what it has
-/// to, if any, and how many texts are left. None where the channel or its ends are not to be had.
+/// Does the steps on a new channel of so many places, with so many texts to write. It answers the first step that does not
+/// come to what it has to, if any, and how many texts are left. None where the channel or its ends are not to be had.
 fn on_new(
     rt: &impl Wait,
     alloc: Global,
@@ -81,8 +82,8 @@ fn goes_round(rt: &impl Wait, room: &mut Room<'_>, number: u64) -> bool {
     right & loans_and_gives_up(rt, &mut room.sender)
 }
 
-/// Whether so many texts go through, one after another, and one of two is left where the last loan is dropped. None where the
-/// channel or its ends are not to be had.
+/// Whether so many texts go through, one after another. The last loan is dropped, and of two texts one is left then. None
+/// where the channel or its ends are not to be had.
 fn are_kept(rt: &impl Wait, alloc: Global, number: u64) -> Option<bool> {
     let mut channel = channel(alloc, 1)?;
     let mut room = Room::new(alloc, &mut channel, 2)?;
@@ -97,7 +98,7 @@ fn are_kept(rt: &impl Wait, alloc: Global, number: u64) -> Option<bool> {
 /// A loan that is dropped.
 const DROPPED: [Step; 3] = [LoansOther, DropsOther, Regains(0, true)];
 
-/// What is given up, or lay where a loan was given up, is written again; what was dropped with its loan is gone.
+/// What is given up, or lay where a loan was given up, is written again. What was dropped with its loan is gone.
 #[test]
 fn values_are_kept(rt: HostRuntime) -> Result<(), Fail> {
     assert!(rt; are_kept(&rt, rt.alloc(), 100) == Some(true));
@@ -140,7 +141,7 @@ fn stays_loaned(
     }
 }
 
-/// Whether the first place of a room stays loaned as long as it is read by a sample of another room.
+/// Whether the first place of a room stays loaned while a sample of another room reads it.
 fn is_kept_by_another(rt: &impl Wait, room: &mut Room<'_>, another: &mut Room<'_>) -> bool {
     match another.receiver.receive(rt) {
         Some(sample) => stays_loaned(rt, &mut room.sender, &room.receiver, &sample),

@@ -45,7 +45,8 @@ impl Passed {
     }
 }
 
-/// Gives the numbers from 0 on: whether there was room for each that was taken, and none for each that was not.
+/// Gives the numbers from 0 on. It answers whether there was room for each that was taken, and none for each that was
+/// not.
 #[derive(Drop)]
 struct GivesWithin<'s, E: Gives> {
     end: E,

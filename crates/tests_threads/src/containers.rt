@@ -99,7 +99,7 @@ impl<'a> Task for Recovers<'a> {
     }
 }
 
-/// Whether two tasks that end go well beside one who keeps a state up to date, and it shows nothing in the end.
+/// Whether two tasks that end go well beside one who keeps a state up to date. The state shows nothing in the end.
 fn seen_beside<R: Wait + Threads + Clock + Sync, T: Task + Send>(
     rt: &R,
     user: &mut PairUser<'_>,
@@ -150,7 +150,7 @@ enum Play<'s> {
     AreSeen,
     /// Pairs are replaced too.
     ChangesAreSeen,
-    /// Two add, replace and remove, one finds the pairs of the first, and one recovers the owner of the pairs 40 and 2.
+    /// Two add, replace and remove, one finds the pairs of the first. Another recovers the owner of the pairs 40 and 2.
     OwnersBeside,
     /// Two of one owner add pairs and remove them.
     TwoOfOne,
@@ -158,7 +158,7 @@ enum Play<'s> {
     AsSets(owned::Play<'s>),
 }
 
-/// Whether two who add, replace and remove, one who finds, and one who recovers all go well, and no index has an owner in
+/// Whether all go well: two who add, replace and remove, one who finds, and one who recovers. No index has an owner in
 /// the end. None where there are no further passes.
 fn owners_beside<R: Wait + Threads + Clock + Sync>(
     rt: &R,

@@ -23,7 +23,8 @@ pub trait Mortal: User {
     fn buries(&mut self, rt: &impl Wait, number: u64, things: u64) -> bool;
 }
 
-/// Where one who has died is told of: the number of the owner, times 8, and how many things it had. 0 where there is none.
+/// Where one who has died is told of. The word is the number of the owner, times 8, and how many things it had. 0 where
+/// there is none.
 #[derive(Drop)]
 struct Notice {
     dead: AtomicU64,
@@ -53,7 +54,8 @@ impl Notice {
     }
 }
 
-/// Takes things for one owner after another, each of which dies: so many, or as many as can until it is enough.
+/// Takes things for one owner after another, each of which dies. These are so many, or as many as can be until it is
+/// enough.
 #[derive(Drop)]
 struct Dies<'s, M: Mortal> {
     user: M,

@@ -9,13 +9,14 @@ use std::time::Clock;
 
 /// The end that numbers go in at.
 pub trait Gives: Drop + Sized {
-    /// The number that does not wait thereafter, if any: this one, which is not taken, or the oldest in its place.
+    /// The number that does not wait thereafter, if any. It is this one, which is not taken, or the oldest in its
+    /// place.
     fn gives(&mut self, number: u64) -> Option<u64>;
 }
 
 /// The end that numbers come out at.
 pub trait Takes: Drop + Sized {
-    /// The number that came, if any: one that is past all others where a value came that was made of none.
+    /// The number that came, if any. Where a value came that was made of none, it is past all others.
     fn takes(&mut self, rt: &impl Wait) -> Option<u64>;
 }
 

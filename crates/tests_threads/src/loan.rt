@@ -145,8 +145,8 @@ fn reclaims(rt: &impl Wait, sends: &mut Sends<'_>) -> bool {
     freed == Some((6, true)) && sends.is_loaned(kept)
 }
 
-/// Six slots are sent, of which the receiver gets three: it keeps one, gives a number that was never sent and the other
-/// two back, and ends, so three wait in either queue. The sender loans one more and reclaims: whether it keeps that one.
+/// Six slots are sent, of which the receiver gets three. It keeps one, gives a number that was never sent and the other
+/// two back, and ends, so three wait in either queue. The sender loans one more and reclaims. It has to keep that one.
 fn ends_early<R: Wait + Threads + Clock + Sync>(
     rt: &R,
     sends: &mut Sends<'_>,
@@ -160,8 +160,8 @@ fn ends_early<R: Wait + Threads + Clock + Sync>(
     well & reclaims(rt, sends)
 }
 
-/// All loans pass, or the receiver ends early: whether it went well and nothing waits to be taken back in the end, and how many
-/// indices are borrowed then. None where the role is not to be had.
+/// All loans pass, or the receiver ends early. It answers whether it went well and nothing waits to be taken back in
+/// the end, and how many indices are borrowed then. None where the role is not to be had.
 fn passed<R: Wait + Threads + Clock + Sync>(
     rt: &R,
     sends: Sends<'_>,

@@ -172,8 +172,8 @@ fn logs<R: Wait + Threads + Clock + Sync>(
     runs(rt, alloc, 3, producer, consumer, Nobody, rounds)
 }
 
-/// Each number that comes or is handed back, and each None, is right at some moment between the times before and after
-/// its call, by one order of all calls, of which many overlap.
+/// Each number that comes or is handed back, and each None, is right at some moment of its call. One order of all calls
+/// shows it, of which many overlap. The moment lies between the times before and after the call.
 #[test]
 fn calls_as_if_one_after_another(rt: HostRuntime) -> Result<(), Fail> {
     let mut rounds = Rounds::new();

@@ -56,8 +56,8 @@ impl<'a> Task for Recovers<'a> {
     }
 }
 
-/// Whether 45 of 68 indices come back as the owner is recovered while two others take the two that are left and give
-/// them back. None where there are no further passes.
+/// Whether 45 of 68 indices come back as the owner is recovered. Meanwhile two others take the two that are left and
+/// give them back. None where there are no further passes.
 fn recovers_beside<R: Wait + Threads + Clock + Sync>(
     rt: &R,
     user: &mut OwnerUser<'_>,

@@ -70,8 +70,8 @@ impl<'a> Task for Heir<'a> {
     }
 }
 
-/// Whether all numbers are given, of which an heir gives the second half once the first guard was dropped, and come in
-/// order. None where the roles were not to be had.
+/// Whether all numbers are given and come in order. An heir gives the second half once the first guard was dropped.
+/// None where the roles were not to be had.
 fn inherited<R: Wait + Threads + Clock + Sync, G: Gives + Send, T: Takes + Send, H: Task + Send>(
     rt: &R,
     ends: Option<(G, T)>,

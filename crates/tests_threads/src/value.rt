@@ -33,7 +33,8 @@ impl<'a> Task for Stores<'a> {
     }
 }
 
-/// Loads until it sees the last pair: whether the halves of each pair are equal, and none is below the one before.
+/// Loads until it sees the last pair. It answers whether the halves of each pair are equal, and none is below the one
+/// before.
 struct Loads<'a> {
     value: &'a UnrestrictedAtomic<Pair>,
     pass: Pass<Pair>,

@@ -4,11 +4,11 @@ use Rattle.uses_slots.specs.declared.Keeps.{Ghosts}
 use Rattle.lock_free.specs.Coding.{Coding}
 use Rattle.lock_free.specs.Container.Handles.{knows, pass_in}
 use Rattle.lock_free.specs.Container.Names.{code_of}
-use Rattle.lock_free.specs.Container.Told.{HasAdded}
+use Rattle.lock_free.specs.Container.Contracts.{HasAdded}
 use Rattle.lock_free.specs.HistoryView.View.{View}
 use Rattle.lock_free.specs.Queues.Item.TheVariants.{Index}
 use Rattle.lock_free.specs.Queues.Rings.{QueueId, consumer_queue, consumer_view, producer_queue, producer_view}
-use Rattle.lock_free.specs.Queues.Told.{FoundNone, HasTakenFirst, PushRefused}
+use Rattle.lock_free.specs.Queues.Contracts.{FoundNone, HasTakenFirst, PushRefused}
 use Rattle.lock_free.specs.Share.{Share}
 use Rattle.lock_free.specs.UniqueIndexSet.{SetId}
 use Rattle.uses_bus.specs.declared.error.LoanFailure.{LoanFailure}

@@ -1,8 +1,8 @@
 //! The end of a bus that receives records and reads them.
 ghost use Rattle.std.specs.Prelude.{◌≡◌, ◌<◌, IsTrue, IsFalse, IfOk, IfErr, IfSome, IfNone};
-ghost use Rattle.lock_free.specs.Container.Told.{WasNotAdded};
+ghost use Rattle.lock_free.specs.Container.Contracts.{WasNotAdded};
 ghost use Rattle.lock_free.specs.Queues.Item.TheVariants.{Index};
-ghost use Rattle.lock_free.specs.Queues.Told.{PushDone, HasTakenFirst};
+ghost use Rattle.lock_free.specs.Queues.Contracts.{PushDone, HasTakenFirst};
 ghost use Rattle.uses_slots.specs.Slots.{slots_in};
 
 use crate::lane::Inlet;

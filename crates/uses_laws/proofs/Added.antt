@@ -4,7 +4,7 @@ use Rattle.std.specs.List.{sum_by}
 use Rattle.model.specs.Families.Bits.Reading.{counts, takes, count_at, is_count_of, take_of}
 use Rattle.lock_free.specs.Event.{Event}
 use Rattle.lock_free.specs.HistoryView.View.{View}
-use Rattle.lock_free.specs.Counts.Told.{HasCounted, AnswersCount}
+use Rattle.lock_free.specs.Counts.Contracts.{HasCounted, AnswersCount}
 use Rattle.lock_free.proofs.Counts.Sums.{answers_count}
 
 rest_of : (counted taken : ℕ) → taken ≤ counted → counted < 2 ^ 64 → taken + (counted - taken) % 2 ^ 64 ≡ counted

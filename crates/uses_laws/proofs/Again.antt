@@ -9,7 +9,7 @@ use Rattle.model.specs.declared.event.Event.TheVariants.{Begun, Finished}
 use Rattle.model.specs.declared.event.Start.{Start}
 use Rattle.model.specs.Families.Bits.Reading.{sets, clears, standing, is_set_of}
 use Rattle.model.specs.Reading.{whose, is_party}
-use Rattle.lock_free.specs.Bits.Told.{HasSet}
+use Rattle.lock_free.specs.Bits.Contracts.{HasSet}
 use Rattle.lock_free.specs.Event.{Event}
 use Rattle.lock_free.specs.History.{Called}
 use Rattle.lock_free.specs.HistoryKnown.{events_by}

@@ -15,7 +15,7 @@ use Rattle.model.specs.Families.Bits.Reading.{counts, takes, count_at, is_count_
 use Rattle.model.specs.Moments.{BeginsNone}
 use Rattle.model.specs.Reading.{Each}
 use Rattle.model.proofs.Moments.{begins_none_more}
-use Rattle.lock_free.specs.Counts.Told.{HasTakenOut, MissedNoCount}
+use Rattle.lock_free.specs.Counts.Contracts.{HasTakenOut, MissedNoCount}
 use Rattle.lock_free.specs.Event.{Event}
 use Rattle.lock_free.specs.HistoryView.View.{View}
 use Rattle.lock_free.proofs.Counts.Sums.{take_adds}

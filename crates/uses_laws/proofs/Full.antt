@@ -10,7 +10,7 @@ use Rattle.model.proofs.Moments.{held_later}
 use Rattle.lock_free.specs.Event.{Event}
 use Rattle.lock_free.specs.Event.TheVariants.{Begun, Finished}
 use Rattle.lock_free.specs.HistoryView.View.{View}
-use Rattle.lock_free.specs.Robust.Told.{HasTaken, WasRefused, IsWorn}
+use Rattle.lock_free.specs.Robust.Contracts.{HasTaken, WasRefused, IsWorn}
 use Rattle.lock_free.proofs.Sums.{sum_made}
 use Rattle.lock_free.specs.OwnerLaws.{change, changes, lock_call, lock_calls, LocksApart}
 use Rattle.uses_laws.specs.Leases.{IsYoung, WasFull}

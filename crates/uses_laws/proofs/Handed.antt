@@ -7,8 +7,8 @@ use Rattle.steps.specs.declared.bits.counting_bit_set.BitState.{BitState}
 use Rattle.model.specs.declared.event.Answer.TheVariants.{Done}
 use Rattle.model.specs.declared.event.Start.TheVariants.{Bits}
 use Rattle.model.specs.declared.families.bits.BitsStart.TheVariants.{ResetAll}
-use Rattle.lock_free.specs.Bits.Told.{HasCleanedOut, cleared_by}
-use Rattle.lock_free.specs.Counts.Told.{HasTakenOut, taken_by}
+use Rattle.lock_free.specs.Bits.Contracts.{HasCleanedOut, cleared_by}
+use Rattle.lock_free.specs.Counts.Contracts.{HasTakenOut, taken_by}
 use Rattle.lock_free.specs.HistoryView.View.{View}
 use Rattle.lock_free.proofs.Sums.{sum_made}
 use Rattle.uses_laws.specs.Sums.{clear, cleared, taken_out, taken}

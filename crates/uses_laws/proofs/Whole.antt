@@ -12,7 +12,7 @@ use Rattle.model.specs.Families.Container.Calls.{added}
 use Rattle.history.specs.Container as container
 use Rattle.history.specs.Settled.{SettledFrom, Settles}
 use Rattle.lock_free.specs.Coding.{Coding}
-use Rattle.lock_free.specs.Container.Told.{HasAdded}
+use Rattle.lock_free.specs.Container.Contracts.{HasAdded}
 use Rattle.lock_free.specs.Event.{Event}
 use Rattle.lock_free.specs.Event.TheVariants.{Begun, Filled, Hidden, Placed, Finished}
 use Rattle.lock_free.specs.History.{IsHistory}

@@ -7,8 +7,8 @@ use Rattle.lock_free.specs.declared.spsc.loan.places.Place.{Place}
 use Rattle.lock_free.specs.declared.spsc.loan.places.Place.TheVariants.{Free, Loaned}
 use Rattle.lock_free.specs.Queues.Item.TheVariants.{Index}
 use Rattle.lock_free.specs.Queues.Rings.{QueueId, consumer_queue, consumer_view, producer_queue, producer_view}
-use Rattle.lock_free.specs.Queues.Told.{FoundNone, HasTakenFirst, PushRefused}
-use Rattle.lock_free.specs.Unique.Told.{WasRefused}
+use Rattle.lock_free.specs.Queues.Contracts.{FoundNone, HasTakenFirst, PushRefused}
+use Rattle.lock_free.specs.Unique.Contracts.{WasRefused}
 use Rattle.lock_free.specs.declared.spsc.loan.LoanSender.{LoanSender}
 use Rattle.uses_loans.specs.declared.error.LoanFailure.{LoanFailure}
 use Rattle.uses_loans.specs.declared.error.LoanFailure.TheVariants.{NoPlace, NoValue, StillRead}

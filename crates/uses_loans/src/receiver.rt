@@ -2,7 +2,7 @@
 ghost use Rattle.std.specs.Prelude.{◌≡◌, ◌<◌, IsTrue, IsFalse, IfSome, IfNone};
 ghost use Rattle.lock_free.specs.Queues.Item.TheVariants.{Index};
 ghost use Rattle.lock_free.specs.Queues.Rings.{consumer_queue, consumer_view, producer_queue, producer_view};
-ghost use Rattle.lock_free.specs.Queues.Told.{PushDone, HasTakenFirst};
+ghost use Rattle.lock_free.specs.Queues.Contracts.{PushDone, HasTakenFirst};
 ghost use Rattle.uses_slots.specs.Slots.{slots_in};
 
 use lock_free::spsc::{index_queue, safely_overflowing_index_queue as overflow};

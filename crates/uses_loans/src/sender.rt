@@ -1,12 +1,13 @@
 //! The end of the channel that loans and sends.
 ghost use Rattle.std.specs.Prelude.{◌≡◌, ◌+◌, ◌-◌, ◌^◌, ◌<◌, ◌↔◌, IsTrue, IsFalse, IfOk, IfErr, IfSome, IfNone};
 ghost use Rattle.std.specs.Prelude.{count_by, map, slice_set, vec_len};
+ghost use Rattle.lock_free.specs.Loan.Contracts.{HasEmptied};
 ghost use Rattle.lock_free.specs.Loan.Places.{is_sent, place_at, reclaimed, returned};
 ghost use Rattle.lock_free.specs.Loan.Sender.{completion_view, pass_view, set_of_sender, submission_of, submission_view, IsLoaned, IsSame};
 ghost use Rattle.lock_free.specs.declared.spsc.loan.places.Place.TheVariants.{Free, Loaned, Sent};
 ghost use Rattle.lock_free.specs.Queues.Item.TheVariants.{Index};
-ghost use Rattle.lock_free.specs.Queues.Overflowing.{consumer_queue, PushAdded, PushHandedBack, SameConsumerByCapacity};
-ghost use Rattle.lock_free.specs.Queues.Told.{PopDone, PopEmpty};
+ghost use Rattle.lock_free.specs.Queues.Overflowing.{consumer_queue, consumer_view, PushAdded, PushHandedBack, SameConsumerByCapacity};
+ghost use Rattle.lock_free.specs.Queues.Contracts.{PopDone, PopEmpty};
 ghost use Rattle.lock_free.specs.UniqueIndexSet.{set_of, view};
 
 use crate::error::LoanFailure;
@@ -223,19 +224,25 @@ impl<'a, X: Drop, K: Keeps<X>> Sender<'a, X, K> {
         ensures empty { IfNone result
             (PopEmpty (completion_view (sender_of self.old)) (completion_view (sender_of self.new))) }
         ensures next { next_of self.new ≡ next_of self.old }
+        ensures spares { spares_in self.new ≡ spares_in self.old }
         ensures same { IsSame (sender_of self.old) (sender_of self.new) }
     {
         self.loans.take_back()
     }
 
-    /// Empties both queues, and frees each place that is Sent: how many. For a sender whose receiver is gone, with the receiver's
-    /// guard of the queue. No sample of the former receiver may be used afterwards. The steps of `LoanSender::reclaim`.
+    /// Empties both queues, frees each place that is Sent, and returns how many these were. For a sender whose receiver is gone,
+    /// with the receiver's guard of the queue. No sample of the former receiver may be used afterwards. The steps of
+    /// `LoanSender::reclaim`.
     pub fn reclaim(&mut self, rt: &impl Wait, receiver: &mut overflow::Consumer<'_>) -> usize
         requires { consumer_queue receiver.old ≡ submission_of (sender_of self.old) }
         ensures places { places_of self.new ≡ map reclaimed (places_of self.old) }
         ensures number { result ≡ count_by is_sent (places_of self.old) }
+        ensures emptied { HasEmptied (completion_view (sender_of self.old)) (completion_view (sender_of self.new)) }
         ensures receiver { SameConsumerByCapacity receiver.old receiver.new }
+        ensures receiver_emptied { 0 < (consumer_queue receiver.old).capacity
+            → HasEmptied (consumer_view receiver.old) (consumer_view receiver.new) }
         ensures next { next_of self.new ≡ next_of self.old }
+        ensures spares { spares_in self.new ≡ spares_in self.old }
         ensures same { IsSame (sender_of self.old) (sender_of self.new) }
     {
         self.loans.reclaim(rt, receiver)

@@ -17,7 +17,7 @@ use Rattle.model.specs.Families.Indices.Robust.Reading.{holder_after, holder_of}
 use Rattle.model.specs.Reading.{Each}
 use Rattle.laws_robust.specs.Gone.{Word, gone_after, is_gone, ActsForRight, IsHonest}
 use Rattle.lock_free.specs.Event.TheVariants.{Begun, Filled, Granted, FreedOf, Told, Died, Finished}
-use Rattle.lock_free.specs.Robust.Told.{HasTaken, IsSound}
+use Rattle.lock_free.specs.Robust.Contracts.{HasTaken, IsSound}
 use Rattle.lock_free.specs.Unique.Held.{one_if, times}
 use Rattle.lock_free.proofs.Sums.{sum_made}
 use Rattle.lock_free.proofs.Unique.Holding.{times_both, times_one}

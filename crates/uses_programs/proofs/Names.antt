@@ -7,7 +7,7 @@ pub use Rattle.lock_free.specs.HistoryView.View.{View}
 pub use Rattle.lock_free.specs.Loan.Sender.{set_of_sender}
 pub use Rattle.lock_free.specs.Queues.Item.TheVariants.{Index}
 pub use Rattle.lock_free.specs.Queues.QueueKind.TheVariants.{IndexQueue}
-pub use Rattle.lock_free.specs.Queues.Told.{HasPopped}
+pub use Rattle.lock_free.specs.Queues.Contracts.{HasPopped}
 pub use Rattle.lock_free.specs.Queues.Views.{first_view}
 pub use Rattle.lock_free.specs.Share.{Share}
 pub use Rattle.lock_free.specs.Shares.{IsAll, all_shares, both_of, half_of}

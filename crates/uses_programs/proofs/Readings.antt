@@ -8,7 +8,7 @@ use Rattle.std.proofs.lemmas.List.{take_all, get_or_append_left, get_or_push}
 use Rattle.lock_free.specs.Value.Calls.{GoesOn, MissesNothing}
 use Rattle.lock_free.specs.Value.Reading.{IsLast}
 use Rattle.lock_free.specs.Value.Stored.{stores, stored}
-use Rattle.lock_free.specs.Value.Told.{HasAcquired, HasReleased, HasStored, HasLoaded, HasSplit, HasJoined}
+use Rattle.lock_free.specs.Value.Contracts.{HasAcquired, HasReleased, HasStored, HasLoaded, HasSplit, HasJoined}
 use Rattle.lock_free.proofs.ValueVersions.{count_is, newest}
 use Rattle.lock_free.specs.Coding.{Coding}
 use Rattle.uses_programs.specs.Readings.{last_of, stores_in, HasWritten, HasRead}

@@ -6,7 +6,7 @@ use Rattle.uses_programs.proofs.Names.{Share, all_shares, half_of, both_of, IsAl
 use Rattle.std.specs.List.{sum_by}
 use Rattle.std.proofs.lemmas.List.Elements.{All-weaker}
 use Rattle.lock_free.specs.Sums.{is_set_of, is_clear_of, clears}
-use Rattle.lock_free.specs.Bits.Told.{HasSet, StoodOnce, HasReset}
+use Rattle.lock_free.specs.Bits.Contracts.{HasSet, StoodOnce, HasReset}
 use Rattle.lock_free.proofs.Sums.{sum_grows, seen_begins}
 use Rattle.lock_free.proofs.Bits.Sums.{set_adds, set_adds_none, was_set, reset_adds, reset_adds_none}
 use Rattle.uses_programs.specs.Bells.{times, WereSet, HasRung, BothRung, HearsMore}

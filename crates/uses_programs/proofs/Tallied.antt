@@ -5,7 +5,7 @@ use Rattle.std.proofs.lemmas.Bool.{cases_lt}
 use Rattle.uses_programs.proofs.Names.{take_more, sum_by_push, sum_by-append, Event, View, Share, all_shares, half_of}
 use Rattle.uses_programs.proofs.Names.{both_of, IsAll, is_count_of, take_of, counts, takes}
 use Rattle.std.proofs.lemmas.List.Sums.{count_by-le-length}
-use Rattle.lock_free.specs.Counts.Told.{HasCounted}
+use Rattle.lock_free.specs.Counts.Contracts.{HasCounted}
 use Rattle.lock_free.proofs.Counts.Sums.{count_adds}
 use Rattle.uses_programs.specs.Tallies.{times, CountsThese, BothCount}
 

@@ -1,7 +1,7 @@
 -- What joining adds to what is known of a registry. A record is a participant's number and a port.
 use Rattle.std.specs.Prelude.{◌≡◌, ℕ, zero, suc, Ok, List, slice_index}
 use Rattle.lock_free.specs.Coding.{Coding}
-use Rattle.lock_free.specs.Container.Told.{HasAdded}
+use Rattle.lock_free.specs.Container.Contracts.{HasAdded}
 use Rattle.lock_free.specs.HistoryView.View.{View}
 
 module _ (code : Coding (ℕ × ℕ)) (number : ℕ) (ports : List ℕ) where

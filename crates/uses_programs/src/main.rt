@@ -21,7 +21,7 @@ use std::sync::Wait;
 use std::thread::Threads;
 use std::{env, io};
 
-/// In the order in which all run.
+/// The names of the programs, in the order in which all run.
 const NAMES: [&str; 11] = [
     "relay",
     "relay_overflow",
@@ -36,7 +36,7 @@ const NAMES: [&str; 11] = [
     "bus",
 ];
 
-/// Runs the program of this number in that order.
+/// Runs the program that has this place in `NAMES`, and none where there is no such place.
 fn run_at<R: Threads + Wait + Print + Sync>(
     rt: &R,
     alloc: Global,
@@ -53,11 +53,12 @@ fn run_at<R: Threads + Wait + Print + Sync>(
         7 => loans::report(rt, alloc),
         8 => registry::report(rt, alloc),
         9 => closing::report(rt, alloc),
-        _ => bus::report(rt, alloc),
+        10 => bus::report(rt, alloc),
+        _ => Ok(()),
     }
 }
 
-/// Runs the program of this name: whether there is one.
+/// Runs the program of this name, and answers whether there is one.
 fn run<R: Threads + Wait + Print + Sync>(rt: &R, alloc: Global, name: &str) -> io::Result<bool> {
     for number in 0..NAMES.len() {
         if NAMES[number] == name {

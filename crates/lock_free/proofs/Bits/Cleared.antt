@@ -25,7 +25,7 @@ use Rattle.lock_free.specs.Bits.Callable.{Ascends, Visited, TakesPlaces}
 use Rattle.lock_free.specs.Driven.{HasMade, HasDone, IsIdle}
 use Rattle.lock_free.specs.Sets.Kinds.{Flags}
 use Rattle.lock_free.specs.Sets.Stages.{empties}
-use Rattle.lock_free.specs.Bits.Told.{cleared_by, HasCleanedOut, MissedNoPlace}
+use Rattle.lock_free.specs.Bits.Contracts.{cleared_by, HasCleanedOut, MissedNoPlace}
 use Rattle.lock_free.proofs.Ends.{before_end, to_end}
 use Rattle.lock_free.proofs.Sets.Emptied.{emptying, Goes, Stepped, stepped, same_capacity, WroteSoFar, first_wrote, words_left, ends_all, wrote_on, wrote_all}
 use Rattle.lock_free.proofs.Sets.Emptying.{goes_next}

@@ -21,7 +21,7 @@ use Rattle.model.specs.Moments.{HeldSometime}
 use Rattle.history.proofs.Sets.{bits_starts, set_effects, bits_owe}
 use Rattle.lock_free.specs.Driven.{IsIdle}
 use Rattle.lock_free.specs.Bits.Stages.{ResetStands, reset_so_far, reset_wrote, IsPlace, resets_next}
-use Rattle.lock_free.specs.Bits.Told.{HasReset, AllClearOnce, CameFromPosition}
+use Rattle.lock_free.specs.Bits.Contracts.{HasReset, AllClearOnce, CameFromPosition}
 use Rattle.lock_free.proofs.Ends.{has_made, before_end, to_end}
 
 place_below : (cap start passed : ℕ) → start ≤ cap → passed < cap → place_after cap start passed < cap

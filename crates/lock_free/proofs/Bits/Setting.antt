@@ -15,7 +15,7 @@ use Rattle.model.specs.declared.turn.Kind.TheVariants as kinds
 use Rattle.history.proofs.Sets.{bits_starts, set_effects, bits_owe}
 use Rattle.lock_free.specs.Driven.{IsIdle}
 use Rattle.lock_free.specs.Bits.Stages.{set_wrote, sets_place}
-use Rattle.lock_free.specs.Bits.Told.{HasSet, StoodOnce}
+use Rattle.lock_free.specs.Bits.Contracts.{HasSet, StoodOnce}
 use Rattle.lock_free.proofs.Ends.{has_made, before_end, to_end}
 
 module _ (place : ℕ) where

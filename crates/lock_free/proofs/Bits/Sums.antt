@@ -11,7 +11,7 @@ use Rattle.model.specs.Families.Bits.Calls.{reset_answer}
 use Rattle.model.specs.Families.Bits.Reading.{is_set_of, is_clear_of, sets, clears}
 use Rattle.model.proofs.Moments.{begins_none_more}
 use Rattle.laws_bits.proofs.Bits.Core.{sets_more, clears_more}
-use Rattle.lock_free.specs.Bits.Told.{HasSet, StoodOnce, HasReset, AllClearOnce}
+use Rattle.lock_free.specs.Bits.Contracts.{HasSet, StoodOnce, HasReset, AllClearOnce}
 use Rattle.lock_free.proofs.Sums.{sum_made, sum_seen, same_last, reaches}
 
 -- each place was set as often as it was cleared, or once more

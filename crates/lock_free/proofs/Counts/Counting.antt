@@ -12,7 +12,7 @@ use Rattle.model.specs.Families.Bits.Promises.{AnswersCountOn}
 use Rattle.history.proofs.Sets.{counts_starts, set_effects, counts_owe}
 use Rattle.lock_free.specs.Driven.{IsIdle}
 use Rattle.lock_free.specs.Counts.Stages.{counts_place}
-use Rattle.lock_free.specs.Counts.Told.{HasCounted, AnswersCount}
+use Rattle.lock_free.specs.Counts.Contracts.{HasCounted, AnswersCount}
 use Rattle.lock_free.proofs.Ends.{has_made, before_end, to_end}
 
 module _ (place : ℕ) where

@@ -3,7 +3,7 @@ use Rattle.lock_free.proofs.Names.{◌≡◌, ℕ, zero, suc, ◌+◌, ◌<◌, 
 use Rattle.lock_free.proofs.Names.{arith, map, append-nil, All, FoldsTo, nat_tests, FoldsTo-push, All-push}
 use Rattle.lock_free.proofs.Names.{All-weaker, all_pairs_push, BitState}
 use Rattle.model.specs.Families.Bits.Steps.{take_events}
-use Rattle.lock_free.specs.Counts.Told.{taken_by}
+use Rattle.lock_free.specs.Counts.Contracts.{taken_by}
 use Rattle.lock_free.specs.Counts.Callable.{CountsAscend, TakesCounts}
 
 -- ---- places with their counts

@@ -9,7 +9,7 @@ use Rattle.model.specs.declared.event.Answer.TheVariants.{Done}
 use Rattle.model.specs.declared.event.Event.TheVariants.{Counted}
 use Rattle.model.specs.declared.turn.Kind.TheVariants as kinds
 use Rattle.model.specs.Families.Bits.Reading.{is_count_of, take_of, counts, takes}
-use Rattle.lock_free.specs.Counts.Told.{HasCounted, AnswersCount, HasTakenOut, taken_by}
+use Rattle.lock_free.specs.Counts.Contracts.{HasCounted, AnswersCount, HasTakenOut, taken_by}
 use Rattle.lock_free.specs.Counts.Sums.{taken_at}
 use Rattle.lock_free.proofs.Sums.{sum_made}
 

@@ -12,7 +12,7 @@ use Rattle.history.specs.Steps.{TakesAtMost}
 use Rattle.lock_free.specs.Driven.{HasMade, HasDone, IsIdle}
 use Rattle.lock_free.specs.Sets.Kinds.{Counts}
 use Rattle.lock_free.specs.Sets.Stages.{empties}
-use Rattle.lock_free.specs.Counts.Told.{taken_by, HasTakenOut, MissedNoCount}
+use Rattle.lock_free.specs.Counts.Contracts.{taken_by, HasTakenOut, MissedNoCount}
 use Rattle.lock_free.proofs.Ends.{before_end, to_end}
 use Rattle.lock_free.proofs.Sets.Emptying.{goes_next}
 use Rattle.lock_free.proofs.Steps.{counts_take}

@@ -8,7 +8,7 @@ use Rattle.std.proofs.lemmas.List.{length-replicate}
 use Rattle.std.proofs.lemmas.List.Sums.{count_by_more_yes, count_by_more_no}
 use Rattle.std.proofs.lemmas.Bool.{cases_eq}
 use Rattle.lock_free.specs.Unique.Held.{one_if, HoldsNothing}
-use Rattle.lock_free.specs.Unique.Told.{HasAcquired, WasRefused, HasGiven}
+use Rattle.lock_free.specs.Unique.Contracts.{HasAcquired, WasRefused, HasGiven}
 use Rattle.lock_free.proofs.Unique.Holding.{taken_moves, refused_moves, given_moves}
 use Rattle.lock_free.specs.declared.spsc.loan.places.Place.{Place}
 use Rattle.lock_free.specs.declared.spsc.loan.places.Place.TheVariants.{Free, Loaned, Sent}

@@ -27,9 +27,9 @@ use Rattle.history.proofs.Indices.{is_index_set}
 use Rattle.lock_free.specs.Unique.Held.{HoldsNothing, IsSound}
 use Rattle.lock_free.proofs.Ends.{has_made}
 use Rattle.lock_free.proofs.Unique.Machine.{holds_right, none_held, held_within}
-use Rattle.lock_free.specs.UniqueIndexSet.{SetId, set_of, view, history, GoesOn}
+use Rattle.lock_free.specs.UniqueIndexSet.{SetId, set_of, view, history, SamePass}
 use Rattle.lock_free.specs.declared.mpmc.unique_index_set.Pass.{Pass}
-use Rattle.lock_free.specs.Unique.Told.{HasTaken, HasGiven, HasGivenOrLocked, HasCounted, HasLooked, WasFree, Answered}
+use Rattle.lock_free.specs.Unique.Contracts.{HasTaken, HasGiven, HasGivenOrLocked, HasCounted, HasLooked, WasFree, Answered}
 
 -- an event of the party stands somewhere
 find_own : (p : ℕ) (xs es : List (Event ℕ)) (e : Event ℕ) → events_by p xs ≡ e ∷ es → (ls : List (Event ℕ)) × (rs : List (Event ℕ)) × (xs ≡ ls ++ e ∷ rs)
@@ -275,9 +275,9 @@ apart v other w i looks mine theirs =
     absurd (omega arith)
 
 -- what a call leaves of a pass
-pub goes_on : {C M E : Type 0} {call : Calling ℕ C M E} {old new : Pass} {e : E} {m : M} → set_of new ≡ set_of old
-    → Ends one_word kinds.Indices call (view old) e m (view new) → GoesOn old new
-goes_on {old = old} {new = new} set ends =
+pub same_pass : {C M E : Type 0} {call : Calling ℕ C M E} {old new : Pass} {e : E} {m : M} → set_of new ≡ set_of old
+    → Ends one_word kinds.Indices call (view old) e m (view new) → SamePass old new
+same_pass {old = old} {new = new} set ends =
     record {
       set = set;
       share = ends.share;

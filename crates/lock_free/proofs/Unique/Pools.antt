@@ -13,8 +13,8 @@ use Rattle.history.specs.Passes.{HasSplit, HasJoined}
 use Rattle.lock_free.specs.declared.mpmc.unique_index_set.Pass.{Pass}
 use Rattle.lock_free.specs.Unique.Held.{HeldBy, HoldsNothing, HoldsAll, IsSound}
 use Rattle.lock_free.specs.Unique.Pools.{IsAsMuch, Holding}
-use Rattle.lock_free.specs.Unique.Told.{HasAcquired, HasGiven, HasCounted}
-use Rattle.lock_free.specs.UniqueIndexSet.{GoesOn, made, set_of, share, view}
+use Rattle.lock_free.specs.Unique.Contracts.{HasAcquired, HasGiven, HasCounted}
+use Rattle.lock_free.specs.UniqueIndexSet.{SamePass, made, set_of, share, view}
 use Rattle.lock_free.proofs.Unique.Holding.{held_taken, held_given, held_joined, held_first, held_apart, held_still, counted_moves}
 
 -- ---- shares
@@ -47,7 +47,7 @@ holds_none {pass} {is} none empty =
     record { set = refl; share = refl; held = subst (λ xs. HeldBy xs (made pass)) (sym empty) nothing }
 
 -- it takes one more
-pub holds_more : {start was now : Pass} {is : List ℕ} (more : List ℕ) (i : ℕ) → Holding start is was → GoesOn was now
+pub holds_more : {start was now : Pass} {is : List ℕ} (more : List ℕ) (i : ℕ) → Holding start is was → SamePass was now
     → HasAcquired i (view was) (view now) → more ≡ is ++ i ∷ [] → Holding start more now
 holds_more {start} {was} {now} {is} more i h goes took list =
     record {
@@ -67,7 +67,7 @@ holds_next {start} {now} is at h sound below =
 
 -- and then the others are held
 pub holds_rest : {start was now : Pass} (is : List ℕ) (at : ℕ) {state : ReleaseState} → Holding start (drop at is) was
-    → at < length is → GoesOn was now → HasGiven (get_or is at 0) state (view was) (view now) → Holding start (drop (at + 1) is) now
+    → at < length is → SamePass was now → HasGiven (get_or is at 0) state (view was) (view now) → Holding start (drop (at + 1) is) now
 holds_rest {start} {was} {now} is at {state} h below goes gave =
     record {
       set = goes.set ∙ h.set;
@@ -105,7 +105,7 @@ holds_apart {start} {now} is h sound = held_apart is (view now) sound h.held
 
 -- where the whole share holds nothing, none is out
 pub none_out : (first was : Pass) {given now : Pass} {n : ℕ} (is : List ℕ) → share first ≡ all_shares → Holding first is was → Holding was [] given
-    → GoesOn given now → HasCounted n (view given) (view now) → HoldsAll n (view now) → n ≡ 0
+    → SamePass given now → HasCounted n (view given) (view now) → HoldsAll n (view now) → n ≡ 0
 none_out first was {given} {now} {n} is all taken gave goes counted whole =
     let one : IsAll (share was) = all_of (share was) (subst (λ s. IsAsMuch (share was) s) all taken.share) in
     let two : IsAll (share given) = same_whole (share given) (share was) was.some.1 one gave.share in

@@ -13,7 +13,7 @@ use Rattle.model.specs.declared.families.indices.IndexStart.TheVariants.{Acquire
 use Rattle.model.specs.declared.turn.Kind.TheVariants as kinds
 use Rattle.model.specs.Families.Indices.Reading.{is_locked, locked_after, Tally, tally_after, tally_of}
 use Rattle.lock_free.specs.Unique.Held.{HeldBy, HoldsNothing, HoldsAll, HoldsSome, IsSound, IsDone}
-use Rattle.lock_free.specs.Unique.Told.{HasTaken, HasGiven, HasGivenOrLocked, HasCounted, HasLooked, Answered, HasAcquired, WasRefused}
+use Rattle.lock_free.specs.Unique.Contracts.{HasTaken, HasGiven, HasGivenOrLocked, HasCounted, HasLooked, Answered, HasAcquired, WasRefused}
 use Rattle.lock_free.proofs.Whole.Alone.{still_done}
 use Rattle.lock_free.proofs.Unique.Facts.{lock_stays, not_locked, taken, taken_answered, free, holds, open_still}
 use Rattle.lock_free.proofs.Unique.Facts.{given_or_locked, locked_answered, counted, counted_answered, looked_answered}

@@ -1,4 +1,4 @@
--- What clauses see of a sender.
+-- What the clauses of a sender's calls speak of: its table, its pass, and its guards of both queues.
 use Rattle.std.specs.Prelude.{◌≡◌, ℕ, List}
 use Rattle.lock_free.specs.UniqueIndexSet.{SetId, view, set_of, IsPassOf}
 use Rattle.history.specs.declared.view.View.{View}

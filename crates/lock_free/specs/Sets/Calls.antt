@@ -68,9 +68,16 @@ module _ {E : Type 0} {kind : Ghosts E} where
   MissesNothing p = passes.MissesNothing (view p)
 
   -- what each call leaves of a pass, and what the pass knows from then on
-  pub record GoesOn (old new : Held E ℕ (SetRule E) kind) : Type 0 where
+  pub record SamePass (old new : Held E ℕ (SetRule E) kind) : Type 0 where
     pub set : set_of new ≡ set_of old
     pub share : share new ≡ share old
     pub party : IsSameParty old new
+    pub history : HasHistory new
+    pub all : MissesNothing new
+
+  -- what a join leaves of a pass, which has what both had
+  pub record PassJoins (old other new : Held E ℕ (SetRule E) kind) : Type 0 where
+    pub set : set_of new ≡ set_of old
+    pub joined : passes.HasJoined (view old) (view other) (view new)
     pub history : HasHistory new
     pub all : MissesNothing new

@@ -2,12 +2,12 @@
 ghost use Rattle.std.specs.Prelude.{◌≡◌, ℕ, ◌+◌, List, sum_by};
 ghost use Rattle.history.specs.declared.view.View.{View};
 ghost use Rattle.history.specs.Held.{claims, frees};
-ghost use Rattle.lock_free_queues.specs.Queues.Told.{FoundNone};
+ghost use Rattle.lock_free_queues.specs.Queues.Contracts.{FoundNone};
 ghost use Rattle.lock_free.specs.Unique.Held.{times};
-ghost use Rattle.lock_free.specs.Loan.Told.{InTurn, HasFreed, HasEmptied};
+ghost use Rattle.lock_free.specs.Loan.Contracts.{InTurn, HasFreed, HasEmptied};
 
 /// A pass that frees a list of indices in turn frees each as often as it stands there. It claims nothing. The lemmas
-/// are `freed_in_turn` and `claims_in_turn` of `proofs/Loan/Told.antt`.
+/// are `freed_in_turn` and `claims_in_turn` of `proofs/Loan/Contracts.antt`.
 pub fn frees_are_counted()
     ensures freed { (is : List ℕ) (old new : View ℕ) → InTurn HasFreed is old new
         → (i : ℕ) → sum_by (frees i) new.made ≡ sum_by (frees i) old.made + times i is }

@@ -5,8 +5,8 @@ ghost use Rattle.history.specs.Passes.{HasSplit, HasJoined};
 ghost use Rattle.lock_free.specs.declared.mpmc.unique_index_set.Pass.{Pass};
 ghost use Rattle.lock_free.specs.Unique.Held.{HoldsAll, IsSound};
 ghost use Rattle.lock_free.specs.Unique.Pools.{Holding};
-ghost use Rattle.lock_free.specs.Unique.Told.{HasCounted};
-ghost use Rattle.lock_free.specs.UniqueIndexSet.{GoesOn, set_of, share, view};
+ghost use Rattle.lock_free.specs.Unique.Contracts.{HasCounted};
+ghost use Rattle.lock_free.specs.UniqueIndexSet.{SamePass, set_of, share, view};
 
 /// Two halves of a pass, once they are joined, hold what both held. They have as much of the right to know the whole as
 /// the pass had. So it goes on by halves of halves, to any number of threads. The lemma is `both_hold` of
@@ -22,5 +22,5 @@ pub fn halves_hold_both()
 pub fn holders_are_apart()
     ensures apart { (start now : Pass) (is : List ℕ) → Holding start is now → IsSound (view now) → AllPairs (λ i j. i ≢ j) is }
     ensures none { (first was given now : Pass) (is : List ℕ) (n : ℕ) → share first ≡ all_shares → Holding first is was
-        → Holding was [] given → GoesOn given now → HasCounted n (view given) (view now) → HoldsAll n (view now) → n ≡ 0 }
+        → Holding was [] given → SamePass given now → HasCounted n (view given) (view now) → HoldsAll n (view now) → n ≡ 0 }
 {}

@@ -7,7 +7,7 @@ use Rattle.lock_free_owners.proofs.Names.{HeldSometime, IsAll, View, IsHistory, 
 use Rattle.lock_free_owners.proofs.Names.{SettledFrom, KeepsState, Calling, LeavesState, IsUnderWay, Ends, Since}
 use Rattle.lock_free_owners.proofs.Names.{opened, called}
 use Rattle.model.specs.declared.turn.Kind.TheVariants as kinds
-use Rattle.lock_free_owners.specs.Container.Told.{Answered}
+use Rattle.lock_free_owners.specs.Container.Contracts.{Answered}
 use Rattle.lock_free_owners.proofs.ContainerSet.Sound.{sound_history}
 use Rattle.lock_free_owners.proofs.RobustSet.Events.{not_locked, covers}
 

@@ -15,8 +15,9 @@ use Rattle.model.specs.declared.families.container.ContainerStart.TheVariants.{I
 use Rattle.model.specs.declared.families.container.calls.CountOf.TheVariants as counts
 use Rattle.model.specs.declared.turn.Kind.TheVariants as kinds
 use Rattle.history.specs.Container as container
-use Rattle.lock_free_owners.specs.Robust.Told.{WroteAt, WasFilled, WasGranted, WasFreed, HasReleased, FoundLock}
-use Rattle.lock_free_owners.specs.Container.Told.{IsSound, HasMade, HasAdded, HasRemoved, HasReplaced, HasCounted, HasTested, HasLooked, Answered, WasNotAdded}
+use Rattle.lock_free_owners.specs.Robust.Contracts.{WroteAt, WasFilled, WasGranted, WasFreed, HasReleased, FoundLock}
+use Rattle.lock_free_owners.specs.Container.Contracts.{IsSound, HasMade, HasAdded, HasRemoved, HasReplaced, HasCounted}
+use Rattle.lock_free_owners.specs.Container.Contracts.{HasTested, HasLooked, Answered, WasNotAdded}
 use Rattle.lock_free_owners.specs.Container.Turns.{CallEnds, AddEnds, RemoveEnds, ReplaceEnds, CountEnds, LockEnds}
 use Rattle.lock_free_owners.specs.Container.Turns.{BeginsAdd, BeginsRemove, BeginsReplace, BeginsCount, BeginsLock}
 use Rattle.lock_free_owners.proofs.ContainerSet.Sound.{sound_history}

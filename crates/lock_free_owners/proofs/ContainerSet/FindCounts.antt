@@ -20,7 +20,7 @@ use Rattle.laws_container.specs.Tells.{StoppedIf}
 use Rattle.laws_container.proofs.OpenRuns.{reached_open_tells}
 use Rattle.history.proofs.Calls.{Stands, stands, flight_is, heard_events}
 use Rattle.history.proofs.Reached.{decide_as}
-use Rattle.lock_free_owners.specs.Container.FindTold.{below_question}
+use Rattle.lock_free_owners.specs.Container.FindContract.{below_question}
 
 module _ {T : Type 0} (code : Coding T) (capacity p owner number : ℕ) where
   abbrev start : Start T

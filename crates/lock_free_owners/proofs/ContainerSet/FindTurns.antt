@@ -17,7 +17,7 @@ use Rattle.threaded.specs.Driver.{Next, Told}
 use Rattle.history.proofs.ContainerFinds.{find_call, container_find_keeps, container_find_word, container_find_hears}
 use Rattle.history.proofs.ContainerFinds.{container_find_first, find_copied, find_rests_so, no_ends, copies_span}
 use Rattle.history.proofs.Settling.{KeepsWhere}
-use Rattle.lock_free_owners.specs.Container.FindTold.{copied, Rests, HasSearched, below_question, asked_below}
+use Rattle.lock_free_owners.specs.Container.FindContract.{copied, Rests, HasSearched, below_question, asked_below}
 use Rattle.lock_free_owners.specs.Container.FindTurns.{words_in, Copying, BeginsFind, finding, find_goes, find_copying}
 use Rattle.lock_free_owners.specs.Container.FindTurns.{FindBegun, FindOver, FindAt, FindDone, FindTells, IsAtWord, IsLeft}
 use Rattle.lock_free_owners.specs.Container.Visits.{visits_of}

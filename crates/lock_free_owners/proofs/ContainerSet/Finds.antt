@@ -1,9 +1,10 @@
 -- A find of a container between two turns: where it stands on the history, what its closure was called with, and how many
 -- operations it has performed.
-use Rattle.lock_free_owners.proofs.Names.{◌≡◌, ℕ, ◌+◌, ◌^◌, ◌<◌, ◌≤◌, nat_lt, if◌then◌else◌, true, false, List, []}
+use Rattle.lock_free_owners.proofs.Names.{◌≡◌, ℕ, ◌+◌, ◌-◌, ◌*◌, ◌^◌, ◌<◌, ◌≤◌, nat_lt, if◌then◌else◌, true, false, List, []}
 use Rattle.lock_free_owners.proofs.Names.{refl, sym, ap, subst, ◌∙◌, arith, nat_tests, find_kept, by_bool, After}
 use Rattle.lock_free_owners.proofs.Names.{GoOn, Done, ContainerHandle, Buffer, CallbackProgression, Continue, Stop}
 use Rattle.lock_free_owners.proofs.Names.{Coding, IsCoding, fresh_cell, kept_at, View, value_of_room}
+use Rattle.steps.specs.Indices.Robust.Parts.{one_more}
 use Rattle.steps.specs.Container.Find.{first_find, at_find, find_comes_to, find_takes}
 use Rattle.steps.specs.declared.container.find.Find.{Find}
 use Rattle.steps.specs.declared.container.find.FindStage.{FindStage}
@@ -12,14 +13,19 @@ use Rattle.threaded.specs.Driver.{Next}
 use Rattle.history.specs.Steps.{TakesAtMost}
 use Rattle.lock_free_owners.specs.Robust.Stages.{says}
 use Rattle.lock_free_owners.specs.Container.Callable.{Visit, TakesVisits, HasFound}
-use Rattle.lock_free_owners.specs.Container.FindTold.{HasSearched}
+use Rattle.lock_free_owners.specs.Container.FindContract.{HasSearched}
 use Rattle.lock_free_owners.specs.Container.Steps.{FindTakes}
 use Rattle.lock_free_owners.specs.Container.FindTurns.{words_in, find_goes, find_copying, FindAt, FindDone, FindGoes, FindTurns, IsAtWord, IsLeft}
+use Rattle.lock_free_owners.specs.Container.FindTurns.{FindPasses, IsWithin, PassesTo, HasPassed, PassesFrom}
 use Rattle.lock_free_owners.specs.Container.Visits as visits
 use Rattle.lock_free_owners.specs.Container.Visits.{FindStands, FindAsks, FindMoves, IsNamed, visits_of}
 use Rattle.lock_free_owners.proofs.ContainerSet.FindTurns.{over_so, heard_on, answer_over}
-use Rattle.lock_free_owners.proofs.Rules.Container.FindRuns.{StillStands, still_stands, taken_at, taken_after, one_taken, none_taken}
-use Rattle.lock_free_owners.proofs.Rules.Container.Finding.{SoFar, Onward, StepsOnward, IsQuiet, came_none, quietly, told_on, told_to_stop, may_ask}
+use Rattle.lock_free_owners.proofs.Rules.Container.FindRuns.{StillStands, still_stands, taken_at, taken_after, one_taken, none_taken, cells_taken}
+use Rattle.lock_free_owners.proofs.Rules.Container.Finding.{Came, widen, found_all, SoFar, Onward, StepsOnward}
+use Rattle.lock_free_owners.proofs.Rules.Container.Finding.{IsQuiet, came_none, quietly, told_on, told_to_stop, may_ask}
+
+one_more_is : (n : ℕ) → n < 2 ^ 32 → one_more n ≡ n + 1
+one_more_is x0 x1 = grind (arith, one_more)
 
 module _ {T F : Type 0} (code : Coding T) (step : F → T → ContainerHandle → CallbackProgression → F → Type 0)
     (cap owner id : ℕ) (base : View T) (f : F) where
@@ -56,6 +62,9 @@ module _ {T F : Type 0} (code : Coding T) (step : F → T → ContainerHandle �
     stood k = (let some = law.some in still_stands code.size some cap c owner k h.stands)
 
     -- ---- a step at a word
+
+    abbrev NextThere : After (Find T (Buffer 128)) ℕ → View T → Type 0
+    NextThere r w = Next (λ (z : View T). z.capacity) (FindAt code owner) (FindDone code owner) base r (m, h.copies) w
 
     stepped : (w : View T) (a : After (Find T (Buffer 128)) ℕ) (left : Buffer 128) (copies : List (ℕ × T)) → StillStands code.size cap a
         → Next (λ (z : View T). z.capacity) (FindAt code owner) (FindDone code owner) base a (left, copies) w
@@ -160,6 +169,73 @@ module _ {T F : Type 0} (code : Coding T) (step : F → T → ContainerHandle �
 
     pub may_go : {pre : F → T → ContainerHandle → Type 0} → TakesVisits pre step (IsNamed cap owner id) f → FindAsks pre owner id c.stage (value_in_room m) p
     may_go takes = may_ask step cap owner id f takes code.size c.stage h.stands.1 h.copies (value_in_room m) p h.so_far
+
+    -- ---- it passes cells
+
+    in_sight : (stage : FindStage) → visits.FindStage code.size cap stage → IsWithin cap stage
+    in_sight x0 x1 = grind arith
+
+    pub may_pass : IsWithin c.capacity c.stage
+    may_pass = subst (λ n. IsWithin n c.stage) (sym h.stands.0) (in_sight c.stage h.stands.1)
+
+    module _ (w : View T) (a : After (Find T (Buffer 128)) ℕ) (goes : FindPasses code owner v c m a w) where
+      module _ (index found : ℕ) (is : c.stage ≡ finds.LoadsCell index found) where
+        stood_there : (index < cap) × (found ≤ index)
+        stood_there = subst (visits.FindStage code.size cap) is h.stands.1
+
+        came : Came step cap owner id f index found (visits_of owner id h.copies) p
+        came = subst (λ z. SoFar step cap owner id f z h.copies (value_in_room m) p) is h.so_far
+
+        few : TakesAtMost (index * (code.size + 3)) base v
+        few = subst (λ z. TakesAtMost (taken_at code.size z) base v) is h.steps
+
+        -- to one of the owner
+        lands : (stage : FindStage) → PassesTo cap index found stage v w
+            → visits.FindStage code.size cap stage × SoFar step cap owner id f stage h.copies (value_in_room m) p
+            × TakesAtMost (taken_at code.size stage) base w
+        lands (finds.LoadsCell at count) to = absurd to
+        lands (finds.LoadsCount at count) to =
+            let low = to.0 in
+            let within = to.1 in
+            let started = stood_there.1 in
+            let one : count ≡ found + 1 = to.2 ∙ one_more_is found (omega arith) in
+            let before = few in
+            let loaded = to.3 in
+            let more = cells_taken index (at - index) at code.size (omega arith) in
+            ((within, omega arith), (found, sym one, widen step cap owner id f index at found (visits_of owner id h.copies) p low came), omega arith)
+        lands (finds.LoadsWord at count number place) to = absurd to
+        lands (finds.ChecksCount at count number) to = absurd to
+        lands (finds.Asks at count) to = absurd to
+
+        by_cells : (r : After (Find T (Buffer 128)) ℕ) → a ≡ r → HasPassed cap index found r v w → Further w r m p
+        by_cells (GoOn d) goes_on passed =
+            let there = lands d.stage passed.1 in
+            stepped w (GoOn d) m h.copies (passed.0, there.0) (subst (λ z. NextThere z w) goes_on (goes base h.copies h.at)) there.1 there.2
+        by_cells (Done n) ends passed =
+            let before = few in
+            let loaded = passed.1 in
+            let within = stood_there.0 in
+            let more = cells_taken index (cap - index) cap code.size (omega arith) in
+            stepped w (Done n) m h.copies tt (subst (λ z. NextThere z w) ends (goes base h.copies h.at))
+            (subst (λ k. HasFound step cap (IsNamed cap owner id) f k cap (visits_of owner id h.copies) p) (sym passed.0)
+            (found_all step cap owner id f cap found (visits_of owner id h.copies) p
+            (widen step cap owner id f index cap found (visits_of owner id h.copies) p (omega arith) came)))
+            (omega arith)
+
+      -- a call that has come to no cell stays
+      stays : a ≡ GoOn c → w ≡ v → Further w a m p
+      stays same still = subst (λ r. Further w r m p) (sym same) (subst (λ (u : View T). Searching u c m p) (sym still) h)
+
+      come : (stage : FindStage) → c.stage ≡ stage → PassesFrom c stage a v w → Further w a m p
+      come (finds.LoadsCell index found) is passed =
+          by_cells index found is a refl (subst (λ n. HasPassed n index found a v w) h.stands.0 passed)
+      come (finds.LoadsCount index found) is passed = stays passed.0 passed.1
+      come (finds.LoadsWord index found count at) is passed = stays passed.0 passed.1
+      come (finds.ChecksCount index found count) is passed = stays passed.0 passed.1
+      come (finds.Asks index found) is passed = stays passed.0 passed.1
+
+      pub passed_on : (r : After (Find T (Buffer 128)) ℕ) → a ≡ r → PassesFrom c c.stage a v w → Further w r m p
+      passed_on r is passed = subst (λ z. Further w z m p) is (come c.stage refl passed)
 
   pub starts : (c : Find T (Buffer 128)) (m : Buffer 128) → c ≡ first_find cap → m ≡ fresh_cell → 0 < cap
       → FindAt code owner base base (first_find cap) (fresh_cell, [])

@@ -19,7 +19,7 @@ use Rattle.lock_free_owners.specs.Container.Bare.{Still, LookStands, LookEnds}
 use Rattle.lock_free_owners.specs.Container.Idle.{IsIdle}
 use Rattle.lock_free_owners.specs.Container.LookTurns.{IsOnHistory, LookAt, LookOver, IsPast, LookOnAt, LookOnOver}
 use Rattle.lock_free_owners.specs.Container.Names.{unnumbered}
-use Rattle.lock_free_owners.specs.Container.Told.{Answered, HasMade}
+use Rattle.lock_free_owners.specs.Container.Contracts.{Answered, HasMade}
 use Rattle.lock_free_owners.proofs.ContainerSet.Began.{capacity_from, idle_from, share_from, ended_answered, ended_goes, ended_called}
 use Rattle.lock_free_owners.proofs.ContainerSet.Idle.{rests, idle_none}
 use Rattle.lock_free_owners.proofs.ContainerSet.SameStates.{Decided}

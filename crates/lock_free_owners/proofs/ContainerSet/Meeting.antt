@@ -13,7 +13,7 @@ use Rattle.laws_turns.specs.Changes.{changes_of, CountsChanges, MeetsChanges}
 use Rattle.laws_turns.proofs.Meeting.{turn_kept, first_known}
 use Rattle.laws_turns.proofs.SeenTurns.{Extra}
 use Rattle.laws_turns.proofs.Taken.{taken_open}
-use Rattle.lock_free_owners.specs.Container.Told.{Answered, HasMet}
+use Rattle.lock_free_owners.specs.Container.Contracts.{Answered, HasMet}
 use Rattle.lock_free_owners.proofs.ContainerSet.Changes.{by_word, Few, fewer, counts_after, counts_first}
 
 -- ---- every run

@@ -22,13 +22,13 @@ use Rattle.laws_container.specs.Gone.{AsksBy}
 use Rattle.threaded.specs.Driver.{Next}
 use Rattle.history.specs.ContainerRecovery.{Came, visits_after, VisitsAt}
 use Rattle.history.specs.ValueQueue.{value_there}
-use Rattle.lock_free_owners.specs.Robust.Told.{FoundState}
+use Rattle.lock_free_owners.specs.Robust.Contracts.{FoundState}
 use Rattle.lock_free_owners.specs.Container.FindTurns.{words_in}
 use Rattle.lock_free_owners.specs.Container.Idle.{IsIdle}
 use Rattle.lock_free_owners.specs.Container.RecoverTurns.{Visiting, BeginsRecover, recovering, recover_goes}
 use Rattle.lock_free_owners.specs.Container.RecoverTurns.{recover_visiting, RecoverBegun, RecoverAt, RecoverEnds}
 use Rattle.lock_free_owners.specs.Container.RecoverTurns.{RecoverTells}
-use Rattle.lock_free_owners.specs.Container.Told.{Answered}
+use Rattle.lock_free_owners.specs.Container.Contracts.{Answered}
 use Rattle.lock_free_owners.proofs.ContainerSet.Idle.{rests}
 use Rattle.lock_free_owners.proofs.ContainerSet.Began.{idle_from, seen_is, from_since, ended_goes, ended_called, ended_answered, open_since}
 use Rattle.lock_free_owners.proofs.ContainerSet.Sound.{sound_history}

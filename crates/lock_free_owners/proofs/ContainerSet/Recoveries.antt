@@ -13,7 +13,7 @@ use Rattle.threaded.specs.Driver.{Next}
 use Rattle.history.specs.ContainerRecovery.{RecoverIn, Came}
 use Rattle.lock_free_owners.specs.Container.FindTurns.{words_in}
 use Rattle.lock_free_owners.specs.Container.Questions.{TakesValues}
-use Rattle.lock_free_owners.specs.Container.RecoverTold.{HasRecovered}
+use Rattle.lock_free_owners.specs.Container.RecoverContract.{HasRecovered}
 use Rattle.lock_free_owners.specs.Container.RecoverTurns.{Visiting, recover_goes, recover_visiting, RecoverAt}
 use Rattle.lock_free_owners.specs.Container.RecoverTurns.{RecoverEnds, RecoverGoes, RecoverTurns, RecoverAsks}
 use Rattle.lock_free_owners.specs.Container.RecoverTurns.{RecoverMoves, RecoverPasses, IsWithin, PassesTo, HasPassed}

@@ -7,7 +7,7 @@ use Rattle.lock_free_owners.proofs.Names.{Each, Word, IsHonest, IsHistory, is_op
 use Rattle.model.specs.declared.turn.Kind.TheVariants as kinds
 use Rattle.laws_container.specs.Gone.{AsksBy, RecoversBy, AnswersBy, FilledSinceEachBy}
 use Rattle.laws_container.specs.Open.{IsOpenContainer}
-use Rattle.lock_free_owners.specs.Container.Told.{IsSound}
+use Rattle.lock_free_owners.specs.Container.Contracts.{IsSound}
 
 module _ {T : Type 0} {worn other : Type 0} (may : worn → other) where
   since_each : (mode : ReleaseMode) (p owner : ℕ) (events : List (Event T)) → FilledSinceEachBy worn mode p owner events

@@ -14,9 +14,9 @@ use Rattle.model.specs.declared.families.indices.robust.RobustStart.TheVariants.
 use Rattle.model.specs.declared.families.indices.robust.RobustStart.TheVariants.{IsLocked}
 use Rattle.model.specs.declared.turn.Kind.TheVariants as kinds
 use Rattle.model.specs.Families.Indices.Robust.Calls.{acquire_answer, release_answer}
-use Rattle.lock_free_owners.specs.Robust.Told.{HasTaken, HasGiven, HasRecovered, HasCounted, HasLooked, WroteAt}
-use Rattle.lock_free_owners.specs.Robust.Told.{WasFilled, WasGranted, WasFreed, IsSound, Answered, WasRefused}
-use Rattle.lock_free_owners.specs.Robust.Told.{HasReleased, FoundLock, FoundState}
+use Rattle.lock_free_owners.specs.Robust.Contracts.{HasTaken, HasGiven, HasRecovered, HasCounted, HasLooked, WroteAt}
+use Rattle.lock_free_owners.specs.Robust.Contracts.{WasFilled, WasGranted, WasFreed, IsSound, Answered, WasRefused}
+use Rattle.lock_free_owners.specs.Robust.Contracts.{HasReleased, FoundLock, FoundState}
 use Rattle.model.specs.Progress.{guarantee_of}
 use Rattle.history.proofs.Paid.{AllowsOne, TakesBy, takes}
 use Rattle.history.proofs.Robusts.{robust_pays}

@@ -7,7 +7,7 @@ use Rattle.model.specs.declared.families.indices.robust.RobustStart.TheVariants.
 use Rattle.model.specs.declared.turn.Kind.TheVariants as kinds
 use Rattle.laws_robust.specs.Gone.{AsksBy, AnswersBy}
 use Rattle.laws_robust.specs.Open.{IsOpenSet}
-use Rattle.lock_free_owners.specs.Robust.Told.{IsSound}
+use Rattle.lock_free_owners.specs.Robust.Contracts.{IsSound}
 
 -- what an answer says where its counter may be worn it says where that may be for another reason
 worn_on : {worn other : Type 0} → (worn → other) → (capacity : ℕ) (before : List (Event ℕ)) (e : Event ℕ) → AnswersBy Word worn capacity before e

@@ -1,8 +1,9 @@
 -- What is known between two turns of a find of a container, whatever the view with which it began.
-use Rattle.std.specs.Prelude.{◌≡◌, ℕ, ◌<◌, List, []}
+use Rattle.std.specs.Prelude.{◌≡◌, ℕ, ◌+◌, ◌-◌, ◌<◌, ◌≤◌, List, []}
 use Rattle.steps.specs.Container.Find.{first_find, find_after, find_kept}
-use Rattle.steps.specs.Indices.Robust.Parts.{empty}
+use Rattle.steps.specs.Indices.Robust.Parts.{empty, one_more}
 use Rattle.steps.specs.declared.ask.After.{After}
+use Rattle.steps.specs.declared.ask.After.TheVariants.{GoOn, Done}
 use Rattle.steps.specs.declared.container.find.Find.{Find}
 use Rattle.steps.specs.declared.container.find.FindStage as finds
 use Rattle.steps.specs.declared.copied.Buffer.{Buffer}
@@ -75,6 +76,13 @@ module _ {T : Type 0} (code : Coding T) (owner : ℕ) where
       (n : ℕ) × (after ≡ find_goes call n) × (left ≡ find_kept kept_at call room n) × FindTells call room v n w
       × TakesAtMost 1 v w
 
+  -- it has passed cells since, perhaps to its end: nothing was put into the room, and nothing copied
+  abbrev pub FindPasses : View T → Find T (Buffer 128) → Buffer 128 → After (Find T (Buffer 128)) ℕ → View T
+      → Type 0
+  FindPasses v call room after w =
+      (base : View T) (copies : List (ℕ × T)) → FindAt base v call (room, copies)
+      → Next (λ (z : View T). z.capacity) FindAt FindDone base after (room, copies) w
+
   -- what a turn does: at a question it takes an answer, and nothing is known anew
   abbrev pub FindTurns : finds.FindStage → View T → Find T (Buffer 128) → Buffer 128
       → After (Find T (Buffer 128)) ℕ → Buffer 128 → View T → Type 0
@@ -86,6 +94,36 @@ module _ {T : Type 0} (code : Coding T) (owner : ℕ) where
 abbrev pub IsAtWord : finds.FindStage → Type 0
 IsAtWord (finds.TheVariants.Asks index found) = ⊥
 IsAtWord stage = Unit {0}
+
+-- the cell that it has come to, if any, is below the capacity
+abbrev pub IsWithin : ℕ → finds.FindStage → Type 0
+IsWithin capacity (finds.TheVariants.LoadsCell index found) = index < capacity
+IsWithin capacity stage = Unit {0}
+
+module _ {T : Type 0} where
+  -- a find that has come to the cell of this index, and found so many
+  abbrev pub at_cell : ℕ → ℕ → ℕ → Find T (Buffer 128)
+  at_cell capacity index found =
+      record { capacity = capacity; stage = finds.TheVariants.LoadsCell index found; of = record {} }
+
+  -- from the cell `first` on, with an operation for each, it has come to a cell of the owner, and counts it
+  abbrev pub PassesTo : ℕ → ℕ → ℕ → finds.FindStage → View T → View T → Type 0
+  PassesTo capacity first found (finds.TheVariants.LoadsCount index count) v w =
+      (first ≤ index) × (index < capacity) × (count ≡ one_more found) × TakesAtMost (index + 1 - first) v w
+  PassesTo capacity first found stage v w = ⊥
+
+  -- it has come there, or past the last cell, where it ends
+  abbrev pub HasPassed : ℕ → ℕ → ℕ → After (Find T (Buffer 128)) ℕ → View T → View T → Type 0
+  HasPassed capacity first found (GoOn on) v w =
+      (on.capacity ≡ capacity) × PassesTo capacity first found on.stage v w
+  HasPassed capacity first found (Done all) v w = (all ≡ found) × TakesAtMost (capacity - first) v w
+
+  -- the same from a call's stage; a call at no cell stays as it is
+  abbrev pub PassesFrom : Find T (Buffer 128) → finds.FindStage → After (Find T (Buffer 128)) ℕ → View T → View T
+      → Type 0
+  PassesFrom call (finds.TheVariants.LoadsCell index found) after v w =
+      HasPassed call.capacity index found after v w
+  PassesFrom call stage after v w = (after ≡ GoOn call) × (w ≡ v)
 
 -- what a call leaves of a pass with no call under way, or whose last one rests
 module _ {T : Type 0} (code : Coding T) where

@@ -15,6 +15,8 @@ use Rattle.threaded.specs.declared.share.Share.{Share}
 use Rattle.history.specs.declared.view.View.{View}
 use Rattle.history.specs.History.{IsHistory}
 use Rattle.history.specs.Passes as passes
+use Rattle.history.specs.ContainerLooks.{KeepsState}
+use Rattle.lock_free_owners.specs.Container.Contracts.{HasJoined}
 use Rattle.lock_free_owners.specs.declared.mpmc.container.Container.{Container}
 use Rattle.lock_free_owners.specs.declared.mpmc.container.FixedSizeContainer.{FixedSizeContainer}
 use Rattle.lock_free_owners.specs.declared.mpmc.container.Pass.{Pass}
@@ -98,10 +100,18 @@ module _ {T : Type 0} {words : Ghosts T} where
   MissesNothing p = passes.MissesNothing (view p)
 
   -- what each call leaves of a pass, and what the pass knows from then on
-  pub record GoesOn (old new : Pass T words) : Type 0 where
+  pub record SamePass (old new : Pass T words) : Type 0 where
     pub container : container_of new ≡ container_of old
     pub idle : (view new).going ≡ None
     pub goes : passes.Goes (code_of old) kinds.Container (container_of old).capacity (view old) (view new)
+
+  -- what a join leaves of a pass, which has what both had, and keeps its own state
+  pub record PassJoins (old other new : Pass T words) : Type 0 where
+    pub container : container_of new ≡ container_of old
+    pub joined : HasJoined (code_of old) (view old) (view other) (view new)
+    pub keeps : KeepsState (view old) (view new)
+    pub history : HasHistory new
+    pub all : MissesNothing new
 
 module _ {T : Type 0} {CAPACITY : ℕ} where
   -- the container of one whose capacity is part of its type

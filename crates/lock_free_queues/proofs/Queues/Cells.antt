@@ -4,7 +4,7 @@ use Rattle.lock_free_queues.proofs.Names.{◌≡◌, ℕ, suc, ◌+◌, ◌-◌,
 use Rattle.lock_free_queues.proofs.Names.{◌∷◌, ◌++◌, length, map, get_or, slice_get, slice_index, refl, sym, ap}
 use Rattle.lock_free_queues.proofs.Names.{subst, ◌∙◌, arith, slice_get-map, option_map, Item, QueueKind, IndexQueue}
 use Rattle.lock_free_queues.proofs.Names.{Overflow, Queue, Coding, cells_of, published, handed_out, Trace, family}
-use Rattle.lock_free_queues.proofs.Names.{machine_kind, free, kept_is, Val, encoded, item, IsRun, sound_of}
+use Rattle.lock_free_queues.proofs.Names.{machine_kind, free, layout, Val, encoded, item, IsRun, sound_of}
 use Rattle.model.proofs.Frame as frame
 use Rattle.laws_queues.proofs.Queues.Core as core
 
@@ -57,8 +57,11 @@ module _ {T : Type 0} (code : Coding T) (kd : QueueKind) (capacity : ℕ) (t : T
         (subst (λ p. Lies t.world.coding (cells_of kd capacity) p y) place
         (subst (λ c. Lies t.world.coding c (s.state.core.read + rank) y) cells (s.holds.good.held rank y e)))
 
+    its_words : t.world.words ≡ layout s.state.roles s.state.core
+    its_words = s.fit.words
+
     go : (o : Option (Val T kd)) → slice_get s.state.core.waiting rank ≡ o → Stands i x
-    go x0 x1 = grind (arith, option_map, there, kept_is, free, lies)
+    go x0 x1 = grind (arith, option_map, there, its_words, free, lies)
 
     pub stands : Stands i x
     stands = go (slice_get s.state.core.waiting rank) refl

@@ -8,8 +8,8 @@ use Rattle.lock_free_queues.proofs.Names.{kind_of, View, IsHistory, HasRole, Cal
 use Rattle.lock_free_queues.proofs.Names.{called, queue_goes_on}
 use Rattle.steps.specs.Queues.Ring.{pop_answer}
 use Rattle.steps.specs.declared.ask.Want.TheVariants as wants
-use Rattle.lock_free_queues.specs.Queues.Told.{push_of, push_told, popped_item, pop_told, HasPushed, HasPublished}
-use Rattle.lock_free_queues.specs.Queues.Told.{HasTakenOut, WasAtEnd, WasFull, HasPopped, WasEmpty}
+use Rattle.lock_free_queues.specs.Queues.Contracts.{push_of, push_events, popped_item, pop_events, HasPushed, HasPublished}
+use Rattle.lock_free_queues.specs.Queues.Contracts.{HasTakenOut, WasAtEnd, WasFull, HasPopped, WasEmpty}
 use Rattle.lock_free_queues.proofs.Queues.Facts.{was_full, has_published, was_empty, has_taken_out, looked_alone, role_alone, IsAlone}
 
 module _ {T : Type 0} where
@@ -18,7 +18,7 @@ module _ {T : Type 0} where
     pub start : call.start ≡ Queues (push_of item)
     pub answer : (e : Bool) (m : Unit {0}) → call.answer e m ≡ Truth e
     pub tells : (n p : ℕ) (from : Option (Start T × Flight T)) (e : Bool) (m : Unit {0}) (es : List (Event T))
-        → call.wrote_all n p from e m es → es ≡ push_told p item e
+        → call.wrote_all n p from e m es → es ≡ push_events p item e
     pub left : (e : Bool) → call.left e → e ≡ false
     pub at_end : (c : C) (m : Unit {0}) (n : ℕ) (a : Ask) → call.skips c n ≡ true
         → want_of code (call.flight c m) ≡ wants.Ask a → (a.word ≡ 0) × (n ≡ 2 ^ 64 - 1)
@@ -28,7 +28,7 @@ module _ {T : Type 0} where
     pub start : call.start ≡ Queues Pop
     pub answer : (e : Bool) (m : M) → call.answer e m ≡ popped_item (option_map named (pop_answer (value m) e))
     pub tells : (n p : ℕ) (from : Option (Start T × Flight T)) (e : Bool) (m : M) (es : List (Event T))
-        → call.wrote_all n p from e m es → es ≡ pop_told p (option_map named (pop_answer (value m) e))
+        → call.wrote_all n p from e m es → es ≡ pop_events p (option_map named (pop_answer (value m) e))
 
 module _ {T : Type 0} (code : Coding T) (kd : QueueKind) (base w : View T) where
   -- a push that is left out finds the last position, by a load of the write position

@@ -1,7 +1,7 @@
 -- What a pop answers, taken together.
 use Rattle.lock_free_queues.proofs.Names.{Option, Some, None, IfSome, IfNone, Item, option_map}
 use Rattle.history.specs.declared.view.View.{View}
-use Rattle.lock_free_queues.specs.Queues.Told.{HasPopped, WasEmpty, PopDone, PopEmpty, FoundNone, PopOldest, PopFoundNone}
+use Rattle.lock_free_queues.specs.Queues.Contracts.{HasPopped, WasEmpty, PopDone, PopEmpty, FoundNone, PopOldest, PopFoundNone}
 
 module _ {T V : Type 0} (named : V → Item T) (old new : View T) where
   pub has_popped : (answer : Option V) → IfSome answer (λ x. PopDone (named x) old new) → IfNone answer (PopEmpty old new)
@@ -20,6 +20,6 @@ module _ {T V : Type 0} (named : V → Item T) (old new : View T) where
   oldest_popped None done none = none.0
   oldest_popped (Some x) done none = done.0
 
-pub found_none : {T V : Type 0} (old new : View T) (answer : Option V) → IfNone answer (PopFoundNone old new) → IfNone answer (FoundNone old new)
-found_none old new None none = none.1
-found_none old new (Some x) none = tt
+pub has_found_none : {T V : Type 0} (old new : View T) (answer : Option V) → IfNone answer (PopFoundNone old new) → IfNone answer (FoundNone old new)
+has_found_none old new None none = none.1
+has_found_none old new (Some x) none = tt

@@ -17,11 +17,11 @@ use Rattle.model.specs.declared.families.queues.calls.LengthOf.TheVariants as me
 use Rattle.model.specs.Families.Queues.Promises.{IsQueue}
 use Rattle.model.specs.Families.Queues.Lengths.{TellsLength}
 use Rattle.model.specs.Moments.{HeldSometime}
-use Rattle.lock_free_queues.specs.Queues.Told.{HasPushed, HasPublished, HasTakenOut, WasFull, HasPopped, WasEmpty}
-use Rattle.lock_free_queues.specs.Queues.Told.{HasMeasured, HasAcquired, HasReleased, FoundNone}
+use Rattle.lock_free_queues.specs.Queues.Contracts.{HasPushed, HasPublished, HasTakenOut, WasFull, HasPopped, WasEmpty}
+use Rattle.lock_free_queues.specs.Queues.Contracts.{HasMeasured, HasAcquired, HasReleased, FoundNone}
 use Rattle.model.specs.Families.Queues.Book.{AnswersRight}
 use Rattle.lock_free_queues.specs.Queues.Kinds.{NoneTaken, NoneMarked, most_waiting}
-use Rattle.lock_free_queues.specs.Queues.Told.{push_of, popped_item}
+use Rattle.lock_free_queues.specs.Queues.Contracts.{push_of, popped_item}
 use Rattle.lock_free_queues.proofs.Queues.Wrote.{held, each_left, first_wrote, listed, none_between}
 
 -- ---- what a history says of itself

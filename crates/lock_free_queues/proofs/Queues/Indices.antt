@@ -6,7 +6,7 @@ use Rattle.lock_free_queues.proofs.Names.{pops_index}
 use Rattle.steps.specs.declared.ask.Want.TheVariants as wants
 use Rattle.steps.specs.declared.queues.ring.PushStage as pushes
 use Rattle.steps.specs.Queues.Ring.{pop_answer, push_asks}
-use Rattle.lock_free_queues.specs.Queues.Told.{push_told, popped_item, pop_told}
+use Rattle.lock_free_queues.specs.Queues.Contracts.{push_events, popped_item, pop_events}
 use Rattle.lock_free_queues.proofs.Queues.Ended.{IsPush, IsPop}
 
 pub is_coding : IsCoding one_word
@@ -30,7 +30,7 @@ index_push v =
       at_end = λ c m n a skip asks. ends_at one_word.words_of v n a c.stage skip asks;
     }
   where
-    told : (p : ℕ) (taken : Bool) → push_wrote {T = ℕ} p v taken ≡ push_told p (Index v) taken
+    told : (p : ℕ) (taken : Bool) → push_wrote {T = ℕ} p v taken ≡ push_events p (Index v) taken
     told p true = refl
     told p false = refl
 
@@ -49,6 +49,6 @@ index_pop =
     answers None = refl
     answers (Some x) = refl
 
-    told : (p x : ℕ) (e : Bool) → pop_wrote p x e ≡ pop_told p (option_map index_of (pop_answer x e))
+    told : (p x : ℕ) (e : Bool) → pop_wrote p x e ≡ pop_events p (option_map index_of (pop_answer x e))
     told p x true = refl
     told p x false = refl

@@ -11,7 +11,7 @@ use Rattle.lock_free_queues.specs.Queues.Merges.{Merges, StandIn, by_pop, by_pus
 use Rattle.lock_free_queues.specs.Queues.Merges.{HasTaken, HasDrained}
 use Rattle.lock_free_queues.specs.Queues.Overflowing.{GoesOn}
 use Rattle.lock_free_queues.specs.Queues.Sums.{puts, gets}
-use Rattle.lock_free_queues.specs.Queues.Told.{HasAcquired, HasSplit, HasJoined}
+use Rattle.lock_free_queues.specs.Queues.Contracts.{HasAcquired, HasSplit, HasJoined}
 use Rattle.lock_free_queues.proofs.Queues.Sent.{length_named, only_these}
 use Rattle.lock_free_queues.proofs.Queues.Sums.{done_acquired, whole_counted}
 use Rattle.lock_free_queues.proofs.Queues.TakenOut.{item, same_list, no_longer, grows, pop_lasts, push_lasts, begins_on, seen_later}

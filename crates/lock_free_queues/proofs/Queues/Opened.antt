@@ -23,7 +23,7 @@ use Rattle.laws_queues.proofs.Queues.Core as core
 use Rattle.laws_queues.proofs.Queues.Stages.{asked_place}
 use Rattle.history.proofs.Alone as alone
 use Rattle.history.proofs.ValueOpened.{mix, mix_step}
-use Rattle.lock_free_queues.specs.Queues.Told.{push_of, popped_item}
+use Rattle.lock_free_queues.specs.Queues.Contracts.{push_of, popped_item}
 use Rattle.lock_free_queues.specs.Queues.Opened.{pushed_once, popped_once, rounds, opened, position_at, opened_view, opened_with}
 use Rattle.lock_free_queues.proofs.Queues.Grants.{after_push, has_it, quiet_true}
 use Rattle.lock_free_queues.proofs.Queues.Tests.{not_last, some_cells, not_full, one_apart, at_last, before_last, not_below, none_used}
@@ -31,10 +31,10 @@ use Rattle.lock_free_queues.proofs.Queues.Filled.{filled, filled_length, filled_
 use Rattle.lock_free_queues.proofs.Queues.Roles.{QuietRoles, takes_both, gives_both}
 use Rattle.lock_free_queues.proofs.Queues.Single.{fresh, pushing, popping, push_named, push_lacks, push_wants}
 use Rattle.lock_free_queues.proofs.Queues.Single.{push_fresh, GoesOn, push_loads_write, push_loads_read}
-use Rattle.lock_free_queues.proofs.Queues.Single.{push_stores_cell, push_stores_last, push_ends, told_of_push}
+use Rattle.lock_free_queues.proofs.Queues.Single.{push_stores_cell, push_stores_last, push_ends, events_of_push}
 use Rattle.lock_free_queues.proofs.Queues.Single.{wrote_by_push, push_tells, pop_named, pop_wants, pop_fresh}
 use Rattle.lock_free_queues.proofs.Queues.Single.{pop_loads_read, pop_loads_write, pop_loads_cell, pop_loads_last}
-use Rattle.lock_free_queues.proofs.Queues.Single.{pop_ends, told_of_pop, wrote_by_pop, pop_tells, opens_with, admits}
+use Rattle.lock_free_queues.proofs.Queues.Single.{pop_ends, events_of_pop, wrote_by_pop, pop_tells, opens_with, admits}
 use Rattle.lock_free_queues.proofs.Queues.Single.{wide_is, fresh_long}
 
 -- ---- the calls of the one party
@@ -217,7 +217,7 @@ module _ {T : Type 0} (code : Coding T) (law : IsCoding code) (r : Ring) (v : Va
           (words_at (n + 1) n 0 0 (cells size)) (Truth true) (wrote_by_push code capacity it)
           (ap (λ k. words_at k n 0 0 (cells size)) next_is) (push_ends code capacity r v n n)
           (push_tells code capacity r v n n) (refl, (refl, tt)) in
-          subst (λ zs. Here (words_at (n + 1) n 0 0 (cells size)) zs None) (append_assoc es (Begun 0 name ∷ []) (told_of_push code capacity it)) e
+          subst (λ zs. Here (words_at (n + 1) n 0 0 (cells size)) zs None) (append_assoc es (Begun 0 name ∷ []) (events_of_push code capacity it)) e
 
     -- ---- the pop of what it pushed
 
@@ -330,7 +330,7 @@ module _ {T : Type 0} (code : Coding T) (law : IsCoding code) (r : Ring) (v : Va
           (words_at (n + 1) (n + 1) 0 0 cells) (popped_item (Some it)) (wrote_by_pop code capacity it)
           (ap (λ k. words_at (n + 1) k 0 0 cells) next_is) (pop_ends code capacity r v n n (room_at size) reads_it)
           (pop_tells code capacity r v n n (room_at size) reads_it) (refl, (refl, tt)) in
-          subst (λ zs. Here (words_at (n + 1) (n + 1) 0 0 cells) zs None) (append_assoc es (Begun 0 (Queues Pop) ∷ []) (told_of_pop code capacity it)) e
+          subst (λ zs. Here (words_at (n + 1) (n + 1) 0 0 cells) zs None) (append_assoc es (Begun 0 (Queues Pop) ∷ []) (events_of_pop code capacity it)) e
 
   quiet_roles : QuietRoles effects
   quiet_roles x0 = grind arith

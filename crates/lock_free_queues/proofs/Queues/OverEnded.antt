@@ -10,8 +10,8 @@ use Rattle.lock_free_queues.proofs.Names.{Over, called, over_lists_kept}
 use Rattle.steps.specs.Queues.Overflow.{pop_answer}
 use Rattle.steps.specs.Queues.Ring as rings
 use Rattle.model.specs.declared.turn.Kind.TheVariants as kinds
-use Rattle.lock_free_queues.specs.Queues.Overflowing.{HasActed, HasOverflowed, PushAdded, PushReplaced, over_push_told, pushes_told}
-use Rattle.lock_free_queues.specs.Queues.Told.{HasPublished, HasPopped, WasAtEnd, popped_item, pop_told, HasTakenFirst, PopOldest, PopFoundNone}
+use Rattle.lock_free_queues.specs.Queues.Overflowing.{HasActed, HasOverflowed, PushAdded, PushReplaced, over_push_events, pushes_acted}
+use Rattle.lock_free_queues.specs.Queues.Contracts.{HasPublished, HasPopped, WasAtEnd, popped_item, pop_events, HasTakenFirst, PopOldest, PopFoundNone}
 use Rattle.lock_free_queues.proofs.Queues.Ended.{was_at_end, has_popped, IsPop}
 use Rattle.lock_free_queues.proofs.Queues.Facts.{found_none, published_by}
 use Rattle.lock_free_queues.proofs.Queues.Indices.{in_room}
@@ -19,7 +19,7 @@ use Rattle.lock_free_queues.proofs.Queues.OverPushes.{over_ends_at}
 use Rattle.lock_free_queues.proofs.Queues.Wrote.{find_own, first_wrote}
 
 module _ {T : Type 0} where
-  told_is : (p value : ℕ) (m : OneWord) (e : PushEnd) → HasActed e → over_push_wrote {T = T} p value m.0 e ≡ over_push_told p value (push_answer value m.0 e)
+  told_is : (p value : ℕ) (m : OneWord) (e : PushEnd) → HasActed e → over_push_wrote {T = T} p value m.0 e ≡ over_push_events p value (push_answer value m.0 e)
   told_is x0 x1 x2 x3 x4 = grind arith
 
 module _ {T : Type 0} (code : Coding T) (base w : View T) (h : IsHistory code kinds.Overflow base.capacity w.seen) where
@@ -96,15 +96,15 @@ module _ {T : Type 0} (code : Coding T) (base w : View T) (idle : base.going ≡
     abbrev pub Pushed : Option ℕ → Type 0
     Pushed back = HasOverflowed value back base w ⊎ (back ≡ Some value) × WasAtEnd base w
 
-    overflowed : (e : PushEnd) (m : OneWord) → Ends code kinds.Overflow (pushes_told value) base e m w → HasOverflowed value (push_answer value m.0 e) base w
+    overflowed : (e : PushEnd) (m : OneWord) → Ends code kinds.Overflow (pushes_acted value) base e m w → HasOverflowed value (push_answer value m.0 e) base w
     overflowed x0 x1 x2 = grind (arith, called, popped, told_is)
 
-    pub over_pushed : (e : PushEnd) (m : OneWord) → Over code kinds.Overflow (pushes_told value) base e m w → Pushed (push_answer value m.0 e)
+    pub over_pushed : (e : PushEnd) (m : OneWord) → Over code kinds.Overflow (pushes_acted value) base e m w → Pushed (push_answer value m.0 e)
     over_pushed e m (inl ends) = inl (overflowed e m ends)
     over_pushed e m (inr left) =
         inr (
           ap (push_answer value m.0) left.left,
-          was_at_end code Overflow base w (pushes_told value)
+          was_at_end code Overflow base w (pushes_acted value)
               (λ c m n a skip asks. over_ends_at c.capacity value n a c.stage skip asks) tt alone some has e m left,
         )
 
@@ -139,7 +139,7 @@ module _ {T : Type 0} (code : Coding T) (base w : View T) (idle : base.going ≡
       answers x true = refl
       answers x false = refl
 
-      told : (p x : ℕ) (e : Bool) → pop_wrote {T = T} p x e ≡ pop_told p (option_map Index (rings.pop_answer x e))
+      told : (p x : ℕ) (e : Bool) → pop_wrote {T = T} p x e ≡ pop_events p (option_map Index (rings.pop_answer x e))
       told p x true = refl
       told p x false = refl
 

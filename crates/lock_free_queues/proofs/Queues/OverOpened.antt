@@ -7,7 +7,7 @@ use Rattle.lock_free_queues.proofs.Names.{get_or_append_left, opening, written, 
 use Rattle.lock_free_queues.proofs.Names.{Role, Producer, Consumer, after_position, distance, Event, Begun, Published}
 use Rattle.lock_free_queues.proofs.Names.{HandedOut, Acted, Finished, Item, Index, Start, Queues, Flight, Overflow}
 use Rattle.lock_free_queues.proofs.Names.{PushIndex, Pop, Coding, IsCoding, want_of, after_of, beside_of}
-use Rattle.lock_free_queues.proofs.Names.{World, IsFreshCall, kept_is, View, IsMachine, call_in, owned}
+use Rattle.lock_free_queues.proofs.Names.{World, IsFreshCall, View, IsMachine, call_in, owned}
 use Rattle.lock_free_queues.proofs.Names.{pushes_over, pops_over, HasRole, same_seat, get_left, over_effects}
 use Rattle.lock_free_queues.proofs.Names.{overflow_owes, beside_waits, set_same, holds_it, role_starts, sound_of}
 use Rattle.steps.specs.declared.ask.After.TheVariants.{Done}
@@ -175,8 +175,8 @@ module _ {T : Type 0} (code : Coding T) (law : IsCoding code) (capacity : ℕ) (
 
     -- ---- the push
 
-    abbrev told_of_push : List (Event T)
-    told_of_push = Published 0 it ∷ Acted 0 push_name answers.PoppedNone ∷ Finished 0 push_name answers.PoppedNone ∷ []
+    abbrev events_of_push : List (Event T)
+    events_of_push = Published 0 it ∷ Acted 0 push_name answers.PoppedNone ∷ Finished 0 push_name answers.PoppedNone ∷ []
 
     pushed : HasRole Producer es → Here (at n n 0 0) es None → Here (at (n + 1) n 0 0) (es ++ pushed_once answers.PoppedNone it) None
     pushed has h =
@@ -209,12 +209,12 @@ module _ {T : Type 0} (code : Coding T) (law : IsCoding code) (capacity : ℕ) (
         (record { word = 0; op = Store (after_position n) }) (omega arith) refl tt (at (n + 1) n 0 0)
         answers.PoppedNone (Published 0 it ∷ Acted 0 push_name answers.PoppedNone ∷ [])
         (ap (λ k. at k n 0 0) next_is) (push_ends code capacity n apart) (push_tells code capacity n apart d.u.world) (refl, (refl, tt)) in
-        subst (λ zs. Here (at (n + 1) n 0 0) zs None) (append_assoc es (Begun 0 push_name ∷ []) told_of_push) e
+        subst (λ zs. Here (at (n + 1) n 0 0) zs None) (append_assoc es (Begun 0 push_name ∷ []) events_of_push) e
 
     -- ---- the pop of what it pushed
 
-    abbrev told_of_pop : List (Event T)
-    told_of_pop = HandedOut 0 it ∷ Acted 0 pop_name (answers.PoppedIndex 0) ∷ Finished 0 pop_name (answers.PoppedIndex 0) ∷ []
+    abbrev events_of_pop : List (Event T)
+    events_of_pop = HandedOut 0 it ∷ Acted 0 pop_name (answers.PoppedIndex 0) ∷ Finished 0 pop_name (answers.PoppedIndex 0) ∷ []
 
     abbrev then : List ℕ
     then = at (n + 1) n 0 0
@@ -228,7 +228,7 @@ module _ {T : Type 0} (code : Coding T) (law : IsCoding code) (capacity : ℕ) (
         let s = sound_of code capacity Overflow t h.between.run in
         let waits =
         beside_waits code capacity t t.world.coding t.world.capacity s t.world.kept 0 push.0 push.1 e
-        (kept_is t.world.kept t.world.words s.state s.fit).0 in
+        s.fit.kept in
         ⊎_elim (λ (mine : push.0 ≡ 0).
         (let no : pop_name ≡ Queues (PushIndex push.1) = ap name_in (sym h.there ∙ (ap (call_in t.world) (sym mine) ∙ waits.there)) in
         absurd (cc)))
@@ -290,7 +290,7 @@ module _ {T : Type 0} (code : Coding T) (law : IsCoding code) (capacity : ℕ) (
         (record { word = 1; op = Exchange n (after_position n) }) (omega arith) refl tt (at (n + 1) (n + 1) 0 0)
         (answers.PoppedIndex 0) (HandedOut 0 it ∷ Acted 0 pop_name (answers.PoppedIndex 0) ∷ [])
         (ap (λ k. at (n + 1) k 0 0) (moved_on n (after_position n) equal ∙ next_is)) (pop_ends code capacity n equal) (wrote_then xs d) (refl, (refl, tt)) in
-        subst (λ zs. Here (at (n + 1) (n + 1) 0 0) zs None) (append_assoc es (Begun 0 pop_name ∷ []) told_of_pop) e
+        subst (λ zs. Here (at (n + 1) (n + 1) 0 0) zs None) (append_assoc es (Begun 0 pop_name ∷ []) events_of_pop) e
 
   -- ---- all of it
 

@@ -13,7 +13,7 @@ use Rattle.steps.specs.declared.queues.overflow.PushStage as pushes
 use Rattle.steps.specs.Queues.Overflow.{first_push, at_push, push_asks}
 use Rattle.model.specs.declared.turn.Kind.TheVariants as kinds
 use Rattle.history.proofs.OverflowCalls.{push_is_call}
-use Rattle.lock_free_queues.specs.Queues.Overflowing.{HasActed, pushes_told}
+use Rattle.lock_free_queues.specs.Queues.Overflowing.{HasActed, pushes_acted}
 
 -- it ends as a call where it is not left out
 acts : (c : Push) (e : PushEnd) (n : ℕ) (stage : pushes.PushStage) → HasPushWord stage
@@ -41,14 +41,14 @@ over_ends_at x0 x1 x2 x3 x4 x5 x6 = grind (arith, nat_tests)
 
 module _ {T : Type 0} (code : Coding T) (value : ℕ) where
   abbrev pushing : Calling T Push OneWord PushEnd
-  pushing = pushes_told value
+  pushing = pushes_acted value
 
   same_goes : (r : After Push PushEnd) (m : OneWord) → goes (pushes_over {T = T} value) r m ≡ goes pushing r m
   same_goes (GoOn d) m = refl
   same_goes (Done e) m = refl
 
-  told_is_call : IsCallIn code kinds.Overflow over_effects (λ capacity. 4 + (capacity + 1)) (λ c. push_want c value) push_after push_kept pushing
-  told_is_call =
+  acted_is_call : IsCallIn code kinds.Overflow over_effects (λ capacity. 4 + (capacity + 1)) (λ c. push_want c value) push_after push_kept pushing
+  acted_is_call =
       let h = push_is_call code value in
       record {
         same_want = h.same_want;
@@ -65,17 +65,17 @@ module _ {T : Type 0} (code : Coding T) (value : ℕ) where
             (acts c e n c.stage stands.2 skip is, h.tells_all capacity p from c e m n es late t stands skip wrote waits met is still);
       }
 
-  pub told_keeps : KeepsRule (λ (z : View T). z.asked) (λ (z : View T). z.capacity) (At code kinds.Overflow pushing)
+  pub acted_keeps : KeepsRule (λ (z : View T). z.asked) (λ (z : View T). z.capacity) (At code kinds.Overflow pushing)
       (Over code kinds.Overflow pushing) (λ key. 4 + (key + 1) + 1) (λ key. key)
       (λ key. IsMachine code kinds.Overflow key) (λ c. push_want c value) push_after push_kept
-  told_keeps =
+  acted_keeps =
       keeps_in code kinds.Overflow over_effects (λ capacity. 4 + (capacity + 1)) (overflow_owes code)
-      (λ c. push_want c value) push_after push_kept pushing told_is_call
+      (λ c. push_want c value) push_after push_kept pushing acted_is_call
 
-  pub told_first : (x : View T) → x.going ≡ None → x.other ≡ [] → 0 < x.share.part → 0 < x.capacity
+  pub acted_first : (x : View T) → x.going ≡ None → x.other ≡ [] → 0 < x.share.part → 0 < x.capacity
       → x.capacity < 2 ^ 32 → HasRole Producer x.made
       → At code kinds.Overflow pushing x x (first_push x.capacity) (record { 0 = 0 })
-  told_first x idle alone any has_cells small has =
+  acted_first x idle alone any has_cells small has =
       let some : (x.capacity == 0) ≡ false = grind (arith, nat_tests) in
       inl (record {
         is = refl;

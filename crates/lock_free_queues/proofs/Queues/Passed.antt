@@ -14,7 +14,7 @@ use Rattle.lock_free_queues.specs.Queues.Bounded.{IsBounded}
 use Rattle.lock_free_queues.specs.Queues.Closes.{Closes}
 use Rattle.lock_free_queues.specs.Queues.Sent.{HasSent, HasReceived, HasPassed, TellsApart}
 use Rattle.lock_free_queues.specs.Queues.Sums.{puts, gets}
-use Rattle.lock_free_queues.specs.Queues.Told.{HasAcquired, HasPopped, WasEmpty, PushRefused, PopDone, PopEmpty, HasSplit, HasJoined}
+use Rattle.lock_free_queues.specs.Queues.Contracts.{HasAcquired, HasPopped, WasEmpty, PushRefused, PopDone, PopEmpty, HasSplit, HasJoined}
 use Rattle.steps.specs.Objects.Lists.{Bounded}
 use Rattle.lock_free_queues.proofs.Queues.Facts.{listed_always}
 use Rattle.lock_free_queues.proofs.Queues.Positions.{hits_grow}

@@ -7,7 +7,7 @@ use Rattle.lock_free_queues.proofs.Names.{View, IsBeginning, IsHistory, machine_
 use Rattle.std.proofs.lemmas.List.{length-append}
 use Rattle.lock_free_queues.proofs.Queues.Facts.{answers_right, tells_lengths, grants, by_holder}
 use Rattle.lock_free_queues.specs.Queues.Positions.{IsPublished, IsTaken, IsSound}
-use Rattle.lock_free_queues.specs.Queues.Told.{push_of, HasPublished, HasTakenOut, WasEmpty, FoundNone, WasFull}
+use Rattle.lock_free_queues.specs.Queues.Contracts.{push_of, HasPublished, HasTakenOut, WasEmpty, FoundNone, WasFull}
 
 get_here : {A : Type 0} (xs ys : List A) (x : A) → slice_get (xs ++ x ∷ ys) (length xs) ≡ Some x
 get_here [] ys x = refl

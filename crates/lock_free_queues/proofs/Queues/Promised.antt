@@ -15,7 +15,7 @@ use Rattle.laws_queues.proofs.Queues.Sound.{kept_on}
 use Rattle.history.proofs.Reached.{queue_run}
 use Rattle.lock_free_queues.specs.Queues.Bounded.{IsBounded, machine_kind}
 use Rattle.lock_free_queues.specs.Queues.Positions.{IsPublished, IsTaken, IsSound, IsOverSound}
-use Rattle.lock_free_queues.specs.Queues.Told.{HasPublished, HasTakenOut, HasTakenFirst, WasEmpty, FoundNone, WasFull}
+use Rattle.lock_free_queues.specs.Queues.Contracts.{HasPublished, HasTakenOut, HasTakenFirst, WasEmpty, FoundNone, WasFull}
 use Rattle.lock_free_queues.proofs.Queues.Positions.{values_agree, sound_history, published_at, taken_at, none_later, found_later, full_below, hits_grow}
 use Rattle.lock_free_queues.proofs.Queues.Facts.{answers_right, tells_lengths, grants, listed_always}
 

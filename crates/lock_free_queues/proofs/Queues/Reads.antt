@@ -12,7 +12,7 @@ use Rattle.history.specs.History.{IsLate}
 use Rattle.steps.specs.declared.ask.Op.TheVariants.{Load}
 use Rattle.threaded.specs.Driver.{OwesAsk}
 use Rattle.lock_free_queues.specs.Queues.Kinds.{words_in_cells}
-use Rattle.lock_free_queues.specs.Queues.Told.{HasLooked}
+use Rattle.lock_free_queues.specs.Queues.Contracts.{HasLooked}
 use Rattle.lock_free_queues.proofs.Queues.Kinds.{words_long}
 use Rattle.lock_free_queues.specs.Queues.Reads.{WasRead, CellsRead, HasRead, LastWords}
 use Rattle.lock_free_queues.proofs.Queues.Positions.{hits_grow}

@@ -20,8 +20,8 @@ use Rattle.lock_free_queues.specs.Queues.Relays.{Sending, Receiving, Sent, Recei
 use Rattle.lock_free_queues.specs.Queues.Rings.{view, producer_view, consumer_view, HasHistory}
 use Rattle.lock_free_queues.specs.Queues.Rings.{SameProducer, SameConsumer, ToProducer, ToConsumer, FromProducer, FromConsumer}
 use Rattle.lock_free_queues.specs.Queues.Sent.{HasSent, HasReceived, HasPassed, TellsApart}
-use Rattle.lock_free_queues.specs.Queues.Told.{PushDone, PushRefused, PopDone, PopEmpty}
-use Rattle.lock_free_queues.specs.Queues.Told.{HasAcquired, HasReleased, HasSplit, HasJoined}
+use Rattle.lock_free_queues.specs.Queues.Contracts.{PushDone, PushRefused, PopDone, PopEmpty}
+use Rattle.lock_free_queues.specs.Queues.Contracts.{HasAcquired, HasReleased, HasSplit, HasJoined}
 use Rattle.lock_free_queues.proofs.Queues.Passed.{passed, in_order, few_left, rest_waits, still_passed, emptied_is_all}
 use Rattle.lock_free_queues.proofs.Queues.Sent.{sent_none, received_none}
 use Rattle.lock_free_queues.proofs.Queues.Sums.{done_pushed, done_refused, done_popped, done_none, done_released}

@@ -8,8 +8,8 @@ use Rattle.std.proofs.lemmas.List.{take_all, take_more}
 use mathlib.Core.List.{map-append}
 use Rattle.lock_free_queues.specs.Queues.Sent.{HasAppended, HasSent, HasReceived}
 use Rattle.lock_free_queues.specs.Queues.Sums.{HasDone}
-use Rattle.lock_free_queues.specs.Queues.Told.{PushDone, PushRefused, PopDone, PopEmpty}
-use Rattle.lock_free_queues.specs.Queues.Told.{HasAcquired, HasReleased}
+use Rattle.lock_free_queues.specs.Queues.Contracts.{PushDone, PushRefused, PopDone, PopEmpty}
+use Rattle.lock_free_queues.specs.Queues.Contracts.{HasAcquired, HasReleased}
 use Rattle.lock_free_queues.proofs.Queues.Sums.{done_pushed, done_refused, done_popped, done_none, done_acquired, done_released, done_then}
 
 -- ---- a list that grows

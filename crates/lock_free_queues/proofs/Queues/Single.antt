@@ -19,7 +19,7 @@ use Rattle.model.specs.declared.families.Registry.{Registry}
 use Rattle.model.specs.declared.families.queues.Roles.{Roles}
 use Rattle.model.specs.declared.families.queues.calls.RingCall as rings
 use Rattle.laws_queues.proofs.Ring.Knows.{IsFresh}
-use Rattle.lock_free_queues.specs.Queues.Told.{push_of, popped_item}
+use Rattle.lock_free_queues.specs.Queues.Contracts.{push_of, popped_item}
 
 -- a room in which nothing was put
 abbrev pub fresh : (r : Ring) → Room r
@@ -98,8 +98,8 @@ module _ {T : Type 0} (code : Coding T) (capacity : ℕ) where
   abbrev pub wrote_by_push : Item T → List (Event T)
   wrote_by_push x = Published 0 x ∷ Acted 0 (Queues (push_of x)) (Truth true) ∷ []
 
-  abbrev pub told_of_push : Item T → List (Event T)
-  told_of_push x = wrote_by_push x ++ Finished 0 (Queues (push_of x)) (Truth true) ∷ []
+  abbrev pub events_of_push : Item T → List (Event T)
+  events_of_push x = wrote_by_push x ++ Finished 0 (Queues (push_of x)) (Truth true) ∷ []
 
   pub push_tells : (r : Ring) (v : Val T (kind_of r)) (n found : ℕ)
       → queue_effects code 0 (pushing r v capacity (pushes.TheVariants.StoresWrite n)) found ≡ wrote_by_push (item (kind_of r) v)
@@ -153,8 +153,8 @@ module _ {T : Type 0} (code : Coding T) (capacity : ℕ) where
   abbrev pub wrote_by_pop : Item T → List (Event T)
   wrote_by_pop x = HandedOut 0 x ∷ Acted 0 (Queues Pop) (popped_item (Some x)) ∷ []
 
-  abbrev pub told_of_pop : Item T → List (Event T)
-  told_of_pop x = wrote_by_pop x ++ Finished 0 (Queues Pop) (popped_item (Some x)) ∷ []
+  abbrev pub events_of_pop : Item T → List (Event T)
+  events_of_pop x = wrote_by_pop x ++ Finished 0 (Queues Pop) (popped_item (Some x)) ∷ []
 
   pub pop_tells : (r : Ring) (v : Val T (kind_of r)) (n found : ℕ) (room : Room r) → read_in code r room ≡ v
       → queue_effects code 0 (popping r capacity (pops.TheVariants.StoresRead n) room) found ≡ wrote_by_pop (item (kind_of r) v)

@@ -9,7 +9,7 @@ use Rattle.std.proofs.Common.{length-append}
 use Rattle.lock_free_queues.specs.Queues.Overflowing.{HasOverflowed}
 use Rattle.lock_free_queues.specs.Queues.Roles.{Moved, other_role}
 use Rattle.lock_free_queues.specs.Queues.Sums.{puts, gets, HasDone}
-use Rattle.lock_free_queues.specs.Queues.Told.{HasPushed, PushRefused, HasPopped, HasMeasured, HasAcquired, HasReleased}
+use Rattle.lock_free_queues.specs.Queues.Contracts.{HasPushed, PushRefused, HasPopped, HasMeasured, HasAcquired, HasReleased}
 
 module _ {T : Type 0} where
   -- ---- by the call

@@ -14,7 +14,7 @@ use Rattle.lock_free_queues.specs.Queues.Merges.{HasTaken, HasDrained}
 use Rattle.lock_free_queues.specs.Queues.Overflowing.{GoesOn, HasOverflowed, PushAdded, PushHandedBack, TookNone}
 use Rattle.lock_free_queues.specs.Queues.Sent.{HasAppended}
 use Rattle.lock_free_queues.specs.Queues.Sums.{puts, HasDone}
-use Rattle.lock_free_queues.specs.Queues.Told.{HasPublished, HasPopped, HasAcquired, HasReleased}
+use Rattle.lock_free_queues.specs.Queues.Contracts.{HasPublished, HasPopped, HasAcquired, HasReleased}
 use Rattle.lock_free_queues.proofs.Queues.Sent.{appended_none, appended_more, appended_same}
 use Rattle.lock_free_queues.proofs.Queues.Sums.{done_added, done_replaced, done_popped, done_none, done_acquired, done_released}
 use Rattle.lock_free_queues.proofs.Queues.Sums.{done_then, all_puts}

@@ -3,7 +3,7 @@ use Rattle.lock_free_queues.proofs.Names.{◌≡◌, ℕ, Bool, true, false, Opt
 use Rattle.lock_free_queues.proofs.Names.{Item, Value, Coding, popped_value, value_push_wrote, value_pop_wrote}
 use Rattle.lock_free_queues.proofs.Names.{pushes_value, value_there, pops_value}
 use Rattle.steps.specs.Queues.Ring.{pop_answer}
-use Rattle.lock_free_queues.specs.Queues.Told.{push_told, popped_item, pop_told}
+use Rattle.lock_free_queues.specs.Queues.Contracts.{push_events, popped_item, pop_events}
 use Rattle.lock_free_queues.proofs.Queues.Ended.{IsPush, IsPop}
 use Rattle.lock_free_queues.proofs.Queues.Indices.{ends_at}
 
@@ -21,7 +21,7 @@ module _ {T : Type 0} (code : Coding T) where
         at_end = λ c m n a skip asks. ends_at code.words_of v n a c.stage skip asks;
       }
     where
-      told : (p : ℕ) (taken : Bool) → value_push_wrote {T = T} p v taken ≡ push_told p (Value v) taken
+      told : (p : ℕ) (taken : Bool) → value_push_wrote {T = T} p v taken ≡ push_events p (Value v) taken
       told p true = refl
       told p false = refl
 
@@ -37,6 +37,6 @@ module _ {T : Type 0} (code : Coding T) where
       answers None = refl
       answers (Some x) = refl
 
-      told : (p : ℕ) (x : T) (e : Bool) → value_pop_wrote p x e ≡ pop_told p (option_map value_of (pop_answer x e))
+      told : (p : ℕ) (x : T) (e : Bool) → value_pop_wrote p x e ≡ pop_events p (option_map value_of (pop_answer x e))
       told p x true = refl
       told p x false = refl

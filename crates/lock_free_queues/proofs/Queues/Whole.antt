@@ -5,7 +5,7 @@ use Rattle.lock_free_queues.proofs.Names.{PoppedNone, Event, Begun, Acted, Finis
 use Rattle.lock_free_queues.proofs.Names.{publishes, hands_out, published, handed_out, IsAll, View, IsBeginning}
 use Rattle.lock_free_queues.proofs.Names.{sum_first, Kind, Coding, machine_kind, Goes, MissesNothing}
 use Rattle.std.proofs.Common.{length-append}
-use Rattle.lock_free_queues.specs.Queues.Told.{HasPopped, FoundNone}
+use Rattle.lock_free_queues.specs.Queues.Contracts.{HasPopped, FoundNone}
 use Rattle.lock_free_queues.proofs.Queues.Facts.{found_none, listed_always}
 
 pub none_more : {A : Type 0} (xs ys zs : List A) → zs ≡ xs ++ ys → length zs ≡ length xs → zs ≡ xs

@@ -10,7 +10,7 @@ use Rattle.model.specs.declared.event.Start.TheVariants.{Queues}
 use Rattle.model.specs.declared.families.queues.QueueStart.TheVariants.{AcquireProducer, ReleaseProducer, AcquireConsumer, ReleaseConsumer, Pop}
 use Rattle.threaded.specs.Shares.{all_shares}
 use Rattle.history.specs.declared.view.View.{View}
-use Rattle.lock_free_queues.specs.Queues.Told.{push_of, popped_item}
+use Rattle.lock_free_queues.specs.Queues.Contracts.{push_of, popped_item}
 
 module _ {T : Type 0} where
   -- both roles are taken

@@ -17,7 +17,7 @@ use Rattle.history.specs.declared.view.View.{View}
 use Rattle.history.specs.History.{Called, IsHistory}
 use Rattle.history.specs.Overflow.{over_push_wrote, pushes_over}
 use Rattle.history.specs.Stages.{Calling}
-use Rattle.lock_free_queues.specs.Queues.Told.{HasPublished, HasTakenFirst, WasAtEnd}
+use Rattle.lock_free_queues.specs.Queues.Contracts.{HasPublished, HasTakenFirst, WasAtEnd}
 pub use Rattle.lock_free_queues.specs.Queues.Rings.{Goes, MissesNothing, QueueId, queue_id, capacity_of, inner}
 pub use Rattle.lock_free_queues.specs.Queues.Rings.{token_queue, token_view, queue_of, producer_queue, consumer_queue}
 pub use Rattle.lock_free_queues.specs.Queues.Rings.{view, producer_view, consumer_view, IsPassOf, IsSameQueue}
@@ -34,10 +34,10 @@ GoesOn capacity old new = Goes one_word kinds.Overflow capacity old new
 
 module _ {T : Type 0} where
   -- what a push writes: it publishes its number, and where there was no room it takes out the oldest
-  abbrev pub over_push_told : ℕ → ℕ → Option ℕ → List (Event T)
-  over_push_told p value None =
+  abbrev pub over_push_events : ℕ → ℕ → Option ℕ → List (Event T)
+  over_push_events p value None =
       Published p (Index value) ∷ Acted p (Queues (PushIndex value)) PoppedNone ∷ []
-  over_push_told p value (Some oldest) =
+  over_push_events p value (Some oldest) =
       Published p (Index value) ∷ HandedOut p (Index oldest)
       ∷ Acted p (Queues (PushIndex value)) (PoppedIndex oldest) ∷ []
 
@@ -45,7 +45,7 @@ module _ {T : Type 0} where
   pub record HasOverflowed (value : ℕ) (back : Option ℕ) (old new : View T) : Type 0 where
     pub by : ℕ
     pub mine : new.party ≡ Some by
-    pub called : Called by (Queues (PushIndex value)) (popped back) (over_push_told by value back) old new
+    pub called : Called by (Queues (PushIndex value)) (popped back) (over_push_events by value back) old new
 
 -- the push is none: without capacity nothing changes, not even what was seen, and where the last position is reached it
 -- is a look
@@ -75,8 +75,9 @@ abbrev pub HasActed : PushEnd → Type 0
 HasActed ends.TheVariants.Own = ⊥
 HasActed end = Unit {0}
 
-abbrev pub pushes_told : {T : Type 0} → ℕ → Calling T Push OneWord PushEnd
-pushes_told value =
+-- a push that has acted, not one refused at the last position
+abbrev pub pushes_acted : {T : Type 0} → ℕ → Calling T Push OneWord PushEnd
+pushes_acted value =
     record (pushes_over value) {
       wrote_all = λ capacity p from e m es. HasActed e × (es ≡ over_push_wrote p value m.0 e);
     }

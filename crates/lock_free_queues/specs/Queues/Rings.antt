@@ -82,14 +82,7 @@ module _ {E T : Type 0} {kind : kinds.Ghosts E} {words : Ghosts T} where
     pub queue : token_queue new ≡ token_queue old
     pub goes : GoesOn (code_of old) kind.KIND (token_queue old).capacity (token_view old) (token_view new)
 
-  -- the same of a call that takes no step where its queue has no capacity: nothing changes there
-  pub record IsSameByCapacity (old new : Held E T (RingRule E T) kind words) : Type 0 where
-    pub queue : token_queue new ≡ token_queue old
-    pub goes : 0 < (token_queue old).capacity
-        → GoesOn (code_of old) kind.KIND (token_queue old).capacity (token_view old) (token_view new)
-    pub none : (token_queue old).capacity ≡ 0 → token_view new ≡ token_view old
-
-  -- and of what has a seat
+  -- the same of a pass and of a guard, by their seats
   abbrev pub SamePass : Pass E T kind words → Pass E T kind words → Type 0
   SamePass old new = IsSameQueue old.token new.token
 
@@ -99,6 +92,14 @@ module _ {E T : Type 0} {kind : kinds.Ghosts E} {words : Ghosts T} where
   abbrev pub SameConsumer : Consumer E T kind words → Consumer E T kind words → Type 0
   SameConsumer old new = IsSameQueue old.token new.token
 
+  -- the same of a call that takes no step where its queue has no capacity: nothing changes there
+  pub record IsSameByCapacity (old new : Held E T (RingRule E T) kind words) : Type 0 where
+    pub queue : token_queue new ≡ token_queue old
+    pub goes : 0 < (token_queue old).capacity
+        → GoesOn (code_of old) kind.KIND (token_queue old).capacity (token_view old) (token_view new)
+    pub none : (token_queue old).capacity ≡ 0 → token_view new ≡ token_view old
+
+  -- the same of a guard, by its seat
   abbrev pub SameProducerByCapacity : Producer E T kind words → Producer E T kind words → Type 0
   SameProducerByCapacity old new = IsSameByCapacity old.token new.token
 

@@ -13,7 +13,7 @@ ghost use Rattle.history.specs.Views.{first_view};
 ghost use Rattle.lock_free_queues.specs.Queues.Bounded.{IsBounded, machine_kind};
 ghost use Rattle.lock_free_queues.specs.Queues.Relays.{IsRelayed};
 ghost use Rattle.lock_free_queues.specs.Queues.Sent.{HasSent, HasReceived, TellsApart};
-ghost use Rattle.lock_free_queues.specs.Queues.Told.{HasAcquired, HasSplit, HasJoined, PopDone, PopEmpty};
+ghost use Rattle.lock_free_queues.specs.Queues.Contracts.{HasAcquired, HasSplit, HasJoined, PopDone, PopEmpty};
 
 /// What one half of a first pass received is a beginning of what the other half sent. It holds once both are joined and
 /// one pop more was made. All of it came just where that pop found nothing, and no more is left than the queue has room

@@ -38,7 +38,8 @@ pub struct UnrestrictedAtomic<T: Words> {
     home: Home<View<T>, Origin<T>, ValueRule<T>>,
 }
 
-// A drop by hand is one call in a caller's proof, on each way out; one that is derived is as many as it has fields below.
+// A drop by hand is one call in a caller's proof, on each way out. One that is derived is as many as it has fields
+// below.
 impl<T: Words> Drop for UnrestrictedAtomic<T> {
     fn drop(self) {
         let Self { home: _home } = self;

@@ -17,7 +17,8 @@ pub enum LoanCall {
     Reclaim,
     /// How many indices of the set are borrowed.
     Borrowed,
-    /// The sender ends: how many indices are borrowed, by the pass that it had, and what waits to be taken back.
+    /// The sender ends. The answer is how many indices are borrowed, by the pass that it had, and what waits to be
+    /// taken back.
     Finish,
 }
 

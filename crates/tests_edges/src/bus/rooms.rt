@@ -9,7 +9,7 @@ use uses_bus::error::{BusError, LoanFailure};
 use uses_bus::publisher::{Loan, Publisher};
 use uses_bus::subscriber::{Sample, Seat, Subscriber};
 
-/// Who takes part.
+/// The subscribers.
 #[derive(Clone, Copy)]
 pub enum Who {
     One,
@@ -19,37 +19,37 @@ pub enum Who {
 /// A step, and what has to come of it.
 #[derive(Clone, Copy)]
 pub enum Step {
-    /// One gets a seat, and joins as the owner of this number.
+    /// The subscriber gets a seat, and joins as the owner of this number.
     Joins(Who, u64),
-    /// Whether a seat is free, which is given back at once.
+    /// Whether a seat is free. It is given back at once.
     HasSeat(bool),
     /// A record of this number goes to so many.
     Publishes(u64, usize),
-    /// Whether there is a slot to loan, of which nothing comes.
+    /// Whether there is a slot to loan. The loan is kept where none was.
     Loans(bool),
     /// The first loan that was kept is given up.
     GivesUp,
-    /// One reads the record of this number, and gives it back.
+    /// The subscriber reads the record of this number, and gives it back.
     Reads(Who, u64),
-    /// Nothing waits for one.
+    /// Nothing waits for the subscriber.
     FindsNone(Who),
-    /// One receives a record, and keeps it.
+    /// The subscriber receives a record, and keeps it.
     Keeps(Who),
-    /// One leaves.
+    /// The subscriber leaves.
     Leaves(Who),
-    /// One dies.
+    /// The subscriber dies.
     Dies(Who),
     /// The dead owner of this number is taken out, and what he had comes back.
     Recovers(u64),
     /// The publisher takes back what was given back.
     Collects,
-    /// The publisher looks who takes part.
+    /// The publisher looks which subscribers take part.
     Updates,
     /// The loan that was kept is dropped.
     DropsLoan,
-    /// Whether this slot is free again, which stayed out.
+    /// Whether this slot, which stayed out, can be reclaimed.
     Reclaims(u32, bool),
-    /// One receives a record, forgets the reading of it, and gives it back.
+    /// The subscriber receives a record, forgets the reading of it, and gives it back.
     Forgets(Who),
     /// A loan is refused, since this slot is still read.
     IsStillRead(u32),
@@ -67,7 +67,7 @@ pub const SIZES: Sizes = Sizes {
     queue: 2,
 };
 
-/// Those who take part, and a loan that is kept.
+/// The publisher, both subscribers, and a loan that is kept.
 pub struct Room<'a> {
     publisher: Publisher<'a, Words>,
     one: Option<Subscriber<'a, Words>>,
@@ -86,7 +86,7 @@ impl<'a> Drop for Room<'a> {
     }
 }
 
-/// The seat that one takes as this owner.
+/// Joins as this owner, with the seat.
 fn sits<'a>(rt: &impl Wait, seat: Seat<'a, Words>, number: u64) -> Option<Subscriber<'a, Words>> {
     let owner = OwnerId::new(number).ok()?;
     seat.join(rt, owner).ok()
@@ -99,7 +99,7 @@ fn writes(loan: &mut Loan<'_, Words>, number: u64) {
     }
 }
 
-/// Publishes a record of this number: to how many.
+/// Publishes a record of this number, and answers to how many.
 fn publishes(rt: &impl Wait, publisher: &mut Publisher<'_, Words>, number: u64) -> Option<usize> {
     let mut loan = publisher.loan(rt).ok()?;
     writes(&mut loan, number);
@@ -234,7 +234,7 @@ impl<'a> Room<'a> {
         }
     }
 
-    /// Does a step of those who take part: whether it comes to what it has to.
+    /// Does a step of a subscriber, and answers whether it comes to what it has to.
     fn does_of(&mut self, rt: &impl Wait, step: Step) -> bool {
         match step {
             Step::Joins(who, number) => self.joins(rt, who, number),
@@ -248,7 +248,7 @@ impl<'a> Room<'a> {
         }
     }
 
-    /// Does a step: whether it comes to what it has to.
+    /// Does a step, and answers whether it comes to what it has to.
     fn does(&mut self, rt: &impl Wait, step: Step) -> bool {
         match step {
             Step::HasSeat(free) => self.publisher.seat().is_some() == free,
@@ -275,7 +275,7 @@ impl<'a> Room<'a> {
     }
 }
 
-/// Does the steps, so often: the first that does not come to what it has to.
+/// Does the steps, so often. It answers the first that does not come to what it has to.
 fn first_wrong_in(
     rt: &impl Wait,
     room: &mut Room<'_>,

@@ -103,7 +103,7 @@ fn writes(words: &mut [u64], number: u64) {
     }
 }
 
-/// Publishes the record of the next number on a loan: false where that is another, or where there is no memory.
+/// Publishes the record of the next number on a loan. False where that is another, or where there is no memory.
 fn publishes_next<'a>(
     publisher: &mut Publisher<'a, Words, OwnNumber>,
     mut loan: Loan<'a, Words, OwnNumber>,
@@ -159,7 +159,8 @@ fn publish_all(
     end
 }
 
-/// What the publisher tells of a run: how many records he published, how many slots were out as one had died and in the end.
+/// What the publisher tells of a run: how many records he published, and how many slots were out. He counts those once one
+/// has died, and in the end.
 #[derive(Clone, Copy, Debug)]
 struct Published {
     number: u64,
@@ -207,7 +208,7 @@ fn is_whole(words: &Words) -> bool {
     words.text.as_str() == text_of(words.number)
 }
 
-/// The number that a record was published with, and the one that stands in it, which is the same by the rule. None where the
+/// The number that a record was published with, and the one that stands in it. They are the same by the rule. None where the
 /// record is not whole.
 fn numbers_of(subscriber: &Subscriber<'_, Words, OwnNumber>, sample: &Sample) -> Option<(u64, u64)>
     ensures { IfSome result (λ r. r.0 ≡ r.1) }
@@ -320,7 +321,7 @@ fn dies(
     Some(KEPT)
 }
 
-/// What came of a run: what the publisher tells, and how many records came to the slow one and to the late one.
+/// What came of a run. Besides what the publisher tells it is how many records came to the slow one and to the late one.
 #[derive(Clone, Copy, Debug)]
 struct Came {
     published: Published,

@@ -95,8 +95,8 @@ const DEAD: [Step; 17] = [
     Reads(One, 2),
 ];
 
-/// What one who died had given back, and nobody had taken back, takes nothing from the one who follows him: of three more
-/// records the last lies in the slot of the first, which the others have pushed out.
+/// What one who died gave back, and nobody took back, takes nothing from the one who follows him. Of three more records
+/// the last lies in the slot of the first, which the others have pushed out.
 const GIVEN: [Step; 17] = [
     Publishes(0, 2),
     Reads(Other, 0),
@@ -141,7 +141,7 @@ const FORGOTTEN: [Step; 10] = [
     IsNext(2),
 ];
 
-/// The slot of a loan that was dropped is free once it is reclaimed, and that of a loan in hand is not.
+/// The slot of a loan that was dropped is free once it is reclaimed. That of a loan in hand is not.
 const DROPPED: [Step; 9] = [
     Loans(true),
     Reclaims(0, false),

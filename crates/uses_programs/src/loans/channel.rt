@@ -82,7 +82,7 @@ fn loan_one(rt: &impl Wait, sender: &mut LoanSender<'_>) -> u32
     unreachable!()
 }
 
-/// The one who sends, of a pass of each.
+/// Makes the sender, from a pass of the set and one of each queue.
 fn make_sender<'a>(
     alloc: Global,
     set: &'a UniqueIndexSet,
@@ -127,7 +127,7 @@ fn send_all(
     Ok(())
 }
 
-/// The same by one who is made of these: the pass.
+/// Makes a sender, sends so many records, and returns its pass.
 fn send_records(
     rt: &impl Wait,
     alloc: Global,

@@ -8,10 +8,10 @@ ghost use Rattle.model.specs.declared.turn.Kind.TheVariants as kinds;
 ghost use Rattle.threaded.specs.Seats.{seen, IsSame, IsAt};
 ghost use Rattle.history.specs.declared.view.View.{View as Views};
 ghost use Rattle.lock_free.specs.Driven.{IsIdle, HasDone};
-ghost use Rattle.lock_free.specs.Sets.Calls.{capacity_of, IsPassOf, view, GoesOn};
+ghost use Rattle.lock_free.specs.Sets.Calls.{capacity_of, IsPassOf, view, SamePass};
 ghost use Rattle.lock_free.specs.Bits.Callable.{TakesPlaces, Visited};
-ghost use Rattle.lock_free.specs.Bits.Told.{HasSet, StoodOnce, HasReset, CameFromPosition, AllClearOnce};
-ghost use Rattle.lock_free.specs.Bits.Told.{HasCleanedOut, MissedNoPlace};
+ghost use Rattle.lock_free.specs.Bits.Contracts.{HasSet, StoodOnce, HasReset, CameFromPosition, AllClearOnce};
+ghost use Rattle.lock_free.specs.Bits.Contracts.{HasCleanedOut, MissedNoPlace};
 ghost use Rattle.model.specs.Coding.{one_word};
 ghost use Rattle.history.specs.Steps.{TakesAtMost, TakesAlone};
 
@@ -97,7 +97,7 @@ impl BitSet {
     pub fn set(&self, rt: &impl Wait, id: usize, pass: &mut Pass) -> bool
         requires pass { IsPassOf self.now pass.old }
         requires place { id < capacity_of self.now }
-        ensures goes_on { GoesOn pass.old pass.new }
+        ensures same { SamePass pass.old pass.new }
         ensures added { HasSet id result (view pass.old) (view pass.new) }
         ensures stood { IsFalse result → StoodOnce id (view pass.new) }
         ensures steps { TakesAlone one_word kinds.Bits (capacity_of self.now) 2 1 (view pass.old) (view pass.new) }
@@ -115,7 +115,7 @@ impl BitSet {
     /// the Rust crate.
     pub fn reset_next(&self, rt: &impl Wait, pass: &mut Pass) -> Option<usize>
         requires { IsPassOf self.now pass.old }
-        ensures goes_on { GoesOn pass.old pass.new }
+        ensures same { SamePass pass.old pass.new }
         ensures place { IfSome result (λ place. place < capacity_of self.now) }
         ensures cleared { HasReset result (view pass.old) (view pass.new) }
         ensures came { IfSome result (λ place. CameFromPosition (capacity_of self.now) place (view pass.new)) }
@@ -143,7 +143,7 @@ impl BitSet {
         requires pass { IsPassOf self.now pass.old }
         requires places { TakesPlaces F.pre (λ p x q. F.step p x tt q)
             (capacity_of self.now) visit.old }
-        ensures goes_on { GoesOn pass.old pass.new }
+        ensures same { SamePass pass.old pass.new }
         ensures cleared { HasCleanedOut (λ p x q. F.step p x tt q) (capacity_of self.now) visit.old visit.new
             (view pass.old) (view pass.new) }
         ensures stood { MissedNoPlace (capacity_of self.now) (view pass.new) }

@@ -1,9 +1,9 @@
 //! The calls by a handle: those of its set.
 ghost use Rattle.std.specs.Prelude.{◌≡◌, ◌+◌, ◌<◌, None, IfSome, IsFalse};
-ghost use Rattle.lock_free.specs.Sets.Calls.{capacity_of, GoesOn};
+ghost use Rattle.lock_free.specs.Sets.Calls.{capacity_of, SamePass};
 ghost use Rattle.lock_free.specs.Bits.Callable.{TakesPlaces};
-ghost use Rattle.lock_free.specs.Bits.Told.{HasSet, StoodOnce, HasReset, CameFromPosition, AllClearOnce};
-ghost use Rattle.lock_free.specs.Bits.Told.{HasCleanedOut, MissedNoPlace};
+ghost use Rattle.lock_free.specs.Bits.Contracts.{HasSet, StoodOnce, HasReset, CameFromPosition, AllClearOnce};
+ghost use Rattle.lock_free.specs.Bits.Contracts.{HasCleanedOut, MissedNoPlace};
 ghost use Rattle.lock_free.specs.Sets.Handles.{set_in, pass_in, knows};
 ghost use Rattle.steps.specs.Bits.Words.{elements};
 ghost use Rattle.model.specs.declared.turn.Kind.TheVariants as kinds;
@@ -18,7 +18,7 @@ impl<'a> Handle<'a> {
     pub fn set(&mut self, rt: &impl Wait, id: usize) -> bool
         requires { id < capacity_of (set_in self.old) }
         ensures set { set_in self.new ≡ set_in self.old }
-        ensures goes_on { GoesOn (pass_in self.old) (pass_in self.new) }
+        ensures same { SamePass (pass_in self.old) (pass_in self.new) }
         ensures added { HasSet id result (knows self.old) (knows self.new) }
         ensures stood { IsFalse result → StoodOnce id (knows self.new) }
         ensures steps { TakesAlone one_word kinds.Bits (capacity_of (set_in self.old)) 2 1
@@ -30,7 +30,7 @@ impl<'a> Handle<'a> {
     /// Calls `BitSet::reset_next`, with its pass.
     pub fn reset_next(&mut self, rt: &impl Wait) -> Option<usize>
         ensures set { set_in self.new ≡ set_in self.old }
-        ensures goes_on { GoesOn (pass_in self.old) (pass_in self.new) }
+        ensures same { SamePass (pass_in self.old) (pass_in self.new) }
         ensures place { IfSome result (λ place. place < capacity_of (set_in self.old)) }
         ensures cleared { HasReset result (knows self.old) (knows self.new) }
         ensures came { IfSome result
@@ -46,7 +46,7 @@ impl<'a> Handle<'a> {
     pub fn reset_all<F: FnMut(usize)>(&mut self, visit: &mut F)
         requires { TakesPlaces F.pre (λ p x q. F.step p x tt q) (capacity_of (set_in self.old)) visit.old }
         ensures set { set_in self.new ≡ set_in self.old }
-        ensures goes_on { GoesOn (pass_in self.old) (pass_in self.new) }
+        ensures same { SamePass (pass_in self.old) (pass_in self.new) }
         ensures cleared { HasCleanedOut (λ p x q. F.step p x tt q) (capacity_of (set_in self.old)) visit.old visit.new
             (knows self.old) (knows self.new) }
         ensures stood { MissedNoPlace (capacity_of (set_in self.old)) (knows self.new) }

@@ -3,9 +3,9 @@ ghost use Rattle.std.specs.Prelude.{◌≡◌, ◌+◌, ◌-◌, ◌^◌, ◌<�
 ghost use Rattle.model.specs.declared.turn.Kind.TheVariants as kinds;
 ghost use Rattle.threaded.specs.Seats.{seen, IsSame, IsAt};
 ghost use Rattle.history.specs.declared.view.View.{View as Views};
-ghost use Rattle.lock_free.specs.Sets.Calls.{capacity_of, IsPassOf, view, GoesOn};
+ghost use Rattle.lock_free.specs.Sets.Calls.{capacity_of, IsPassOf, view, SamePass};
 ghost use Rattle.lock_free.specs.Counts.Callable.{TakesCounts};
-ghost use Rattle.lock_free.specs.Counts.Told.{HasCounted, AnswersCount, HasTakenOut, MissedNoCount};
+ghost use Rattle.lock_free.specs.Counts.Contracts.{HasCounted, AnswersCount, HasTakenOut, MissedNoCount};
 ghost use Rattle.lock_free.specs.Driven.{IsIdle, HasDone};
 ghost use Rattle.history.specs.Steps.{TakesAtMost};
 
@@ -79,7 +79,7 @@ impl CountingBitSet {
     pub fn set(&self, id: usize, pass: &mut Pass) -> u64
         requires pass { IsPassOf self.now pass.old }
         requires place { id < capacity_of self.now }
-        ensures goes_on { GoesOn pass.old pass.new }
+        ensures same { SamePass pass.old pass.new }
         ensures counted { HasCounted id result (view pass.old) (view pass.new) }
         ensures answers { AnswersCount id result (view pass.new) }
         ensures steps { TakesAtMost 1 (view pass.old) (view pass.new) }
@@ -99,7 +99,7 @@ impl CountingBitSet {
         requires pass { IsPassOf self.now pass.old }
         requires states { TakesCounts F.pre (λ p x q. F.step p x tt q)
             (capacity_of self.now) visit.old }
-        ensures goes_on { GoesOn pass.old pass.new }
+        ensures same { SamePass pass.old pass.new }
         ensures taken { HasTakenOut (λ p x q. F.step p x tt q) (capacity_of self.now) visit.old visit.new
             (view pass.old) (view pass.new) }
         ensures stood { MissedNoCount (capacity_of self.now) (view pass.new) }

@@ -1,8 +1,8 @@
 //! The calls by a handle: those of its set.
 ghost use Rattle.std.specs.Prelude.{◌≡◌, ◌<◌};
-ghost use Rattle.lock_free.specs.Sets.Calls.{capacity_of, GoesOn};
+ghost use Rattle.lock_free.specs.Sets.Calls.{capacity_of, SamePass};
 ghost use Rattle.lock_free.specs.Counts.Callable.{TakesCounts};
-ghost use Rattle.lock_free.specs.Counts.Told.{HasCounted, AnswersCount, HasTakenOut, MissedNoCount};
+ghost use Rattle.lock_free.specs.Counts.Contracts.{HasCounted, AnswersCount, HasTakenOut, MissedNoCount};
 ghost use Rattle.lock_free.specs.Sets.Handles.{set_in, pass_in, knows};
 ghost use Rattle.history.specs.Steps.{TakesAtMost};
 
@@ -13,7 +13,7 @@ impl<'a> Handle<'a> {
     pub fn set(&mut self, id: usize) -> u64
         requires { id < capacity_of (set_in self.old) }
         ensures set { set_in self.new ≡ set_in self.old }
-        ensures goes_on { GoesOn (pass_in self.old) (pass_in self.new) }
+        ensures same { SamePass (pass_in self.old) (pass_in self.new) }
         ensures counted { HasCounted id result (knows self.old) (knows self.new) }
         ensures answers { AnswersCount id result (knows self.new) }
         ensures steps { TakesAtMost 1 (knows self.old) (knows self.new) }
@@ -25,7 +25,7 @@ impl<'a> Handle<'a> {
     pub fn reset_all<F: FnMut(BitState)>(&mut self, visit: &mut F)
         requires { TakesCounts F.pre (λ p x q. F.step p x tt q) (capacity_of (set_in self.old)) visit.old }
         ensures set { set_in self.new ≡ set_in self.old }
-        ensures goes_on { GoesOn (pass_in self.old) (pass_in self.new) }
+        ensures same { SamePass (pass_in self.old) (pass_in self.new) }
         ensures taken { HasTakenOut (λ p x q. F.step p x tt q) (capacity_of (set_in self.old)) visit.old visit.new
             (knows self.old) (knows self.new) }
         ensures stood { MissedNoCount (capacity_of (set_in self.old)) (knows self.new) }

@@ -1,7 +1,7 @@
 //! How passes are made of one another.
 ghost use Rattle.std.specs.Prelude.{◌≡◌, IfSome, IfNone};
-ghost use Rattle.history.specs.Passes.{HasSplit, HasJoined};
-ghost use Rattle.lock_free.specs.Sets.Calls.{set_of, view, HasHistory, MissesNothing};
+ghost use Rattle.history.specs.Passes.{HasSplit};
+ghost use Rattle.lock_free.specs.Sets.Calls.{set_of, view, PassJoins};
 ghost use Rattle.history.specs.Steps.{TakesAtMost, JoinsWithin};
 
 use super::drives::Look;
@@ -32,10 +32,7 @@ impl<E: Kind> Held<E, u64, SetRule<E>> {
     /// two had seen all of it, and each event in it was made by one of them. At most two steps. This project's own.
     pub fn join(&mut self, other: Pass<E>)
         requires { set_of other ≡ set_of self.old }
-        ensures set { set_of self.new ≡ set_of self.old }
-        ensures joined { HasJoined (view self.old) (view other) (view self.new) }
-        ensures history { HasHistory self.new }
-        ensures all { MissesNothing self.new }
+        ensures same { PassJoins self.old other self.new }
         ensures steps { JoinsWithin 2 (view self.old) (view other) (view self.new) }
     {
         let Held {

@@ -7,8 +7,8 @@ ghost use Rattle.model.specs.declared.families.indices.IndexStart.TheVariants as
 ghost use Rattle.model.specs.Families.Indices.Reading.{is_locked};
 ghost use Rattle.history.specs.Held.{Holds};
 ghost use Rattle.lock_free.specs.Unique.Held.{HeldBy, HoldsNothing, HoldsAll, HoldsSome};
-ghost use Rattle.lock_free.specs.Unique.Told.{HasAcquired, WasRefused, HasGiven, HasGivenOrLocked, HasCounted, HasLooked, Answered};
-ghost use Rattle.lock_free.specs.UniqueIndexSet.{capacity_of, IsPassOf, view, history, made, GoesOn, value_of, index_pass, index_view};
+ghost use Rattle.lock_free.specs.Unique.Contracts.{HasAcquired, WasRefused, HasGiven, HasGivenOrLocked, HasCounted, HasLooked, Answered};
+ghost use Rattle.lock_free.specs.UniqueIndexSet.{capacity_of, IsPassOf, view, history, made, SamePass, value_of, index_pass, index_view};
 ghost use Rattle.model.specs.declared.turn.Kind.TheVariants as kinds;
 ghost use Rattle.model.specs.Coding.{one_word};
 ghost use Rattle.history.specs.Steps.{TakesAtMost, TakesAlone};
@@ -35,9 +35,9 @@ impl UniqueIndexSet {
         pass: Pass,
     ) -> Result<UniqueIndex<'_>, (UniqueIndexSetAcquireFailure, Pass)>
         requires { IsPassOf self.now pass }
-        ensures goes_on { IfOk result (λ i. GoesOn pass (index_pass i)) }
+        ensures same { IfOk result (λ i. SamePass pass (index_pass i)) }
         ensures acquired { IfOk result (λ i. HasAcquired (value_of i) (view pass) (index_view i)) }
-        ensures refused_goes_on { IfErr result (λ r. GoesOn pass r.1) }
+        ensures refused_same { IfErr result (λ r. SamePass pass r.1) }
         ensures refused { IfErr result (λ r. WasRefused r.0 (view pass) (view r.1)) }
         ensures steps { IfOk result (λ i. TakesAlone one_word kinds.Indices (capacity_of self.now)
             (4 + capacity_of self.now) (max 2 (capacity_of self.now)) (view pass) (index_view i)) }
@@ -63,7 +63,7 @@ impl UniqueIndexSet {
         pass: &mut Pass,
     ) -> Result<u32, UniqueIndexSetAcquireFailure>
         requires { IsPassOf self.now pass.old }
-        ensures goes_on { GoesOn pass.old pass.new }
+        ensures same { SamePass pass.old pass.new }
         ensures acquired { IfOk result (λ i. HasAcquired i (view pass.old) (view pass.new)) }
         ensures within { IfOk result (λ i. i < capacity_of self.now) }
         ensures refused { IfErr result (λ e. WasRefused e (view pass.old) (view pass.new)) }
@@ -80,7 +80,7 @@ impl UniqueIndexSet {
     pub fn release_raw_index(&self, index: u32, pass: &mut Pass) -> ReleaseState
         requires pass { IsPassOf self.now pass.old }
         requires held { Holds index (made pass.old) }
-        ensures goes_on { GoesOn pass.old pass.new }
+        ensures same { SamePass pass.old pass.new }
         ensures given { HasGiven index result (view pass.old) (view pass.new) }
         ensures unlocked { result ≡ Unlocked }
         ensures steps { TakesAtMost 5 (view pass.old) (view pass.new) }
@@ -97,7 +97,7 @@ impl UniqueIndexSet {
     pub fn release_or_lock(&self, rt: &impl Wait, index: u32, pass: &mut Pass) -> ReleaseState
         requires pass { IsPassOf self.now pass.old }
         requires held { Holds index (made pass.old) }
-        ensures goes_on { GoesOn pass.old pass.new }
+        ensures same { SamePass pass.old pass.new }
         ensures given { HasGivenOrLocked index result (view pass.old) (view pass.new) }
         ensures answered { Answered (starts.Release index modes.LockIfLastIndex) (State result)
             (view pass.old) (view pass.new) }
@@ -115,7 +115,7 @@ impl UniqueIndexSet {
     /// Rust crate.
     pub fn borrowed_indices(&self, pass: &mut Pass) -> usize
         requires { IsPassOf self.now pass.old }
-        ensures goes_on { GoesOn pass.old pass.new }
+        ensures same { SamePass pass.old pass.new }
         ensures counted { HasCounted result (view pass.old) (view pass.new) }
         ensures answered { Answered starts.BorrowedIndices (Number result) (view pass.old) (view pass.new) }
         ensures least { (is : List ℕ) → HeldBy is (made pass.new) → length is ≤ result }
@@ -130,7 +130,7 @@ impl UniqueIndexSet {
     /// Returns whether the set is locked. At most one atomic step. After `is_locked` of the Rust crate.
     pub fn is_locked(&self, pass: &mut Pass) -> bool
         requires { IsPassOf self.now pass.old }
-        ensures goes_on { GoesOn pass.old pass.new }
+        ensures same { SamePass pass.old pass.new }
         ensures looked { HasLooked result (view pass.old) (view pass.new) }
         ensures answered { Answered starts.IsLocked (Truth result) (view pass.old) (view pass.new) }
         ensures nothing { IsTrue result → HoldsNothing (made pass.new) }

@@ -1,11 +1,9 @@
 //! The calls on an index that is held.
 ghost use Rattle.std.specs.Prelude.{◌≡◌, ◌<◌, ℕ};
 ghost use Rattle.steps.specs.declared.indices.enums.ReleaseState.TheVariants.{Unlocked};
-ghost use Rattle.history.specs.Passes.{HasJoined};
-ghost use Rattle.lock_free.specs.Unique.Held.{IsSound};
 ghost use Rattle.history.specs.Held.{Holds};
-ghost use Rattle.lock_free.specs.Unique.Told.{HasGiven};
-ghost use Rattle.lock_free.specs.UniqueIndexSet.{view, set_of, made, HasHistory, MissesNothing, GoesOn, value_of, index_pass, index_view, index_set};
+ghost use Rattle.lock_free.specs.Unique.Contracts.{HasGiven};
+ghost use Rattle.lock_free.specs.UniqueIndexSet.{view, set_of, made, SamePass, PassJoins, value_of, index_pass, index_view, index_set};
 ghost use Rattle.history.specs.Steps.{TakesAtMost, JoinsWithin};
 
 use super::{Pass, UniqueIndex};
@@ -22,13 +20,9 @@ impl<'a> UniqueIndex<'a> {
     /// Takes in what a pass of the set holds and has seen, as a join of passes does. This project's own.
     pub fn join(&mut self, other: Pass)
         requires { set_of other ≡ index_set self.old }
-        ensures set { index_set self.new ≡ index_set self.old }
+        ensures same { PassJoins (index_pass self.old) other (index_pass self.new) }
         ensures value { value_of self.new ≡ value_of self.old }
-        ensures joined { HasJoined (index_view self.old) (view other) (index_view self.new) }
         ensures apart { (i : ℕ) → Holds i (made (index_pass self.old)) → Holds i (made other) → ⊥ }
-        ensures history { HasHistory (index_pass self.new) }
-        ensures sound { IsSound (index_view self.new) }
-        ensures all { MissesNothing (index_pass self.new) }
         ensures steps { JoinsWithin 2 (index_view self.old) (view other) (index_view self.new) }
     {
         self.pass.join(other);
@@ -37,7 +31,7 @@ impl<'a> UniqueIndex<'a> {
     /// Gives the index back in mode `Default` and hands the pass out. At most 5 atomic steps. This project's own,
     /// beside the drop.
     pub fn release(self) -> Pass
-        ensures goes_on { GoesOn (index_pass self.entry) result }
+        ensures same { SamePass (index_pass self.entry) result }
         ensures given { HasGiven (value_of self.entry) Unlocked (index_view self.entry) (view result) }
         ensures steps { TakesAtMost 5 (index_view self.entry) (view result) }
     {

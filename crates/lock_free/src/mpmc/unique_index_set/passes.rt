@@ -1,9 +1,9 @@
 //! How passes are made of one another.
 ghost use Rattle.std.specs.Prelude.{◌≡◌, ℕ, IfSome, IfNone};
-ghost use Rattle.lock_free.specs.Unique.Held.{HoldsNothing, IsSound};
+ghost use Rattle.lock_free.specs.Unique.Held.{HoldsNothing};
 ghost use Rattle.history.specs.Held.{Holds};
-ghost use Rattle.history.specs.Passes.{HasSplit, HasJoined};
-ghost use Rattle.lock_free.specs.UniqueIndexSet.{set_of, view, made, HasHistory, MissesNothing};
+ghost use Rattle.history.specs.Passes.{HasSplit};
+ghost use Rattle.lock_free.specs.UniqueIndexSet.{set_of, view, made, PassJoins};
 ghost use Rattle.history.specs.Steps.{TakesAtMost, JoinsWithin};
 
 use super::Pass;
@@ -33,12 +33,8 @@ impl Pass {
     /// that either took may be released. At most two steps. This project's own.
     pub fn join(&mut self, other: Pass)
         requires { set_of other ≡ set_of self.old }
-        ensures set { set_of self.new ≡ set_of self.old }
-        ensures joined { HasJoined (view self.old) (view other) (view self.new) }
+        ensures same { PassJoins self.old other self.new }
         ensures apart { (i : ℕ) → Holds i (made self.old) → Holds i (made other) → ⊥ }
-        ensures history { HasHistory self.new }
-        ensures sound { IsSound (view self.new) }
-        ensures all { MissesNothing self.new }
         ensures steps { JoinsWithin 2 (view self.old) (view other) (view self.new) }
     {
         let Pass {

@@ -4,7 +4,7 @@ ghost use Rattle.std.specs.Prelude.{IfOk, IfErr, IfSome, IfNone, slice_set, map,
 ghost use Rattle.lock_free.specs.UniqueIndexSet.{view, made, set_of, capacity_of, IsPassOf};
 ghost use Rattle.steps.specs.declared.indices.enums.ReleaseState.TheVariants.{Unlocked};
 ghost use Rattle.lock_free.specs.Unique.Held.{HoldsNothing};
-ghost use Rattle.lock_free.specs.Unique.Told.{HasAcquired, WasRefused, HasGiven};
+ghost use Rattle.lock_free.specs.Unique.Contracts.{HasAcquired, WasRefused, HasGiven};
 ghost use Rattle.model.specs.declared.event.Item.TheVariants.{Index};
 ghost use Rattle.model.specs.declared.turn.Kind.TheVariants as kinds;
 ghost use Rattle.model.specs.Coding.{one_word};
@@ -12,13 +12,13 @@ ghost use Rattle.history.specs.Steps.{TakesAtMost, TakesAlone};
 ghost use Rattle.lock_free_queues.specs.Queues.Calls as returns;
 ghost use Rattle.lock_free_queues.specs.Queues.Overflowing as sends;
 ghost use Rattle.lock_free_queues.specs.Queues.Overflowing.{PushAdded, PushHandedBack, SameConsumerByCapacity};
-ghost use Rattle.lock_free_queues.specs.Queues.Told.{PopDone, PopEmpty};
+ghost use Rattle.lock_free_queues.specs.Queues.Contracts.{PopDone, PopEmpty};
 ghost use Rattle.lock_free.specs.declared.spsc.loan.places.Place.TheVariants.{Free, Loaned, Sent};
 ghost use Rattle.lock_free.specs.Loan.Places.{is_out, is_sent, place_at, returned, reclaimed, IsBookOf};
 ghost use Rattle.lock_free.specs.Loan.Sender.{places_of, pass_view, share_of, submission_view, completion_view};
 ghost use Rattle.lock_free.specs.Loan.Sender.{submission_of, completion_of, KeepsQueues, set_of_sender, IsSame};
 ghost use Rattle.lock_free.specs.Loan.Sender.{IsSenderOf, IsLoaned};
-ghost use Rattle.lock_free.specs.Loan.Told.{InTurn, SetGoesOn, HasFreed, HasEmptied, all_sent, sent_back};
+ghost use Rattle.lock_free.specs.Loan.Contracts.{InTurn, SetGoesOn, HasFreed, HasEmptied, all_sent, sent_back};
 
 use super::places::Place;
 use super::{LoanError, LoanSender};
@@ -107,7 +107,7 @@ impl<'a> LoanSender<'a> {
             (λ i. HasAcquired i (pass_view self.old) (pass_view self.new)) }
         ensures refused { IfErr result (λ e. (places_of self.new ≡ places_of self.old)
             × WasRefused e (pass_view self.old) (pass_view self.new)) }
-        ensures goes_on { SetGoesOn (pass_view self.old) (pass_view self.new) }
+        ensures goes { SetGoesOn (pass_view self.old) (pass_view self.new) }
         ensures queues { KeepsQueues self.old self.new }
         ensures same { IsSame self.old self.new }
         ensures share { share_of self.new ≡ share_of self.old }
@@ -135,7 +135,7 @@ impl<'a> LoanSender<'a> {
         requires { IsLoaned index self.old }
         ensures places { places_of self.new ≡ slice_set (places_of self.old) index Free }
         ensures given { HasGiven index Unlocked (pass_view self.old) (pass_view self.new) }
-        ensures goes_on { SetGoesOn (pass_view self.old) (pass_view self.new) }
+        ensures goes { SetGoesOn (pass_view self.old) (pass_view self.new) }
         ensures queues { KeepsQueues self.old self.new }
         ensures same { IsSame self.old self.new }
         ensures share { share_of self.new ≡ share_of self.old }

@@ -24,6 +24,13 @@ whole_rows index capacity each low =
     spread : (a b each : ℕ) → a * each + each ≤ (a + 1 + b) * each
     spread a b each = omega arith
 
+-- a cell takes no more than an index with its value
+pub cells_taken : (first more all size : ℕ) → all ≡ first + more → first * (size + 3) + more ≤ all * (size + 3)
+cells_taken first more all size is = rw is (spread first more size)
+  where
+    spread : (a b size : ℕ) → a * (size + 3) + b ≤ (a + b) * (size + 3)
+    spread a b size = omega arith
+
 module _ {T R : Type 0} where
   -- a find goes on only at an index below the capacity
   abbrev pub StillStands : ℕ → ℕ → After (Find T R) ℕ → Type 0

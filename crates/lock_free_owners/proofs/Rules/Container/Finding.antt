@@ -70,6 +70,20 @@ module _ {T F : Type 0} (step : F → T → ContainerHandle → CallbackProgress
   came_on : (low n : ℕ) (visits : List (Visit T)) (p : F) → Came low n visits p → Came (low + 1) n visits p
   came_on x0 x1 x2 x3 x4 = grind (arith, below_more, higher)
 
+  pub widen : (low high n : ℕ) (visits : List (Visit T)) (p : F) → low ≤ high → Came low n visits p → Came high n visits p
+  widen low high n visits p up h =
+      record {
+        indices = h.indices;
+        ascend = h.ascend;
+        below = All-weaker (λ i. i < low) (λ i. i < high) (λ i l. omega arith) h.indices h.below;
+        count = h.count;
+        visits_ascend = h.visits_ascend;
+        visits_below = All-weaker (λ (x : Visit T). x.handle.index < low) (λ (x : Visit T). x.handle.index < high)
+            (λ x l. omega arith) visits h.visits_below;
+        among = h.among;
+        calls = h.calls;
+      }
+
   -- an index that is counted alone
   came_by : (low n : ℕ) (visits : List (Visit T)) (p : F) → low < cap → Came low n visits p → Came (low + 1) (n + 1) visits p
   came_by low n visits p within h =
@@ -86,7 +100,7 @@ module _ {T F : Type 0} (step : F → T → ContainerHandle → CallbackProgress
         calls = h.calls;
       }
 
-  found_all : (low n : ℕ) (visits : List (Visit T)) (p : F) → Came low n visits p → HasFound step cap mine f n cap visits p
+  pub found_all : (low n : ℕ) (visits : List (Visit T)) (p : F) → Came low n visits p → HasFound step cap mine f n cap visits p
   found_all x0 x1 x2 x3 x4 = grind arith
 
   -- a step at a word, which leaves it

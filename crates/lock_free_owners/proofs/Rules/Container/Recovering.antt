@@ -18,7 +18,7 @@ use Rattle.history.specs.ContainerRecovery.{RecoverIn, Came, HasFreed}
 use Rattle.history.specs.ContainerRecovery.{visits_after}
 use Rattle.history.specs.ContainerRecovery as came
 use Rattle.lock_free_owners.specs.Container.Questions.{Answered, AnswersAscend, asks, TakesValues}
-use Rattle.lock_free_owners.specs.Container.RecoverTold.{question_at, questions_of, AreVisits}
+use Rattle.lock_free_owners.specs.Container.RecoverContract.{question_at, questions_of, AreVisits}
 use Rattle.lock_free_owners.specs.Container.RecoverTurns.{RecoverAsks}
 
 module _ {T F : Type 0} (step : F → T → Bool → F → Type 0) (cap : ℕ) (shut : Bool) (given : DeadOwner) (f : F) where

@@ -10,10 +10,11 @@ ghost use Rattle.model.specs.declared.families.container.ContainerStart.TheVaria
 ghost use Rattle.model.specs.Families.Container.Calls.{removed, replaced};
 ghost use Rattle.model.specs.Families.Indices.Reading.{is_locked};
 ghost use Rattle.history.specs.ContainerLooks.{KeepsState};
-ghost use Rattle.lock_free_owners.specs.Robust.Told.{WasFilled, WasGranted, WasFreed, HasReleased, FoundLock};
+ghost use Rattle.lock_free_owners.specs.Robust.Contracts.{WasFilled, WasGranted, WasFreed, HasReleased, FoundLock};
 ghost use Rattle.lock_free_owners.specs.Container.Steps.{TakesFew, ContainerTakes, RemoveTakes};
-ghost use Rattle.lock_free_owners.specs.Container.Told.{placed, HasAdded, HasRemoved, HasReplaced, HasCounted, HasTested, HasLooked, Answered, WasNotAdded};
-ghost use Rattle.lock_free_owners.specs.Container.Names.{view, history, code_of, container_of, capacity_of, IsPassOf, IsHandleFor, IsOwn, GoesOn};
+ghost use Rattle.lock_free_owners.specs.Container.Contracts.{placed, HasAdded, HasRemoved, HasReplaced, HasCounted};
+ghost use Rattle.lock_free_owners.specs.Container.Contracts.{HasTested, HasLooked, Answered, WasNotAdded};
+ghost use Rattle.lock_free_owners.specs.Container.Names.{view, history, code_of, container_of, capacity_of, IsPassOf, IsHandleFor, IsOwn, SamePass};
 
 use super::counts::count_all;
 use super::drives::{Adds, HowMany, LooksLocked, Removes, Replaces, WhetherNone};
@@ -43,7 +44,7 @@ impl<T: Words> Container<T> {
         pass: &mut Pass<T>,
     ) -> Result<ContainerHandle, ContainerAddFailure>
         requires { IsPassOf self.now pass.old }
-        ensures goes_on { GoesOn pass.old pass.new }
+        ensures same { SamePass pass.old pass.new }
         ensures keeps { KeepsState (view pass.old) (view pass.new) }
         ensures handle { IfOk result (IsHandleFor self.now owner) }
         ensures added { HasAdded (code_of pass.old) (record { value = value; owner = owner }) (placed result)
@@ -90,7 +91,7 @@ impl<T: Words> Container<T> {
         ensures container { container_of pass.new ≡ container_of pass.old }
         ensures foreign { (IsOwn self.now handle → ⊥)
             → (result ≡ Err NotOwned) × (view pass.new ≡ view pass.old) }
-        ensures goes_on { IsOwn self.now handle → GoesOn pass.old pass.new }
+        ensures same { IsOwn self.now handle → SamePass pass.old pass.new }
         ensures keeps { IsOwn self.now handle → KeepsState (view pass.old) (view pass.new) }
         ensures own { OnOk result (IsOwn self.now handle) }
         ensures removed { IsOwn self.now handle → HasRemoved (code_of pass.old)
@@ -132,7 +133,7 @@ impl<T: Words> Container<T> {
         ensures container { container_of pass.new ≡ container_of pass.old }
         ensures foreign { (IsOwn self.now handle → ⊥)
             → (result ≡ Err NotOwned) × (view pass.new ≡ view pass.old) }
-        ensures goes_on { IsOwn self.now handle → GoesOn pass.old pass.new }
+        ensures same { IsOwn self.now handle → SamePass pass.old pass.new }
         ensures keeps { IsOwn self.now handle → KeepsState (view pass.old) (view pass.new) }
         ensures own { OnOk result (IsOwn self.now handle) }
         ensures replaced { IsOwn self.now handle → HasReplaced (code_of pass.old)
@@ -163,7 +164,7 @@ impl<T: Words> Container<T> {
     /// Alone at most capacity + 2 atomic steps. After `len` of the Rust crate.
     pub fn len(&self, rt: &impl Wait, pass: &mut Pass<T>) -> usize
         requires { IsPassOf self.now pass.old }
-        ensures goes_on { GoesOn pass.old pass.new }
+        ensures same { SamePass pass.old pass.new }
         ensures keeps { KeepsState (view pass.old) (view pass.new) }
         ensures counted { HasCounted (code_of pass.old) result (view pass.old) (view pass.new) }
         ensures answered { Answered (code_of pass.old) starts.Len (Number result) (view pass.old) (view pass.new) }
@@ -179,7 +180,7 @@ impl<T: Words> Container<T> {
     /// Rust crate.
     pub fn is_empty(&self, rt: &impl Wait, pass: &mut Pass<T>) -> bool
         requires { IsPassOf self.now pass.old }
-        ensures goes_on { GoesOn pass.old pass.new }
+        ensures same { SamePass pass.old pass.new }
         ensures keeps { KeepsState (view pass.old) (view pass.new) }
         ensures tested { HasTested (code_of pass.old) result (view pass.old) (view pass.new) }
         ensures answered { Answered (code_of pass.old) starts.IsEmpty (Truth result) (view pass.old) (view pass.new) }
@@ -194,7 +195,7 @@ impl<T: Words> Container<T> {
     /// step. After `is_locked` of the Rust crate.
     pub fn is_locked(&self, pass: &mut Pass<T>) -> bool
         requires { IsPassOf self.now pass.old }
-        ensures goes_on { GoesOn pass.old pass.new }
+        ensures same { SamePass pass.old pass.new }
         ensures keeps { KeepsState (view pass.old) (view pass.new) }
         ensures looked { HasLooked (code_of pass.old) result (view pass.old) (view pass.new) }
         ensures answered { Answered (code_of pass.old) starts.IsLocked (Truth result) (view pass.old) (view pass.new) }

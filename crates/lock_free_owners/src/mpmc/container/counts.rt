@@ -111,7 +111,7 @@ pub(crate) fn count_all<T: Words, W: Counting>(
     ensures board { IsBoard T.WORDS seat.new }
     ensures ends { CountEnds (coding_of T.WORDS T.words_of T.value_of) W.which (seen seat.old) result tt (seen seat.new) }
 {
-    // The first turns stand by themselves, so that a compiler sees at each of them at which stage the call is.
+    // The first turns stand by themselves, so that a compiler sees at each of them the call's stage.
     let first = step_count::<T, W>(seat, BorrowedIndices::new(capacity));
     let call = match first {
         After::GoOn(next) => next,

@@ -13,8 +13,8 @@ ghost use Rattle.lock_free_owners.specs.Container.Bare.{IsCounted};
 ghost use Rattle.lock_free_owners.specs.Container.LookTurns.{IsOnHistory, LookAt, LookOver};
 ghost use Rattle.lock_free_owners.specs.Container.Steps.{LookTakes};
 ghost use Rattle.lock_free_owners.specs.Container.Turns.{IsBoard};
-ghost use Rattle.lock_free_owners.specs.Container.Told.{HasGotState, HasUpdatedState, HasMet};
-ghost use Rattle.lock_free_owners.specs.Container.Names.{view, code_of, container_of, capacity_of, IsPassOf, IsStateOf, IsLeft, IsLatestState, GoesOn};
+ghost use Rattle.lock_free_owners.specs.Container.Contracts.{HasGotState, HasUpdatedState, HasMet};
+ghost use Rattle.lock_free_owners.specs.Container.Names.{view, code_of, container_of, capacity_of, IsPassOf, IsStateOf, IsLeft, IsLatestState, SamePass};
 
 use super::drives::{Beginning, Looks};
 use super::elements::look_on;
@@ -76,7 +76,7 @@ impl<T: Words> Container<T> {
     ) -> Result<ContainerState<T>, ContainerStateError>
         requires { IsPassOf self.now pass.old }
         ensures container { container_of pass.new ≡ container_of pass.old }
-        ensures goes_on { IfOk result (λ s. GoesOn pass.old pass.new) }
+        ensures same { IfOk result (λ s. SamePass pass.old pass.new) }
         ensures got { IfOk result (λ s. HasGotState (code_of pass.old) s (view pass.old) (view pass.new)) }
         ensures latest { IfOk result (IsLatestState pass.new) }
         ensures shows { IfOk result (λ s. ShowsCopied s.shown (view pass.new)) }
@@ -104,7 +104,7 @@ impl<T: Words> Container<T> {
         requires pass { IsPassOf self.now pass.old }
         requires state { IsStateOf self.now state.old }
         ensures container { container_of pass.new ≡ container_of pass.old }
-        ensures goes_on { IsLatestState pass.old state.old → GoesOn pass.old pass.new }
+        ensures same { IsLatestState pass.old state.old → SamePass pass.old pass.new }
         ensures updated { IsLatestState pass.old state.old
             → HasUpdatedState (code_of pass.old) result (view pass.old) (view pass.new) }
         ensures met { IsLatestState pass.old state.old → HasMet result (view pass.old) (view pass.new) }

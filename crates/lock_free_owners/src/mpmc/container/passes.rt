@@ -3,8 +3,7 @@ ghost use Rattle.std.specs.Prelude.{◌≡◌, None, IfSome, IfNone};
 ghost use Rattle.history.specs.ContainerLooks.{KeepsState};
 ghost use Rattle.history.specs.Passes.{HasSplit};
 ghost use Rattle.history.specs.Steps.{TakesAtMost, JoinsWithin};
-ghost use Rattle.lock_free_owners.specs.Container.Told.{HasJoined};
-ghost use Rattle.lock_free_owners.specs.Container.Names.{view, container_of, code_of, HasHistory, MissesNothing};
+ghost use Rattle.lock_free_owners.specs.Container.Names.{view, container_of, PassJoins};
 
 use super::Pass;
 use super::drives::{Glance, Settle};
@@ -40,11 +39,7 @@ impl<T: Words> Pass<T> {
     /// its; the other's is no longer a pass's. This project's own.
     pub fn join(&mut self, other: Pass<T>)
         requires { container_of other ≡ container_of self.old }
-        ensures container { container_of self.new ≡ container_of self.old }
-        ensures joined { HasJoined (code_of self.old) (view self.old) (view other) (view self.new) }
-        ensures keeps { KeepsState (view self.old) (view self.new) }
-        ensures history { HasHistory self.new }
-        ensures all { MissesNothing self.new }
+        ensures same { PassJoins self.old other self.new }
         ensures steps { JoinsWithin 3 (view self.old) (view other) (view self.new) }
     {
         let Pass { token } = other;

@@ -16,16 +16,16 @@ ghost use Rattle.history.specs.ContainerLooks.{KeepsState};
 ghost use Rattle.history.specs.History.{IsMachine};
 ghost use Rattle.threaded.specs.Driver.{OwesAsk};
 ghost use Rattle.threaded.specs.Seats.{seen, table_of, key_of, IsSame};
-ghost use Rattle.lock_free_owners.specs.Robust.Told.{FoundState};
+ghost use Rattle.lock_free_owners.specs.Robust.Contracts.{FoundState};
 ghost use Rattle.lock_free_owners.specs.Container.Questions.{TakesValues};
-ghost use Rattle.lock_free_owners.specs.Container.RecoverTold.{HasRecovered};
+ghost use Rattle.lock_free_owners.specs.Container.RecoverContract.{HasRecovered};
 ghost use Rattle.lock_free_owners.specs.Container.RecoverTurns.{RecoverAt, RecoverEnds, RecoverMay, RecoverGoes};
 ghost use Rattle.lock_free_owners.specs.Container.RecoverTurns.{RecoverTells, RecoverTurns, RecoverAsks, RecoverMoves};
 ghost use Rattle.lock_free_owners.specs.Container.RecoverTurns.{at_cell, RecoverPasses, HasPassed, IsWithin, PassesFrom};
 ghost use Rattle.lock_free_owners.specs.Container.Steps.{RecoverTakes};
-ghost use Rattle.lock_free_owners.specs.Container.Told.{Answered};
+ghost use Rattle.lock_free_owners.specs.Container.Contracts.{Answered};
 ghost use Rattle.lock_free_owners.specs.Container.Turns.{IsBoard};
-ghost use Rattle.lock_free_owners.specs.Container.Names.{view, history, code_of, capacity_of, IsPassOf, GoesOn};
+ghost use Rattle.lock_free_owners.specs.Container.Names.{view, history, code_of, capacity_of, IsPassOf, SamePass};
 
 use super::rule::Seat;
 use super::{Container, OwnerId, Pass};
@@ -59,7 +59,8 @@ fn step_recover<T: Words>(
     seat.step_telling::<Brand, Recover<T, Copied>>(call, &given, room)
 }
 
-/// Loads a cell, for a call that has come to it. What that tells is picked where it is called.
+/// Loads a cell, for a call that has come to it. What that tells is picked where it is called. The parameters with `_`
+/// are there for the proof alone.
 #[inline(always)]
 fn load_for<T: Words, M: Tells<View<T>>>(
     seat: &mut Seat<T>,
@@ -74,7 +75,7 @@ fn load_for<T: Words, M: Tells<View<T>>>(
     requires within { cell < _capacity }
     requires capacity { (v : View T) (n : ℕ) (w : View T) → M.told v n w → w.capacity ≡ v.capacity }
     ensures same { IsSame seat.old seat.new }
-    ensures told { M.told (seen seat.old) result (seen seat.new) }
+    ensures loaded { M.told (seen seat.old) result (seen seat.new) }
 {
     seat.look::<M>(FIRST_CELL + cell)
 }
@@ -272,7 +273,7 @@ impl<T: Words> Container<T> {
         requires pass { IsPassOf self.now pass.old }
         requires questions { is_locked (history pass.old) ≡ false → TakesValues F.pre
             (λ p x b q. F.step p x b q) (capacity_of self.now) predicate.old }
-        ensures goes_on { GoesOn pass.old pass.new }
+        ensures same { SamePass pass.old pass.new }
         ensures keeps { KeepsState (view pass.old) (view pass.new) }
         ensures recovered { HasRecovered (code_of pass.old) (λ p x b q. F.step p x b q)
             (record { owner = owner; mode = mode }) result (capacity_of self.now) predicate.old predicate.new

@@ -2,18 +2,23 @@
 //! rests: its end is an event of the history before anything else that the pass does, with the first step of its next
 //! call or of a join. Each copy is whole in a well-formed faithful history of few turns (`laws`), and of an earlier
 //! owner if his remove stopped before it hid the value.
-ghost use Rattle.std.specs.Prelude.{◌≡◌, ◌<◌, ℕ, List, []};
+ghost use Rattle.std.specs.Prelude.{◌≡◌, ◌+◌, ◌<◌, ℕ, List, []};
 ghost use Rattle.steps.specs.Container.Find.{first_find};
 ghost use Rattle.steps.specs.Copied.{value_in};
+ghost use Rattle.steps.specs.declared.ask.Op.TheVariants.{Load};
 ghost use Rattle.model.specs.Coding.{coding_of};
 ghost use Rattle.model.specs.Families.Queues.Calls.{fresh_cell};
 ghost use Rattle.model.specs.declared.turn.Kind.TheVariants as kinds;
-ghost use Rattle.threaded.specs.Seats.{seen, IsSame};
+ghost use Rattle.threaded.specs.Driver.{OwesAsk};
+ghost use Rattle.threaded.specs.Seats.{seen, table_of, key_of, IsSame};
 ghost use Rattle.history.specs.ContainerLooks.{KeepsState};
+ghost use Rattle.history.specs.History.{IsMachine};
 ghost use Rattle.history.specs.Passes.{Goes};
+ghost use Rattle.history.specs.Steps.{TakesAtMost};
 ghost use Rattle.lock_free_owners.specs.Container.Callable.{Visit, TakesVisits, HasFound};
-ghost use Rattle.lock_free_owners.specs.Container.FindTold.{HasSearched};
-ghost use Rattle.lock_free_owners.specs.Container.FindTurns.{FindAt, FindMay, FindGoes, FindTurns, IsAtWord, IsLeft};
+ghost use Rattle.lock_free_owners.specs.Container.FindContract.{HasSearched};
+ghost use Rattle.lock_free_owners.specs.Container.FindTurns.{FindAt, FindMay, FindTells, FindGoes, FindTurns, IsAtWord, IsLeft};
+ghost use Rattle.lock_free_owners.specs.Container.FindTurns.{at_cell, FindPasses, HasPassed, IsWithin, PassesFrom};
 ghost use Rattle.lock_free_owners.specs.Container.Steps.{FindTakes};
 ghost use Rattle.lock_free_owners.specs.Container.Turns.{IsBoard};
 ghost use Rattle.lock_free_owners.specs.Container.Visits.{IsNamed, FindAsks, FindMoves};
@@ -21,12 +26,15 @@ ghost use Rattle.lock_free_owners.specs.Container.Names.{view, code_of, containe
 
 use super::rule::Seat;
 use super::{CallbackProgression, Container, ContainerHandle, OwnerId, Pass};
-use std::marker::Brand;
+use history::view::View;
+use std::marker::{Brand, PhantomData};
 use steps::ask::After;
 use steps::container::find::{Find, FindStage};
 use steps::copied::Copied;
+use steps::indices::robust::parts::FIRST_CELL;
 use steps::routine::Routine;
 use steps::words::Words;
+use threaded::driver::rule::Tells;
 
 /// Takes one step of the call on the table.
 #[inline(always)]
@@ -45,6 +53,130 @@ fn step_find<T: Words>(
         result room.new (seen seat.new) }
 {
     seat.step_telling::<Brand, Find<T, Copied>>(call, &owner, room)
+}
+
+/// Loads a cell, for a call that has come to it. What that tells is picked where it is called. The parameters with `_`
+/// are there for the proof alone.
+#[inline(always)]
+fn load_for<T: Words, M: Tells<View<T>>>(
+    seat: &mut Seat<T>,
+    _capacity: u32,
+    cell: usize,
+    _found: usize,
+    _owner: OwnerId,
+    _room: &Copied,
+) -> u64
+    requires owes { OwesAsk (λ (v : View T). v.asked)
+        (IsMachine (coding_of T.WORDS T.words_of T.value_of) kinds.Container (key_of seat.old))
+        (table_of seat.old).words (table_of seat.old).slots seat.old.seat.id M.told (1 + cell) Load seat.old.seat.me }
+    requires within { cell < _capacity }
+    requires capacity { (v : View T) (n : ℕ) (w : View T) → M.told v n w → w.capacity ≡ v.capacity }
+    ensures same { IsSame seat.old seat.new }
+    ensures loaded { M.told (seen seat.old) result (seen seat.new) }
+{
+    seat.look::<M>(FIRST_CELL + cell)
+}
+
+/// Takes the step of a call that has come to this cell, but for what the call makes of it. An index is a `usize` here,
+/// so that no turn of a loop has to widen it.
+#[inline(always)]
+fn load_cell<T: Words>(
+    seat: &mut Seat<T>,
+    capacity: u32,
+    cell: usize,
+    found: usize,
+    owner: OwnerId,
+    room: &Copied,
+) -> u64
+    requires board { IsBoard T.WORDS seat.old }
+    requires within { cell < capacity }
+    requires at { FindMay (coding_of T.WORDS T.words_of T.value_of) owner (seen seat.old)
+        (at_cell capacity cell found) room.now }
+    ensures same { IsSame seat.old seat.new }
+    ensures board { IsBoard T.WORDS seat.new }
+    ensures goes { FindTells (coding_of T.WORDS T.words_of T.value_of) owner (at_cell capacity cell found) room.now
+        (seen seat.old) result (seen seat.new) }
+    ensures steps { TakesAtMost 1 (seen seat.old) (seen seat.new) }
+{
+    load_for::<T, Brand>(seat, capacity, cell, found, owner, room)
+}
+
+/// A find at this stage.
+#[inline(always)]
+fn at_stage<T: Words>(capacity: u32, stage: FindStage) -> Find<T, Copied>
+    ensures { result ≡ record { capacity = capacity; stage = stage; of = record {} } }
+{
+    Find {
+        capacity,
+        stage,
+        of: PhantomData,
+    }
+}
+
+/// Takes the steps of a call from this cell on, up to one of the owner or past the last. The loop keeps the index
+/// alone; a `Find` is made of it only where it ends.
+#[inline(always)]
+fn pass_over<T: Words>(
+    seat: &mut Seat<T>,
+    capacity: u32,
+    first: u32,
+    found: usize,
+    owner: OwnerId,
+    room: &Copied,
+) -> After<Find<T, Copied>, usize>
+    requires board { IsBoard T.WORDS seat.old }
+    requires within { first < capacity }
+    requires at { FindMay (coding_of T.WORDS T.words_of T.value_of) owner (seen seat.old)
+        (at_cell capacity first found) room.now }
+    ensures same { IsSame seat.old seat.new }
+    ensures board { IsBoard T.WORDS seat.new }
+    ensures goes { FindPasses (coding_of T.WORDS T.words_of T.value_of) owner (seen seat.old)
+        (at_cell capacity first found) room.now result (seen seat.new) }
+    ensures passed { HasPassed capacity first found result (seen seat.old) (seen seat.new) }
+{
+    let number = owner.value();
+    let mut cell = first as usize;
+    'cells: loop {
+        let stands = load_cell(seat, capacity, cell, found, owner, room);
+        if stands == number {
+            return After::GoOn(at_stage(
+                capacity,
+                FindStage::LoadsCount {
+                    index: cell as u32,
+                    found: found.wrapping_add(1),
+                },
+            ));
+        }
+        cell = cell + 1;
+        if cell >= capacity as usize {
+            return After::Done(found);
+        }
+    }
+}
+
+/// Takes the steps of a call over cells that are not the owner's, if it has come to a cell.
+#[inline(always)]
+fn pass_others<T: Words>(
+    seat: &mut Seat<T>,
+    call: Find<T, Copied>,
+    owner: OwnerId,
+    room: &Copied,
+) -> After<Find<T, Copied>, usize>
+    requires board { IsBoard T.WORDS seat.old }
+    requires within { IsWithin call.capacity call.stage }
+    requires at { FindMay (coding_of T.WORDS T.words_of T.value_of) owner (seen seat.old) call room.now }
+    ensures same { IsSame seat.old seat.new }
+    ensures board { IsBoard T.WORDS seat.new }
+    ensures goes { FindPasses (coding_of T.WORDS T.words_of T.value_of) owner (seen seat.old) call room.now result
+        (seen seat.new) }
+    ensures passed { PassesFrom call call.stage result (seen seat.old) (seen seat.new) }
+{
+    match call.stage {
+        FindStage::LoadsCell { index, found } => {
+            pass_over(seat, call.capacity, index, found, owner, room)
+        }
+        _ => After::GoOn(call),
+    }
 }
 
 /// Takes one step of the call, or asks the closure about the value that it has copied.
@@ -87,7 +219,7 @@ fn find_next<T: Words, F: FnMut(T, ContainerHandle) -> CallbackProgression>(
     }
 }
 
-/// Comes to the indices of the owner: how many it came to.
+/// Comes to the indices of the owner, and answers how many these were.
 fn find_all<T: Words, F: FnMut(T, ContainerHandle) -> CallbackProgression>(
     seat: &mut Seat<T>,
     capacity: u32,
@@ -115,7 +247,12 @@ fn find_all<T: Words, F: FnMut(T, ContainerHandle) -> CallbackProgression>(
     let mut room = Copied { words: [0; 128] };
     let mut call = Find::new(capacity);
     loop {
-        let after = find_next(seat, call, owner, id, &mut room, visit);
+        let passed = pass_others(seat, call, owner, &room);
+        let comes = match passed {
+            After::GoOn(next) => next,
+            After::Done(found) => return found,
+        };
+        let after = find_next(seat, comes, owner, id, &mut room, visit);
         match after {
             After::GoOn(next) => call = next,
             After::Done(found) => return found,

@@ -101,7 +101,7 @@ pub(crate) fn acquire_all(
     ensures board { IsBoard seat.new }
     ensures ends { AcquireEnds owner (seen seat.old) result tt (seen seat.new) }
 {
-    // The first turns stand by themselves, so that a compiler sees at each of them at which stage the call is.
+    // The first turns stand by themselves, so that a compiler sees at each of them the call's stage.
     let first = step_acquire(seat, Acquire::new(capacity), owner);
     let call = match first {
         After::GoOn(next) => next,

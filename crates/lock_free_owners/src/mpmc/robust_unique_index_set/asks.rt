@@ -27,7 +27,8 @@ use steps::indices::robust::recover::{Recover, RecoverStage};
 use steps::routine::Routine;
 use threaded::driver::rule::Tells;
 
-/// Loads a cell, for a call that has come to it. What that tells is picked where it is called.
+/// Loads a cell, for a call that has come to it. What that tells is picked where it is called. The parameters with `_`
+/// are there for the proof alone.
 #[inline(always)]
 fn load_for<M: Tells<View<u64>>>(
     seat: &mut Seat,
@@ -40,7 +41,7 @@ fn load_for<M: Tells<View<u64>>>(
         (table_of seat.old).words (table_of seat.old).slots seat.old.seat.id M.told (1 + cell) Load seat.old.seat.me }
     requires capacity { (v : View ℕ) (n : ℕ) (w : View ℕ) → M.told v n w → w.capacity ≡ v.capacity }
     ensures same { IsSame seat.old seat.new }
-    ensures told { M.told (seen seat.old) result (seen seat.new) }
+    ensures loaded { M.told (seen seat.old) result (seen seat.new) }
 {
     seat.look::<M>(FIRST_CELL + cell)
 }
@@ -62,8 +63,8 @@ fn load_cell(seat: &mut Seat, capacity: u32, cell: usize, mode: ReleaseMode) -> 
 }
 
 /// Takes the steps of the call from this cell on. It passes cells without an owner, and those about whose owner the
-/// first closure says no. Their loop keeps the index alone, and makes a call of it where it ends. S is the type of the
-/// second closure, for what is told of the call.
+/// first closure says no. The loop carries the index alone; a `Recover` is made of it only where the loop ends. S is the
+/// type of the second closure, for what is told of the call.
 #[inline(always)]
 fn ask_over<F: FnMut(OwnerId, usize) -> bool, S: FnMut(OwnerId, usize)>(
     seat: &mut Seat,

@@ -7,9 +7,9 @@ ghost use Rattle.model.specs.Families.Indices.Reading.{is_locked};
 ghost use Rattle.model.specs.Families.Indices.Robust.Calls.{release_answer};
 ghost use Rattle.history.specs.Steps.{TakesAtMost};
 ghost use Rattle.lock_free_owners.specs.Robust.Steps.{SetTakes, ReleaseTakes};
-ghost use Rattle.lock_free_owners.specs.Robust.Told.{HasTaken, HasGiven, HasCounted, HasLooked, WasFilled, WasGranted};
-ghost use Rattle.lock_free_owners.specs.Robust.Told.{WasFreed, WasRefused, Answered, HasReleased, FoundLock};
-ghost use Rattle.lock_free_owners.specs.RobustUniqueIndexSet.{view, history, capacity_of, IsPassOf, GoesOn};
+ghost use Rattle.lock_free_owners.specs.Robust.Contracts.{HasTaken, HasGiven, HasCounted, HasLooked, WasFilled, WasGranted};
+ghost use Rattle.lock_free_owners.specs.Robust.Contracts.{WasFreed, WasRefused, Answered, HasReleased, FoundLock};
+ghost use Rattle.lock_free_owners.specs.RobustUniqueIndexSet.{view, history, capacity_of, IsPassOf, SamePass};
 
 use super::acquires::acquire_all;
 use super::counts::count_all;
@@ -36,7 +36,7 @@ impl RobustUniqueIndexSet {
         pass: &mut Pass,
     ) -> Result<usize, UniqueIndexSetAcquireFailure>
         requires { IsPassOf self.now pass.old }
-        ensures goes_on { GoesOn pass.old pass.new }
+        ensures same { SamePass pass.old pass.new }
         ensures taken { HasTaken owner result (view pass.old) (view pass.new) }
         ensures within { IfOk result (λ index. index < capacity_of self.now) }
         ensures filled { IfOk result (λ index. WasFilled index owner (view pass.old) (view pass.new)) }
@@ -69,7 +69,7 @@ impl RobustUniqueIndexSet {
     ) -> Result<ReleaseState, RobustUniqueIndexSetReleaseError>
         requires pass { IsPassOf self.now pass.old }
         requires index { index < capacity_of self.now }
-        ensures goes_on { GoesOn pass.old pass.new }
+        ensures same { SamePass pass.old pass.new }
         ensures given { HasGiven (record { index = index; owner = owner; mode = mode }) result
             (view pass.old) (view pass.new) }
         ensures freed { OnOk result (WasFreed index owner (view pass.old) (view pass.new)) }
@@ -95,7 +95,7 @@ impl RobustUniqueIndexSet {
     /// Alone at most capacity + 2 atomic steps. After `borrowed_indices` of the Rust crate.
     pub fn borrowed_indices(&self, rt: &impl Wait, pass: &mut Pass) -> usize
         requires { IsPassOf self.now pass.old }
-        ensures goes_on { GoesOn pass.old pass.new }
+        ensures same { SamePass pass.old pass.new }
         ensures counted { HasCounted result (view pass.old) (view pass.new) }
         ensures answered { Answered starts.BorrowedIndices (Number result) (view pass.old) (view pass.new) }
         ensures most { result ≤ capacity_of self.now }
@@ -110,7 +110,7 @@ impl RobustUniqueIndexSet {
     /// After `is_locked` of the Rust crate.
     pub fn is_locked(&self, pass: &mut Pass) -> bool
         requires { IsPassOf self.now pass.old }
-        ensures goes_on { GoesOn pass.old pass.new }
+        ensures same { SamePass pass.old pass.new }
         ensures looked { HasLooked result (view pass.old) (view pass.new) }
         ensures answered { Answered starts.IsLocked (Truth result) (view pass.old) (view pass.new) }
         ensures lock { FoundLock result (view pass.old) (view pass.new) }

@@ -99,7 +99,7 @@ pub(crate) fn count_all(seat: &mut Seat, rt: &impl Wait, capacity: u32) -> usize
     ensures board { IsBoard seat.new }
     ensures ends { CountEnds (seen seat.old) result tt (seen seat.new) }
 {
-    // The first turns stand by themselves, so that a compiler sees at each of them at which stage the call is.
+    // The first turns stand by themselves, so that a compiler sees at each of them the call's stage.
     let first = step_count(seat, BorrowedIndices::new(capacity));
     let call = match first {
         After::GoOn(next) => next,

@@ -18,9 +18,9 @@ ghost use Rattle.history.specs.Views.{Looks, LooksAt};
 ghost use Rattle.lock_free_owners.specs.Robust.Callable.{HasFound};
 ghost use Rattle.lock_free_owners.specs.Robust.Finding.{FindAsks, GoesDown, Searching, Onward};
 ghost use Rattle.lock_free_owners.specs.Robust.Stages.{says};
-ghost use Rattle.lock_free_owners.specs.Robust.Told.{HasSearched};
+ghost use Rattle.lock_free_owners.specs.Robust.Contracts.{HasSearched};
 ghost use Rattle.lock_free_owners.specs.Robust.Turns.{IsBoard};
-ghost use Rattle.lock_free_owners.specs.RobustUniqueIndexSet.{view, capacity_of, IsPassOf, GoesOn};
+ghost use Rattle.lock_free_owners.specs.RobustUniqueIndexSet.{view, capacity_of, IsPassOf, SamePass};
 
 use super::rule::Seat;
 use super::{CallbackProgression, OwnerId, Pass, RobustUniqueIndexSet};
@@ -197,7 +197,7 @@ impl RobustUniqueIndexSet {
         requires pass { IsPassOf self.now pass.old }
         requires indices { TakesPlaces F.pre (λ p x q. F.step p x Continue q)
             (capacity_of self.now) visit.old }
-        ensures goes_on { GoesOn pass.old pass.new }
+        ensures same { SamePass pass.old pass.new }
         ensures found { HasSearched (λ p x a q. F.step p x a q) (capacity_of self.now) owner
             visit.old result visit.new (view pass.old) (view pass.new) }
         ensures steps { TakesAtMost (capacity_of self.now + 1) (view pass.old) (view pass.new) }

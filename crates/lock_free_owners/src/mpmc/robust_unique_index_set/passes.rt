@@ -1,8 +1,8 @@
 //! How passes are made of one another.
 ghost use Rattle.std.specs.Prelude.{◌≡◌, IfSome, IfNone};
-ghost use Rattle.history.specs.Passes.{HasSplit, HasJoined};
+ghost use Rattle.history.specs.Passes.{HasSplit};
 ghost use Rattle.history.specs.Steps.{TakesAtMost, JoinsWithin};
-ghost use Rattle.lock_free_owners.specs.RobustUniqueIndexSet.{set_of, view, HasHistory, MissesNothing};
+ghost use Rattle.lock_free_owners.specs.RobustUniqueIndexSet.{set_of, view, PassJoins};
 
 use super::Pass;
 use super::drives::Look;
@@ -29,10 +29,7 @@ impl Pass {
     /// Takes in what the other pass of the set has made and has seen, with its share. This project's own.
     pub fn join(&mut self, other: Pass)
         requires { set_of other ≡ set_of self.old }
-        ensures set { set_of self.new ≡ set_of self.old }
-        ensures joined { HasJoined (view self.old) (view other) (view self.new) }
-        ensures history { HasHistory self.new }
-        ensures all { MissesNothing self.new }
+        ensures same { PassJoins self.old other self.new }
         ensures steps { JoinsWithin 2 (view self.old) (view other) (view self.new) }
     {
         let Pass {

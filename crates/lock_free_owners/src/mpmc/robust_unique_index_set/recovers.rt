@@ -12,9 +12,9 @@ ghost use Rattle.threaded.specs.Seats.{seen, IsSame};
 ghost use Rattle.lock_free_owners.specs.Robust.Callable.{TakesQuestions, TakesFreed, HasVisited};
 ghost use Rattle.lock_free_owners.specs.Robust.Stages.{LooksAgain, RecoverAsks, RecoverMoves, has_freed};
 ghost use Rattle.lock_free_owners.specs.Robust.Steps.{RecoverTakes};
-ghost use Rattle.lock_free_owners.specs.Robust.Told.{HasRecovered, Answered, FoundState};
+ghost use Rattle.lock_free_owners.specs.Robust.Contracts.{HasRecovered, Answered, FoundState};
 ghost use Rattle.lock_free_owners.specs.Robust.Turns.{IsBoard, RecoverAt, RecoverEnds, RecoverStands, RecoverGoes, RecoverSteps};
-ghost use Rattle.lock_free_owners.specs.RobustUniqueIndexSet.{view, history, capacity_of, IsPassOf, GoesOn};
+ghost use Rattle.lock_free_owners.specs.RobustUniqueIndexSet.{view, history, capacity_of, IsPassOf, SamePass};
 
 use super::asks::ask_first;
 use super::rule::Seat;
@@ -117,8 +117,8 @@ fn recover_all<F: FnMut(OwnerId, usize) -> bool, S: FnMut(OwnerId, usize)>(
         × HasVisited (λ p o i b q. F.step p o i b q) (λ s o i t. S.step s o i tt t)
         predicate.old recovered.old visits predicate.new recovered.new }
 {
-    // The first turns stand by themselves, so that a compiler sees at each of them at which stage the call is: a recovery
-    // that frees nothing has no others.
+    // The first turns stand by themselves, so that a compiler sees at each of them the call's stage. A recovery that
+    // frees nothing has no others.
     let call = match step_recover(seat, Recover::new(capacity), mode) {
         After::GoOn(next) => next,
         After::Done(state) => return state,
@@ -177,7 +177,7 @@ fn ask<F: FnMut(OwnerId, usize) -> bool>(predicate: &mut F, owner: OwnerId, inde
 #[inline(always)]
 fn tell_where<S: FnMut(OwnerId, usize)>(recovered: &mut S, freed: bool, owner: OwnerId, index: u32)
     requires { IsTrue freed → S.pre recovered.old owner index }
-    ensures told { IsTrue freed → S.step recovered.old owner index tt recovered.new }
+    ensures called { IsTrue freed → S.step recovered.old owner index tt recovered.new }
     ensures passed { IsFalse freed → recovered.new ≡ recovered.old }
 {
     if freed {
@@ -206,7 +206,7 @@ impl RobustUniqueIndexSet {
         requires freed { is_locked (history pass.old) ≡ false → TakesFreed
             (λ p o i b q. F.step p o i b q) S.pre (λ s o i t. S.step s o i tt t)
             (capacity_of self.now) predicate.old recover_success.old }
-        ensures goes_on { GoesOn pass.old pass.new }
+        ensures same { SamePass pass.old pass.new }
         ensures recovered { HasRecovered (λ p o i b q. F.step p o i b q) (λ s o i t. S.step s o i tt t) mode result
             predicate.old recover_success.old predicate.new recover_success.new (view pass.old) (view pass.new) }
         ensures answered { Answered (starts.Recover mode) (State result) (view pass.old) (view pass.new) }

@@ -8,7 +8,7 @@ ghost use Rattle.history.specs.Roles.{HasRole};
 ghost use Rattle.history.specs.Steps.{TakesAtMost};
 ghost use Rattle.lock_free_queues.specs.Queues.Calls.{token_queue, token_view, IsSameQueue};
 ghost use Rattle.lock_free_queues.specs.Queues.Roles.{Moved};
-ghost use Rattle.lock_free_queues.specs.Queues.Told.{HasPushed, HasPublished, WasAtEnd, WasFull, HasPopped, HasTakenOut, WasEmpty};
+ghost use Rattle.lock_free_queues.specs.Queues.Contracts.{HasPushed, HasPublished, WasAtEnd, WasFull, HasPopped, HasTakenOut, WasEmpty};
 
 use super::drives::{Pops, Pushes};
 use crate::spsc::ring::Held;

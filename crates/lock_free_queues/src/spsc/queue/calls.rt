@@ -7,7 +7,7 @@ ghost use Rattle.history.specs.Roles.{HasRole};
 ghost use Rattle.history.specs.Steps.{TakesAtMost};
 ghost use Rattle.lock_free_queues.specs.Queues.Values.{token_queue, token_view, IsSameQueue};
 ghost use Rattle.lock_free_queues.specs.Queues.Roles.{Moved};
-ghost use Rattle.lock_free_queues.specs.Queues.Told.{HasPushed, HasPublished, WasAtEnd, WasFull};
+ghost use Rattle.lock_free_queues.specs.Queues.Contracts.{HasPushed, HasPublished, WasAtEnd, WasFull};
 
 use super::drives::Pushes;
 use crate::spsc::ring::Held;

@@ -3,7 +3,7 @@ ghost use Rattle.std.specs.Prelude.{◌+◌, IsTrue, IsFalse, IfSome, IfNone};
 ghost use Rattle.model.specs.declared.event.Item.TheVariants.{Value};
 ghost use Rattle.history.specs.Steps.{TakesAtMost};
 ghost use Rattle.lock_free_queues.specs.Queues.Values.{producer_queue, producer_view, consumer_view, SameProducer, SameConsumer};
-ghost use Rattle.lock_free_queues.specs.Queues.Told.{PushDone, PushRefused, PopDone, PopEmpty};
+ghost use Rattle.lock_free_queues.specs.Queues.Contracts.{PushDone, PushRefused, PopDone, PopEmpty};
 
 use super::{Consumer, Producer};
 use steps::words::Words;

@@ -7,7 +7,7 @@ ghost use Rattle.model.specs.declared.event.Item.TheVariants.{Value};
 ghost use Rattle.history.specs.Roles.{HasRole};
 ghost use Rattle.history.specs.Steps.{TakesAtMost};
 ghost use Rattle.lock_free_queues.specs.Queues.Roles.{Moved};
-ghost use Rattle.lock_free_queues.specs.Queues.Told.{HasPopped, HasTakenOut, WasEmpty};
+ghost use Rattle.lock_free_queues.specs.Queues.Contracts.{HasPopped, HasTakenOut, WasEmpty};
 ghost use Rattle.lock_free_queues.specs.Queues.Values.{token_view, IsSameQueue};
 
 use super::drives::Pops;

@@ -5,7 +5,7 @@ ghost use Rattle.history.specs.Steps.{TakesAtMost};
 ghost use Rattle.lock_free_queues.specs.Queues.Kinds.{NoneMarked};
 ghost use Rattle.lock_free_queues.specs.Queues.Rings.{token_view, IsSameQueue};
 ghost use Rattle.lock_free_queues.specs.Queues.Roles.{Moved, other_role};
-ghost use Rattle.lock_free_queues.specs.Queues.Told.{HasAcquired, HasReleased};
+ghost use Rattle.lock_free_queues.specs.Queues.Contracts.{HasAcquired, HasReleased};
 
 use super::Held;
 use super::drives::{Leaves, Side, Takes};

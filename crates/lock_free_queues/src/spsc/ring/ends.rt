@@ -6,7 +6,7 @@ ghost use Rattle.history.specs.Steps.{TakesAtMost};
 ghost use Rattle.lock_free_queues.specs.Queues.Kinds.{NoneTaken};
 ghost use Rattle.lock_free_queues.specs.Queues.Rings.{view, producer_view, consumer_view, IsPassOf};
 ghost use Rattle.lock_free_queues.specs.Queues.Rings.{SamePass, ToProducer, ToConsumer, FromProducer, FromConsumer};
-ghost use Rattle.lock_free_queues.specs.Queues.Told.{HasAcquired, HasReleased};
+ghost use Rattle.lock_free_queues.specs.Queues.Contracts.{HasAcquired, HasReleased};
 
 use super::drives::{Popping, Pushing};
 use super::rule::Kind;

@@ -12,7 +12,7 @@ ghost use Rattle.lock_free_queues.specs.Queues.Roles.{Moved};
 ghost use Rattle.lock_free_queues.specs.Queues.Rings.{capacity_of, token_queue, token_view, queue_of, view};
 ghost use Rattle.lock_free_queues.specs.Queues.Rings.{producer_queue, producer_view, consumer_queue, consumer_view};
 ghost use Rattle.lock_free_queues.specs.Queues.Rings.{IsPassOf, IsSameQueue, SamePass, SameProducer, SameConsumer};
-ghost use Rattle.lock_free_queues.specs.Queues.Told.{HasMeasured};
+ghost use Rattle.lock_free_queues.specs.Queues.Contracts.{HasMeasured};
 
 use super::drives::{Emptiness, Fullness, Length, Measure, Measures};
 use super::rule::{Kind, RingRule};
@@ -55,7 +55,7 @@ impl<E: Kind, T: Words> Held<E, T, RingRule<E, T>> {
     /// Returns whether none waited at one moment of the call.
     pub fn is_empty(&mut self, rt: &impl Wait) -> bool
         ensures same { IsSameQueue self.old self.new }
-        ensures told { HasMeasured measures.IsEmpty (token_queue self.old).capacity (Truth result)
+        ensures measured { HasMeasured measures.IsEmpty (token_queue self.old).capacity (Truth result)
             (token_view self.old) (token_view self.new) }
         ensures steps { TakesAlone (coding_of T.WORDS T.words_of T.value_of) (machine_kind E.KIND)
             (token_queue self.old).capacity 4 4
@@ -68,7 +68,7 @@ impl<E: Kind, T: Words> Held<E, T, RingRule<E, T>> {
     /// Returns whether as many waited as the capacity, at one moment of the call.
     pub fn is_full(&mut self, rt: &impl Wait) -> bool
         ensures same { IsSameQueue self.old self.new }
-        ensures told { HasMeasured measures.IsFull (token_queue self.old).capacity (Truth result)
+        ensures measured { HasMeasured measures.IsFull (token_queue self.old).capacity (Truth result)
             (token_view self.old) (token_view self.new) }
         ensures steps { TakesAlone (coding_of T.WORDS T.words_of T.value_of) (machine_kind E.KIND)
             (token_queue self.old).capacity 4 4
@@ -101,7 +101,7 @@ impl<E: Kind, T: Words> Ring<E, T> {
     pub fn is_empty(&self, rt: &impl Wait, pass: &mut Pass<E, T>) -> bool
         requires { IsPassOf self.now pass.old }
         ensures same { SamePass pass.old pass.new }
-        ensures told { HasMeasured measures.IsEmpty (capacity_of self.now) (Truth result)
+        ensures measured { HasMeasured measures.IsEmpty (capacity_of self.now) (Truth result)
             (view pass.old) (view pass.new) }
         ensures steps { TakesAlone (coding_of T.WORDS T.words_of T.value_of) (machine_kind E.KIND)
             (queue_of pass.old).capacity 4 4
@@ -115,7 +115,7 @@ impl<E: Kind, T: Words> Ring<E, T> {
     pub fn is_full(&self, rt: &impl Wait, pass: &mut Pass<E, T>) -> bool
         requires { IsPassOf self.now pass.old }
         ensures same { SamePass pass.old pass.new }
-        ensures told { HasMeasured measures.IsFull (capacity_of self.now) (Truth result)
+        ensures measured { HasMeasured measures.IsFull (capacity_of self.now) (Truth result)
             (view pass.old) (view pass.new) }
         ensures steps { TakesAlone (coding_of T.WORDS T.words_of T.value_of) (machine_kind E.KIND)
             (queue_of pass.old).capacity 4 4
@@ -149,7 +149,7 @@ impl<'a, E: Kind, T: Words> Producer<'a, E, T> {
     /// Does as `is_empty` of its queue, in as many atomic steps. This project's own.
     pub fn is_empty(&mut self, rt: &impl Wait) -> bool
         ensures same { SameProducer self.old self.new }
-        ensures told { HasMeasured measures.IsEmpty (producer_queue self.old).capacity (Truth result)
+        ensures measured { HasMeasured measures.IsEmpty (producer_queue self.old).capacity (Truth result)
             (producer_view self.old) (producer_view self.new) }
         ensures steps { TakesAlone (coding_of T.WORDS T.words_of T.value_of) (machine_kind E.KIND)
             (producer_queue self.old).capacity 4 4
@@ -161,7 +161,7 @@ impl<'a, E: Kind, T: Words> Producer<'a, E, T> {
     /// Does as `is_full` of its queue, in as many atomic steps. This project's own.
     pub fn is_full(&mut self, rt: &impl Wait) -> bool
         ensures same { SameProducer self.old self.new }
-        ensures told { HasMeasured measures.IsFull (producer_queue self.old).capacity (Truth result)
+        ensures measured { HasMeasured measures.IsFull (producer_queue self.old).capacity (Truth result)
             (producer_view self.old) (producer_view self.new) }
         ensures steps { TakesAlone (coding_of T.WORDS T.words_of T.value_of) (machine_kind E.KIND)
             (producer_queue self.old).capacity 4 4
@@ -195,7 +195,7 @@ impl<'a, E: Kind, T: Words> Consumer<'a, E, T> {
     /// Does as `is_empty` of its queue, in as many atomic steps. This project's own.
     pub fn is_empty(&mut self, rt: &impl Wait) -> bool
         ensures same { SameConsumer self.old self.new }
-        ensures told { HasMeasured measures.IsEmpty (consumer_queue self.old).capacity (Truth result)
+        ensures measured { HasMeasured measures.IsEmpty (consumer_queue self.old).capacity (Truth result)
             (consumer_view self.old) (consumer_view self.new) }
         ensures steps { TakesAlone (coding_of T.WORDS T.words_of T.value_of) (machine_kind E.KIND)
             (consumer_queue self.old).capacity 4 4
@@ -207,7 +207,7 @@ impl<'a, E: Kind, T: Words> Consumer<'a, E, T> {
     /// Does as `is_full` of its queue, in as many atomic steps. This project's own.
     pub fn is_full(&mut self, rt: &impl Wait) -> bool
         ensures same { SameConsumer self.old self.new }
-        ensures told { HasMeasured measures.IsFull (consumer_queue self.old).capacity (Truth result)
+        ensures measured { HasMeasured measures.IsFull (consumer_queue self.old).capacity (Truth result)
             (consumer_view self.old) (consumer_view self.new) }
         ensures steps { TakesAlone (coding_of T.WORDS T.words_of T.value_of) (machine_kind E.KIND)
             (consumer_queue self.old).capacity 4 4

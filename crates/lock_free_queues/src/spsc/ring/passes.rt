@@ -4,7 +4,7 @@ ghost use Rattle.history.specs.Steps.{TakesAtMost, JoinsWithin};
 ghost use Rattle.lock_free_queues.specs.Queues.Rings.{token_queue, token_view, queue_of, view, producer_queue};
 ghost use Rattle.lock_free_queues.specs.Queues.Rings.{producer_view, consumer_queue, consumer_view};
 ghost use Rattle.lock_free_queues.specs.Queues.Rings.{IsSameQueue, SamePass, Joins, PassJoins, ProducerJoins, ConsumerJoins};
-ghost use Rattle.lock_free_queues.specs.Queues.Told.{HasSplit, HasLooked};
+ghost use Rattle.lock_free_queues.specs.Queues.Contracts.{HasSplit, HasLooked};
 
 use super::rule::{Kind, RingRule};
 use super::{Consumer, Held, Pass, Producer, Token};

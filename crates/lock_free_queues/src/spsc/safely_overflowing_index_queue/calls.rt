@@ -9,7 +9,7 @@ ghost use Rattle.history.specs.Roles.{HasRole};
 ghost use Rattle.history.specs.Steps.{TakesAtMost, TakesAlone};
 ghost use Rattle.lock_free_queues.specs.Queues.Overflowing.{token_queue, token_view, IsSameQueue, PushAdded, PushReplaced};
 ghost use Rattle.lock_free_queues.specs.Queues.Roles.{Moved};
-ghost use Rattle.lock_free_queues.specs.Queues.Told.{WasAtEnd, PopOldest, PopFoundNone};
+ghost use Rattle.lock_free_queues.specs.Queues.Contracts.{WasAtEnd, PopOldest, PopFoundNone};
 
 use super::drives::{Pops, Pushes};
 use crate::spsc::ring::Held;
@@ -21,7 +21,7 @@ use steps::routine::Routine;
 
 impl Held<Overflowing, u64, RingRule<Overflowing, u64>> {
     /// Appends a number and returns what leaves the queue: None, or the oldest number if it is full. It returns the
-    /// number itself where the write position is at its end.
+    /// number itself where the write position is at its end. At most 6 atomic steps.
     pub fn push(&mut self, value: u64) -> Option<u64>
         requires role { HasRole roles.Producer (token_view self.old).made }
         requires some { 0 < self.old.capacity }
@@ -38,7 +38,8 @@ impl Held<Overflowing, u64, RingRule<Overflowing, u64>> {
         Push::answer(end, &value, &room)
     }
 
-    /// Takes the oldest number and returns it, or returns None where the queue is empty.
+    /// Takes the oldest number and returns it, or returns None where the queue is empty. At most 4 atomic steps, and 2
+    /// more for each change of a word of the queue by others during the call.
     pub fn pop(&mut self, rt: &impl Wait) -> Option<u64>
         requires role { HasRole roles.Consumer (token_view self.old).made }
         requires some { 0 < self.old.capacity }

@@ -29,7 +29,7 @@ impl SafelyOverflowingIndexQueue {
     {
         let capacity = self.capacity;
         let mut words = self.last_words(pass, FIRST_CELL + (capacity as usize + 1))?;
-        // while a push is under way one number more than the capacity can wait, of which the oldest is on its way out
+        // While a push is under way one number more than the capacity can wait. The oldest is on its way out then.
         let write = words.as_slice()[WRITE];
         let read = words.as_slice()[READ];
         let oldest = write.saturating_sub(capacity as u64);

@@ -6,7 +6,7 @@ ghost use Rattle.model.specs.Coding.{one_word};
 ghost use Rattle.history.specs.Steps.{TakesAtMost, TakesAlone};
 ghost use Rattle.lock_free_queues.specs.Queues.Overflowing.{producer_queue, producer_view, consumer_queue, consumer_view};
 ghost use Rattle.lock_free_queues.specs.Queues.Overflowing.{PushAdded, PushHandedBack, SameProducerByCapacity, SameConsumerByCapacity};
-ghost use Rattle.lock_free_queues.specs.Queues.Told.{PopOldest, PopFoundNone};
+ghost use Rattle.lock_free_queues.specs.Queues.Contracts.{PopOldest, PopFoundNone};
 
 use super::{Consumer, Producer};
 use std::sync::Wait;

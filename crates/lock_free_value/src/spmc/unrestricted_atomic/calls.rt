@@ -4,7 +4,7 @@ ghost use Rattle.history.specs.Steps.{TakesAtMost};
 ghost use Rattle.history.specs.Value.{HasProducer};
 ghost use Rattle.lock_free_value.specs.Calls.{seen, IsSame, WasAtEnd};
 ghost use Rattle.lock_free_value.specs.Roles.{Moved};
-ghost use Rattle.lock_free_value.specs.Told.{HasAcquired, HasReleased, HasStored};
+ghost use Rattle.lock_free_value.specs.ValueContracts.{HasAcquired, HasReleased, HasStored};
 
 use super::Held;
 use super::drives::{LeavesProducer, Stores, TakesProducer};

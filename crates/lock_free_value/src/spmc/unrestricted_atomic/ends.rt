@@ -5,7 +5,7 @@ ghost use Rattle.lock_free_value.specs.Calls.{SamePass, SameProducer, ToProducer
 ghost use Rattle.model.specs.Coding.{coding_of};
 ghost use Rattle.model.specs.declared.turn.Kind.TheVariants as kinds;
 ghost use Rattle.history.specs.Steps.{TakesAtMost, TakesAlone};
-ghost use Rattle.lock_free_value.specs.Told.{HasAcquired, HasReleased, HasStored, HasLoaded};
+ghost use Rattle.lock_free_value.specs.ValueContracts.{HasAcquired, HasReleased, HasStored, HasLoaded};
 
 use super::{Pass, Producer, UnrestrictedAtomic};
 use std::sync::Wait;

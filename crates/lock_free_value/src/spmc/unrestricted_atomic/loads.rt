@@ -9,7 +9,7 @@ ghost use Rattle.threaded.specs.Seats as seats;
 ghost use Rattle.lock_free_value.specs.Calls.{seen, IsSame};
 ghost use Rattle.lock_free_value.specs.Loads.{IsBoard, LoadAt, LoadEnds, LoadNext};
 ghost use Rattle.lock_free_value.specs.Roles.{Moved};
-ghost use Rattle.lock_free_value.specs.Told.{HasLoaded};
+ghost use Rattle.lock_free_value.specs.ValueContracts.{HasLoaded};
 
 use super::Held;
 use super::drives::Loads;

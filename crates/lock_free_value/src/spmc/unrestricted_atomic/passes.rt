@@ -3,9 +3,8 @@ ghost use Rattle.std.specs.Prelude.{◌≡◌, IfSome, IfNone};
 ghost use Rattle.history.specs.History.{IsBeginning};
 ghost use Rattle.history.specs.Steps.{TakesAtMost, JoinsWithin};
 ghost use Rattle.lock_free_value.specs.Calls.{seen, table_of, view, value_of_pass, producer_view, value_of_producer};
-ghost use Rattle.lock_free_value.specs.Calls.{HasHistory, MissesNothing, IsSame, SamePass};
-ghost use Rattle.model.specs.Coding.{coding_of};
-ghost use Rattle.lock_free_value.specs.Told.{HasSplit, HasJoined};
+ghost use Rattle.lock_free_value.specs.Calls.{IsSame, SamePass, Joins, PassJoins, ProducerJoins};
+ghost use Rattle.lock_free_value.specs.ValueContracts.{HasSplit};
 
 use super::drives::Look;
 use super::rule::ValueRule;
@@ -32,10 +31,7 @@ impl<T: Words> Held<T, ValueRule<T>> {
     /// Takes in the other seat of the value.
     pub fn join(&mut self, other: Token<T>)
         requires { table_of other ≡ table_of self.old }
-        ensures table { table_of self.new ≡ table_of self.old }
-        ensures joined { HasJoined (seen self.old) (seen other) (seen self.new) }
-        ensures history { HasHistory (coding_of T.WORDS T.words_of T.value_of) (seen self.new) }
-        ensures all { MissesNothing (seen self.new) }
+        ensures same { Joins self.old other self.new }
         ensures steps { JoinsWithin 2 (seen self.old) (seen other) (seen self.new) }
     {
         let Held { seated: other } = other;
@@ -72,10 +68,7 @@ impl<T: Words> Pass<T> {
     /// Who then has the whole share has made all of it. At most two steps. This project's own.
     pub fn join(&mut self, other: Pass<T>)
         requires { value_of_pass other ≡ value_of_pass self.old }
-        ensures value { value_of_pass self.new ≡ value_of_pass self.old }
-        ensures joined { HasJoined (view self.old) (view other) (view self.new) }
-        ensures history { HasHistory (coding_of T.WORDS T.words_of T.value_of) (view self.new) }
-        ensures all { MissesNothing (view self.new) }
+        ensures same { PassJoins self.old other self.new }
         ensures steps { JoinsWithin 2 (view self.old) (view other) (view self.new) }
     {
         let Pass { token } = other;
@@ -96,10 +89,7 @@ impl<'a, T: Words> Producer<'a, T> {
     /// Takes in what a pass of the value made, and its share. At most two steps. This project's own.
     pub fn join(&mut self, other: Pass<T>)
         requires { value_of_pass other ≡ value_of_producer self.old }
-        ensures value { value_of_producer self.new ≡ value_of_producer self.old }
-        ensures joined { HasJoined (producer_view self.old) (view other) (producer_view self.new) }
-        ensures history { HasHistory (coding_of T.WORDS T.words_of T.value_of) (producer_view self.new) }
-        ensures all { MissesNothing (producer_view self.new) }
+        ensures same { ProducerJoins self.old other self.new }
         ensures steps { JoinsWithin 2 (producer_view self.old) (view other) (producer_view self.new) }
     {
         let token = other.into_token();

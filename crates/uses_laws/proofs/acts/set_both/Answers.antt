@@ -34,10 +34,10 @@ returns g c =
     c.calls_stand.ensures two.by (Bits (Set second)) (Truth c.set-two.result) (set_wrote two.by second c.set-two.result) between new two.called
     (set_ends_none two.by second c.set-two.result) new.seen (record { rest = []; is = sym (append-nil new.seen) }) in
     let size : (set_of pass).capacity ≡ capacity_of c.args.set.now =
-    ap (λ (z : SetId). z.capacity) (c.set-two.ensures.goes_on.set ∙ (c.set-one.ensures.goes_on.set ∙ c.requires.pass)) in
+    ap (λ (z : SetId). z.capacity) (c.set-two.ensures.same.set ∙ (c.set-one.ensures.same.set ∙ c.requires.pass)) in
     let acts : ActsByPlace kinds.Bits (capacity_of c.args.set.now) new.seen =
     subst (λ n. ActsByPlace kinds.Bits n new.seen) size
-    (c.histories_act.ensures one_word kinds.Bits (set_of pass).capacity (history pass) tt c.set-two.ensures.goes_on.history) in
+    (c.histories_act.ensures one_word kinds.Bits (set_of pass).capacity (history pass) tt c.set-two.ensures.same.history) in
     record {
       acts = acts;
       by = one.by;

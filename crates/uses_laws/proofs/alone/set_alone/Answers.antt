@@ -18,7 +18,7 @@ pub returns-clause-whole : goal.returns-clause-whole
 returns-clause-whole g c =
     let one = c.set.ensures.added in
     c.wholes_stay.ensures.call one.by (Bits (Set c.args.place)) (Truth c.set.result) (set_wrote one.by c.args.place c.set.result) (view c.args.pass.now)
-    (view c.set.new.pass) one.called c.requires.whole (set_inside one.by c.args.place c.set.result) c.set.ensures.goes_on.share c.set.ensures.goes_on.all
+    (view c.set.new.pass) one.called c.requires.whole (set_inside one.by c.args.place c.set.result) c.set.ensures.same.share c.set.ensures.same.all
 
 pub returns-clause-steps : goal.returns-clause-steps
 returns-clause-steps g c =

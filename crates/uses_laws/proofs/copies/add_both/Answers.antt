@@ -1,6 +1,6 @@
 use Rattle.std.proofs.Common.{rules}
 use Rattle.lock_free.specs.Container.Names.{code_of, container_of, share, view}
-use Rattle.lock_free.specs.Container.Told.{placed}
+use Rattle.lock_free.specs.Container.Contracts.{placed}
 use Rattle.lock_free.specs.Shares.{IsAll}
 use Rattle.uses_laws.proofs.Whole.{Laws, whole_after}
 use Rattle.uses_laws.proofs.copies.add_both.Goals as goal
@@ -21,5 +21,5 @@ returns g c =
     in
     whole_after laws (code_of between) (container_of between).capacity (view old) (view between) (view new) c.requires.calm
     (record { value = c.args.first; owner = c.args.owner }) (record { value = c.args.second; owner = c.args.owner })
-    (placed c.add-one.result) (placed c.add-two.result) c.requires.idle c.add-one.ensures.goes_on.idle
-    c.add-one.ensures.added c.add-two.ensures.added (c.add-two.ensures.goes_on.goes.all still) c.add-two.ensures.goes_on.goes.history
+    (placed c.add-one.result) (placed c.add-two.result) c.requires.idle c.add-one.ensures.same.idle
+    c.add-one.ensures.added c.add-two.ensures.added (c.add-two.ensures.same.goes.all still) c.add-two.ensures.same.goes.history

@@ -1,5 +1,5 @@
 use Rattle.std.proofs.Common.{rules, subst, IfErr}
-use Rattle.lock_free.specs.Robust.Told.{HasTaken, WasRefused}
+use Rattle.lock_free.specs.Robust.Contracts.{HasTaken, WasRefused}
 use Rattle.lock_free.specs.RobustUniqueIndexSet.{share, view}
 use Rattle.lock_free.specs.Shares.{IsAll}
 use Rattle.uses_laws.proofs.Full.{was_full}
@@ -12,4 +12,4 @@ returns-clause-full g c is =
     (view c.args.pass.now) (view c.acquire.new.pass)
     (subst (λ r. HasTaken c.args.owner r (view c.args.pass.now) (view c.acquire.new.pass)) is c.acquire.ensures.taken)
     (subst (λ r. IfErr r (λ e. WasRefused c.args.owner e (view c.args.pass.now) (view c.acquire.new.pass))) is c.acquire.ensures.refused)
-    (c.acquire.ensures.goes_on.goes.all still) c.requires.young
+    (c.acquire.ensures.same.goes.all still) c.requires.young

@@ -7,7 +7,7 @@ use Rattle.lock_free.specs.Coding.{one_word}
 use Rattle.lock_free.specs.HistoryView.View.{View}
 use Rattle.lock_free.specs.Queues.Calls.{QueueId, producer_queue, producer_view, HasHistory}
 use Rattle.lock_free.specs.Queues.Item.TheVariants.{Index}
-use Rattle.lock_free.specs.Queues.Told.{HasPushed, push_told}
+use Rattle.lock_free.specs.Queues.Contracts.{HasPushed, push_events}
 use Rattle.uses_laws.proofs.Linear.{pushed_in_order}
 use Rattle.uses_laws.proofs.order.push_both.Goals as goal
 
@@ -22,10 +22,10 @@ returns c both =
     let one : HasPushed (Index first) true old between = (c.push.ensures.pushed c.if-not-push.false).0 in
     let two : HasPushed (Index second) true between new = (c.push-2.ensures.pushed both).0 in
     let x =
-    c.calls_stand.ensures one.by (Queues (PushIndex first)) (Truth true) (push_told one.by (Index first) true) old between one.called tt
+    c.calls_stand.ensures one.by (Queues (PushIndex first)) (Truth true) (push_events one.by (Index first) true) old between one.called tt
     new.seen c.push-2.ensures.same.goes.since in
     let y =
-    c.calls_stand.ensures two.by (Queues (PushIndex second)) (Truth true) (push_told two.by (Index second) true) between new two.called tt
+    c.calls_stand.ensures two.by (Queues (PushIndex second)) (Truth true) (push_events two.by (Index second) true) between new two.called tt
     new.seen (record { rest = []; is = sym (append-nil new.seen) }) in
     let before =
     c.calls_are_in_order.ensures one.by two.by (Queues (PushIndex first)) (Queues (PushIndex second)) (Truth true) (Truth true)

@@ -11,23 +11,23 @@ returns-clause-few c is js one two =
     let new = c.join.new.self in
     let mine = made c.args.mine.now in
     let theirs = made c.args.other in
-    let whole : IsAll (share new) = subst IsAll (sym c.join.ensures.joined.share) c.requires.whole in
-    let size : (set_of new).capacity ≡ capacity_of c.args.set.now = ap (λ (z : SetId). z.capacity) (c.join.ensures.set ∙ c.requires.mine) in
+    let whole : IsAll (share new) = subst IsAll (sym c.join.ensures.same.joined.share) c.requires.whole in
+    let size : (set_of new).capacity ≡ capacity_of c.args.set.now = ap (λ (z : SetId). z.capacity) (c.join.ensures.same.set ∙ c.requires.mine) in
     subst (λ n. length is + length js ≤ n) size
-    (few_held (set_of new).capacity (history new) (made new) mine theirs (λ i. is_some (holder_of i (history new))) c.join.ensures.joined.made
-    (c.join.ensures.all whole)
-    (c.indices_are_conserved.ensures.conserved one_word (set_of new).capacity (history new) c.join.ensures.history)
-    (c.indices_are_conserved.ensures.within one_word (set_of new).capacity (history new) c.join.ensures.history) is js one two)
+    (few_held (set_of new).capacity (history new) (made new) mine theirs (λ i. is_some (holder_of i (history new))) c.join.ensures.same.joined.made
+    (c.join.ensures.same.all whole)
+    (c.indices_are_conserved.ensures.conserved one_word (set_of new).capacity (history new) c.join.ensures.same.history)
+    (c.indices_are_conserved.ensures.within one_word (set_of new).capacity (history new) c.join.ensures.same.history) is js one two)
 
 pub returns-clause-sole : goal.returns-clause-sole
 returns-clause-sole c is one long =
     let new = c.join.new.self in
     let mine = made c.args.mine.now in
     let theirs = made c.args.other in
-    let whole : IsAll (share new) = subst IsAll (sym c.join.ensures.joined.share) c.requires.whole in
-    let size : (set_of new).capacity ≡ capacity_of c.args.set.now = ap (λ (z : SetId). z.capacity) (c.join.ensures.set ∙ c.requires.mine) in
-    none_else (set_of new).capacity (history new) (made new) mine theirs (λ i. is_some (holder_of i (history new))) c.join.ensures.joined.made
-    (c.join.ensures.all whole)
-    (c.indices_are_conserved.ensures.conserved one_word (set_of new).capacity (history new) c.join.ensures.history)
-    (c.indices_are_conserved.ensures.within one_word (set_of new).capacity (history new) c.join.ensures.history)
+    let whole : IsAll (share new) = subst IsAll (sym c.join.ensures.same.joined.share) c.requires.whole in
+    let size : (set_of new).capacity ≡ capacity_of c.args.set.now = ap (λ (z : SetId). z.capacity) (c.join.ensures.same.set ∙ c.requires.mine) in
+    none_else (set_of new).capacity (history new) (made new) mine theirs (λ i. is_some (holder_of i (history new))) c.join.ensures.same.joined.made
+    (c.join.ensures.same.all whole)
+    (c.indices_are_conserved.ensures.conserved one_word (set_of new).capacity (history new) c.join.ensures.same.history)
+    (c.indices_are_conserved.ensures.within one_word (set_of new).capacity (history new) c.join.ensures.same.history)
     c.requires.sound.least is one (long ∙ sym size)

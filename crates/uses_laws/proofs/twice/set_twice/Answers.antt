@@ -1,7 +1,7 @@
 use Rattle.std.proofs.Common.{true, subst}
 use Rattle.lock_free.specs.Coding.{one_word}
 use Rattle.lock_free.specs.Bits.Calls.{view, history, set_of}
-use Rattle.lock_free.specs.Bits.Told.{HasSet}
+use Rattle.lock_free.specs.Bits.Contracts.{HasSet}
 use Rattle.uses_laws.proofs.Again.{cleared_since}
 use Rattle.uses_laws.proofs.twice.set_twice.Goals as goal
 
@@ -17,5 +17,5 @@ returns g c both =
     subst (λ b. HasSet place b (view between) (view new)) both c.set-2.ensures.added in
     cleared_since place (view old) (view between) (view new) one two
     (c.bits_are_conserved.ensures.conserved one_word (set_of old).capacity (history old) c.requires.history place)
-    (c.bits_are_conserved.ensures.conserved one_word (set_of new).capacity (history new) c.set-2.ensures.goes_on.history place)
-    (c.bits_are_conserved.ensures.once one_word (set_of new).capacity (history new) c.set-2.ensures.goes_on.history place)
+    (c.bits_are_conserved.ensures.conserved one_word (set_of new).capacity (history new) c.set-2.ensures.same.history place)
+    (c.bits_are_conserved.ensures.once one_word (set_of new).capacity (history new) c.set-2.ensures.same.history place)

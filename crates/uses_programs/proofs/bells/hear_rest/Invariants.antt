@@ -1,11 +1,13 @@
 use Rattle.std.proofs.Common.{◌≡◌, []}
 use Rattle.lock_free.specs.Bits.Calls.{set_of, share, made, MissesNothing}
 use Rattle.uses_programs.specs.Bells.{HearsMore}
-use Rattle.uses_programs.proofs.bells.hear_rest.Given as goal
+use Rattle.uses_programs.proofs.bells.hear_rest.Given as given
 
-abbrev pub invariant-loop : goal.invariant-loop
+abbrev pub invariant-loop : given.invariant-loop
 invariant-loop g l =
-    (set_of l.pass ≡ set_of l.fn.pass)
-    × (share l.pass ≡ share l.fn.pass)
-    × MissesNothing l.pass
-    × HearsMore [] l.heard.items (made l.fn.pass) (made l.pass)
+    record {
+      same_set : set_of l.pass ≡ set_of l.fn.pass;
+      same_share : share l.pass ≡ share l.fn.pass;
+      misses : MissesNothing l.pass;
+      heard : HearsMore [] l.heard.items (made l.fn.pass) (made l.pass);
+    }

@@ -1,9 +1,9 @@
 use Rattle.std.proofs.Common.{◌≡◌, []}
 use Rattle.lock_free.specs.Bits.Calls.{set_of, share, made}
 use Rattle.uses_programs.specs.Bells.{HearsMore}
-use Rattle.uses_programs.proofs.bells.listen.Given as goal
+use Rattle.uses_programs.proofs.bells.listen.Given as given
 
-abbrev pub invariant-loop : goal.invariant-loop
+abbrev pub invariant-loop : given.invariant-loop
 invariant-loop g l =
     (set_of l.pass ≡ set_of l.fn.pass)
     × (share l.pass ≡ share l.fn.pass)

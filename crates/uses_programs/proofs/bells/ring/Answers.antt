@@ -6,43 +6,46 @@ use Rattle.uses_programs.proofs.Rings.{rings, rings_again, none_rung, rang_on}
 use Rattle.uses_programs.proofs.bells.ring.Goals as goal
 
 pub loop-at-init : goal.loop-at-init
-loop-at-init g c = (
-  search rules,
-  refl,
-  refl,
-  subst (λ z. HasRung z (made c.args.pass)) (sym c.new-rung.ensures.items) (none_rung (made c.args.pass) c.requires.1),
-  All-nil (λ bell. 1 ≤ sets bell (history c.args.pass)),
-)
+loop-at-init g c =
+    record {
+      end = search rules;
+      same_set = refl;
+      same_share = refl;
+      rung = subst (λ z. HasRung z (made c.args.pass)) (sym c.new-rung.ensures.items) (none_rung (made c.args.pass) c.requires.1);
+      were_set = All-nil (λ bell. 1 ≤ sets bell (history c.args.pass));
+    }
 
 pub loop-at-preserved : goal.loop-at-preserved
 loop-at-preserved g c =
     let l = c.loop-at in
     let old = view l.pass in
     let new = view c.set.new.pass in
-    let lt : l.at < length c.args.bells.now = (let e = l.invariant.0 in let t = c.loop-at-test.true in omega arith) in
-    let items : c.push.new.self.items ≡ l.rung.items ++ slice_index_or c.args.bells.now l.at 0 ∷ [] = grind (arith, common_steps) in (
-      search rules,
-      c.set.ensures.goes_on.set ∙ l.invariant.1,
-      c.set.ensures.goes_on.share ∙ l.invariant.2,
-      rings l.rung.items c.push.new.self.items _ c.set.result old new c.if-not-set.false c.set.ensures.added items l.invariant.3,
-      rang_on c.args.bells.now l.at _ c.set.result old new lt refl c.set.ensures.added c.set.ensures.stood l.invariant.4,
-    )
+    let lt : l.at < length c.args.bells.now = (let e = l.invariant.end in let t = c.loop-at-test.true in omega arith) in
+    let items : c.push.new.self.items ≡ l.rung.items ++ slice_index_or c.args.bells.now l.at 0 ∷ [] = grind (arith, common_steps) in
+    record {
+      end = search rules;
+      same_set = c.set.ensures.same.set ∙ l.invariant.same_set;
+      same_share = c.set.ensures.same.share ∙ l.invariant.same_share;
+      rung = rings l.rung.items c.push.new.self.items _ c.set.result old new c.if-not-set.false c.set.ensures.added items l.invariant.rung;
+      were_set = rang_on c.args.bells.now l.at _ c.set.result old new lt refl c.set.ensures.added c.set.ensures.stood l.invariant.were_set;
+    }
 
 pub loop-at-preserved-then-not-set : goal.loop-at-preserved-then-not-set
 loop-at-preserved-then-not-set g c =
     let l = c.loop-at in
     let old = view l.pass in
     let new = view c.set.new.pass in
-    let lt : l.at < length c.args.bells.now = (let e = l.invariant.0 in let t = c.loop-at-test.true in omega arith) in (
-      search rules,
-      c.set.ensures.goes_on.set ∙ l.invariant.1,
-      c.set.ensures.goes_on.share ∙ l.invariant.2,
-      rings_again l.rung.items _ c.set.result old new c.if-not-set.true c.set.ensures.added l.invariant.3,
-      rang_on c.args.bells.now l.at _ c.set.result old new lt refl c.set.ensures.added c.set.ensures.stood l.invariant.4,
-    )
+    let lt : l.at < length c.args.bells.now = (let e = l.invariant.end in let t = c.loop-at-test.true in omega arith) in
+    record {
+      end = search rules;
+      same_set = c.set.ensures.same.set ∙ l.invariant.same_set;
+      same_share = c.set.ensures.same.share ∙ l.invariant.same_share;
+      rung = rings_again l.rung.items _ c.set.result old new c.if-not-set.true c.set.ensures.added l.invariant.rung;
+      were_set = rang_on c.args.bells.now l.at _ c.set.result old new lt refl c.set.ensures.added c.set.ensures.stood l.invariant.were_set;
+    }
 
 pub returns-clause-all : goal.returns-clause-all
 returns-clause-all g c =
     subst (λ xs. WereSet xs (history c.loop-at.pass))
-    (take_all c.loop-at.at c.args.bells.now (let e = c.loop-at.invariant.0 in let past = c.loop-at-test.false in omega arith))
-    c.loop-at.invariant.4
+    (take_all c.loop-at.at c.args.bells.now (let e = c.loop-at.invariant.end in let past = c.loop-at-test.false in omega arith))
+    c.loop-at.invariant.were_set

@@ -18,9 +18,9 @@ hear_rest-requires g c =
     let x : share p.pass ≡ both_of (share c.split-2.new.self) (share c.in_ok-other.other) = search rules in
     let y : share h.listener ≡ share c.in_ok-ears.ears = search rules in (
       search rules,
-      subst IsAll (sym (c.join.ensures.joined.share ∙ ap (λ (z : Share × Share). both_of z.0 z.1) (λ i. (x i, y i))))
+      subst IsAll (sym (c.join.ensures.same.joined.share ∙ ap (λ (z : Share × Share). both_of z.0 z.1) (λ i. (x i, y i))))
           (split_twice _ _ _ _ _ first half third mine other),
-      c.join.ensures.all,
+      c.join.ensures.same.all,
     )
 
 pub returns-clause-same : goal.returns-clause-same
@@ -31,7 +31,7 @@ returns-clause-same g c =
     let fresh : made c.in_ok-ears.ears ≡ [] = c.in_ok-ears.ensures.cut.right_made in
     let listens : HearsMore [] h.heard.items (made c.in_ok-ears.ears) (made h.listener) = search rules in
     all_heard p.began.0.items p.began.1.items h.heard.items c.in_ok-left.left.items (made p.pass)
-    (made c.in_ok-ears.ears) (made h.listener) (made c.join.new.self) rang fresh listens c.join.ensures.joined.made
+    (made c.in_ok-ears.ears) (made h.listener) (made c.join.new.self) rang fresh listens c.join.ensures.same.joined.made
     c.in_ok-left.ensures
 
 pub returns-clause-all : goal.returns-clause-all
@@ -53,16 +53,16 @@ returns-clause-all g c =
     let two : WereSet c.args.second.now (history p.pass) = search rules in (
       none_lost p.began.0.items p.began.1.items h.heard.items c.in_ok-left.left.items (made p.pass)
           (made c.in_ok-ears.ears) (made h.listener) (made c.join.new.self) rang fresh listens
-          c.join.ensures.joined.made c.in_ok-left.ensures c.args.first.now (history c.join.new.self)
-          (c.join.ensures.all
-          (subst IsAll (sym (c.join.ensures.joined.share ∙ ap (λ (z : Share × Share). both_of z.0 z.1) (λ i. (x i, y i))))
+          c.join.ensures.same.joined.made c.in_ok-left.ensures c.args.first.now (history c.join.new.self)
+          (c.join.ensures.same.all
+          (subst IsAll (sym (c.join.ensures.same.joined.share ∙ ap (λ (z : Share × Share). both_of z.0 z.1) (λ i. (x i, y i))))
           (split_twice _ _ _ _ _ first half third mine other)))
-          (rang_still c.args.first.now (history p.pass) (history c.join.new.self) c.join.ensures.joined.ours one),
+          (rang_still c.args.first.now (history p.pass) (history c.join.new.self) c.join.ensures.same.joined.ours one),
       none_lost p.began.0.items p.began.1.items h.heard.items c.in_ok-left.left.items (made p.pass)
           (made c.in_ok-ears.ears) (made h.listener) (made c.join.new.self) rang fresh listens
-          c.join.ensures.joined.made c.in_ok-left.ensures c.args.second.now (history c.join.new.self)
-          (c.join.ensures.all
-          (subst IsAll (sym (c.join.ensures.joined.share ∙ ap (λ (z : Share × Share). both_of z.0 z.1) (λ i. (x i, y i))))
+          c.join.ensures.same.joined.made c.in_ok-left.ensures c.args.second.now (history c.join.new.self)
+          (c.join.ensures.same.all
+          (subst IsAll (sym (c.join.ensures.same.joined.share ∙ ap (λ (z : Share × Share). both_of z.0 z.1) (λ i. (x i, y i))))
           (split_twice _ _ _ _ _ first half third mine other)))
-          (rang_still c.args.second.now (history p.pass) (history c.join.new.self) c.join.ensures.joined.ours two),
+          (rang_still c.args.second.now (history p.pass) (history c.join.new.self) c.join.ensures.same.joined.ours two),
     )

@@ -10,7 +10,7 @@ returns-clause-rung g c =
     let two = c.in_ok-further in
     let h : HasRung one.rung.items (made one.pass) = search rules in
     let k : HasRung two.also.items (made two.further) = search rules in
-    subst (BothRung one.rung.items two.also.items) (sym c.join.ensures.joined.made)
+    subst (BothRung one.rung.items two.also.items) (sym c.join.ensures.same.joined.made)
     (both_rung one.rung.items two.also.items (made one.pass) (made two.further) h k)
 
 pub returns-clause-all : goal.returns-clause-all
@@ -19,6 +19,6 @@ returns-clause-all g c =
     let two = c.in_ok-further in
     let h : WereSet c.args.first.now (history one.pass) = search rules in
     let k : WereSet c.args.second.now (history two.further) = search rules in (
-      rang_still c.args.first.now (history one.pass) (history c.join.new.self) c.join.ensures.joined.ours h,
-      rang_still c.args.second.now (history two.further) (history c.join.new.self) c.join.ensures.joined.others k,
+      rang_still c.args.first.now (history one.pass) (history c.join.new.self) c.join.ensures.same.joined.ours h,
+      rang_still c.args.second.now (history two.further) (history c.join.new.self) c.join.ensures.same.joined.others k,
     )

@@ -1,19 +1,20 @@
 use Rattle.std.proofs.Common.{rules, ◌≡◌, ◌<◌, Ok, [], ◌∷◌, ◌++◌, refl, sym, subst, ◌∙◌}
 use Rattle.uses_programs.proofs.Names.{All, All-nil, All-push}
 use Rattle.lock_free.specs.RobustUniqueIndexSet.{view, made, capacity_of}
-use Rattle.lock_free.specs.Robust.Told.{HasTaken}
+use Rattle.lock_free.specs.Robust.Contracts.{HasTaken}
 use Rattle.uses_programs.specs.Leases.{HasLeased}
 use Rattle.uses_programs.proofs.Leased.{leased_none, leased_more}
 use Rattle.uses_programs.proofs.leases.lease.Goals as goal
 
 pub loop-init : goal.loop-init
 loop-init g c =
-    let nothing = sym c.new-indices.ensures.items in (
-      refl,
-      refl,
-      subst (All (λ i. i < capacity_of c.args.pool.now)) nothing (All-nil (λ i. i < capacity_of c.args.pool.now)),
-      subst (λ xs. HasLeased xs (made c.args.pass)) nothing (subst (HasLeased []) (sym c.requires.none) leased_none),
-    )
+    let nothing = sym c.new-indices.ensures.items in
+    record {
+      same_set = refl;
+      same_share = refl;
+      within = subst (All (λ i. i < capacity_of c.args.pool.now)) nothing (All-nil (λ i. i < capacity_of c.args.pool.now));
+      leased = subst (λ xs. HasLeased xs (made c.args.pass)) nothing (subst (HasLeased []) (sym c.requires.none) leased_none);
+    }
 
 pub loop-preserved : goal.loop-preserved
 loop-preserved g c =
@@ -21,11 +22,12 @@ loop-preserved g c =
     let was = c.loop.invariant in
     let items : c.push.new.self.items ≡ c.loop.indices.items ++ index ∷ [] = search rules in
     let low : index < capacity_of c.args.pool.now = search rules in
-    let taken : HasTaken c.args.owner (Ok index) (view c.loop.pass) (view c.acquire.new.pass) = search rules in (
-      c.acquire.ensures.goes_on.set ∙ was.0,
-      c.acquire.ensures.goes_on.goes.share ∙ was.1,
-      subst (All (λ i. i < capacity_of c.args.pool.now)) (sym items)
-          (All-push (λ i. i < capacity_of c.args.pool.now) c.loop.indices.items index was.2 low),
-      subst (λ xs. HasLeased xs (made c.acquire.new.pass)) (sym items)
-          (leased_more (view c.loop.pass) (view c.acquire.new.pass) c.loop.indices.items index c.args.owner was.3 taken),
-    )
+    let taken : HasTaken c.args.owner (Ok index) (view c.loop.pass) (view c.acquire.new.pass) = search rules in
+    record {
+      same_set = c.acquire.ensures.same.set ∙ was.same_set;
+      same_share = c.acquire.ensures.same.goes.share ∙ was.same_share;
+      within = subst (All (λ i. i < capacity_of c.args.pool.now)) (sym items)
+          (All-push (λ i. i < capacity_of c.args.pool.now) c.loop.indices.items index was.within low);
+      leased = subst (λ xs. HasLeased xs (made c.acquire.new.pass)) (sym items)
+          (leased_more (view c.loop.pass) (view c.acquire.new.pass) c.loop.indices.items index c.args.owner was.leased taken);
+    }

@@ -1,5 +1,5 @@
 use Rattle.uses_programs.proofs.Names.{Holding}
-use Rattle.uses_programs.proofs.pool.take.Given as goal
+use Rattle.uses_programs.proofs.pool.take.Given as given
 
-abbrev pub invariant-loop : goal.invariant-loop
+abbrev pub invariant-loop : given.invariant-loop
 invariant-loop g l = Holding l.fn.pass l.indices.items l.pass

@@ -5,4 +5,4 @@ pub returns : goal.returns
 returns g c =
     both_hold c.args.pass c.split.new.self c.in_ok-other.other c.in_ok-joined.joined c.in_ok-further.further c.join.new.self
     c.in_ok-joined.indices.items c.in_ok-further.those.items (search rules) c.split.ensures.set (search rules) (search rules)
-    c.join.ensures.joined c.join.ensures.set (search rules)
+    c.join.ensures.same.joined c.join.ensures.same.set (search rules)

@@ -1,5 +1,5 @@
 use Rattle.uses_programs.proofs.Names.{Index, Receiving}
-use Rattle.uses_programs.proofs.relay.receive.Given as goal
+use Rattle.uses_programs.proofs.relay.receive.Given as given
 
-abbrev pub invariant-loop : goal.invariant-loop
+abbrev pub invariant-loop : given.invariant-loop
 invariant-loop g l = Receiving Index l.initial.consumer l.numbers.items l.consumer

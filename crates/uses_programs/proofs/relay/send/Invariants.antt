@@ -1,5 +1,5 @@
 use Rattle.uses_programs.proofs.Names.{take, Index, Sending}
-use Rattle.uses_programs.proofs.relay.send.Given as goal
+use Rattle.uses_programs.proofs.relay.send.Given as given
 
-abbrev pub invariant-loop : goal.invariant-loop
+abbrev pub invariant-loop : given.invariant-loop
 invariant-loop g l = Sending Index l.initial.producer (take l.next l.numbers) l.producer

@@ -1,9 +1,11 @@
 use Rattle.std.proofs.Common.{◌≡◌, ◌<◌, ℕ, List, ◌++◌}
 use Rattle.lock_free.specs.Queues.Overflowing.{consumer_view, consumer_queue}
 use Rattle.lock_free_queues.specs.Queues.Merges.{HasTaken}
-use Rattle.uses_programs.proofs.relay_overflow.drain.Given as goal
+use Rattle.uses_programs.proofs.relay_overflow.drain.Given as given
 
-abbrev pub invariant-loop : goal.invariant-loop
+-- In this order: the queue is the same; the numbers that were taken; they stand last; and they are what the consumer took
+-- out, where the queue has room at all. The second part is a value and not a fact, so it is no record.
+abbrev pub invariant-loop : given.invariant-loop
 invariant-loop g l =
     (consumer_queue l.consumer ≡ consumer_queue l.fn.consumer)
     × (more : List ℕ)

@@ -2,7 +2,7 @@ use Rattle.std.proofs.Common.{rules, arith, ◌≡◌, ◌<◌, ◌-◌, ◌^◌
 use Rattle.uses_programs.proofs.Names.{common_steps, first_view}
 use Rattle.lock_free.specs.Queues.Overflowing.{view, queue_of, consumer_view, consumer_queue}
 use Rattle.lock_free.specs.Queues.Role.TheVariants as roles
-use Rattle.lock_free.specs.Queues.Told.{HasSplit}
+use Rattle.lock_free.specs.Queues.Contracts.{HasSplit}
 use Rattle.lock_free_queues.specs.Queues.Merges.{HasPushedUpTo, HasTaken, HasDrained}
 use Rattle.lock_free_queues.proofs.Queues.Merging.{overflowed}
 use Rattle.uses_programs.proofs.relay_overflow.overflow.Goals as goal

@@ -1,9 +1,9 @@
 use Rattle.std.proofs.Common.{◌≡◌, ◌<◌}
 use Rattle.lock_free.specs.Queues.Overflowing.{view, queue_of, consumer_view, consumer_queue}
 use Rattle.lock_free_queues.specs.Queues.Merges.{HasTaken}
-use Rattle.uses_programs.proofs.relay_overflow.pop_some.Given as goal
+use Rattle.uses_programs.proofs.relay_overflow.pop_some.Given as given
 
-abbrev pub invariant-loop : goal.invariant-loop
+abbrev pub invariant-loop : given.invariant-loop
 invariant-loop g l =
     (consumer_queue l.consumer ≡ queue_of l.fn.pass)
     × (0 < (queue_of l.fn.pass).capacity → HasTaken l.numbers.items (view l.fn.pass) (consumer_view l.consumer))

@@ -1,9 +1,9 @@
 use Rattle.std.proofs.Common.{◌≡◌, ◌<◌, length, take}
 use Rattle.lock_free.specs.Queues.Overflowing.{view, queue_of, producer_view, producer_queue}
 use Rattle.lock_free_queues.specs.Queues.Merges.{HasPushedUpTo}
-use Rattle.uses_programs.proofs.relay_overflow.push_all.Given as goal
+use Rattle.uses_programs.proofs.relay_overflow.push_all.Given as given
 
-abbrev pub invariant-loop-next : goal.invariant-loop-next
+abbrev pub invariant-loop-next : given.invariant-loop-next
 invariant-loop-next l =
     (producer_queue l.producer ≡ queue_of l.fn.pass)
     × (l.next-end ≡ length l.numbers)

@@ -7,12 +7,13 @@ use Rattle.uses_programs.proofs.relay_readings.load_some.Goals as goal
 
 pub loop-done-preserved : goal.loop-done-preserved
 loop-done-preserved g c =
-    let pushed : c.push.new.self.items ≡ c.loop-done.readings.items ++ c.load-reading.result ∷ [] = first_of (search rules, grind (arith, common_steps)) in (
-      search rules,
-      first_of (search rules, grind (arith, common_steps)),
-      first_of (search rules, grind (arith, common_steps)),
-      subst (λ xs. HasRead xs (view c.args.pass) (view c.load-reading.new.pass)) (sym pushed)
+    let pushed : c.push.new.self.items ≡ c.loop-done.readings.items ++ c.load-reading.result ∷ [] = first_of (search rules, grind (arith, common_steps)) in
+    record {
+      same_value = search rules;
+      most = first_of (search rules, grind (arith, common_steps));
+      long = first_of (search rules, grind (arith, common_steps));
+      read = subst (λ xs. HasRead xs (view c.args.pass) (view c.load-reading.new.pass)) (sym pushed)
           (read_more c.loop-done.readings.items c.load-reading.result (view c.args.pass) (view c.loop-done.pass)
-          (view c.load-reading.new.pass) c.loop-done.invariant.3 c.load-reading.ensures.same.goes
-          c.load-reading.ensures.loaded),
-    )
+          (view c.load-reading.new.pass) c.loop-done.invariant.read c.load-reading.ensures.same.goes
+          c.load-reading.ensures.loaded);
+    }

@@ -1,11 +1,13 @@
 use Rattle.std.proofs.Common.{◌≡◌, ◌≤◌, length}
 use Rattle.lock_free.specs.Value.Calls.{view, value_of_pass}
 use Rattle.uses_programs.specs.Readings.{HasRead}
-use Rattle.uses_programs.proofs.relay_readings.load_some.Given as goal
+use Rattle.uses_programs.proofs.relay_readings.load_some.Given as given
 
-abbrev pub invariant-loop-done : goal.invariant-loop-done
+abbrev pub invariant-loop-done : given.invariant-loop-done
 invariant-loop-done g l =
-    (value_of_pass l.pass ≡ value_of_pass l.fn.pass)
-    × (l._done ≤ l.count)
-    × (length l.readings.items ≡ l._done)
-    × HasRead l.readings.items (view l.fn.pass) (view l.pass)
+    record {
+      same_value : value_of_pass l.pass ≡ value_of_pass l.fn.pass;
+      most : l._done ≤ l.count;
+      long : length l.readings.items ≡ l._done;
+      read : HasRead l.readings.items (view l.fn.pass) (view l.pass);
+    }

@@ -1,7 +1,7 @@
 use Rattle.std.proofs.Common.{rules, arith, ◌≡◌}
 use Rattle.uses_programs.proofs.Names.{common_steps, opened_view}
 use Rattle.lock_free.specs.Value.Calls.{view}
-use Rattle.lock_free.specs.Value.Told.{HasSplit}
+use Rattle.lock_free.specs.Value.Contracts.{HasSplit}
 use Rattle.uses_programs.specs.Readings.{HasWritten, HasRead}
 use Rattle.uses_programs.proofs.Readings.{all_seen, last_is}
 use Rattle.uses_programs.proofs.relay_readings.show.Goals as goal
@@ -12,7 +12,7 @@ returns-clause-seen g c =
     let cut : HasSplit (view c.in-Ok.mine) (view c.split.new.self) (view c.in_ok-other.other) = search rules in
     let wrote : HasWritten c.args.readings.now (view c.split.new.self) (view c.in_ok-pass.pass) = search rules in
     let read : HasRead c.in_ok-further.seen.items (view c.in_ok-other.other) (view c.in_ok-further.further) = search rules in
-    all_seen c.args.first c.args.readings.now c.in_ok-further.seen.items _ _ _ _ _ _ first cut wrote read c.join.ensures.joined c.join.ensures.all
+    all_seen c.args.first c.args.readings.now c.in_ok-further.seen.items _ _ _ _ _ _ first cut wrote read c.join.ensures.same.joined c.join.ensures.same.all
 
 pub returns-clause-last : goal.returns-clause-last
 returns-clause-last g c =
@@ -21,5 +21,5 @@ returns-clause-last g c =
     let wrote : HasWritten c.args.readings.now (view c.split.new.self) (view c.in_ok-pass.pass) = search rules in
     let read : HasRead c.in_ok-further.seen.items (view c.in_ok-other.other) (view c.in_ok-further.further) = search rules in
     last_is c.args.first c.args.readings.now c.in_ok-further.seen.items _ _ _ _ _ _ first cut wrote read
-    c.join.ensures.joined c.join.ensures.all c.load-last.result _ c.load-last.ensures.same.goes
+    c.join.ensures.same.joined c.join.ensures.same.all c.load-last.result _ c.load-last.ensures.same.goes
     c.load-last.ensures.loaded

@@ -1,9 +1,9 @@
 use Rattle.std.proofs.Common.{◌≡◌, length, take}
 use Rattle.lock_free.specs.Value.Calls.{view, value_of_pass, producer_view, value_of_producer}
 use Rattle.uses_programs.specs.Readings.{HasWritten}
-use Rattle.uses_programs.proofs.relay_readings.write.Given as goal
+use Rattle.uses_programs.proofs.relay_readings.write.Given as given
 
-abbrev pub invariant-loop-next : goal.invariant-loop-next
+abbrev pub invariant-loop-next : given.invariant-loop-next
 invariant-loop-next l =
     (value_of_producer l.producer ≡ value_of_pass l.fn.pass)
     × (l.next-end ≡ length l.readings)

@@ -15,7 +15,7 @@ read_counts-requires-clause-whole g c =
     let other : share c.in_ok-other.other ≡ half_of (share c.split.new.self) = c.in_ok-other.ensures.cut.right_share in
     let x : share c.in_ok-pass.pass ≡ both_of (share c.split-2.new.self) (share c.in_ok-other.other) = search rules in
     let y : share c.join-rung.result.1 ≡ share c.in_ok-taker.taker = search rules in
-    subst IsAll (sym (c.join.ensures.joined.share ∙ ap (λ (z : Share × Share). both_of z.0 z.1) (λ i. (x i, y i))))
+    subst IsAll (sym (c.join.ensures.same.joined.share ∙ ap (λ (z : Share × Share). both_of z.0 z.1) (λ i. (x i, y i))))
     (split_twice _ _ _ _ _ first half third mine other)
 
 pub returns : goal.returns
@@ -30,12 +30,12 @@ returns g c bell lt =
     let x : share c.in_ok-pass.pass ≡ both_of (share c.split-2.new.self) (share c.in_ok-other.other) = search rules in
     let y : share c.join-rung.result.1 ≡ share c.in_ok-taker.taker = search rules in
     let all =
-    c.join.ensures.all (subst IsAll (sym (c.join.ensures.joined.share ∙ ap (λ (z : Share × Share). both_of z.0 z.1) (λ i. (x i, y i))))
+    c.join.ensures.same.all (subst IsAll (sym (c.join.ensures.same.joined.share ∙ ap (λ (z : Share × Share). both_of z.0 z.1) (λ i. (x i, y i))))
     (split_twice _ _ _ _ _ first half third mine other)) in
     let rang : BothCount c.args.first.now c.args.second.now (made rung) = search rules in
     let fresh : made c.in_ok-taker.taker ≡ [] = c.in_ok-taker.ensures.cut.right_made in
     let never : CountsNone (made c.in_ok-taker.taker) (made c.join-rung.result.1) = search rules in
-    let seen_within = takes_within _ (history joined) c.join.ensures.history bell in
+    let seen_within = takes_within _ (history joined) c.join.ensures.same.history bell in
     let a : counts bell (history joined) ≡ counts bell (made joined) = all (λ e. cond (is_count_of bell e) 1 0) in
     let b : takes bell (history joined) ≡ takes bell (made joined) = all (take_of bell) in
     let within : takes bell (made joined) ≤ counts bell (made joined) = omega arith in
@@ -43,7 +43,7 @@ returns g c bell lt =
     let sum =
     adds_up bell (times bell c.args.first.now) (times bell c.args.second.now) (made rung) (made c.in_ok-taker.taker)
     (made c.join-rung.result.1) (made joined) (rang.counted bell) (rang.taken bell) fresh (never.counted bell)
-    c.join.ensures.joined.made (fewer bell c.args.first.now c.args.second.now few) within in
+    c.join.ensures.same.joined.made (fewer bell c.args.first.now c.args.second.now few) within in
     let last = c.in_ok-left.ensures.counts bell (search rules) in
     let taken = c.in_ok-left.ensures.taken bell in
     omega arith

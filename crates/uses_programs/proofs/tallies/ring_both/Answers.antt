@@ -10,5 +10,5 @@ returns-clause-counted g c =
     let two = c.in_ok-further.further in
     let h : CountsThese c.args.first.now (made one) = search rules in
     let k : CountsThese c.args.second.now (made two) = search rules in
-    subst (BothCount c.args.first.now c.args.second.now) (sym c.join.ensures.joined.made)
+    subst (BothCount c.args.first.now c.args.second.now) (sym c.join.ensures.same.joined.made)
     (both_counted c.args.first.now c.args.second.now (made one) (made two) h k)

@@ -8,8 +8,8 @@ loop-init c = (refl, refl, record { counted = λ bell. refl })
 
 pub loop-preserved : goal.loop-preserved
 loop-preserved c = (
-  c.reset_all.ensures.goes_on.set ∙ c.loop.invariant.0,
-  c.reset_all.ensures.goes_on.share ∙ c.loop.invariant.1,
+  c.reset_all.ensures.same.set ∙ c.loop.invariant.0,
+  c.reset_all.ensures.same.share ∙ c.loop.invariant.1,
   record {
     counted =
         λ bell. (take_adds (view c.loop.pass) (view c.reset_all.new.pass) _ _ _ c.reset_all.ensures.taken bell).0

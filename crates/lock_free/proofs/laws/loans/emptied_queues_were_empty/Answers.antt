@@ -1,4 +1,4 @@
-use Rattle.lock_free.proofs.Loan.Told.{emptied_once}
+use Rattle.lock_free.proofs.Loan.Contracts.{emptied_once}
 use Rattle.lock_free.proofs.laws.loans.emptied_queues_were_empty.Goals as goal
 
 pub returns : goal.returns

@@ -1,4 +1,4 @@
-use Rattle.lock_free.proofs.Loan.Told.{claims_in_turn, freed_in_turn}
+use Rattle.lock_free.proofs.Loan.Contracts.{claims_in_turn, freed_in_turn}
 use Rattle.lock_free.proofs.laws.loans.frees_are_counted.Goals as goal
 
 pub returns-clause-freed : goal.returns-clause-freed

@@ -5,8 +5,8 @@ ghost use Rattle.model.specs.declared.event.Answer.TheVariants.{Number, Truth};
 ghost use Rattle.model.specs.declared.families.indices.IndexStart.TheVariants as starts;
 ghost use Rattle.model.specs.Families.Indices.Reading.{is_locked};
 ghost use Rattle.lock_free.specs.Unique.Held.{HeldBy, HoldsNothing, HoldsAll};
-ghost use Rattle.lock_free.specs.Unique.Told.{HasAcquired, WasRefused, HasCounted, HasLooked, Answered};
-ghost use Rattle.lock_free.specs.UniqueIndexSet.{capacity_of, IsPassOf, history, made, value_of, index_pass, index_view, GoesOn};
+ghost use Rattle.lock_free.specs.Unique.Contracts.{HasAcquired, WasRefused, HasCounted, HasLooked, Answered};
+ghost use Rattle.lock_free.specs.UniqueIndexSet.{capacity_of, IsPassOf, history, made, value_of, index_pass, index_view, SamePass};
 ghost use Rattle.history.specs.Passes.{HasSplit};
 ghost use Rattle.lock_free.specs.Unique.Handles.{set_in, pass_in, knows};
 ghost use Rattle.model.specs.declared.turn.Kind.TheVariants as kinds;
@@ -66,9 +66,9 @@ impl<'a> Handle<'a> {
         self,
         rt: &impl Wait,
     ) -> Result<UniqueIndex<'a>, (UniqueIndexSetAcquireFailure, Handle<'a>)>
-        ensures goes_on { IfOk result (λ i. GoesOn (pass_in self.entry) (index_pass i)) }
+        ensures same { IfOk result (λ i. SamePass (pass_in self.entry) (index_pass i)) }
         ensures acquired { IfOk result (λ i. HasAcquired (value_of i) (knows self.entry) (index_view i)) }
-        ensures refused_goes_on { IfErr result (λ r. GoesOn (pass_in self.entry) (pass_in r.1)) }
+        ensures refused_same { IfErr result (λ r. SamePass (pass_in self.entry) (pass_in r.1)) }
         ensures refused { IfErr result (λ r. WasRefused r.0 (knows self.entry) (knows r.1)) }
         ensures steps { IfOk result (λ i. TakesAlone one_word kinds.Indices (capacity_of (set_in self.entry))
             (4 + capacity_of (set_in self.entry)) (max 2 (capacity_of (set_in self.entry)))
@@ -87,7 +87,7 @@ impl<'a> Handle<'a> {
     /// Calls `UniqueIndexSet::borrowed_indices`, with its pass.
     pub fn borrowed_indices(&mut self) -> usize
         ensures set { set_in self.new ≡ set_in self.old }
-        ensures goes_on { GoesOn (pass_in self.old) (pass_in self.new) }
+        ensures same { SamePass (pass_in self.old) (pass_in self.new) }
         ensures counted { HasCounted result (knows self.old) (knows self.new) }
         ensures answered { Answered starts.BorrowedIndices (Number result) (knows self.old) (knows self.new) }
         ensures least { (is : List ℕ) → HeldBy is (made (pass_in self.new)) → length is ≤ result }
@@ -101,7 +101,7 @@ impl<'a> Handle<'a> {
     /// Calls `UniqueIndexSet::is_locked`, with its pass.
     pub fn is_locked(&mut self) -> bool
         ensures set { set_in self.new ≡ set_in self.old }
-        ensures goes_on { GoesOn (pass_in self.old) (pass_in self.new) }
+        ensures same { SamePass (pass_in self.old) (pass_in self.new) }
         ensures looked { HasLooked result (knows self.old) (knows self.new) }
         ensures answered { Answered starts.IsLocked (Truth result) (knows self.old) (knows self.new) }
         ensures nothing { IsTrue result → HoldsNothing (made (pass_in self.new)) }

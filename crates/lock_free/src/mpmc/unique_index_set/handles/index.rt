@@ -5,8 +5,8 @@ ghost use Rattle.steps.specs.declared.indices.enums.ReleaseState.TheVariants.{Lo
 ghost use Rattle.model.specs.declared.event.Answer.TheVariants.{State};
 ghost use Rattle.model.specs.declared.families.indices.IndexStart.TheVariants as starts;
 ghost use Rattle.lock_free.specs.Unique.Held.{HoldsNothing, HoldsSome};
-ghost use Rattle.lock_free.specs.Unique.Told.{HasGiven, HasGivenOrLocked, Answered};
-ghost use Rattle.lock_free.specs.UniqueIndexSet.{made, value_of, index_set, index_pass, index_view, GoesOn};
+ghost use Rattle.lock_free.specs.Unique.Contracts.{HasGiven, HasGivenOrLocked, Answered};
+ghost use Rattle.lock_free.specs.UniqueIndexSet.{made, value_of, index_set, index_pass, index_view, SamePass};
 ghost use Rattle.lock_free.specs.Unique.Handles.{pass_in, knows};
 ghost use Rattle.model.specs.declared.turn.Kind.TheVariants as kinds;
 ghost use Rattle.model.specs.Coding.{one_word};
@@ -20,7 +20,7 @@ use steps::indices::enums::ReleaseState;
 impl<'a> UniqueIndex<'a> {
     /// Gives the index back as `release` does, and returns the handle. This project's own.
     pub fn give_back(self) -> Handle<'a>
-        ensures goes_on { GoesOn (index_pass self.entry) (pass_in result) }
+        ensures same { SamePass (index_pass self.entry) (pass_in result) }
         ensures given { HasGiven (value_of self.entry) Unlocked (index_view self.entry) (knows result) }
         ensures steps { TakesAtMost 5 (index_view self.entry) (knows result) }
     {
@@ -36,7 +36,7 @@ impl<'a> UniqueIndex<'a> {
     /// Gives the index back as `UniqueIndexSet::release_or_lock` does, and returns its answer and the handle. This
     /// project's own.
     pub fn give_back_or_lock(self, rt: &impl Wait) -> (ReleaseState, Handle<'a>)
-        ensures goes_on { GoesOn (index_pass self.entry) (pass_in result.1) }
+        ensures same { SamePass (index_pass self.entry) (pass_in result.1) }
         ensures given { HasGivenOrLocked (value_of self.entry) result.0 (index_view self.entry) (knows result.1) }
         ensures answered { Answered (starts.Release (value_of self.entry) modes.LockIfLastIndex) (State result.0)
             (index_view self.entry) (knows result.1) }

@@ -6,10 +6,11 @@ ghost use Rattle.model.specs.declared.event.Answer.TheVariants.{Number, Truth};
 ghost use Rattle.model.specs.declared.families.container.ContainerStart.TheVariants as starts;
 ghost use Rattle.model.specs.Families.Container.Calls.{removed, replaced};
 ghost use Rattle.model.specs.Families.Indices.Reading.{is_locked};
-ghost use Rattle.lock_free_owners.specs.Robust.Told.{WasFilled, WasGranted, WasFreed, HasReleased, FoundLock};
+ghost use Rattle.lock_free_owners.specs.Robust.Contracts.{WasFilled, WasGranted, WasFreed, HasReleased, FoundLock};
 ghost use Rattle.lock_free_owners.specs.Container.Steps.{TakesFew, ContainerTakes, RemoveTakes};
-ghost use Rattle.lock_free_owners.specs.Container.Told.{placed, HasAdded, HasRemoved, HasReplaced, HasCounted, HasTested, HasLooked, Answered, WasNotAdded};
-ghost use Rattle.lock_free_owners.specs.Container.Names.{history, code_of, capacity_of, IsPassOf, IsHandleFor, IsOwn, GoesOn};
+ghost use Rattle.lock_free_owners.specs.Container.Contracts.{placed, HasAdded, HasRemoved, HasReplaced, HasCounted};
+ghost use Rattle.lock_free_owners.specs.Container.Contracts.{HasTested, HasLooked, Answered, WasNotAdded};
+ghost use Rattle.lock_free_owners.specs.Container.Names.{history, code_of, capacity_of, IsPassOf, IsHandleFor, IsOwn, SamePass};
 ghost use Rattle.history.specs.ContainerLooks.{KeepsState};
 ghost use Rattle.history.specs.Passes.{HasSplit};
 ghost use Rattle.history.specs.Steps.{TakesAtMost};
@@ -79,7 +80,7 @@ impl<'a, T: Words> Handle<'a, T> {
         owner: OwnerId,
     ) -> Result<ContainerHandle, ContainerAddFailure>
         ensures container { container_in self.new ≡ container_in self.old }
-        ensures goes_on { GoesOn (pass_in self.old) (pass_in self.new) }
+        ensures same { SamePass (pass_in self.old) (pass_in self.new) }
         ensures keeps { KeepsState (knows self.old) (knows self.new) }
         ensures handle { IfOk result (IsHandleFor (container_in self.old) owner) }
         ensures added { HasAdded (code_of (pass_in self.old)) (record { value = value; owner = owner }) (placed
@@ -107,7 +108,7 @@ impl<'a, T: Words> Handle<'a, T> {
         ensures container { container_in self.new ≡ container_in self.old }
         ensures foreign { (IsOwn (container_in self.old) handle → ⊥)
             → (result ≡ Err NotOwned) × (knows self.new ≡ knows self.old) }
-        ensures goes_on { IsOwn (container_in self.old) handle → GoesOn (pass_in self.old) (pass_in self.new) }
+        ensures same { IsOwn (container_in self.old) handle → SamePass (pass_in self.old) (pass_in self.new) }
         ensures keeps { IsOwn (container_in self.old) handle → KeepsState (knows self.old) (knows self.new) }
         ensures own { OnOk result (IsOwn (container_in self.old) handle) }
         ensures removed { IsOwn (container_in self.old) handle → HasRemoved (code_of (pass_in self.old))
@@ -128,7 +129,7 @@ impl<'a, T: Words> Handle<'a, T> {
         ensures container { container_in self.new ≡ container_in self.old }
         ensures foreign { (IsOwn (container_in self.old) handle → ⊥)
             → (result ≡ Err NotOwned) × (knows self.new ≡ knows self.old) }
-        ensures goes_on { IsOwn (container_in self.old) handle → GoesOn (pass_in self.old) (pass_in self.new) }
+        ensures same { IsOwn (container_in self.old) handle → SamePass (pass_in self.old) (pass_in self.new) }
         ensures keeps { IsOwn (container_in self.old) handle → KeepsState (knows self.old) (knows self.new) }
         ensures own { OnOk result (IsOwn (container_in self.old) handle) }
         ensures replaced { IsOwn (container_in self.old) handle → HasReplaced (code_of (pass_in self.old))
@@ -144,7 +145,7 @@ impl<'a, T: Words> Handle<'a, T> {
     /// Calls `Container::len`, with its pass.
     pub fn len(&mut self, rt: &impl Wait) -> usize
         ensures container { container_in self.new ≡ container_in self.old }
-        ensures goes_on { GoesOn (pass_in self.old) (pass_in self.new) }
+        ensures same { SamePass (pass_in self.old) (pass_in self.new) }
         ensures keeps { KeepsState (knows self.old) (knows self.new) }
         ensures counted { HasCounted (code_of (pass_in self.old)) result (knows self.old) (knows self.new) }
         ensures answered { Answered (code_of (pass_in self.old)) starts.Len (Number result)
@@ -160,7 +161,7 @@ impl<'a, T: Words> Handle<'a, T> {
     /// Calls `Container::is_empty`, with its pass.
     pub fn is_empty(&mut self, rt: &impl Wait) -> bool
         ensures container { container_in self.new ≡ container_in self.old }
-        ensures goes_on { GoesOn (pass_in self.old) (pass_in self.new) }
+        ensures same { SamePass (pass_in self.old) (pass_in self.new) }
         ensures keeps { KeepsState (knows self.old) (knows self.new) }
         ensures tested { HasTested (code_of (pass_in self.old)) result (knows self.old) (knows self.new) }
         ensures answered { Answered (code_of (pass_in self.old)) starts.IsEmpty (Truth result)
@@ -175,7 +176,7 @@ impl<'a, T: Words> Handle<'a, T> {
     /// Calls `Container::is_locked`, with its pass.
     pub fn is_locked(&mut self) -> bool
         ensures container { container_in self.new ≡ container_in self.old }
-        ensures goes_on { GoesOn (pass_in self.old) (pass_in self.new) }
+        ensures same { SamePass (pass_in self.old) (pass_in self.new) }
         ensures keeps { KeepsState (knows self.old) (knows self.new) }
         ensures looked { HasLooked (code_of (pass_in self.old)) result (knows self.old) (knows self.new) }
         ensures answered { Answered (code_of (pass_in self.old)) starts.IsLocked (Truth result)

@@ -2,9 +2,9 @@
 ghost use Rattle.std.specs.Prelude.{◌≡◌, ◌↔◌, IsTrue, IsFalse, IfOk, IfErr};
 ghost use Rattle.history.specs.ContainerLooks.{ShowsCopied};
 ghost use Rattle.lock_free_owners.specs.Container.Bare.{IsCounted};
-ghost use Rattle.lock_free_owners.specs.Container.Names.{capacity_of, code_of, IsStateOf, IsLeft, IsLatestState, GoesOn};
+ghost use Rattle.lock_free_owners.specs.Container.Names.{capacity_of, code_of, IsStateOf, IsLeft, IsLatestState, SamePass};
 ghost use Rattle.lock_free_owners.specs.Container.Steps.{LookTakes};
-ghost use Rattle.lock_free_owners.specs.Container.Told.{HasGotState, HasUpdatedState, HasMet};
+ghost use Rattle.lock_free_owners.specs.Container.Contracts.{HasGotState, HasUpdatedState, HasMet};
 ghost use Rattle.lock_free_owners.specs.Container.Handles.{container_in, pass_in, knows};
 
 use super::Handle;
@@ -16,7 +16,7 @@ impl<'a, T: Words> Handle<'a, T> {
     /// Calls `Container::get_state`, with its pass.
     pub fn get_state(&mut self, rt: &impl Wait) -> Result<ContainerState<T>, ContainerStateError>
         ensures container { container_in self.new ≡ container_in self.old }
-        ensures goes_on { IfOk result (λ s. GoesOn (pass_in self.old) (pass_in self.new)) }
+        ensures same { IfOk result (λ s. SamePass (pass_in self.old) (pass_in self.new)) }
         ensures got { IfOk result (λ s. HasGotState (code_of (pass_in self.old)) s (knows self.old) (knows self.new)) }
         ensures latest { IfOk result (IsLatestState (pass_in self.new)) }
         ensures shows { IfOk result (λ s. ShowsCopied s.shown (knows self.new)) }
@@ -32,7 +32,7 @@ impl<'a, T: Words> Handle<'a, T> {
     pub fn update_state(&mut self, rt: &impl Wait, state: &mut ContainerState<T>) -> bool
         requires { IsStateOf (container_in self.old) state.old }
         ensures container { container_in self.new ≡ container_in self.old }
-        ensures goes_on { IsLatestState (pass_in self.old) state.old → GoesOn (pass_in self.old) (pass_in self.new) }
+        ensures same { IsLatestState (pass_in self.old) state.old → SamePass (pass_in self.old) (pass_in self.new) }
         ensures updated { IsLatestState (pass_in self.old) state.old
             → HasUpdatedState (code_of (pass_in self.old)) result (knows self.old) (knows self.new) }
         ensures met { IsLatestState (pass_in self.old) state.old → HasMet result (knows self.old) (knows self.new) }

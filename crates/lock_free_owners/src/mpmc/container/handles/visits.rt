@@ -6,14 +6,14 @@ ghost use Rattle.model.specs.declared.turn.Kind.TheVariants as kinds;
 ghost use Rattle.model.specs.Families.Indices.Reading.{is_locked};
 ghost use Rattle.history.specs.ContainerLooks.{KeepsState};
 ghost use Rattle.history.specs.Passes.{Goes};
-ghost use Rattle.lock_free_owners.specs.Robust.Told.{FoundState};
+ghost use Rattle.lock_free_owners.specs.Robust.Contracts.{FoundState};
 ghost use Rattle.lock_free_owners.specs.Container.Callable.{Visit, TakesVisits, HasFound};
-ghost use Rattle.lock_free_owners.specs.Container.FindTold.{HasSearched};
+ghost use Rattle.lock_free_owners.specs.Container.FindContract.{HasSearched};
 ghost use Rattle.lock_free_owners.specs.Container.Questions.{TakesValues};
-ghost use Rattle.lock_free_owners.specs.Container.RecoverTold.{HasRecovered};
+ghost use Rattle.lock_free_owners.specs.Container.RecoverContract.{HasRecovered};
 ghost use Rattle.lock_free_owners.specs.Container.Steps.{FindTakes, RecoverTakes};
-ghost use Rattle.lock_free_owners.specs.Container.Told.{Answered};
-ghost use Rattle.lock_free_owners.specs.Container.Names.{history, code_of, capacity_of, IsHandleFor, GoesOn};
+ghost use Rattle.lock_free_owners.specs.Container.Contracts.{Answered};
+ghost use Rattle.lock_free_owners.specs.Container.Names.{history, code_of, capacity_of, IsHandleFor, SamePass};
 ghost use Rattle.lock_free_owners.specs.Container.Handles.{container_in, pass_in, knows};
 
 use super::Handle;
@@ -56,7 +56,7 @@ impl<'a, T: Words> Handle<'a, T> {
         requires { is_locked (history (pass_in self.old)) ≡ false → TakesValues F.pre
             (λ p x b q. F.step p x b q) (capacity_of (container_in self.old)) predicate.old }
         ensures container { container_in self.new ≡ container_in self.old }
-        ensures goes_on { GoesOn (pass_in self.old) (pass_in self.new) }
+        ensures same { SamePass (pass_in self.old) (pass_in self.new) }
         ensures keeps { KeepsState (knows self.old) (knows self.new) }
         ensures recovered { HasRecovered (code_of (pass_in self.old)) (λ p x b q. F.step p x b q)
             (record { owner = owner; mode = mode }) result (capacity_of (container_in self.old)) predicate.old

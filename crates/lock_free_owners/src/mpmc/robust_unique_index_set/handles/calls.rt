@@ -8,9 +8,9 @@ ghost use Rattle.model.specs.Families.Indices.Robust.Calls.{release_answer};
 ghost use Rattle.history.specs.Passes.{HasSplit};
 ghost use Rattle.history.specs.Steps.{TakesAtMost};
 ghost use Rattle.lock_free_owners.specs.Robust.Steps.{SetTakes, ReleaseTakes};
-ghost use Rattle.lock_free_owners.specs.Robust.Told.{HasTaken, HasGiven, HasCounted, HasLooked, WasFilled, WasGranted};
-ghost use Rattle.lock_free_owners.specs.Robust.Told.{WasFreed, WasRefused, Answered, HasReleased, FoundLock};
-ghost use Rattle.lock_free_owners.specs.RobustUniqueIndexSet.{capacity_of, IsPassOf, GoesOn, history};
+ghost use Rattle.lock_free_owners.specs.Robust.Contracts.{HasTaken, HasGiven, HasCounted, HasLooked, WasFilled, WasGranted};
+ghost use Rattle.lock_free_owners.specs.Robust.Contracts.{WasFreed, WasRefused, Answered, HasReleased, FoundLock};
+ghost use Rattle.lock_free_owners.specs.RobustUniqueIndexSet.{capacity_of, IsPassOf, SamePass, history};
 ghost use Rattle.lock_free_owners.specs.Robust.Handles.{set_in, pass_in, knows};
 
 use super::Handle;
@@ -69,7 +69,7 @@ impl<'a> Handle<'a> {
         owner: OwnerId,
     ) -> Result<usize, UniqueIndexSetAcquireFailure>
         ensures set { set_in self.new ≡ set_in self.old }
-        ensures goes_on { GoesOn (pass_in self.old) (pass_in self.new) }
+        ensures same { SamePass (pass_in self.old) (pass_in self.new) }
         ensures taken { HasTaken owner result (knows self.old) (knows self.new) }
         ensures within { IfOk result (λ index. index < capacity_of (set_in self.old)) }
         ensures filled { IfOk result (λ index. WasFilled index owner (knows self.old) (knows self.new)) }
@@ -92,7 +92,7 @@ impl<'a> Handle<'a> {
     ) -> Result<ReleaseState, RobustUniqueIndexSetReleaseError>
         requires { index < capacity_of (set_in self.old) }
         ensures set { set_in self.new ≡ set_in self.old }
-        ensures goes_on { GoesOn (pass_in self.old) (pass_in self.new) }
+        ensures same { SamePass (pass_in self.old) (pass_in self.new) }
         ensures given { HasGiven (record { index = index; owner = owner; mode = mode }) result
             (knows self.old) (knows self.new) }
         ensures freed { OnOk result (WasFreed index owner (knows self.old) (knows self.new)) }
@@ -107,7 +107,7 @@ impl<'a> Handle<'a> {
     /// Calls `RobustUniqueIndexSet::is_locked`, with its pass.
     pub fn is_locked(&mut self) -> bool
         ensures set { set_in self.new ≡ set_in self.old }
-        ensures goes_on { GoesOn (pass_in self.old) (pass_in self.new) }
+        ensures same { SamePass (pass_in self.old) (pass_in self.new) }
         ensures looked { HasLooked result (knows self.old) (knows self.new) }
         ensures answered { Answered starts.IsLocked (Truth result) (knows self.old) (knows self.new) }
         ensures lock { FoundLock result (knows self.old) (knows self.new) }
@@ -119,7 +119,7 @@ impl<'a> Handle<'a> {
     /// Calls `RobustUniqueIndexSet::borrowed_indices`, with its pass.
     pub fn borrowed_indices(&mut self, rt: &impl Wait) -> usize
         ensures set { set_in self.new ≡ set_in self.old }
-        ensures goes_on { GoesOn (pass_in self.old) (pass_in self.new) }
+        ensures same { SamePass (pass_in self.old) (pass_in self.new) }
         ensures counted { HasCounted result (knows self.old) (knows self.new) }
         ensures answered { Answered starts.BorrowedIndices (Number result) (knows self.old) (knows self.new) }
         ensures most { result ≤ capacity_of (set_in self.old) }

@@ -8,8 +8,8 @@ ghost use Rattle.history.specs.Steps.{TakesAtMost};
 ghost use Rattle.threaded.specs.Callable.{TakesPlaces};
 ghost use Rattle.lock_free_owners.specs.Robust.Callable.{TakesQuestions, TakesFreed};
 ghost use Rattle.lock_free_owners.specs.Robust.Steps.{RecoverTakes};
-ghost use Rattle.lock_free_owners.specs.Robust.Told.{HasRecovered, HasSearched, Answered, FoundState};
-ghost use Rattle.lock_free_owners.specs.RobustUniqueIndexSet.{capacity_of, history, GoesOn};
+ghost use Rattle.lock_free_owners.specs.Robust.Contracts.{HasRecovered, HasSearched, Answered, FoundState};
+ghost use Rattle.lock_free_owners.specs.RobustUniqueIndexSet.{capacity_of, history, SamePass};
 ghost use Rattle.lock_free_owners.specs.Robust.Handles.{set_in, pass_in, knows};
 
 use super::Handle;
@@ -26,7 +26,7 @@ impl<'a> Handle<'a> {
     ) -> usize
         requires { TakesPlaces F.pre (λ p x q. F.step p x Continue q) (capacity_of (set_in self.old)) visit.old }
         ensures set { set_in self.new ≡ set_in self.old }
-        ensures goes_on { GoesOn (pass_in self.old) (pass_in self.new) }
+        ensures same { SamePass (pass_in self.old) (pass_in self.new) }
         ensures found { HasSearched (λ p x a q. F.step p x a q) (capacity_of (set_in self.old)) owner
             visit.old result visit.new (knows self.old) (knows self.new) }
         ensures steps { TakesAtMost (capacity_of (set_in self.old) + 1) (knows self.old) (knows self.new) }
@@ -48,7 +48,7 @@ impl<'a> Handle<'a> {
             (λ p o i b q. F.step p o i b q) S.pre (λ s o i t. S.step s o i tt t)
             (capacity_of (set_in self.old)) predicate.old recover_success.old }
         ensures set { set_in self.new ≡ set_in self.old }
-        ensures goes_on { GoesOn (pass_in self.old) (pass_in self.new) }
+        ensures same { SamePass (pass_in self.old) (pass_in self.new) }
         ensures recovered { HasRecovered (λ p o i b q. F.step p o i b q) (λ s o i t. S.step s o i tt t) mode result
             predicate.old recover_success.old predicate.new recover_success.new (knows self.old) (knows self.new) }
         ensures answered { Answered (starts.Recover mode) (State result) (knows self.old) (knows self.new) }

@@ -8,7 +8,7 @@ ghost use Rattle.history.specs.Steps.{TakesAtMost, TakesAlone};
 ghost use Rattle.lock_free_queues.specs.Queues.Bounded.{machine_kind};
 ghost use Rattle.lock_free_queues.specs.Queues.Kinds.{most_waiting};
 ghost use Rattle.lock_free_queues.specs.Queues.Rings.{capacity_of, queue_of, producer_view, consumer_view, IsPassOf, ToProducer, ToConsumer};
-ghost use Rattle.lock_free_queues.specs.Queues.Told.{HasAcquired, HasMeasured, HasSplit, HasLooked};
+ghost use Rattle.lock_free_queues.specs.Queues.Contracts.{HasAcquired, HasMeasured, HasSplit, HasLooked};
 ghost use Rattle.lock_free_queues.specs.Queues.Handles.{ring_in, pass_in, knows, SameHandle};
 
 use super::Handle;
@@ -108,7 +108,7 @@ impl<'a, E: Kind, T: Words> Handle<'a, E, T> {
     /// Calls `is_empty` of its queue, with its pass.
     pub fn is_empty(&mut self, rt: &impl Wait) -> bool
         ensures same { SameHandle self.old self.new }
-        ensures told { HasMeasured measures.IsEmpty (capacity_of (ring_in self.old)) (Truth result)
+        ensures measured { HasMeasured measures.IsEmpty (capacity_of (ring_in self.old)) (Truth result)
             (knows self.old) (knows self.new) }
         ensures steps { TakesAlone (coding_of T.WORDS T.words_of T.value_of) (machine_kind E.KIND) (queue_of
             (pass_in self.old)).capacity 4 4
@@ -120,7 +120,7 @@ impl<'a, E: Kind, T: Words> Handle<'a, E, T> {
     /// Calls `is_full` of its queue, with its pass.
     pub fn is_full(&mut self, rt: &impl Wait) -> bool
         ensures same { SameHandle self.old self.new }
-        ensures told { HasMeasured measures.IsFull (capacity_of (ring_in self.old)) (Truth result)
+        ensures measured { HasMeasured measures.IsFull (capacity_of (ring_in self.old)) (Truth result)
             (knows self.old) (knows self.new) }
         ensures steps { TakesAlone (coding_of T.WORDS T.words_of T.value_of) (machine_kind E.KIND) (queue_of
             (pass_in self.old)).capacity 4 4

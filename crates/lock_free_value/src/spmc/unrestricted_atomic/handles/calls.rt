@@ -4,7 +4,7 @@ ghost use Rattle.model.specs.Coding.{coding_of};
 ghost use Rattle.model.specs.declared.turn.Kind.TheVariants as kinds;
 ghost use Rattle.history.specs.Steps.{TakesAtMost, TakesAlone};
 ghost use Rattle.lock_free_value.specs.Calls.{IsPassOf, value_of_pass, producer_view, ToProducer};
-ghost use Rattle.lock_free_value.specs.Told.{HasAcquired, HasLoaded, HasSplit};
+ghost use Rattle.lock_free_value.specs.ValueContracts.{HasAcquired, HasLoaded, HasSplit};
 ghost use Rattle.lock_free_value.specs.Handles.{value_in, pass_in, knows, SameHandle};
 
 use super::Handle;

@@ -1,5 +1,5 @@
 use Rattle.lock_free.proofs.Names.{◌≡◌, ◌<◌, ℕ, ◌++◌, rules, sym, ap, subst, ◌∙◌, arith, TableId, one_word, View, seen}
-use Rattle.lock_free.proofs.Names.{joined_view, Looks, joins}
+use Rattle.lock_free.proofs.Names.{joined_view, Looks, IsAll, IsHistory, joins}
 use Rattle.model.specs.declared.turn.Kind.TheVariants as kinds
 use Rattle.threaded.specs.Seats.{table_of, key_of}
 use Rattle.threaded.proofs.Shares.{positive}
@@ -42,8 +42,29 @@ returns-clause-apart c i mine theirs =
     subst (λ (z : View ℕ). Looks one_word kinds.Indices z.capacity z w) is c.look.ensures.told.0 in
     apart v other w i looks mine theirs
 
-pub returns-clause-sound : goal.returns-clause-sound
-returns-clause-sound c = sound _ c.look.new.self.seat.me.0 c.look.ensures.told.0.capacity c.look.ensures.told.0.history c.look.ensures.told.0.parties
+pub returns-clause-same : goal.returns-clause-same
+returns-clause-same c =
+    let mine = c.args.self.now in
+    let v = mine.seated.seat.me.0 in
+    let other = c.args.other.seated.seat.me.0 in
+    let w = c.look.new.self.seat.me.0 in
+    let is : c.join.new.self.seat.me.0 ≡ joined_view v other = c.join.ensures.joined in
+    let looks : Looks one_word kinds.Indices (joined_view v other).capacity (joined_view v other) w =
+    subst (λ (z : View ℕ). Looks one_word kinds.Indices z.capacity z w) is c.look.ensures.told.0 in
+    record {
+      set = search rules;
+      joined = record {
+        made = looks.made;
+        party = looks.party;
+        share = looks.share;
+        ours = looks.mine;
+        others = looks.theirs;
+        whole = λ all. looks.whole (subst IsAll looks.share all);
+      };
+      sound = sound _ w looks.capacity looks.history looks.parties;
+      history = subst (λ n. IsHistory one_word kinds.Indices n w.seen) mine.known looks.history;
+      all = λ whole. looks.all (subst IsAll looks.share whole);
+    }
 
 pub invariant_of-self-clause-done : goal.invariant_of-self-clause-done
 invariant_of-self-clause-done c =

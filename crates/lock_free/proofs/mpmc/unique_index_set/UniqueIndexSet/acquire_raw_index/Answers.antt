@@ -3,7 +3,7 @@ use Rattle.steps.specs.Indices.Unique.{first_acquire}
 use Rattle.model.specs.declared.turn.Kind.TheVariants as kinds
 use Rattle.history.proofs.IndexCalls.{acquire_keeps, acquire_first}
 use Rattle.lock_free.specs.UniqueIndexSet.{SetId}
-use Rattle.lock_free.proofs.Unique.Facts.{taken, sound, goes_on}
+use Rattle.lock_free.proofs.Unique.Facts.{taken, sound, same_pass}
 use Rattle.lock_free.proofs.Unique.Whole.{taken_done, acquired_if, refused_if, within_if}
 use Rattle.lock_free.proofs.Steps.{indices_take}
 use Rattle.lock_free.proofs.mpmc.unique_index_set.UniqueIndexSet.acquire_raw_index.Goals as goal
@@ -25,8 +25,8 @@ invariant_of-pass-clause-sound g c =
     sound (seen c.args.pass.now.seated).capacity (seen c.drive_on.new.self) c.drive_on.ensures.end.capacity
     c.drive_on.ensures.end.history c.drive_on.ensures.end.parties
 
-pub returns-clause-goes_on : goal.returns-clause-goes_on
-returns-clause-goes_on g c = goes_on (search rules) c.drive_on.ensures.end
+pub returns-clause-same : goal.returns-clause-same
+returns-clause-same g c = same_pass (search rules) c.drive_on.ensures.end
 
 pub returns-clause-within : goal.returns-clause-within
 returns-clause-within g c =

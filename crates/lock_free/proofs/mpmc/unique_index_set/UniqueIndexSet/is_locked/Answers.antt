@@ -1,7 +1,7 @@
 use Rattle.lock_free.proofs.Names.{rules, one_word, seen, ap, ◌∙◌, arith, looks_locked}
 use Rattle.history.proofs.IndexCalls.{look_keeps, look_first}
 use Rattle.lock_free.specs.UniqueIndexSet.{SetId}
-use Rattle.lock_free.proofs.Unique.Facts.{looked, sound, looked_answered, goes_on}
+use Rattle.lock_free.proofs.Unique.Facts.{looked, sound, looked_answered, same_pass}
 use Rattle.lock_free.proofs.Unique.Whole.{looked_done, looked_nothing, looked_unlocked}
 use Rattle.lock_free.proofs.Steps.{indices_take}
 use Rattle.lock_free.proofs.mpmc.unique_index_set.UniqueIndexSet.is_locked.Goals as goal
@@ -20,8 +20,8 @@ invariant_of-pass-clause-sound c =
     sound (seen c.args.pass.now.seated).capacity (seen c.drive.new.self) c.drive.ensures.end.capacity
     c.drive.ensures.end.history c.drive.ensures.end.parties
 
-pub returns-clause-goes_on : goal.returns-clause-goes_on
-returns-clause-goes_on c = goes_on (search rules) c.drive.ensures.end
+pub returns-clause-same : goal.returns-clause-same
+returns-clause-same c = same_pass (search rules) c.drive.ensures.end
 
 pub returns-clause-looked : goal.returns-clause-looked
 returns-clause-looked c = looked (seen c.args.pass.now.seated) (seen c.drive.new.self) tt c.args.pass.now.idle c.drive.result c.drive.ensures.end

@@ -1,8 +1,8 @@
 use Rattle.lock_free.proofs.Names.{◌≡◌, ◌∷◌, ◌+◌, ◌≤◌, range_with_len}
 use Rattle.std.specs.Prelude.{vec_len, vec_capacity}
-use Rattle.lock_free.proofs.mpmc.unique_index_set.UniqueIndexSet.of.Given as goal
+use Rattle.lock_free.proofs.mpmc.unique_index_set.UniqueIndexSet.of.Given as given
 
-abbrev pub invariant-loop-index : goal.invariant-loop-index
+abbrev pub invariant-loop-index : given.invariant-loop-index
 invariant-loop-index l =
     (l.words.items ≡ 0 ∷ range_with_len 1 l.index)
     × (vec_len l.words ≡ 1 + l.index)

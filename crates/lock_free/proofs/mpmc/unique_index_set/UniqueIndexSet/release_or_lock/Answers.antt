@@ -2,7 +2,7 @@ use Rattle.lock_free.proofs.Names.{rules, sym, ap, subst, ◌∙◌, first_relea
 use Rattle.model.specs.declared.turn.Kind.TheVariants as kinds
 use Rattle.history.proofs.IndexCalls.{lock_keeps, lock_first}
 use Rattle.lock_free.specs.UniqueIndexSet.{SetId}
-use Rattle.lock_free.proofs.Unique.Facts.{given_or_locked, sound, locked_answered, goes_on}
+use Rattle.lock_free.proofs.Unique.Facts.{given_or_locked, sound, locked_answered, same_pass}
 use Rattle.lock_free.proofs.Unique.Whole.{locked_done, locked_nothing, locked_whole}
 use Rattle.lock_free.proofs.Steps.{indices_take}
 use Rattle.lock_free.proofs.mpmc.unique_index_set.UniqueIndexSet.release_or_lock.Goals as goal
@@ -25,8 +25,8 @@ invariant_of-pass-clause-sound g c =
     sound (seen c.args.pass.now.seated).capacity (seen c.drive_on.new.self) c.drive_on.ensures.end.capacity
     c.drive_on.ensures.end.history c.drive_on.ensures.end.parties
 
-pub returns-clause-goes_on : goal.returns-clause-goes_on
-returns-clause-goes_on g c = goes_on (search rules) c.drive_on.ensures.end
+pub returns-clause-same : goal.returns-clause-same
+returns-clause-same g c = same_pass (search rules) c.drive_on.ensures.end
 
 pub returns-clause-given : goal.returns-clause-given
 returns-clause-given g c =

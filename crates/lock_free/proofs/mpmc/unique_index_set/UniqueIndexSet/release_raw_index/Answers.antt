@@ -2,7 +2,7 @@ use Rattle.lock_free.proofs.Names.{rules, sym, ap, subst, ◌∙◌, first_relea
 use Rattle.model.specs.declared.turn.Kind.TheVariants as kinds
 use Rattle.history.proofs.IndexCalls.{release_keeps, release_first}
 use Rattle.lock_free.specs.UniqueIndexSet.{SetId}
-use Rattle.lock_free.proofs.Unique.Facts.{given, sound, unlocked, goes_on}
+use Rattle.lock_free.proofs.Unique.Facts.{given, sound, unlocked, same_pass}
 use Rattle.lock_free.proofs.Unique.Whole.{given_done}
 use Rattle.lock_free.proofs.Steps.{indices_take}
 use Rattle.lock_free.proofs.mpmc.unique_index_set.UniqueIndexSet.release_raw_index.Goals as goal
@@ -25,8 +25,8 @@ invariant_of-pass-clause-sound c =
     sound (seen c.args.pass.now.seated).capacity (seen c.drive.new.self) c.drive.ensures.end.capacity
     c.drive.ensures.end.history c.drive.ensures.end.parties
 
-pub returns-clause-goes_on : goal.returns-clause-goes_on
-returns-clause-goes_on c = goes_on (search rules) c.drive.ensures.end
+pub returns-clause-same : goal.returns-clause-same
+returns-clause-same c = same_pass (search rules) c.drive.ensures.end
 
 pub returns-clause-given : goal.returns-clause-given
 returns-clause-given c = given (seen c.args.pass.now.seated) (seen c.drive.new.self) tt c.args.pass.now.idle c.args.index c.drive.result c.drive.ensures.end

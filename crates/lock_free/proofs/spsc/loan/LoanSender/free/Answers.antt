@@ -1,7 +1,7 @@
 use Rattle.lock_free.proofs.Names.{ap, sym, ◌∙◌}
 use Rattle.lock_free.specs.UniqueIndexSet.{SetId}
 use Rattle.lock_free.proofs.Loan.Books.{out_held, is_freed, sent_out}
-use Rattle.lock_free.proofs.Loan.Told.{has_freed}
+use Rattle.lock_free.proofs.Loan.Contracts.{has_freed}
 use Rattle.lock_free.proofs.spsc.loan.LoanSender.free.Goals as goal
 
 pub release_raw_index-requires-clause-held : goal.release_raw_index-requires-clause-held
@@ -12,11 +12,11 @@ invariant_of-self-clause-book c =
     let mine = c.args.self.now in
     let now = c.release_raw_index.new.pass in
     is_freed mine.book c.args.sent _ _ (sent_out _ c.requires)
-    (now.known ∙ (ap (λ (z : SetId). z.capacity) c.release_raw_index.ensures.goes_on.set ∙ sym mine.pass.known))
+    (now.known ∙ (ap (λ (z : SetId). z.capacity) c.release_raw_index.ensures.same.set ∙ sym mine.pass.known))
     c.release_raw_index.ensures.given
 
 pub returns-clause-freed : goal.returns-clause-freed
 returns-clause-freed c =
     let released = c.release_raw_index in
     has_freed c.args.self.now.pass released.new.pass c.args.sent released.result c.args.self.now.pass.known
-    released.ensures.goes_on released.ensures.unlocked released.ensures.given
+    released.ensures.same released.ensures.unlocked released.ensures.given

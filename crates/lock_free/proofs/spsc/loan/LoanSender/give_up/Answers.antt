@@ -2,7 +2,7 @@ use Rattle.lock_free.proofs.Names.{ap, sym, ◌∙◌}
 use Rattle.lock_free.specs.UniqueIndexSet.{SetId, view}
 use Rattle.lock_free.specs.Loan.Places.{is_out}
 use Rattle.lock_free.proofs.Loan.Books.{out_held, is_freed}
-use Rattle.lock_free.proofs.Loan.Told.{begins_before, set_goes}
+use Rattle.lock_free.proofs.Loan.Contracts.{begins_before, set_goes}
 use Rattle.lock_free.proofs.spsc.loan.LoanSender.give_up.Goals as goal
 
 pub release_raw_index-requires-clause-held : goal.release_raw_index-requires-clause-held
@@ -13,11 +13,11 @@ invariant_of-self-clause-book c =
     let mine = c.args.self.now in
     let now = c.release_raw_index.new.pass in
     is_freed mine.book c.args.index _ _ (ap is_out c.requires)
-    (now.known ∙ (ap (λ (z : SetId). z.capacity) c.release_raw_index.ensures.goes_on.set ∙ sym mine.pass.known))
+    (now.known ∙ (ap (λ (z : SetId). z.capacity) c.release_raw_index.ensures.same.set ∙ sym mine.pass.known))
     c.release_raw_index.ensures.given
 
-pub returns-clause-goes_on : goal.returns-clause-goes_on
-returns-clause-goes_on c =
+pub returns-clause-goes : goal.returns-clause-goes
+returns-clause-goes c =
     let released = c.release_raw_index in
-    set_goes c.args.self.now.pass released.new.pass c.args.self.now.pass.known released.ensures.goes_on
+    set_goes c.args.self.now.pass released.new.pass c.args.self.now.pass.known released.ensures.same
     (begins_before _ _ _ _ (view c.args.self.now.pass) (view released.new.pass) released.ensures.given.called)

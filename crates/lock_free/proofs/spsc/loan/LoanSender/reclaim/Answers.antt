@@ -1,9 +1,9 @@
 use Rattle.lock_free.proofs.Names.{rules, arith, ap, subst, sym, ◌∙◌, ◌+◌, ◌<◌, ◌≡◌, true, false, length}
 use Rattle.lock_free.specs.Loan.Places.{is_sent, place_at}
 use Rattle.lock_free.specs.Loan.Sender.{places_of, pass_view}
-use Rattle.lock_free.specs.Loan.Told.{InTurn, HasFreed}
+use Rattle.lock_free.specs.Loan.Contracts.{InTurn, HasFreed}
 use Rattle.lock_free.proofs.Loan.Books.{not_reached, sent_step, other_step}
-use Rattle.lock_free.proofs.Loan.Told.{sent_below, freed_more, freed_same}
+use Rattle.lock_free.proofs.Loan.Contracts.{sent_below, freed_more, freed_same}
 use Rattle.lock_free.proofs.spsc.loan.LoanSender.reclaim.Goals as goal
 use Rattle.lock_free.proofs.spsc.loan.LoanSender.reclaim.Goals.{then-has_sent, else-has_sent}
 

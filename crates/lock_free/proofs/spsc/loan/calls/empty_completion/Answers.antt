@@ -3,7 +3,7 @@ use Rattle.model.specs.declared.turn.Kind.TheVariants as kinds
 use Rattle.lock_free_queues.specs.Queues.Calls.{QueueId, GoesOn, consumer_view}
 use Rattle.model.specs.declared.event.Item.TheVariants.{Index}
 use Rattle.lock_free_queues.proofs.Queues.Ends.{has_popped, was_empty}
-use Rattle.lock_free.proofs.Loan.Told.{pops_none, pops_on, still_goes, is_emptied, none_waited}
+use Rattle.lock_free.proofs.Loan.Contracts.{pops_none, pops_on, still_goes, is_emptied, none_waited}
 use Rattle.lock_free.proofs.spsc.loan.calls.empty_completion.Goals as goal
 
 pub loop-init : goal.loop-init

@@ -2,8 +2,8 @@ use Rattle.lock_free.proofs.Names.{ap, refl, subst, sym, ◌∙◌, ◌<◌, one
 use Rattle.model.specs.declared.turn.Kind.TheVariants as kinds
 use Rattle.lock_free_queues.specs.Queues.Overflowing.{QueueId, GoesOn, consumer_queue, consumer_view}
 use Rattle.model.specs.declared.event.Item.TheVariants.{Index}
-use Rattle.lock_free_queues.proofs.Queues.Ends.{oldest_popped, found_none}
-use Rattle.lock_free.proofs.Loan.Told.{pops_none, pops_on, still_goes, is_emptied}
+use Rattle.lock_free_queues.proofs.Queues.Ends.{oldest_popped, has_found_none}
+use Rattle.lock_free.proofs.Loan.Contracts.{pops_none, pops_on, still_goes, is_emptied}
 use Rattle.lock_free.proofs.spsc.loan.calls.empty_submission.Goals as goal
 
 pub loop-init : goal.loop-init
@@ -44,4 +44,4 @@ returns-then-is_none-clause-emptied g c wide =
     let empty = c.pop.ensures.empty some in
     is_emptied (consumer_view c.args.receiver.now) (consumer_view c.loop.receiver) (consumer_view c.pop.new.self)
     (c.loop.invariant.popping wide) c.pop.result c.is_none.result c.is_none.ensures c.if-is_none.true
-    (oldest_popped Index _ _ c.pop.result c.pop.ensures.popped empty) (found_none _ _ c.pop.result empty)
+    (oldest_popped Index _ _ c.pop.result c.pop.ensures.popped empty) (has_found_none _ _ c.pop.result empty)

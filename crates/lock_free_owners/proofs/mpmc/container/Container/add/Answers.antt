@@ -29,8 +29,8 @@ drive_on-end-requires-clause-at g c =
     subst (λ call. AddAt code given v v call tt) (ap first_add mine.known ∙ sym c.new-call.ensures)
     (add_begins code law given v (search rules) mine.idle mine.alone mine.some.0)
 
-pub returns-in-Ok-clause-goes_on : goal.returns-in-Ok-clause-goes_on
-returns-in-Ok-clause-goes_on g c =
+pub returns-in-Ok-clause-same : goal.returns-in-Ok-clause-same
+returns-in-Ok-clause-same g c =
     let code : Coding g.row.T.Denot = coding_of g.T.Words.WORDS g.T.Words.words_of g.T.Words.value_of in
     let v = seen c.args.pass.now.token.seated in
     let w = seen c.drive_on-end.new.self in
@@ -42,8 +42,8 @@ returns-in-Ok-clause-goes_on g c =
           (goes code (BeginsAdd given) (adds_value g.T.Words.WORDS given) v w c.drive_on-end.result c.drive_on-end.ensures.end);
     }
 
-pub returns-in-Err-clause-goes_on : goal.returns-in-Err-clause-goes_on
-returns-in-Err-clause-goes_on g c =
+pub returns-in-Err-clause-same : goal.returns-in-Err-clause-same
+returns-in-Err-clause-same g c =
     let code : Coding g.row.T.Denot = coding_of g.T.Words.WORDS g.T.Words.words_of g.T.Words.value_of in
     let v = seen c.args.pass.now.token.seated in
     let w = seen c.drive_on-end.new.self in

@@ -3,7 +3,7 @@ use Rattle.lock_free_owners.proofs.Names.{seen, SetId, Goes}
 use Rattle.steps.specs.Container.Find.{first_find}
 use Rattle.model.specs.declared.turn.Kind.TheVariants as kinds
 use Rattle.lock_free_owners.specs.Container.Callable.{TakesVisits, HasFound}
-use Rattle.lock_free_owners.specs.Container.FindTold.{HasSearched}
+use Rattle.lock_free_owners.specs.Container.FindContract.{HasSearched}
 use Rattle.lock_free_owners.specs.Container.FindTurns.{FindAt}
 use Rattle.lock_free_owners.specs.Container.Names.{number_of}
 use Rattle.lock_free_owners.specs.Container.Steps.{FindTakes}

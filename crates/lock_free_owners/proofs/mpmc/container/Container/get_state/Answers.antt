@@ -20,8 +20,8 @@ bring_up-requires-clause-at g c =
     subst (λ (n : ℕ). LookAt code GetState v state.shown state.seen v (first_look n) state.shown) mine.known
     (look_begins code law GetState v state.shown state.seen mine.idle mine.alone mine.some.0)
 
-pub returns-clause-goes_on : goal.returns-clause-goes_on
-returns-clause-goes_on g c =
+pub returns-clause-same : goal.returns-clause-same
+returns-clause-same g c =
     let code : Coding g.row.T.Denot = coding_of g.T.Words.WORDS g.T.Words.words_of g.T.Words.value_of in
     let mine = c.args.pass.now.token in
     let v = seen mine.seated in

@@ -17,8 +17,8 @@ count_all-requires-clause-at g c =
     let v = seen mine.seated in
     subst (λ n. CountAt code counts.IsEmpty v v (first_borrowed n) tt) mine.known (count_begins code counts.IsEmpty v mine.idle mine.alone mine.some.0)
 
-pub returns-clause-goes_on : goal.returns-clause-goes_on
-returns-clause-goes_on g c =
+pub returns-clause-same : goal.returns-clause-same
+returns-clause-same g c =
     let code : Coding g.row.T.Denot = coding_of g.T.Words.WORDS g.T.Words.words_of g.T.Words.value_of in
     let v = seen c.args.pass.now.token.seated in
     let w = seen c.count_all.new.seat in

@@ -15,8 +15,8 @@ drive-requires-clause-at g c =
     let mine = c.args.pass.now.token in
     lock_begins (coding_of g.T.Words.WORDS g.T.Words.words_of g.T.Words.value_of) (seen mine.seated) _ mine.idle mine.alone mine.some.0
 
-pub returns-clause-goes_on : goal.returns-clause-goes_on
-returns-clause-goes_on g c =
+pub returns-clause-same : goal.returns-clause-same
+returns-clause-same g c =
     let code : Coding g.row.T.Denot = coding_of g.T.Words.WORDS g.T.Words.words_of g.T.Words.value_of in
     let v = seen c.args.pass.now.token.seated in
     let w = seen c.drive.new.self in

@@ -3,7 +3,7 @@ use Rattle.lock_free_owners.proofs.Names.{fresh_cell, seen, SetId, Goes}
 use Rattle.steps.specs.Container.Recover.{first_recover}
 use Rattle.model.specs.declared.turn.Kind.TheVariants as kinds
 use Rattle.lock_free_owners.specs.Container.Questions.{TakesValues}
-use Rattle.lock_free_owners.specs.Container.RecoverTold.{HasRecovered}
+use Rattle.lock_free_owners.specs.Container.RecoverContract.{HasRecovered}
 use Rattle.lock_free_owners.specs.Container.RecoverTurns.{RecoverAt}
 use Rattle.lock_free_owners.proofs.ContainerSet.RecoverTurns.{recover_begins, recovered_goes, recovered_answered, recovered_lock}
 use Rattle.lock_free_owners.proofs.ContainerSet.States.{recover_leaves}
@@ -29,8 +29,8 @@ free_all-requires-clause-questions g c free =
     subst (λ n. TakesValues (given.F-pre g) (λ p x b q. given.F-step g p x b q) n c.args.predicate.now)
     (sym (ap (λ (z : SetId). z.capacity) c.requires.pass)) (c.requires.questions free)
 
-pub returns-clause-goes_on : goal.returns-clause-goes_on
-returns-clause-goes_on g c =
+pub returns-clause-same : goal.returns-clause-same
+returns-clause-same g c =
     let met = g.met.T.Words in
     let code : Coding g.row.T.Denot = coding_of g.T.Words.WORDS g.T.Words.words_of g.T.Words.value_of in
     let law : IsCoding code = record { some = met.some; few = met.few; sized = met.sized; given_back = met.given_back } in

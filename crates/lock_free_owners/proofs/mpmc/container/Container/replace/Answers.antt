@@ -29,8 +29,8 @@ drive-requires-clause-at g c =
     subst (λ call. ReplaceAt code given v v call tt) (ap (λ n. first_replace n c.args.handle.index) mine.known ∙ sym c.new-call.ensures)
     (replace_begins code law given v low (search rules) mine.idle mine.alone mine.some.0)
 
-pub returns-clause-goes_on : goal.returns-clause-goes_on
-returns-clause-goes_on g c own =
+pub returns-clause-same : goal.returns-clause-same
+returns-clause-same g c own =
     let code : Coding g.row.T.Denot = coding_of g.T.Words.WORDS g.T.Words.words_of g.T.Words.value_of in
     let v = seen c.args.pass.now.token.seated in
     let w = seen c.drive.new.self in

@@ -76,8 +76,8 @@ invariant_of-pass-clause-some g c =
     in
     subst (λ (z : Share). (0 < z.part) × (0 < z.parts)) (sym left.share) mine.some
 
-pub returns-clause-goes_on : goal.returns-clause-goes_on
-returns-clause-goes_on g c latest =
+pub returns-clause-same : goal.returns-clause-same
+returns-clause-same g c latest =
     let code : Coding g.row.T.Denot = coding_of g.T.Words.WORDS g.T.Words.words_of g.T.Words.value_of in
     let mine = c.args.pass.now.token in
     let v = seen mine.seated in

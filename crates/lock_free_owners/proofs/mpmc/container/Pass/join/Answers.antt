@@ -74,49 +74,31 @@ look-requires-2-clause-owes g c =
     (subst (λ (z : View g.row.T.Denot). Owed code (key_of s) words slots id z []) (sym c.join.ensures.joined)
     (subst (λ k. Owed code k words slots id w []) size owed))
 
-pub returns-clause-joined : goal.returns-clause-joined
-returns-clause-joined g c =
+pub returns-clause-same : goal.returns-clause-same
+returns-clause-same g c =
     let code : Coding g.row.T.Denot = coding_of g.T.Words.WORDS g.T.Words.words_of g.T.Words.value_of in
     let h = c.look.ensures.told in
-    let mine = c.args.self.now.token.seated.seat.me.0 in
+    let seat = c.args.self.now.token in
+    let mine = seat.seated.seat.me.0 in
     let new = c.look-2.new.self.seat.me.0 in
     let looked = on_joined code mine c.look.new.self.seat.me.0 c.join.new.self.seat.me.0 new c.join.ensures.joined c.look-2.ensures.told in
     record {
-      from = h.from;
-      settled = h.settled;
+      container = search rules;
       joined = record {
-        made = looked.made ∙ ap (λ (z : View g.row.T.Denot). mine.made ++ z.made) h.counted;
-        party = looked.party;
-        share = looked.share ∙ ap (λ (z : View g.row.T.Denot). both_of mine.share z.share) h.counted;
-        ours = looked.mine;
-        others = subst (λ (z : View g.row.T.Denot). IsBeginning z.seen new.seen) h.counted looked.theirs;
-        whole = λ all.
-            subst (λ (z : View g.row.T.Denot). (new.seen ≡ mine.seen) ⊎ (new.seen ≡ z.seen)) h.counted
-            (looked.whole (subst IsAll looked.share all));
+        from = h.from;
+        settled = h.settled;
+        joined = record {
+          made = looked.made ∙ ap (λ (z : View g.row.T.Denot). mine.made ++ z.made) h.counted;
+          party = looked.party;
+          share = looked.share ∙ ap (λ (z : View g.row.T.Denot). both_of mine.share z.share) h.counted;
+          ours = looked.mine;
+          others = subst (λ (z : View g.row.T.Denot). IsBeginning z.seen new.seen) h.counted looked.theirs;
+          whole = λ all.
+              subst (λ (z : View g.row.T.Denot). (new.seen ≡ mine.seen) ⊎ (new.seen ≡ z.seen)) h.counted
+              (looked.whole (subst IsAll looked.share all));
+        };
       };
+      keeps = λ p is. (looked.party ∙ is, looked.state);
+      history = subst (λ n. IsHistory code kinds.Container n new.seen) seat.known looked.history;
+      all = λ whole. looked.all (subst IsAll looked.share whole);
     }
-
-pub returns-clause-history : goal.returns-clause-history
-returns-clause-history g c =
-    let code : Coding g.row.T.Denot = coding_of g.T.Words.WORDS g.T.Words.words_of g.T.Words.value_of in
-    let mine = c.args.self.now.token in
-    let new = c.look-2.new.self.seat.me.0 in
-    let looked =
-    on_joined code mine.seated.seat.me.0 c.look.new.self.seat.me.0 c.join.new.self.seat.me.0 new c.join.ensures.joined c.look-2.ensures.told in
-    subst (λ n. IsHistory code kinds.Container n new.seen) mine.known looked.history
-
-pub returns-clause-all : goal.returns-clause-all
-returns-clause-all g c whole =
-    let code : Coding g.row.T.Denot = coding_of g.T.Words.WORDS g.T.Words.words_of g.T.Words.value_of in
-    let looked =
-    on_joined code c.args.self.now.token.seated.seat.me.0 c.look.new.self.seat.me.0 c.join.new.self.seat.me.0 c.look-2.new.self.seat.me.0
-    c.join.ensures.joined c.look-2.ensures.told in
-    looked.all (subst IsAll looked.share whole)
-
-pub returns-clause-keeps : goal.returns-clause-keeps
-returns-clause-keeps g c p is =
-    let code : Coding g.row.T.Denot = coding_of g.T.Words.WORDS g.T.Words.words_of g.T.Words.value_of in
-    let looked =
-    on_joined code c.args.self.now.token.seated.seat.me.0 c.look.new.self.seat.me.0 c.join.new.self.seat.me.0 c.look-2.new.self.seat.me.0
-    c.join.ensures.joined c.look-2.ensures.told in
-    (looked.party ∙ is, looked.state)

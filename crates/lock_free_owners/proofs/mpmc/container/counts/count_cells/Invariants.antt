@@ -1,10 +1,10 @@
 use Rattle.lock_free_owners.proofs.Names.{◌-◌, View, coding_of, seen, IsSame}
 use Rattle.steps.specs.declared.indices.robust.parts.Count.TheVariants as stages
 use Rattle.lock_free_owners.specs.Container.Turns.{IsBoard, CountAt}
-use Rattle.lock_free_owners.proofs.mpmc.container.counts.count_cells.Given as goal
+use Rattle.lock_free_owners.proofs.mpmc.container.counts.count_cells.Given as given
 
 -- whatever the view with which the count began
-abbrev pub invariant-cells : goal.invariant-cells
+abbrev pub invariant-cells : given.invariant-cells
 invariant-cells g l =
     IsSame l.fn.seat l.seat × IsBoard g.T.Words.WORDS l.seat
     × ((base : View g.row.T.Denot)
@@ -13,5 +13,5 @@ invariant-cells g l =
     → CountAt (coding_of g.T.Words.WORDS g.T.Words.words_of g.T.Words.value_of) g.W.Counting.which base (seen l.seat)
     (record { capacity = l.fn.capacity; count = stages.LoadsCell l.fn.counter l.cell l.found }) tt)
 
-abbrev pub decreases-cells : goal.decreases-cells
+abbrev pub decreases-cells : given.decreases-cells
 decreases-cells g l = l.fn.capacity - l.cell

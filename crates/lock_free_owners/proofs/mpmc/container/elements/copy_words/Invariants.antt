@@ -1,9 +1,9 @@
 use Rattle.lock_free_owners.proofs.Names.{◌-◌, coding_of, seen, IsSame}
 use Rattle.lock_free_owners.specs.Container.LookTurns.{LookOnAt, at_word}
 use Rattle.lock_free_owners.specs.Container.Turns.{IsBoard}
-use Rattle.lock_free_owners.proofs.mpmc.container.elements.copy_words.Given as goal
+use Rattle.lock_free_owners.proofs.mpmc.container.elements.copy_words.Given as given
 
-abbrev pub invariant-words : goal.invariant-words
+abbrev pub invariant-words : given.invariant-words
 invariant-words g l =
     record {
       same : IsSame l.fn.seat l.seat;
@@ -12,5 +12,5 @@ invariant-words g l =
           g.B.Beginning.shown l.fn.given (seen l.seat) (at_word l.fn.capacity l.fn.index l.fn.count l.at) l.room;
     }
 
-abbrev pub decreases-words : goal.decreases-words
+abbrev pub decreases-words : given.decreases-words
 decreases-words g l = g.T.Words.WORDS - l.at

@@ -1,9 +1,9 @@
 use Rattle.lock_free_owners.proofs.Names.{coding_of, seen, IsSame}
 use Rattle.lock_free_owners.specs.Container.LookTurns.{LookOnAt}
 use Rattle.lock_free_owners.specs.Container.Turns.{IsBoard}
-use Rattle.lock_free_owners.proofs.mpmc.container.elements.look_on.Given as goal
+use Rattle.lock_free_owners.proofs.mpmc.container.elements.look_on.Given as given
 
-abbrev pub invariant-loop : goal.invariant-loop
+abbrev pub invariant-loop : given.invariant-loop
 invariant-loop g l =
     record {
       same : IsSame l.fn.seat l.seat;

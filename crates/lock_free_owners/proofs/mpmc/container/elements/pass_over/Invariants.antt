@@ -1,9 +1,9 @@
 use Rattle.lock_free_owners.proofs.Names.{◌-◌, coding_of, seen, IsSame}
 use Rattle.lock_free_owners.specs.Container.LookTurns.{LookOnAt, at_count}
 use Rattle.lock_free_owners.specs.Container.Turns.{IsBoard}
-use Rattle.lock_free_owners.proofs.mpmc.container.elements.pass_over.Given as goal
+use Rattle.lock_free_owners.proofs.mpmc.container.elements.pass_over.Given as given
 
-abbrev pub invariant-elements : goal.invariant-elements
+abbrev pub invariant-elements : given.invariant-elements
 invariant-elements g l =
     record {
       same : IsSame l.fn.seat l.seat;
@@ -12,5 +12,5 @@ invariant-elements g l =
           g.B.Beginning.shown l.fn.given (seen l.seat) (at_count l.fn.capacity l.index) l.room;
     }
 
-abbrev pub decreases-elements : goal.decreases-elements
+abbrev pub decreases-elements : given.decreases-elements
 decreases-elements g l = l.fn.capacity - l.index

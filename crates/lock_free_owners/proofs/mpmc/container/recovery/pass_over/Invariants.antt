@@ -1,9 +1,9 @@
 use Rattle.lock_free_owners.proofs.Names.{◌-◌, ◌<◌, ◌≤◌, coding_of, seen, IsSame}
 use Rattle.lock_free_owners.specs.Container.Turns.{IsBoard}
 use Rattle.lock_free_owners.specs.Container.RecoverTurns.{at_cell, RecoverPasses}
-use Rattle.lock_free_owners.proofs.mpmc.container.recovery.pass_over.Given as goal
+use Rattle.lock_free_owners.proofs.mpmc.container.recovery.pass_over.Given as given
 
-abbrev pub invariant-cells : goal.invariant-cells
+abbrev pub invariant-cells : given.invariant-cells
 invariant-cells g l =
     record {
       same : IsSame l.fn.seat l.seat;
@@ -14,5 +14,5 @@ invariant-cells g l =
           (seen l.fn.seat) (at_cell l.fn.capacity l.fn.first) l.fn.room (at_cell l.fn.capacity l.cell) (seen l.seat);
     }
 
-abbrev pub decreases-cells : goal.decreases-cells
+abbrev pub decreases-cells : given.decreases-cells
 decreases-cells g l = l.fn.capacity - l.cell

@@ -1,9 +1,9 @@
 use Rattle.lock_free_owners.proofs.Names.{◌≡◌, coding_of}
 use Rattle.lock_free_owners.specs.Container.RecoverTurns.{RecoverTells}
-use Rattle.lock_free_owners.proofs.mpmc.container.recovery.step_recover.Given as goal
+use Rattle.lock_free_owners.proofs.mpmc.container.recovery.step_recover.Given as given
 
 -- it tells what a step of the recovery does, whatever it has done
-abbrev pub ghosts-step_telling : goal.ghosts-step_telling
+abbrev pub ghosts-step_telling : given.ghosts-step_telling
 ghosts-step_telling g a =
     record {
       told = λ v n w. (w.capacity ≡ v.capacity)

@@ -1,6 +1,6 @@
 use Rattle.lock_free_owners.proofs.Names.{◌<◌, ◌^◌, rules, refl, sym, subst, ◌∙◌, Coding, IsCoding, coding_of}
-use Rattle.lock_free_owners.proofs.Names.{fresh_cell, seen}
-use Rattle.lock_free_owners.proofs.ContainerSet.Finds.{Over, Further, starts, further, may_go}
+use Rattle.lock_free_owners.proofs.Names.{GoOn, Done, fresh_cell, seen}
+use Rattle.lock_free_owners.proofs.ContainerSet.Finds.{Over, Further, starts, further, may_go, may_pass, passed_on}
 use Rattle.lock_free_owners.proofs.mpmc.container.visits.find_all.Goals as goal
 use Rattle.lock_free_owners.proofs.mpmc.container.visits.find_all.Given as given
 
@@ -14,8 +14,32 @@ loop-next-init g c =
           c.new-call.ensures refl c.requires.places c.requires.at,
     )
 
+pub pass_others-passed-requires-clause-within : goal.pass_others-passed-requires-clause-within
+pass_others-passed-requires-clause-within g c =
+    let met = g.met.T.Words in
+    let code : Coding g.row.T.Denot = coding_of g.T.Words.WORDS g.T.Words.words_of g.T.Words.value_of in
+    let law : IsCoding code = record { some = met.some; few = met.few; sized = met.sized; given_back = met.given_back } in
+    let small : c.args.capacity < 2 ^ 32 = search rules in
+    may_pass code (λ p x h a q. given.F-step g p x h a q) c.args.capacity c.args.owner c.args.id
+    (seen c.args.seat.now) c.args.visit.now law small (sym c.requires.known)
+    (seen c.loop-next.seat) c.loop-next.call c.loop-next.room c.loop-next.visit c.loop-next.invariant.2
+
+pub pass_others-passed-requires-clause-at : goal.pass_others-passed-requires-clause-at
+pass_others-passed-requires-clause-at g c = (seen c.args.seat.now, c.loop-next.invariant.2.copies, c.loop-next.invariant.2.at)
+
 pub find_next-after-requires-clause-at : goal.find_next-after-requires-clause-at
-find_next-after-requires-clause-at g c = (seen c.args.seat.now, c.loop-next.invariant.2.copies, c.loop-next.invariant.2.at)
+find_next-after-requires-clause-at g c =
+    let met = g.met.T.Words in
+    let code : Coding g.row.T.Denot = coding_of g.T.Words.WORDS g.T.Words.words_of g.T.Words.value_of in
+    let law : IsCoding code = record { some = met.some; few = met.few; sized = met.sized; given_back = met.given_back } in
+    let small : c.args.capacity < 2 ^ 32 = search rules in
+    let passed = c.pass_others-passed in
+    let there =
+    passed_on code (λ p x h a q. given.F-step g p x h a q) c.args.capacity c.args.owner c.args.id
+    (seen c.args.seat.now) c.args.visit.now law small (sym c.requires.known)
+    (seen c.loop-next.seat) c.loop-next.call c.loop-next.room c.loop-next.visit c.loop-next.invariant.2
+    (seen passed.new.seat) passed.result passed.ensures.goes (GoOn c.in-GoOn.next) c.in-GoOn.is passed.ensures.passed in
+    (seen c.args.seat.now, there.copies, there.at)
 
 pub find_next-after-requires-clause-asks : goal.find_next-after-requires-clause-asks
 find_next-after-requires-clause-asks g c =
@@ -23,9 +47,15 @@ find_next-after-requires-clause-asks g c =
     let code : Coding g.row.T.Denot = coding_of g.T.Words.WORDS g.T.Words.words_of g.T.Words.value_of in
     let law : IsCoding code = record { some = met.some; few = met.few; sized = met.sized; given_back = met.given_back } in
     let small : c.args.capacity < 2 ^ 32 = search rules in
+    let passed = c.pass_others-passed in
+    let there =
+    passed_on code (λ p x h a q. given.F-step g p x h a q) c.args.capacity c.args.owner c.args.id
+    (seen c.args.seat.now) c.args.visit.now law small (sym c.requires.known)
+    (seen c.loop-next.seat) c.loop-next.call c.loop-next.room c.loop-next.visit c.loop-next.invariant.2
+    (seen passed.new.seat) passed.result passed.ensures.goes (GoOn c.in-GoOn.next) c.in-GoOn.is passed.ensures.passed in
     may_go code (λ p x h a q. given.F-step g p x h a q) c.args.capacity c.args.owner c.args.id
     (seen c.args.seat.now) c.args.visit.now law small (sym c.requires.known)
-    (seen c.loop-next.seat) c.loop-next.call c.loop-next.room c.loop-next.visit c.loop-next.invariant.2 c.requires.visits
+    (seen passed.new.seat) c.in-GoOn.next c.loop-next.room c.loop-next.visit there c.requires.visits
 
 pub loop-next-preserved : goal.loop-next-preserved
 loop-next-preserved g c =
@@ -33,17 +63,50 @@ loop-next-preserved g c =
     let code : Coding g.row.T.Denot = coding_of g.T.Words.WORDS g.T.Words.words_of g.T.Words.value_of in
     let law : IsCoding code = record { some = met.some; few = met.few; sized = met.sized; given_back = met.given_back } in
     let small : c.args.capacity < 2 ^ 32 = search rules in
+    let passed = c.pass_others-passed in
+    let there =
+    passed_on code (λ p x h a q. given.F-step g p x h a q) c.args.capacity c.args.owner c.args.id
+    (seen c.args.seat.now) c.args.visit.now law small (sym c.requires.known)
+    (seen c.loop-next.seat) c.loop-next.call c.loop-next.room c.loop-next.visit c.loop-next.invariant.2
+    (seen passed.new.seat) passed.result passed.ensures.goes (GoOn c.in-GoOn.next) c.in-GoOn.is passed.ensures.passed in
     let so_far = c.loop-next.invariant in
     let called = c.find_next-after in (
-      (called.ensures.same.0 ∙ so_far.0.0, called.ensures.same.1 ∙ so_far.0.1, called.ensures.same.2 ∙ so_far.0.2),
+      (
+        called.ensures.same.0 ∙ (passed.ensures.same.0 ∙ so_far.0.0),
+        called.ensures.same.1 ∙ (passed.ensures.same.1 ∙ so_far.0.1),
+        called.ensures.same.2 ∙ (passed.ensures.same.2 ∙ so_far.0.2),
+      ),
       called.ensures.board,
       subst (λ a. Further code (λ p x h a q. given.F-step g p x h a q) c.args.capacity c.args.owner c.args.id (seen c.args.seat.now) c.args.visit.now
-          (seen called.new.seat) a called.new.room called.new.visit) c.in-GoOn.is
+          (seen called.new.seat) a called.new.room called.new.visit) c.in-GoOn-after.is
           (further code (λ p x h a q. given.F-step g p x h a q) c.args.capacity c.args.owner c.args.id
           (seen c.args.seat.now) c.args.visit.now law small (sym c.requires.known)
-          (seen c.loop-next.seat) c.loop-next.call c.loop-next.room c.loop-next.visit so_far.2
+          (seen passed.new.seat) c.in-GoOn.next c.loop-next.room c.loop-next.visit there
           (seen called.new.seat) called.result called.new.room called.new.visit called.ensures.turns called.ensures.moves),
     )
+
+pub returns-in-Done-after-clause-left : goal.returns-in-Done-after-clause-left
+returns-in-Done-after-clause-left g c =
+    let met = g.met.T.Words in
+    let code : Coding g.row.T.Denot = coding_of g.T.Words.WORDS g.T.Words.words_of g.T.Words.value_of in
+    let law : IsCoding code = record { some = met.some; few = met.few; sized = met.sized; given_back = met.given_back } in
+    let small : c.args.capacity < 2 ^ 32 = search rules in
+    let passed = c.pass_others-passed in
+    let there =
+    passed_on code (λ p x h a q. given.F-step g p x h a q) c.args.capacity c.args.owner c.args.id
+    (seen c.args.seat.now) c.args.visit.now law small (sym c.requires.known)
+    (seen c.loop-next.seat) c.loop-next.call c.loop-next.room c.loop-next.visit c.loop-next.invariant.2
+    (seen passed.new.seat) passed.result passed.ensures.goes (GoOn c.in-GoOn.next) c.in-GoOn.is passed.ensures.passed in
+    let called = c.find_next-after in
+    let over : Over code (λ p x h a q. given.F-step g p x h a q) c.args.capacity c.args.owner c.args.id (seen c.args.seat.now) c.args.visit.now
+    (seen called.new.seat) c.in-Done-after.found called.new.visit
+    = subst (λ a. Further code (λ p x h a q. given.F-step g p x h a q) c.args.capacity c.args.owner c.args.id (seen c.args.seat.now) c.args.visit.now
+    (seen called.new.seat) a called.new.room called.new.visit) c.in-Done-after.is
+    (further code (λ p x h a q. given.F-step g p x h a q) c.args.capacity c.args.owner c.args.id
+    (seen c.args.seat.now) c.args.visit.now law small (sym c.requires.known)
+    (seen passed.new.seat) c.in-GoOn.next c.loop-next.room c.loop-next.visit there
+    (seen called.new.seat) called.result called.new.room called.new.visit called.ensures.turns called.ensures.moves) in
+    over.left
 
 pub returns-in-Done-clause-left : goal.returns-in-Done-clause-left
 returns-in-Done-clause-left g c =
@@ -51,16 +114,36 @@ returns-in-Done-clause-left g c =
     let code : Coding g.row.T.Denot = coding_of g.T.Words.WORDS g.T.Words.words_of g.T.Words.value_of in
     let law : IsCoding code = record { some = met.some; few = met.few; sized = met.sized; given_back = met.given_back } in
     let small : c.args.capacity < 2 ^ 32 = search rules in
-    let called = c.find_next-after in
-    let over : Over code (λ p x h a q. given.F-step g p x h a q) c.args.capacity c.args.owner c.args.id (seen c.args.seat.now) c.args.visit.now
-    (seen called.new.seat) c.in-Done.found called.new.visit
-    = subst (λ a. Further code (λ p x h a q. given.F-step g p x h a q) c.args.capacity c.args.owner c.args.id (seen c.args.seat.now) c.args.visit.now
-    (seen called.new.seat) a called.new.room called.new.visit) c.in-Done.is
-    (further code (λ p x h a q. given.F-step g p x h a q) c.args.capacity c.args.owner c.args.id
+    let passed = c.pass_others-passed in
+    let over =
+    passed_on code (λ p x h a q. given.F-step g p x h a q) c.args.capacity c.args.owner c.args.id
     (seen c.args.seat.now) c.args.visit.now law small (sym c.requires.known)
     (seen c.loop-next.seat) c.loop-next.call c.loop-next.room c.loop-next.visit c.loop-next.invariant.2
-    (seen called.new.seat) called.result called.new.room called.new.visit called.ensures.turns called.ensures.moves) in
+    (seen passed.new.seat) passed.result passed.ensures.goes (Done c.in-Done.found) c.in-Done.is passed.ensures.passed in
     over.left
+
+pub returns-in-Done-after-clause-found : goal.returns-in-Done-after-clause-found
+returns-in-Done-after-clause-found g c =
+    let met = g.met.T.Words in
+    let code : Coding g.row.T.Denot = coding_of g.T.Words.WORDS g.T.Words.words_of g.T.Words.value_of in
+    let law : IsCoding code = record { some = met.some; few = met.few; sized = met.sized; given_back = met.given_back } in
+    let small : c.args.capacity < 2 ^ 32 = search rules in
+    let passed = c.pass_others-passed in
+    let there =
+    passed_on code (λ p x h a q. given.F-step g p x h a q) c.args.capacity c.args.owner c.args.id
+    (seen c.args.seat.now) c.args.visit.now law small (sym c.requires.known)
+    (seen c.loop-next.seat) c.loop-next.call c.loop-next.room c.loop-next.visit c.loop-next.invariant.2
+    (seen passed.new.seat) passed.result passed.ensures.goes (GoOn c.in-GoOn.next) c.in-GoOn.is passed.ensures.passed in
+    let called = c.find_next-after in
+    let over : Over code (λ p x h a q. given.F-step g p x h a q) c.args.capacity c.args.owner c.args.id (seen c.args.seat.now) c.args.visit.now
+    (seen called.new.seat) c.in-Done-after.found called.new.visit
+    = subst (λ a. Further code (λ p x h a q. given.F-step g p x h a q) c.args.capacity c.args.owner c.args.id (seen c.args.seat.now) c.args.visit.now
+    (seen called.new.seat) a called.new.room called.new.visit) c.in-Done-after.is
+    (further code (λ p x h a q. given.F-step g p x h a q) c.args.capacity c.args.owner c.args.id
+    (seen c.args.seat.now) c.args.visit.now law small (sym c.requires.known)
+    (seen passed.new.seat) c.in-GoOn.next c.loop-next.room c.loop-next.visit there
+    (seen called.new.seat) called.result called.new.room called.new.visit called.ensures.turns called.ensures.moves) in
+    (over.visits, over.bound, over.searched, over.found)
 
 pub returns-in-Done-clause-found : goal.returns-in-Done-clause-found
 returns-in-Done-clause-found g c =
@@ -68,16 +151,36 @@ returns-in-Done-clause-found g c =
     let code : Coding g.row.T.Denot = coding_of g.T.Words.WORDS g.T.Words.words_of g.T.Words.value_of in
     let law : IsCoding code = record { some = met.some; few = met.few; sized = met.sized; given_back = met.given_back } in
     let small : c.args.capacity < 2 ^ 32 = search rules in
-    let called = c.find_next-after in
-    let over : Over code (λ p x h a q. given.F-step g p x h a q) c.args.capacity c.args.owner c.args.id (seen c.args.seat.now) c.args.visit.now
-    (seen called.new.seat) c.in-Done.found called.new.visit
-    = subst (λ a. Further code (λ p x h a q. given.F-step g p x h a q) c.args.capacity c.args.owner c.args.id (seen c.args.seat.now) c.args.visit.now
-    (seen called.new.seat) a called.new.room called.new.visit) c.in-Done.is
-    (further code (λ p x h a q. given.F-step g p x h a q) c.args.capacity c.args.owner c.args.id
+    let passed = c.pass_others-passed in
+    let over =
+    passed_on code (λ p x h a q. given.F-step g p x h a q) c.args.capacity c.args.owner c.args.id
     (seen c.args.seat.now) c.args.visit.now law small (sym c.requires.known)
     (seen c.loop-next.seat) c.loop-next.call c.loop-next.room c.loop-next.visit c.loop-next.invariant.2
-    (seen called.new.seat) called.result called.new.room called.new.visit called.ensures.turns called.ensures.moves) in
+    (seen passed.new.seat) passed.result passed.ensures.goes (Done c.in-Done.found) c.in-Done.is passed.ensures.passed in
     (over.visits, over.bound, over.searched, over.found)
+
+pub returns-in-Done-after-clause-steps : goal.returns-in-Done-after-clause-steps
+returns-in-Done-after-clause-steps g c =
+    let met = g.met.T.Words in
+    let code : Coding g.row.T.Denot = coding_of g.T.Words.WORDS g.T.Words.words_of g.T.Words.value_of in
+    let law : IsCoding code = record { some = met.some; few = met.few; sized = met.sized; given_back = met.given_back } in
+    let small : c.args.capacity < 2 ^ 32 = search rules in
+    let passed = c.pass_others-passed in
+    let there =
+    passed_on code (λ p x h a q. given.F-step g p x h a q) c.args.capacity c.args.owner c.args.id
+    (seen c.args.seat.now) c.args.visit.now law small (sym c.requires.known)
+    (seen c.loop-next.seat) c.loop-next.call c.loop-next.room c.loop-next.visit c.loop-next.invariant.2
+    (seen passed.new.seat) passed.result passed.ensures.goes (GoOn c.in-GoOn.next) c.in-GoOn.is passed.ensures.passed in
+    let called = c.find_next-after in
+    let over : Over code (λ p x h a q. given.F-step g p x h a q) c.args.capacity c.args.owner c.args.id (seen c.args.seat.now) c.args.visit.now
+    (seen called.new.seat) c.in-Done-after.found called.new.visit
+    = subst (λ a. Further code (λ p x h a q. given.F-step g p x h a q) c.args.capacity c.args.owner c.args.id (seen c.args.seat.now) c.args.visit.now
+    (seen called.new.seat) a called.new.room called.new.visit) c.in-Done-after.is
+    (further code (λ p x h a q. given.F-step g p x h a q) c.args.capacity c.args.owner c.args.id
+    (seen c.args.seat.now) c.args.visit.now law small (sym c.requires.known)
+    (seen passed.new.seat) c.in-GoOn.next c.loop-next.room c.loop-next.visit there
+    (seen called.new.seat) called.result called.new.room called.new.visit called.ensures.turns called.ensures.moves) in
+    over.steps
 
 pub returns-in-Done-clause-steps : goal.returns-in-Done-clause-steps
 returns-in-Done-clause-steps g c =
@@ -85,13 +188,10 @@ returns-in-Done-clause-steps g c =
     let code : Coding g.row.T.Denot = coding_of g.T.Words.WORDS g.T.Words.words_of g.T.Words.value_of in
     let law : IsCoding code = record { some = met.some; few = met.few; sized = met.sized; given_back = met.given_back } in
     let small : c.args.capacity < 2 ^ 32 = search rules in
-    let called = c.find_next-after in
-    let over : Over code (λ p x h a q. given.F-step g p x h a q) c.args.capacity c.args.owner c.args.id (seen c.args.seat.now) c.args.visit.now
-    (seen called.new.seat) c.in-Done.found called.new.visit
-    = subst (λ a. Further code (λ p x h a q. given.F-step g p x h a q) c.args.capacity c.args.owner c.args.id (seen c.args.seat.now) c.args.visit.now
-    (seen called.new.seat) a called.new.room called.new.visit) c.in-Done.is
-    (further code (λ p x h a q. given.F-step g p x h a q) c.args.capacity c.args.owner c.args.id
+    let passed = c.pass_others-passed in
+    let over =
+    passed_on code (λ p x h a q. given.F-step g p x h a q) c.args.capacity c.args.owner c.args.id
     (seen c.args.seat.now) c.args.visit.now law small (sym c.requires.known)
     (seen c.loop-next.seat) c.loop-next.call c.loop-next.room c.loop-next.visit c.loop-next.invariant.2
-    (seen called.new.seat) called.result called.new.room called.new.visit called.ensures.turns called.ensures.moves) in
+    (seen passed.new.seat) passed.result passed.ensures.goes (Done c.in-Done.found) c.in-Done.is passed.ensures.passed in
     over.steps

@@ -2,14 +2,14 @@ use Rattle.lock_free_owners.proofs.Names.{coding_of, seen, IsSame}
 use Rattle.steps.specs.Container.Find.{find_left}
 use Rattle.lock_free_owners.specs.Container.Turns.{IsBoard}
 use Rattle.lock_free_owners.proofs.ContainerSet.Finds.{Searching}
-use Rattle.lock_free_owners.proofs.mpmc.container.visits.find_all.Given as goal
+use Rattle.lock_free_owners.proofs.mpmc.container.visits.find_all.Given as given
 
-abbrev pub invariant-loop-next : goal.invariant-loop-next
+abbrev pub invariant-loop-next : given.invariant-loop-next
 invariant-loop-next g l =
     IsSame l.fn.seat l.seat × IsBoard g.T.Words.WORDS l.seat
     × Searching (coding_of g.T.Words.WORDS g.T.Words.words_of g.T.Words.value_of)
-    (λ p x h a q. goal.F-step g p x h a q) l.fn.capacity l.fn.owner l.fn.id (seen l.fn.seat)
+    (λ p x h a q. given.F-step g p x h a q) l.fn.capacity l.fn.owner l.fn.id (seen l.fn.seat)
     l.fn.visit (seen l.seat) l.call l.room l.visit
 
-abbrev pub decreases-loop-next : goal.decreases-loop-next
+abbrev pub decreases-loop-next : given.decreases-loop-next
 decreases-loop-next g l = find_left g.T.Words.WORDS l.call.capacity l.call.stage

@@ -1,10 +1,10 @@
 use Rattle.lock_free_owners.proofs.Names.{◌≡◌, coding_of}
 use Rattle.history.specs.Steps.{TakesAtMost}
 use Rattle.lock_free_owners.specs.Container.FindTurns.{FindTells}
-use Rattle.lock_free_owners.proofs.mpmc.container.visits.step_find.Given as goal
+use Rattle.lock_free_owners.proofs.mpmc.container.visits.step_find.Given as given
 
 -- it tells what a step of the find does, whatever it has copied
-abbrev pub ghosts-step_telling : goal.ghosts-step_telling
+abbrev pub ghosts-step_telling : given.ghosts-step_telling
 ghosts-step_telling g a =
     record {
       told = λ v n w. (w.capacity ≡ v.capacity)

@@ -3,7 +3,7 @@ use Rattle.lock_free_owners.proofs.Names.{◌∙◌, ap, SetId, ◌+◌}
 use Rattle.lock_free_owners.proofs.Names.{seen, acquire_first}
 use Rattle.lock_free_owners.specs.Robust.Turns.{AcquireAt}
 use Rattle.steps.specs.declared.indices.enums.UniqueIndexSetAcquireFailure.TheVariants.{IsLocked as Locked}
-use Rattle.lock_free_owners.specs.Robust.Told.{WasFilled, WasGranted, WasRefused}
+use Rattle.lock_free_owners.specs.Robust.Contracts.{WasFilled, WasGranted, WasRefused}
 use Rattle.lock_free_owners.specs.Robust.Steps.{SetTakes}
 use Rattle.lock_free_owners.proofs.RobustSet.Facts.{filled, granted, refused, shut, acquire_takes}
 use Rattle.lock_free_owners.proofs.mpmc.robust_unique_index_set.RobustUniqueIndexSet.acquire.Goals as goal

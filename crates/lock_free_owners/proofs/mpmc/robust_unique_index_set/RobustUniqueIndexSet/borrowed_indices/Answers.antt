@@ -13,8 +13,8 @@ count_all-requires-clause-at g c =
     let v = seen mine.seated in
     subst (λ n. CountAt v v (first_borrowed n) tt) mine.known (count_first one_word v tt mine.idle mine.alone mine.some.0)
 
-pub returns-clause-goes_on : goal.returns-clause-goes_on
-returns-clause-goes_on g c =
+pub returns-clause-same : goal.returns-clause-same
+returns-clause-same g c =
     let v = seen c.args.pass.now.seated in
     let w = seen c.count_all.new.seat in
     record {

@@ -9,11 +9,11 @@ use Rattle.lock_free_owners.proofs.mpmc.robust_unique_index_set.RobustUniqueInde
 
 pub find_all-requires-clause-asks : goal.find_all-requires-clause-asks
 find_all-requires-clause-asks g c =
-    takes_places_at (ap (λ (z : SetId). z.capacity) (sym (c.is_locked.ensures.goes_on.set ∙ c.requires.pass))) c.requires.indices
+    takes_places_at (ap (λ (z : SetId). z.capacity) (sym (c.is_locked.ensures.same.set ∙ c.requires.pass))) c.requires.indices
 
-pub returns-clause-goes_on : goal.returns-clause-goes_on
-returns-clause-goes_on g c =
-    let on = c.is_locked.ensures.goes_on in
+pub returns-clause-same : goal.returns-clause-same
+returns-clause-same g c =
+    let on = c.is_locked.ensures.same in
     record {
       set = search rules;
       goes = looks_after c.args.pass.now.capacity (seen c.args.pass.now.seated) (seen c.is_locked.new.pass.seated) (seen c.find_all.new.seat) on.goes
@@ -23,7 +23,7 @@ returns-clause-goes_on g c =
 
 pub returns-clause-found : goal.returns-clause-found
 returns-clause-found g c =
-    let same = ap (λ (z : SetId). z.capacity) (c.is_locked.ensures.goes_on.set ∙ c.requires.pass) in
+    let same = ap (λ (z : SetId). z.capacity) (c.is_locked.ensures.same.set ∙ c.requires.pass) in
     record {
       locked = c.is_locked.result;
       begun = seen c.is_locked.new.pass.seated;
@@ -35,7 +35,7 @@ returns-clause-found g c =
 
 pub returns-clause-steps : goal.returns-clause-steps
 returns-clause-steps g c =
-    let same = ap (λ (z : SetId). z.capacity) (c.is_locked.ensures.goes_on.set ∙ c.requires.pass) in
+    let same = ap (λ (z : SetId). z.capacity) (c.is_locked.ensures.same.set ∙ c.requires.pass) in
     let first = c.is_locked.ensures.steps in
     let rest = subst (λ n. TakesAtMost n (seen c.is_locked.new.pass.seated) (seen c.find_all.new.seat)) same c.find_all.ensures.steps in
     omega arith

@@ -11,8 +11,8 @@ drive-requires-clause-at c =
     let mine = c.args.pass.now in
     look_first one_word (seen mine.seated) _ tt mine.idle mine.alone mine.some.0
 
-pub returns-clause-goes_on : goal.returns-clause-goes_on
-returns-clause-goes_on c =
+pub returns-clause-same : goal.returns-clause-same
+returns-clause-same c =
     let v = seen c.args.pass.now.seated in
     let w = seen c.drive.new.self in
     record {

@@ -22,8 +22,8 @@ recover_all-requires-clause-questions g c free = questions_at (ap (λ (z : SetId
 pub recover_all-requires-clause-freed : goal.recover_all-requires-clause-freed
 recover_all-requires-clause-freed g c free = freed_at (ap (λ (z : SetId). z.capacity) (sym c.requires.pass)) (c.requires.freed free)
 
-pub returns-clause-goes_on : goal.returns-clause-goes_on
-returns-clause-goes_on g c =
+pub returns-clause-same : goal.returns-clause-same
+returns-clause-same g c =
     let v = seen c.args.pass.now.seated in
     let w = seen c.recover_all.new.seat in
     record {

@@ -18,8 +18,8 @@ drive_on-requires-clause-at g c =
     subst (λ call. At one_word kinds.Robust (gives_owned given) v v call tt) (ap first_release mine.known ∙ sym c.new-call.ensures)
     (release_first one_word given v tt mine.idle mine.alone mine.some.0 (subst (λ n. c.args.index < n) (sym size) c.requires.index) (search rules))
 
-pub returns-clause-goes_on : goal.returns-clause-goes_on
-returns-clause-goes_on g c =
+pub returns-clause-same : goal.returns-clause-same
+returns-clause-same g c =
     let v = seen c.args.pass.now.seated in
     let w = seen c.drive_on.new.self in
     record {

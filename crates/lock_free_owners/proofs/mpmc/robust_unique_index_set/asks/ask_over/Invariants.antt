@@ -2,21 +2,21 @@ use Rattle.lock_free_owners.proofs.Names.{◌≡◌, ◌-◌, ℕ, ◌<◌, None
 use Rattle.lock_free_owners.specs.Robust.Recovering.{StandsSo}
 use Rattle.lock_free_owners.specs.Robust.Turns.{IsBoard}
 use Rattle.lock_free_owners.proofs.RobustSet.Turns.{passes}
-use Rattle.lock_free_owners.proofs.mpmc.robust_unique_index_set.asks.ask_over.Given as goal
+use Rattle.lock_free_owners.proofs.mpmc.robust_unique_index_set.asks.ask_over.Given as given
 
 -- whatever the view and the closures with which the recovery began
-abbrev pub invariant-cells : goal.invariant-cells
+abbrev pub invariant-cells : given.invariant-cells
 invariant-cells g l =
     record {
       same : IsSame l.fn.seat l.seat;
       board : IsBoard l.seat;
       within : l.cell < l.fn.capacity;
       goes : (base : View ℕ) (f : g.row.F.Denot) (s q : g.row.S.Denot) → base.going ≡ None
-          → StandsSo (λ p o i b r. goal.F-step g p o i b r) (λ x o i t. goal.S-step g x o i tt t) base.capacity l.fn.mode base f s
+          → StandsSo (λ p o i b r. given.F-step g p o i b r) (λ x o i t. given.S-step g x o i tt t) base.capacity l.fn.mode base f s
           (seen l.fn.seat) (passes l.fn.capacity l.fn.first) l.fn.predicate q
-          → StandsSo (λ p o i b r. goal.F-step g p o i b r) (λ x o i t. goal.S-step g x o i tt t) base.capacity l.fn.mode base f s
+          → StandsSo (λ p o i b r. given.F-step g p o i b r) (λ x o i t. given.S-step g x o i tt t) base.capacity l.fn.mode base f s
           (seen l.seat) (passes l.fn.capacity l.cell) l.predicate q;
     }
 
-abbrev pub decreases-cells : goal.decreases-cells
+abbrev pub decreases-cells : given.decreases-cells
 decreases-cells g l = l.fn.capacity - l.cell

@@ -14,7 +14,7 @@ returns-then-stands-value-clause-less g c =
     let so_far = c.cells.invariant in
     let taken = c.take.ensures.goes ∙ ap (λ (d : Find). find_after d c.args.owner c.look_at-stands.result) c.at_cell-here.ensures in
     subst (GoesDown c.args.capacity (find_left c.args.capacity (stages.LoadsCell c.args.first c.args.so_many))) (sym taken)
-    (load_down here c.args.capacity refl c.args.first c.args.so_many c.cells.cell c.args.so_many c.args.owner c.look_at-stands.result so_far.5 so_far.6)
+    (load_down here c.args.capacity refl c.args.first c.args.so_many c.cells.cell c.args.so_many c.args.owner c.look_at-stands.result so_far.past so_far.inside)
 
 pub returns-then-stands-value-clause-goes : goal.returns-then-stands-value-clause-goes
 returns-then-stands-value-clause-goes g c base f p began =
@@ -23,7 +23,7 @@ returns-then-stands-value-clause-goes g c base f p began =
     let here = at_cell c.args.capacity c.args.so_many c.cells.cell in
     let look = c.look_at-stands in
     let so_far = c.cells.invariant in
-    let searching = so_far.2 base f p began in
+    let searching = so_far.searching base f p began in
     let taken = c.take.ensures.goes ∙ ap (λ (d : Find). find_after d c.args.owner look.result) c.at_cell-here.ensures in
     subst (λ (a : After Find ℕ). Onward (λ q x a r. given.F-step g q x a r) c.args.capacity c.args.owner base f a (seen look.new.seat) p) (sym taken)
     (loaded (λ q x a r. given.F-step g q x a r) c.args.capacity c.args.owner base f small fits (seen c.cells.seat) (seen look.new.seat) here p searching
@@ -33,7 +33,7 @@ pub returns-then-cell-capacity-clause-less : goal.returns-then-cell-capacity-cla
 returns-then-cell-capacity-clause-less g c =
     let look = c.look_at-stands in
     let so_far = c.cells.invariant in
-    let low = so_far.6 in
+    let low = so_far.inside in
     let next = c.next_cell-cell.ensures.next in
     let past = c.if-cell-capacity.true in
     let last : c.args.capacity - 1 ≡ c.cells.cell = omega arith in
@@ -41,7 +41,7 @@ returns-then-cell-capacity-clause-less g c =
     let taken = c.take-then-cell-capacity.ensures.goes
     ∙ ap (λ (d : Find). find_after d c.args.owner look.result) (c.at_cell-last.ensures ∙ ap (at_cell c.args.capacity c.args.so_many) last) in
     subst (GoesDown c.args.capacity (find_left c.args.capacity (stages.LoadsCell c.args.first c.args.so_many))) (sym taken)
-    (load_down here c.args.capacity refl c.args.first c.args.so_many c.cells.cell c.args.so_many c.args.owner look.result so_far.5 so_far.6)
+    (load_down here c.args.capacity refl c.args.first c.args.so_many c.cells.cell c.args.so_many c.args.owner look.result so_far.past so_far.inside)
 
 pub returns-then-cell-capacity-clause-goes : goal.returns-then-cell-capacity-clause-goes
 returns-then-cell-capacity-clause-goes g c base f p began =
@@ -49,12 +49,12 @@ returns-then-cell-capacity-clause-goes g c base f p began =
     let fits : c.args.owner < empty = search rules in
     let look = c.look_at-stands in
     let so_far = c.cells.invariant in
-    let low = so_far.6 in
+    let low = so_far.inside in
     let next = c.next_cell-cell.ensures.next in
     let past = c.if-cell-capacity.true in
     let last : c.args.capacity - 1 ≡ c.cells.cell = omega arith in
     let here = at_cell c.args.capacity c.args.so_many c.cells.cell in
-    let searching = so_far.2 base f p began in
+    let searching = so_far.searching base f p began in
     let taken = c.take-then-cell-capacity.ensures.goes
     ∙ ap (λ (d : Find). find_after d c.args.owner look.result) (c.at_cell-last.ensures ∙ ap (at_cell c.args.capacity c.args.so_many) last) in
     subst (λ (a : After Find ℕ). Onward (λ q x a r. given.F-step g q x a r) c.args.capacity c.args.owner base f a (seen look.new.seat) p) (sym taken)
@@ -67,22 +67,23 @@ cells-preserved g c =
     let fits : c.args.owner < empty = search rules in
     let so_far = c.cells.invariant in
     let look = c.look_at-stands in
-    let low = so_far.6 in
-    let up = so_far.5 in
+    let low = so_far.inside in
+    let up = so_far.past in
     let next = c.next_cell-cell.ensures.next in
     let inside = c.if-cell-capacity.false in
     let here = at_cell c.args.capacity c.args.so_many c.cells.cell in
     let after =
     c.next_cell-cell.ensures.after (omega arith) c.args.so_many c.args.owner look.result
-    (λ e. c.if-stands-value.false (e ∙ sym c.value.ensures.number)) in (
-      (look.ensures.same.0 ∙ so_far.0.0, look.ensures.same.1 ∙ so_far.0.1, look.ensures.same.2 ∙ so_far.0.2),
-      look.ensures.board,
-      λ base f p began. let searching = so_far.2 base f p began in
+    (λ e. c.if-stands-value.false (e ∙ sym c.value.ensures.number)) in
+    record {
+      same = (look.ensures.same.0 ∙ so_far.same.0, look.ensures.same.1 ∙ so_far.same.1, look.ensures.same.2 ∙ so_far.same.2);
+      board = look.ensures.board;
+      searching = λ base f p began. let searching = so_far.searching base f p began in
           subst (λ (a : After Find ℕ). Onward (λ q x a r. given.F-step g q x a r) c.args.capacity c.args.owner base f a (seen look.new.seat) p) after
           (loaded (λ q x a r. given.F-step g q x a r) c.args.capacity c.args.owner base f small fits (seen c.cells.seat) (seen look.new.seat) here p searching
-          c.cells.cell c.args.so_many look.result searching.so_far look.ensures.looks searching.steps look.ensures.counted),
-      subst (λ s. 0 < s.part) (sym look.ensures.looks.looks.share) so_far.3,
-      look.ensures.looks.looks.capacity ∙ so_far.4,
-      omega arith,
-      omega arith,
-    )
+          c.cells.cell c.args.so_many look.result searching.so_far look.ensures.looks searching.steps look.ensures.counted);
+      some = subst (λ s. 0 < s.part) (sym look.ensures.looks.looks.share) so_far.some;
+      capacity = look.ensures.looks.looks.capacity ∙ so_far.capacity;
+      past = omega arith;
+      inside = omega arith;
+    }

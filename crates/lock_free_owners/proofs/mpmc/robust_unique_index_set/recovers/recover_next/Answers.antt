@@ -35,11 +35,11 @@ returns-after-yes-clause-goes g c =
 pub returns-in-EmptiesCell-clause-goes : goal.returns-in-EmptiesCell-clause-goes
 returns-in-EmptiesCell-clause-goes g c =
     let step = c.step_recover-after in
-    let told = c.tell_where in
+    let tells = c.tell_where in
     let named : c.in-EmptiesCell.owner < empty = search rules in (
       step.ensures.goes.0,
       step.ensures.goes.2,
       subst (λ (stage : RecoverStage). RecoverMoves (λ p o i b q. given.F-step g p o i b q) (λ s o i t. given.S-step g s o i tt t) c.args.call c.args.mode stage
-          step.ensures.goes.0 c.args.predicate.now c.args.recovered.now step.result c.args.predicate.now told.new.recovered) (sym c.in-EmptiesCell.is)
-          (named, refl, step.ensures.goes.1, (λ e. told.ensures.told (c.has_freed.ensures ∙ e)), (λ e. told.ensures.passed (c.has_freed.ensures ∙ e))),
+          step.ensures.goes.0 c.args.predicate.now c.args.recovered.now step.result c.args.predicate.now tells.new.recovered) (sym c.in-EmptiesCell.is)
+          (named, refl, step.ensures.goes.1, (λ e. tells.ensures.called (c.has_freed.ensures ∙ e)), (λ e. tells.ensures.passed (c.has_freed.ensures ∙ e))),
     )

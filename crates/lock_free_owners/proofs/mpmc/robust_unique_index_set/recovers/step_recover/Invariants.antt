@@ -1,6 +1,6 @@
 use Rattle.lock_free_owners.specs.Robust.Turns.{RecoverTells}
-use Rattle.lock_free_owners.proofs.mpmc.robust_unique_index_set.recovers.step_recover.Given as goal
+use Rattle.lock_free_owners.proofs.mpmc.robust_unique_index_set.recovers.step_recover.Given as given
 
 -- whatever the visits so far
-abbrev pub ghosts-step_telling : goal.ghosts-step_telling
+abbrev pub ghosts-step_telling : given.ghosts-step_telling
 ghosts-step_telling a = record { told = RecoverTells a.given.now a.call }

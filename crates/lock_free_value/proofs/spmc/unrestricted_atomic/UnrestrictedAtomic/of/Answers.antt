@@ -14,14 +14,15 @@ loop-at-init g c =
     let v = c.args.version in
     let first : c.opening_version.result ≡ first_stores v + 1 = c.opening_version.ensures ∙ first_is v in
     let size : c.WORDS-second_cell.result ≡ code.size = search rules in
-    let zeros : c.in_ok-words.words.items ≡ replicate (code.size * 2 + 2 + 1) 0 = search rules in (
-      refl,
-      refl,
-      search rules,
-      ap (λ n. 2 + n) size,
-      ap (λ zs. slice_set (slice_set zs 0 c.opening_version.result) 1 1) zeros
-          ∙ (ap (λ n. slice_set (slice_set (replicate (code.size * 2 + 2 + 1) 0) 0 n) 1 1) first ∙ begins code law c.args.value v),
-    )
+    let zeros : c.in_ok-words.words.items ≡ replicate (code.size * 2 + 2 + 1) 0 = search rules in
+    record {
+      version = refl;
+      value = refl;
+      end = search rules;
+      second_cell = ap (λ n. 2 + n) size;
+      words = ap (λ zs. slice_set (slice_set zs 0 c.opening_version.result) 1 1) zeros
+          ∙ (ap (λ n. slice_set (slice_set (replicate (code.size * 2 + 2 + 1) 0) 0 n) 1 1) first ∙ begins code law c.args.value v);
+    }
 
 pub loop-at-preserved : goal.loop-at-preserved
 loop-at-preserved g c =
@@ -29,16 +30,17 @@ loop-at-preserved g c =
     let code : Coding g.row.T.Denot = coding_of g.T.Words.WORDS g.T.Words.words_of g.T.Words.value_of in
     let law : IsCoding code = record { some = met.some; few = met.few; sized = met.sized; given_back = met.given_back } in
     let inv = c.loop-at.invariant in
-    let last = inv.2 in
-    let second = inv.3 in
-    let below : c.loop-at.at < code.size = (let t = c.loop-at-test.true in omega arith) in (
-      inv.0,
-      inv.1,
-      inv.2,
-      inv.3,
-      turns code law c.args.value c.args.version c.loop-at.at c.WORDS-second_cell.result c.word-word.result
-          c.first_word.result c.loop-at.words.items below inv.4 (omega arith) c.word-word.ensures c.first_word.ensures,
-    )
+    let last = inv.end in
+    let second = inv.second_cell in
+    let below : c.loop-at.at < code.size = (let t = c.loop-at-test.true in omega arith) in
+    record {
+      version = inv.version;
+      value = inv.value;
+      end = inv.end;
+      second_cell = inv.second_cell;
+      words = turns code law c.args.value c.args.version c.loop-at.at c.WORDS-second_cell.result c.word-word.result
+          c.first_word.result c.loop-at.words.items below inv.words (omega arith) c.word-word.ensures c.first_word.ensures;
+    }
 
 pub open-requires : goal.open-requires
 open-requires g c =
@@ -48,11 +50,12 @@ open-requires g c =
     let v = c.args.version in
     let x = c.args.value in
     let inv = c.loop-at.invariant in
-    let last = inv.2 in
+    let last = inv.end in
     let past = c.loop-at-test.false in
     let most = c.loop-at.auto.at-end in
     let done : c.loop-at.at ≡ code.size = omega arith in
-    value_opens code law x v c.ranges.version.fits c.as_slice.result.now (c.as_slice.ensures.value ∙ (inv.4 ∙ (ap (filling code x v) done ∙ ends code law x v)))
+    value_opens code law x v c.ranges.version.fits c.as_slice.result.now
+    (c.as_slice.ensures.value ∙ (inv.words ∙ (ap (filling code x v) done ∙ ends code law x v)))
 
 pub invariant_of-token-clause-begun : goal.invariant_of-token-clause-begun
 invariant_of-token-clause-begun g c =

@@ -3,10 +3,10 @@ use Rattle.lock_free_value.proofs.Names.{at_load, first_load, coding_of, View}
 use Rattle.steps.specs.declared.atomic.LoadStage.TheVariants as stages
 use Rattle.threaded.specs.Seats.{seen, IsSame}
 use Rattle.lock_free_value.specs.Loads.{IsBoard, LoadAt}
-use Rattle.lock_free_value.proofs.spmc.unrestricted_atomic.loads.copy_words.Given as goal
+use Rattle.lock_free_value.proofs.spmc.unrestricted_atomic.loads.copy_words.Given as given
 
 -- whatever the view with which the load began
-abbrev pub invariant-words : goal.invariant-words
+abbrev pub invariant-words : given.invariant-words
 invariant-words g l =
     IsSame l.fn.seat l.seat × IsBoard g.T.Words.WORDS l.seat
     × ((base : View g.row.T.Denot)
@@ -15,5 +15,5 @@ invariant-words g l =
     → LoadAt (coding_of g.T.Words.WORDS g.T.Words.words_of g.T.Words.value_of) g.R.Room.words_in base (seen l.seat)
     (at_load first_load (stages.LoadsCell l.of l.start l.place)) l.room)
 
-abbrev pub decreases-words : goal.decreases-words
+abbrev pub decreases-words : given.decreases-words
 decreases-words g l = g.T.Words.WORDS - l.place

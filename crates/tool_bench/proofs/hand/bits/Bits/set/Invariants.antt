@@ -1,5 +1,5 @@
 use Rattle.std.proofs.Common.{◌≡◌}
-use Rattle.tool_bench.proofs.hand.bits.Bits.set.Given as goal
+use Rattle.tool_bench.proofs.hand.bits.Bits.set.Given as given
 
-abbrev pub invariant-loop : goal.invariant-loop
+abbrev pub invariant-loop : given.invariant-loop
 invariant-loop g l = l.self.elements ≡ l.fn.self.elements

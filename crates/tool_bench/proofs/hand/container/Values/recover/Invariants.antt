@@ -1,5 +1,5 @@
 use Rattle.std.proofs.Common.{◌≡◌}
-use Rattle.tool_bench.proofs.hand.container.Values.recover.Given as goal
+use Rattle.tool_bench.proofs.hand.container.Values.recover.Given as given
 
-abbrev pub invariant-loop-index : goal.invariant-loop-index
+abbrev pub invariant-loop-index : given.invariant-loop-index
 invariant-loop-index g l = l.self.owners.capacity ≡ l.fn.self.owners.capacity

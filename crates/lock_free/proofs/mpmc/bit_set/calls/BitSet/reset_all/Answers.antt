@@ -1,7 +1,7 @@
 use Rattle.lock_free.proofs.Names.{rules, [], sym, ap, subst, seen}
 use Rattle.threaded.proofs.Callable.{takes_places_at}
 use Rattle.lock_free.specs.Sets.Calls.{SetId}
-use Rattle.lock_free.specs.Bits.Told.{HasCleanedOut, MissedNoPlace}
+use Rattle.lock_free.specs.Bits.Contracts.{HasCleanedOut, MissedNoPlace}
 use Rattle.lock_free.proofs.Bits.Cleared.{missed_none, cleared_none}
 use Rattle.lock_free.proofs.mpmc.bit_set.calls.BitSet.reset_all.Goals as goal
 use Rattle.lock_free.proofs.mpmc.bit_set.calls.BitSet.reset_all.Given as given

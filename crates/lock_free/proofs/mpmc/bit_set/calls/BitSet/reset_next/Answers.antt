@@ -3,7 +3,7 @@ use Rattle.steps.specs.Bits.BitSet.{first_reset}
 use Rattle.model.specs.declared.turn.Kind.TheVariants as kinds
 use Rattle.lock_free.specs.Bits.Stages.{resets_next}
 use Rattle.lock_free.specs.Sets.Calls.{SetId}
-use Rattle.lock_free.specs.Bits.Told.{AllClearOnce, CameFromPosition}
+use Rattle.lock_free.specs.Bits.Contracts.{AllClearOnce, CameFromPosition}
 use Rattle.lock_free.proofs.Bits.Resetting.{next_keeps, next_first, all_clear, came_from}
 use Rattle.lock_free.proofs.Steps.{bits_take}
 use Rattle.lock_free.proofs.mpmc.bit_set.calls.BitSet.reset_next.Goals as goal

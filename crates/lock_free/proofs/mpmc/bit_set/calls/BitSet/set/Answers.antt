@@ -2,7 +2,7 @@ use Rattle.lock_free.proofs.Names.{rules, ◌<◌, refl, sym, ap, subst, ◌∙�
 use Rattle.model.specs.declared.turn.Kind.TheVariants as kinds
 use Rattle.lock_free.specs.Bits.Stages.{sets_place}
 use Rattle.lock_free.specs.Sets.Calls.{SetId}
-use Rattle.lock_free.specs.Bits.Told.{HasSet}
+use Rattle.lock_free.specs.Bits.Contracts.{HasSet}
 use Rattle.lock_free.proofs.Bits.Setting.{set_keeps, set_first, added, stood}
 use Rattle.lock_free.proofs.Steps.{bits_take}
 use Rattle.lock_free.proofs.mpmc.bit_set.calls.BitSet.set.Goals as goal
@@ -18,8 +18,8 @@ drive_on-end-requires-clause-at g c =
     (set_first c.args.id v _ (record { known = refl; idle = mine.idle; alone = mine.alone; some = mine.some.0 })
     (subst (λ n. c.args.id < n) (sym (mine.known ∙ ap (λ (z : SetId). z.capacity) c.requires.pass)) c.requires.place))
 
-pub returns-clause-goes_on : goal.returns-clause-goes_on
-returns-clause-goes_on g c =
+pub returns-clause-same : goal.returns-clause-same
+returns-clause-same g c =
     record {
       set = search rules;
       share = search rules;

@@ -1,6 +1,6 @@
 use Rattle.lock_free.proofs.Names.{rules, [], sym, ap, subst, seen}
 use Rattle.lock_free.specs.Sets.Calls.{SetId}
-use Rattle.lock_free.specs.Counts.Told.{HasTakenOut, MissedNoCount}
+use Rattle.lock_free.specs.Counts.Contracts.{HasTakenOut, MissedNoCount}
 use Rattle.lock_free.proofs.Counts.Handed.{takes_counts_at}
 use Rattle.lock_free.proofs.Counts.Taken.{missed_none, taken_none}
 use Rattle.lock_free.proofs.mpmc.counting_bit_set.calls.CountingBitSet.reset_all.Goals as goal

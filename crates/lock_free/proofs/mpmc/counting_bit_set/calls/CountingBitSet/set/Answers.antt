@@ -1,7 +1,7 @@
 use Rattle.lock_free.proofs.Names.{rules, ◌<◌, refl, sym, ap, subst, ◌∙◌, one_word, seen, IsHistory, arith}
 use Rattle.model.specs.declared.turn.Kind.TheVariants as kinds
 use Rattle.lock_free.specs.Sets.Calls.{SetId}
-use Rattle.lock_free.specs.Counts.Told.{HasCounted, AnswersCount}
+use Rattle.lock_free.specs.Counts.Contracts.{HasCounted, AnswersCount}
 use Rattle.lock_free.proofs.Counts.Counting.{count_keeps, count_first, counted, answers}
 use Rattle.lock_free.specs.Counts.Stages.{counts_place}
 use Rattle.lock_free.proofs.Steps.{counts_take}
@@ -17,8 +17,8 @@ drive-old-requires-clause-at c =
     (record { known = refl; idle = mine.idle; alone = mine.alone; some = mine.some.0 })
     (subst (λ n. c.args.id < n) (sym (mine.known ∙ ap (λ (z : SetId). z.capacity) c.requires.pass)) c.requires.place)
 
-pub returns-clause-goes_on : goal.returns-clause-goes_on
-returns-clause-goes_on c =
+pub returns-clause-same : goal.returns-clause-same
+returns-clause-same c =
     record {
       set = search rules;
       share = search rules;

@@ -4,7 +4,7 @@ use Rattle.steps.specs.Queues.Ring.{first_pop, pop_answer}
 use Rattle.model.specs.declared.turn.Kind.TheVariants as kinds
 use Rattle.lock_free_queues.proofs.Queues.Ended.{has_popped, taken_if, empty_if}
 use Rattle.lock_free_queues.proofs.Queues.Indices.{index_of, in_room, index_pop}
-use Rattle.lock_free_queues.specs.Queues.Told.{HasPopped, HasTakenOut, WasEmpty}
+use Rattle.lock_free_queues.specs.Queues.Contracts.{HasPopped, HasTakenOut, WasEmpty}
 use Rattle.lock_free_queues.proofs.Queues.Paid.{pop_takes}
 use Rattle.lock_free_queues.proofs.spsc.index_queue.calls.Held+Numbers+u64+RingRule+Numbers+u64.pop.Goals as goal
 

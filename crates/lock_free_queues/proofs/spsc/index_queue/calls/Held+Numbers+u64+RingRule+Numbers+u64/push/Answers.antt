@@ -5,7 +5,7 @@ use Rattle.model.specs.declared.turn.Kind.TheVariants as kinds
 use Rattle.lock_free_queues.proofs.Queues.Facts.{goes_over}
 use Rattle.lock_free_queues.proofs.Queues.Ended.{pushed, published_if, full}
 use Rattle.lock_free_queues.proofs.Queues.Indices.{index_push}
-use Rattle.lock_free_queues.specs.Queues.Told.{HasPushed, WasFull, WasAtEnd}
+use Rattle.lock_free_queues.specs.Queues.Contracts.{HasPushed, WasFull, WasAtEnd}
 use Rattle.lock_free_queues.proofs.Queues.Paid.{push_takes}
 use Rattle.lock_free_queues.proofs.spsc.index_queue.calls.Held+Numbers+u64+RingRule+Numbers+u64.push.Goals as goal
 

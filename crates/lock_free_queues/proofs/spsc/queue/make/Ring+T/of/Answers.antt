@@ -10,19 +10,20 @@ pub loop-at-init : goal.loop-at-init
 loop-at-init g c =
     let size = g.T.Words.WORDS in
     let capacity = c.args.capacity in
-    let same : c.WORDS-size.result ≡ size = search rules in (
-      refl,
-      refl,
-      same,
-      c.of_zeros-value.ensures,
-      omega arith,
-      ap (λ n. n * c.cells_used.result) same ∙ ap (λ n. size * n) c.cells_used.ensures,
-      c.in_ok-words.ensures
+    let same : c.WORDS-size.result ≡ size = search rules in
+    record {
+      position = refl;
+      capacity = refl;
+      size = same;
+      value = c.of_zeros-value.ensures;
+      within = omega arith;
+      used = ap (λ n. n * c.cells_used.result) same ∙ ap (λ n. size * n) c.cells_used.ensures;
+      words = c.in_ok-words.ensures
           ∙ (ap (λ n. n ∷ n ∷ 1 ∷ 1 ∷ (replicate (c.WORDS-size.result * capacity) 0 ++ 0 ∷ [])) c.start_at-start.ensures
           ∙ ap (λ n. position_at capacity c.args.position ∷ position_at capacity c.args.position ∷ 1 ∷ 1
           ∷ (replicate (n * capacity) 0 ++ 0 ∷ []))
-          same),
-    )
+          same);
+    }
 
 pub loop-at-preserved : goal.loop-at-preserved
 loop-at-preserved g c =
@@ -33,18 +34,19 @@ loop-at-preserved g c =
     let at = c.loop-at.at in
     let value = c.of_zeros-value.result in
     let below = c.loop-at-test.true in
-    let used = inv.5 in
+    let used = inv.used in
     let most : size * min c.args.position capacity ≤ size * capacity = mul-le-mul_left size (omega arith) in
-    let word = c.word-word.ensures ∙ ap (λ n. slice_index (g.T.Words.words_of value) (at % n)) inv.2 in (
-      inv.0,
-      inv.1,
-      inv.2,
-      inv.3,
-      omega arith,
-      inv.5,
-      ap (λ zs. set zs (4 + at) c.word-word.result) inv.6
-          ∙ fills_more (g.T.Words.words_of value) size capacity start start 1 1 at c.word-word.result (omega arith) word,
-    )
+    let word = c.word-word.ensures ∙ ap (λ n. slice_index (g.T.Words.words_of value) (at % n)) inv.size in
+    record {
+      position = inv.position;
+      capacity = inv.capacity;
+      size = inv.size;
+      value = inv.value;
+      within = omega arith;
+      used = inv.used;
+      words = ap (λ zs. set zs (4 + at) c.word-word.result) inv.words
+          ∙ fills_more (g.T.Words.words_of value) size capacity start start 1 1 at c.word-word.result (omega arith) word;
+    }
 
 pub of_words-requires-clause-opens : goal.of_words-requires-clause-opens
 of_words-requires-clause-opens g c =
@@ -52,13 +54,13 @@ of_words-requires-clause-opens g c =
     let code : Coding g.row.T.Denot = coding_of g.T.Words.WORDS g.T.Words.words_of g.T.Words.value_of in
     let law : IsCoding code = record { some = met.some; few = met.few; sized = met.sized; given_back = met.given_back } in
     let inv = c.loop-at.invariant in
-    let used = inv.5 in
-    let low = inv.4 in
+    let used = inv.used in
+    let low = inv.within in
     let past = c.loop-at-test.false in
     let capacity = c.args.capacity in
     let start = position_at capacity c.args.position in
     let done : c.loop-at.at ≡ code.size * min c.args.position capacity = omega arith in
     let value = code.value_of (replicate code.size 0) in
     queue_opens code law of_values value capacity c.ranges.capacity.fits c.args.position c.ranges.position.fits c.loop-at.words.items
-    (inv.6 ∙ (ap (λ x. start ∷ start ∷ 1 ∷ 1 ∷ (filled (code.words_of x) code.size capacity c.loop-at.at ++ 0 ∷ [])) inv.3
+    (inv.words ∙ (ap (λ x. start ∷ start ∷ 1 ∷ 1 ∷ (filled (code.words_of x) code.size capacity c.loop-at.at ++ 0 ∷ [])) inv.value
     ∙ ap (λ n. start ∷ start ∷ 1 ∷ 1 ∷ (filled (code.words_of value) code.size capacity n ++ 0 ∷ [])) done))

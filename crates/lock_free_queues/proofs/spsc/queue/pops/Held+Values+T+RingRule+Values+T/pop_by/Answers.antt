@@ -6,7 +6,7 @@ use Rattle.model.specs.declared.turn.Kind.TheVariants as kinds
 use Rattle.history.specs.Rooms.{room_of}
 use Rattle.history.proofs.Rooms.{room_fresh}
 use Rattle.lock_free_queues.specs.Queues.Values.{token_view}
-use Rattle.lock_free_queues.specs.Queues.Told.{HasPopped, HasTakenOut, WasEmpty}
+use Rattle.lock_free_queues.specs.Queues.Contracts.{HasPopped, HasTakenOut, WasEmpty}
 use Rattle.lock_free_queues.proofs.Queues.Ended.{has_popped, taken_if, empty_if}
 use Rattle.lock_free_queues.proofs.Queues.Values.{value_of, value_pop}
 use Rattle.lock_free_queues.proofs.Queues.Paid.{value_pop_takes}

@@ -4,7 +4,7 @@ use Rattle.lock_free_queues.specs.Queues.Bounded.{machine_kind}
 use Rattle.lock_free_queues.proofs.Queues.Kinds.{lengths_keep}
 use Rattle.lock_free_queues.specs.Queues.Rings.{token_view}
 use Rattle.lock_free_queues.specs.Queues.Kinds.{most_waiting}
-use Rattle.lock_free_queues.specs.Queues.Told.{HasMeasured}
+use Rattle.lock_free_queues.specs.Queues.Contracts.{HasMeasured}
 use Rattle.lock_free_queues.proofs.Queues.Facts.{measured, few}
 use Rattle.history.specs.Steps.{TakesAlone}
 use Rattle.lock_free_queues.proofs.Queues.Paid.{length_takes}

@@ -13,19 +13,20 @@ loop-at-init g c =
     let code : Coding g.row.T.Denot = coding_of g.T.Words.WORDS g.T.Words.words_of g.T.Words.value_of in
     let mine = c.args.self.now in
     let v = token_view mine in
-    let long = c.requires.long in (
-      refl,
-      not_read v c.requires.all,
-      none_read code (machine_kind g.E.Kind.KIND) mine.capacity v v c.args.words.now.items,
-      refl,
-      omega arith,
-      omega arith,
-    )
+    let long = c.requires.long in
+    record {
+      queue = refl;
+      read = not_read v c.requires.all;
+      cells = none_read code (machine_kind g.E.Kind.KIND) mine.capacity v v c.args.words.now.items;
+      long = refl;
+      past = omega arith;
+      within = omega arith;
+    }
 
 pub read-word-requires : goal.read-word-requires
 read-word-requires g c =
     let inv = c.loop-at.invariant in
-    let same : c.loop-at.self.capacity ≡ c.args.self.now.capacity = ap (λ (q : QueueId). q.capacity) inv.0 in
+    let same : c.loop-at.self.capacity ≡ c.args.self.now.capacity = ap (λ (q : QueueId). q.capacity) inv.queue in
     let below = c.loop-at-test.true in
     let long = c.requires.long in
     subst (λ n. c.loop-at.at < 4 + words_in_cells g.T.Words.WORDS g.E.Kind.KIND n) (sym same) (omega arith)
@@ -41,21 +42,22 @@ loop-at-preserved g c =
     let at = c.loop-at.at in
     let words = c.loop-at.words.items in
     let found = c.read-word.result in
-    let same : c.loop-at.self.capacity ≡ mine.capacity = ap (λ (q : QueueId). q.capacity) inv.0 in
+    let same : c.loop-at.self.capacity ≡ mine.capacity = ap (λ (q : QueueId). q.capacity) inv.queue in
     let r = c.read-word.ensures.read in
     let below = c.loop-at-test.true in
-    let all = inv.3 in
-    let high = inv.4 in
+    let all = inv.long in
+    let high = inv.past in
     let here : WasRead code (machine_kind g.E.Kind.KIND) mine.capacity w x at found =
-    subst (λ n. WasRead code (machine_kind g.E.Kind.KIND) n w x at found) same c.read-word.ensures.found in (
-      c.read-word.ensures.queue ∙ inv.0,
-      then_read v w x inv.1 r,
-      one_read code (machine_kind g.E.Kind.KIND) mine.capacity v w x at found words (omega arith) inv.1 r inv.2 here,
-      length-set words at found ∙ inv.3,
-      omega arith,
-      omega arith,
-    )
+    subst (λ n. WasRead code (machine_kind g.E.Kind.KIND) n w x at found) same c.read-word.ensures.found in
+    record {
+      queue = c.read-word.ensures.queue ∙ inv.queue;
+      read = then_read v w x inv.read r;
+      cells = one_read code (machine_kind g.E.Kind.KIND) mine.capacity v w x at found words (omega arith) inv.read r inv.cells here;
+      long = length-set words at found ∙ inv.long;
+      past = omega arith;
+      within = omega arith;
+    }
 
 pub returns-clause-cells : goal.returns-clause-cells
 returns-clause-cells g c word high low =
-    (let past = c.loop-at-test.false in let all = c.loop-at.invariant.3 in c.loop-at.invariant.2 word high (omega arith))
+    (let past = c.loop-at-test.false in let all = c.loop-at.invariant.long in c.loop-at.invariant.cells word high (omega arith))

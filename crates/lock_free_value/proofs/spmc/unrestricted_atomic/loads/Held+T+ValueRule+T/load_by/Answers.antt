@@ -5,7 +5,7 @@ use Rattle.history.specs.Value.{loads_value}
 use Rattle.history.proofs.Rooms.{room_fresh}
 use Rattle.history.proofs.ValueCalls.{load_first}
 use Rattle.lock_free_value.specs.Calls.{seen}
-use Rattle.lock_free_value.specs.Told.{HasLoaded}
+use Rattle.lock_free_value.specs.ValueContracts.{HasLoaded}
 use Rattle.lock_free_value.proofs.Facts.{has_loaded, takes_here}
 use Rattle.lock_free_value.proofs.spmc.unrestricted_atomic.loads.Held+T+ValueRule+T.load_by.Goals as goal
 

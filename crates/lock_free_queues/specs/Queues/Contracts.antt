@@ -29,15 +29,16 @@ module _ {T : Type 0} where
   push_of (Index index) = PushIndex index
   push_of (Value value) = Push value
 
-  abbrev pub push_told : ℕ → Item T → Bool → List (Event T)
-  push_told p item true = Published p item ∷ Acted p (Queues (push_of item)) (Truth true) ∷ []
-  push_told p item false = Acted p (Queues (push_of item)) (Truth false) ∷ []
+  -- what a push writes
+  abbrev pub push_events : ℕ → Item T → Bool → List (Event T)
+  push_events p item true = Published p item ∷ Acted p (Queues (push_of item)) (Truth true) ∷ []
+  push_events p item false = Acted p (Queues (push_of item)) (Truth false) ∷ []
 
   -- the push is a call of the history, which published the item where it took it
   pub record HasPushed (item : Item T) (taken : Bool) (old new : View T) : Type 0 where
     pub by : ℕ
     pub mine : new.party ≡ Some by
-    pub called : Called by (Queues (push_of item)) (Truth taken) (push_told by item taken) old new
+    pub called : Called by (Queues (push_of item)) (Truth taken) (push_events by item taken) old new
 
   -- it is none, but a look at a queue whose last position is reached
   pub record WasAtEnd (old new : View T) : Type 0 where
@@ -84,15 +85,16 @@ module _ {T : Type 0} where
   popped_item (Some (Index index)) = PoppedIndex index
   popped_item (Some (Value value)) = Popped value
 
-  abbrev pub pop_told : ℕ → Option (Item T) → List (Event T)
-  pop_told p (Some item) = HandedOut p item ∷ Acted p (Queues Pop) (popped_item (Some item)) ∷ []
-  pop_told p None = Acted p (Queues Pop) (popped_item None) ∷ []
+  -- what a pop writes
+  abbrev pub pop_events : ℕ → Option (Item T) → List (Event T)
+  pop_events p (Some item) = HandedOut p item ∷ Acted p (Queues Pop) (popped_item (Some item)) ∷ []
+  pop_events p None = Acted p (Queues Pop) (popped_item None) ∷ []
 
   -- the pop is a call of the history, which took out the item that it answers
   pub record HasPopped (answer : Option (Item T)) (old new : View T) : Type 0 where
     pub by : ℕ
     pub mine : new.party ≡ Some by
-    pub called : Called by (Queues Pop) (popped_item answer) (pop_told by answer) old new
+    pub called : Called by (Queues Pop) (popped_item answer) (pop_events by answer) old new
 
   -- the item was taken out after all that was seen, at the position right after the last one that was seen to be taken
   pub record HasTakenOut (item : Item T) (old new : View T) : Type 0 where

@@ -20,7 +20,7 @@ use Rattle.history.specs.History.{Called}
 use Rattle.history.specs.Known.{events_by}
 use Rattle.history.specs.Settled.{IsResting, SettledFrom}
 use Rattle.lock_free_owners.specs.Container.Callable.{Visit}
-use Rattle.lock_free_owners.specs.Container.Told.{Answered}
+use Rattle.lock_free_owners.specs.Container.Contracts.{Answered}
 
 -- what a party writes that copies these
 abbrev pub copied : {T : Type 0} → ℕ → List (Visit T) → List (Event T)

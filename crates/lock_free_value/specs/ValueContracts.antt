@@ -1,4 +1,5 @@
--- What the calls on a value add to the history, and what they answer.
+-- What the calls on a value add to the history, and what they answer. (The checker has a module `contracts` of its own,
+-- so this one cannot be `Contracts`, as `lock_free` passes it on.)
 use Rattle.std.specs.Prelude.{◌≡◌, ℕ, Bool, true, Some, List, [], ◌∷◌, ◌++◌}
 use Rattle.laws_value.specs.Stored.{stored}
 use Rattle.model.specs.declared.event.Answer.TheVariants.{Truth, Loaded, Done}

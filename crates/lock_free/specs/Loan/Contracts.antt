@@ -7,8 +7,8 @@ use Rattle.model.specs.declared.turn.Kind.TheVariants as kinds
 use Rattle.model.specs.Coding.{one_word}
 use Rattle.history.specs.declared.view.View.{View}
 use Rattle.history.specs.Passes.{Goes}
-use Rattle.lock_free_queues.specs.Queues.Told.{HasPopped, FoundNone}
-use Rattle.lock_free.specs.Unique.Told.{HasGiven}
+use Rattle.lock_free_queues.specs.Queues.Contracts.{HasPopped, FoundNone}
+use Rattle.lock_free.specs.Unique.Contracts.{HasGiven}
 use Rattle.lock_free.specs.declared.spsc.loan.places.Place.{Place}
 use Rattle.lock_free.specs.Loan.Places.{is_sent, place_at}
 

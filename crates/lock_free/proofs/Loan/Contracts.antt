@@ -13,13 +13,13 @@ use Rattle.model.specs.declared.event.Item.TheVariants.{Index}
 use Rattle.model.specs.declared.turn.Kind.TheVariants as kinds
 use Rattle.history.specs.Passes.{Goes}
 use Rattle.history.proofs.Finds.{itself}
-use Rattle.lock_free_queues.specs.Queues.Told.{HasPopped, WasEmpty, FoundNone}
+use Rattle.lock_free_queues.specs.Queues.Contracts.{HasPopped, WasEmpty, FoundNone}
 use Rattle.lock_free.specs.declared.mpmc.unique_index_set.Pass.{Pass}
 use Rattle.lock_free.specs.declared.spsc.loan.places.Place.{Place}
-use Rattle.lock_free.specs.UniqueIndexSet.{SetId, view, set_of, GoesOn}
-use Rattle.lock_free.specs.Unique.Told.{HasGiven}
+use Rattle.lock_free.specs.UniqueIndexSet.{SetId, view, set_of, SamePass}
+use Rattle.lock_free.specs.Unique.Contracts.{HasGiven}
 use Rattle.lock_free.specs.Loan.Places.{is_sent, place_at}
-use Rattle.lock_free.specs.Loan.Told.{InTurn, SetGoesOn, HasFreed, HasPoppedOne, HasEmptied, sent_back}
+use Rattle.lock_free.specs.Loan.Contracts.{InTurn, SetGoesOn, HasFreed, HasPoppedOne, HasEmptied, sent_back}
 use Rattle.lock_free.specs.Unique.Held.{times}
 use Rattle.lock_free.proofs.Unique.Holding.{given_moves, times_both, times_one}
 use Rattle.lock_free.proofs.Bits.Cleared.{range_more}
@@ -41,7 +41,7 @@ begins_before p start answer wrote old new called =
       is = called.is ∙ append_assoc old.seen called.others (Begun p start ∷ (called.during ++ Finished p start answer ∷ []));
     }
 
-pub set_goes : (old new : Pass) → (view old).capacity ≡ (set_of old).capacity → GoesOn old new
+pub set_goes : (old new : Pass) → (view old).capacity ≡ (set_of old).capacity → SamePass old new
     → IsBeginning (view old).seen (view new).seen → SetGoesOn (view old) (view new)
 set_goes old new known goes since =
     record {
@@ -54,7 +54,7 @@ set_goes old new known goes since =
     }
 
 pub has_freed : (old new : Pass) (index : ℕ) (state : ReleaseState) → (view old).capacity ≡ (set_of old).capacity
-    → GoesOn old new → state ≡ Unlocked → HasGiven index state (view old) (view new) → HasFreed index (view old) (view new)
+    → SamePass old new → state ≡ Unlocked → HasGiven index state (view old) (view new) → HasFreed index (view old) (view new)
 has_freed old new index state known goes unlocked given =
     record {
       given = subst (λ s. HasGiven index s (view old) (view new)) unlocked given;

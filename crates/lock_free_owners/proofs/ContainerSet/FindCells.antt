@@ -1,0 +1,50 @@
+-- Where the loop of a find over cells leads.
+use Rattle.lock_free_owners.proofs.Names.{◌≡◌, ℕ, ◌+◌, ◌<◌, ◌≤◌, nat_lt, nat_tests, refl, arith, by_test, by_eq, List}
+use Rattle.lock_free_owners.proofs.Names.{subst, After, GoOn, Done, Buffer, Coding, View}
+use Rattle.steps.specs.Container.Find.{find_comes_to}
+use Rattle.steps.specs.Indices.Robust.Parts.{one_more}
+use Rattle.steps.specs.declared.container.find.Find.{Find}
+use Rattle.steps.specs.declared.container.find.FindStage.{FindStage}
+use Rattle.steps.specs.declared.container.find.FindStage.TheVariants as finds
+use Rattle.threaded.specs.Driver.{Next}
+use Rattle.lock_free_owners.specs.Container.FindTurns.{find_goes, FindAt, FindDone, at_cell}
+
+module _ {T : Type 0} (code : Coding T) (owner capacity cell found : ℕ) where
+  abbrev stands : FindStage → Find T (Buffer 128)
+  stands stage = record { capacity = capacity; stage = stage; of = record {} }
+
+  abbrev here : Find T (Buffer 128)
+  here = at_cell capacity cell found
+
+  abbrev counts : After (Find T (Buffer 128)) ℕ
+  counts = GoOn (stands (finds.LoadsCount cell (one_more found)))
+
+  own : (k : ℕ) → k ≡ owner → find_goes code owner here k ≡ counts
+  own k is = by_eq (λ z. z ≡ counts) k owner counts (find_comes_to here (cell + 1) found) (λ e. refl) (λ other. absurd (other is))
+
+  others : (k : ℕ) → (k ≡ owner → ⊥) → find_goes code owner here k ≡ find_comes_to here (cell + 1) found
+  others k other =
+      by_eq (λ z. z ≡ find_comes_to here (cell + 1) found) k owner counts (find_comes_to here (cell + 1) found)
+      (λ e. absurd (other e)) (λ ne. refl)
+
+  next : cell + 1 < capacity → find_comes_to here (cell + 1) found ≡ GoOn (at_cell {T = T} capacity (cell + 1) found)
+  next x0 = grind (arith, by_test, nat_lt, nat_tests)
+
+  past : capacity ≤ cell + 1 → find_comes_to here (cell + 1) found ≡ Done found
+  past x0 = grind (arith, by_test, nat_lt, nat_tests)
+
+  module _ (base w : View T) (room : Buffer 128) (copies : List (ℕ × T)) (k : ℕ) where
+    abbrev There : After (Find T (Buffer 128)) ℕ → Type 0
+    There a = Next (λ (z : View T). z.capacity) (FindAt code owner) (FindDone code owner) base a (room, copies) w
+
+    abbrev Loaded : Type 0
+    Loaded = There (find_goes code owner here k)
+
+    pub comes_own : k ≡ owner → Loaded → FindAt code owner base w (stands (finds.LoadsCount cell (one_more found))) (room, copies)
+    comes_own is loaded = subst There (own k is) loaded
+
+    pub comes_next : (k ≡ owner → ⊥) → cell + 1 < capacity → Loaded → FindAt code owner base w (at_cell capacity (cell + 1) found) (room, copies)
+    comes_next other within loaded = subst There (next within) (subst There (others k other) loaded)
+
+    pub comes_past : (k ≡ owner → ⊥) → capacity ≤ cell + 1 → Loaded → FindDone code owner base found (room, copies) w
+    comes_past other last loaded = subst There (past last) (subst There (others k other) loaded)

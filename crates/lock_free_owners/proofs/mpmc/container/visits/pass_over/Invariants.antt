@@ -1,0 +1,20 @@
+use Rattle.lock_free_owners.proofs.Names.{◌-◌, ◌<◌, ◌≤◌, coding_of, GoOn, seen, IsSame}
+use Rattle.history.specs.Steps.{TakesAtMost}
+use Rattle.lock_free_owners.specs.Container.FindTurns.{at_cell, FindPasses}
+use Rattle.lock_free_owners.specs.Container.Turns.{IsBoard}
+use Rattle.lock_free_owners.proofs.mpmc.container.visits.pass_over.Given as given
+
+abbrev pub invariant-cells : given.invariant-cells
+invariant-cells g l =
+    record {
+      same : IsSame l.fn.seat l.seat;
+      board : IsBoard g.T.Words.WORDS l.seat;
+      within : l.cell < l.fn.capacity;
+      onward : l.fn.first ≤ l.cell;
+      goes : FindPasses (coding_of g.T.Words.WORDS g.T.Words.words_of g.T.Words.value_of) l.fn.owner
+          (seen l.fn.seat) (at_cell l.fn.capacity l.fn.first l.fn.found) l.fn.room (GoOn (at_cell l.fn.capacity l.cell l.fn.found)) (seen l.seat);
+      steps : TakesAtMost (l.cell - l.fn.first) (seen l.fn.seat) (seen l.seat);
+    }
+
+abbrev pub decreases-cells : given.decreases-cells
+decreases-cells g l = l.fn.capacity - l.cell
