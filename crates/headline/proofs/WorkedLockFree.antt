@@ -15,9 +15,9 @@ use Rattle.model.specs.declared.turn.Kind.TheVariants.{IndexQueue, Overflow, Que
 use Rattle.model.specs.declared.turn.Turn.{Turn}
 use Rattle.model.specs.declared.turn.Turn.TheVariants.{Die, Decide}
 use Rattle.model.specs.Coding.{one_word, IsCoding}
-use Rattle.model.specs.LockFree.{Bound, IsBelow, BeginsSuch, AreAllowedOn, IsLockFreeOf, IsDefault, ends, steps_in}
+use Rattle.model.specs.LockFree.{Bound, IsBelow, BeginsSuch, IsLockFreeOf, IsDefault, ends, steps_in}
 use Rattle.model.specs.LockFree.{lock_free_bound, default_bound, default_container_bound}
-use Rattle.model.specs.Turns.{run_on, after_turns, IsReachedOn}
+use Rattle.model.specs.Turns.{run_on, after_turns, AreAllowedOn, IsReachedOn}
 use Rattle.model.specs.World.{Trace, opening}
 use Rattle.model.proofs.Runs.{nexts, begins}
 use Rattle.laws_loan.specs.LockFree.{channel_bound}

@@ -6,8 +6,8 @@ use Rattle.model.specs.declared.event.Event.{Event}
 use Rattle.model.specs.declared.turn.Kind.{Kind}
 use Rattle.model.specs.declared.turn.Turn.{Turn}
 use Rattle.model.specs.Coding.{Coding}
-use Rattle.model.specs.LockFree.{Bound, IsBelow, AreAllowedOn, ends, steps_in}
-use Rattle.model.specs.Turns.{after_turns}
+use Rattle.model.specs.LockFree.{Bound, IsBelow, ends, steps_in}
+use Rattle.model.specs.Turns.{after_turns, AreAllowedOn}
 use Rattle.model.specs.World.{Trace}
 use Rattle.history.specs.declared.view.View.{View}
 use Rattle.history.specs.History.{IsHistory, IsMachine}

@@ -1,7 +1,7 @@
 -- The driver over the rule of a machine: what it asks of the steps of a call, shown once for all calls of all kinds.
-use Rattle.history.proofs.Names.{◌^◌, true, false, ◌≡◌, inl, inr, ℕ, ◌+◌, ◌<◌, ◌≤◌, Some, None, List, [], ◌∷◌, ◌++◌}
-use Rattle.history.proofs.Names.{length, slice_index, slice_set, refl, sym, ap, subst, ◌∙◌, arith, Allows, written}
-use Rattle.history.proofs.Names.{Ask, After, GoOn, Want, Event, Flight, Kind, Next, Coding, want_of, after_of}
+use Rattle.history.proofs.Names.{◌^◌, true, false, ◌≡◌, inl, inr, ℕ, ◌+◌, ◌<◌, ◌≤◌, Some, List, [], ◌∷◌}
+use Rattle.history.proofs.Names.{length, slice_index, slice_set, refl, sym, ap, subst, ◌∙◌, arith, written}
+use Rattle.history.proofs.Names.{Ask, After, GoOn, Want, Event, Flight, Kind, Next, Coding, want_of}
 use Rattle.history.proofs.Names.{goes_of, is_question, after_turn, World, Trace, answered, Owes, NextKnown, KeepsRule}
 use Rattle.history.proofs.Names.{IsFreshCall}
 use mathlib.Core.Option.{some}
@@ -12,15 +12,12 @@ use Rattle.steps.specs.declared.ask.After.TheVariants.{Done}
 use Rattle.steps.specs.declared.ask.Want.TheVariants as wants
 use Rattle.threaded.specs.Driver.{Told}
 use Rattle.history.specs.declared.view.View.{View}
-use Rattle.history.specs.Known.{events_by}
-use Rattle.history.specs.History.{IsRun, IsMachine, IsLate, call_in}
-use Rattle.history.specs.Stages.{Calling, IsFirst, At, Ends, LeftOut, Over, StepsOnly}
+use Rattle.history.specs.History.{IsRun, IsMachine, IsLate}
+use Rattle.history.specs.Stages.{Calling, At, Ends, LeftOut, Over, StepsOnly}
 use Rattle.history.specs.Views.{Looks}
-use Rattle.history.proofs.Known.{by_mine, AreOf}
 use Rattle.history.proofs.Calls.{get_left}
 use Rattle.history.proofs.Turns.{KindLaws, KeptLaws, MachineLaws, kept_laws, goes_on_alike, machine_laws, Between}
 use Rattle.history.proofs.Steps.{settle}
-use Rattle.history.proofs.Passes.{set_same}
 use Rattle.history.proofs.PassLooks.{looks_at}
 use Rattle.history.proofs.CallsIn.{by_bool, AsksFor, StepsIn, StepsThere, IsCallThere, ActsAlone, steps_alone, with_goes}
 use Rattle.history.proofs.CallTurns.{then_gained, next_between, view_then, asked_then, goes_then, ends_then}

@@ -1,6 +1,6 @@
 -- A look at the cell of an index says whether the index has an owner just then, so a find tells of one index after another.
 use Rattle.history.proofs.Names.{◌≡◌, ◌≢◌, ⊎_elim, ℕ, ◌+◌, ◌<◌, Option, Some, List, [], ◌∷◌, ◌++◌, sym, ap}
-use Rattle.history.proofs.Names.{subst, ◌∙◌, append_assoc, append-nil, arith, Contains, cases_eq, All-push}
+use Rattle.history.proofs.Names.{subst, ◌∙◌, arith, Contains, cases_eq, All-push}
 use Rattle.history.proofs.Names.{All-weaker, Contains-push, Contains-append_left, empty, Event, Coding, filled_of}
 use Rattle.steps.specs.Indices.Robust.Parts.{cell_word}
 use Rattle.model.specs.declared.turn.Kind.TheVariants as kinds
@@ -9,6 +9,7 @@ use Rattle.history.specs.declared.view.View.{View}
 use Rattle.history.specs.Finds.{HeldBetween, WereOwned}
 use Rattle.history.specs.History.{IsBeginning}
 use Rattle.history.specs.Views.{LooksAt}
+use Rattle.history.proofs.Known.{begins_further, itself}
 use Rattle.history.proofs.Robusts.{is_open_set, robust_size}
 
 -- ---- what a cell says
@@ -37,14 +38,8 @@ module _ {T : Type 0} (code : Coding T) (capacity index k : ℕ) (low : index < 
 -- ---- one index after another
 
 module _ {T : Type 0} where
-  longer : (old mid new : List (Event T)) → IsBeginning old mid → IsBeginning mid new → IsBeginning old new
-  longer x0 x1 x2 x3 x4 = grind (arith, append_assoc)
-
-  pub itself : (es : List (Event T)) → IsBeginning es es
-  itself es = record { rest = []; is = sym (append-nil es) }
-
   held_later : (P : List (Event T) → Type 0) (old mid new : List (Event T)) → IsBeginning mid new → HeldBetween P old mid → HeldBetween P old new
-  held_later x0 x1 x2 x3 x4 x5 = grind (arith, longer)
+  held_later x0 x1 x2 x3 x4 x5 = grind (arith, begins_further)
 
   held_now : (P : List (Event T) → Type 0) (old new : List (Event T)) → IsBeginning old new → P new → HeldBetween P old new
   held_now P old new on now = grind (arith, itself)

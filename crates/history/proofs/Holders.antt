@@ -1,9 +1,9 @@
 -- In a bounded queue only the holder of a role publishes, or takes out; there is room for what is published, and what is
 -- taken out waited first.
-use Rattle.history.proofs.Names.{◌≡◌, ◌<◌, ◌≤◌, ℕ, Bool, true, false, Option, Some, None, List, [], ◌∷◌}
+use Rattle.history.proofs.Names.{◌≡◌, ◌<◌, ◌≤◌, ℕ, Bool, false, Option, Some, None, List, [], ◌∷◌}
 use Rattle.history.proofs.Names.{◌++◌, length, map, fold, refl, sym, ap, subst, ◌∙◌, append-nil, append_assoc}
-use Rattle.history.proofs.Names.{arith, length-map, fold-append, flat_map, Answer}
-use Rattle.history.proofs.Names.{Event, Published, HandedOut, Item, Start, Queues, Flight, Registry}
+use Rattle.history.proofs.Names.{arith, length-map, fold-append, Answer}
+use Rattle.history.proofs.Names.{Event, Begun, Published, HandedOut, Item, Start, Queues, Flight, Registry}
 use Rattle.history.proofs.Names.{QueueStart, PushIndex, Pop, Roles, QueueFlight}
 use Rattle.history.proofs.Names.{Values, Length, Doing, Party, Refusal, Turn}
 use Rattle.history.proofs.Names.{Coding, one_word, step_of, producer_of, consumer_of}
@@ -16,6 +16,7 @@ use Rattle.history.proofs.Names.{of_values, kind_of, KnowsPush, KnowsPop, AllMay
 use Rattle.std.proofs.Common.{length-append}
 use Rattle.std.proofs.lemmas.Grind.{flat_map-append}
 use Rattle.steps.specs.declared.queues.roles.Role.{Role as Side}
+use Rattle.steps.specs.declared.queues.roles.Role.TheVariants.{Producer, Consumer}
 use Rattle.steps.specs.declared.queues.ring.PushStage as pushes
 use Rattle.steps.specs.declared.queues.ring.PopStage as pops
 use Rattle.model.specs.declared.families.Flight as flights
@@ -36,7 +37,7 @@ use Rattle.laws_queues.proofs.Queues.Knows.{At}
 use Rattle.laws_queues.proofs.Queues.Sound.{opening_sound, fresh_laws, IsFreshTurn}
 use Rattle.history.specs.History.{IsRun, IsHistory}
 use Rattle.history.specs.Roles.{ByHolder, ByHolderOf, role_after, marks}
-use Rattle.history.specs.Known.{events_by}
+use Rattle.history.proofs.OneHolder.{OneRole, HeldByOne}
 use Rattle.history.proofs.Reached.{queue_run}
 
 module _ {T : Type 0} (c : ℕ) where
@@ -256,86 +257,39 @@ module _ {T : Type 0} (c : ℕ) where
       → IsListed part
   always_listed code r events h = listed_in events (subst (Each (KeepsList c)) (sym h.is) (lists_kept code r c h.trace h.run))
 
--- what is so of both roles is so of one
+-- ---- a role that one party at a time holds
+
 module _ {T : Type 0} where
-  of_one : (role : Side) (before : List (Event T)) (e : Event T) → ByHolder before e → ByHolderOf role before e
-  of_one x0 x1 x2 x3 = grind arith
+  abbrev pub queue_role : Side → OneRole T (Item T)
+  queue_role role = record { after = role_after role; marks = marks role; ByIts = ByHolderOf role; Grants = GrantsRight }
 
-  each_of : (role : Side) (events : List (Event T)) → Each ByHolder events → Each (ByHolderOf role) events
-  each_of role events each before after e is = of_one role before e (each before after e is)
-
--- ---- while a party holds a role nobody else writes what its holder writes
-
-module _ {T : Type 0} (p : ℕ) where
-  abbrev held : Side → List (Event T) → Option ℕ
+  abbrev pub held : Side → List (Event T) → Option ℕ
   held role events = fold (role_after role) None events
 
-  -- before an event of another that leaves it to the party, the party held it, and the event wrote nothing of it
-  abbrev Backs : Side → List (Event T) → Event T → Type 0
-  Backs role before e = (held role before ≡ Some p) × (marks role e ≡ [])
+  begun_leaves : (role : Side) (o : Option ℕ) (p : ℕ) (start : Start T) → role_after {T = T} role o (Begun p start) ≡ o
+  begun_leaves Producer o p start = refl
+  begun_leaves Consumer o p start = refl
 
-  back_from : (role : Side) (before : List (Event T)) (e : Event T) → ByHolderOf role before e
-      → is_party p (whose e) ≡ false → role_after role (held role before) e ≡ Some p → Backs role before e
-  back_from x0 x1 x2 x3 x4 x5 = grind arith
-
-  pub back_over_of : (role : Side) (before es : List (Event T)) → Each (ByHolderOf role) (before ++ es)
-      → events_by p es ≡ [] → held role (before ++ es) ≡ Some p
-      → (held role before ≡ Some p) × (flat_map (marks role) es ≡ [])
-  back_over_of role before [] each none now = (ap (held role) (sym (append-nil before)) ∙ now, refl)
-  back_over_of role before (e ∷ es) each none now =
-      go (λ rest. back_over_of role (before ++ e ∷ []) es (subst (Each (ByHolderOf role)) (sym longer) each) rest
-      (ap (held role) longer ∙ now))
-      (is_party p (whose e)) refl
-    where
-      longer : (before ++ e ∷ []) ++ es ≡ before ++ e ∷ es
-      longer = append_assoc before (e ∷ []) es
-
-      go : (events_by p es ≡ [] → (held role (before ++ e ∷ []) ≡ Some p) × (flat_map (marks role) es ≡ []))
-          → (b : Bool) → is_party p (whose e) ≡ b → (held role before ≡ Some p) × (flat_map (marks role) (e ∷ es) ≡ [])
-      go later true t = (let mine : e ∷ events_by p es ≡ [] = rw t at none in absurd (cc))
-      go later false t = grind (arith, back_from, fold-append, marks)
-
-  pub back_over : (role : Side) (before es : List (Event T)) → Each ByHolder (before ++ es) → events_by p es ≡ []
-      → held role (before ++ es) ≡ Some p → (held role before ≡ Some p) × (flat_map (marks role) es ≡ [])
-  back_over role before es each = back_over_of role before es (each_of role (before ++ es) each)
-
--- ---- and it stays with the party until the party gives it back
+  begun_marks : (role : Side) (p : ℕ) (start : Start T) → marks {T = T} role (Begun p start) ≡ []
+  begun_marks Producer p start = refl
+  begun_marks Consumer p start = refl
 
 module _ {T : Type 0} (p : ℕ) where
-  -- an event that neither moves the role nor is its holder's
-  abbrev pub IsPlain : Side → Event T → Type 0
-  IsPlain role e = (marks role e ≡ []) × (role_after role (Some p) e ≡ Some p)
-
-  abbrev pub ArePlain : Side → List (Event T) → Type 0
-  ArePlain role [] = Unit {0}
-  ArePlain role (e ∷ es) = IsPlain role e × ArePlain role es
+  back_from : (role : Side) (before : List (Event T)) (e : Event T) → ByHolderOf role before e
+      → is_party p (whose e) ≡ false → role_after role (held role before) e ≡ Some p
+      → (held role before ≡ Some p) × (marks role e ≡ [])
+  back_from x0 x1 x2 x3 x4 x5 = grind arith
 
   forth_from : (role : Side) (before : List (Event T)) (e : Event T) → ByHolderOf role before e
-      → GrantsRight before e → is_party p (whose e) ≡ false → held p role before ≡ Some p → IsPlain role e
+      → GrantsRight before e → is_party p (whose e) ≡ false → held role before ≡ Some p
+      → (marks role e ≡ []) × (role_after role (Some p) e ≡ Some p)
   forth_from x0 x1 x2 x3 x4 x5 x6 = grind arith
 
-  pub forth_over_of : (role : Side) (before es : List (Event T)) → Each (ByHolderOf role) (before ++ es)
-      → Each GrantsRight (before ++ es) → ArePlain role (events_by p es) → held p role before ≡ Some p
-      → flat_map (marks role) es ≡ []
-  forth_over_of role before [] each grants plain now = refl
-  forth_over_of role before (e ∷ es) each grants plain now =
-      go (λ rest still. forth_over_of role (before ++ e ∷ []) es (subst (Each (ByHolderOf role)) (sym longer) each)
-      (subst (Each GrantsRight) (sym longer) grants) rest
-      (fold-append (role_after role) None before (e ∷ []) ∙ (ap (λ o. role_after role o e) now ∙ still)))
-      (is_party p (whose e)) refl
-    where
-      longer : (before ++ e ∷ []) ++ es ≡ before ++ e ∷ es
-      longer = append_assoc before (e ∷ []) es
-
-      go : (ArePlain role (events_by p es) → role_after role (Some p) e ≡ Some p → flat_map (marks role) es ≡ [])
-          → (b : Bool) → is_party p (whose e) ≡ b → flat_map (marks role) (e ∷ es) ≡ []
-      go later true t = grind (arith, marks)
-      go later false t =
-          let rest : ArePlain role (events_by p es) = rw t at plain in
-          let one = forth_from role before e (each before es e refl) (grants before es e refl) t now in
-          ap (λ xs. xs ++ flat_map (marks role) es) one.0 ∙ later rest one.1
-
-  pub forth_over : (role : Side) (before es : List (Event T)) → Each ByHolder (before ++ es)
-      → Each GrantsRight (before ++ es) → ArePlain role (events_by p es) → held p role before ≡ Some p
-      → flat_map (marks role) es ≡ []
-  forth_over role before es each = forth_over_of role before es (each_of role (before ++ es) each)
+module _ {T : Type 0} where
+  pub one_holder : (role : Side) → HeldByOne (queue_role {T = T} role)
+  one_holder role =
+      record {
+        back = λ p before e by other leaves. back_from p role before e by other leaves;
+        forth = λ p before e by grants other now. forth_from p role before e by grants other now;
+        begin = λ o p start. (begun_leaves role o p start, begun_marks role p start);
+      }

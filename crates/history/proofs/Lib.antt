@@ -1,5 +1,6 @@
 -- The rule of a machine, for all kinds and calls.
 pub mod Known
+pub mod Locks
 pub mod AllSeen
 mod Names
 pub mod Reached
@@ -58,6 +59,7 @@ pub mod ValueLaws
 pub mod Alone
 pub mod ValueOpened
 pub mod EachEvent
+pub mod OneHolder
 pub mod ValueHolders
 pub mod ValueQueueCalls
 pub mod ValueQueueRoles

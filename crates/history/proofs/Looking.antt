@@ -7,8 +7,7 @@ use Rattle.history.specs.declared.view.View.{View}
 use Rattle.history.specs.History.{IsOfParties}
 use Rattle.history.specs.Known.{own_of, events_by, owned}
 use Rattle.history.specs.Views.{Looks}
-use Rattle.history.proofs.Known.{by_more, nil_right, none_before, sum_first}
-use Rattle.history.proofs.Passes.{begins_with}
+use Rattle.history.proofs.Known.{begins_further, by_more, nil_right, none_before, sum_first}
 
 no_length : {A : Type 0} → (xs : List A) → length xs ≡ 0 → xs ≡ []
 no_length [] none = refl
@@ -78,7 +77,7 @@ module _ {T : Type 0} (code : Coding T) (kind : Kind) (size : ℕ) (u v w : View
         other = b.other;
         made = b.made ∙ a.made;
         mine = record { rest = a.mine.rest ++ b.mine.rest; is = mine_both };
-        theirs = begins_with code kind size u.other v.seen w.seen a.theirs b.mine;
+        theirs = begins_further u.other v.seen w.seen a.theirs b.mine;
         whole = λ all. ⊎_elim (λ (e : w.seen ≡ v.seen). ⊎_elim (λ f. inl (e ∙ f)) (λ f. inr (e ∙ f)) (a.whole all))
             (λ (e : w.seen ≡ v.other).
             (let none : w.seen ≡ [] = e ∙ a.other in inl (none ∙ sym (none_left u.seen (a.mine.rest ++ b.mine.rest) (sym none ∙ mine_both)))))

@@ -28,7 +28,7 @@ pub use Rattle.model.proofs.Frame.{Family, LawsWhere, Sound, is_true}
 pub use Rattle.model.proofs.Linearizable.Kinds.{run_linearizable}
 pub use Rattle.model.proofs.Parties.{found_put_same, party_put_other, party_put_same}
 pub use Rattle.model.proofs.Reached.{kept_by_runs, kept_by_runs_on, reached_on_more, reached_on_opening, turn_making}
-pub use Rattle.model.proofs.Readings.{AreRight, Each-append, Each-nil}
+pub use Rattle.model.proofs.Readings.{AreRight, Each-append, Each-less, Each-nil}
 pub use Rattle.model.proofs.Rows.{must_be_due, passes}
 pub use Rattle.model.proofs.Scenes.{stands_there}
 pub use Rattle.model.specs.Coding.{Coding, IsCoding, one_word}
@@ -46,7 +46,7 @@ pub use Rattle.model.specs.Families.Container.Calls.{recover_of, remove_of, remo
 pub use Rattle.model.specs.Families.Container.Keeping.{is_look_of}
 pub use Rattle.model.specs.Families.Container.Looks.{WasCopied, is_looking, state_in}
 pub use Rattle.model.specs.Families.Container.Opening.{names_owner}
-pub use Rattle.model.specs.Families.Container.Steps.{add_effects, find_effects, hidden, look_effects, placed}
+pub use Rattle.model.specs.Families.Container.Steps.{add_effects, find_effects, hidden, look_effects}
 pub use Rattle.model.specs.Families.Container.Steps.{question_of, questions, remove_effects, replace_effects}
 pub use Rattle.model.specs.Families.Indices.Promises.{HoldsRight, IsIndexSet}
 pub use Rattle.model.specs.Families.Indices.Robust.Dead.{has_died}
@@ -96,7 +96,6 @@ pub use Rattle.model.specs.declared.families.bits.BitsStart.TheVariants.{ResetAl
 pub use Rattle.model.specs.declared.families.bits.calls.BitsFlight.{BitsFlight}
 pub use Rattle.model.specs.declared.families.container.ContainerStart.{ContainerStart}
 pub use Rattle.model.specs.declared.families.container.ContainerStart.TheVariants.{Add, Find, Remove, Replace}
-pub use Rattle.model.specs.declared.families.container.calls.ContainerFlight.{ContainerFlight}
 pub use Rattle.model.specs.declared.families.container.calls.LookOf.{LookOf}
 pub use Rattle.model.specs.declared.families.queues.QueueKind.{QueueKind}
 pub use Rattle.model.specs.declared.families.queues.QueueStart.{QueueStart}
@@ -144,7 +143,7 @@ pub use Rattle.steps.specs.Container.State.{Numbers, Showing, shown_at}
 pub use Rattle.steps.specs.Indices.Robust.Looks.{borrowed_counted, borrowed_want, first_borrowed}
 pub use Rattle.steps.specs.Indices.Robust.Parts.{count_after, count_want, empty, first_lock, lock_after, lock_want}
 pub use Rattle.steps.specs.Indices.Robust.Parts.{locked, raise_after, raise_want}
-pub use Rattle.steps.specs.Indices.Robust.Release.{Released, release_raised}
+pub use Rattle.steps.specs.Indices.Robust.Release.{Released}
 pub use Rattle.steps.specs.Picks.{by_test}
 pub use Rattle.steps.specs.Queues.Lengths.{first_len, len_after, len_asks, len_takes, len_want}
 pub use Rattle.steps.specs.Queues.Ring.{after_position, load}

@@ -1,6 +1,6 @@
 -- The calls on the overflowing queue as calls of the model. What a push has written is read from the machine, since a pop
 -- may have written its act.
-use Rattle.history.proofs.Names.{inl, ◌≡◌, ℕ, ◌+◌, ◌^◌, ◌%◌, ◌<◌, ◌==◌, true, false, Option}
+use Rattle.history.proofs.Names.{inl, ◌≡◌, ℕ, ◌+◌, ◌^◌, ◌%◌, ◌<◌, ◌==◌, Bool, true, false, cond, Option}
 use Rattle.history.proofs.Names.{Some, None, List, [], ◌∷◌, ◌++◌, get_or, slice_index, fold, refl, sym, ap, subst}
 use Rattle.history.proofs.Names.{◌∙◌, append_assoc, append-nil, arith, nat_tests, AllByRecursion, written, Ask}
 use Rattle.history.proofs.Names.{Exchange, GoOn, OneWord, Producer, after_position, Answer}
@@ -14,9 +14,10 @@ use Rattle.steps.specs.declared.ask.After.TheVariants.{Done}
 use Rattle.steps.specs.declared.ask.Want.TheVariants as wants
 use Rattle.steps.specs.declared.queues.overflow.Push.{Push as Pushing}
 use Rattle.steps.specs.declared.queues.overflow.PushEnd.{PushEnd}
-use Rattle.steps.specs.declared.queues.overflow.PushEnd.TheVariants.{Own}
+use Rattle.steps.specs.declared.queues.overflow.PushEnd.TheVariants.{Added, Own, Oldest}
 use Rattle.steps.specs.declared.queues.overflow.PushStage as pushes
-use Rattle.steps.specs.Queues.Overflow.{cell_word, first_push, push_asks, push_want, push_takes, push_after}
+use Rattle.steps.specs.Queues.Ring.{distance}
+use Rattle.steps.specs.Queues.Overflow.{at_push, cell_word, first_push, push_asks, push_want, push_takes, push_after}
 use Rattle.steps.specs.Queues.Overflow.{push_keeps, push_kept, push_answer}
 use Rattle.model.specs.declared.event.Item.TheVariants.{Index}
 use Rattle.model.specs.declared.families.queues.QueueKind as queues
@@ -27,7 +28,7 @@ use Rattle.laws_queues.proofs.Queues.Invariant.{family}
 use Rattle.history.specs.declared.view.View.{View}
 use Rattle.history.specs.History.{IsMachine}
 use Rattle.history.specs.Known.{events_by}
-use Rattle.history.specs.Overflow.{IsWithin, over_push_skips, HasPushWord, over_push_wrote, pushes_over}
+use Rattle.history.specs.Overflow.{IsWithin, over_push_skips, HasPushWord, HasActed, over_push_wrote, pushes_over}
 use Rattle.history.specs.Roles.{HasRole}
 use Rattle.history.specs.Stages.{Calling, At, Over}
 use Rattle.history.proofs.Calls.{stands}
@@ -67,6 +68,25 @@ module _ {T : Type 0} where
   same_open start other xs ys e = cc
 
 -- ---- pushes
+
+-- it ends as a call where it is not left out
+acts : (c : Pushing) (e : PushEnd) (n : ℕ) (stage : pushes.PushStage) → HasPushWord stage
+    → over_push_skips stage n ≡ false → push_takes c stage n ≡ Done e → HasActed e
+acts c e n pushes.TheVariants.HandsBack h skip ends = absurd h
+acts c e n pushes.TheVariants.LoadsWrite h skip ends = (let no : GoOn (at_push c (pushes.TheVariants.LoadsRead n)) ≡ Done e = rw skip at ends in absurd (cc))
+acts c e n (pushes.TheVariants.LoadsRead write) h skip ends = absurd (cc)
+acts c e n (pushes.TheVariants.StoresCell write at) h skip ends = absurd (cc)
+acts c e n (pushes.TheVariants.StoresWrite write at) h skip ends = go (distance write at == c.capacity) ends
+  where
+    go : (b : Bool) → cond b (GoOn (at_push c (pushes.TheVariants.MovesRead at))) (Done Added) ≡ Done e → HasActed e
+    go true d = absurd (cc)
+    go false d = (let same : Added ≡ e = cc in subst HasActed same tt)
+acts c e n (pushes.TheVariants.MovesRead at) h skip ends = go (n == at) ends
+  where
+    go : (b : Bool) → cond b (GoOn (at_push c (pushes.TheVariants.LoadsCell at))) (Done Added) ≡ Done e → HasActed e
+    go true d = absurd (cc)
+    go false d = (let same : Added ≡ e = cc in subst HasActed same tt)
+acts c e n (pushes.TheVariants.LoadsCell at) h skip ends = (let same : Oldest ≡ e = cc in subst HasActed same tt)
 
 module _ {T : Type 0} (code : Coding T) (v : ℕ) where
   abbrev pushing : Calling T Pushing OneWord PushEnd
@@ -184,11 +204,13 @@ module _ {T : Type 0} (code : Coding T) (v : ℕ) where
               (within_effect p (PushIndex v) _ _)),
         );
         tells_all = λ capacity p from c e m n es late t h skip wrote waits met is still. (
-            let x = there capacity p from c m n (es ++ late) t h.1 wrote.0 (within_both es late wrote.1 (within_late pushing.start late waits)) met in
-            ap (λ zs. (es ++ late) ++ zs)
-            (by_mine p (over_effects t.world p (pushing.flight c m) n) (push_own t.world p (record { call = c; given = v; room = m }) n)
-            ∙ effects_end t.world p c e m n is)
-            ∙ tells_end capacity p c e m n (es ++ late) t x.core c.stage x.wrote x.read x.cell x.found h.2 skip is);
+          acts c e n c.stage h.2 skip is,
+          let x = there capacity p from c m n (es ++ late) t h.1 wrote.0 (within_both es late wrote.1 (within_late pushing.start late waits)) met in
+              ap (λ zs. (es ++ late) ++ zs)
+              (by_mine p (over_effects t.world p (pushing.flight c m) n) (push_own t.world p (record { call = c; given = v; room = m }) n)
+              ∙ effects_end t.world p c e m n is)
+              ∙ tells_end capacity p c e m n (es ++ late) t x.core c.stage x.wrote x.read x.cell x.found h.2 skip is,
+        );
       }
 
   -- each step of a push keeps the rule of the table: it is a machine

@@ -12,7 +12,7 @@ use Rattle.model.proofs.Frame as frame
 use Rattle.model.proofs.Frame.{Family}
 use Rattle.model.proofs.Progress.{guaranteed}
 use Rattle.history.specs.declared.view.View.{View}
-use Rattle.history.specs.History.{IsRun, steps_in, steps_of, started}
+use Rattle.history.specs.History.{IsRun, steps_of, started}
 use Rattle.history.specs.Stages.{Calling, Ends, LeftOut, StepsOnly, taken_by}
 use Rattle.history.specs.Steps.{TakesAtMost, TakesAlone}
 

@@ -1,7 +1,7 @@
 -- How passes are made of one another, and the first, under the rule of a machine.
 use Rattle.history.proofs.Names.{◌≡◌, ◌≢◌, ◌⊎◌, inl, inr, ⊎_elim, ℕ, zero, suc, ◌+◌, ◌<◌, ◌≤◌, false}
 use Rattle.history.proofs.Names.{Option, Some, None, IfSome, List, [], ◌∷◌, ◌++◌, length, replicate, get_or, set}
-use Rattle.history.proofs.Names.{refl, sym, ap, subst, ◌∙◌, append_assoc, append-nil, arith, length-set, sum_by}
+use Rattle.history.proofs.Names.{refl, sym, ap, subst, ◌∙◌, append-nil, arith, length-set, sum_by}
 use Rattle.history.proofs.Names.{Splits, Joins, at_set, Event, Kind, Coding, IsCoding, cases_eq, nat_tests}
 use Rattle.history.proofs.Names.{sum_by-append, opening_of, Trace, capacity_error}
 use mathlib.Core.Option.{some, some-injective, some-ne-none}
@@ -48,9 +48,6 @@ module _ {T : Type 0} where
 module _ {T : Type 0} (code : Coding T) (kind : Kind) (capacity : ℕ) where
   abbrev Holds : State (Unit {0}) (View T) → Type 0
   Holds s = IsMachine code kind capacity s
-
-  pub begins_with : (xs ys zs : List (Event T)) → IsBeginning xs ys → IsBeginning ys zs → IsBeginning xs zs
-  begins_with x0 x1 x2 x3 x4 = grind (arith, append_assoc)
 
   pub splits : (id : ℕ) (v : View T) → Splits Holds id v (left_view v) (right_view v)
   splits id v s m at =

@@ -1,6 +1,6 @@
 -- How machines are reached, by kind: one turn more, and what is so of each kind but the two on owners.
 use Rattle.std.proofs.Common.{arith}
-use Rattle.history.proofs.Names.{Bool, true, ◌≡◌, ℕ, Some, None, Start}
+use Rattle.history.proofs.Names.{Bool, true, ◌≡◌, ℕ, Some, None, [], refl, Start}
 use Rattle.history.proofs.Names.{Flight, Registry, QueueKind, Kind, Turn, Next, Decide, Coding}
 use Rattle.history.proofs.Names.{IsCoding, begin_rows, want_of, is_question, call_refusal, first_row}
 use Rattle.history.proofs.Names.{IsReachedOn, after_turn, World, Trace, capacity_error, flight_in, reached_on_more}
@@ -39,7 +39,9 @@ module _ {T : Type 0} where
 
   pub reached_as_more : (kind : Kind) (t : Trace T) (turn : Turn T) → refusal_as kind t.world turn ≡ None → IsReachedAs kind t
       → IsReachedAs kind (after_turn t turn)
-  reached_as_more x0 x1 x2 x3 x4 = grind (arith, reached_open_more, reached_on_more)
+  reached_as_more kinds.Robust t turn e r = reached_open_more t turn e r
+  reached_as_more kinds.Container t turn e r = reached_open_more t turn e r
+  reached_as_more kind t turn e r = reached_on_more t turn e r
 
   pub fresh_as_more : (kind : Kind) (t : Trace T) (turn : Turn T) → refusal_as kind t.world turn ≡ None → IsFreshTurn t turn → IsFreshAs kind t
       → IsFreshAs kind (after_turn t turn)
@@ -49,7 +51,9 @@ module _ {T : Type 0} where
 
   pub reached_as_opening : (code : Coding T) (kind : Kind) (capacity parties : ℕ) → IsCoding code → capacity_error kind capacity ≡ None
       → IsReachedAs kind (opening code kind capacity parties)
-  reached_as_opening x0 x1 x2 x3 x4 x5 = grind arith
+  reached_as_opening code kinds.Robust capacity parties coded e = record { coded = coded; admitted = e; turns = []; is = refl }
+  reached_as_opening code kinds.Container capacity parties coded e = record { coded = coded; admitted = e; turns = []; is = refl }
+  reached_as_opening code kind capacity parties coded e = record { coded = coded; admitted = e; turns = []; is = refl }
 
   pub fresh_as_opening : (code : Coding T) (kind : Kind) (capacity parties : ℕ) → IsFreshAs kind (opening code kind capacity parties)
   fresh_as_opening x0 x1 x2 x3 = grind arith

@@ -1,6 +1,6 @@
 -- What the robust index set owes, from the laws of its open runs, and which party may begin a call on it.
 use Rattle.std.proofs.Common.{arith}
-use Rattle.history.proofs.Names.{◌≡◌, ℕ, ◌+◌, ◌*◌, ◌≤◌, false, Option, Some, None, is_none, IfSome, List, [], length, sum_by, refl, ReleaseMode}
+use Rattle.history.proofs.Names.{◌≡◌, ℕ, ◌+◌, false, Option, Some, None, is_none, IfSome, List, [], length, sum_by, refl}
 use Rattle.history.proofs.Names.{sym, ap, subst, ◌∙◌, Event, Start, Flight, Registry, Party, Coding, first_of}
 use Rattle.history.proofs.Names.{begin_rows, step_of, beside_of, after_of, going_rows, has_died, SetAct, set_acts_of}
 use Rattle.history.proofs.Names.{first_row, step_in, Trace, stands_there, Word, IsOpenSet, AllLive}
@@ -15,16 +15,7 @@ use Rattle.model.proofs.Frame as frame
 use Rattle.laws_robust.proofs.Invariant.{RobustSet, FlightAt, family_by}
 use Rattle.laws_robust.proofs.Living.{has_not_died, step_is_free}
 use Rattle.laws_robust.proofs.OpenRuns.{reached_open_sound, reached_open_lives, reached_open_kept}
-use Rattle.laws_robust.proofs.Kept.{acquire_most, release_most, count_most, lock_most, held_paid}
-use Rattle.laws_robust.proofs.Standing.{lock_number, for_back, for_index, recover_number, find_number, number_of}
-use Rattle.laws_robust.proofs.Standing.{LockAt, FindAt, RecoverAt, At}
-use Rattle.steps.specs.declared.indices.enums.ReleaseMode.TheVariants.{LockIfLastIndex}
-use Rattle.steps.specs.declared.indices.robust.find.FindStage.{FindStage}
-use Rattle.steps.specs.declared.indices.robust.parts.Lock.{Lock}
-use Rattle.steps.specs.declared.indices.robust.recover.RecoverStage.{RecoverStage}
-use Rattle.model.specs.declared.families.indices.robust.RobustStart.TheVariants.{Recover}
-use Rattle.model.specs.declared.families.indices.robust.calls.RobustFlight.{RobustFlight}
-use Rattle.model.specs.Families.Indices.Robust.Bounds.{most_steps}
+use Rattle.laws_robust.proofs.Kept.{held_paid, steps_most}
 use Rattle.laws_robust.proofs.Wide.{reached_open_wide}
 use Rattle.history.specs.declared.view.View.{View}
 use Rattle.history.specs.History.{IsRun, call_in}
@@ -44,26 +35,6 @@ module _ {T : Type 0} where
 
   effects_own : (p : ℕ) (flight : Flight T) (n : ℕ) → AreOf p (robust_effects p flight n)
   effects_own x0 x1 x2 = grind arith
-
--- ---- how many steps a call has taken, whoever says which owners are gone
-
-find_most : (c : ℕ) (all : List SetAct) (stage : FindStage) → FindAt c all stage → find_number stage ≤ c
-find_most x0 x1 x2 x3 = grind arith
-
-recover_at_most : (c : ℕ) (mode : ReleaseMode) (all : List SetAct) (stage : RecoverStage) (backs : ℕ) → 4 ≤ for_index c mode
-    → ((lock : Lock) → mode ≡ LockIfLastIndex → LockAt c lock → lock_number c lock + 5 ≤ for_index c mode)
-    → RecoverAt c mode all stage
-    → recover_number c mode stage backs ≤ 2 + c * for_index c mode + backs * for_back c mode
-recover_at_most c mode all stage backs wide lock at = grind arith
-
-recover_most : (c : ℕ) (mode : ReleaseMode) (all : List SetAct) (stage : RecoverStage) (backs : ℕ)
-    → RecoverAt c mode all stage
-    → recover_number c mode stage backs ≤ most_steps c (Recover mode) backs
-recover_most x0 x1 x2 x3 x4 x5 = grind (arith, recover_at_most, lock_most)
-
-steps_most : (c : ℕ) (all : List SetAct) (backs : ℕ) (start : RobustStart) (flight : RobustFlight)
-    → At c all start flight → number_of c flight backs ≤ most_steps c start backs
-steps_most x0 x1 x2 x3 x4 x5 = grind (arith, acquire_most, release_most, find_most, recover_most, count_most)
 
 -- a counter, and a cell an index
 abbrev pub cells_and_counter : ℕ → ℕ

@@ -33,6 +33,11 @@ abbrev pub HasPushWord : pushes.PushStage → Type 0
 HasPushWord pushes.TheVariants.HandsBack = ⊥
 HasPushWord stage = Unit {0}
 
+-- it ended as a call: where its number comes back to it, it is none
+abbrev pub HasActed : PushEnd → Type 0
+HasActed Own = ⊥
+HasActed end = Unit {0}
+
 abbrev pub HasPopWord : pops.PopStage → Type 0
 HasPopWord pops.TheVariants.FindsNone = ⊥
 HasPopWord stage = Unit {0}
@@ -65,7 +70,7 @@ module _ {T : Type 0} where
         skips = λ c n. over_push_skips c.stage n;
         left = λ e. e ≡ Own;
         wrote = λ capacity p from c m es. (from ≡ None) × AllByRecursion IsWithin es;
-        wrote_all = λ capacity p from e m es. es ≡ over_push_wrote p v m.0 e;
+        wrote_all = λ capacity p from e m es. HasActed e × (es ≡ over_push_wrote p v m.0 e);
       }
 
   abbrev pub pops_over : Calling T Popping OneWord Bool

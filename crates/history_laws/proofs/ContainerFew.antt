@@ -32,7 +32,7 @@ use Rattle.laws_robust.specs.Gone.{Word, ActsForRight, IsHonest}
 use Rattle.laws_robust.specs.Open.{open_refusal, IsReachedOpen}
 use Rattle.laws_robust.proofs.Alive.{AllLive, all_live_on}
 use Rattle.laws_robust.proofs.Opening.{admitted_is}
-use Rattle.laws_robust.proofs.OpenTurns.{reached_keeps}
+use Rattle.model.proofs.Reached.{kept_by}
 use Rattle.laws_container.specs.Open.{steps_for_gone}
 use Rattle.laws_container.proofs.Core.{change_at, count_at}
 use Rattle.laws_container.proofs.Everything.{shown}
@@ -44,6 +44,7 @@ use Rattle.laws_container.proofs.OpenRuns.{open_turn_sound}
 use Rattle.laws_container.proofs.Sound.{opening_sound}
 use Rattle.laws_container.proofs.Terms.{Terms}
 use Rattle.laws_container.proofs.WellFormed.{well_formed_on}
+use Rattle.model.proofs.Readings.{Each-less}
 use Rattle.history_laws.specs.Owners.{changes, BeginsAlone, LocksApart}
 use Rattle.history_laws.specs.Containers.{rise, rises, BeginsRight, IsFaithful, IsYoung, IsOrderly, IsContained}
 use Rattle.history_laws.proofs.ContainerLiving.{living, steps_right}
@@ -51,7 +52,7 @@ use Rattle.history_laws.proofs.ContainerRaised.{Raised, word_raised, turn_raised
 use Rattle.history_laws.proofs.ContainerWorn.{Sound, terms, sound_on, facts, opens_so, opens_bounded}
 use Rattle.history_laws.proofs.OwnersBounded.{Bounded, counter, changes_more}
 use Rattle.history_laws.proofs.OwnersParts.{tested}
-use Rattle.history_laws.proofs.OwnersTurns.{each_less, turn_holds}
+use Rattle.history_laws.proofs.OwnersTurns.{turn_holds}
 use Rattle.history_laws.proofs.OwnersWords.{counter_of}
 
 module _ {T : Type 0} where
@@ -200,8 +201,8 @@ module _ {T : Type 0} (code : Coding T) (c : ℕ) where
   goes_less : (events es : List (Event T)) → Goes (events ++ es) → Goes events
   goes_less events es g =
       record {
-        faithful = each_less BeginsRight events es g.faithful;
-        apart = each_less BeginsAlone events es g.apart;
+        faithful = Each-less BeginsRight events es g.faithful;
+        apart = Each-less BeginsAlone events es g.apart;
         young =
             (let more = changes_more events es in
             let rose : rises (events ++ es) ≡ rises events + rises es = sum_by-append rise events es in
@@ -248,7 +249,7 @@ module _ {T : Type 0} (code : Coding T) (c : ℕ) where
 
     honest_then : IsFaithful new.events → IsHonest new.events
     honest_then faithful =
-        let was = each_less BeginsRight t.events (events_of t.world turn) faithful in
+        let was = Each-less BeginsRight t.events (events_of t.world turn) faithful in
         turn_honest (terms code c) code c t s (h.honest was) turn e (steps was) bounded_then.0
 
     kept_then : Goes new.events → KeptSound (with_turns (top new.events) new)
@@ -335,7 +336,7 @@ module _ {T : Type 0} (t : Trace T) (is : t.world.kind ≡ kinds.TheVariants.Con
       }
 
   holds_all : HoldsAll code c t
-  holds_all = reached_keeps (HoldsAll code c) (holds_then code c) t r holds_first
+  holds_all = kept_by open_refusal (HoldsAll code c) (holds_then code c) t holds_first r
 
   -- ---- what it says
 

@@ -15,6 +15,7 @@ use Rattle.model.specs.Promises.Families.{promise_of}
 use Rattle.model.specs.Promises.Spans.{StandsRight}
 use Rattle.model.specs.Reading.{Each, whose, is_party, span_of}
 use Rattle.model.specs.Turns.{one_if}
+use Rattle.model.proofs.Locks.{locked_later}
 use Rattle.laws_indices.proofs.Sound.{kept_on}
 use Rattle.history.specs.Held.{claims, frees, Holds}
 use Rattle.history.specs.History.{IsHistory}
@@ -84,10 +85,6 @@ module _ {T : Type 0} where
         go false t = rw t (none shut)
     unheld none e h shut = none shut
 
-  locked_one : (e : Event T) → locked_after true e ≡ true
-  locked_one (Locked p) = refl
-  locked_one e = refl
-
   -- ---- all events
 
   module _ (c : ℕ) (events : List (Event T)) (each : Each (HoldsRight c) events) where
@@ -102,8 +99,7 @@ module _ {T : Type 0} where
     unclaimed_since : (i : ℕ) (before es : List (Event T)) → events ≡ before ++ es → is_locked before ≡ true → sum_by (claims i) es ≡ 0
     unclaimed_since i before [] is shut = refl
     unclaimed_since i before (e ∷ es) is shut =
-        let later : is_locked (before ++ e ∷ []) ≡ true =
-        fold-append locked_after false before (e ∷ []) ∙ (ap (λ b. locked_after b e) shut ∙ locked_one e) in
+        let later : is_locked (before ++ e ∷ []) ≡ true = locked_later before (e ∷ []) shut in
         let rest = unclaimed_since i (before ++ e ∷ []) es (is ∙ sym (append_assoc before (e ∷ []) es)) later in
         let here = unclaimed c i before shut e (each before es e is) in
         let sum = sum_by-cons (claims i) e es in

@@ -1,15 +1,14 @@
 -- What each turn of a robust index set, or of a container, owes so that its counter stays bounded, and so every open run.
 use Rattle.std.proofs.Common.{◌≡◌, ◌≢◌, inl, inr, ℕ, ◌+◌, ◌*◌, ◌<◌, ◌≤◌, ◌==◌, not, Bool, true, false, true≢false}
 use Rattle.std.proofs.Common.{Option, Some, None, is_none, List, [], ◌∷◌, ◌++◌}
-use Rattle.std.proofs.Common.{fold, length, length-set, refl, sym, ap, subst, ◌∙◌, append_assoc, arith, eq-eqb}
-use Rattle.std.proofs.lemmas.List.Sums.{fold-append}
+use Rattle.std.proofs.Common.{length, length-set, refl, sym, ap, subst, ◌∙◌, arith, eq-eqb}
 use Rattle.steps.specs.Indices.Robust.Parts.{locked}
 use Rattle.steps.specs.declared.ask.After.{After}
 use Rattle.steps.specs.declared.ask.After.TheVariants.{GoOn, Done}
 use Rattle.steps.specs.declared.ask.Ask.{Ask}
 use Rattle.model.specs.declared.event.Answer.{Answer}
 use Rattle.model.specs.declared.event.Event.{Event}
-use Rattle.model.specs.declared.event.Event.TheVariants.{Begun, Locked}
+use Rattle.model.specs.declared.event.Event.TheVariants.{Begun}
 use Rattle.model.specs.declared.event.Start.{Start}
 use Rattle.model.specs.declared.families.Flight.{Flight}
 use Rattle.model.specs.declared.families.Registry.{Registry}
@@ -20,9 +19,9 @@ use Rattle.model.specs.declared.turn.Refusal.TheVariants.{Idle, Undecided}
 use Rattle.model.specs.declared.turn.Turn.{Turn}
 use Rattle.model.specs.declared.turn.Turn.TheVariants.{Begin, Next, Decide, Die}
 use Rattle.model.specs.Families.{first_of, want_of, ask_of, is_question}
-use Rattle.model.specs.Families.Indices.Reading.{is_locked, locked_after}
+use Rattle.model.specs.Families.Indices.Reading.{is_locked}
 use Rattle.model.specs.Parties.{party_of, doing_of, flight_of}
-use Rattle.model.specs.Reading.{Each, span_of}
+use Rattle.model.specs.Reading.{span_of}
 use Rattle.model.specs.Refusals.{is_due}
 use Rattle.model.specs.Step.{Step, answer_in}
 use Rattle.laws_turns.proofs.Taken.{MayStart, taken_open}
@@ -31,10 +30,12 @@ use Rattle.model.specs.Turns.{after_answer, events_of_step, events_of_answer, af
 use Rattle.model.specs.Turns.{after_decision, events_of_decision, events_of, ending_of, after_turn}
 use Rattle.model.specs.World.{World, Trace, opening, flight_in}
 use Rattle.model.proofs.Frame.{is_true}
+use Rattle.model.proofs.Locks.{locked_later}
 use Rattle.model.proofs.Parties.{party_put_same, party_put_other}
+use Rattle.model.proofs.Readings.{Each-less}
 use Rattle.model.proofs.Rows.{row_passed}
 use Rattle.laws_robust.specs.Open.{open_refusal, IsReachedOpen}
-use Rattle.laws_robust.proofs.OpenTurns.{reached_keeps}
+use Rattle.model.proofs.Reached.{kept_by}
 use Rattle.history_laws.specs.Owners.{change, changes, may_lock, is_locking, BeginsAlone, LocksApart}
 use Rattle.history_laws.proofs.OwnersParts.{tested, moved_none, counts_move}
 use Rattle.history_laws.proofs.OwnersWords.{counter_of}
@@ -46,24 +47,6 @@ wide_after words None = refl
 wide_after words (Some ask) = length-set words ask.word _
 
 module _ {T : Type 0} where
-  -- ---- beginnings
-
-  pub each_less : (P : List (Event T) → Event T → Type 0) (events es : List (Event T)) → Each P (events ++ es) → Each P events
-  each_less P events es h before after e is =
-      h before (after ++ es) e (ap (λ xs. xs ++ es) is ∙ append_assoc before (e ∷ after) es)
-
-  locked_on : (e : Event T) → locked_after true e ≡ true
-  locked_on (Locked p) = refl
-  locked_on e = refl
-
-  locked_still : (es : List (Event T)) → fold locked_after true es ≡ true
-  locked_still [] = refl
-  locked_still (e ∷ es) = ap (λ b. fold locked_after b es) (locked_on e) ∙ locked_still es
-
-  -- a set that was locked still is
-  pub locked_later : (events es : List (Event T)) → is_locked events ≡ true → is_locked (events ++ es) ≡ true
-  locked_later events es e = fold-append locked_after false events es ∙ (ap (λ b. fold locked_after b es) e ∙ locked_still es)
-
   -- ---- where a step leaves its party
 
   abbrev pub flight_after : After (Flight T) (Answer T) → Option (Flight T)
@@ -280,13 +263,13 @@ module _ {T : Type 0} where
         let known = facts t h.0 in
         let after = facts (after_turn t turn) next in (
           next,
-          λ apart. turn_bounded t known (h.1 (each_less BeginsAlone t.events (events_of t.world turn) apart)) turn e apart
+          λ apart. turn_bounded t known (h.1 (Each-less BeginsAlone t.events (events_of t.world turn) apart)) turn e apart
               (opens_by t (after_turn t turn) (events_of t.world turn) refl known.lock after.lock),
         )
 
     pub run_bounded : (t : Trace T) (r : IsReachedOpen t) → Sound (opening t.world.coding t.world.kind t.world.capacity t.world.parties)
         → Bounded (opening t.world.coding t.world.kind t.world.capacity t.world.parties) → LocksApart t.events → Bounded t
-    run_bounded t r first none apart = (reached_keeps Holds turn_holds t r (first, λ _. none)).1 apart
+    run_bounded t r first none apart = (kept_by open_refusal Holds turn_holds t (first, λ _. none) r).1 apart
 
   pub opening_bounded : (t : Trace T) → t.world.latest ≡ [] → counter t ≡ 0 → 0 < length t.world.words → Bounded t
   opening_bounded t latest zero some =

@@ -2,7 +2,7 @@
 use Rattle.laws_container.proofs.Names.{◌≡◌, ℕ, ◌+◌, inl, true, false, None, is_some, List, [], ◌∷◌, ◌++◌, refl, sym}
 use Rattle.laws_container.proofs.Names.{ap, ◌∙◌, arith, fold-append, ContainerState, Event, Died, Party, Coding}
 use Rattle.laws_container.proofs.Names.{ContainsRight, ReplacesRight, contents_after, contents_of, announced_after}
-use Rattle.laws_container.proofs.Names.{announced_of, is_dead, party_of, Each-append, span_of-death, calm_less}
+use Rattle.laws_container.proofs.Names.{announced_of, is_dead, party_of, Each-append, Each-less, span_of-death, calm_less}
 use Rattle.laws_robust.proofs.Deaths.{death_good, death_goes, death_spares}
 use Rattle.laws_robust.proofs.Invariant as set
 use Rattle.laws_container.specs.Gone.{AsksBy, RecoversBy, AnswersBy}
@@ -10,7 +10,7 @@ use Rattle.laws_container.proofs.HiddenKnows.{EndsRight}
 use Rattle.laws_container.proofs.Invariant.{Elements, moment, view}
 use Rattle.laws_container.proofs.KeepingReads.{still_knows}
 use Rattle.laws_container.proofs.Left.{left_after, left_of}
-use Rattle.laws_container.proofs.WellFormed.{each_less, stands_less}
+use Rattle.laws_container.proofs.WellFormed.{stands_less}
 use Rattle.laws_container.proofs.Sights.{rests_later}
 use Rattle.laws_container.proofs.Sound.{Dies}
 use Rattle.laws_container.proofs.Terms.{Terms}
@@ -44,7 +44,7 @@ module _ {T : Type 0} (terms : Terms) (code : Coding T) (c : ℕ) (words dead : 
       record {
         kept = well_formed.kept;
         calm = calm_less terms.by events es well_formed.calm;
-        replaced = each_less ReplacesRight events es well_formed.replaced;
+        replaced = Each-less ReplacesRight events es well_formed.replaced;
         replaces = λ q. stands_less q (party_of q latest) events es tt (span_of-death q events o) (well_formed.replaces q);
       }
 

@@ -17,7 +17,7 @@ use Rattle.laws_robust.proofs.Effects as set_effects
 use Rattle.laws_container.specs.Gone.{AnswersBy}
 use Rattle.laws_container.proofs.HiddenOn.{hidden_other, hidden_on, hides_it}
 use Rattle.laws_container.proofs.Invariant.{Scene, Inv, ActsFor, before, of_set, inv_of_set}
-use Rattle.laws_container.proofs.Keeping.{shut_later}
+use Rattle.model.proofs.Locks.{locked_later}
 use Rattle.laws_container.proofs.Knows.{RemoveSays, RemoveKnows}
 use Rattle.laws_container.proofs.Left.{left_of}
 use Rattle.laws_container.proofs.Sets.{leaves_behind}
@@ -112,7 +112,7 @@ module _ {T : Type 0} (scene : Scene T) (inv : Inv scene) (index owner : ℕ) (m
     says_then : (m : ReleaseMode) (t : ReleaseState) (es : List (Event T)) → BeginsNone p es → (y : Party T)
         → RemoveSays code c index owner m t (sees_now scene)
         → RemoveSays code c index owner m t (then_sees scene hide_it false scene.states y es)
-    says_then m states.TheVariants.Locked es fresh y h = shut_later events es h
+    says_then m states.TheVariants.Locked es fresh y h = locked_later events es h
     says_then Default states.TheVariants.Unlocked es fresh y h = tt
     says_then LockIfLastIndex states.TheVariants.Unlocked es fresh y h = (
       held_later p IsUnlocked events es fresh h.0,

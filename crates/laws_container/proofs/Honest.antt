@@ -10,7 +10,7 @@ use Rattle.laws_container.proofs.Names.{questions, SetAct, party_of, doing_of, f
 use Rattle.laws_container.proofs.Names.{IsEffectOf, Each, Span, Open, whose, own_after, span_of, is_due, answer_in}
 use Rattle.laws_container.proofs.Names.{old_of, number_of, ask_of_doing, ending_of, events_of_step, events_of_answer}
 use Rattle.laws_container.proofs.Names.{events_of_next, events_of_decision, after_turn, Trace, flight_in, AreRight}
-use Rattle.laws_container.proofs.Names.{Each-append, span_of-own, StandsThere, stands_there, Word, gone_after}
+use Rattle.laws_container.proofs.Names.{Each-append, Each-less, span_of-own, StandsThere, stands_there, Word, gone_after}
 use Rattle.laws_container.proofs.Names.{is_gone, ActsForRight, IsHonest, open_refusal}
 use Rattle.model.specs.declared.families.Flight as flights
 use Rattle.model.specs.declared.families.Registry as registries
@@ -20,7 +20,6 @@ use Rattle.laws_container.specs.Gone.{acts_for_gone}
 use Rattle.laws_container.specs.Open.{is_for_gone, steps_for_gone}
 use Rattle.laws_container.proofs.Allowed.{allowed_open}
 use Rattle.laws_container.proofs.Invariant.{family_by, wrote_of}
-use Rattle.laws_container.proofs.WellFormed.{each_less}
 use Rattle.laws_container.proofs.Stages.{any_call}
 use Rattle.laws_container.proofs.Standing.{At}
 use Rattle.laws_container.proofs.Terms.{Terms}
@@ -124,7 +123,7 @@ module _ {T : Type 0} (p : ℕ) where
     honest_more events did outcome its goes honest spans =
         let ends = ending_of p (Container start) outcome in
         let is : (events ++ did) ++ ends ≡ events ++ (did ++ ends) = append_assoc events did ends in
-        let before = each_less (StandsRight promise c) (events ++ did) ends (subst (Each (StandsRight promise c)) (sym is) spans) in
+        let before = Each-less (StandsRight promise c) (events ++ did) ends (subst (Each (StandsRight promise c)) (sym is) spans) in
         let r = all_right events did its before goes in
         subst IsHonest is
         (Each-append ActsForRight (events ++ did) ends (Each-append ActsForRight events did honest r.0) (end_right (events ++ did) outcome r.1.living))

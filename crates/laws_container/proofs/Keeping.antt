@@ -1,10 +1,10 @@
 -- What a call of the container knows it knows still after any turn of another party.
-use Rattle.laws_container.proofs.Names.{◌≡◌, ⊎_elim, inl, inr, ℕ, ◌+◌, ◌<◌, Bool, false, true, is_some, List, [], ◌∷◌}
-use Rattle.laws_container.proofs.Names.{◌++◌, fold, refl, sym, ap, subst, ◌∙◌, arith, fold-append, AddStage}
+use Rattle.laws_container.proofs.Names.{◌≡◌, ⊎_elim, inl, inr, ℕ, ◌+◌, ◌<◌, true, is_some, List}
+use Rattle.laws_container.proofs.Names.{◌++◌, sym, ap, subst, ◌∙◌, arith, AddStage}
 use Rattle.laws_container.proofs.Names.{FindStage, RemoveStage, ReplaceStage, ContainerState, ReleaseMode}
-use Rattle.laws_container.proofs.Names.{ReleaseState, ReleaseStage, Event, Locked, Party}
+use Rattle.laws_container.proofs.Names.{ReleaseState, ReleaseStage, Event, Party}
 use Rattle.laws_container.proofs.Names.{Coding, MayReplace, Copies, acts, acts_of, places}
-use Rattle.laws_container.proofs.Names.{contents_of, state_of, locked_after, is_locked, IsFilledWith}
+use Rattle.laws_container.proofs.Names.{contents_of, state_of, IsFilledWith}
 use Rattle.laws_container.proofs.Names.{FilledSinceFreed, set_acts_of, wrote_in, IsLatest, IsOneOf, read_in}
 use Rattle.laws_container.proofs.Names.{HeldSometime, party_of, span_of, held_later, gone_less, worn_on, count_later}
 use Rattle.laws_container.proofs.Names.{Goes, Spares, IsSeen, knows_later, through_less, through_now, acquire_at}
@@ -17,6 +17,7 @@ use Rattle.steps.specs.declared.copied.Buffer as buffers
 use Rattle.steps.specs.declared.indices.robust.release.ReleaseStage as releases
 use Rattle.laws_robust.proofs.Knows as set
 use Rattle.laws_container.proofs.HiddenKnows.{no_index}
+use Rattle.model.proofs.Locks.{locked_later}
 use Rattle.laws_container.proofs.HiddenLater.{remove_covers, hidden_stands, hidden_later}
 use Rattle.laws_container.proofs.Knows.{View, of_set, now, IsPaid, Lives, Worn, WasFilled, AddOwns, HasFound}
 use Rattle.laws_container.proofs.Knows.{ReplaceKnows, Covers, Writes, HasPlaced, Stood, AddKnows, ReplacesKnow}
@@ -29,15 +30,6 @@ use Rattle.laws_container.proofs.Turns.{WellFormed, count_in, Passes, Leaves}
 use Rattle.laws_container.proofs.Writers.{Replacing, IsWriter}
 
 module _ {T : Type 0} where
-  -- what is locked stays so
-  shut_on : (b : Bool) (es : List (Event T)) → b ≡ true → fold locked_after b es ≡ true
-  shut_on b [] h = h
-  shut_on b (Locked p ∷ es) h = shut_on true es refl
-  shut_on b (e ∷ es) h = shut_on b es h
-
-  pub shut_later : (events es : List (Event T)) → is_locked events ≡ true → is_locked (events ++ es) ≡ true
-  shut_later events es h = fold-append locked_after false events es ∙ shut_on (is_locked events) es h
-
   -- a replace that has taken a step was begun rightly, in a well-formed run
   pub may_replace : (index owner : ℕ) (value : T) (v : View T) → HasFound index owner value v
       → WasFilled owner index v → WellFormed (now v) → MayReplace v.party index owner v.events
@@ -202,7 +194,7 @@ module _ {T : Type 0} (code : Coding T) (c : ℕ) (v : View T) (turn : OthersTur
 
   remove_says : (index owner : ℕ) (mode : ReleaseMode) (state : ReleaseState)
       → RemoveSays code c index owner mode state v → RemoveSays code c index owner mode state later
-  remove_says x0 x1 x2 x3 x4 = grind (arith, shut_later, once, inl, worn, inr, freed_later)
+  remove_says x0 x1 x2 x3 x4 = grind (arith, locked_later, once, inl, worn, inr, freed_later)
 
   pub count_below : (index count : ℕ) → index < c → HasCome code c index count v → HasCome code c index count later
   count_below index count low h kept = grind arith

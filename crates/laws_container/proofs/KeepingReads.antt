@@ -27,7 +27,8 @@ use Rattle.laws_container.proofs.Turns.{Now}
 use Rattle.laws_container.proofs.Keeping as keeping
 use Rattle.laws_container.proofs.Keeping.{OthersTurn, acts_same, add_knows, check_paid, copying, count_below, set_acts_same}
 use Rattle.laws_container.proofs.Keeping.{find_knows, found, has_copied, has_left, once, paid, remove_knows}
-use Rattle.laws_container.proofs.Keeping.{replaces_know, set_knows, shut_later, worn}
+use Rattle.laws_container.proofs.Keeping.{replaces_know, set_knows, worn}
+use Rattle.model.proofs.Locks.{locked_later}
 
 module _ {T : Type 0} (code : Coding T) (c : ℕ) (v : View T) (turn : OthersTurn code c v) where
   open turn use {
@@ -106,7 +107,7 @@ module _ {T : Type 0} (code : Coding T) (c : ℕ) (v : View T) (turn : OthersTur
       }
 
   recover_says : (owner : ℕ) (mode : ReleaseMode) (state : ReleaseState) → RecoverSays code c owner mode state v → RecoverSays code c owner mode state later
-  recover_says owner mode states.TheVariants.Locked h = shut_later events es h
+  recover_says owner mode states.TheVariants.Locked h = locked_later events es h
   recover_says owner mode states.TheVariants.Unlocked h = (
     still_gone owner h.0,
     unlocked_later q owner events es spares.none (set_acts_same code c v turn) h.1,
@@ -116,7 +117,7 @@ module _ {T : Type 0} (code : Coding T) (c : ℕ) (v : View T) (turn : OthersTur
 
   fills : (owner : ℕ) (mode : ReleaseMode) (But : ℕ → Type 0) → FilledBut (Worn v) mode q owner But events
       → FilledBut (Worn later) mode q owner But (events ++ es)
-  fills x0 x1 x2 x3 = grind (arith, filled_then, worn, inl, set_acts_same, shut_later)
+  fills x0 x1 x2 x3 = grind (arith, filled_then, worn, inl, set_acts_same, locked_later)
 
   recover_fills : (owner : ℕ) (mode : ReleaseMode) (stage : RecoverStage) → RecoverFills code c owner mode stage v → RecoverFills code c owner mode stage later
   recover_fills x0 x1 x2 x3 = grind (arith, fills, says_later, set_acts_same)

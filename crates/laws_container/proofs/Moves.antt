@@ -90,7 +90,7 @@ module _ {T : Type 0} (code : Coding T) (c : ℕ) where
   pub add_asks_none : (stage : AddStage) (given : Owned T) → is_question (add_asks code.words_of code.size c stage given) ≡ false
   add_asks_none stage given = grind arith
 
-  replace_asks_none : (stage : ReplaceStage) (given : Replacement T) → is_question (replace_asks code.words_of code.size c stage given) ≡ false
+  pub replace_asks_none : (stage : ReplaceStage) (given : Replacement T) → is_question (replace_asks code.words_of code.size c stage given) ≡ false
   replace_asks_none stage given = grind arith
 
 pub remove_asks_none : (c : ℕ) (stage : RemoveStage) (given : GiveBack) → is_question (remove_asks c stage given) ≡ false

@@ -26,24 +26,43 @@ pub use Rattle.laws_robust.specs.Gone.{ActsForRight, AnswersBy, Death, GivesBack
 pub use Rattle.laws_robust.specs.Gone.{IsHonestBy, Word, gone_after, is_gone}
 pub use Rattle.laws_robust.specs.Open.{IsReachedOpen, attempt_open, open_refusal, run_open}
 pub use Rattle.model.proofs.Moments.{held_later, held_now, held_so, others_begin_none}
-pub use Rattle.model.proofs.Orders.{Keeps, Orders, ends_end, turn_is}
+pub use Rattle.model.proofs.Names.{After, AllByRecursion, Ask, Asks, BeginsNone, Bool, Coding, ContainerState, Default}
+pub use Rattle.model.proofs.Names.{Each, Ended, Frees, GoOn, HeldSometime, HeldThroughout, IfSome, IsCoding, IsCount}
+pub use Rattle.model.proofs.Names.{IsEffectOf, IsFilled, IsFilledWith, IsOneOf, IsParty, IsReached, IsShut, List, Lock}
+pub use Rattle.model.proofs.Names.{LockIfLastIndex, Never, None, Open, Option, Raise, ReleaseMode, ReleaseState, SetAct}
+pub use Rattle.model.proofs.Names.{SetDoes, SinceBegin, Some, Span, Stands, StandsRight, Step, Trace, World, Yes, []}
+pub use Rattle.model.proofs.Names.{after_answer, after_begin, after_decision, after_next, after_step, after_turn}
+pub use Rattle.model.proofs.Names.{answer_in, ap, append-nil, append_assoc, append_cancel_left, arith, as_call}
+pub use Rattle.model.proofs.Names.{as_it_is, ask_of, ask_of_doing, beside_of, call_refusal, capacity_error, cases_eq}
+pub use Rattle.model.proofs.Names.{cases_lt, change_of, cond, count_below, dead_with, doing_after, doing_of, empty}
+pub use Rattle.model.proofs.Names.{ending_of, eq-eqb, events_of, events_of_answer, events_of_decision, events_of_next}
+pub use Rattle.model.proofs.Names.{events_of_step, false, filled_after, filled_of, first_of, first_row, flat_map-append}
+pub use Rattle.model.proofs.Names.{flight_in, flight_of, fold, fold-append, get_or, get_or-set_other, goes_of}
+pub use Rattle.model.proofs.Names.{going_rows, has_died, if◌then◌else◌, inl, inr, is_due, is_look_of, is_none}
+pub use Rattle.model.proofs.Names.{is_question, is_some, kept_after_begin, kept_after_death, kept_at, length}
+pub use Rattle.model.proofs.Names.{length-append, length-replicate, lock_after, lock_goes_back, lock_want, nat_lt}
+pub use Rattle.model.proofs.Names.{nat_tests, ne_eqb, not, number_of, old_of, one_if, one_more, opening, option_map}
+pub use Rattle.model.proofs.Names.{own_after, party_after, party_at_begin, party_of, progress_after, progress_in}
+pub use Rattle.model.proofs.Names.{raise_after, raise_want, refl, refusal_of, replicate, set, set-get_or, set_acts}
+pub use Rattle.model.proofs.Names.{set_acts_of, slice_get, slice_index, span_after, span_of, state_in, step_count}
+pub use Rattle.model.proofs.Names.{step_in, step_of, subst, suc, sym, take, true, unless_refused, want_of, went_on}
+pub use Rattle.model.proofs.Names.{whose, words_after, wrote_in, zero, ℕ, ⊎_elim, ◌%◌, ◌&&◌, ◌*◌, ◌++◌, ◌+◌, ◌-◌, ◌<◌}
+pub use Rattle.model.proofs.Names.{◌==◌, ◌^◌, ◌∙◌, ◌∷◌, ◌≡◌, ◌≢◌, ◌≤◌, ◌⊎◌}
+pub use Rattle.model.proofs.Orders.{Keeps}
 pub use Rattle.model.proofs.Parties.{apart, found_put_other, found_put_same, itself, party_put_other, party_put_same}
-pub use Rattle.model.proofs.Readings.{AllFollow, AreOwn, AreRight, Each-append, Each-nil, Earlier, Last, SplitAt}
+pub use Rattle.model.proofs.Readings.{AllFollow, AreOwn, AreRight, Each-append, Each-less, Each-nil, Earlier, Last, SplitAt}
 pub use Rattle.model.proofs.Readings.{no_more, span_of-death, span_of-other, span_of-own, split_last}
 pub use Rattle.model.proofs.Rows.{MayBegin, MayDie, may_begin, must_be_due, next_passes, passes, row_passed}
-pub use Rattle.model.proofs.Scenes.{ComesFrom, StandsThere, asked, comes_from, stands_there}
-pub use Rattle.model.specs.Coding.{Coding, IsCoding}
-pub use Rattle.model.specs.Families.{ask_of, beside_of, first_of, goes_of, going_rows, is_question, kept_after_begin}
-pub use Rattle.model.specs.Families.{kept_after_death, step_of, want_of}
+pub use Rattle.model.proofs.Scenes.{ComesFrom, StandsThere, stands_there}
 pub use Rattle.model.specs.Families.Container.Bounds.{most_steps}
 pub use Rattle.model.specs.Families.Container.Calls.{acts_for_dead, added, after, after as goes_after, first, goes_back}
 pub use Rattle.model.specs.Families.Container.Calls.{look_came, look_goes, look_shows, looked, place_of, removed}
 pub use Rattle.model.specs.Families.Container.Calls.{replaced, settled_if, states_after, want, writes_state}
 pub use Rattle.model.specs.Families.Container.Keeping.{BeginsWithState, KeepsStates, MovesInLooks, ShowsOwnCopies}
-pub use Rattle.model.specs.Families.Container.Keeping.{is_look_of, steps_of}
+pub use Rattle.model.specs.Families.Container.Keeping.{steps_of}
 pub use Rattle.model.specs.Families.Container.Looks.{AnswersOfState, EndsLook, IsCurrent, IsLook, IsOwnOrDeath}
 pub use Rattle.model.specs.Families.Container.Looks.{MomentsOfState, ShowsCopies, ShowsMoments, StoodThrough, WasAlone}
-pub use Rattle.model.specs.Families.Container.Looks.{WasAnnounced, WasCopied, is_looking, shows, state_in}
+pub use Rattle.model.specs.Families.Container.Looks.{WasAnnounced, WasCopied, is_looking, shows}
 pub use Rattle.model.specs.Families.Container.Opening.{keeps, names_owner, opening_words, states_at_begin}
 pub use Rattle.model.specs.Families.Container.Promises.{AnswersRight, AsksRight, ContainsRight, FreedRight, HasElements}
 pub use Rattle.model.specs.Families.Container.Promises.{IsContained, IsContainer, IsFoundWhole, IsLength}
@@ -65,34 +84,17 @@ pub use Rattle.model.specs.Families.Container.States.{fresh, set_state, settled,
 pub use Rattle.model.specs.Families.Container.Steps.{copy_in, effects, look_effects, look_effects_of, question_of}
 pub use Rattle.model.specs.Families.Container.Steps.{questions}
 pub use Rattle.model.specs.Families.Indices.Reading.{is_locked, locked_after}
-pub use Rattle.model.specs.Families.Indices.Robust.Dead.{dead_with, has_died}
-pub use Rattle.model.specs.Families.Indices.Robust.Promises.{FilledSinceFreed, HeldThroughout, HoldsRight, IsCount}
-pub use Rattle.model.specs.Families.Indices.Robust.Promises.{IsFilled, IsFilledWith, IsIn, IsUnlocked, LivesToRelease}
-pub use Rattle.model.specs.Families.Indices.Robust.Promises.{SetDoes, StillToFree, cell_of, count_below}
-pub use Rattle.model.specs.Families.Indices.Robust.Reading.{Asks, Fills, Frees, Grants, IsLatest, IsOneOf, Locks}
-pub use Rattle.model.specs.Families.Indices.Robust.Reading.{SetAct, Yes, asked_in, dead_after, filled_after, filled_of}
+pub use Rattle.model.specs.Families.Indices.Robust.Promises.{FilledSinceFreed, HoldsRight, IsIn, IsUnlocked}
+pub use Rattle.model.specs.Families.Indices.Robust.Promises.{LivesToRelease, StillToFree, cell_of}
+pub use Rattle.model.specs.Families.Indices.Robust.Reading.{Fills, Grants, IsLatest, Locks, asked_in, dead_after}
 pub use Rattle.model.specs.Families.Indices.Robust.Reading.{holder_after, holder_of, index_asked, is_dead, set_act}
-pub use Rattle.model.specs.Families.Indices.Robust.Reading.{set_acts, set_acts_of, settled_after, settled_of, wrote_in}
+pub use Rattle.model.specs.Families.Indices.Robust.Reading.{settled_after, settled_of}
 pub use Rattle.model.specs.Families.Indices.Robust.Spans.{HasJustFreed}
-pub use Rattle.model.specs.Families.Loan.Opening.{is_loan, keeps as loan_keeps}
-pub use Rattle.model.specs.Families.Queues.Calls.{as_it_is, kept_at, read_in}
-pub use Rattle.model.specs.Moments.{BeginsNone, HeldSometime, SinceBegin}
-pub use Rattle.model.specs.Parties.{doing_of, flight_of, party_of, progress_after, put}
-pub use Rattle.model.specs.Promises.{IsKept, IsKeptBy, IsTurnBy}
-pub use Rattle.model.specs.Promises.Families.{promise_of}
-pub use Rattle.model.specs.Promises.Spans.{Stands, StandsRight}
-pub use Rattle.model.specs.Promises.Turns.{IsEffectOf, IsParty, WritesInOrder}
-pub use Rattle.model.specs.Reading.{Each, Ended, Never, Open, Span, is_party, own_after, span_after, span_of, whose}
-pub use Rattle.model.specs.Refusals.{call_refusal, is_due, refusal_of}
-pub use Rattle.model.specs.Rows.{first_row}
-pub use Rattle.model.specs.Shape.{IsShut}
-pub use Rattle.model.specs.Step.{Step, answer_in, as_call}
-pub use Rattle.model.specs.Turns.{IsReached, after_answer, after_begin, after_decision, after_next, after_step}
-pub use Rattle.model.specs.Turns.{after_turn, ask_of_doing, change_of, doing_after, ending_of, events_of}
-pub use Rattle.model.specs.Turns.{events_of_answer, events_of_decision, events_of_next, events_of_step, number_of}
-pub use Rattle.model.specs.Turns.{number_of as said_is, old_of, one_if, party_after, party_at_begin, step_count}
-pub use Rattle.model.specs.Turns.{step_in, unless_refused, words_after}
-pub use Rattle.model.specs.World.{Trace, World, capacity_error, flight_in, opening, progress_in}
+pub use Rattle.model.specs.Families.Loan.Opening.{keeps as loan_keeps}
+pub use Rattle.model.specs.Families.Queues.Calls.{read_in}
+pub use Rattle.model.specs.Parties.{put}
+pub use Rattle.model.specs.Reading.{is_party}
+pub use Rattle.model.specs.Turns.{number_of as said_is}
 pub use Rattle.model.specs.declared.event.Answer.{Answer}
 pub use Rattle.model.specs.declared.event.Answer.TheVariants.{Index, NoPlace, Number, State, Truth}
 pub use Rattle.model.specs.declared.event.Event.{Event}
@@ -114,20 +116,9 @@ pub use Rattle.model.specs.declared.party.Party.{Party}
 pub use Rattle.model.specs.declared.turn.Refusal.TheVariants.{Busy, Idle, Undecided, WrongCall}
 pub use Rattle.model.specs.declared.turn.Turn.{Turn}
 pub use Rattle.model.specs.declared.turn.Turn.TheVariants.{Begin, Decide, Die, Next}
-pub use Rattle.std.proofs.Common.{Bool, IfSome, List, None, Option, Some, [], ap, append-nil, append_assoc, arith, cond}
-pub use Rattle.std.proofs.Common.{eq-eqb, ext_get_or, false, fold, get_or, get_or-set_other, get_or-set_same}
-pub use Rattle.std.proofs.Common.{get_or-take, if◌then◌else◌, inl, inr, is_none, is_some, length, length-append}
-pub use Rattle.std.proofs.Common.{length-take-le, nat_lt, ne_eqb, not, option_map, refl, replicate, set, slice_get}
-pub use Rattle.std.proofs.Common.{slice_index, slice_index_or, subst, suc, sym, take, true, zero, ℕ, ⊎_elim, ◌%◌, ◌&&◌}
-pub use Rattle.std.proofs.Common.{◌*◌, ◌++◌, ◌+◌, ◌-◌, ◌<◌, ◌==◌, ◌^◌, ◌∙◌, ◌∷◌, ◌≡◌, ◌≢◌, ◌≤◌, ◌⊎◌}
-pub use Rattle.std.proofs.lemmas.Bool.{cases_eq, cases_lt}
-pub use Rattle.std.proofs.lemmas.Bool.Decides.{nat_tests}
-pub use Rattle.std.proofs.lemmas.List.{append_cancel_left, get_or-append-add, get_or-replicate, length-replicate}
-pub use Rattle.std.proofs.lemmas.List.{length-set, set-get_or}
-pub use Rattle.std.proofs.lemmas.List.Concat.{flat_map-append}
-pub use Rattle.std.proofs.lemmas.List.Sums.{fold-append}
+pub use Rattle.std.proofs.Common.{ext_get_or, get_or-set_same, get_or-take, length-take-le, slice_index_or}
+pub use Rattle.std.proofs.lemmas.List.{get_or-append-add, get_or-replicate, length-set}
 pub use Rattle.std.proofs.lemmas.Option.{slice_get-get_or, slice_get_past}
-pub use Rattle.std.specs.List.{AllByRecursion}
 pub use Rattle.std.specs.Prelude.{Err, Ok}
 pub use Rattle.steps.specs.Container.Add.{Added, add_acquired, add_asks, at_add, first_add}
 pub use Rattle.steps.specs.Container.Find.{at_find, find_comes_to}
@@ -140,13 +131,8 @@ pub use Rattle.steps.specs.Container.Replace.{Replaced, at_replace, replace_asks
 pub use Rattle.steps.specs.Container.State.{no_element, numbers_over, value_if, with_change, with_count, with_value}
 pub use Rattle.steps.specs.Container.State.{with_word}
 pub use Rattle.steps.specs.Copied.{value_in}
-pub use Rattle.steps.specs.Indices.Robust.Parts.{cell_word, count_after, count_goes_back, empty, first_lock, greatest}
-pub use Rattle.steps.specs.Indices.Robust.Parts.{lock_after, lock_goes_back, lock_want, locked, one_more, raise_after}
-pub use Rattle.steps.specs.Indices.Robust.Parts.{raise_goes_back, raise_want}
-pub use Rattle.steps.specs.Routine.{went_on}
-pub use Rattle.steps.specs.declared.ask.After.{After}
-pub use Rattle.steps.specs.declared.ask.After.TheVariants.{GoOn}
-pub use Rattle.steps.specs.declared.ask.Ask.{Ask}
+pub use Rattle.steps.specs.Indices.Robust.Parts.{cell_word, count_after, count_goes_back, first_lock, greatest, locked}
+pub use Rattle.steps.specs.Indices.Robust.Parts.{raise_goes_back}
 pub use Rattle.steps.specs.declared.container.add.AddStage.{AddStage}
 pub use Rattle.steps.specs.declared.container.enums.ContainerRemoveError.TheVariants.{ContainerHandleNotOwnedByContainer}
 pub use Rattle.steps.specs.declared.container.find.FindStage.{FindStage}
@@ -156,13 +142,7 @@ pub use Rattle.steps.specs.declared.container.recover.RecoverStage.{RecoverStage
 pub use Rattle.steps.specs.declared.container.remove.RemoveStage.{RemoveStage}
 pub use Rattle.steps.specs.declared.container.replace.ReplaceStage.{ReplaceStage}
 pub use Rattle.steps.specs.declared.container.replace.Replacement.{Replacement}
-pub use Rattle.steps.specs.declared.container.state.ContainerState.{ContainerState}
 pub use Rattle.steps.specs.declared.container.state.Element.{Element}
-pub use Rattle.steps.specs.declared.indices.enums.ReleaseMode.{ReleaseMode}
-pub use Rattle.steps.specs.declared.indices.enums.ReleaseMode.TheVariants.{Default, LockIfLastIndex}
-pub use Rattle.steps.specs.declared.indices.enums.ReleaseState.{ReleaseState}
 pub use Rattle.steps.specs.declared.indices.robust.parts.Count.{Count as Counting}
-pub use Rattle.steps.specs.declared.indices.robust.parts.Lock.{Lock}
-pub use Rattle.steps.specs.declared.indices.robust.parts.Raise.{Raise}
 pub use Rattle.steps.specs.declared.indices.robust.release.GiveBack.{GiveBack}
 pub use Rattle.steps.specs.declared.indices.robust.release.ReleaseStage.{ReleaseStage}

@@ -17,7 +17,7 @@ use Rattle.model.specs.Families.{kept_after_begin}
 use Rattle.model.specs.Turns.{party_at_begin}
 use Rattle.model.proofs.Frame as frame
 use Rattle.model.proofs.Scenes.{comes_from, decides_from, stands_there}
-use Rattle.laws_robust.proofs.OpenTurns.{reached_keeps}
+use Rattle.model.proofs.Reached.{kept_by}
 use Rattle.laws_container.specs.Gone.{AnswersBy}
 use Rattle.laws_container.specs.Open.{is_for_gone, steps_for_gone, is_faithful, IsFaithful, IsFaithfulRun, IsOpenContainer}
 use Rattle.laws_container.specs.Tells.{TellsIf}
@@ -218,10 +218,10 @@ module _ {T : Type 0} (t : Trace T) (is : t.world.kind ≡ kinds.TheVariants.Con
   reached_open_lives =
       let code = t.world.coding in
       let c = t.world.capacity in
-      (reached_keeps (λ u. Holds false code c u × AllLive u.events)
+      (kept_by open_refusal (λ u. Holds false code c u × AllLive u.events)
       (λ u turn e h.
       (open_turn_sound false code c u h.0 (λ keeps. absurd (cc)) turn e (λ keeps. absurd (cc)), all_live_on u (steps_leave any code c u h.0) turn e h.1))
-      t r (open_at_first false, λ owner. refl)).1
+      t (open_at_first false, λ owner. refl) r).1
 
   -- no turn changes how many words it has
   pub reached_open_wide : length t.world.words ≡ total_words t.world.capacity t.world.coding.size

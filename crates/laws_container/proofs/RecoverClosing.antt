@@ -21,7 +21,7 @@ use Rattle.laws_container.specs.Gone.{HasRecoveredBy, FilledSinceEachBy, Answers
 use Rattle.laws_container.proofs.Answers.{each_on}
 use Rattle.laws_container.proofs.HiddenKnows.{HasHidden}
 use Rattle.laws_container.proofs.Invariant.{Scene, Inv, after, of_set, inv_of_set}
-use Rattle.laws_container.proofs.Keeping.{shut_later}
+use Rattle.model.proofs.Locks.{locked_later}
 use Rattle.laws_container.proofs.KeptLocks.{NoIndex, FilledBut, filled_each}
 use Rattle.laws_container.proofs.Knows.{RecoverSays, RecoverKnows, IsLong, Knows}
 use Rattle.laws_container.proofs.RecoverParts.{none, hidden_still, first, then_at}
@@ -101,7 +101,7 @@ module _ {T : Type 0} (scene : Scene T) (inv : Inv scene) (owner : ℕ) (mode : 
             calm_on scene inv owner mode fits room recovers.TheVariants.LoadsCounterAgain here long load_again
             (loads_same ws 0) false paid_again room (recovers.TheVariants.AddsChange states.TheVariants.Locked)
             (omega arith) tt
-            (long, (paid_again, shut_later events [] (is_shut (of_set scene) (inv_of_set scene inv) shut), hidden_again states.TheVariants.Locked), tt)
+            (long, (paid_again, locked_later events [] (is_shut (of_set scene) (inv_of_set scene inv) shut), hidden_again states.TheVariants.Locked), tt)
         go false t =
             let open_now : counter_of ws ≢ locked = grind (arith, nat_tests) in
             let free : is_locked events ≡ false = unlocked (of_set scene) (inv_of_set scene inv) open_now in

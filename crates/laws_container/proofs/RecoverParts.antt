@@ -18,7 +18,7 @@ use Rattle.laws_container.proofs.Effects.{calmly}
 use Rattle.laws_container.proofs.HiddenKnows.{HasHidden}
 use Rattle.laws_container.proofs.HiddenOn.{hidden_on}
 use Rattle.laws_container.proofs.Invariant.{Scene, Inv, before, after, AreAllRight, Does, of_set, inv_of_set, wrote_of}
-use Rattle.laws_container.proofs.Keeping.{shut_later}
+use Rattle.model.proofs.Locks.{locked_later}
 use Rattle.laws_container.proofs.KeptLocks.{NoIndex, FilledBut, filled_then, filled_calm}
 use Rattle.laws_container.proofs.Knows.{AskedBelow, Recovers, IsLong, Knows}
 use Rattle.laws_container.proofs.Recoveries.{one_of_none, has_of_none}
@@ -144,7 +144,7 @@ module _ {T : Type 0} (scene : Scene T) (inv : Inv scene) (owner : ℕ) (mode : 
           filled_then p owner (IsWorn scene.terms.by ws) (IsWorn scene.terms.by (words_after ws ask))
           (worn_on scene.terms.by ws (words_after ws ask) goes.stuck) mode Was But events es fresh
           (λ i was. split i (subst (IsOneOf (Frees i owner)) (set_acts_more scene start here.span es own longer) was))
-          more (shut_later events es) h
+          more (locked_later events es) h
 
       pub asked_on : (k : ℕ) → AskedBelow code c owner k (sees_now scene) → AskedBelow code c owner k (then_sees scene ask back scene.states y es)
       asked_on k h =

@@ -21,7 +21,7 @@ use Rattle.laws_container.proofs.Finds.{has_last, nothing_stands}
 use Rattle.laws_container.proofs.HiddenKnows.{HasHidden}
 use Rattle.laws_container.proofs.HiddenOn.{hidden_on}
 use Rattle.laws_container.proofs.Invariant.{Scene, Inv, AreAllRight, before, of_set, inv_of_set}
-use Rattle.laws_container.proofs.Keeping.{shut_later}
+use Rattle.model.proofs.Locks.{locked_later}
 use Rattle.laws_container.proofs.KeptLocks.{NoIndex, FilledBut, filled_none}
 use Rattle.laws_container.proofs.Knows.{WasFilled, Recovers, RecoverKnows, IsLong, Knows}
 use Rattle.laws_container.proofs.RecoverParts.{fill_same, none, hidden_still, as_recover, first, then_at, reads_does}
@@ -195,7 +195,7 @@ module _ {T : Type 0} (scene : Scene T) (inv : Inv scene) (owner : ℕ) (mode : 
               long,
               (
                 paid_on,
-                shut_later events [] (is_shut (of_set scene) (inv_of_set scene inv) shut),
+                locked_later events [] (is_shut (of_set scene) (inv_of_set scene inv) shut),
                 hidden_still scene inv owner mode fits room recovers.TheVariants.LoadsCounter here load_counter
                     (then_at scene inv owner mode fits room recovers.TheVariants.LoadsCounter here room
                     (recovers.TheVariants.AddsChange states.TheVariants.Locked) load_counter false)

@@ -22,7 +22,7 @@ use Rattle.laws_robust.proofs.Locks as set_locks
 use Rattle.laws_robust.proofs.Stages as set_stages
 use Rattle.laws_container.proofs.HiddenOn.{hidden_on}
 use Rattle.laws_container.proofs.Invariant.{Scene, Inv, of_set, inv_of_set, wrote_of}
-use Rattle.laws_container.proofs.Keeping.{shut_later}
+use Rattle.model.proofs.Locks.{locked_later}
 use Rattle.laws_container.proofs.KeptLocks.{NoIndex, FilledBut, FoundFilled, filled_locked, filled_worn, filled_last}
 use Rattle.laws_container.proofs.Knows.{RecoverKnows, IsLong}
 use Rattle.laws_container.proofs.RecoverParts.{fill_same, fill_stays, none, hidden_still, as_recover, first, Few, then_at, recs, asked_on, comes_to_next}
@@ -120,7 +120,7 @@ module _ {T : Type 0} (scene : Scene T) (inv : Inv scene) (owner : ℕ) (mode : 
           long,
           (
             paid,
-            shut_later events [] (is_shut (of_set scene) (inv_of_set scene inv) shut),
+            locked_later events [] (is_shut (of_set scene) (inv_of_set scene inv) shut),
             hidden_still scene inv owner mode fits room this here ask
                 (then_at scene inv owner mode fits room this here room (recovers.TheVariants.AddsChange states.TheVariants.Locked) ask back)
                 k.1.hidden,

@@ -1,10 +1,10 @@
 -- A well-formed run, of its events and the parties' latest calls; and that a run was well-formed a turn ago.
 use Rattle.std.proofs.Common.{arith}
 use Rattle.laws_container.proofs.Names.{◌≡◌, ◌≢◌, ⊎_elim, ℕ, Option, Some, None, List, ◌++◌, refl, sym}
-use Rattle.laws_container.proofs.Names.{subst, ◌∙◌, append_assoc, cases_eq, Event, Party, ReplacesRight}
+use Rattle.laws_container.proofs.Names.{subst, ◌∙◌, cases_eq, Event, Party, ReplacesRight}
 use Rattle.laws_container.proofs.Names.{StandsWellFormed, IsWellFormedRun, IsFilledWith, BeginsNone, party_of, put}
 use Rattle.laws_container.proofs.Names.{Each, span_of, Trace, others_begin_none, held_later, party_put_other, AreOwn}
-use Rattle.laws_container.proofs.Names.{span_of-other, IsHonestBy, IsCalm, calm_less}
+use Rattle.laws_container.proofs.Names.{Each-less, span_of-other, IsHonestBy, IsCalm, calm_less}
 use Rattle.laws_container.proofs.Replaces.{earlier}
 use Rattle.laws_container.proofs.Terms.{Terms, dying, Keeps}
 
@@ -22,9 +22,6 @@ module _ {T : Type 0} where
   -- where owners die
   pub well_formed_so_far : (t : Trace T) → IsWellFormedRun t → IsWellFormedSoFar dying t.world.latest t.events
   well_formed_so_far t h = well_formed_on dying t refl tt h
-
-  pub each_less : (P : List (Event T) → Event T → Type 0) (events es : List (Event T)) → Each P (events ++ es) → Each P events
-  each_less x0 x1 x2 x3 x4 x5 x6 x7 = grind (arith, append_assoc)
 
   -- a replace of a party whose span stays was begun rightly before as well
   pub stands_less : (q : ℕ) (o : Option (Party T)) (events es : List (Event T)) → BeginsNone q es
@@ -48,6 +45,6 @@ module _ {T : Type 0} where
         record {
           kept = h.kept;
           calm = calm_less terms.by events es h.calm;
-          replaced = each_less ReplacesRight events es h.replaced;
+          replaced = Each-less ReplacesRight events es h.replaced;
           replaces = λ q. ⊎_elim (λ e. subst (λ n. StandsWellFormed n (party_of n latest) events) (sym e) (mine h)) (λ ne. others_less h q ne) (cases_eq q p);
         }

@@ -1,8 +1,8 @@
 -- What each operation of a push and of a pop does to the completion queue, whose values have one word each.
 use Rattle.laws_loan.proofs.Names.{◌≡◌, ℕ, ◌+◌, ◌-◌, ◌*◌, ◌%◌, ◌^◌, ◌<◌, ◌≤◌, ◌==◌, true, false, Option, Some, List}
 use Rattle.laws_loan.proofs.Names.{[], ◌∷◌, length, get_or, refl, ap, ◌∙◌, nat_tests, nil_from_length, Ask, Store}
-use Rattle.laws_loan.proofs.Names.{GoOn, Push, after_position, one_word, words_of_index, words_after, change_of, Core}
-use Rattle.laws_loan.proofs.Names.{Holds, filled, taken, fills, one_filled, front, set_at, layout, KnowsPush}
+use Rattle.laws_loan.proofs.Names.{GoOn, Push, after_position, words_of_index, words_after, change_of, Core}
+use Rattle.laws_loan.proofs.Names.{Holds, filled, taken, fills, one_filled, front, set_at, layout}
 use Rattle.std.proofs.Common.{arith}
 use Rattle.steps.specs.declared.queues.ring.PushStage as pushes
 use Rattle.steps.specs.Queues.Ring.{cell_word, push_takes, word_at}
@@ -13,12 +13,6 @@ use Rattle.laws_loan.proofs.Channel.{no_roles}
 pub first_of : (xs : List ℕ) → 0 < length xs → (v : ℕ) × (rest : List ℕ) × (xs ≡ v ∷ rest)
 first_of [] some = absurd (omega arith)
 first_of (x ∷ xs) some = (x, xs, refl)
-
--- a push goes on to know what it knew where the first value leaves
-pub take_keeps : (slots : ℕ) (k : Core ℕ) (v : ℕ) (rest : List ℕ) → k.waiting ≡ v ∷ rest
-    → (w : ℕ) (stage : pushes.PushStage) → KnowsPush one_word slots k w stage
-    → KnowsPush one_word slots (taken 1 words_of_index slots k rest) w stage
-take_keeps x0 x1 x2 x3 x4 x5 x6 x7 = grind arith
 
 module _ (slots : ℕ) (some : 1 ≤ slots) (few : slots < 2 ^ 24) (k : Core ℕ) (g : Good 1 words_of_index slots k) (reached : k.write < 2 ^ 64 - 2) where
   abbrev pub ws : List ℕ

@@ -4,7 +4,7 @@ use Rattle.laws_loan.proofs.Names.{Option, Some, None, List, [], ◌∷◌, ◌+
 use Rattle.laws_loan.proofs.Names.{append-nil, length-append, AllByRecursion, nat_tests, set-get_or, flat_map-append}
 use Rattle.laws_loan.proofs.Names.{fold-append, Ask, After, GoOn, ReclaimStage, completion_word, next_sent}
 use Rattle.laws_loan.proofs.Names.{reclaim_goes_back, reclaim_releases, load, Answer, Number, Event, TakenBack}
-use Rattle.laws_loan.proofs.Names.{LoanFlight, Reclaim, Effect, Party, Coding, ask_of, Returning, spot_of}
+use Rattle.laws_loan.proofs.Names.{LoanFlight, Reclaim, Effect, Party, Coding, one_word, ask_of, Returning, spot_of}
 use Rattle.laws_loan.proofs.Names.{receiver_after, takes_back, taken_back, freed, given_back_at, words_of_index, Open}
 use Rattle.laws_loan.proofs.Names.{span_of, as_call, old_of, words_after, step_count, Core, taken, layout}
 use Rattle.std.proofs.Common.{arith}
@@ -18,6 +18,7 @@ use Rattle.model.specs.declared.families.Flight as flights
 use Rattle.model.specs.declared.families.loan.LoanStart.TheVariants as calls
 use Rattle.model.specs.declared.families.loan.effects.Effect.TheVariants as effects
 use Rattle.model.specs.Families.Loan.Reading.{frees}
+use Rattle.laws_queues.proofs.Ring.Keeping.{take_keeps}
 use Rattle.laws_loan.proofs.Channel.{Channel, no_roles, words_in}
 use Rattle.laws_loan.proofs.Completion as completion
 use Rattle.laws_loan.proofs.Cuts.{IsOn}
@@ -243,7 +244,7 @@ module _ {T : Type 0} (code : Coding T) (slots queue : ℕ) (s : Channel T) (lat
           let sent = passing_sent slots queue s wrote under known h.parts.placed.keeps takes v Returning refl was_returning returning_away in
           let receiver = fold-append receiver_after 1 s.events (takes ∷ []) in
           let freed_none = none_more frees wrote (takes ∷ []) none_freed refl in
-          let push = completion.take_keeps slots s.completion v rest first in
+          let push = take_keeps one_word slots s.completion v rest first in
           grind (arith, below, was_returning)
 
     -- the words of the whole have the first one in the cell of the read position

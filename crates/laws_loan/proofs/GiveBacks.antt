@@ -17,13 +17,14 @@ use Rattle.model.specs.declared.event.Start.TheVariants as starts
 use Rattle.model.specs.declared.families.loan.LoanStart.TheVariants as calls
 use Rattle.model.specs.declared.families.loan.effects.Effect.TheVariants as effects
 use Rattle.laws_queues.proofs.Queues.Core.{Good, published}
+use Rattle.laws_queues.proofs.Ring.Keeping.{fill_keeps, publish_keeps}
 use Rattle.laws_loan.proofs.Channel.{Channel, no_roles, words_in}
 use Rattle.laws_loan.proofs.Completion as completion
 use Rattle.laws_loan.proofs.Cuts.{IsOn}
 use Rattle.laws_loan.proofs.Giving.{GivesBy, gives_on}
 use Rattle.laws_loan.proofs.Invariant.{sends_at, counted_for, HoldsNow}
 use Rattle.laws_loan.proofs.Knows.{Passes}
-use Rattle.laws_loan.proofs.Mine.{fill_keeps, at_given, given_then, publish_keeps}
+use Rattle.laws_loan.proofs.Mine.{at_given, given_then}
 use Rattle.laws_loan.proofs.OneMove.{OneMove, carried, passes_on, same_receiver}
 use Rattle.laws_loan.proofs.Parts.{completion_long, completion_old, completion_words}
 use Rattle.laws_loan.proofs.Placed.{Placed}
@@ -194,7 +195,7 @@ module _ {T : Type 0} (code : Coding T) (slots queue : ℕ) (s : Channel T) (lat
         (record {
           receiver = receives;
           alive = alive;
-          pop = publish_keeps slots s.completion index;
+          pop = publish_keeps one_word slots s.completion index;
           passes = λ q i ne. passes_on p index s.events told (Passing p) Returning one_move q (λ same. ne (sym (passing_same p q same))) i;
         }) in
         grind (arith, shows_end)
@@ -251,7 +252,7 @@ module _ {T : Type 0} (code : Coding T) (slots queue : ℕ) (s : Channel T) (lat
             (completion.cell_on slots some few s.completion h.parts.completion reached s.completion.write)
             (completion.fill_words slots some few s.completion h.parts.completion reached index room)
             (refl, room, completion.fill_whole slots some few s.completion h.parts.completion reached index room, (let low = reached in omega arith))
-            (omega arith) (omega arith) (fill_keeps slots s.completion index);
+            (omega arith) (omega arith) (fill_keeps one_word slots s.completion 0 index);
       }
 
   -- what a give-back knows leads on

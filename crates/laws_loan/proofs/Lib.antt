@@ -73,6 +73,5 @@ pub mod Theirs
 pub mod Told
 pub mod Turns
 pub mod Waits
-pub mod Weighed
 pub mod Weight
 pub mod WorkedLockFree

@@ -5,7 +5,7 @@ use Rattle.laws_loan.proofs.Names.{Begin, Next, Decide, Die, Coding, first_of, k
 use Rattle.laws_loan.proofs.Names.{going_rows, first_row, has_died, dead_with, party_put_other, old_of}
 use Rattle.laws_loan.proofs.Names.{step_count, party_at_begin, Trace, flight_in, after_begin, after_next}
 use Rattle.laws_loan.proofs.Names.{after_answer, events_of_next, events_of_answer, refusal_of, call_refusal}
-use Rattle.laws_loan.proofs.Names.{passes, may_begin, next_passes, doing_of, flight_of}
+use Rattle.laws_loan.proofs.Names.{passes, may_begin, next_passes, doing_of, flight_of, AllByRecursion, [], ◌∷◌}
 use Rattle.std.proofs.Common.{cond, arith, is_none}
 use Rattle.model.specs.declared.families.Registry as registries
 use Rattle.model.specs.declared.party.Doing.TheVariants.{Going, Over}
@@ -21,12 +21,12 @@ use Rattle.model.proofs.Frame as frame
 use Rattle.model.proofs.Frame.{is_true}
 use Rattle.model.proofs.LockFree.Measure.{worth}
 use Rattle.model.proofs.LockFree.Stays.{under_way}
+use Rattle.model.proofs.LockFree.Weighed.{Weighs, runs_end}
 use Rattle.model.proofs.Rows.{may_next, may_decide, must_be_due}
 use Rattle.laws_loan.specs.LockFree.{KeepsEndingRuns, channel_bound}
 use Rattle.laws_loan.proofs.Laws.{laws, asks_nothing, reached}
 use Rattle.laws_loan.proofs.Lowers.{P, r, dead, is_kept, not_sender, receivers_are, Shows, goes_on}
 use Rattle.laws_loan.proofs.StepLaw.{channel}
-use Rattle.laws_loan.proofs.Weighed.{Weighs, runs_end}
 use Rattle.laws_loan.proofs.Weight.{sender_left, receiver_left, receivers_left, receiver_in, is_lost, read_at, weight, weight_most}
 use Rattle.laws_loan.proofs.Weight.{sender_most, receiver_most, most_sending}
 
@@ -203,12 +203,19 @@ module _ {T : Type 0} (code : Coding T) (slots queue : ℕ) (t : Trace T) (sound
 -- ---- every run
 
 module _ {T : Type 0} where
-  weighs : (code : Coding T) (slots queue : ℕ) → Weighs (P code slots queue) (weight slots) (13 * slots + 11)
+  abbrev any_turn : Turn T → Type 0
+  any_turn turn = Unit {0}
+
+  any_turns : (turns : List (Turn T)) → AllByRecursion any_turn turns
+  any_turns [] = tt
+  any_turns (turn ∷ turns) = (tt, any_turns turns)
+
+  weighs : (code : Coding T) (slots queue : ℕ) → Weighs refusal_of any_turn (P code slots queue) (weight slots) (13 * slots + 11)
   weighs code slots queue =
       record {
-        keeps = keeps;
+        keeps = λ t turn e may h. keeps t turn e h;
         most = λ t h. weight_most slots t.world;
-        shows = λ t turn e h. (let less = shows code slots queue t h turn (passes t.world turn e).on (keeps t turn e h) in omega arith);
+        shows = λ t turn e may h. (let less = shows code slots queue t h turn (passes t.world turn e).on (keeps t turn e h) in omega arith);
       }
     where
       keeps : (t : Trace T) (turn : Turn T) → refusal_of t.world turn ≡ None → P code slots queue t → P code slots queue (after_turn t turn)
@@ -219,8 +226,8 @@ module _ {T : Type 0} where
   pub channel_keeps_ending : KeepsEndingRuns T kinds.TheVariants.Loan channel_bound
   channel_keeps_ending t is h turns allowed =
       let there = reached t is h in
-      runs_end (P t.world.coding t.world.capacity there.0) (weight t.world.capacity) (13 * t.world.capacity + 11)
-      (weighs t.world.coding t.world.capacity there.0) t there.1 turns allowed
+      runs_end refusal_of any_turn (P t.world.coding t.world.capacity there.0)
+      (weighs t.world.coding t.world.capacity there.0) t there.1 turns allowed (any_turns turns)
 
   -- in more steps than the bound one call ends
   pub channel_one_ends : HasLockFreeRuns T kinds.TheVariants.Loan channel_bound

@@ -11,7 +11,6 @@ use Rattle.laws_loan.proofs.Names.{acquire_asks}
 use Rattle.laws_loan.proofs.Names.{back_asks, as_call, Running, Part, Push, KnowsPush, push_number, one_word, completion_word}
 use Rattle.laws_loan.proofs.Names.{Pop, OneWord, submission_word, acquire_number, release_number, SendStage, ReleaseStage, TakeBackStage, ReclaimStage}
 use Rattle.std.proofs.Common.{cond, arith}
-use Rattle.std.proofs.lemmas.List.Sums.{sum_by-append}
 use Rattle.steps.specs.Loan.TakeBack.{take_back_asks}
 use Rattle.steps.specs.declared.ask.After.TheVariants.{Done}
 use Rattle.model.specs.declared.event.Start as starts
@@ -22,13 +21,14 @@ use Rattle.model.specs.declared.families.loan.calls.LoanFlight.TheVariants.{Loan
 use Rattle.model.specs.declared.party.Doing.TheVariants.{Going}
 use Rattle.model.specs.Families.Loan.Calls as rows
 use Rattle.model.specs.Families.Loan.Steps.{step, wrote}
-use Rattle.model.specs.LockFree.{end_of, ends}
+use Rattle.model.specs.LockFree.{ends}
 use Rattle.model.specs.Parties.{party_of}
 use Rattle.model.specs.Step.{Step}
 use Rattle.model.specs.Turns.{doing_after, after_step, step_in}
 use Rattle.model.specs.World.{World}
 use Rattle.model.proofs.Frame as frame
 use Rattle.model.proofs.LockFree.Measure.{worth}
+use Rattle.model.proofs.LockFree.Weighed.{ended_more}
 use Rattle.laws_loan.proofs.Channel.{Channel, kept_is}
 use Rattle.laws_loan.proofs.Costs.{Keeps, AllCosts, CallCosts, acquire_keeps, release_keeps, any_costs, send_costs_so, take_back_keeps, gives_below}
 use Rattle.laws_loan.proofs.GiveBacks.{give_at, push_on}
@@ -81,9 +81,6 @@ module _ {T : Type 0} where
           (ap (λ (b : Book). b.receiver) same ∙ rest.0, ap (λ (b : Book). b.dead) same ∙ rest.1)
 
 -- ---- sums
-
-ended_more : {T : Type 0} (xs ys : List (Event T)) → ends (xs ++ ys) ≡ ends xs + ends ys
-ended_more xs ys = sum_by-append end_of xs ys
 
 few_steps : (ask : Option Ask) → step_count ask ≤ 1
 few_steps None = omega arith

@@ -18,6 +18,7 @@ use Rattle.model.specs.declared.event.Start.TheVariants as starts
 use Rattle.model.specs.declared.families.Flight as flights
 use Rattle.model.specs.declared.families.loan.LoanStart.TheVariants as calls
 use Rattle.model.specs.declared.families.loan.effects.Effect.TheVariants as effects
+use Rattle.laws_queues.proofs.Ring.Keeping.{take_keeps}
 use Rattle.laws_loan.proofs.Channel.{Channel, no_roles, words_in}
 use Rattle.laws_loan.proofs.Completion as completion
 use Rattle.laws_loan.proofs.Cuts.{IsOn}
@@ -210,7 +211,7 @@ module _ {T : Type 0} (code : Coding T) (slots queue : ℕ) (s : Channel T) (lat
         let words = words_are store_of_read without on (completion.take_words slots some few s.completion h.parts.completion reached index rest first) in
         let there = now_there 0 index s.events (takes ∷ []) Returning (Passing 0) one_move in
         let others =
-        others_beside slots queue s s_taken refl refl (λ room stage known. known) (completion.take_keeps slots s.completion index rest first)
+        others_beside slots queue s s_taken refl refl (λ room stage known. known) (take_keeps one_word slots s.completion index rest first)
         (λ q ne. passes_on 0 index s.events (takes ∷ []) Returning (Passing 0) one_move q (returning_passes q)) in
         grind (arith, shows_taken, open_then, below)
 

@@ -1,7 +1,6 @@
 -- A worked run of a loan channel with one slot in which no call ends for 14 steps: a receive up to its last step, whose party
 -- dies then, and a reclaim of the one index up to its last step.
-use Rattle.std.proofs.Common.{◌≡◌, ℕ, ◌<◌, List, [], ◌∷◌, ◌++◌, refl, arith}
-use Rattle.model.specs.declared.event.Start.{Start}
+use Rattle.std.proofs.Common.{◌≡◌, ℕ, ◌<◌, List, ◌∷◌, ◌++◌, refl, arith}
 use Rattle.model.specs.declared.event.Start.TheVariants as starts
 use Rattle.model.specs.declared.families.loan.LoanStart.TheVariants as calls
 use Rattle.model.specs.declared.turn.Kind.TheVariants.{Loan}
@@ -11,7 +10,7 @@ use Rattle.model.specs.Coding.{one_word, IsCoding}
 use Rattle.model.specs.LockFree.{Bound, HasLockFreeRuns, ends, steps_in}
 use Rattle.model.specs.Turns.{run, after_turns, AreAllowed, IsReached}
 use Rattle.model.specs.World.{Trace, opened}
-use Rattle.model.proofs.Runs.{nexts, begins}
+use Rattle.model.proofs.Runs.{begins}
 
 one_word_codes : IsCoding one_word
 one_word_codes = record { some = omega arith; few = omega arith; sized = λ n. refl; given_back = λ n. refl }

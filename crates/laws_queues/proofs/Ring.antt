@@ -1,3 +1,4 @@
+pub mod Keeping
 pub mod Kinds
 pub mod Knows
 pub mod Pops

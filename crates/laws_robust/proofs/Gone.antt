@@ -2,7 +2,7 @@
 -- who is gone.
 use Rattle.laws_robust.proofs.Names.{⊎_elim, ◌≡◌, ℕ, ◌==◌, ◌||◌, Bool, true, false, Option, Some, None, List, [], ◌∷◌}
 use Rattle.laws_robust.proofs.Names.{◌++◌, fold, refl, sym, ap, subst, ◌∙◌, append_assoc, append-nil, eq-eqb, arith}
-use Rattle.laws_robust.proofs.Names.{fold-append, ReleaseMode, LockIfLastIndex, Index, NoIndex, State, Event, Begun}
+use Rattle.laws_robust.proofs.Names.{fold-append, Each-less, ReleaseMode, LockIfLastIndex, Index, NoIndex, State, Event, Begun}
 use Rattle.laws_robust.proofs.Names.{Granted, FreedOf, Told, Died, Finished, Robust, Container, AsksRight, FreesRight}
 use Rattle.laws_robust.proofs.Names.{AnswersRight, filled_after, filled_of, dead_after, is_dead, Each}
 use Rattle.steps.specs.declared.indices.enums.ReleaseState.TheVariants.{Unlocked}
@@ -53,15 +53,12 @@ module _ {T : Type 0} where
 
   -- ---- honest runs
 
-  each_less : (P : List (Event T) → Event T → Type 0) (events es : List (Event T)) → Each P (events ++ es) → Each P events
-  each_less x0 x1 x2 x3 x4 x5 x6 x7 = grind (arith, append_assoc)
-
   pub honest_less : (by : GoneBy) (events es : List (Event T)) → IsHonestBy by (events ++ es) → IsHonestBy by events
   honest_less Death events es h = tt
-  honest_less Word events es h = each_less ActsForRight events es h
+  honest_less Word events es h = Each-less ActsForRight events es h
 
   pub calm_less : (by : GoneBy) (events es : List (Event T)) → IsCalm by (events ++ es) → IsCalm by events
-  calm_less by events es h = (each_less FreesRight events es h.0, honest_less by events es h.1)
+  calm_less by events es h = (Each-less FreesRight events es h.0, honest_less by events es h.1)
 
   -- an index is granted for an owner who lives
   pub lives_granted : (by : GoneBy) (p index owner : ℕ) (events : List (Event T)) → is_dead owner events ≡ false

@@ -45,7 +45,7 @@ recover_most : (c : ℕ) (mode : ReleaseMode) (all : List SetAct) (stage : Recov
     → recover_number c mode stage backs ≤ most_steps c (starts.TheVariants.Recover mode) backs
 recover_most x0 x1 x2 x3 x4 x5 = grind (arith, recover_at_most, lock_most)
 
-steps_most : (c : ℕ) (all : List SetAct) (backs : ℕ) (start : RobustStart) (flight : RobustFlight)
+pub steps_most : (c : ℕ) (all : List SetAct) (backs : ℕ) (start : RobustStart) (flight : RobustFlight)
     → At c all start flight → number_of c flight backs ≤ most_steps c start backs
 steps_most x0 x1 x2 x3 x4 x5 = grind (arith, acquire_most, release_most, find_most, recover_most, count_most)
 

@@ -25,7 +25,6 @@ pub mod Looks
 pub mod Measured
 pub mod Opening
 pub mod OpenRuns
-pub mod OpenTurns
 pub mod Parts
 pub mod Past
 pub mod RecoverSteps

@@ -1,25 +1,23 @@
 -- What holds of the machine of a robust set keeps to every turn of an open run, so it holds wherever such a run leads.
-use Rattle.laws_robust.proofs.Names.{◌≡◌, ◌≢◌, slice_index, ℕ, Bool, true, not, Some, None, is_none, List, []}
-use Rattle.laws_robust.proofs.Names.{◌∷◌, ◌++◌, refl, sym, ap, subst, ◌∙◌, arith, greatest, ReleaseMode, Container}
+use Rattle.laws_robust.proofs.Names.{◌≡◌, ◌≢◌, slice_index, ℕ, Bool, true, not, Some, None, is_none}
+use Rattle.laws_robust.proofs.Names.{refl, subst, arith, greatest, ReleaseMode, Container}
 use Rattle.laws_robust.proofs.Names.{Flight, Party, Idle, Undecided, Turn, Begin, Next, Decide, Die, Coding}
-use Rattle.laws_robust.proofs.Names.{AnswersRight, party_of, Each, is_due, call_refusal, after_turn, unless_refused}
-use Rattle.laws_robust.proofs.Names.{Trace, opening, flight_in, row_passed}
+use Rattle.laws_robust.proofs.Names.{AnswersRight, party_of, Each, is_due, call_refusal, after_turn}
+use Rattle.laws_robust.proofs.Names.{Trace, flight_in, row_passed}
 use Rattle.model.specs.declared.families.container.ContainerStart.TheVariants.{Recover}
 use Rattle.model.specs.declared.families.Flight as flights
-use Rattle.model.specs.declared.turn.Kind.{Kind}
 use Rattle.model.specs.declared.turn.Kind as kinds
 use Rattle.model.specs.declared.families.Registry as registries
 use Rattle.model.proofs.FamilyLaws.{opening_there}
 use Rattle.model.proofs.Frame as frame
 use Rattle.model.proofs.Scenes.{decides_from, stands_there}
-use Rattle.model.proofs.Reached.{turn_making}
+use Rattle.model.proofs.Reached.{kept_by, reached_by_more}
 use Rattle.laws_robust.specs.Gone.{Word, IsHonest}
-use Rattle.laws_robust.specs.Open.{open_refusal, attempt_open, run_open, IsReachedOpen, IsOpenSet}
+use Rattle.laws_robust.specs.Open.{open_refusal, IsReachedOpen, IsOpenSet}
 use Rattle.laws_robust.proofs.Alive.{AllLive, all_live_on}
 use Rattle.laws_robust.proofs.Gone.{answers_right}
 use Rattle.laws_robust.proofs.Invariant.{outline, family_by}
 use Rattle.laws_robust.proofs.Living.{steps_leave}
-use Rattle.laws_robust.proofs.OpenTurns.{reached_keeps}
 use Rattle.laws_robust.proofs.Sound.{May, laws_by, all_turns, decides, MayDecideIn}
 
 module _ {T : Type 0} (code : Coding T) (c : ℕ) where
@@ -69,17 +67,18 @@ module _ {T : Type 0} where
       → frame.Sound (family_by Word t.world.coding t.world.capacity) t
   reached_open_sound t is r =
       let w = t.world in
-      reached_keeps (frame.Sound (family_by Word w.coding w.capacity)) (λ u turn e s. open_turn_sound w.coding w.capacity u turn e s) t r
-      (opening_there (outline Word) (May Word) (all_turns Word) t is r.coded r.admitted)
+      kept_by open_refusal (frame.Sound (family_by Word w.coding w.capacity))
+      (λ u turn e s. open_turn_sound w.coding w.capacity u turn e s) t
+      (opening_there (outline Word) (May Word) (all_turns Word) t is r.coded r.admitted) r
 
   -- and nobody dies
   pub reached_open_lives : (t : Trace T) → t.world.kind ≡ kinds.TheVariants.Robust → IsReachedOpen t → AllLive t.events
   reached_open_lives t is r =
       let code = t.world.coding in
       let c = t.world.capacity in
-      (reached_keeps (λ u. frame.Sound (family_by Word code c) u × AllLive u.events)
-      (λ u turn e h. (open_turn_sound code c u turn e h.0, all_live_on u (steps_leave code c u h.0) turn e h.1)) t r
-      (opening_there (outline Word) (May Word) (all_turns Word) t is r.coded r.admitted, λ owner. refl)).1
+      (kept_by open_refusal (λ u. frame.Sound (family_by Word code c) u × AllLive u.events)
+      (λ u turn e h. (open_turn_sound code c u turn e h.0, all_live_on u (steps_leave code c u h.0) turn e h.1)) t
+      (opening_there (outline Word) (May Word) (all_turns Word) t is r.coded r.admitted, λ owner. refl) r).1
 
   open_kept : (code : Coding T) (t : Trace T) → frame.Sound (family_by Word code t.world.capacity) t → AllLive t.events → IsOpenSet t
   open_kept code t s lives =
@@ -96,24 +95,5 @@ module _ {T : Type 0} where
 
   -- ---- one turn more
 
-  run_open_more : (turns : List (Turn T)) (turn : Turn T) (t : Trace T) → run_open (turns ++ turn ∷ []) t ≡ attempt_open (run_open turns t) turn
-  run_open_more [] turn t = refl
-  run_open_more (x ∷ xs) turn t = run_open_more xs turn (attempt_open t x)
-
-  attempt_allowed : (t : Trace T) (turn : Turn T) → open_refusal t.world turn ≡ None → attempt_open t turn ≡ after_turn t turn
-  attempt_allowed t turn e = ap (unless_refused t (after_turn t turn)) e
-
   pub reached_open_more : (t : Trace T) (turn : Turn T) → open_refusal t.world turn ≡ None → IsReachedOpen t → IsReachedOpen (after_turn t turn)
-  reached_open_more t turn e r =
-      let making = turn_making t.world turn in
-      let more : after_turn t turn ≡ run_open (r.turns ++ turn ∷ []) (opening t.world.coding t.world.kind t.world.capacity t.world.parties) =
-      sym (attempt_allowed t turn e)
-      ∙ (ap (λ u. attempt_open u turn) r.is
-      ∙ sym (run_open_more r.turns turn (opening t.world.coding t.world.kind t.world.capacity t.world.parties)))
-      in
-      record {
-        coded = rw making.coding r.coded;
-        admitted = rw (making.kind, making.capacity) r.admitted;
-        turns = r.turns ++ turn ∷ [];
-        is = rw (making.coding, making.kind, making.capacity, making.parties) more;
-      }
+  reached_open_more t turn e r = reached_by_more open_refusal t turn e r

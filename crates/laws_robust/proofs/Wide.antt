@@ -5,8 +5,8 @@ use Rattle.laws_robust.proofs.Names.{Party, Turn, first_of, opening_words}
 use Rattle.laws_robust.proofs.Names.{words_after, number_of, after_begin, after_answer}
 use Rattle.laws_robust.proofs.Names.{after_next, after_decision, world_after, World, Trace, opening}
 use Rattle.model.specs.declared.turn.Kind as kinds
-use Rattle.laws_robust.specs.Open.{IsReachedOpen}
-use Rattle.laws_robust.proofs.OpenTurns.{reached_keeps}
+use Rattle.laws_robust.specs.Open.{open_refusal, IsReachedOpen}
+use Rattle.model.proofs.Reached.{kept_by}
 
 words_wide : (words : List ℕ) (ask : Option Ask) → length (words_after words ask) ≡ length words
 words_wide words None = refl
@@ -37,5 +37,5 @@ module _ {T : Type 0} where
   pub reached_open_wide : (t : Trace T) → t.world.kind ≡ kinds.TheVariants.Robust → IsReachedOpen t → length t.world.words ≡ t.world.capacity + 1
   reached_open_wide t is r =
       let w = t.world in
-      reached_keeps (λ u. length u.world.words ≡ w.capacity + 1) (λ u turn e h. turn_wide u.world turn ∙ h) t r
-      (subst (λ kind. length (opening w.coding kind w.capacity w.parties).world.words ≡ w.capacity + 1) (sym is) (opening_wide w.capacity))
+      kept_by {T = T} open_refusal (λ u. length u.world.words ≡ w.capacity + 1) (λ u turn e h. turn_wide u.world turn ∙ h) t
+      (subst (λ kind. length (opening w.coding kind w.capacity w.parties).world.words ≡ w.capacity + 1) (sym is) (opening_wide w.capacity)) r

@@ -1,7 +1,7 @@
 -- Runs of a robust index set, or of a container, where nobody sees an owner die, as between threads: no owner dies, and
 -- neither a yes of a recovery nor the begin of a container's is refused; and neither turns nor parties have a bound. And
 -- what holds of a robust index set that such a run leads to.
-use Rattle.std.specs.Prelude.{◌≡◌, ℕ, ◌<◌, ◌==◌, Bool, true, false, not, Option, None, is_some, is_none, List, [], ◌∷◌, slice_index}
+use Rattle.std.specs.Prelude.{◌≡◌, ℕ, ◌<◌, ◌==◌, Bool, true, false, not, Option, is_some, is_none, List, [], ◌∷◌, slice_index}
 use Rattle.steps.specs.Indices.Robust.Parts.{cell_word, locked, greatest}
 use Rattle.model.specs.declared.event.Start.TheVariants.{Container}
 use Rattle.model.specs.declared.families.container.ContainerStart.TheVariants.{Recover}
@@ -9,7 +9,6 @@ use Rattle.model.specs.declared.turn.Turn.{Turn}
 use Rattle.model.specs.declared.turn.Turn.TheVariants.{Begin, Decide, Die}
 use Rattle.model.specs.declared.turn.Refusal.{Refusal}
 use Rattle.model.specs.declared.turn.Refusal.TheVariants.{WrongCall, Busy, Idle, Undecided}
-use Rattle.model.specs.Coding.{IsCoding}
 use Rattle.model.specs.Families.{first_of}
 use Rattle.model.specs.Families.Indices.Reading.{is_locked}
 use Rattle.model.specs.Families.Indices.Robust.Promises.{cell_of, SetDoes, IsWellFormed, HoldsRight, KeepsDead}
@@ -17,8 +16,8 @@ use Rattle.model.specs.Families.Indices.Robust.Reading.{filled_of, is_dead}
 use Rattle.model.specs.Reading.{Each}
 use Rattle.model.specs.Refusals.{is_due, call_rows}
 use Rattle.model.specs.Rows.{first_row}
-use Rattle.model.specs.Turns.{after_turn, unless_refused}
-use Rattle.model.specs.World.{World, Trace, opening, capacity_error, flight_in}
+use Rattle.model.specs.Turns.{attempt_by, run_by, IsReachedBy}
+use Rattle.model.specs.World.{World, Trace, flight_in}
 use Rattle.laws_robust.specs.Gone.{Word, IsHonest, AsksBy, AnswersBy}
 
 module _ {T : Type 0} where
@@ -39,19 +38,14 @@ module _ {T : Type 0} where
   open_refusal w turn = first_row (open_rows w turn)
 
   abbrev pub attempt_open : Trace T → Turn T → Trace T
-  attempt_open t turn = unless_refused t (after_turn t turn) (open_refusal t.world turn)
+  attempt_open = attempt_by open_refusal
 
   abbrev pub run_open : List (Turn T) → Trace T → Trace T
-  run_open [] t = t
-  run_open (turn ∷ turns) t = run_open turns (attempt_open t turn)
+  run_open = run_by open_refusal
 
   -- such a run leads here from the opening
-  pub record IsReachedOpen (t : Trace T) : Type 0 where
-    pub coded : IsCoding t.world.coding
-    pub admitted : capacity_error t.world.kind t.world.capacity ≡ None
-    pub turns : List (Turn T)
-    pub is : t
-        ≡ run_open turns (opening t.world.coding t.world.kind t.world.capacity t.world.parties)
+  abbrev pub IsReachedOpen : Trace T → Type 0
+  IsReachedOpen = IsReachedBy open_refusal
 
   -- what its cells hold and whether it is locked, by its events; what each event says; and who holds an index, in a run
   -- that is well-formed and honest

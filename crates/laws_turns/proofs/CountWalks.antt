@@ -34,7 +34,7 @@ use Rattle.model.specs.declared.families.container.calls.ContainerFlight as call
 use Rattle.model.specs.Families.Container.Calls.{want, after}
 use Rattle.laws_container.proofs.Standing.{add_at, remove_at, replace_at, recover_at, AddAt, RemoveAt, RecoverAt, At}
 use Rattle.laws_container.proofs.Standing.{place_is}
-use Rattle.laws_turns.proofs.Waiting.{add_asks_none, remove_asks_none, replace_asks_none}
+use Rattle.laws_container.proofs.Moves.{add_asks_none, remove_asks_none, replace_asks_none}
 use Rattle.laws_turns.proofs.CountSteps.{IsCalm, acquire_calm, calm_apart, calm_load, count_calm, empty_none}
 use Rattle.laws_turns.proofs.CountSteps.{find_none, get_none, len_none, lock_calm, raise_calm, release_calm}
 use Rattle.laws_turns.proofs.CountSteps.{update_none, ends_count}

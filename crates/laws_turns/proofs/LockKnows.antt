@@ -8,7 +8,7 @@ use Rattle.steps.specs.declared.indices.robust.recover.RecoverStage.{RecoverStag
 use Rattle.steps.specs.declared.indices.robust.recover.RecoverStage as recovers
 use Rattle.model.specs.declared.families.Flight as flights
 use Rattle.model.specs.declared.families.indices.robust.calls.RobustFlight as calls
-use Rattle.laws_container.proofs.Keeping.{shut_later}
+use Rattle.model.proofs.Locks.{locked_later}
 
 module _ {T : Type 0} where
   -- some index was filled after each that it has freed, or the set is locked
@@ -40,7 +40,7 @@ module _ {T : Type 0} where
     pub settled_then : (mode : ReleaseMode) → Settled mode p events → Settled mode p (events ++ es)
     settled_then mode h owner =
         filled_then p owner ⊥ ⊥ (λ worn. worn) mode NoIndex NoIndex events es none
-        (λ i was. inl (frees i owner was)) (λ i never. never) (shut_later events es) (h owner)
+        (λ i was. inl (frees i owner was)) (λ i never. never) (locked_later events es) (h owner)
 
   -- ---- once another party has moved
 

@@ -19,39 +19,41 @@ pub use Rattle.laws_robust.proofs.Stages.{IsHere, Lengthens, all, exchanges, loa
 pub use Rattle.laws_robust.proofs.Standing.{AcquireAt, FindAt, LockAt, find_at}
 pub use Rattle.laws_robust.specs.Gone.{Death}
 pub use Rattle.model.proofs.Moments.{held_now, others_begin_none}
-pub use Rattle.model.proofs.Parties.{found_put_same, party_put_other, party_put_same}
+pub use Rattle.model.proofs.Names.{After, AllByRecursion, Ask, BeginsNone, Bool, Coding, ContainerState, Default, Each}
+pub use Rattle.model.proofs.Names.{Frees, GoOn, IfSome, IsEffectOf, IsFilled, IsOneOf, IsParty, IsReached, List, Lock}
+pub use Rattle.model.proofs.Names.{LockIfLastIndex, None, Option, Raise, ReleaseMode, ReleaseState, Running, SetAct}
+pub use Rattle.model.proofs.Names.{Some, Step, Trace, World, [], after_answer, after_begin, after_decision, after_next}
+pub use Rattle.model.proofs.Names.{after_turn, answer_in, ap, append-nil, append_assoc, append_cancel_left, arith}
+pub use Rattle.model.proofs.Names.{as_call, as_it_is, ask_of, ask_of_doing, ask_of_flight, beside_of, capacity_error}
+pub use Rattle.model.proofs.Names.{cases_eq, cases_lt, doing_after, doing_of, empty, ending_of, eq-eqb, events_of}
+pub use Rattle.model.proofs.Names.{events_of_answer, events_of_decision, events_of_next, events_of_step, false}
+pub use Rattle.model.proofs.Names.{filled_of, first_of, flight_in, flight_of, fold, fold-append, get_or, goes_of}
+pub use Rattle.model.proofs.Names.{if◌then◌else◌, inl, inr, is_due, is_look_of, is_none, is_question, is_some}
+pub use Rattle.model.proofs.Names.{kept_after_begin, kept_after_death, kept_at, length, length-replicate, lock_after}
+pub use Rattle.model.proofs.Names.{lock_goes_back, lock_want, map, nat_lt, nat_tests, ne_eqb, not, number_of, old_of}
+pub use Rattle.model.proofs.Names.{one_more, one_word, party_of, raise_after, raise_want, refl, refusal_of, replicate}
+pub use Rattle.model.proofs.Names.{run, set_acts, set_acts_of, slice_index, state_in, step_in, step_of, subst, sym}
+pub use Rattle.model.proofs.Names.{true, unless_refused, want_of, went_on, whose, words_after, world_after, wrote_in, ℕ}
+pub use Rattle.model.proofs.Names.{⊎_elim, ◌%◌, ◌&&◌, ◌*◌, ◌++◌, ◌+◌, ◌-◌, ◌<◌, ◌==◌, ◌^◌, ◌∙◌, ◌∷◌, ◌≡◌, ◌≢◌, ◌≤◌, ◌⊎◌}
+pub use Rattle.model.proofs.Parties.{found_put_same, party_put_same}
 pub use Rattle.model.proofs.Reached.{kept_by_runs, reached_more, turn_making}
 pub use Rattle.model.proofs.Readings.{AreOwn, AreRight, Each-append, Each-nil, no_more, span_of-death, span_of-other}
 pub use Rattle.model.proofs.Readings.{span_of-own}
 pub use Rattle.model.proofs.Rows.{may_begin, may_decide, may_next, must_be_due, passes}
 pub use Rattle.model.proofs.Scenes.{StandsThere, stands_there}
-pub use Rattle.model.specs.Coding.{Coding, one_word}
-pub use Rattle.model.specs.Families.{ask_of, beside_of, first_of, goes_of, is_question, kept_after_begin}
-pub use Rattle.model.specs.Families.{kept_after_death, step_of, want_of}
 pub use Rattle.model.specs.Families.Container.Calls.{added, first, look_came, look_shows, looked, place_of, removed}
 pub use Rattle.model.specs.Families.Container.Calls.{replaced, settled_if, writes_state}
-pub use Rattle.model.specs.Families.Container.Keeping.{is_look_of}
-pub use Rattle.model.specs.Families.Container.Looks.{is_looking, state_in}
+pub use Rattle.model.specs.Families.Container.Looks.{is_looking}
 pub use Rattle.model.specs.Families.Container.Reading.{Act}
 pub use Rattle.model.specs.Families.Container.States.{fresh, state_of, with_state}
 pub use Rattle.model.specs.Families.Container.Steps.{questions}
-pub use Rattle.model.specs.Families.Indices.Robust.Promises.{IsFilled, IsIn, asked_of, cell_of, owned_of}
-pub use Rattle.model.specs.Families.Indices.Robust.Reading.{Frees, IsOneOf, SetAct, filled_of, set_acts, set_acts_of}
-pub use Rattle.model.specs.Families.Indices.Robust.Reading.{wrote_in}
+pub use Rattle.model.specs.Families.Indices.Robust.Promises.{IsIn, asked_of, cell_of, owned_of}
 pub use Rattle.model.specs.Families.Indices.Robust.Steps.{acquire_effects, granted, locked_by, recover_effects}
 pub use Rattle.model.specs.Families.Indices.Robust.Steps.{release_effects}
-pub use Rattle.model.specs.Families.Queues.Calls.{as_it_is, kept_at}
-pub use Rattle.model.specs.Moments.{BeginsNone}
-pub use Rattle.model.specs.Parties.{doing_of, flight_of, party_of, put}
-pub use Rattle.model.specs.Promises.Turns.{GoesOn, IsEffectOf, IsParty, StandsAt, ask_in, ask_of_flight}
-pub use Rattle.model.specs.Reading.{Each, whose}
-pub use Rattle.model.specs.Refusals.{is_due, refusal_of}
-pub use Rattle.model.specs.Step.{Step, answer_in, as_call}
-pub use Rattle.model.specs.Turns.{IsReached, after_answer, after_begin, after_decision, after_next, after_turn}
-pub use Rattle.model.specs.Turns.{ask_of_doing, attempt, doing_after, ending_of, events_of, events_of_answer}
-pub use Rattle.model.specs.Turns.{events_of_decision, events_of_next, events_of_step, number_of, old_of, run, step_in}
-pub use Rattle.model.specs.Turns.{unless_refused, words_after, world_after}
-pub use Rattle.model.specs.World.{Trace, World, capacity_error, flight_in, kept_opened}
+pub use Rattle.model.specs.Parties.{put}
+pub use Rattle.model.specs.Promises.Turns.{GoesOn, StandsAt, ask_in}
+pub use Rattle.model.specs.Turns.{attempt}
+pub use Rattle.model.specs.World.{kept_opened}
 pub use Rattle.model.specs.declared.event.Answer.{Answer}
 pub use Rattle.model.specs.declared.event.Answer.TheVariants.{Number, State, Truth}
 pub use Rattle.model.specs.declared.event.Event.{Event}
@@ -73,17 +75,9 @@ pub use Rattle.model.specs.declared.turn.Turn.TheVariants.{Begin, Decide, Die, N
 pub use Rattle.plain.specs.Contents.{Contents, after_add, after_remove, after_replace, capacity, changed, count_with}
 pub use Rattle.plain.specs.Contents.{count_without, names, put_at}
 pub use Rattle.plain.specs.States.{Snapshot, blank, snapshot_of, updated, value_then}
-pub use Rattle.std.proofs.Common.{Bool, Err, IfSome, List, None, Ok, Option, Result, Some, [], ap, append-nil}
-pub use Rattle.std.proofs.Common.{append_assoc, arith, eq-eqb, false, fold, get_or, if◌then◌else◌, inl, inr, is_none}
-pub use Rattle.std.proofs.Common.{is_some, length, map, nat_lt, ne_eqb, not, refl, replicate, slice_index}
-pub use Rattle.std.proofs.Common.{slice_index_or, subst, sym, true, ℕ, ⊎_elim, ◌%◌, ◌&&◌, ◌*◌, ◌++◌, ◌+◌, ◌-◌, ◌<◌}
-pub use Rattle.std.proofs.Common.{◌==◌, ◌^◌, ◌∙◌, ◌∷◌, ◌≡◌, ◌≢◌, ◌≤◌, ◌⊎◌}
-pub use Rattle.std.proofs.lemmas.Bool.{cases_eq, cases_lt}
-pub use Rattle.std.proofs.lemmas.Bool.Decides.{nat_tests}
-pub use Rattle.std.proofs.lemmas.List.{append_cancel_left, ext_get_or, get_or-replicate, get_or-set_same, get_or_past}
-pub use Rattle.std.proofs.lemmas.List.{length-replicate, length-set, set_past}
-pub use Rattle.std.proofs.lemmas.List.Sums.{fold-append}
-pub use Rattle.std.specs.List.{AllByRecursion, range_with_len}
+pub use Rattle.std.proofs.Common.{Err, Ok, Result, slice_index_or}
+pub use Rattle.std.proofs.lemmas.List.{ext_get_or, get_or-replicate, get_or-set_same, get_or_past, length-set, set_past}
+pub use Rattle.std.specs.List.{range_with_len}
 pub use Rattle.steps.specs.Container.Add.{Added, add_acquired, add_after, add_asks}
 pub use Rattle.steps.specs.Container.Find.{find_asks, find_kept}
 pub use Rattle.steps.specs.Container.Layout.{change_word, count_word, element_word, is_even}
@@ -93,13 +87,9 @@ pub use Rattle.steps.specs.Container.Remove.{Removed, inner_release, remove_afte
 pub use Rattle.steps.specs.Container.Replace.{Replaced, replace_after, replace_asks}
 pub use Rattle.steps.specs.Indices.Robust.Acquire.{Acquired, acquire_asks}
 pub use Rattle.steps.specs.Indices.Robust.Looks.{borrowed_after}
-pub use Rattle.steps.specs.Indices.Robust.Parts.{cell_word, count_want, empty, lock_after, lock_goes_back, lock_want}
-pub use Rattle.steps.specs.Indices.Robust.Parts.{locked, one_more, raise_after, raise_want}
+pub use Rattle.steps.specs.Indices.Robust.Parts.{cell_word, count_want, locked}
 pub use Rattle.steps.specs.Indices.Robust.Release.{Released, release_asks, release_takes}
-pub use Rattle.steps.specs.Routine.{went_on}
-pub use Rattle.steps.specs.declared.ask.After.{After}
-pub use Rattle.steps.specs.declared.ask.After.TheVariants.{Done, GoOn}
-pub use Rattle.steps.specs.declared.ask.Ask.{Ask}
+pub use Rattle.steps.specs.declared.ask.After.TheVariants.{Done}
 pub use Rattle.steps.specs.declared.container.add.AddStage.{AddStage}
 pub use Rattle.steps.specs.declared.container.handle.ContainerHandle.{ContainerHandle}
 pub use Rattle.steps.specs.declared.container.look.Look.{Look}
@@ -107,16 +97,9 @@ pub use Rattle.steps.specs.declared.container.look.LookStage.{LookStage}
 pub use Rattle.steps.specs.declared.container.remove.RemoveStage.{RemoveStage}
 pub use Rattle.steps.specs.declared.container.replace.ReplaceStage.{ReplaceStage}
 pub use Rattle.steps.specs.declared.container.replace.Replacement.{Replacement}
-pub use Rattle.steps.specs.declared.container.state.ContainerState.{ContainerState}
-pub use Rattle.steps.specs.declared.indices.enums.ReleaseMode.{ReleaseMode}
-pub use Rattle.steps.specs.declared.indices.enums.ReleaseMode.TheVariants.{Default, LockIfLastIndex}
-pub use Rattle.steps.specs.declared.indices.enums.ReleaseState.{ReleaseState}
 pub use Rattle.steps.specs.declared.indices.enums.ReleaseState.TheVariants.{Unlocked}
 pub use Rattle.steps.specs.declared.indices.robust.acquire.AcquireStage.{AcquireStage}
 pub use Rattle.steps.specs.declared.indices.robust.parts.Count.{Count}
-pub use Rattle.steps.specs.declared.indices.robust.parts.Lock.{Lock}
-pub use Rattle.steps.specs.declared.indices.robust.parts.Raise.{Raise}
 pub use Rattle.steps.specs.declared.indices.robust.release.GiveBack.{GiveBack}
 pub use Rattle.steps.specs.declared.indices.robust.release.Release.{Release}
 pub use Rattle.steps.specs.declared.indices.robust.release.ReleaseStage.{ReleaseStage}
-pub use Rattle.steps.specs.declared.routine.Running.{Running}

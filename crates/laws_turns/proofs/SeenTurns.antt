@@ -36,7 +36,7 @@ use Rattle.laws_turns.proofs.SeenCalls.{Leaves, wrote_by, others_leave, look_lea
 use Rattle.laws_turns.proofs.SeenKnows.{Within, Grows, LookSees, CallSees, FlightSees, seen_number, changes_are, others_grow, sees_later, IsNoLook}
 use Rattle.laws_turns.proofs.Standing.{left_by, under_way}
 use Rattle.laws_turns.proofs.Taken.{decides}
-use Rattle.laws_turns.proofs.Waiting.{look_asks_none}
+use Rattle.laws_container.proofs.Moves.{look_asks_none}
 
 -- what each party's state and look know of the changes, and that the updates that have ended met them
 module _ {T : Type 0} where

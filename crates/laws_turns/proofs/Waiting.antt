@@ -1,13 +1,10 @@
 -- A call of a container waits for a decision just where it asks about a value.
 use Rattle.std.proofs.Common.{arith}
-use Rattle.laws_turns.proofs.Names.{◌≡◌, ℕ, false, Option, Some, None, is_some, refl, ap, subst, ◌∙◌, AddStage}
-use Rattle.laws_turns.proofs.Names.{LookStage, RemoveStage, ReplaceStage, Replacement, GiveBack, add_asks, look_asks}
-use Rattle.laws_turns.proofs.Names.{remove_asks, replace_asks, find_asks, Start, Flight, ContainerFlight}
+use Rattle.laws_turns.proofs.Names.{◌≡◌, ℕ, Option, Some, None, is_some, refl, ap, subst, ◌∙◌}
+use Rattle.laws_turns.proofs.Names.{find_asks, Start, Flight, ContainerFlight}
 use Rattle.laws_turns.proofs.Names.{Party, Coding, is_question, Turn, turn_making, reached_more, shown}
 use Rattle.laws_turns.proofs.Names.{container_keeps, refusal_of, is_due, after_turn, IsReached, Trace, flight_in}
-use Rattle.laws_turns.proofs.Names.{StandsThere, raise_asks_none, count_asks_none, lock_asks_none, acquire_asks_none}
-use Rattle.laws_turns.proofs.Names.{release_asks_none}
-use Rattle.steps.specs.declared.container.add.Owned.{Owned}
+use Rattle.laws_turns.proofs.Names.{StandsThere, raise_asks_none, count_asks_none, lock_asks_none}
 use Rattle.steps.specs.declared.container.find.FindStage.{FindStage}
 use Rattle.steps.specs.declared.container.recover.RecoverStage.{RecoverStage}
 use Rattle.steps.specs.Container.Recover.{recover_asks}
@@ -19,26 +16,12 @@ use Rattle.model.specs.Families.Container.Promises.{TellsRight}
 use Rattle.model.specs.Promises.Families.{promise_of}
 use Rattle.model.proofs.Frame as frame
 use Rattle.laws_container.proofs.Invariant.{family}
+use Rattle.laws_container.proofs.Moves.{add_asks_none, remove_asks_none, replace_asks_none, look_asks_none}
 use Rattle.laws_container.proofs.Sound.{reached_sound}
 use Rattle.laws_turns.specs.Questions.{WaitsForAnswers, IsAnswered}
 use Rattle.laws_turns.proofs.Standing.{under_way}
 
--- ---- a call that is no find and no recovery asks no question
-
-module _ {T : Type 0} (code : Coding T) (c : ℕ) where
-  pub add_asks_none : (stage : AddStage) (given : Owned T) → is_question (add_asks code.words_of code.size c stage given) ≡ false
-  add_asks_none x0 x1 = grind (arith, acquire_asks_none)
-
-  pub replace_asks_none : (stage : ReplaceStage) (given : Replacement T) → is_question (replace_asks code.words_of code.size c stage given) ≡ false
-  replace_asks_none x0 x1 = grind arith
-
-pub remove_asks_none : (c : ℕ) (stage : RemoveStage) (given : GiveBack) → is_question (remove_asks c stage given) ≡ false
-remove_asks_none x0 x1 x2 = grind (arith, release_asks_none)
-
-pub look_asks_none : (size c : ℕ) (stage : LookStage) → is_question (look_asks size c stage) ≡ false
-look_asks_none x0 x1 x2 = grind arith
-
--- ---- and any call
+-- ---- any call
 
 module _ {T : Type 0} (code : Coding T) where
   find_waits : (size c : ℕ) (stage : FindStage) (value : T) → is_question (find_asks size c stage) ≡ is_some (find_question code stage value)

@@ -6,7 +6,7 @@ pub use Rattle.lock_free_queues.proofs.Queues.Positions as QueuePositions
 pub use Rattle.lock_free_queues.proofs.Queues.Promised as QueuePromises
 pub use Rattle.lock_free_queues.proofs.Queues.Sums as QueueSums
 pub use Rattle.lock_free_queues.proofs.Queues.Whole as QueueWhole
-pub use Rattle.lock_free_queues.proofs.Queues.Wrote as QueueWrote
+pub use Rattle.history.proofs.OneHolder as HistoryOneHolder
 pub use Rattle.threaded.proofs.Fractions
 pub use Rattle.threaded.proofs.Shares
 mod Names

@@ -4,4 +4,5 @@ pub mod Machine
 pub mod Facts
 pub mod Whole
 pub mod Holding
+pub mod Tables
 pub mod Pools

@@ -8,7 +8,6 @@ pub use Rattle.history.proofs.ContainerRecoveries.{container_recover_keeps, reco
 pub use Rattle.history.proofs.ContainerRests.{Keeps, apart_asked, rested_asks, rested_keeps}
 pub use Rattle.history.proofs.ContainerRests.{rested_words}
 pub use Rattle.history.proofs.Containers.{container_effects, container_words, containers_owe, is_open_container}
-pub use Rattle.history.proofs.PassLooks.{looks, looks_word}
 pub use Rattle.history.proofs.Passes.{joins, opens, set_same, splits}
 pub use Rattle.history.proofs.RobustCalls.{acquire_first, acquire_keeps, count_first, count_keeps, look_first}
 pub use Rattle.history.proofs.RobustCalls.{look_keeps, release_first, release_keeps}

@@ -4,8 +4,8 @@ pub use Rattle.atomic_table.specs.Table.{Allows, Me, opening}
 pub use Rattle.history.proofs.Alone.{Here, begins, ends, maker, same_seat, sums}
 pub use Rattle.history.proofs.AnyRoles.{acquire_first_on, len_first_on, release_first_on}
 pub use Rattle.history.proofs.Calls.{get_left, set_left}
-pub use Rattle.history.proofs.Drives.{IsCallIn, called, goes, keeps_in}
-pub use Rattle.history.proofs.Holders.{ArePlain, IsListed, IsPlain, always_listed, back_over_of, forth_over_of}
+pub use Rattle.history.proofs.Drives.{called}
+pub use Rattle.history.proofs.Holders.{IsListed, always_listed}
 pub use Rattle.history.proofs.Holders.{history_by_holders}
 pub use Rattle.history.proofs.Known.{by_more, sum_first}
 pub use Rattle.history.proofs.OverflowHolders.{history_by_over_holders, history_by_producers, over_listed}
@@ -20,7 +20,7 @@ pub use Rattle.history.proofs.Turns.{MachineLaws, machine_laws}
 pub use Rattle.history.proofs.ValueQueueCalls.{value_pop_first, value_pop_keeps, value_push_first, value_push_keeps}
 pub use Rattle.history.specs.History.{Called, IsBeginning, IsHistory, IsMachine, IsRun, call_in}
 pub use Rattle.history.specs.Known.{events_by, owned}
-pub use Rattle.history.specs.Overflow.{HasPushWord, over_push_skips, over_push_wrote, pops_over, pushes_over}
+pub use Rattle.history.specs.Overflow.{over_push_skips, over_push_wrote, pops_over, pushes_over}
 pub use Rattle.history.specs.Passes.{Goes, MissesNothing}
 pub use Rattle.history.specs.Queues.{counts_waiting, gives_role, length_start, pop_wrote, pops_index, push_skips}
 pub use Rattle.history.specs.Queues.{push_wrote, pushes_index, takes_role}
@@ -28,7 +28,7 @@ pub use Rattle.history.specs.Roles.{ByHolder, ByHolderOf, HasRole, acquire_start
 pub use Rattle.history.specs.Roles.{role_after, role_word, takes}
 pub use Rattle.history.specs.Stages.{At, Calling, Ends, LeftOut, Over, Since, opened}
 pub use Rattle.history.specs.ValueQueue.{pops_value, pushes_value, value_pop_wrote, value_push_wrote, value_there}
-pub use Rattle.history.specs.Views.{Looks, LooksAt, WhenIdle, first_view, joined_view}
+pub use Rattle.history.specs.Views.{Looks, LooksAt, first_view, joined_view}
 pub use Rattle.history.specs.declared.view.View.{View}
 pub use Rattle.laws_queues.proofs.Queues.Core.{cell_within, take_all}
 pub use Rattle.laws_queues.proofs.Queues.Invariant.{family, machine_kind, waiting_is}
@@ -43,7 +43,7 @@ pub use Rattle.model.specs.Families.Queues.Opening.{cells_of, lacks_role, words_
 pub use Rattle.model.specs.Families.Queues.Reading.{handed_out, hands_out, producer_of, published, publishes, waiting}
 pub use Rattle.model.specs.Families.Queues.Roles.{GrantsRight}
 pub use Rattle.model.specs.Families.Queues.Steps.{pending}
-pub use Rattle.model.specs.Reading.{Each, is_party, whose}
+pub use Rattle.model.specs.Reading.{Each}
 pub use Rattle.model.specs.World.{Trace, World, capacity_error}
 pub use Rattle.model.specs.declared.event.Answer.{Answer}
 pub use Rattle.model.specs.declared.event.Answer.TheVariants.{PoppedIndex, PoppedNone, Truth}
@@ -61,7 +61,7 @@ pub use Rattle.model.specs.declared.families.queues.calls.LengthOf.{LengthOf}
 pub use Rattle.model.specs.declared.turn.Kind.{Kind}
 pub use Rattle.plain.specs.Overflowing.{list_in}
 pub use Rattle.std.proofs.Common.{Bool, IfNone, IfOk, IfSome, List, None, Option, Some, [], ap, append-nil}
-pub use Rattle.std.proofs.Common.{append_assoc, arith, cond, drop, false, fold, get_or, get_or-set_other}
+pub use Rattle.std.proofs.Common.{append_assoc, arith, drop, false, get_or, get_or-set_other}
 pub use Rattle.std.proofs.Common.{get_or-set_same, inl, inr, length, length-set, map, max, min, nat_lt, refl, replicate}
 pub use Rattle.std.proofs.Common.{rules, set, slice_get, slice_index, slice_set, subst, suc, sum_by, sym, take, true}
 pub use Rattle.std.proofs.Common.{zero, ℕ, ⊎_elim, ◌%◌, ◌*◌, ◌++◌, ◌+◌, ◌-◌, ◌<◌, ◌==◌, ◌^◌, ◌∙◌, ◌∷◌, ◌≡◌, ◌≢◌, ◌≤◌}
@@ -79,7 +79,7 @@ pub use Rattle.std.specs.Option.{option_map}
 pub use Rattle.steps.specs.Ask.{written}
 pub use Rattle.steps.specs.Copied.{value_in}
 pub use Rattle.steps.specs.Queues.Lengths.{first_len, len_after, len_want}
-pub use Rattle.steps.specs.Queues.Overflow.{push_after, push_answer, push_kept, push_takes, push_want}
+pub use Rattle.steps.specs.Queues.Overflow.{push_answer}
 pub use Rattle.steps.specs.Queues.Ring.{after_position, distance, pop_asks, word_at}
 pub use Rattle.steps.specs.declared.ask.After.{After}
 pub use Rattle.steps.specs.declared.ask.After.TheVariants.{GoOn}
@@ -87,7 +87,6 @@ pub use Rattle.steps.specs.declared.ask.Ask.{Ask}
 pub use Rattle.steps.specs.declared.ask.Op.TheVariants.{Exchange, Load, Store}
 pub use Rattle.steps.specs.declared.copied.OneWord.{OneWord}
 pub use Rattle.steps.specs.declared.queues.overflow.PushEnd.{PushEnd}
-pub use Rattle.steps.specs.declared.queues.overflow.PushEnd.TheVariants.{Added, Oldest}
 pub use Rattle.steps.specs.declared.queues.roles.Role.{Role}
 pub use Rattle.steps.specs.declared.queues.roles.Role.TheVariants.{Consumer, Producer}
 pub use Rattle.threaded.specs.Driver.{KeepsRule}

@@ -1,5 +1,4 @@
 -- What is known of whole calls, how a queue opens and closes, and the laws.
-pub mod Wrote
 pub mod Facts
 pub mod Ended
 pub mod Indices
@@ -7,7 +6,6 @@ pub mod Values
 pub mod Tests
 pub mod Grants
 pub mod Kinds
-pub mod OverPushes
 pub mod OverEnded
 pub mod Filled
 pub mod Single

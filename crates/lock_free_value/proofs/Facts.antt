@@ -1,13 +1,12 @@
 -- What is known of whole calls on a value.
-use Rattle.std.proofs.Common.{◌≡◌, inl, inr, ℕ, ◌+◌, ◌-◌, ◌^◌, ◌<◌, ◌==◌, Bool, true, false, Some, None, List, [], ◌∷◌}
+use Rattle.std.proofs.Common.{◌≡◌, inl, inr, ℕ, ◌+◌, ◌-◌, ◌^◌, ◌<◌, Bool, true, false, Some, None, List, [], ◌∷◌}
 use Rattle.std.proofs.Common.{◌++◌, length, replicate, slice_index, sum_by, refl, sym, ap, subst, ◌∙◌, append_assoc}
 use Rattle.std.proofs.Common.{append-nil, length-append, arith}
+use Rattle.model.proofs.Readings.{Each-less}
 use Rattle.lock_free_value.proofs.Names.{nat_tests, flat_map-append, sum_by-append, Truth, Loaded, Done, Event, Begun}
 use Rattle.lock_free_value.proofs.Names.{Acted, Finished, Atomic, Coding, GrantsRight, stores, stored, IsAll, View}
 use Rattle.lock_free_value.proofs.Names.{IsHistory, IsBeginning, Looks, HasProducer, takes_producer, gives_producer}
 use Rattle.lock_free_value.proofs.Names.{stores_value, last_or, IsLast}
-use Rattle.std.proofs.lemmas.List.Sums.{fold-append}
-use Rattle.std.specs.List.{flat_map}
 use Rattle.steps.specs.declared.ask.Ask.{Ask}
 use Rattle.steps.specs.declared.ask.Op.TheVariants.{Load as Loads}
 use Rattle.steps.specs.declared.ask.Want.TheVariants as wants
@@ -17,18 +16,17 @@ use Rattle.model.specs.declared.event.Answer.{Answer}
 use Rattle.model.specs.declared.event.Start.{Start}
 use Rattle.model.specs.declared.families.atomic.AtomicStart.TheVariants.{AcquireProducer, ReleaseProducer, Store, Load}
 use Rattle.model.specs.declared.turn.Kind.TheVariants as kinds
-use Rattle.model.specs.Families.Atomic.Reading.{holder_after, holder_of}
-use Rattle.model.specs.Reading.{Each, whose, is_party}
+use Rattle.model.specs.Families.Atomic.Reading.{holder_of}
+use Rattle.model.specs.Reading.{Each}
 use Rattle.history.specs.History.{Called}
-use Rattle.history.specs.Known.{events_by}
 use Rattle.history.specs.Stages.{Calling, opened, Ends, Over}
 use Rattle.history.specs.Steps.{TakesAtMost}
 use Rattle.model.specs.Progress.{guarantee_of}
 use Rattle.history.specs.Value.{ByProducer, acquires_producer}
 use Rattle.history.specs.Value.{releases_producer, store_skips, value_of_room, loads_value}
 use Rattle.history.proofs.Drives.{called}
-use Rattle.history.proofs.Known.{by_more}
-use Rattle.history.proofs.ValueHolders.{history_by_producers, back_over, forth_over, ArePlain}
+use Rattle.history.proofs.OneHolder.{first_wrote, listed, none_looked, none_since, none_to_end}
+use Rattle.history.proofs.ValueHolders.{history_by_producers, one_holder, value_role}
 use Rattle.history.proofs.ValueLaws.{load_tells, last_is, version_is_count}
 use Rattle.history.proofs.Paid.{AllowsOne, TakesBy, takes, left_takes}
 use Rattle.history.proofs.Values.{value_goes_on, value_pays, producer_by}
@@ -37,83 +35,6 @@ use Rattle.lock_free_value.specs.Roles.{Moved}
 use Rattle.lock_free_value.specs.ValueContracts.{HasAcquired, HasReleased, HasStored, HasLoaded}
 
 module _ {T : Type 0} where
-  -- the first event of the party stands somewhere
-  find_own : (p : ℕ) (xs es : List (Event T)) (e : Event T) → events_by p xs ≡ e ∷ es
-      → (ls : List (Event T)) × (rs : List (Event T)) × (xs ≡ ls ++ e ∷ rs) × (events_by p ls ≡ []) × (events_by p rs ≡ es)
-  find_own p [] es e is = absurd (cc)
-  find_own p (x ∷ xs) es e is = go (λ rest. find_own p xs es e rest) (is_party p (whose x)) refl
-    where
-      go : (events_by p xs ≡ e ∷ es
-          → (ls : List (Event T)) × (rs : List (Event T)) × (xs ≡ ls ++ e ∷ rs) × (events_by p ls ≡ []) × (events_by p rs ≡ es))
-          → (b : Bool) → is_party p (whose x) ≡ b
-          → (ls : List (Event T)) × (rs : List (Event T)) × (x ∷ xs ≡ ls ++ e ∷ rs) × (events_by p ls ≡ []) × (events_by p rs ≡ es)
-      go later true t =
-          let here : x ∷ events_by p xs ≡ e ∷ es = rw t at is in
-          let same : x ≡ e = cc in
-          let more : events_by p xs ≡ es = cc in
-          ([], xs, ap (λ z. z ∷ xs) same, refl, more)
-      go later false t =
-          let rest : events_by p xs ≡ e ∷ es = rw t at is in
-          let more = later rest in
-          (x ∷ more.0, more.1, ap (λ zs. x ∷ zs) more.2, rw t more.3, more.4)
-
-  -- the first event that a call wrote, with what stood before it
-  pub record Wrote (p : ℕ) (e : Event T) (own : List (Event T)) (base w : View T) : Type 0 where
-    pub before : List (Event T)
-    pub after : List (Event T)
-    pub is : w.seen ≡ before ++ e ∷ after
-    pub since : IsBeginning base.seen before
-    pub mine : events_by p after ≡ own
-    -- where the party held the role there, nobody else stored since
-    pub next : Each ByProducer w.seen → holder_of before ≡ Some p → stored before ≡ stored base.seen
-
-  each_left : {P : List (Event T) → Event T → Type 0} (xs ys : List (Event T)) → Each P (xs ++ ys) → Each P xs
-  each_left xs ys each before after e is = each before (after ++ ys) e (ap (λ zs. zs ++ ys) is ∙ append_assoc before (e ∷ after) ys)
-
-  module _ (p : ℕ) (start : Start T) (seen others part : List (Event T))
-      (each : Each ByProducer ((seen ++ others) ++ Begun p start ∷ part)) (none_others : events_by p others ≡ [])
-      (none_part : events_by p part ≡ []) (holds : holder_of ((seen ++ others) ++ Begun p start ∷ part) ≡ Some p) where
-    split : ((seen ++ others) ++ Begun p start ∷ []) ++ part ≡ (seen ++ others) ++ Begun p start ∷ part
-    split = append_assoc (seen ++ others) (Begun p start ∷ []) part
-
-    later : (holder_of ((seen ++ others) ++ Begun p start ∷ []) ≡ Some p) × (flat_map stores part ≡ [])
-    later = back_over p ((seen ++ others) ++ Begun p start ∷ []) part (subst (Each ByProducer) (sym split) each) none_part (ap holder_of split ∙ holds)
-
-    earlier : (holder_of seen ≡ Some p) × (flat_map stores others ≡ [])
-    earlier =
-        let back : holder_of (seen ++ others) ≡ Some p = sym (fold-append holder_after None (seen ++ others) (Begun p start ∷ [])) ∙ later.0 in
-        back_over p seen others (each_left (seen ++ others) (Begun p start ∷ part) each) none_others back
-
-    none_between : stored ((seen ++ others) ++ Begun p start ∷ part) ≡ stored seen
-    none_between = grind (arith, flat_map-append, stores, stored, later, append-nil, earlier)
-
-  it_is : (p : ℕ) (start : Start T) (answer : Answer T) → events_by p (Finished p start answer ∷ []) ≡ Finished p start answer ∷ []
-  it_is p start answer = (let t : (p == p) ≡ true = grind (arith, nat_tests) in rw t refl)
-
-  first_wrote : (p : ℕ) (start : Start T) (answer : Answer T) (e : Event T) (es : List (Event T)) (base w : View T)
-      → Called p start answer (e ∷ es) base w → Wrote p e (es ++ Finished p start answer ∷ []) base w
-  first_wrote p start answer e es base w c =
-      let part = find_own p c.during es e c.during_own in
-      let xs : List (Event T) = base.seen ++ c.others in
-      let last : List (Event T) = Finished p start answer ∷ [] in
-      let whole : w.seen ≡ (xs ++ Begun p start ∷ part.0) ++ e ∷ (part.1 ++ last) =
-      c.is
-      ∙ (ap (λ ds. xs ++ Begun p start ∷ (ds ++ last)) part.2
-      ∙ (ap (λ zs. xs ++ Begun p start ∷ zs) (append_assoc part.0 (e ∷ part.1) last)
-      ∙ sym (append_assoc xs (Begun p start ∷ part.0) (e ∷ (part.1 ++ last)))))
-      in
-      record {
-        before = xs ++ Begun p start ∷ part.0;
-        after = part.1 ++ last;
-        is = whole;
-        since = record { rest = c.others ++ Begun p start ∷ part.0; is = append_assoc base.seen c.others (Begun p start ∷ part.0) };
-        mine = by_more p part.1 last ∙ (ap (λ zs. zs ++ events_by p last) part.4 ∙ ap (λ zs. es ++ zs) (it_is p start answer));
-        next =
-            λ each holds. none_between p start base.seen c.others part.0
-            (each_left (xs ++ Begun p start ∷ part.0) (e ∷ (part.1 ++ last)) (subst (Each ByProducer) whole each))
-            c.others_own part.3 holds;
-      }
-
   -- ---- what the role came to, by what was made
 
   moved : (taken given : ℕ) (old new more : List (Event T)) → new ≡ old ++ more → sum_by takes_producer more ≡ taken
@@ -205,15 +126,15 @@ module _ {T : Type 0} (code : Coding T) (base w : View T) (idle : base.going ≡
       let last : Event T = Finished p start Done in
       let xs : List (Event T) = (base.seen ++ c.others) ++ Begun p start ∷ c.during in
       let is : w.seen ≡ xs ++ last ∷ [] = c.is ∙ sym (append_assoc (base.seen ++ c.others) (Begun p start ∷ c.during) (last ∷ [])) in
-      let each : Each ByProducer xs = each_left xs (last ∷ []) (subst (Each ByProducer) is (producers ends.history)) in
+      let each : Each ByProducer xs = Each-less ByProducer xs (last ∷ []) (subst (Each ByProducer) is (producers ends.history)) in
       let held : holder_of xs ≡ Some p = (grants ends.history xs [] last is).1 in
       record {
         by = p;
         mine = ends.mine;
         called = c;
         list =
-            ap stored is ∙ (flat_map-append stores xs (last ∷ [])
-            ∙ (append-nil (stored xs) ∙ none_between p start base.seen c.others c.during each c.others_own c.during_own held));
+            ap stored is
+            ∙ none_to_end value_role one_holder p start base.seen c.others c.during each c.others_own c.during_own held last refl;
       }
 
   pub given_once : (e m : Unit {0}) → Ends code kinds.Atomic releases_producer base e m w → Moved 0 1 base.made w.made
@@ -228,9 +149,7 @@ module _ {T : Type 0} (code : Coding T) (base w : View T) (idle : base.going ≡
   looked_alone l alone some has =
       let right : Each GrantsRight w.seen = grants l.history in
       let by = producer_by l.parties.owner l.parties.seat w.seen w.made right l.parties.sums (subst HasProducer (sym l.made) has) in
-      let each : Each ByProducer (base.seen ++ l.mine.rest) = subst (Each ByProducer) l.mine.is (producers l.history) in
-      let none = back_over by.0 base.seen l.mine.rest each (l.apart alone some by.0 by.1) (ap holder_of (sym l.mine.is) ∙ by.2) in
-      ap stored l.mine.is ∙ (flat_map-append stores base.seen l.mine.rest ∙ (ap (λ zs. stored base.seen ++ zs) none.1 ∙ append-nil (stored base.seen)))
+      none_looked value_role one_holder by.0 base.seen l.mine.rest w.seen l.mine.is (producers l.history) (l.apart alone some by.0 by.1) by.2
 
   -- ---- stores
 
@@ -253,12 +172,6 @@ module _ {T : Type 0} (code : Coding T) (base w : View T) (idle : base.going ≡
         let all = producers ends.history in
         let right = grants ends.history in
         let holds : holder_of at.before ≡ Some p = all at.before at.after (act p) at.is in
-        let split : w.seen ≡ (at.before ++ act p ∷ []) ++ at.after = at.is ∙ sym (append_assoc at.before (act p ∷ []) at.after) in
-        let now : holder_of (at.before ++ act p ∷ []) ≡ Some p = fold-append holder_after None at.before (act p ∷ []) ∙ holds in
-        let rest : flat_map stores at.after ≡ [] =
-        forth_over p (at.before ++ act p ∷ []) at.after (subst (Each ByProducer) split all)
-        (subst (Each GrantsRight) split right) (subst (ArePlain p) (sym at.mine) ((refl, refl), tt)) now in
-        let next : stored at.before ≡ stored base.seen = at.next all holds in
         record {
           by = p;
           mine = ends.mine;
@@ -267,10 +180,8 @@ module _ {T : Type 0} (code : Coding T) (base w : View T) (idle : base.going ≡
           after = at.after;
           is = at.is;
           since = at.since;
-          next = next;
-          list =
-              ap stored at.is ∙ (flat_map-append stores at.before (act p ∷ at.after)
-              ∙ (ap (λ zs. stored at.before ++ x ∷ zs) rest ∙ ap (λ zs. zs ++ x ∷ []) next));
+          next = none_since value_role one_holder at all holds;
+          list = listed value_role one_holder at all holds right refl ((refl, refl), tt);
         }
 
     pub stored_if : (e : Bool) (m : Unit {0}) → Over code kinds.Atomic (stores_value code x) base e m w → e ≡ true → HasStored x base w

@@ -22,9 +22,9 @@ use Rattle.model.specs.declared.turn.Kind.TheVariants.{Robust}
 use Rattle.model.specs.declared.turn.Turn.{Turn}
 use Rattle.model.specs.declared.turn.Turn.TheVariants.{Next}
 use Rattle.model.specs.Coding.{one_word, IsCoding}
-use Rattle.model.specs.LockFree.{Bound, IsLockFree, IsBelow, AreAllowedOn, ends, steps_of, steps_in}
+use Rattle.model.specs.LockFree.{Bound, IsLockFree, IsBelow, ends, steps_of, steps_in}
 use Rattle.model.specs.Refusals.{call_refusal}
-use Rattle.model.specs.Turns.{run_on, after_turn, after_turns, IsReachedOn}
+use Rattle.model.specs.Turns.{run_on, after_turn, after_turns, AreAllowedOn, IsReachedOn}
 use Rattle.model.specs.World.{Trace, opening}
 use Rattle.model.proofs.WorkedProgress.{both_count, round}
 

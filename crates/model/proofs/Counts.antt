@@ -1,7 +1,6 @@
 -- The counts of a machine fit their types.
-use Rattle.std.proofs.Common.{ℕ, ◌≤◌, Bool, true, false, cond, Option, Some, None, List, arith}
-use Rattle.steps.specs.declared.ask.Ask.{Ask}
-use Rattle.model.specs.Turns.{change_of, step_count, one_if}
+use Rattle.model.proofs.Names.{Ask, Bool, List, None, Option, Some, arith, change_of, cond, false, one_if, step_count}
+use Rattle.model.proofs.Names.{true, ℕ, ◌≤◌}
 
 one_at_most : (b : Bool) → cond b 0 1 ≤ 1
 one_at_most true = omega arith

@@ -1,10 +1,9 @@
 -- Who has died, once one more has.
-use Rattle.std.proofs.Common.{◌≡◌, ◌≢◌, ℕ, true, ◌||◌, List, [], ◌∷◌, refl, ap}
+use Rattle.model.proofs.Names.{List, [], ap, dead_with, has_died, refl, true, ℕ, ◌||◌, ◌∷◌, ◌≡◌, ◌≢◌}
 use Rattle.std.specs.BTreeSet.{insert_key}
 use Rattle.std.specs.declared.cmp.Ordering.{Ordering}
 use Rattle.std.specs.declared.cmp.Ordering.TheVariants.{Less, Equal, Greater}
 use Rattle.std.specs.Ordering.{is_eq, match_ordering, nat_cmp}
-use Rattle.model.specs.Families.Indices.Robust.Dead.{has_died, dead_with}
 use Rattle.model.proofs.Parties.{apart, itself}
 
 pub died_now : (owner : ℕ) (dead : List ℕ) → has_died owner (dead_with owner dead) ≡ true

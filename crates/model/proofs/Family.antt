@@ -1,24 +1,9 @@
 -- A family as its own crate says it: what its machine holds between two turns, and what a turn preserves. From that, what
 -- each turn of its machine has to show.
-use Rattle.std.proofs.Common.{◌≡◌, ℕ, ◌+◌, false, Option, Some, None, List, [], ◌∷◌, ◌++◌, fold}
-use Rattle.steps.specs.declared.ask.Ask.{Ask}
-use Rattle.model.specs.declared.event.Event.{Event}
-use Rattle.model.specs.declared.event.Event.TheVariants.{Begun}
-use Rattle.model.specs.declared.event.Start.{Start}
-use Rattle.model.specs.declared.families.Flight.{Flight}
-use Rattle.model.specs.declared.families.Registry.{Registry}
-use Rattle.model.specs.declared.party.Doing.TheVariants.{Over}
-use Rattle.model.specs.declared.party.Party.{Party}
-use Rattle.model.specs.declared.turn.Kind.{Kind}
-use Rattle.model.specs.Coding.{Coding}
-use Rattle.model.specs.Families.{beside_of, step_of, kept_after_begin}
-use Rattle.model.specs.Families.Loan.Opening.{is_loan}
-use Rattle.model.specs.Promise.{Promise}
-use Rattle.model.specs.Promises.Spans.{Stands}
-use Rattle.model.specs.Reading.{Span, Open, own_after}
-use Rattle.model.specs.Step.{Step}
-use Rattle.model.specs.Turns.{old_of, words_after, change_of, step_count, party_after, party_at_begin, events_of_step}
-use Rattle.model.specs.World.{Trace}
+use Rattle.model.proofs.Names.{Ask, Begun, Coding, Event, Flight, Kind, List, None, Open, Option, Over, Party, Promise}
+use Rattle.model.proofs.Names.{Registry, Some, Span, Stands, Start, Step, Trace, [], beside_of, change_of}
+use Rattle.model.proofs.Names.{events_of_step, false, fold, is_loan, kept_after_begin, old_of, own_after, party_after}
+use Rattle.model.proofs.Names.{party_at_begin, step_count, step_of, words_after, ℕ, ◌++◌, ◌+◌, ◌∷◌, ◌≡◌}
 use Rattle.model.proofs.Frame as frame
 use Rattle.model.proofs.Frame.{Family}
 use Rattle.model.proofs.Readings.{AreOwn, AllFollow}

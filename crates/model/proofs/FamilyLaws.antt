@@ -1,29 +1,15 @@
 -- That the machine of a family keeps what its kind promises, from what the family owes of its own calls.
-use Rattle.std.proofs.Common.{◌≡◌, ◌≢◌, ℕ, ◌+◌, ◌-◌, ◌^◌, ◌<◌, ◌≤◌, Bool, false, true, Option, Some, None, List, [], ◌∷◌, ◌++◌}
-use Rattle.std.proofs.Common.{refl, sym, ap, subst, ◌∙◌, append-nil, arith}
-use Rattle.std.specs.List.{AllByRecursion}
-use Rattle.model.specs.declared.event.Event.{Event}
-use Rattle.model.specs.declared.event.Event.TheVariants.{Begun}
-use Rattle.model.specs.declared.event.Start.{Start}
-use Rattle.model.specs.declared.families.Flight.{Flight}
-use Rattle.model.specs.declared.families.Registry.{Registry}
-use Rattle.model.specs.declared.party.Party.{Party}
-use Rattle.model.specs.declared.turn.Turn.{Turn}
-use Rattle.model.specs.declared.turn.Turn.TheVariants.{Next, Decide}
-use Rattle.model.specs.Coding.{Coding, IsCoding}
-use Rattle.model.specs.Families.Loan.Opening.{is_loan}
-use Rattle.model.specs.Families.{begin_of, first_of, opening_of, want_of, is_question, has_owners, going_rows, beside_of, step_of, goes_of, kept_after_begin}
-use Rattle.model.specs.Parties.{party_of, put, doing_of, flight_of}
-use Rattle.model.specs.Promises.{IsTurnBy, IsKeptBy, IsKept}
-use Rattle.model.specs.Promises.Bounds.{Progresses}
-use Rattle.model.specs.Promises.Families.{promise_of}
-use Rattle.model.specs.Reading.{Span, Open, span_of}
-use Rattle.model.specs.Rows.{first_row}
-use Rattle.model.specs.Promises.Turns.{IsParty, IsEffectOf, IsAct, ActsRight, WritesInOrder}
-use Rattle.model.specs.Refusals.{refusal_of}
-use Rattle.model.specs.Step.{Step, answer_in}
-use Rattle.model.specs.Turns.{number_of, party_at_begin, ending_of, events_of_step, after_turn, IsReached, IsReachedOn}
-use Rattle.model.specs.World.{Trace, opening, flight_in, capacity_error, progress_in}
+use Rattle.model.proofs.Names.{AllByRecursion, Begun, Bool, Coding, Decide, Event, Flight, IsCoding, IsEffectOf, IsKept}
+use Rattle.model.proofs.Names.{IsKeptBy, IsParty, IsReached, IsReachedOn, IsTurnBy, List, Next, None, Open, Option}
+use Rattle.model.proofs.Names.{Party, Progresses, Registry, Some, Span, Start, Step, Trace, Turn, WritesInOrder, []}
+use Rattle.model.proofs.Names.{after_turn, answer_in, ap, append-nil, arith, beside_of, capacity_error, doing_of}
+use Rattle.model.proofs.Names.{ending_of, events_of_step, false, first_of, first_row, flight_in, flight_of, goes_of}
+use Rattle.model.proofs.Names.{going_rows, has_owners, is_loan, is_question, kept_after_begin, number_of, opening}
+use Rattle.model.proofs.Names.{opening_of, party_at_begin, party_of, progress_in, promise_of, refl, refusal_of, span_of}
+use Rattle.model.proofs.Names.{step_of, subst, sym, true, want_of, ℕ, ◌++◌, ◌+◌, ◌-◌, ◌<◌, ◌^◌, ◌∙◌, ◌∷◌, ◌≡◌, ◌≢◌, ◌≤◌}
+use Rattle.model.specs.Families.{begin_of}
+use Rattle.model.specs.Parties.{put}
+use Rattle.model.specs.Promises.Turns.{IsAct, ActsRight}
 use Rattle.model.proofs.Family.{Scene, Outline, family, ShowsFrom, StepOf, Begins, scene_of}
 use Rattle.model.proofs.Frame as frame
 use Rattle.model.proofs.Frame.{Family, Sound, Comes, ComesByDeath}

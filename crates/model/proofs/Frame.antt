@@ -1,36 +1,16 @@
 -- What holds of a machine of any family between two turns, how a turn keeps it, and so that every run has it.
-use Rattle.std.proofs.Common.{◌≡◌, ◌≢◌, ℕ, ◌+◌, ◌-◌, ◌^◌, ◌<◌, ◌≤◌, ⊎_elim, Bool, true, false, not, Option, Some, None, is_none}
-use Rattle.std.proofs.Common.{List, [], ◌∷◌, ◌++◌, fold, refl, sym, ap, subst, ◌∙◌, append-nil, arith}
-use Rattle.std.proofs.lemmas.Bool.{cases_eq}
-use Rattle.steps.specs.declared.ask.Ask.{Ask}
-use Rattle.model.specs.declared.event.Answer.{Answer}
-use Rattle.model.specs.declared.event.Event.{Event}
-use Rattle.model.specs.declared.event.Event.TheVariants.{Begun, Died}
-use Rattle.model.specs.declared.event.Start.{Start}
-use Rattle.model.specs.declared.families.Flight.{Flight}
-use Rattle.model.specs.declared.families.Registry.{Registry}
-use Rattle.model.specs.declared.party.Doing.{Doing}
-use Rattle.model.specs.declared.party.Doing.TheVariants.{Going, Over}
-use Rattle.model.specs.declared.party.Party.{Party}
-use Rattle.model.specs.declared.turn.Kind.{Kind}
-use Rattle.model.specs.declared.turn.Turn.{Turn}
-use Rattle.model.specs.declared.turn.Turn.TheVariants.{Begin, Next, Decide, Die}
-use Rattle.model.specs.Coding.{Coding}
-use Rattle.model.specs.Families.{first_of, want_of, ask_of, is_question, going_rows, has_owners, kept_after_begin, kept_after_death}
-use Rattle.model.specs.Families.Loan.Opening.{is_loan}
-use Rattle.model.specs.Parties.{party_of, put, doing_of, flight_of, progress_after}
-use Rattle.model.specs.Promises.Bounds.{Progresses}
-use Rattle.model.specs.Promise.{Promise}
-use Rattle.model.specs.Promises.Spans.{Stands, StandsRight}
-use Rattle.model.specs.Reading.{Each, Span, Never, Open, Ended, own_after, span_of}
-use Rattle.model.specs.Refusals.{call_refusal, is_due}
-use Rattle.model.specs.Rows.{first_row}
-use Rattle.model.specs.Shape.{IsShut}
-use Rattle.model.specs.Turns.{old_of, words_after, change_of, step_count, number_of, ask_of_doing, party_at_begin}
-use Rattle.model.specs.Turns.{after_begin, party_after, step_in, after_answer, after_next, after_decision}
-use Rattle.model.specs.Turns.{after_turn, events_of_step, events_of_answer, events_of_next, events_of_decision}
-use Rattle.model.specs.Turns.{IsReached, IsReachedOn}
-use Rattle.model.specs.World.{Trace, opening, opened, queue_error, flight_in}
+use Rattle.model.proofs.Names.{Answer, Ask, Begin, Begun, Bool, Coding, Decide, Die, Died, Doing, Each, Ended, Event}
+use Rattle.model.proofs.Names.{Flight, Going, IsReached, IsReachedOn, IsShut, Kind, List, Never, Next, None, Open}
+use Rattle.model.proofs.Names.{Option, Over, Party, Progresses, Promise, Registry, Some, Span, Stands, StandsRight}
+use Rattle.model.proofs.Names.{Start, Trace, Turn, [], after_answer, after_begin, after_decision, after_next}
+use Rattle.model.proofs.Names.{after_turn, ap, append-nil, arith, ask_of, ask_of_doing, call_refusal, cases_eq}
+use Rattle.model.proofs.Names.{change_of, doing_of, events_of_answer, events_of_decision, events_of_next}
+use Rattle.model.proofs.Names.{events_of_step, false, first_of, first_row, flight_in, flight_of, fold, going_rows}
+use Rattle.model.proofs.Names.{has_owners, is_due, is_loan, is_none, is_question, kept_after_begin, kept_after_death}
+use Rattle.model.proofs.Names.{not, number_of, old_of, opened, opening, own_after, party_after, party_at_begin}
+use Rattle.model.proofs.Names.{party_of, progress_after, queue_error, refl, span_of, step_count, step_in, subst, sym}
+use Rattle.model.proofs.Names.{true, want_of, words_after, ℕ, ⊎_elim, ◌++◌, ◌+◌, ◌-◌, ◌<◌, ◌^◌, ◌∙◌, ◌∷◌, ◌≡◌, ◌≢◌, ◌≤◌}
+use Rattle.model.specs.Parties.{put}
 use Rattle.model.proofs.Openings.{opened_others}
 use Rattle.model.proofs.Parties.{party_put_same, party_put_other}
 use Rattle.model.proofs.Reached.{kept_by_runs, kept_by_runs_on}

@@ -1,3 +1,4 @@
+pub mod Names
 pub mod Counts
 pub mod Dead
 pub mod Family
@@ -5,6 +6,7 @@ pub mod FamilyLaws
 pub mod Frame
 pub mod Linearizable
 pub mod LockFree
+pub mod Locks
 pub mod Looks
 pub mod Moments
 pub mod Openings

@@ -7,3 +7,4 @@ pub mod Own
 pub mod Stays
 pub mod Sums
 pub mod Walks
+pub mod Weighed

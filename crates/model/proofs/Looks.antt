@@ -1,18 +1,12 @@
 -- The calls that only look change no word: the lengths of a queue, and the load of the single value, whose exchange puts the
 -- version back that it found.
-use Rattle.std.proofs.Common.{◌≡◌, ℕ, ◌==◌, Bool, true, false, Some, List, get_or, set, refl, sym, ap, ◌∙◌, arith}
-use Rattle.std.proofs.lemmas.Bool.Decides.{nat_tests}
-use Rattle.std.proofs.lemmas.List.{set-get_or}
-use Rattle.steps.specs.declared.ask.Op.TheVariants.{Exchange}
+use Rattle.model.proofs.Names.{Bool, Coding, Exchange, Flight, List, Some, ap, arith, ask_of, false, get_or, nat_tests}
+use Rattle.model.proofs.Names.{refl, set, set-get_or, sym, true, words_after, ℕ, ◌==◌, ◌∙◌, ◌≡◌}
 use Rattle.steps.specs.declared.atomic.LoadStage.{LoadStage}
 use Rattle.steps.specs.declared.queues.lengths.LenStage.{LenStage}
 use Rattle.steps.specs.Atomic.{load_asks}
 use Rattle.steps.specs.Queues.Lengths.{len_asks}
-use Rattle.model.specs.declared.families.Flight.{Flight}
-use Rattle.model.specs.Coding.{Coding}
-use Rattle.model.specs.Families.{ask_of}
 use Rattle.model.specs.Progress.{Looks, ChangesNothing}
-use Rattle.model.specs.Turns.{words_after}
 
 by_len : (words : List ℕ) (stage : LenStage) → words_after words (ask_of (len_asks stage)) ≡ words
 by_len x0 x1 = grind (arith, set-get_or)

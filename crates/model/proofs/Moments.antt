@@ -1,11 +1,7 @@
 -- A moment of a call, once it has come, stays one of its moments until the party begins another call; so does what came
 -- since it began.
-use Rattle.std.proofs.Common.{arith}
-use Rattle.std.proofs.Common.{◌≡◌, ◌≢◌, ℕ, List, [], ◌∷◌, ◌++◌, sym, ◌∙◌, append_assoc, append-nil}
-use Rattle.model.specs.declared.event.Event.{Event}
-use Rattle.model.specs.declared.event.Event.TheVariants.{Begun}
-use Rattle.model.specs.declared.event.Start.{Start}
-use Rattle.model.specs.Moments.{BeginsNone, HeldSometime, SinceBegin}
+use Rattle.model.proofs.Names.{BeginsNone, Begun, Event, HeldSometime, List, SinceBegin, Start, [], append-nil}
+use Rattle.model.proofs.Names.{append_assoc, arith, sym, ℕ, ◌++◌, ◌∙◌, ◌∷◌, ◌≡◌, ◌≢◌}
 use Rattle.model.proofs.Readings.{AreOwn}
 
 module _ {T : Type 0} where

@@ -1,13 +1,10 @@
 -- How machines open: at one number, and a loan channel at two.
-use Rattle.std.proofs.Common.{◌≡◌, ℕ, ◌||◌, Bool, true, false, Some, None, if◌then◌else◌, refl, arith}
-use Rattle.std.proofs.lemmas.Bool.Decides.{nat_tests}
+use Rattle.model.proofs.Names.{Bool, Coding, Kind, None, Some, arith, capacity_error, false, if◌then◌else◌, is_loan}
+use Rattle.model.proofs.Names.{nat_tests, opened, opening, queue_error, refl, true, ℕ, ◌||◌, ◌≡◌}
 use Rattle.steps.specs.declared.enums.UniqueIndexCreationError.{UniqueIndexCreationError}
 use Rattle.steps.specs.declared.enums.UniqueIndexCreationError.TheVariants.{ProvidedCapacityGreaterThanMaxCapacity, ProvidedCapacityIsZero}
-use Rattle.model.specs.declared.turn.Kind.{Kind}
 use Rattle.model.specs.declared.turn.Kind.TheVariants.{Loan}
-use Rattle.model.specs.Coding.{Coding}
-use Rattle.model.specs.Families.Loan.Opening.{is_loan}
-use Rattle.model.specs.World.{opening, opened, capacity_error, queue_error, loan_error}
+use Rattle.model.specs.World.{loan_error}
 
 -- ---- the same machine, made with one number and with two
 

@@ -1,24 +1,13 @@
 -- Every turn of a reached machine of any family is as its own words say.
-use Rattle.std.proofs.Common.{arith}
-use Rattle.std.proofs.Common.{◌≡◌, ℕ, ◌-◌, ◌^◌, ◌<◌, Bool, true, Option, Some, None, List, [], ◌∷◌, ◌++◌, refl, ap, ◌∙◌}
-use Rattle.std.specs.List.{AllByRecursion}
-use Rattle.model.specs.declared.event.Answer.{Answer}
-use Rattle.model.specs.declared.event.Start.{Start}
-use Rattle.model.specs.declared.families.Flight.{Flight}
-use Rattle.model.specs.declared.party.Doing.{Doing}
-use Rattle.model.specs.declared.party.Doing.TheVariants.{Going, Over}
-use Rattle.model.specs.declared.party.Party.{Party}
-use Rattle.model.specs.declared.turn.Kind.{Kind}
-use Rattle.model.specs.declared.turn.Turn.{Turn}
-use Rattle.model.specs.declared.turn.Turn.TheVariants.{Begin, Next, Decide, Die}
-use Rattle.model.specs.Families.{want_of, goes_of, ask_of, is_question}
-use Rattle.model.specs.Parties.{party_of, doing_of, flight_of}
-use Rattle.model.specs.Promises.{IsTurnBy, IsTurn, AreTurns, IsKept}
-use Rattle.model.specs.Promises.Turns.{IsParty, IsEndOf, WritesInOrder, WritesDown}
-use Rattle.model.specs.Refusals.{refusal_of, is_due}
-use Rattle.model.specs.Turns.{old_of, ask_of_doing, number_of, step_in, events_of_step, events_of_answer}
-use Rattle.model.specs.Turns.{events_of_next, events_of_decision, after_turn, ending_of, AreAllowed, IsReached}
-use Rattle.model.specs.World.{Trace, flight_in}
+use Rattle.model.proofs.Names.{AllByRecursion, Answer, AreAllowed, Begin, Bool, Decide, Die, Doing, Flight, Going}
+use Rattle.model.proofs.Names.{IsKept, IsParty, IsReached, IsTurnBy, Kind, List, Next, None, Option, Over, Party, Some}
+use Rattle.model.proofs.Names.{Start, Trace, Turn, WritesInOrder, [], after_turn, ap, arith, ask_of, ask_of_doing}
+use Rattle.model.proofs.Names.{doing_of, ending_of, events_of_answer, events_of_decision, events_of_next}
+use Rattle.model.proofs.Names.{events_of_step, flight_in, flight_of, goes_of, is_due, is_question, number_of, old_of}
+use Rattle.model.proofs.Names.{party_of, refl, refusal_of, step_in, true, want_of, ℕ, ◌++◌, ◌-◌, ◌<◌, ◌^◌, ◌∙◌, ◌∷◌}
+use Rattle.model.proofs.Names.{◌≡◌}
+use Rattle.model.specs.Promises.{IsTurn, AreTurns}
+use Rattle.model.specs.Promises.Turns.{IsEndOf, WritesDown}
 use Rattle.model.proofs.Frame.{Family, Sound, is_true}
 use Rattle.model.proofs.Reached.{reached_more}
 use Rattle.model.proofs.Rows.{passes, must_be_due}

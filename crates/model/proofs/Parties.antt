@@ -1,15 +1,13 @@
 -- The parties' latest calls, by number.
-use Rattle.std.proofs.Common.{◌≡◌, ◌≢◌, ℕ, ◌<◌, ◌==◌, nat_lt, Bool, true, false, cond, Option, Some, None, List, [], ◌∷◌, refl, sym, ap, ◌∙◌, arith}
-use Rattle.std.proofs.lemmas.Bool.Decides.{nat_tests}
+use Rattle.model.proofs.Names.{AllByRecursion, Bool, List, None, Option, Party, Some, [], ap, arith, cond, false}
+use Rattle.model.proofs.Names.{nat_lt, nat_tests, party_of, refl, sym, true, ℕ, ◌<◌, ◌==◌, ◌∙◌, ◌∷◌, ◌≡◌, ◌≢◌}
 use Rattle.std.specs.BTreeMap.{insert_entry, is_at}
-use Rattle.std.specs.List.{AllByRecursion}
 use Rattle.std.specs.List.Sorted.{IsStrictlySortedBy}
 use Rattle.std.specs.Map.{keys_of, lookup, remove_entry, set_value}
 use Rattle.std.proofs.lemmas.Map.Keys.{sorted_head, sorted_tail}
 use Rattle.std.specs.declared.cmp.Ordering.{Ordering}
 use Rattle.std.specs.declared.cmp.Ordering.TheVariants.{Less, Equal, Greater}
-use Rattle.model.specs.declared.party.Party.{Party}
-use Rattle.model.specs.Parties.{party_of, put}
+use Rattle.model.specs.Parties.{put}
 use Rattle.std.specs.Ordering.{is_eq, match_ordering, nat_cmp}
 
 equal_keys : (p q : ℕ) → nat_cmp p q ≡ Equal → p ≡ q

@@ -1,13 +1,10 @@
 -- Each call keeps the guarantee of its kind: the table by cases, and every run by its bounds.
-use Rattle.std.proofs.Common.{◌≡◌, ℕ, ◌+◌, ◌-◌, ◌*◌, ◌≤◌, Option, arith}
-use Rattle.model.specs.declared.event.Start.{Start}
+use Rattle.model.proofs.Names.{IsKept, Kind, Option, Progresses, Promise, QueueKind, QueueStart, Span, Start, Trace}
+use Rattle.model.proofs.Names.{arith, promise_of, ℕ, ◌*◌, ◌+◌, ◌-◌, ◌≡◌, ◌≤◌}
 use Rattle.model.specs.declared.event.Start.TheVariants as starts
-use Rattle.model.specs.declared.families.queues.QueueKind.{QueueKind}
 use Rattle.model.specs.declared.families.queues.QueueKind as queue_kinds
-use Rattle.model.specs.declared.families.queues.QueueStart.{QueueStart}
 use Rattle.model.specs.declared.families.queues.QueueStart.TheVariants as queues
 use Rattle.model.specs.declared.party.Progress.{Progress}
-use Rattle.model.specs.declared.turn.Kind.{Kind}
 use Rattle.model.specs.Families.Atomic.Promises as value_promises
 use Rattle.model.specs.Families.Bits.Promises.{bits_promise, counts_promise}
 use Rattle.model.specs.Families.Container.Promises as container_promises
@@ -18,12 +15,7 @@ use Rattle.model.specs.Families.Queues.Promises as queue_promises
 use Rattle.model.specs.Progress.{Guarantee, IsGuaranteed, of_push, of_pop, in_queue}
 use Rattle.model.specs.Progress.{in_value, in_bits, in_counts, in_indices, in_robust, in_container, in_loan}
 use Rattle.model.specs.Progress.{guarantee_of, IsWithin, LatestIsWithin, KeepsGuarantees}
-use Rattle.model.specs.Promise.{Promise}
-use Rattle.model.specs.Promises.{IsKept}
-use Rattle.model.specs.Promises.Bounds.{IsBounded, Progresses}
-use Rattle.model.specs.Promises.Families.{promise_of}
-use Rattle.model.specs.Reading.{Span}
-use Rattle.model.specs.World.{Trace}
+use Rattle.model.specs.Promises.Bounds.{IsBounded}
 
 -- ---- the table
 

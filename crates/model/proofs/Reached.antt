@@ -1,22 +1,13 @@
 -- What every turn that is taken keeps holds of every run.
-use Rattle.std.proofs.Common.{arith}
-use Rattle.std.proofs.Common.{◌≡◌, ℕ, Bool, Option, Some, None, List, [], ◌∷◌, ◌++◌, ◌+◌, ◌<◌, length, get_or, take, refl, sym, ap, subst, ◌∙◌}
-use Rattle.model.specs.declared.families.Flight.{Flight}
-use Rattle.model.specs.declared.event.Start.{Start}
-use Rattle.model.specs.declared.party.Doing.{Doing}
-use Rattle.model.specs.declared.party.Party.{Party}
-use Rattle.model.specs.declared.turn.Kind.{Kind}
-use Rattle.model.specs.declared.turn.Refusal.{Refusal}
-use Rattle.model.specs.declared.turn.Turn.{Turn}
+use Rattle.model.proofs.Names.{AreAllowed, Ask, Bool, Coding, Doing, Flight, IsCoding, IsReached, IsReachedOn, Kind}
+use Rattle.model.proofs.Names.{List, None, Option, Party, Refusal, Some, Start, Trace, Turn, World, [], after_answer}
+use Rattle.model.proofs.Names.{after_begin, after_decision, after_next, after_turn, after_turns, ap, arith}
+use Rattle.model.proofs.Names.{call_refusal, capacity_error, first_of, get_or, length, number_of, opened, opening}
+use Rattle.model.proofs.Names.{queue_error, refl, refusal_of, run, subst, sym, take, unless_refused, world_after, ℕ}
+use Rattle.model.proofs.Names.{◌++◌, ◌+◌, ◌<◌, ◌∙◌, ◌∷◌, ◌≡◌}
 use Rattle.std.proofs.lemmas.List.{take_more}
-use Rattle.steps.specs.declared.ask.Ask.{Ask}
-use Rattle.model.specs.Coding.{Coding, IsCoding}
-use Rattle.model.specs.Families.{first_of}
-use Rattle.model.specs.World.{World, Trace, opening, opened, loan_opening, capacity_error, queue_error, loan_error}
-use Rattle.model.specs.Refusals.{refusal_of, call_refusal}
-use Rattle.model.specs.Turns.{after_begin, after_answer, after_next, after_decision, world_after, after_turn}
-use Rattle.model.specs.Turns.{unless_refused, attempt, run, attempt_on, run_on, IsReachedOn, after_turns, AreAllowed}
-use Rattle.model.specs.Turns.{IsReached, number_of}
+use Rattle.model.specs.World.{loan_opening, loan_error}
+use Rattle.model.specs.Turns.{attempt_by, run_by, IsReachedBy}
 use Rattle.model.proofs.Openings.{opened_at_one, queue_admitted, loan_admitted}
 
 module _ {T : Type 0} where
@@ -47,23 +38,40 @@ module _ {T : Type 0} where
   pub turn_making : (w : World T) (turn : Turn T) → SameMaking w (world_after w turn)
   turn_making x0 x1 = grind (arith, begin_making, first_of, next_making, decision_making)
 
-  -- ---- one turn more
+  -- ---- one turn more, whichever turns are refused
 
-  run_more : (turns : List (Turn T)) (turn : Turn T) (t : Trace T) → run (turns ++ turn ∷ []) t ≡ attempt (run turns t) turn
-  run_more [] turn t = refl
-  run_more (x ∷ xs) turn t = run_more xs turn (attempt t x)
+  module _ (refuses : World T → Turn T → Option Refusal) where
+    pub run_by_more : (turns : List (Turn T)) (turn : Turn T) (t : Trace T)
+        → run_by refuses (turns ++ turn ∷ []) t ≡ attempt_by refuses (run_by refuses turns t) turn
+    run_by_more [] turn t = refl
+    run_by_more (x ∷ xs) turn t = run_by_more xs turn (attempt_by refuses t x)
 
-  pub attempt_allowed : (t : Trace T) (turn : Turn T) → refusal_of t.world turn ≡ None → attempt t turn ≡ after_turn t turn
-  attempt_allowed t turn e = ap (unless_refused t (after_turn t turn)) e
+    allowed_is : (t : Trace T) (turn : Turn T) → refuses t.world turn ≡ None → attempt_by refuses t turn ≡ after_turn t turn
+    allowed_is t turn e = ap (unless_refused t (after_turn t turn)) e
+
+    -- wherever it began
+    leads_on : (turns : List (Turn T)) (turn : Turn T) (t first : Trace T) → refuses t.world turn ≡ None
+        → t ≡ run_by refuses turns first → after_turn t turn ≡ run_by refuses (turns ++ turn ∷ []) first
+    leads_on turns turn t first e is =
+        sym (allowed_is t turn e) ∙ (ap (λ u. attempt_by refuses u turn) is ∙ sym (run_by_more turns turn first))
+
+    pub reached_by_more : (t : Trace T) (turn : Turn T) → refuses t.world turn ≡ None → IsReachedBy refuses t → IsReachedBy refuses (after_turn t turn)
+    reached_by_more t turn e r =
+        let making = turn_making t.world turn in
+        let more : after_turn t turn ≡ run_by refuses (r.turns ++ turn ∷ []) (opening t.world.coding t.world.kind t.world.capacity t.world.parties) =
+        leads_on r.turns turn t (opening t.world.coding t.world.kind t.world.capacity t.world.parties) e r.is in
+        record {
+          coded = rw making.coding r.coded;
+          admitted = rw (making.kind, making.capacity) r.admitted;
+          turns = r.turns ++ turn ∷ [];
+          is = rw (making.coding, making.kind, making.capacity, making.parties) more;
+        }
 
   pub reached_more : (t : Trace T) (turn : Turn T) → refusal_of t.world turn ≡ None → IsReached t → IsReached (after_turn t turn)
   reached_more t turn e r =
       let making = turn_making t.world turn in
       let more : after_turn t turn ≡ run (r.turns ++ turn ∷ []) (opened t.world.coding t.world.kind t.world.capacity r.queue t.world.parties) =
-      sym (attempt_allowed t turn e)
-      ∙ (ap (λ u. attempt u turn) r.is
-      ∙ sym (run_more r.turns turn (opened t.world.coding t.world.kind t.world.capacity r.queue t.world.parties)))
-      in
+      leads_on refusal_of r.turns turn t (opened t.world.coding t.world.kind t.world.capacity r.queue t.world.parties) e r.is in
       record {
         coded = rw making.coding r.coded;
         admitted = rw (making.kind, making.capacity) r.admitted;
@@ -72,6 +80,9 @@ module _ {T : Type 0} where
         turns = r.turns ++ turn ∷ [];
         is = rw (making.coding, making.kind, making.capacity, making.parties) more;
       }
+
+  pub reached_on_more : (t : Trace T) (turn : Turn T) → call_refusal t.world turn ≡ None → IsReachedOn t → IsReachedOn (after_turn t turn)
+  reached_on_more t turn e r = reached_by_more call_refusal t turn e r
 
   pub reached_opening : (code : Coding T) (kind : Kind) (capacity parties : ℕ) → IsCoding code
       → capacity_error kind capacity ≡ None → IsReached (opening code kind capacity parties)
@@ -119,57 +130,36 @@ module _ {T : Type 0} where
 
   -- ---- whole runs
 
-  module _ (P : Trace T → Type 0) (keeps : (t : Trace T) (turn : Turn T) → refusal_of t.world turn ≡ None → P t → P (after_turn t turn)) where
-    attempt_keeps : (t : Trace T) (turn : Turn T) (o : Option Refusal) → refusal_of t.world turn ≡ o → P t → P (unless_refused t (after_turn t turn) o)
+  -- what every turn that is taken keeps
+  module _ (refuses : World T → Turn T → Option Refusal) (P : Trace T → Type 0)
+      (keeps : (t : Trace T) (turn : Turn T) → refuses t.world turn ≡ None → P t → P (after_turn t turn)) where
+    attempt_keeps : (t : Trace T) (turn : Turn T) (o : Option Refusal) → refuses t.world turn ≡ o → P t → P (unless_refused t (after_turn t turn) o)
     attempt_keeps t turn None e h = keeps t turn e h
     attempt_keeps t turn (Some refusal) e h = h
 
-    run_keeps : (turns : List (Turn T)) (t : Trace T) → P t → P (run turns t)
+    run_keeps : (turns : List (Turn T)) (t : Trace T) → P t → P (run_by refuses turns t)
     run_keeps [] t h = h
-    run_keeps (turn ∷ turns) t h = run_keeps turns (attempt t turn) (attempt_keeps t turn (refusal_of t.world turn) refl h)
+    run_keeps (turn ∷ turns) t h = run_keeps turns (attempt_by refuses t turn) (attempt_keeps t turn (refuses t.world turn) refl h)
 
+    pub kept_by : (t : Trace T) → P (opening t.world.coding t.world.kind t.world.capacity t.world.parties) → IsReachedBy refuses t → P t
+    kept_by t first r = subst P (sym r.is) (run_keeps r.turns (opening t.world.coding t.world.kind t.world.capacity t.world.parties) first)
+
+  module _ (P : Trace T → Type 0) (keeps : (t : Trace T) (turn : Turn T) → refusal_of t.world turn ≡ None → P t → P (after_turn t turn)) where
     pub kept_by_runs : (t : Trace T)
         → ((queue : ℕ) → queue_error t.world.kind queue ≡ None
         → P (opened t.world.coding t.world.kind t.world.capacity queue t.world.parties))
         → IsReached t → P t
-    kept_by_runs x0 x1 x2 = grind (arith, run_keeps, opened)
+    kept_by_runs t first r =
+        subst P (sym r.is)
+        (run_keeps refusal_of P keeps r.turns (opened t.world.coding t.world.kind t.world.capacity r.queue t.world.parties)
+        (first r.queue r.queued))
 
-  -- ---- where neither turns nor parties have a bound
-
-  run_on_more : (turns : List (Turn T)) (turn : Turn T) (t : Trace T) → run_on (turns ++ turn ∷ []) t ≡ attempt_on (run_on turns t) turn
-  run_on_more [] turn t = refl
-  run_on_more (x ∷ xs) turn t = run_on_more xs turn (attempt_on t x)
-
-  attempt_on_allowed : (t : Trace T) (turn : Turn T) → call_refusal t.world turn ≡ None → attempt_on t turn ≡ after_turn t turn
-  attempt_on_allowed t turn e = ap (unless_refused t (after_turn t turn)) e
-
-  pub reached_on_more : (t : Trace T) (turn : Turn T) → call_refusal t.world turn ≡ None → IsReachedOn t → IsReachedOn (after_turn t turn)
-  reached_on_more t turn e r =
-      let making = turn_making t.world turn in
-      let more : after_turn t turn ≡ run_on (r.turns ++ turn ∷ []) (opening t.world.coding t.world.kind t.world.capacity t.world.parties) =
-      sym (attempt_on_allowed t turn e)
-      ∙ (ap (λ u. attempt_on u turn) r.is
-      ∙ sym (run_on_more r.turns turn (opening t.world.coding t.world.kind t.world.capacity t.world.parties)))
-      in
-      record {
-        coded = rw making.coding r.coded;
-        admitted = rw (making.kind, making.capacity) r.admitted;
-        turns = r.turns ++ turn ∷ [];
-        is = rw (making.coding, making.kind, making.capacity, making.parties) more;
-      }
+  -- where neither turns nor parties have a bound
+  pub kept_by_runs_on : (P : Trace T → Type 0)
+      → ((t : Trace T) (turn : Turn T) → call_refusal t.world turn ≡ None → P t → P (after_turn t turn)) → (t : Trace T)
+      → P (opening t.world.coding t.world.kind t.world.capacity t.world.parties) → IsReachedOn t → P t
+  kept_by_runs_on P keeps t first r = kept_by call_refusal P keeps t first r
 
   pub reached_on_opening : (code : Coding T) (kind : Kind) (capacity parties : ℕ) → IsCoding code
       → capacity_error kind capacity ≡ None → IsReachedOn (opening code kind capacity parties)
-  reached_on_opening x0 x1 x2 x3 x4 x5 = grind arith
-
-  module _ (P : Trace T → Type 0) (keeps : (t : Trace T) (turn : Turn T) → call_refusal t.world turn ≡ None → P t → P (after_turn t turn)) where
-    attempt_on_keeps : (t : Trace T) (turn : Turn T) (o : Option Refusal) → call_refusal t.world turn ≡ o → P t → P (unless_refused t (after_turn t turn) o)
-    attempt_on_keeps t turn None e h = keeps t turn e h
-    attempt_on_keeps t turn (Some refusal) e h = h
-
-    run_on_keeps : (turns : List (Turn T)) (t : Trace T) → P t → P (run_on turns t)
-    run_on_keeps [] t h = h
-    run_on_keeps (turn ∷ turns) t h = run_on_keeps turns (attempt_on t turn) (attempt_on_keeps t turn (call_refusal t.world turn) refl h)
-
-    pub kept_by_runs_on : (t : Trace T) → P (opening t.world.coding t.world.kind t.world.capacity t.world.parties) → IsReachedOn t → P t
-    kept_by_runs_on x0 x1 x2 = grind (arith, run_on_keeps, opening)
+  reached_on_opening code kind capacity parties coded e = record { coded = coded; admitted = e; turns = []; is = refl }

@@ -1,11 +1,7 @@
 -- How readings of events go on as a run grows. No kind is in it.
-use Rattle.std.proofs.Common.{◌≡◌, ◌≢◌, ℕ, ◌==◌, true, false, Some, IfSome, List, [], ◌∷◌, ◌++◌, fold, refl, sym, ap}
-use Rattle.std.proofs.Common.{subst, ◌∙◌, append_assoc, append-nil, arith}
-use Rattle.std.proofs.lemmas.Bool.Decides.{nat_tests}
-use Rattle.std.proofs.lemmas.List.Sums.{fold-append}
-use Rattle.model.specs.declared.event.Event.{Event}
-use Rattle.model.specs.declared.event.Event.TheVariants.{Died}
-use Rattle.model.specs.Reading.{Each, whose, Span, Never, own_after, span_after, span_of}
+use Rattle.model.proofs.Names.{Died, Each, Event, IfSome, List, Never, Some, Span, [], ap, append-nil, append_assoc}
+use Rattle.model.proofs.Names.{arith, false, fold, fold-append, nat_tests, own_after, refl, span_after, span_of, subst}
+use Rattle.model.proofs.Names.{sym, true, whose, ℕ, ◌++◌, ◌==◌, ◌∙◌, ◌∷◌, ◌≡◌, ◌≢◌}
 
 module _ {A : Type 0} where
   -- the last of a list, or one before it
@@ -52,6 +48,11 @@ module _ {T : Type 0} where
 
   pub Each-nil : (P : List (Event T) → Event T → Type 0) → Each P []
   Each-nil P before after e is = absurd (no_more before e after is)
+
+  -- of a list, and so of its beginning
+  pub Each-less : (P : List (Event T) → Event T → Type 0) (events es : List (Event T)) → Each P (events ++ es) → Each P events
+  Each-less P events es all before after e is =
+      all before (after ++ es) e (ap (λ xs. xs ++ es) is ∙ append_assoc before (e ∷ after) es)
 
   -- ---- spans
 

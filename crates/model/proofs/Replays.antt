@@ -1,11 +1,7 @@
 -- How a replay of calls on a sequential object goes on.
-use Rattle.std.proofs.Common.{arith}
-use Rattle.std.proofs.Common.{◌≡◌, List, [], ◌∷◌, ◌++◌, fold, map, refl, ap}
-use Rattle.std.proofs.lemmas.List.{map-append}
-use Rattle.std.proofs.lemmas.List.Sums.{fold-append}
-use Rattle.model.specs.declared.event.Start.{Start}
-use Rattle.model.specs.declared.event.Answer.{Answer}
-use Rattle.model.specs.Objects.{Object, answers_from, IsLegal, standing}
+use Rattle.model.proofs.Names.{Answer, IsLegal, List, Start, [], answers_from, ap, arith, fold, fold-append, map}
+use Rattle.model.proofs.Names.{map-append, refl, ◌++◌, ◌∷◌, ◌≡◌}
+use Rattle.model.specs.Objects.{Object, standing}
 
 module _ {T : Type 0} where
   abbrev pub calls_of : List (Start T × Answer T) → List (Start T)

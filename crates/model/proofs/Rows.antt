@@ -1,19 +1,12 @@
 -- What a turn that is not refused has passed.
-use Rattle.std.proofs.Common.{◌≡◌, ℕ, ◌^◌, ◌-◌, ◌<◌, Bool, true, false, cond, not, Option, Some, None, is_some, is_none, List, ◌∷◌, refl, arith}
-use Rattle.std.proofs.lemmas.Bool.Decides.{nat_tests}
-use Rattle.model.specs.declared.families.Flight.{Flight}
-use Rattle.model.specs.declared.event.Start.{Start}
-use Rattle.model.specs.declared.party.Party.{Party}
-use Rattle.model.specs.declared.turn.Turn.{Turn}
-use Rattle.model.specs.declared.turn.Turn.TheVariants.{Begin, Next, Decide, Die}
-use Rattle.model.specs.declared.turn.Refusal.{Refusal}
+use Rattle.model.proofs.Names.{Begin, Bool, Decide, Die, Flight, List, Next, None, Option, Party, Refusal, Some, Start}
+use Rattle.model.proofs.Names.{Turn, World, arith, call_refusal, cond, doing_of, false, first_of, first_row, flight_in}
+use Rattle.model.proofs.Names.{flight_of, going_rows, has_owners, is_due, is_none, is_some, nat_tests, not, refl}
+use Rattle.model.proofs.Names.{refusal_of, true, ℕ, ◌-◌, ◌<◌, ◌^◌, ◌∷◌, ◌≡◌}
 use Rattle.model.specs.declared.turn.Refusal.TheVariants.{AtEnd}
-use Rattle.model.specs.Parties.{flight_of, doing_of}
-use Rattle.model.specs.World.{World, flight_in}
-use Rattle.model.specs.Families.{begin_of, first_of, going_rows, has_owners, is_dead}
+use Rattle.model.specs.Families.{begin_of, is_dead}
 use Rattle.model.specs.Turns.{turn_of}
-use Rattle.model.specs.Rows.{first_row}
-use Rattle.model.specs.Refusals.{refusal_of, call_refusal, is_at_end, is_due}
+use Rattle.model.specs.Refusals.{is_at_end}
 
 -- a row that did not apply
 pub row_passed : (b : Bool) (r : Refusal) (rest : Option Refusal) → cond b (Some r) rest ≡ None → (b ≡ false) × (rest ≡ None)

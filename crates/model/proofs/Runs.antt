@@ -1,18 +1,9 @@
 -- How the worked runs are written: calls of parties, so many turns each, from an opening.
-use Rattle.std.proofs.Common.{ℕ, true, List, [], ◌∷◌, ◌++◌, replicate}
+use Rattle.model.proofs.Names.{Begin, Begun, Coding, Event, Finished, Kind, List, Next, Queues, Start, Trace, Truth}
+use Rattle.model.proofs.Names.{Turn, [], opening, replicate, run, true, ℕ, ◌++◌, ◌∷◌}
 use Rattle.steps.specs.Words.{words_of_u128, value_of_u128}
-use Rattle.model.specs.declared.event.Answer.TheVariants.{Truth}
-use Rattle.model.specs.declared.event.Event.{Event}
-use Rattle.model.specs.declared.event.Event.TheVariants.{Begun, Finished}
-use Rattle.model.specs.declared.event.Start.{Start}
-use Rattle.model.specs.declared.event.Start.TheVariants.{Queues}
 use Rattle.model.specs.declared.families.queues.QueueStart.TheVariants.{AcquireProducer, AcquireConsumer}
-use Rattle.model.specs.declared.turn.Kind.{Kind}
-use Rattle.model.specs.declared.turn.Turn.{Turn}
-use Rattle.model.specs.declared.turn.Turn.TheVariants.{Begin, Next}
-use Rattle.model.specs.Coding.{Coding, coding_of}
-use Rattle.model.specs.Turns.{run}
-use Rattle.model.specs.World.{Trace, opening}
+use Rattle.model.specs.Coding.{coding_of}
 
 -- numbers of two words, the high one first
 abbrev pub two_words : Coding ℕ

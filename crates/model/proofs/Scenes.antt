@@ -1,23 +1,9 @@
 -- From a machine of any family between two turns to the step of one call that is under way: where the call stands there,
 -- and that its step may be looked at from the words, and what is kept beside them, that the family's state holds.
-use Rattle.std.proofs.Common.{arith}
-use Rattle.std.proofs.Common.{◌≡◌, ℕ, ◌+◌, ◌≤◌, Bool, Option, Some, None, List, ◌++◌}
-use Rattle.steps.specs.declared.ask.Ask.{Ask}
-use Rattle.model.specs.declared.event.Start.{Start}
-use Rattle.model.specs.declared.families.Flight.{Flight}
-use Rattle.model.specs.declared.families.Registry.{Registry}
-use Rattle.model.specs.declared.party.Doing.TheVariants.{Going}
-use Rattle.model.specs.declared.party.Party.{Party}
-use Rattle.model.specs.declared.turn.Turn.TheVariants.{Next, Decide}
-use Rattle.model.specs.Coding.{Coding}
-use Rattle.model.specs.Families.{want_of, ask_of, beside_of, step_of}
-use Rattle.model.specs.Parties.{party_of, doing_of, flight_of}
-use Rattle.model.specs.Promise.{Promise}
-use Rattle.model.specs.Promises.Turns.{WritesInOrder}
-use Rattle.model.specs.Reading.{Open, span_of}
-use Rattle.model.specs.Step.{Step}
-use Rattle.model.specs.Turns.{old_of, number_of, words_after, change_of, step_count, party_after, events_of_step}
-use Rattle.model.specs.World.{Trace}
+use Rattle.model.proofs.Names.{Ask, Bool, Coding, Decide, Flight, Going, List, Next, None, Open, Option, Party, Promise}
+use Rattle.model.proofs.Names.{Registry, Some, Start, Step, Trace, WritesInOrder, arith, ask_of, beside_of, change_of}
+use Rattle.model.proofs.Names.{doing_of, events_of_step, flight_of, number_of, old_of, party_after, party_of, span_of}
+use Rattle.model.proofs.Names.{step_count, step_of, want_of, words_after, ℕ, ◌++◌, ◌+◌, ◌≡◌, ◌≤◌}
 use Rattle.model.proofs.Frame.{Family, Sound, Comes, ComesByStep, under_way, knows_now}
 
 module _ {T : Type 0} where

@@ -1,26 +1,13 @@
 -- The counts of a machine stay below the number of its turns.
-use Rattle.std.proofs.Common.{◌≡◌, ◌≢◌, ℕ, ◌+◌, ◌-◌, ◌≤◌, ◌<◌, ◌^◌, ⊎_elim, Bool, Option, Some, None, List, refl, sym, subst, ◌∙◌, arith}
-use Rattle.std.proofs.lemmas.Bool.{cases_eq}
-use Rattle.steps.specs.declared.ask.Ask.{Ask}
-use Rattle.steps.specs.declared.ask.After.{After}
-use Rattle.model.specs.declared.event.Answer.{Answer}
-use Rattle.model.specs.declared.event.Start.{Start}
-use Rattle.model.specs.declared.families.Flight.{Flight}
-use Rattle.model.specs.declared.families.Registry.{Registry}
-use Rattle.model.specs.declared.party.Doing.{Doing}
-use Rattle.model.specs.declared.party.Doing.TheVariants.{Going, Over}
-use Rattle.model.specs.declared.party.Party.{Party}
-use Rattle.model.specs.declared.turn.Turn.{Turn}
-use Rattle.model.specs.declared.turn.Turn.TheVariants.{Begin, Next, Decide, Die}
-use Rattle.model.specs.Families.{first_of}
-use Rattle.model.specs.Parties.{party_of, put}
-use Rattle.model.specs.Refusals.{refusal_of}
+use Rattle.model.proofs.Names.{After, Answer, Ask, Begin, Bool, Decide, Die, Doing, Flight, Going, IsReached, List}
+use Rattle.model.proofs.Names.{Next, None, Option, Over, Party, Registry, Some, Start, Step, Trace, Turn, World}
+use Rattle.model.proofs.Names.{after_answer, after_begin, after_decision, after_next, after_step, arith, ask_of_doing}
+use Rattle.model.proofs.Names.{cases_eq, change_of, doing_after, first_of, number_of, old_of, party_after}
+use Rattle.model.proofs.Names.{party_at_begin, party_of, refl, refusal_of, step_count, step_in, subst, sym, world_after}
+use Rattle.model.proofs.Names.{ℕ, ⊎_elim, ◌+◌, ◌-◌, ◌<◌, ◌^◌, ◌∙◌, ◌≡◌, ◌≢◌, ◌≤◌}
+use Rattle.model.specs.Parties.{put}
 use Rattle.model.specs.Small.{HasSmallCount, HasSmallCounts, IsSmall}
-use Rattle.model.specs.Step.{Step}
-use Rattle.model.specs.Turns.{after_begin, party_at_begin, after_step, party_after, doing_after, step_in, after_answer}
-use Rattle.model.specs.Turns.{after_next, after_decision, after_death, world_after, IsReached, ask_of_doing, old_of}
-use Rattle.model.specs.Turns.{number_of, change_of, step_count}
-use Rattle.model.specs.World.{World, Trace}
+use Rattle.model.specs.Turns.{after_death}
 use Rattle.model.proofs.Counts.{change_small, steps_small, back_small}
 use Rattle.model.proofs.Parties.{party_put_same, party_put_other}
 use Rattle.model.proofs.Reached.{kept_by_runs}

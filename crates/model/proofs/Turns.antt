@@ -1,33 +1,18 @@
 -- What a turn does, in its own words.
-use Rattle.std.proofs.Common.{◌≡◌, ◌≢◌, ℕ, ◌+◌, ◌-◌, ◌<◌, ◌≤◌, ◌==◌, ◌⊎◌, inl, inr, ⊎_elim, Bool, true, false, cond}
-use Rattle.std.proofs.Common.{Option, Some, None, is_some, is_none, IfSome, List, length, get_or, set, refl, sym, ap}
-use Rattle.std.proofs.Common.{◌∙◌, arith, get_or-set_same}
-use Rattle.std.proofs.lemmas.Bool.{cases_lt}
-use Rattle.std.proofs.lemmas.Bool.Decides.{nat_tests}
-use Rattle.std.proofs.lemmas.List.{set-get_or, set_past}
+use Rattle.model.proofs.Names.{After, Answer, Ask, Begin, Bool, Decide, Die, Doing, Flight, GoOn, Going, IfSome, List}
+use Rattle.model.proofs.Names.{Next, None, Option, Over, Party, Registry, Some, Start, Step, Turn, World, after_answer}
+use Rattle.model.proofs.Names.{after_begin, after_decision, after_next, after_step, ap, arith, ask_of, ask_of_doing}
+use Rattle.model.proofs.Names.{ask_of_flight, call_refusal, cases_lt, change_of, cond, doing_after, doing_of, false}
+use Rattle.model.proofs.Names.{first_of, flight_in, flight_of, get_or, goes_of, inl, inr, is_none, is_some, length}
+use Rattle.model.proofs.Names.{nat_tests, number_of, old_of, one_if, party_after, party_of, progress_after, progress_in}
+use Rattle.model.proofs.Names.{refl, set, set-get_or, step_count, step_in, sym, true, want_of, words_after, world_after}
+use Rattle.model.proofs.Names.{ℕ, ⊎_elim, ◌+◌, ◌-◌, ◌<◌, ◌==◌, ◌∙◌, ◌≡◌, ◌≢◌, ◌≤◌, ◌⊎◌}
+use Rattle.std.proofs.Common.{get_or-set_same}
+use Rattle.std.proofs.lemmas.List.{set_past}
 use Rattle.steps.specs.Ask.{written}
-use Rattle.steps.specs.declared.ask.Ask.{Ask}
-use Rattle.steps.specs.declared.ask.After.{After}
-use Rattle.steps.specs.declared.ask.After.TheVariants.{GoOn, Done}
-use Rattle.model.specs.declared.event.Answer.{Answer}
-use Rattle.model.specs.declared.event.Start.{Start}
-use Rattle.model.specs.declared.families.Flight.{Flight}
-use Rattle.model.specs.declared.families.Registry.{Registry}
-use Rattle.model.specs.declared.party.Doing.{Doing}
-use Rattle.model.specs.declared.party.Doing.TheVariants.{Going, Over}
-use Rattle.model.specs.declared.party.Party.{Party}
-use Rattle.model.specs.declared.turn.Turn.{Turn}
-use Rattle.model.specs.declared.turn.Turn.TheVariants.{Begin, Next, Decide, Die}
-use Rattle.model.specs.Families.{first_of, want_of, ask_of, goes_of}
-use Rattle.model.specs.Parties.{party_of, doing_of, flight_of, progress_after}
-use Rattle.model.specs.Promises.Turns.{IsOneTurnLater, ask_of_flight, WritesOneWord, StandsAt, GoesOn, BothGoOn, CountsTurn, BothSee, CountsOthers}
-use Rattle.model.specs.Refusals.{call_refusal}
+use Rattle.steps.specs.declared.ask.After.TheVariants.{Done}
+use Rattle.model.specs.Promises.Turns.{IsOneTurnLater, WritesOneWord, StandsAt, GoesOn, BothGoOn, CountsTurn, BothSee, CountsOthers}
 use Rattle.model.specs.Small.{HasSmallCount, IsSmall}
-use Rattle.model.specs.Step.{Step}
-use Rattle.model.specs.Turns.{old_of, words_after, change_of, step_count, ask_of_doing, number_of, one_if, after_begin}
-use Rattle.model.specs.Turns.{after_step, party_after, doing_after, step_in, after_answer, after_next}
-use Rattle.model.specs.Turns.{after_decision, world_after}
-use Rattle.model.specs.World.{World, flight_in, progress_in}
 use Rattle.model.proofs.Parties.{party_put_same, party_put_other}
 use Rattle.model.proofs.Reached.{turn_making}
 use Rattle.model.proofs.Rows.{may_begin, may_next, may_decide}

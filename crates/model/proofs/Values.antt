@@ -1,19 +1,13 @@
 -- The definitions at a worked run of the queue of values, whose numbers have two words, the high one first, and at
 -- histories that they refuse.
-use Rattle.std.proofs.Common.{◌≡◌, ℕ, true, List, [], ◌∷◌, ◌++◌, refl}
+use Rattle.model.proofs.Names.{Acted, Begun, Event, Finished, HandedOut, IsLegal, List, Number, PoppedNone, Published}
+use Rattle.model.proofs.Names.{Queues, Truth, Turn, [], bounded_list, moments, refl, true, ℕ, ◌++◌, ◌∷◌, ◌≡◌}
 use Rattle.model.specs.declared.event.Item.TheVariants.{Value}
-use Rattle.model.specs.declared.event.Start.TheVariants.{Queues}
-use Rattle.model.specs.declared.event.Answer.TheVariants.{Truth, Number, PoppedNone, Popped}
-use Rattle.model.specs.declared.event.Event.{Event}
-use Rattle.model.specs.declared.event.Event.TheVariants.{Begun, Published, HandedOut, Acted, Finished}
+use Rattle.model.specs.declared.event.Answer.TheVariants.{Popped}
 use Rattle.model.specs.declared.families.queues.QueueStart.TheVariants.{Push, Pop, Len}
 use Rattle.model.specs.declared.families.queues.QueueKind.TheVariants.{Queue}
 use Rattle.model.specs.declared.turn.Kind as any_kinds
-use Rattle.model.specs.declared.turn.Turn.{Turn}
 use Rattle.model.specs.Families.Queues.Book.{waiting_in, IsBook}
-use Rattle.model.specs.Families.Queues.Objects.{bounded_list}
-use Rattle.model.specs.Objects.{IsLegal}
-use Rattle.model.specs.Reading.{moments}
 use Rattle.model.proofs.Runs.{two_words, nexts, begins, roles, roles_told, ran}
 
 -- a push stops inside its cell, a pop answers None, the push goes on, and a length counts it

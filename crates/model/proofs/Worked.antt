@@ -1,30 +1,19 @@
 -- The definitions at a worked run, and at histories that they refuse.
-use Rattle.std.proofs.Common.{arith}
-use Rattle.std.proofs.Common.{◌≡◌, ℕ, true, false, Some, None, List, [], ◌∷◌, ◌++◌, length, refl, sym, subst}
+use Rattle.model.proofs.Names.{Acted, Answer, BeginsNone, Begun, Event, Finished, HandedOut, IsLegal, List, None}
+use Rattle.model.proofs.Names.{Number, Open, PoppedIndex, PoppedNone, Published, PushIndex, Queues, Some, Stands, Truth}
+use Rattle.model.proofs.Names.{Turn, [], arith, bounded_list, false, length, moments, one_word, progress_in, promise_of}
+use Rattle.model.proofs.Names.{refl, subst, sym, true, waiting, ℕ, ◌++◌, ◌∷◌, ◌≡◌}
 use Rattle.model.specs.declared.event.Item.TheVariants.{Index}
-use Rattle.model.specs.declared.event.Start.TheVariants.{Queues}
-use Rattle.model.specs.declared.event.Answer.{Answer}
-use Rattle.model.specs.declared.event.Answer.TheVariants.{Truth, Number, PoppedNone, PoppedIndex}
-use Rattle.model.specs.declared.event.Event.{Event}
-use Rattle.model.specs.declared.event.Event.TheVariants.{Begun, Published, HandedOut, Acted, Finished}
 use Rattle.model.specs.declared.families.Registry as registries
-use Rattle.model.specs.declared.families.queues.QueueStart.TheVariants.{AcquireProducer, PushIndex, Pop, Len}
+use Rattle.model.specs.declared.families.queues.QueueStart.TheVariants.{AcquireProducer, Pop, Len}
 use Rattle.model.specs.declared.families.queues.QueueKind as kinds
 use Rattle.model.specs.declared.turn.Kind.TheVariants.{IndexQueue, Overflow}
-use Rattle.model.specs.declared.turn.Turn.{Turn}
 use Rattle.model.specs.Families.Queues.Book.{AnswersRight}
-use Rattle.model.specs.Coding.{one_word}
 use Rattle.model.specs.Families.Queues.Lengths.{TellsLength}
-use Rattle.model.specs.Families.Queues.Objects.{bounded_list, overflowing_list}
-use Rattle.model.specs.Families.Queues.Reading.{waiting}
+use Rattle.model.specs.Families.Queues.Objects.{overflowing_list}
 use Rattle.model.specs.Families.Queues.Roles.{GrantsRight, KeepsHolders}
-use Rattle.model.specs.Moments.{BeginsNone}
-use Rattle.model.specs.Objects.{IsLegal}
 use Rattle.model.specs.Families.Queues.Promises.{wrote}
-use Rattle.model.specs.Promises.Families.{promise_of}
-use Rattle.model.specs.Promises.Spans.{Stands}
-use Rattle.model.specs.Reading.{acts, moments, Open}
-use Rattle.model.specs.World.{progress_in}
+use Rattle.model.specs.Reading.{acts}
 use Rattle.model.proofs.Runs.{nexts, begins, roles, roles_told, ran}
 
 -- a push stops before it publishes, a pop answers None, and then the push goes on

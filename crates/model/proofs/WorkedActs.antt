@@ -1,23 +1,18 @@
 -- Acts, and turns that decide, which the definitions refuse: each of another step than the one in which it belongs.
-use Rattle.std.proofs.Common.{◌≡◌, ℕ, ◌+◌, true, false, Option, Some, ◌∷◌, ◌++◌, length, refl, ap, arith}
-use Rattle.steps.specs.declared.ask.Ask.{Ask}
+use Rattle.model.proofs.Names.{Acted, Ask, Decide, Default, Die, Next, Option, PoppedIndex, PushIndex, QueueKind}
+use Rattle.model.proofs.Names.{Queues, Some, Told, Trace, Truth, ap, arith, false, length, one_word, opening, refl}
+use Rattle.model.proofs.Names.{true, ℕ, ◌++◌, ◌+◌, ◌∷◌, ◌≡◌}
 use Rattle.steps.specs.declared.ask.Op as ops
-use Rattle.steps.specs.declared.indices.enums.ReleaseMode.TheVariants.{Default}
-use Rattle.model.specs.declared.event.Answer.TheVariants.{Done, Truth, PoppedIndex}
-use Rattle.model.specs.declared.event.Event.TheVariants.{Acted, Told}
-use Rattle.model.specs.declared.event.Start.TheVariants.{Queues, Atomic, Robust}
+use Rattle.model.specs.declared.event.Answer.TheVariants.{Done}
+use Rattle.model.specs.declared.event.Start.TheVariants.{Atomic, Robust}
 use Rattle.model.specs.declared.families.atomic.AtomicStart as atomic_starts
 use Rattle.model.specs.declared.families.indices.robust.RobustStart.TheVariants.{Acquire, Find, Recover}
-use Rattle.model.specs.declared.families.queues.QueueKind.{QueueKind}
 use Rattle.model.specs.declared.families.queues.QueueKind.TheVariants.{IndexQueue, Overflow}
-use Rattle.model.specs.declared.families.queues.QueueStart.TheVariants.{PushIndex, Pop, Len}
+use Rattle.model.specs.declared.families.queues.QueueStart.TheVariants.{Pop, Len}
 use Rattle.model.specs.declared.turn.Kind as kinds
-use Rattle.model.specs.declared.turn.Turn.TheVariants.{Next, Decide, Die}
-use Rattle.model.specs.Coding.{one_word}
 use Rattle.model.specs.Families.Atomic.Promises as values
 use Rattle.model.specs.Families.Indices.Robust.Promises.{FindsUpTo, ToldRight, YesTells}
 use Rattle.model.specs.Families.Queues.Promises as queues
-use Rattle.model.specs.World.{Trace, opening}
 use Rattle.model.proofs.Runs.{begins, ran}
 
 same_is_more : (n : ℕ) → n ≡ n + 1 → ⊥

@@ -1,28 +1,20 @@
 -- The definitions of the bit sets at worked runs, and at histories that they refuse.
-use Rattle.std.proofs.Common.{◌≡◌, ℕ, ◌+◌, ◌^◌, fold, true, false, Some, List, [], ◌∷◌, ◌++◌, length, refl, sym, ap, subst, ◌∙◌, arith}
-use Rattle.std.proofs.lemmas.List.Sums.{sum_by-append, sum_by-cons}
+use Rattle.model.proofs.Names.{BadIndex, Begin, BeginsNone, Begun, Event, Finished, HeldSometime, Kind, List, Next}
+use Rattle.model.proofs.Names.{Number, Open, Some, Trace, Truth, Turn, WrongCall, [], ap, arith, false, fold, length}
+use Rattle.model.proofs.Names.{one_word, opening, progress_in, refl, refusal_of, run, subst, sum_by-append, sym, true}
+use Rattle.model.proofs.Names.{ℕ, ◌++◌, ◌+◌, ◌^◌, ◌∙◌, ◌∷◌, ◌≡◌}
+use Rattle.std.proofs.lemmas.List.Sums.{sum_by-cons}
 use Rattle.std.specs.Prelude.{cond}
 use Rattle.steps.specs.Bits.BitSet.{place_after, at_most}
 use Rattle.model.specs.declared.event.Start.TheVariants.{Bits}
-use Rattle.model.specs.declared.event.Answer.TheVariants.{Done, Truth, Number, ResetNone, Reset}
-use Rattle.model.specs.declared.event.Event.{Event}
+use Rattle.model.specs.declared.event.Answer.TheVariants.{Done, ResetNone, Reset}
 use Rattle.model.specs.declared.event.Event as told
-use Rattle.model.specs.declared.event.Event.TheVariants.{Begun, Cleared, Counted, TakenOut, Finished}
+use Rattle.model.specs.declared.event.Event.TheVariants.{Cleared, Counted, TakenOut}
 use Rattle.model.specs.declared.families.Registry as registries
 use Rattle.model.specs.declared.families.bits.BitsStart.TheVariants.{Set, ResetNext, ResetAll}
-use Rattle.model.specs.declared.turn.Kind.{Kind}
 use Rattle.model.specs.declared.turn.Kind as kinds
-use Rattle.model.specs.declared.turn.Refusal.TheVariants.{WrongCall, BadIndex}
-use Rattle.model.specs.declared.turn.Turn.{Turn}
-use Rattle.model.specs.declared.turn.Turn.TheVariants.{Begin, Next}
-use Rattle.model.specs.Coding.{one_word}
 use Rattle.model.specs.Families.Bits.Promises.{IsBitSet, IsCountingSet, AnswersCount, HasCleared, HasTaken, CameTo, BitsWrote, bits_stand, counts_stand}
 use Rattle.model.specs.Families.Bits.Reading.{is_set_of, is_clear_of, sets, clears, standing, position_after, count_at}
-use Rattle.model.specs.Moments.{BeginsNone, HeldSometime}
-use Rattle.model.specs.Reading.{Open}
-use Rattle.model.specs.Refusals.{refusal_of}
-use Rattle.model.specs.Turns.{run}
-use Rattle.model.specs.World.{Trace, opening, progress_in}
 
 abbrev set_of : Kind → ℕ → List (Turn ℕ) → Trace ℕ
 set_of kind capacity turns = run turns (opening one_word kind capacity 2)

@@ -1,28 +1,21 @@
 -- The definitions of the container at worked runs, of values of two words.
-use Rattle.std.proofs.Common.{◌≡◌, ℕ, ◌+◌, ◌-◌, ◌^◌, true, false, Option, Some, None, List, [], ◌∷◌, ◌++◌, length, refl, ap, arith}
+use Rattle.model.proofs.Names.{Asked, Begin, Begun, Container, ContainerState, Decide, Default, Die, Died, Event}
+use Rattle.model.proofs.Names.{Filled, Finished, FreedOf, Granted, List, Next, None, Number, Option, OwnerIsDead}
+use Rattle.model.proofs.Names.{OwnerLives, ReleaseMode, Some, Start, State, Told, Trace, Truth, Turn, Undecided}
+use Rattle.model.proofs.Names.{WrongCall, [], ap, arith, false, is_look_of, length, progress_in, refl, refusal_of}
+use Rattle.model.proofs.Names.{state_in, true, ℕ, ◌++◌, ◌+◌, ◌-◌, ◌^◌, ◌∷◌, ◌≡◌}
 use Rattle.steps.specs.declared.container.enums.ContainerRemoveError.TheVariants.{ContainerHandleNotOwnedByContainer}
-use Rattle.steps.specs.declared.container.state.ContainerState.{ContainerState}
-use Rattle.steps.specs.declared.indices.enums.ReleaseMode.{ReleaseMode}
-use Rattle.steps.specs.declared.indices.enums.ReleaseMode.TheVariants.{Default}
 use Rattle.steps.specs.declared.indices.enums.ReleaseState as states
-use Rattle.model.specs.declared.event.Answer.TheVariants.{Done, Index, State, Number, Truth, NotRemoved}
-use Rattle.model.specs.declared.event.Event.{Event}
-use Rattle.model.specs.declared.event.Event.TheVariants.{Begun, Filled, Granted, FreedOf, Asked, Told, Placed, Hidden, Copied, Shown, Died, Finished}
-use Rattle.model.specs.declared.event.Start.{Start}
-use Rattle.model.specs.declared.event.Start.TheVariants.{Container}
+use Rattle.model.specs.declared.event.Answer.TheVariants.{Done, Index, NotRemoved}
+use Rattle.model.specs.declared.event.Event.TheVariants.{Placed, Hidden, Copied, Shown}
 use Rattle.model.specs.declared.families.container.ContainerStart.TheVariants.{Add, Remove, Replace, Find, Recover, GetState, UpdateState, IsLocked}
 use Rattle.model.specs.declared.turn.Kind as kinds
-use Rattle.model.specs.declared.turn.Refusal.TheVariants.{OwnerIsDead, OwnerLives, Undecided, WrongCall}
-use Rattle.model.specs.declared.turn.Turn.{Turn}
-use Rattle.model.specs.declared.turn.Turn.TheVariants.{Begin, Next, Decide, Die}
-use Rattle.model.specs.Families.Container.Keeping.{steps_of, is_look_of}
-use Rattle.model.specs.Families.Container.Looks.{state_in, shows}
+use Rattle.model.specs.Families.Container.Keeping.{steps_of}
+use Rattle.model.specs.Families.Container.Looks.{shows}
 use Rattle.model.specs.Families.Container.Promises.{ContainsRight, FindsUpTo}
 use Rattle.model.specs.Families.Container.Questions.{question_at, WritesRight, YesTells}
 use Rattle.model.specs.Families.Container.Reading.{Hides}
 use Rattle.model.specs.Families.Container.Spans.{HasDone}
-use Rattle.model.specs.Refusals.{refusal_of}
-use Rattle.model.specs.World.{Trace, progress_in}
 use Rattle.model.proofs.Runs.{two_words, nexts, begins, ran}
 
 abbrev add : ℕ → ℕ → Start ℕ

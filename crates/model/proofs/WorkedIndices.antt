@@ -1,29 +1,19 @@
 -- The definitions of the unique index set at worked runs, and at histories that they refuse.
-use Rattle.std.proofs.Common.{◌≡◌, ℕ, ◌+◌, ◌*◌, ◌^◌, true, Option, Some, None, List, [], ◌∷◌, length, get_or, refl, ap, arith}
-use Rattle.steps.specs.declared.indices.enums.ReleaseMode.TheVariants.{LockIfLastIndex, Default}
+use Rattle.model.proofs.Names.{BadIndex, Begin, Begun, Claimed, Default, Event, Finished, Freed, List, LockIfLastIndex}
+use Rattle.model.proofs.Names.{Locked, Next, None, Number, Open, Option, Some, Stands, Start, State, Trace, Truth, Turn}
+use Rattle.model.proofs.Names.{WrongCall, [], ap, arith, get_or, length, one_word, opening, progress_in, promise_of}
+use Rattle.model.proofs.Names.{refl, refusal_of, run, true, ℕ, ◌*◌, ◌+◌, ◌^◌, ◌∷◌, ◌≡◌}
 use Rattle.steps.specs.declared.indices.enums.ReleaseState as states
 use Rattle.steps.specs.declared.indices.enums.UniqueIndexSetAcquireFailure as failures
-use Rattle.model.specs.declared.event.Answer.TheVariants.{Index, NoIndex, State, Number, Truth}
-use Rattle.model.specs.declared.event.Event.{Event}
-use Rattle.model.specs.declared.event.Event.TheVariants.{Begun, Claimed, Freed, Locked, Finished}
-use Rattle.model.specs.declared.event.Start.{Start}
+use Rattle.model.specs.declared.event.Answer.TheVariants.{Index, NoIndex}
 use Rattle.model.specs.declared.event.Start.TheVariants.{Indices}
 use Rattle.model.specs.declared.families.Registry.TheVariants as registries
 use Rattle.model.specs.declared.families.indices.IndexStart.TheVariants.{Acquire, Release, BorrowedIndices, IsLocked}
 use Rattle.model.specs.declared.turn.Kind as kinds
-use Rattle.model.specs.declared.turn.Refusal.TheVariants.{BadIndex, NotHeld, WrongCall}
-use Rattle.model.specs.declared.turn.Turn.{Turn}
-use Rattle.model.specs.declared.turn.Turn.TheVariants.{Begin, Next}
-use Rattle.model.specs.Coding.{one_word}
+use Rattle.model.specs.declared.turn.Refusal.TheVariants.{NotHeld}
 use Rattle.model.specs.Families.Indices.Promises.{HoldsRight, AnswersRight}
 use Rattle.model.specs.Families.Indices.Reading.{holder_of, tally_of}
 use Rattle.model.specs.Families.Indices.Spans.{SetActs}
-use Rattle.model.specs.Promises.Families.{promise_of}
-use Rattle.model.specs.Promises.Spans.{Stands}
-use Rattle.model.specs.Reading.{Open}
-use Rattle.model.specs.Refusals.{refusal_of}
-use Rattle.model.specs.Turns.{run}
-use Rattle.model.specs.World.{Trace, opening, progress_in}
 
 abbrev acquire : Start ℕ
 acquire = Indices Acquire

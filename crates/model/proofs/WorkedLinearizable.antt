@@ -1,19 +1,15 @@
 -- Linearizability at worked histories: two that are linearizable, and one that is not.
-use Rattle.std.proofs.Common.{◌≡◌, ◌≢◌, ⊎_elim, ℕ, ◌<◌, ◌≤◌, true, Option, Some, None, IfSome, All, List, [], ◌∷◌, map, refl, sym, ap, subst, ◌∙◌, arith}
+use Rattle.model.proofs.Names.{Answer, Begun, Call, Event, Finished, IfSome, IsLegal, IsLinearizable, List, None}
+use Rattle.model.proofs.Names.{Option, PoppedIndex, PoppedNone, PushIndex, Queues, Response, Some, Start, Truth, [], ap}
+use Rattle.model.proofs.Names.{arith, bounded_list, map, refl, subst, sym, true, ℕ, ⊎_elim, ◌<◌, ◌∙◌, ◌∷◌, ◌≡◌, ◌≢◌}
+use Rattle.model.proofs.Names.{◌≤◌}
+use Rattle.std.proofs.Common.{All}
 use Rattle.std.proofs.lemmas.List.Elements.{All-from_recursion}
 use Rattle.std.specs.List.{AllPairs, Contains}
-use Rattle.model.specs.declared.event.Answer.{Answer}
-use Rattle.model.specs.declared.event.Answer.TheVariants.{Truth, PoppedNone, PoppedIndex}
-use Rattle.model.specs.declared.event.Event.{Event}
-use Rattle.model.specs.declared.event.Event.TheVariants.{Begun, Finished}
-use Rattle.model.specs.declared.event.Start.{Start}
-use Rattle.model.specs.declared.event.Start.TheVariants.{Queues}
 use Rattle.model.specs.declared.families.queues.QueueKind as kinds
-use Rattle.model.specs.declared.families.queues.QueueStart.TheVariants.{PushIndex, Pop}
-use Rattle.model.specs.Families.Queues.Objects.{bounded_list}
-use Rattle.model.specs.Linearizable.{Response, Call, calls_of, Precedes, IsLinearizable}
+use Rattle.model.specs.declared.families.queues.QueueStart.TheVariants.{Pop}
+use Rattle.model.specs.Linearizable.{calls_of, Precedes}
 use Rattle.model.specs.Linearized.{is_push_or_pop, as_list}
-use Rattle.model.specs.Objects.{IsLegal}
 use Rattle.model.proofs.Linearizable.Members.{none_there, split, pair_of, either, three_of_two}
 
 abbrev push : Start ℕ

@@ -1,24 +1,17 @@
 -- The definitions of the loan channel at worked runs.
-use Rattle.std.proofs.Common.{arith}
-use Rattle.std.proofs.Common.{◌≡◌, ℕ, Option, Some, None, List, [], ◌∷◌, ◌++◌, refl}
+use Rattle.model.proofs.Names.{Acted, BadIndex, Begin, Begun, Claimed, Die, Died, Each, Event, Finished, Freed}
+use Rattle.model.proofs.Names.{HandedOut, List, Next, None, Number, Option, OwnerIsDead, OwnerLives, PoppedIndex}
+use Rattle.model.proofs.Names.{PoppedNone, Published, Refusal, Some, Start, Trace, Turn, [], arith, refl, refusal_of}
+use Rattle.model.proofs.Names.{run, ℕ, ◌++◌, ◌∷◌, ◌≡◌}
 use Rattle.steps.specs.declared.loan.places.Place.TheVariants as places
-use Rattle.model.specs.declared.event.Answer.TheVariants.{Index, Number, PoppedNone, PoppedIndex}
-use Rattle.model.specs.declared.event.Event.{Event}
-use Rattle.model.specs.declared.event.Event.TheVariants.{Begun, Published, HandedOut, Claimed, Freed, Died, Acted, Finished}
+use Rattle.model.specs.declared.event.Answer.TheVariants.{Index}
 use Rattle.model.specs.declared.event.Item.TheVariants as items
-use Rattle.model.specs.declared.event.Start.{Start}
 use Rattle.model.specs.declared.event.Start.TheVariants as starts
 use Rattle.model.specs.declared.families.loan.LoanStart.TheVariants.{Loan, Send, Receive, GiveBack, Reclaim}
-use Rattle.model.specs.declared.turn.Refusal.{Refusal}
-use Rattle.model.specs.declared.turn.Refusal.TheVariants.{NoParty, NoRole, NotHeld, BadIndex, OwnerIsDead, OwnerLives}
-use Rattle.model.specs.declared.turn.Turn.{Turn}
-use Rattle.model.specs.declared.turn.Turn.TheVariants.{Begin, Next, Die}
+use Rattle.model.specs.declared.turn.Refusal.TheVariants.{NoParty, NoRole, NotHeld}
 use Rattle.model.specs.Families.Loan.Promises.{LivesRight}
 use Rattle.model.specs.Families.Loan.Reading.{Free, Passing, With, spot_of, place_of, receiver_of}
-use Rattle.model.specs.Reading.{Each}
-use Rattle.model.specs.Refusals.{refusal_of}
-use Rattle.model.specs.Turns.{run}
-use Rattle.model.specs.World.{Trace, loan_opening}
+use Rattle.model.specs.World.{loan_opening}
 use Rattle.model.proofs.Readings.{AreRight, Each-append, Each-nil}
 use Rattle.model.proofs.Runs.{two_words, begins}
 

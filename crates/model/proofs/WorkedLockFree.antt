@@ -1,24 +1,16 @@
 -- Worked runs in which no call ends. For six kinds they take as many steps as the bound says, so that none is less at that
 -- number of parties and that capacity. Two releases that would lock a robust index set make each other begin again, twenty
 -- times each, in 200 steps.
-use Rattle.std.proofs.Common.{◌≡◌, ℕ, zero, suc, ◌<◌, ◌&&◌, nat_lt, Bool, true, false, Option, Some, None, List, [], ◌∷◌, ◌++◌, refl, arith}
-use Rattle.std.proofs.lemmas.Bool.Decides.{nat_tests}
-use Rattle.std.specs.List.{AllByRecursion}
+use Rattle.model.proofs.Names.{AllByRecursion, AreAllowedOn, Begin, Bool, Bound, Decide, Die, IsBelow, IsCoding}
+use Rattle.model.proofs.Names.{IsReachedOn, Kind, List, Next, None, Option, QueueStart, Refusal, Some, Trace, Turn, []}
+use Rattle.model.proofs.Names.{after_turn, after_turns, arith, call_refusal, ends, false, nat_lt, nat_tests, one_word}
+use Rattle.model.proofs.Names.{opening, refl, run_on, steps_in, suc, true, zero, ℕ, ◌&&◌, ◌++◌, ◌<◌, ◌∷◌, ◌≡◌}
 use Rattle.model.specs.declared.event.Start as starts
 use Rattle.model.specs.declared.families.atomic.AtomicStart as atomics
 use Rattle.model.specs.declared.families.bits.BitsStart as bits
-use Rattle.model.specs.declared.families.queues.QueueStart.{QueueStart}
 use Rattle.model.specs.declared.families.queues.QueueStart as queues
-use Rattle.model.specs.declared.turn.Kind.{Kind}
 use Rattle.model.specs.declared.turn.Kind.TheVariants.{IndexQueue, Overflow, Queue, Atomic, Bits, Counts, Robust}
-use Rattle.model.specs.declared.turn.Refusal.{Refusal}
-use Rattle.model.specs.declared.turn.Turn.{Turn}
-use Rattle.model.specs.declared.turn.Turn.TheVariants.{Begin, Next, Decide, Die}
-use Rattle.model.specs.Coding.{one_word, IsCoding}
-use Rattle.model.specs.LockFree.{Bound, IsLockFree, IsBelow, AreAllowedOn, ends, steps_in}
-use Rattle.model.specs.Refusals.{call_refusal}
-use Rattle.model.specs.Turns.{run_on, after_turn, after_turns, IsReachedOn}
-use Rattle.model.specs.World.{Trace, opening}
+use Rattle.model.specs.LockFree.{IsLockFree}
 use Rattle.model.proofs.Runs.{nexts, begins}
 use Rattle.model.proofs.WorkedProgress.{both_count, round}
 

@@ -1,13 +1,10 @@
 -- A worked run in which retries are paid by calls that do not end: two releases that would lock a robust index set make each
 -- other begin again.
-use Rattle.std.proofs.Common.{◌≡◌, ℕ, false, Some, List, ◌++◌, refl}
-use Rattle.steps.specs.declared.indices.enums.ReleaseMode.TheVariants.{LockIfLastIndex}
+use Rattle.model.proofs.Names.{List, LockIfLastIndex, Some, Trace, Turn, false, one_word, progress_in, refl, ℕ, ◌++◌}
+use Rattle.model.proofs.Names.{◌≡◌}
 use Rattle.model.specs.declared.event.Start.TheVariants.{Robust}
 use Rattle.model.specs.declared.families.indices.robust.RobustStart.TheVariants.{Acquire, Release}
 use Rattle.model.specs.declared.turn.Kind as kinds
-use Rattle.model.specs.declared.turn.Turn.{Turn}
-use Rattle.model.specs.Coding.{one_word}
-use Rattle.model.specs.World.{Trace, progress_in}
 use Rattle.model.proofs.Runs.{nexts, begins, ran}
 
 -- each has emptied its cell, and has counted that no cell has an owner

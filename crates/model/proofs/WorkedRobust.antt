@@ -1,33 +1,24 @@
 -- The definitions of the robust index set at worked runs.
-use Rattle.std.proofs.Common.{◌≡◌, ℕ, ◌-◌, ◌^◌, Bool, true, false, Some, None, List, []}
-use Rattle.std.proofs.Common.{◌∷◌, ◌++◌, refl, sym, subst, inl, ne_eqb, arith}
+use Rattle.model.proofs.Names.{Asked, Asks, BadIndex, Begin, BeginsNone, Begun, Bool, Decide, Default, Die, Died, Event}
+use Rattle.model.proofs.Names.{Filled, Finished, FreedOf, Frees, Granted, HeldSometime, HeldThroughout, IsCount}
+use Rattle.model.proofs.Names.{IsFilled, IsFilledWith, IsOneOf, List, LockIfLastIndex, Next, None, Number, Open}
+use Rattle.model.proofs.Names.{OwnerIsDead, OwnerLives, ReleaseMode, SetAct, SetDoes, Some, Start, State, Told, Trace}
+use Rattle.model.proofs.Names.{Turn, Undecided, WrongCall, Yes, [], arith, count_below, false, filled_after, filled_of}
+use Rattle.model.proofs.Names.{inl, ne_eqb, one_word, opening, progress_in, refl, refusal_of, set_acts_of, subst, sym}
+use Rattle.model.proofs.Names.{true, ℕ, ◌++◌, ◌-◌, ◌^◌, ◌∷◌, ◌≡◌}
 use Rattle.std.specs.Prelude.{fold}
-use Rattle.steps.specs.declared.indices.enums.ReleaseMode.{ReleaseMode}
-use Rattle.steps.specs.declared.indices.enums.ReleaseMode.TheVariants.{LockIfLastIndex, Default}
 use Rattle.steps.specs.declared.indices.enums.ReleaseState as states
 use Rattle.steps.specs.declared.indices.enums.UniqueIndexSetAcquireFailure as failures
-use Rattle.model.specs.declared.event.Answer.TheVariants.{Index, NoIndex, State, Number}
-use Rattle.model.specs.declared.event.Event.{Event}
+use Rattle.model.specs.declared.event.Answer.TheVariants.{Index, NoIndex}
 use Rattle.model.specs.declared.event.Event as events
-use Rattle.model.specs.declared.event.Event.TheVariants.{Begun, Filled, Granted, FreedOf, Asked, Told, Died, Finished}
-use Rattle.model.specs.declared.event.Start.{Start}
 use Rattle.model.specs.declared.event.Start.TheVariants.{Robust}
 use Rattle.model.specs.declared.families.Registry.TheVariants as registries
 use Rattle.model.specs.declared.families.indices.robust.RobustStart.TheVariants.{Acquire, Release, Find, Recover, BorrowedIndices}
 use Rattle.model.specs.declared.turn.Kind as kinds
-use Rattle.model.specs.declared.turn.Refusal.TheVariants.{BadIndex, OwnerIsDead, OwnerLives, Undecided, WrongCall}
-use Rattle.model.specs.declared.turn.Turn.{Turn}
-use Rattle.model.specs.declared.turn.Turn.TheVariants.{Begin, Next, Decide, Die}
-use Rattle.model.specs.Coding.{one_word}
-use Rattle.model.specs.Families.Indices.Robust.Promises.{IsFilled, IsFilledWith, HeldThroughout, HoldsRight, SetDoes}
-use Rattle.model.specs.Families.Indices.Robust.Promises.{AsksRight, AnswersRight, HasRecovered, IsCount, FreesRight}
-use Rattle.model.specs.Families.Indices.Robust.Promises.{IsWellFormed, count_below}
-use Rattle.model.specs.Families.Indices.Robust.Reading.{SetAct, Frees, Asks, Yes, IsOneOf, set_acts_of, filled_after, filled_of}
+use Rattle.model.specs.Families.Indices.Robust.Promises.{HoldsRight}
+use Rattle.model.specs.Families.Indices.Robust.Promises.{AsksRight, AnswersRight, HasRecovered, FreesRight}
+use Rattle.model.specs.Families.Indices.Robust.Promises.{IsWellFormed}
 use Rattle.model.specs.Families.Indices.Robust.Spans.{may_stand}
-use Rattle.model.specs.Moments.{BeginsNone, HeldSometime}
-use Rattle.model.specs.Reading.{Open}
-use Rattle.model.specs.Refusals.{refusal_of}
-use Rattle.model.specs.World.{Trace, opening, progress_in}
 use Rattle.model.proofs.Readings.{Each-append, Each-nil}
 use Rattle.model.proofs.Runs.{nexts, begins, ran}
 

@@ -1,20 +1,13 @@
 -- The definitions of the single value at a worked run, and at histories that they refuse.
-use Rattle.std.proofs.Common.{◌≡◌, ◌<◌, ℕ, true, Option, Some, None, List, [], ◌∷◌, ◌++◌, refl, ap, arith}
-use Rattle.steps.specs.declared.ask.Ask.{Ask}
+use Rattle.model.proofs.Names.{Acted, Ask, Begun, Event, Finished, IsLegal, List, None, Open, Option, Some, Stands}
+use Rattle.model.proofs.Names.{Trace, Truth, Turn, [], ap, arith, moments, progress_in, promise_of, refl, true, ℕ, ◌++◌}
+use Rattle.model.proofs.Names.{◌<◌, ◌∷◌, ◌≡◌}
 use Rattle.steps.specs.declared.ask.Op as ops
 use Rattle.model.specs.declared.event.Start.TheVariants.{Atomic}
-use Rattle.model.specs.declared.event.Answer.TheVariants.{Truth, Loaded}
-use Rattle.model.specs.declared.event.Event.{Event}
-use Rattle.model.specs.declared.event.Event.TheVariants.{Begun, Acted, Finished}
+use Rattle.model.specs.declared.event.Answer.TheVariants.{Loaded}
 use Rattle.model.specs.declared.families.atomic.AtomicStart.TheVariants.{AcquireProducer, Store, Load}
 use Rattle.model.specs.declared.turn.Kind as kinds
-use Rattle.model.specs.declared.turn.Turn.{Turn}
 use Rattle.model.specs.Families.Atomic.Promises.{value_of_zeros, value_in, ActsRight, IsValue}
-use Rattle.model.specs.Objects.{IsLegal}
-use Rattle.model.specs.Promises.Families.{promise_of}
-use Rattle.model.specs.Promises.Spans.{Stands}
-use Rattle.model.specs.Reading.{moments, Open}
-use Rattle.model.specs.World.{Trace, progress_in}
 use Rattle.model.proofs.Runs.{two_words, nexts, begins, ran}
 
 abbrev first : ℕ

@@ -14,8 +14,7 @@ use Rattle.model.specs.declared.turn.Kind.TheVariants.{IndexQueue, Overflow, Que
 use Rattle.model.specs.declared.turn.Turn.{Turn}
 use Rattle.model.specs.declared.turn.Turn.TheVariants.{Begin, Next, Decide, Die}
 use Rattle.model.specs.Promises.Turns.{ask_in}
-use Rattle.model.specs.Refusals.{call_refusal}
-use Rattle.model.specs.Turns.{step_count, after_turn, after_turns, AreAllowed, IsReached, IsReachedOn}
+use Rattle.model.specs.Turns.{step_count, after_turn, after_turns, AreAllowed, AreAllowedOn, IsReached, IsReachedOn}
 use Rattle.model.specs.World.{World, Trace}
 
 module _ {T : Type 0} where
@@ -50,12 +49,6 @@ module _ {T : Type 0} where
   abbrev pub BeginsSuch : (Start T → Type 0) → Turn T → Type 0
   BeginsSuch Such (Begin p start) = Such start
   BeginsSuch Such turn = Unit {0}
-
-  -- none of the turns is refused, where neither turns nor parties have a bound
-  abbrev pub AreAllowedOn : Trace T → List (Turn T) → Type 0
-  AreAllowedOn t [] = Unit {0}
-  AreAllowedOn t (turn ∷ turns) =
-      (call_refusal t.world turn ≡ None) × AreAllowedOn (after_turn t turn) turns
 
 -- ---- the law
 

@@ -189,38 +189,55 @@ module _ {T : Type 0} where
   after_turns t [] = t
   after_turns t (turn ∷ turns) = after_turns (after_turn t turn) turns
 
-  -- none of them is refused
-  abbrev pub AreAllowed : Trace T → List (Turn T) → Type 0
-  AreAllowed t [] = Unit {0}
-  AreAllowed t (turn ∷ turns) =
-      (refusal_of t.world turn ≡ None) × AreAllowed (after_turn t turn) turns
-
   abbrev pub unless_refused : Trace T → Trace T → Option Refusal → Trace T
   unless_refused old new None = new
   unless_refused old new (Some refusal) = old
 
-  -- a turn, where a refused one changes nothing
+  -- runs in which `refuses` says why a turn is refused, and a refused turn changes nothing
+  module _ (refuses : World T → Turn T → Option Refusal) where
+    abbrev pub attempt_by : Trace T → Turn T → Trace T
+    attempt_by t turn = unless_refused t (after_turn t turn) (refuses t.world turn)
+
+    abbrev pub run_by : List (Turn T) → Trace T → Trace T
+    run_by [] t = t
+    run_by (turn ∷ turns) t = run_by turns (attempt_by t turn)
+
+    -- none of the turns is refused
+    abbrev pub AreAllowedBy : Trace T → List (Turn T) → Type 0
+    AreAllowedBy t [] = Unit {0}
+    AreAllowedBy t (turn ∷ turns) =
+        (refuses t.world turn ≡ None) × AreAllowedBy (after_turn t turn) turns
+
+    -- some list of turns leads here from the opening, at a capacity that is admitted
+    pub record IsReachedBy (t : Trace T) : Type 0 where
+      pub coded : IsCoding t.world.coding
+      pub admitted : capacity_error t.world.kind t.world.capacity ≡ None
+      pub turns : List (Turn T)
+      pub is : t
+          ≡ run_by turns (opening t.world.coding t.world.kind t.world.capacity t.world.parties)
+
+  -- the turns and the runs of a machine
   abbrev pub attempt : Trace T → Turn T → Trace T
-  attempt t turn = unless_refused t (after_turn t turn) (refusal_of t.world turn)
+  attempt = attempt_by refusal_of
 
   abbrev pub run : List (Turn T) → Trace T → Trace T
-  run [] t = t
-  run (turn ∷ turns) t = run turns (attempt t turn)
+  run = run_by refusal_of
+
+  abbrev pub AreAllowed : Trace T → List (Turn T) → Type 0
+  AreAllowed = AreAllowedBy refusal_of
 
   -- the same where neither turns nor parties have a bound
   abbrev pub attempt_on : Trace T → Turn T → Trace T
-  attempt_on t turn = unless_refused t (after_turn t turn) (call_refusal t.world turn)
+  attempt_on = attempt_by call_refusal
 
   abbrev pub run_on : List (Turn T) → Trace T → Trace T
-  run_on [] t = t
-  run_on (turn ∷ turns) t = run_on turns (attempt_on t turn)
+  run_on = run_by call_refusal
 
-  pub record IsReachedOn (t : Trace T) : Type 0 where
-    pub coded : IsCoding t.world.coding
-    pub admitted : capacity_error t.world.kind t.world.capacity ≡ None
-    pub turns : List (Turn T)
-    pub is : t
-        ≡ run_on turns (opening t.world.coding t.world.kind t.world.capacity t.world.parties)
+  abbrev pub AreAllowedOn : Trace T → List (Turn T) → Type 0
+  AreAllowedOn = AreAllowedBy call_refusal
+
+  abbrev pub IsReachedOn : Trace T → Type 0
+  IsReachedOn = IsReachedBy call_refusal
 
   -- some list of turns leads here from the opening, at a capacity that is admitted, and for a loan channel at a
   -- capacity of its submission queue

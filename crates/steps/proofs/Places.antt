@@ -1,6 +1,6 @@
 -- The first index that is sent, among those from an index on.
-use Rattle.std.proofs.Common.{◌≡◌, ◌∙◌, ℕ, suc, ◌+◌, ◌-◌, ◌<◌, ◌≤◌, ap, arith, refl}
-use Rattle.std.specs.Prelude.{Bool, true, false, Option, Some, None, List, if◌then◌else◌}
+use Rattle.std.proofs.Common.{◌≡◌, ◌∙◌, ℕ, suc, ◌+◌, ◌-◌, ◌<◌, ◌≤◌, ap, arith}
+use Rattle.std.specs.Prelude.{true, false, Some, None, List, if◌then◌else◌}
 use Rattle.steps.specs.declared.loan.places.Place.{Place}
 use Rattle.steps.specs.Loan.Places.{is_sent, place_at, sent_within, next_sent}
 

@@ -1,10 +1,10 @@
 //! The families of calls. Each has files of its own, and here one line where a machine passes on to it.
-ghost use Rattle.std.specs.Prelude.{◌≡◌, ◌+◌, ◌≤◌, ◌++◌, ◌⊎◌, true, false, None, Some, OnOk, IfOk, IfErr, vec_len, vec_capacity};
-ghost use Rattle.steps.specs.Ask.{CameTo};
+ghost use Rattle.std.specs.Prelude.{◌≡◌, ◌+◌, ◌≤◌, ◌⊎◌, true, false, None, Some, OnOk, IfOk, IfErr, vec_len, vec_capacity};
 ghost use Rattle.model.specs.Families.{opening_of, first_of, begin_rows, want_of, is_question, most_of, beside_of};
 ghost use Rattle.model.specs.Families.{step_of, going_rows, lacks_party, death_rows, kept_after_death, kept_after_begin};
 ghost use Rattle.model.specs.Rows.{first_row};
 ghost use Rattle.model.specs.declared.turn.Refusal.TheVariants.{NoMemory};
+ghost use Rattle.turns.specs.Went.{IsStep};
 
 use model::coding::Coded;
 use model::event::{Event, Start};
@@ -254,15 +254,8 @@ pub fn advance<T: Words>(
 ) -> Went<T>
     requires { vec_len events.old + most_of ⟦<T as Coded>⟧.coding flight.old
         ≤ vec_capacity events.old }
-    ensures after { CameTo result.done flight.new (step_of ⟦<T as Coded>⟧.coding words.now.items beside
-        number start.now flight.old answer kept.old).after }
-    ensures back { result.back ≡ (step_of ⟦<T as Coded>⟧.coding words.now.items beside
-        number start.now flight.old answer kept.old).back }
-    ensures kept { kept.new ≡ (step_of ⟦<T as Coded>⟧.coding words.now.items beside
-        number start.now flight.old answer kept.old).kept }
-    ensures wrote { events.new.items ≡ events.old.items
-        ++ (step_of ⟦<T as Coded>⟧.coding words.now.items beside
-        number start.now flight.old answer kept.old).wrote }
+    ensures step { IsStep (step_of ⟦<T as Coded>⟧.coding words.now.items beside number start.now flight.old answer
+        kept.old) result flight.new kept.new events.old.items events.new.items }
     ensures few { vec_len events.new
         ≤ vec_len events.old + most_of ⟦<T as Coded>⟧.coding flight.old }
     ensures room { vec_capacity events.new ≡ vec_capacity events.old }

@@ -3,7 +3,7 @@ use Rattle.laws_queues.proofs.Names.{◌≡◌, ℕ, None, List, [], ◌∷◌, 
 use Rattle.laws_queues.proofs.Names.{QueueFlight, Coding, want_of, ask_of, want, old_of, run_on, attempt_on}
 use Rattle.laws_queues.proofs.Names.{after_turn, call_refusal, Kind, Turn, Trace, opening}
 use native.Mathlib.Omega.{arith}
-use Rattle.model.proofs.Reached.{turn_making}
+use Rattle.model.proofs.Reached.{run_by_more, turn_making}
 use Rattle.laws_queues.proofs.Queues.Runs.{AllMay}
 use Rattle.laws_queues.proofs.Queues.Knows.{IsFreshAt, IsFreshCall}
 pub use Rattle.laws_queues.specs.Fresh.{IsFreshTurn, IsFreshRun}
@@ -19,8 +19,7 @@ module _ {T : Type 0} (z : Coding T) where
 
 module _ {T : Type 0} where
   run_more : (turns : List (Turn T)) (turn : Turn T) (t : Trace T) → run_on (turns ++ turn ∷ []) t ≡ attempt_on (run_on turns t) turn
-  run_more [] turn t = refl
-  run_more (x ∷ xs) turn t = run_more xs turn (attempt_on t x)
+  run_more turns turn t = run_by_more call_refusal turns turn t
 
   may_more : (turns : List (Turn T)) (turn : Turn T) (t : Trace T) → AllMay IsFreshTurn turns t
       → IsFreshTurn (run_on turns t) turn → AllMay IsFreshTurn (turns ++ turn ∷ []) t

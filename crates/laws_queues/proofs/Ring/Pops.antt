@@ -9,7 +9,6 @@ use Rattle.laws_queues.proofs.Names.{load_of_write, load_of_read, published, han
 use Rattle.laws_queues.proofs.Names.{change_of, step_count}
 use Rattle.std.proofs.Common.{arith}
 use Rattle.steps.specs.declared.queues.ring.PopStage as pops
-use Rattle.steps.specs.declared.queues.ring.PushStage as pushes
 use Rattle.steps.specs.Queues.Ring.{cell_word}
 use Rattle.model.specs.declared.event.Answer as answers
 use Rattle.laws_queues.proofs.Queues.Core.{Core, Good, one_more, taken, takes, front, word_at}
@@ -23,7 +22,8 @@ use Rattle.laws_queues.proofs.Ring.Kinds.{ring_want, ring_after, ring_effect, ar
 use Rattle.laws_queues.proofs.Ring.Kinds.{number, pop_here, ring_keeps, none_hangs, cells_are, list_after_pop}
 use Rattle.laws_queues.proofs.Ring.Kinds.{list_answers_pop, listed_is, answer_is, got_is_right, hands_out, wrote_got}
 use Rattle.laws_queues.proofs.Ring.Kinds.{most_pop}
-use Rattle.laws_queues.proofs.Ring.Knows.{pop_at, KnowsPush, KnowsPop, pop_number}
+use Rattle.laws_queues.proofs.Ring.Keeping.{take_keeps}
+use Rattle.laws_queues.proofs.Ring.Knows.{pop_at, KnowsPop, pop_number}
 
 -- ---- the words of a value, read one after another
 
@@ -41,12 +41,6 @@ module _ {V : Type 0} (en : Coding V) (law : IsCoding en) where
   room_value : (room : List ℕ) (v : V) → en.size ≤ length room
       → ((i : ℕ) → i < en.size → get_or room i 0 ≡ get_or (en.words_of v) i 0) → value_in en.value_of en.size room ≡ v
   room_value x0 x1 x2 x3 = grind (arith, length, false, take, same_words, nat_tests)
-
-  -- the next read position keeps what a push knows
-  take_keeps : (c : ℕ) (k : Core V) (v : V) (rest : List V) → k.waiting ≡ v ∷ rest
-      → (w : V) (stage : pushes.PushStage) → KnowsPush en c k w stage
-      → KnowsPush en c (taken en.size en.words_of c k rest) w stage
-  take_keeps x0 x1 x2 x3 x4 x5 x6 x7 = grind arith
 
 module _ {T : Type 0} (en : Coding T) (r : Ring) (law : IsCoding en) (scene : Scene T (kind_of r))
     (inv : Inv en (kind_of r) scene) (small : scene.core.write < 2 ^ 64)
@@ -273,7 +267,7 @@ module _ {T : Type 0} (en : Coding T) (r : Ring) (law : IsCoding en) (scene : Sc
           up = record { write = omega arith; read = omega arith; paid = omega arith };
           others =
               λ q ne. kept ro ro q (λ h. h) (λ h. h) en c (kind_of r) k after (ring_keeps en r c ro k after q (record {
-                push = λ mine w stage h. take_keeps (encoded en (kind_of r)) lawful c k v rest is w stage h;
+                push = λ mine w stage h. take_keeps (encoded en (kind_of r)) c k v rest is w stage h;
                 pop = λ mine other stage h. absurd (clash ro.consumer p q ne holds mine);
               }));
           reached = omega arith;

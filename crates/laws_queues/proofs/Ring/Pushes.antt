@@ -8,7 +8,6 @@ use Rattle.laws_queues.proofs.Names.{ask_of, write_word, appended, load_of_write
 use Rattle.laws_queues.proofs.Names.{Open, old_of, words_after, change_of, step_count}
 use Rattle.std.proofs.Common.{arith}
 use Rattle.steps.specs.declared.queues.ring.PushStage as pushes
-use Rattle.steps.specs.declared.queues.ring.PopStage as pops
 use Rattle.steps.specs.Queues.Ring.{cell_word}
 use Rattle.model.specs.declared.event.Answer as answers
 use Rattle.laws_queues.proofs.Queues.Core as core
@@ -23,21 +22,8 @@ use Rattle.laws_queues.proofs.Ring.Kinds.{are_words, calm, wrote_none, knows, nu
 use Rattle.laws_queues.proofs.Ring.Kinds.{none_hangs, cells_are, list_after_push, list_answers_push, listed_is}
 use Rattle.laws_queues.proofs.Ring.Kinds.{push_roles, push_grants, push_tells, push_producer, push_consumer}
 use Rattle.laws_queues.proofs.Ring.Kinds.{false_is_right, true_is_right, named, wrote_false, wrote_true, most_push}
-use Rattle.laws_queues.proofs.Ring.Knows.{push_at, IsFresh, KnowsPush, KnowsPop, push_number}
-
-module _ {V : Type 0} (en : Coding V) (c : ℕ) (k : Core V) where
-  -- a store into a cell keeps what a pop knows
-  fill_keeps : (at word : ℕ) (room : List ℕ) (stage : pops.PopStage) → KnowsPop en c k room stage
-      → KnowsPop en c (filled en.size en.words_of c k at word) room stage
-  fill_keeps x0 x1 x2 x3 x4 = grind arith
-
-  -- so does the next write position
-  publish_keeps : (w : V) (room : List ℕ) (stage : pops.PopStage) → KnowsPop en c k room stage
-      → KnowsPop en c (core.published en.size en.words_of c k w) room stage
-  publish_keeps w room pops.TheVariants.LoadsRead h = h
-  publish_keeps w room (pops.TheVariants.LoadsWrite read) h = h
-  publish_keeps w room (pops.TheVariants.LoadsCell read cell place) h = (h.0, h.1, h.2 ++ w ∷ [], h.3, ap (λ xs. xs ++ w ∷ []) h.4, h.5, h.6, h.7)
-  publish_keeps w room (pops.TheVariants.StoresRead read) h = (h.0 ++ w ∷ [], h.1, ap (λ xs. xs ++ w ∷ []) h.2)
+use Rattle.laws_queues.proofs.Ring.Keeping.{fill_keeps, publish_keeps}
+use Rattle.laws_queues.proofs.Ring.Knows.{push_at, IsFresh, KnowsPush, push_number}
 
 module _ {T : Type 0} (en : Coding T) (r : Ring) (law : IsCoding en) (scene : Scene T (kind_of r))
     (inv : Inv en (kind_of r) scene) (small : scene.core.write < 2 ^ 64)

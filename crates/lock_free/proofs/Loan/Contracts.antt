@@ -12,7 +12,7 @@ use Rattle.model.specs.Coding.{Coding}
 use Rattle.model.specs.declared.event.Item.TheVariants.{Index}
 use Rattle.model.specs.declared.turn.Kind.TheVariants as kinds
 use Rattle.history.specs.Passes.{Goes}
-use Rattle.history.proofs.Finds.{itself}
+use Rattle.history.proofs.Known.{begins_further, itself}
 use Rattle.lock_free_queues.specs.Queues.Contracts.{HasPopped, WasEmpty, FoundNone}
 use Rattle.lock_free.specs.declared.mpmc.unique_index_set.Pass.{Pass}
 use Rattle.lock_free.specs.declared.spsc.loan.places.Place.{Place}
@@ -137,9 +137,6 @@ pub record Popping (old now : View ℕ) : Type 0 where
 
 pub pops_none : (v : View ℕ) → Popping v v
 pops_none v = record { share = refl; since = itself v.seen; numbers = []; popped = refl }
-
-begins_further : (xs ys zs : List (Event ℕ)) → IsBeginning xs ys → IsBeginning ys zs → IsBeginning xs zs
-begins_further xs ys zs a b = record { rest = a.rest ++ b.rest; is = b.is ∙ (ap (λ es. es ++ b.rest) a.is ∙ append_assoc xs a.rest b.rest) }
 
 module _ (code : Coding ℕ) (kind : Kind) (capacity : ℕ) (old now new : View ℕ) (before : Popping old now)
     (goes : Goes code kind capacity now new) where

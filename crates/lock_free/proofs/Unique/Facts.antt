@@ -1,15 +1,14 @@
 -- What is known of whole calls on a set.
-use Rattle.lock_free.proofs.Names.{◌≡◌, ⊎_elim, ℕ, ◌+◌, ◌<◌, ◌≤◌, ◌==◌, Bool, true, false, true≢false, Some, None, Ok}
-use Rattle.lock_free.proofs.Names.{fold, List, [], ◌∷◌, ◌++◌, refl, sym, ap, subst, ◌∙◌, append_assoc, arith, cases_lt}
-use Rattle.lock_free.proofs.Names.{nat_tests, fold-append, sum_by-append, Acquired, ReleaseState, Locked, Unlocked}
+use Rattle.lock_free.proofs.Names.{◌≡◌, ⊎_elim, ℕ, ◌+◌, ◌<◌, ◌≤◌, ◌==◌, Bool, true, false, Some, None, Ok}
+use Rattle.lock_free.proofs.Names.{List, [], ◌∷◌, ◌++◌, refl, sym, ap, subst, ◌∙◌, append_assoc, arith, cases_lt}
+use Rattle.lock_free.proofs.Names.{nat_tests, sum_by-append, Acquired, ReleaseState, Locked, Unlocked}
 use Rattle.lock_free.proofs.Names.{Answer, Index, NoIndex, State, Number, Truth, Event, Begun, Claimed, Freed, Finished}
 use Rattle.lock_free.proofs.Names.{Indices, one_word, IsAll, View, claims, frees, Holds, IsHistory, IsOfParties, Called}
-use Rattle.lock_free.proofs.Names.{IsBeginning, takes_index, gives_index, given_by, gives_or_locks, counts_out}
-use Rattle.lock_free.proofs.Names.{looks_locked, events_by, Calling, Ends, joined_view, Looks, held_by, holds_once}
+use Rattle.lock_free.proofs.Names.{takes_index, gives_index, given_by, gives_or_locks, counts_out}
+use Rattle.lock_free.proofs.Names.{looks_locked, Calling, Ends, joined_view, Looks, held_by, holds_once}
 use Rattle.std.proofs.Common.{sum_by}
 use Rattle.steps.specs.declared.indices.enums.ReleaseMode.TheVariants as modes
 use Rattle.steps.specs.declared.indices.enums.UniqueIndexSetAcquireFailure.TheVariants.{OutOfIndices}
-use Rattle.model.specs.declared.event.Event.TheVariants.{Locked as Shut}
 use Rattle.model.specs.declared.families.indices.IndexStart.{IndexStart}
 use Rattle.model.specs.declared.families.indices.IndexStart.TheVariants.{Acquire, Release, BorrowedIndices, IsLocked}
 use Rattle.model.specs.declared.turn.Kind.TheVariants as kinds
@@ -20,33 +19,18 @@ use Rattle.model.specs.Promises.{IsKeptBy}
 use Rattle.model.specs.Promises.Families.{promise_of}
 use Rattle.model.specs.Promises.Spans.{Stands}
 use Rattle.laws_indices.proofs.Sound.{kept_on, reached_on_sound}
-use Rattle.model.specs.Families.Indices.Reading.{holder_of, locked_after, is_locked}
-use Rattle.model.specs.Reading.{whose, is_party, Span, Never, Open, Ended, span_of}
+use Rattle.model.specs.Families.Indices.Reading.{holder_of, is_locked}
+use Rattle.model.specs.Reading.{Span, Never, Open, Ended, span_of}
 use Rattle.history.specs.Indices.{claimed_by}
 use Rattle.history.proofs.Indices.{is_index_set}
+use Rattle.history.proofs.Locks.{not_locked}
+use Rattle.history.proofs.OneHolder.{first_wrote}
 use Rattle.lock_free.specs.Unique.Held.{HoldsNothing, IsSound}
 use Rattle.lock_free.proofs.Ends.{has_made}
 use Rattle.lock_free.proofs.Unique.Machine.{holds_right, none_held, held_within}
 use Rattle.lock_free.specs.UniqueIndexSet.{SetId, set_of, view, history, SamePass}
 use Rattle.lock_free.specs.declared.mpmc.unique_index_set.Pass.{Pass}
 use Rattle.lock_free.specs.Unique.Contracts.{HasTaken, HasGiven, HasGivenOrLocked, HasCounted, HasLooked, WasFree, Answered}
-
--- an event of the party stands somewhere
-find_own : (p : ℕ) (xs es : List (Event ℕ)) (e : Event ℕ) → events_by p xs ≡ e ∷ es → (ls : List (Event ℕ)) × (rs : List (Event ℕ)) × (xs ≡ ls ++ e ∷ rs)
-find_own p [] es e is = absurd (cc)
-find_own p (x ∷ xs) es e is = go (λ rest. find_own p xs es e rest) (is_party p (whose x)) refl
-  where
-    go : (events_by p xs ≡ e ∷ es → (ls : List (Event ℕ)) × (rs : List (Event ℕ)) × (xs ≡ ls ++ e ∷ rs))
-        → (b : Bool) → is_party p (whose x) ≡ b
-        → (ls : List (Event ℕ)) × (rs : List (Event ℕ)) × (x ∷ xs ≡ ls ++ e ∷ rs)
-    go later true t =
-        let here : x ∷ events_by p xs ≡ e ∷ es = rw t at is in
-        let same : x ≡ e = cc in
-        ([], xs, ap (λ z. z ∷ xs) same)
-    go later false t =
-        let rest : events_by p xs ≡ e ∷ es = rw t at is in
-        let more = later rest in
-        (x ∷ more.0, more.1, ap (λ zs. x ∷ zs) more.2)
 
 -- what a pass freed it had claimed, it holds each index once, and none once it has seen the lock
 pub sound : (capacity : ℕ) (v : View ℕ) → v.capacity ≡ capacity → IsHistory one_word kinds.Indices capacity v.seen → IsOfParties v → IsSound v
@@ -84,28 +68,6 @@ sound_same v w size seen made h =
       within = λ i holds. subst (λ n. i < n) (sym size) (h.within i (subst (Holds i) made holds));
       lock = λ shut. subst HoldsNothing (sym made) (h.lock (sym (ap is_locked seen) ∙ shut));
     }
-
--- ---- the lock stays
-
-locked_one : (e : Event ℕ) → locked_after true e ≡ true
-locked_one (Shut p) = refl
-locked_one e = refl
-
-locked_still : (es : List (Event ℕ)) → fold locked_after true es ≡ true
-locked_still [] = refl
-locked_still (e ∷ es) = ap (λ b. fold locked_after b es) (locked_one e) ∙ locked_still es
-
--- who has seen more has seen the lock
-pub lock_stays : {seen events : List (Event ℕ)} → IsBeginning seen events → is_locked seen ≡ true → is_locked events ≡ true
-lock_stays {seen} {events} h shut =
-    ap is_locked h.is ∙ (fold-append locked_after false seen h.rest ∙ (ap (λ b. fold locked_after b h.rest) shut ∙ locked_still h.rest))
-
-pub not_locked : {seen events : List (Event ℕ)} → IsBeginning seen events → is_locked events ≡ false → is_locked seen ≡ false
-not_locked {seen} {events} h unlocked = go (is_locked seen) refl
-  where
-    go : (b : Bool) → is_locked seen ≡ b → is_locked seen ≡ false
-    go true t = let shut = lock_stays h t in absurd (true≢false (sym shut ∙ unlocked))
-    go false t = t
 
 -- ---- calls
 
@@ -181,24 +143,15 @@ module _ (base w : View ℕ) (m : Unit {0}) (idle : base.going ≡ None) where
     free =
         let p = (taken (Ok i) ends).by in
         let c : Called p (Indices Acquire) (Index i) (Claimed p i ∷ []) base w = (taken (Ok i) ends).called in
-        let part = find_own p c.during [] (Claimed p i) c.during_own in
-        let xs : List (Event ℕ) = base.seen ++ c.others in
-        let last : List (Event ℕ) = Finished p (Indices Acquire) (Index i) ∷ [] in
-        let begin : Event ℕ = Begun p (Indices Acquire) in
-        let whole : w.seen ≡ (xs ++ begin ∷ part.0) ++ Claimed p i ∷ (part.1 ++ last) =
-        c.is
-        ∙ (ap (λ ds. xs ++ begin ∷ (ds ++ last)) part.2
-        ∙ (ap (λ zs. xs ++ begin ∷ zs) (append_assoc part.0 (Claimed p i ∷ part.1) last)
-        ∙ sym (append_assoc xs (begin ∷ part.0) (Claimed p i ∷ (part.1 ++ last)))))
-        in
+        let at = first_wrote p (Indices Acquire) (Index i) (Claimed p i) [] base w c in
         let h = ends.history in
-        let right = holds_right base.capacity w.seen h (xs ++ begin ∷ part.0) (part.1 ++ last) (Claimed p i) whole in
+        let right = holds_right base.capacity w.seen h at.before at.after (Claimed p i) at.is in
         record {
           by = p;
-          before = xs ++ begin ∷ part.0;
-          after = part.1 ++ last;
-          is = whole;
-          since = record { rest = c.others ++ begin ∷ part.0; is = append_assoc base.seen c.others (begin ∷ part.0) };
+          before = at.before;
+          after = at.after;
+          is = at.is;
+          since = at.since;
           within = subst (λ n. i < n) (h.run.sized ∙ sym ends.capacity) right.0;
           free = right.1;
           unlocked = right.2;

@@ -11,7 +11,7 @@ use Rattle.steps.specs.declared.indices.enums.ReleaseMode.TheVariants as modes
 use Rattle.model.specs.declared.families.indices.IndexStart.TheVariants.{Acquire, Release, BorrowedIndices, IsLocked}
 use Rattle.model.specs.Families.Indices.Reading.{is_locked}
 use Rattle.lock_free.specs.Unique.Held.{one_if, times, HeldBy, HoldsNothing, IsSound}
-use Rattle.lock_free.proofs.Unique.Facts.{lock_stays, not_locked}
+use Rattle.history.proofs.Locks.{lock_stays, not_locked}
 use Rattle.lock_free.specs.Unique.Contracts.{HasTaken, HasGiven, HasGivenOrLocked, HasCounted, HasLooked, WasFree, Answered}
 use Rattle.lock_free.proofs.Sums.{sum_made}
 

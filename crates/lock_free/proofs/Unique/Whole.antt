@@ -15,7 +15,8 @@ use Rattle.model.specs.Families.Indices.Reading.{is_locked, locked_after, Tally,
 use Rattle.lock_free.specs.Unique.Held.{HeldBy, HoldsNothing, HoldsAll, HoldsSome, IsSound, IsDone}
 use Rattle.lock_free.specs.Unique.Contracts.{HasTaken, HasGiven, HasGivenOrLocked, HasCounted, HasLooked, Answered, HasAcquired, WasRefused}
 use Rattle.lock_free.proofs.Whole.Alone.{still_done}
-use Rattle.lock_free.proofs.Unique.Facts.{lock_stays, not_locked, taken, taken_answered, free, holds, open_still}
+use Rattle.history.proofs.Locks.{lock_stays, not_locked}
+use Rattle.lock_free.proofs.Unique.Facts.{taken, taken_answered, free, holds, open_still}
 use Rattle.lock_free.proofs.Unique.Facts.{given_or_locked, locked_answered, counted, counted_answered, looked_answered}
 use Rattle.lock_free.proofs.Unique.Facts.{sound}
 use Rattle.lock_free.proofs.Unique.Machine.{tally_is, few, none_left, own_few}

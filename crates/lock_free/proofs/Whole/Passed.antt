@@ -28,12 +28,11 @@ use Rattle.model.specs.Turns.{party_at_begin, events_of_answer, events_of_next, 
 use Rattle.model.specs.Turns.{change_of, step_count, number_of}
 use Rattle.model.specs.World.{Trace, opening, flight_in}
 use Rattle.model.proofs.Parties.{party_put_same, party_put_other}
-use Rattle.model.proofs.Reached.{kept_by_runs_on}
+use Rattle.model.proofs.Reached.{kept_by, kept_by_runs_on}
 use Rattle.model.proofs.Rows.{may_begin, row_passed, not_some}
 use Rattle.model.specs.Refusals.{call_refusal}
 use Rattle.model.specs.Turns.{IsReachedOn}
 use Rattle.laws_robust.specs.Open.{IsReachedOpen, open_refusal}
-use Rattle.laws_robust.proofs.OpenTurns.{reached_keeps}
 use Rattle.history.specs.History.{IsReachedAs}
 use Rattle.lock_free.specs.Whole.{begins, ends, IsInside, AllInside}
 use Rattle.lock_free.proofs.Whole.Inside.{step_inside}
@@ -356,7 +355,7 @@ module _ {T : Type 0} where
   counted_on t r = kept_by_runs_on IsCounted (λ u turn e h. turn_counted u turn (free_call u turn e) h) t (opens_counted t) r
 
   counted_open : (t : Trace T) → IsReachedOpen t → IsCounted t
-  counted_open t r = reached_keeps IsCounted (λ u turn e h. turn_counted u turn (free_open u turn e) h) t r (opens_counted t)
+  counted_open t r = kept_by open_refusal IsCounted (λ u turn e h. turn_counted u turn (free_open u turn e) h) t (opens_counted t) r
 
   pub counted_as : (kind : Kind) (t : Trace T) → IsReachedAs kind t → IsCounted t
   counted_as kinds.Robust t r = counted_open t r

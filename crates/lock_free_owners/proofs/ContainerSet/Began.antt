@@ -9,7 +9,8 @@ use Rattle.lock_free_owners.proofs.Names.{opened, called}
 use Rattle.model.specs.declared.turn.Kind.TheVariants as kinds
 use Rattle.lock_free_owners.specs.Container.Contracts.{Answered}
 use Rattle.lock_free_owners.proofs.ContainerSet.Sound.{sound_history}
-use Rattle.lock_free_owners.proofs.RobustSet.Events.{not_locked, covers}
+use Rattle.history.proofs.Locks.{not_locked}
+use Rattle.lock_free_owners.proofs.RobustSet.Events.{covers}
 
 module _ {T : Type 0} (code : Coding T) (base from : View T) (settled : SettledFrom code kinds.Container base from) where
   -- ---- where it began

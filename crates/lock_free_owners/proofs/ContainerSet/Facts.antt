@@ -24,7 +24,9 @@ use Rattle.lock_free_owners.proofs.ContainerSet.Sound.{sound_history}
 use Rattle.lock_free_owners.proofs.ContainerSet.Began.{history_of as began_history, share_from, capacity_from}
 use Rattle.lock_free_owners.proofs.ContainerSet.Began.{idle_from, later, ended_goes, ended_called, ended_answered}
 use Rattle.lock_free_owners.proofs.ContainerSet.Began.{ended_keeps}
-use Rattle.lock_free_owners.proofs.RobustSet.Events.{find_own, lock_stays, not_locked, covers, longer}
+use Rattle.history.proofs.Known.{begins_further}
+use Rattle.history.proofs.Locks.{lock_stays, not_locked}
+use Rattle.lock_free_owners.proofs.RobustSet.Events.{find_own, covers}
 
 module _ {T : Type 0} (code : Coding T) where
   -- ---- what any call leaves
@@ -114,7 +116,7 @@ module _ {T : Type 0} (code : Coding T) where
       open_since once =
           let c = made_call in
           let covered = covers p (Container start) c.during (from.seen ++ c.others) once.part once.rest once.is once.within in
-          not_locked (longer (onward c.others) covered) once.held
+          not_locked (begins_further _ _ _ (onward c.others) covered) once.held
 
   pub last_of : {start : ContainerStart T} {answer : Answer T} {old new : View T} → (a : Answered code start answer old new) → IsBeginning a.before new.seen
   last_of {start} {answer} {old} {new} a = record { rest = Finished a.by (Container start) answer ∷ []; is = a.is }

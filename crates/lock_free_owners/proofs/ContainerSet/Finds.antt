@@ -12,8 +12,8 @@ use Rattle.steps.specs.declared.container.find.FindStage.TheVariants as finds
 use Rattle.threaded.specs.Driver.{Next}
 use Rattle.history.specs.Steps.{TakesAtMost}
 use Rattle.lock_free_owners.specs.Robust.Stages.{says}
-use Rattle.lock_free_owners.specs.Container.Callable.{Visit, TakesVisits, HasFound}
-use Rattle.lock_free_owners.specs.Container.FindContract.{HasSearched}
+use Rattle.lock_free_owners.specs.Container.Callable.{TakesVisits, HasFound}
+use Rattle.lock_free_owners.specs.Container.FindContract.{HasSearched, IsSearched}
 use Rattle.lock_free_owners.specs.Container.Steps.{FindTakes}
 use Rattle.lock_free_owners.specs.Container.FindTurns.{words_in, find_goes, find_copying, FindAt, FindDone, FindGoes, FindTurns, IsAtWord, IsLeft}
 use Rattle.lock_free_owners.specs.Container.FindTurns.{FindPasses, IsWithin, PassesTo, HasPassed, PassesFrom}
@@ -39,13 +39,8 @@ module _ {T F : Type 0} (code : Coding T) (step : F → T → ContainerHandle �
     pub so_far : SoFar step cap owner id f c.stage copies (value_in_room m) p
     pub steps : TakesAtMost (taken_at code.size c.stage) base v
 
-  pub record Over (w : View T) (n : ℕ) (q : F) : Type 0 where
-    pub left : IsLeft code base w
-    pub bound : ℕ
-    pub visits : List (Visit T)
-    pub searched : HasSearched code cap owner n bound visits base w
-    pub found : HasFound step cap (IsNamed cap owner id) f n bound visits q
-    pub steps : FindTakes code cap base w
+  abbrev pub Over : View T → ℕ → F → Type 0
+  Over w n q = IsSearched code step cap owner id n f base w q
 
   abbrev pub Further : View T → After (Find T (Buffer 128)) ℕ → Buffer 128 → F → Type 0
   Further w (GoOn d) m q = Searching w d m q

@@ -6,7 +6,7 @@ use Rattle.model.specs.World.{opening}
 use Rattle.model.specs.declared.families.container.ContainerStart.TheVariants.{UpdateState}
 use Rattle.model.specs.declared.turn.Kind as kinds
 use Rattle.laws_robust.proofs.OpenRuns.{reached_open_more}
-use Rattle.laws_robust.proofs.OpenTurns.{reached_keeps}
+use Rattle.model.proofs.Reached.{kept_by}
 use Rattle.laws_robust.specs.Open.{IsReachedOpen, open_refusal}
 use Rattle.laws_container.proofs.OpenRuns.{reached_open_sound}
 use Rattle.laws_turns.specs.Changes.{changes_of, CountsChanges, MeetsChanges}
@@ -37,14 +37,14 @@ module _ {T : Type 0} where
 
   pub meets_changes_open : (t : Trace T) → t.world.kind ≡ kinds.TheVariants.Container → IsReachedOpen t → Few t → Each MeetsChanges t.events
   meets_changes_open t is r few =
-      ((reached_keeps MetSoFar turn_met t r (
+      ((kept_by open_refusal MetSoFar turn_met t (
         record { coded = r.coded; admitted = r.admitted; turns = []; is = refl },
         λ same _. (
           counts_first t same r,
           subst (λ kind. Extra (opening t.world.coding kind t.world.capacity t.world.parties)) (sym same)
               (first_known t.world.coding t.world.capacity t.world.parties),
         ),
-      )).1 is few).1.right
+      ) r).1 is few).1.right
 
 -- ---- every history
 

@@ -32,7 +32,8 @@ use Rattle.lock_free_owners.specs.Container.Contracts.{Answered}
 use Rattle.lock_free_owners.proofs.ContainerSet.Idle.{rests}
 use Rattle.lock_free_owners.proofs.ContainerSet.Began.{idle_from, seen_is, from_since, ended_goes, ended_called, ended_answered, open_since}
 use Rattle.lock_free_owners.proofs.ContainerSet.Sound.{sound_history}
-use Rattle.lock_free_owners.proofs.RobustSet.Events.{find_own, lock_stays, not_locked, covers}
+use Rattle.history.proofs.Locks.{lock_stays, not_locked}
+use Rattle.lock_free_owners.proofs.RobustSet.Events.{find_own, covers}
 
 module _ {T : Type 0} (code : Coding T) (law : IsCoding code) (given : DeadOwner) where
   pub put_in : (x : Buffer 128) (at word : ℕ) → words_in (kept_at x at word) ≡ slice_set (words_in x) at word

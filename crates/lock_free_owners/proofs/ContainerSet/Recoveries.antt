@@ -13,8 +13,7 @@ use Rattle.threaded.specs.Driver.{Next}
 use Rattle.history.specs.ContainerRecovery.{RecoverIn, Came}
 use Rattle.lock_free_owners.specs.Container.FindTurns.{words_in}
 use Rattle.lock_free_owners.specs.Container.Questions.{TakesValues}
-use Rattle.lock_free_owners.specs.Container.RecoverContract.{HasRecovered}
-use Rattle.lock_free_owners.specs.Container.RecoverTurns.{Visiting, recover_goes, recover_visiting, RecoverAt}
+use Rattle.lock_free_owners.specs.Container.RecoverTurns.{Visiting, IsRecovered, recover_goes, recover_visiting, RecoverAt}
 use Rattle.lock_free_owners.specs.Container.RecoverTurns.{RecoverEnds, RecoverGoes, RecoverTurns, RecoverAsks}
 use Rattle.lock_free_owners.specs.Container.RecoverTurns.{RecoverMoves, RecoverPasses, IsWithin, PassesTo, HasPassed}
 use Rattle.lock_free_owners.specs.Container.RecoverTurns.{PassesFrom}
@@ -39,9 +38,8 @@ module _ {T F : Type 0} (code : Coding T) (step : F → T → Bool → F → Typ
     pub stands : (c.capacity ≡ cap) × RecoverIn code.size cap given.mode c.stage
     pub so_far : SoFar step cap shut given f c.stage visits (value_in_room m) p
 
-  pub record Over (w : View T) (e : ReleaseState) (q : F) : Type 0 where
-    pub ends : (m : Visiting T) × RecoverEnds code given base e m w
-    pub recovered : HasRecovered code step given e cap f q base w
+  abbrev pub Over : View T → ReleaseState → F → Type 0
+  Over w e q = IsRecovered code step given e cap f q base w
 
   abbrev pub Further : View T → After (Recover T (Buffer 128)) ReleaseState → Buffer 128 → F → Type 0
   Further w (GoOn d) m q = Standing w d m q

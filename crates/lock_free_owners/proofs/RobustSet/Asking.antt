@@ -22,7 +22,8 @@ use Rattle.history.specs.Robust.{RecoverIn, Came, HasFreed}
 use Rattle.history.specs.Robust.{VisitsAt, visits_after}
 use Rattle.history.proofs.RobustVisits.{one_more}
 use Rattle.lock_free_owners.specs.Robust.Turns.{RecoverAt}
-use Rattle.lock_free_owners.proofs.RobustSet.Events.{find_own, not_locked, covers}
+use Rattle.history.proofs.Locks.{not_locked}
+use Rattle.lock_free_owners.proofs.RobustSet.Events.{find_own, covers}
 use Rattle.lock_free_owners.proofs.Rules.Robust.Recovering.{IsOpenAt, Knows}
 
 -- ---- which stage asks

@@ -25,7 +25,9 @@ use Rattle.lock_free_owners.specs.Robust.Callable.{HasVisited}
 use Rattle.lock_free_owners.specs.Robust.Steps.{SetTakes, ReleaseTakes, RecoverTakes}
 use Rattle.lock_free_owners.proofs.RobustSet.Asking.{visits_none}
 use Rattle.lock_free_owners.proofs.RobustSet.Sound.{sound_history}
-use Rattle.lock_free_owners.proofs.RobustSet.Events.{find_own, lock_stays, longer, not_locked}
+use Rattle.history.proofs.Known.{begins_further}
+use Rattle.history.proofs.Locks.{lock_stays, not_locked}
+use Rattle.lock_free_owners.proofs.RobustSet.Events.{find_own}
 
 module _ (base w : View ℕ) (h : IsHistory one_word kinds.Robust base.capacity w.seen) where
   sound : IsSound base.capacity w.seen
@@ -249,7 +251,7 @@ looks_after capacity base v w first looks =
     let next = looks_goes capacity v w looks in
     record {
       share = next.share ∙ first.share;
-      since = longer first.since next.since;
+      since = begins_further _ _ _ first.since next.since;
       history = next.history;
       all = next.all;
     }

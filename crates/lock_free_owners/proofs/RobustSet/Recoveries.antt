@@ -38,7 +38,7 @@ module _ {F S : Type 0} (step : F → ℕ → ℕ → Bool → F → Type 0) (te
       record { asked = h.2.questions; told = h.2.calls; owned = well_formed step tell cap shut f s visits h.0 h.1 q y h.2 }
 
   -- the first step
-  pub counter_moves : (call : Recovering) (after : After Recovering ReleaseState) (k : ℕ) → call ≡ first_recover cap → after ≡ recover_after call mode k
+  counter_moves : (call : Recovering) (after : After Recovering ReleaseState) (k : ℕ) → call ≡ first_recover cap → after ≡ recover_after call mode k
       → (p : F) (x : S) → RecoverMoves step tell call mode call.stage k p x after p x
   counter_moves x0 x1 x2 x3 x4 x5 x6 = grind (arith, recover_after)
 
@@ -68,6 +68,20 @@ module _ {F S : Type 0} (step : F → ℕ → ℕ → Bool → F → Type 0) (te
 
     pub moves_to : LedTo step tell cap mode base f s w after q y
     moves_to = led_at after refl
+
+  -- where the first step has led
+  module _ (call : Recovering) (is : call ≡ first_recover cap) (at : RecoverAt mode base base (first_recover cap) []) (w : View ℕ)
+      (after : After Recovering ReleaseState)
+      (goes : (k : ℕ) × (after ≡ recover_after call mode k) × RecoverSteps mode base call k after w) where
+    first_led : LedTo step tell cap mode base f s w after f s
+    first_led =
+        moves_to base w call after goes.0 goes.2 f f s s (stands_first call is at) (counter_moves call after goes.0 is goes.1 f s)
+
+    pub first_on : (next : Recovering) → after ≡ GoOn next → Stands w next f s
+    first_on next e = subst (λ a. LedTo step tell cap mode base f s w a f s) e first_led
+
+    pub first_end : (state : ReleaseState) → after ≡ Done state → Ended w state f s
+    first_end state e = subst (λ a. LedTo step tell cap mode base f s w a f s) e first_led
 
   -- a step that may leave the call as it is, and leaves its visits
   module _ (v w : View ℕ) (call : Recovering) (after : After Recovering ReleaseState) (goes : RecoverGoes mode v call (λ visits. visits) after w)

@@ -1,6 +1,8 @@
 -- What a find of a container adds to the history, and what it answers.
 use Rattle.std.specs.Prelude.{◌≡◌, ◌⊎◌, ℕ, ◌+◌, Option, Some, List, ◌∷◌, ◌++◌, [], map}
 use Rattle.steps.specs.declared.container.find.FindStage as finds
+use Rattle.steps.specs.declared.container.handle.ContainerHandle.{ContainerHandle}
+use Rattle.steps.specs.declared.enums.CallbackProgression.{CallbackProgression}
 use Rattle.model.specs.declared.event.Answer.{Answer}
 use Rattle.model.specs.declared.event.Answer.TheVariants.{Number}
 use Rattle.model.specs.declared.event.Event.{Event}
@@ -19,8 +21,11 @@ use Rattle.history.specs.declared.view.View.{View}
 use Rattle.history.specs.History.{Called}
 use Rattle.history.specs.Known.{events_by}
 use Rattle.history.specs.Settled.{IsResting, SettledFrom}
-use Rattle.lock_free_owners.specs.Container.Callable.{Visit}
+use Rattle.lock_free_owners.specs.Container.Callable.{Visit, HasFound}
 use Rattle.lock_free_owners.specs.Container.Contracts.{Answered}
+use Rattle.lock_free_owners.specs.Container.FindTurns.{IsLeft}
+use Rattle.lock_free_owners.specs.Container.Steps.{FindTakes}
+use Rattle.lock_free_owners.specs.Container.Visits.{IsNamed}
 
 -- what a party writes that copies these
 abbrev pub copied : {T : Type 0} → ℕ → List (Visit T) → List (Event T)
@@ -66,3 +71,14 @@ module _ {T : Type 0} (code : Coding T) where
         × Answered code (Find owner) (Number number) old new × (bound ≡ capacity))
         ⊎ (Rests by (Container (Find owner)) (Number number) (copied by visits) from new
         × (bound ≡ asked_below new.going))
+
+  -- A whole find by a closure whose steps these are, of a container with this number: what it left, copied, counted and
+  -- took, and what the closure made of each copy.
+  pub record IsSearched {F : Type 0} (step : F → T → ContainerHandle → CallbackProgression → F → Type 0)
+      (capacity owner id number : ℕ) (f : F) (old new : View T) (g : F) : Type 0 where
+    pub left : IsLeft code old new
+    pub bound : ℕ
+    pub visits : List (Visit T)
+    pub searched : HasSearched capacity owner number bound visits old new
+    pub found : HasFound step capacity (IsNamed capacity owner id) f number bound visits g
+    pub steps : FindTakes code capacity old new

@@ -18,6 +18,7 @@ use Rattle.history.specs.ContainerRecovery.{Came, recover_visits, recovers_value
 use Rattle.history.specs.Settled.{AtRested, EndsRested}
 use Rattle.history.specs.Stages.{Calling, AtAsked, Ends}
 use Rattle.lock_free_owners.specs.Container.FindTurns.{words_in}
+use Rattle.lock_free_owners.specs.Container.RecoverContract.{HasRecovered}
 
 -- a room, and what was done by way of it with the indices, of which the last comes first
 abbrev pub Visiting : Type 0 → Type 0
@@ -120,3 +121,9 @@ module _ {T R F : Type 0} where
       (yes : Bool) × step f value yes g
       × (after ≡ recover_after size call given (if yes then 1 else 0))
   RecoverMoves step size call given stage value f after g = g ≡ f
+
+-- a whole recovery, and where it leaves the pass
+pub record IsRecovered {T F : Type 0} (code : Coding T) (step : F → T → Bool → F → Type 0) (given : DeadOwner)
+    (state : ReleaseState) (capacity : ℕ) (f last : F) (old new : View T) : Type 0 where
+  pub ends : (m : Visiting T) × RecoverEnds code given old state m new
+  pub recovered : HasRecovered code step given state capacity f last old new

@@ -16,11 +16,12 @@ use Rattle.plain.proofs.Words.{words_all}
 use Rattle.lock_free_queues.specs.Queues.Closes.{Closes, IsWhatWaits}
 use Rattle.lock_free_queues.specs.Queues.Kinds.{words_in_cells}
 use Rattle.lock_free_queues.specs.Queues.Reads.{WasRead, LastWords}
+use Rattle.history.proofs.Known.{begins_further}
 use Rattle.lock_free_queues.proofs.Queues.Cells.{get_behind, item_same, Stands, stands}
 use Rattle.lock_free_queues.proofs.Queues.Facts.{listed_always}
 use Rattle.lock_free_queues.proofs.Queues.Indices.{is_coding}
 use Rattle.lock_free_queues.proofs.Queues.Positions.{get_left, hits_grow}
-use Rattle.lock_free_queues.proofs.Queues.Reads.{begins_further, read_here, write_here, taken_here}
+use Rattle.lock_free_queues.proofs.Queues.Reads.{read_here, write_here, taken_here}
 use Rattle.lock_free_queues.proofs.Queues.Whole.{none_more}
 
 -- ---- lists by their elements

@@ -1,10 +1,11 @@
 -- What is known of whole calls on a queue.
+use Rattle.model.proofs.Readings.{Each-less}
 use Rattle.lock_free_queues.proofs.Names.{◌≡◌, ◌≤◌, inl, inr, ℕ, Bool, true, false, Some, None, List, [], ◌∷◌, ◌++◌}
 use Rattle.lock_free_queues.proofs.Names.{length, refl, sym, ap, subst, ◌∙◌, append_assoc, append-nil, arith, sum_by}
-use Rattle.lock_free_queues.proofs.Names.{◌<◌, flat_map-append, flat_map, Role, Producer, Consumer, ByHolder}
+use Rattle.lock_free_queues.proofs.Names.{◌<◌, flat_map, Role, Producer, Consumer, ByHolder}
 use Rattle.lock_free_queues.proofs.Names.{ByHolderOf, HasRole, marks, release_start}
-use Rattle.lock_free_queues.proofs.Names.{history_by_holders, back_over_of, always_listed, IsListed, IsPlain}
-use Rattle.lock_free_queues.proofs.Names.{ArePlain, history_by_producers, over_listed, GrantsRight, Answer, Truth}
+use Rattle.lock_free_queues.proofs.Names.{history_by_holders, always_listed, IsListed}
+use Rattle.lock_free_queues.proofs.Names.{history_by_producers, over_listed, GrantsRight, Answer, Truth}
 use Rattle.lock_free_queues.proofs.Names.{Event, Begun, Published, HandedOut, Acted, Finished, Index, Start, Queues}
 use Rattle.lock_free_queues.proofs.Names.{Pop, QueueKind, IndexQueue, Overflow, Queue, LengthOf, length_answer}
 use Rattle.lock_free_queues.proofs.Names.{waiting, published, handed_out, Each, View, IsHistory, Called, IsBeginning}
@@ -22,7 +23,8 @@ use Rattle.lock_free_queues.specs.Queues.Contracts.{HasMeasured, HasAcquired, Ha
 use Rattle.model.specs.Families.Queues.Book.{AnswersRight}
 use Rattle.lock_free_queues.specs.Queues.Kinds.{NoneTaken, NoneMarked, most_waiting}
 use Rattle.lock_free_queues.specs.Queues.Contracts.{push_of, popped_item}
-use Rattle.lock_free_queues.proofs.Queues.Wrote.{held, each_left, first_wrote, listed, none_between}
+use Rattle.history.proofs.Holders.{held, one_holder, queue_role}
+use Rattle.history.proofs.OneHolder.{ArePlain, IsPlain, first_wrote, listed, none_looked, none_since, none_to_end}
 
 -- ---- what a history says of itself
 
@@ -99,7 +101,7 @@ module _ {T : Type 0} where
   full_by (Index v) p capacity before h = h
   full_by (Value v) p capacity before h = h
 
-  plain_end : (item : Item T) (p : ℕ) (taken : Bool) → IsPlain p Producer (Finished p (Queues (push_of item)) (Truth taken))
+  plain_end : (item : Item T) (p : ℕ) (taken : Bool) → IsPlain (queue_role Producer) p (Finished p (Queues (push_of item)) (Truth taken))
   plain_end (Index v) p taken = (refl, refl)
   plain_end (Value v) p taken = (refl, refl)
 
@@ -108,7 +110,7 @@ pub published_by : {T : Type 0} (code : Coding T) (kd : QueueKind) (capacity : �
     (p : ℕ) (answer : Answer T) (rest : List (Event T))
     → IsSeen code kd capacity w.seen → IsAlone kd Producer
     → Called p (Queues (push_of item)) answer (Published p item ∷ rest) base w
-    → ArePlain p Producer (rest ++ Finished p (Queues (push_of item)) answer ∷ []) → HasPublished item base w
+    → ArePlain (queue_role Producer) p (rest ++ Finished p (Queues (push_of item)) answer ∷ []) → HasPublished item base w
 published_by code kd capacity base w item p answer rest h alone call plain =
     let at = first_wrote p (Queues (push_of item)) answer (Published p item) rest base w call in
     let all = by_its_holder code capacity w.seen kd Producer alone h in
@@ -119,10 +121,8 @@ published_by code kd capacity base w item p answer rest h alone call plain =
       after = at.after;
       is = at.is;
       since = at.since;
-      next = at.next Producer all holds;
-      list =
-          listed Producer p (Published p item) (rest ++ Finished p (Queues (push_of item)) answer ∷ []) base w at all
-          (grants code kd capacity w.seen h) holds refl plain;
+      next = none_since (queue_role Producer) (one_holder Producer) at all holds;
+      list = listed (queue_role Producer) (one_holder Producer) at all holds (grants code kd capacity w.seen h) refl plain;
     }
 
 -- where a pop answers None nothing waited as it acted
@@ -163,11 +163,11 @@ module _ {T : Type 0} (code : Coding T) (r : Ring) (capacity : ℕ) (base w : Vi
           after = at.after;
           is = at.is;
           since = at.since;
-          next = at.next Producer (marked Producer) holds;
+          next = none_since (queue_role Producer) (one_holder Producer) at (marked Producer) holds;
           full = full_by item p capacity at.before (answers_right code (kind_of r) capacity w.seen h at.before at.after act at.is);
           list =
-              listed Producer p act (Finished p (Queues (push_of item)) (Truth false) ∷ []) base w at (marked Producer)
-              (grants code (kind_of r) capacity w.seen h) holds refl (plain_end item p false, tt)
+              listed (queue_role Producer) (one_holder Producer) at (marked Producer) holds
+              (grants code (kind_of r) capacity w.seen h) refl (plain_end item p false, tt)
               ∙ append-nil (published base.seen);
         }
 
@@ -193,11 +193,11 @@ module _ {T : Type 0} (code : Coding T) (r : Ring) (capacity : ℕ) (base w : Vi
         after = at.after;
         is = at.is;
         since = at.since;
-        next = at.next Consumer (marked Consumer) holds;
+        next = none_since (queue_role Consumer) (one_holder Consumer) at (marked Consumer) holds;
         empty = answers_right code (kind_of r) capacity w.seen h at.before at.after act at.is;
         list =
-            listed Consumer p act (Finished p (Queues Pop) (popped_item None) ∷ []) base w at (marked Consumer)
-            (grants code (kind_of r) capacity w.seen h) holds refl ((refl, refl), tt)
+            listed (queue_role Consumer) (one_holder Consumer) at (marked Consumer) holds
+            (grants code (kind_of r) capacity w.seen h) refl ((refl, refl), tt)
             ∙ append-nil (handed_out base.seen);
       }
 
@@ -214,11 +214,10 @@ module _ {T : Type 0} (code : Coding T) (r : Ring) (capacity : ℕ) (base w : Vi
         after = at.after;
         is = at.is;
         since = at.since;
-        next = at.next Consumer (marked Consumer) holds;
+        next = none_since (queue_role Consumer) (one_holder Consumer) at (marked Consumer) holds;
         list =
-            listed Consumer p (HandedOut p item) (act ∷ Finished p (Queues Pop) (popped_item (Some item)) ∷ []) base w
-            at (marked Consumer) (grants code (kind_of r) capacity w.seen h) holds refl
-            ((refl, refl), ((refl, refl), tt));
+            listed (queue_role Consumer) (one_holder Consumer) at (marked Consumer) holds
+            (grants code (kind_of r) capacity w.seen h) refl ((refl, refl), ((refl, refl), tt));
       }
 
 module _ {T : Type 0} (code : Coding T) (kd : QueueKind) where
@@ -227,17 +226,11 @@ module _ {T : Type 0} (code : Coding T) (kd : QueueKind) where
       → Looks code (machine_kind kd) base.capacity base w → base.other ≡ [] → 0 < base.share.part
       → HasRole role base.made → flat_map (marks role) w.seen ≡ flat_map (marks role) base.seen
   looked_alone role only base w looks alone some has =
-      let m = marks {T = T} role in
       let q = looks.parties in
       let h = looks.history in
       let by = role_by q.owner q.seat role w.seen base.made (grants code kd base.capacity w.seen h) (λ f. ap (sum_by f) (sym looks.made) ∙ q.sums f) has in
-      let rest = looks.mine.rest in
-      let is : w.seen ≡ base.seen ++ rest = looks.mine.is in
-      let back =
-      back_over_of by.0 role base.seen rest
-      (subst (Each (ByHolderOf role)) is (by_its_holder code base.capacity w.seen kd role only h))
-      (looks.apart alone some by.0 by.1) (ap (held role) (sym is) ∙ by.2) in
-      ap (flat_map m) is ∙ (flat_map-append m base.seen rest ∙ (ap (λ zs. flat_map m base.seen ++ zs) back.1 ∙ append-nil (flat_map m base.seen)))
+      none_looked (queue_role role) (one_holder role) by.0 base.seen looks.mine.rest w.seen looks.mine.is
+      (by_its_holder code base.capacity w.seen kd role only h) (looks.apart alone some by.0 by.1) by.2
 
   module _ (base w : View T) (idle : base.going ≡ None) where
     -- ---- lengths
@@ -297,14 +290,10 @@ module _ {T : Type 0} (code : Coding T) (kd : QueueKind) where
         let last : Event T = Finished p start Done in
         let is : w.seen ≡ xs ++ last ∷ [] = c.is ∙ sym (append_assoc (base.seen ++ c.others) (Begun p start ∷ c.during) (last ∷ [])) in
         let holds : held role xs ≡ Some p = held_at role p xs (grants code kd base.capacity w.seen h xs [] last is) in
-        let m = marks {T = T} role in
-        ap (flat_map m) is
-        ∙ (flat_map-append m xs (last ∷ [])
-        ∙ (ap (λ zs. flat_map m xs ++ (zs ++ [])) (no_mark role p)
-        ∙ (append-nil (flat_map m xs)
-        ∙ none_between role p start base.seen c.others c.during
-        (each_left xs (last ∷ []) (subst (Each (ByHolderOf role)) is (by_its_holder code base.capacity w.seen kd role only h)))
-        c.others_own c.during_own holds)))
+        ap (flat_map (marks role)) is
+        ∙ none_to_end (queue_role role) (one_holder role) p start base.seen c.others c.during
+        (Each-less (ByHolderOf role) xs (last ∷ []) (subst (Each (ByHolderOf role)) is (by_its_holder code base.capacity w.seen kd role only h)))
+        c.others_own c.during_own holds last (no_mark role p)
       where
         held_at : (r : Role) (p : ℕ) (xs : List (Event T)) → GrantsRight xs (Finished p (Queues (release_start r)) Done) → held r xs ≡ Some p
         held_at Producer p xs h = h.1

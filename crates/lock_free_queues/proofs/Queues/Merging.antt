@@ -12,9 +12,10 @@ use Rattle.lock_free_queues.specs.Queues.Merges.{HasTaken, HasDrained}
 use Rattle.lock_free_queues.specs.Queues.Overflowing.{GoesOn}
 use Rattle.lock_free_queues.specs.Queues.Sums.{puts, gets}
 use Rattle.lock_free_queues.specs.Queues.Contracts.{HasAcquired, HasSplit, HasJoined}
+use Rattle.history.proofs.Known.{begins_further}
 use Rattle.lock_free_queues.proofs.Queues.Sent.{length_named, only_these}
 use Rattle.lock_free_queues.proofs.Queues.Sums.{done_acquired, whole_counted}
-use Rattle.lock_free_queues.proofs.Queues.TakenOut.{item, same_list, no_longer, grows, pop_lasts, push_lasts, begins_on, seen_later}
+use Rattle.lock_free_queues.proofs.Queues.TakenOut.{item, same_list, no_longer, grows, pop_lasts, push_lasts, seen_later}
 
 -- ---- all that was taken out is a merge of both
 
@@ -105,7 +106,7 @@ module _ (d n : ℕ) (role : Role) (all back came new : List ℕ) (v left right 
   fresh_left = cut.seen ∙ ap (λ (t : View ℕ). t.seen) opens
 
   since : IsBeginning a.seen u.seen
-  since = begins_on (begins_on h.ours goes.since) drain.popped.since
+  since = begins_further _ _ _ (begins_further _ _ _ h.ours goes.since) drain.popped.since
 
   -- how much was pushed, and taken out
   puts_all : sum_by puts u.made ≡ sum_by puts a.made
@@ -151,7 +152,7 @@ module _ (d n : ℕ) (role : Role) (all back came new : List ℕ) (v left right 
 
   in_pops : StandIn (map Index came ++ map Index drain.more) (taken by_pop u.seen)
   in_pops =
-      let on = begins_on h.others goes.since in
+      let on = begins_further _ _ _ h.others goes.since in
       drain.popped.popped (map Index came)
       (subst (λ es. StandIn (map Index came) (taken by_pop es)) (sym on.is)
       (grows by_pop pop_lasts (map Index came) b.seen on.rest (r.popped [] tt)))

@@ -1,22 +1,24 @@
 -- What a push and a pop say once they have ended, on an overflowing queue.
 use Rattle.std.proofs.Common.{arith}
 use Rattle.lock_free_queues.proofs.Names.{◌≡◌, ◌⊎◌, inl, inr, ℕ, Bool, true, false, Option, Some, None, IfSome}
-use Rattle.lock_free_queues.proofs.Names.{IfNone, List, [], ◌∷◌, ◌++◌, refl, sym, ap, subst, ◌∙◌, append_assoc, ◌<◌}
+use Rattle.lock_free_queues.proofs.Names.{IfNone, List, [], ◌∷◌, ◌++◌, refl, sym, ap, subst, ◌∙◌, append_assoc, ◌-◌, ◌^◌, ◌<◌, nat_tests, Ask}
 use Rattle.lock_free_queues.proofs.Names.{option_map, OneWord, PushEnd, Producer, push_answer}
 use Rattle.lock_free_queues.proofs.Names.{PoppedNone, PoppedIndex, Event, Published, HandedOut, Acted, Finished, Item}
 use Rattle.lock_free_queues.proofs.Names.{Index, Queues, Overflow, PushIndex, Pop, Coding, popped, waiting, View}
-use Rattle.lock_free_queues.proofs.Names.{IsHistory, over_push_wrote, pops_over, pop_wrote, HasRole, Ends}
+use Rattle.lock_free_queues.proofs.Names.{IsHistory, over_push_skips, over_push_wrote, pushes_over, pops_over, pop_wrote, HasRole, Ends}
 use Rattle.lock_free_queues.proofs.Names.{Over, called, over_lists_kept}
-use Rattle.steps.specs.Queues.Overflow.{pop_answer}
+use Rattle.steps.specs.declared.ask.Want.TheVariants as wants
+use Rattle.steps.specs.declared.queues.overflow.PushStage as pushes
+use Rattle.steps.specs.Queues.Overflow.{pop_answer, push_asks}
 use Rattle.steps.specs.Queues.Ring as rings
 use Rattle.model.specs.declared.turn.Kind.TheVariants as kinds
-use Rattle.lock_free_queues.specs.Queues.Overflowing.{HasActed, HasOverflowed, PushAdded, PushReplaced, over_push_events, pushes_acted}
+use Rattle.history.specs.Overflow.{HasActed}
+use Rattle.lock_free_queues.specs.Queues.Overflowing.{HasOverflowed, PushAdded, PushReplaced, over_push_events}
 use Rattle.lock_free_queues.specs.Queues.Contracts.{HasPublished, HasPopped, WasAtEnd, popped_item, pop_events, HasTakenFirst, PopOldest, PopFoundNone}
 use Rattle.lock_free_queues.proofs.Queues.Ended.{was_at_end, has_popped, IsPop}
 use Rattle.lock_free_queues.proofs.Queues.Facts.{found_none, published_by}
 use Rattle.lock_free_queues.proofs.Queues.Indices.{in_room}
-use Rattle.lock_free_queues.proofs.Queues.OverPushes.{over_ends_at}
-use Rattle.lock_free_queues.proofs.Queues.Wrote.{find_own, first_wrote}
+use Rattle.history.proofs.OneHolder.{find_own, first_wrote}
 
 module _ {T : Type 0} where
   told_is : (p value : ℕ) (m : OneWord) (e : PushEnd) → HasActed e → over_push_wrote {T = T} p value m.0 e ≡ over_push_events p value (push_answer value m.0 e)
@@ -90,21 +92,26 @@ module _ {T : Type 0} (code : Coding T) (base w : View T) (h : IsHistory code ki
 
 -- ---- how they ended
 
+-- it is left out where its first load finds the last position
+over_ends_at : (capacity value n : ℕ) (a : Ask) (stage : pushes.PushStage) → over_push_skips stage n ≡ true
+    → push_asks capacity stage value ≡ wants.Ask a → (a.word ≡ 0) × (n ≡ 2 ^ 64 - 1)
+over_ends_at x0 x1 x2 x3 x4 x5 x6 = grind (arith, nat_tests)
+
 module _ {T : Type 0} (code : Coding T) (base w : View T) (idle : base.going ≡ None) where
   module _ (value : ℕ) (alone : base.other ≡ []) (some : 0 < base.share.part) (has : HasRole Producer base.made) where
     -- a call of the history, or a look at a queue whose last position is reached
     abbrev pub Pushed : Option ℕ → Type 0
     Pushed back = HasOverflowed value back base w ⊎ (back ≡ Some value) × WasAtEnd base w
 
-    overflowed : (e : PushEnd) (m : OneWord) → Ends code kinds.Overflow (pushes_acted value) base e m w → HasOverflowed value (push_answer value m.0 e) base w
+    overflowed : (e : PushEnd) (m : OneWord) → Ends code kinds.Overflow (pushes_over value) base e m w → HasOverflowed value (push_answer value m.0 e) base w
     overflowed x0 x1 x2 = grind (arith, called, popped, told_is)
 
-    pub over_pushed : (e : PushEnd) (m : OneWord) → Over code kinds.Overflow (pushes_acted value) base e m w → Pushed (push_answer value m.0 e)
+    pub over_pushed : (e : PushEnd) (m : OneWord) → Over code kinds.Overflow (pushes_over value) base e m w → Pushed (push_answer value m.0 e)
     over_pushed e m (inl ends) = inl (overflowed e m ends)
     over_pushed e m (inr left) =
         inr (
           ap (push_answer value m.0) left.left,
-          was_at_end code Overflow base w (pushes_acted value)
+          was_at_end code Overflow base w (pushes_over value)
               (λ c m n a skip asks. over_ends_at c.capacity value n a c.stage skip asks) tt alone some has e m left,
         )
 

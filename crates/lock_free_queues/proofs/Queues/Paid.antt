@@ -9,7 +9,7 @@ use Rattle.model.specs.Progress.{guarantee_of}
 use Rattle.history.specs.Steps.{TakesAtMost, TakesAlone}
 use Rattle.history.proofs.Paid.{AllowsOne, TakesBy, takes, left_takes}
 use Rattle.history.proofs.Queues.{queue_pays}
-use Rattle.lock_free_queues.specs.Queues.Overflowing.{pushes_acted}
+use Rattle.history.specs.Overflow.{pushes_over}
 
 module _ {T : Type 0} (code : Coding T) (kd : QueueKind) (base w : View T) (idle : base.going ≡ None) where
   -- as many as the model says of the call
@@ -71,9 +71,9 @@ module _ {T : Type 0} (code : Coding T) (base w : View T) (idle : base.going ≡
       → TakesAtMost (3 + code.size) base w
   value_pop_takes words_in e m ends = takes_here code Queue base w idle (pops_value code words_in) e m (omega arith) ends
 
-  pub over_push_takes : (v : ℕ) (e : PushEnd) (m : OneWord) → Over code kinds.Overflow (pushes_acted v) base e m w → TakesAtMost 6 base w
-  over_push_takes v e m (inl ends) = takes_here code Overflow base w idle (pushes_acted v) e m (omega arith) ends
-  over_push_takes v e m (inr left) = left_takes code kinds.Overflow (pushes_acted v) base w e m 6 (omega arith) left
+  pub over_push_takes : (v : ℕ) (e : PushEnd) (m : OneWord) → Over code kinds.Overflow (pushes_over v) base e m w → TakesAtMost 6 base w
+  over_push_takes v e m (inl ends) = takes_here code Overflow base w idle (pushes_over v) e m (omega arith) ends
+  over_push_takes v e m (inr left) = left_takes code kinds.Overflow (pushes_over v) base w e m 6 (omega arith) left
 
   pub over_pop_takes : (e : Bool) (m : OneWord) → Ends code kinds.Overflow pops_over base e m w → TakesAlone code kinds.Overflow base.capacity 4 2 base w
   over_pop_takes e m ends = takes_here code Overflow base w idle pops_over e m (omega arith) ends

@@ -1,6 +1,6 @@
 -- What one load of a queue's word tells, and what the loads of all words tell together.
 use Rattle.lock_free_queues.proofs.Names.{◌≡◌, ⊎_elim, ℕ, None, ◌+◌, ◌<◌, ◌≤◌, ◌^◌, List, [], ◌∷◌, ◌++◌, length}
-use Rattle.lock_free_queues.proofs.Names.{set, slice_index, refl, sym, ap, subst, ◌∙◌, append_assoc, append-nil}
+use Rattle.lock_free_queues.proofs.Names.{set, slice_index, refl, sym, ap, subst, ◌∙◌, append-nil}
 use Rattle.lock_free_queues.proofs.Names.{length-set, get_or-set_same, get_or-set_other, arith, cases_lt}
 use Rattle.lock_free_queues.proofs.Names.{Me, Allows, Event, QueueKind, Kind, Coding, IsAll, MissesNothing}
 use Rattle.lock_free_queues.proofs.Names.{publishes, published, handed_out, machine_kind, View, IsBeginning, IsMachine, IsRun, Looks}
@@ -15,16 +15,11 @@ use Rattle.lock_free_queues.specs.Queues.Kinds.{words_in_cells}
 use Rattle.lock_free_queues.specs.Queues.Contracts.{HasLooked}
 use Rattle.lock_free_queues.proofs.Queues.Kinds.{words_long}
 use Rattle.lock_free_queues.specs.Queues.Reads.{WasRead, CellsRead, HasRead, LastWords}
+use Rattle.history.proofs.Known.{begins_further, itself}
 use Rattle.lock_free_queues.proofs.Queues.Positions.{hits_grow}
 use Rattle.lock_free_queues.proofs.Queues.Whole.{none_more}
 
 module _ {T : Type 0} where
-  begins_itself : (es : List (Event T)) → IsBeginning es es
-  begins_itself es = record { rest = []; is = sym (append-nil es) }
-
-  pub begins_further : (xs ys zs : List (Event T)) → IsBeginning xs ys → IsBeginning ys zs → IsBeginning xs zs
-  begins_further x0 x1 x2 x3 x4 = grind (arith, append_assoc)
-
   begins_nothing : (xs : List (Event T)) → IsBeginning xs [] → xs ≡ []
   begins_nothing [] h = refl
   begins_nothing (x ∷ xs) h = (let no : [] ≡ x ∷ (xs ++ h.rest) = h.is in absurd (cc))
@@ -34,7 +29,7 @@ module _ {T : Type 0} where
 
   -- before the first load
   pub not_read : (v : View T) → MissesNothing v → HasRead v v
-  not_read v all = record { share = refl; since = begins_itself v.seen; made = refl; whole = λ x. refl; all = all }
+  not_read v all = record { share = refl; since = itself v.seen; made = refl; whole = λ x. refl; all = all }
 
 module _ {T : Type 0} (code : Coding T) (kd : QueueKind) where
   module _ (capacity word found : ℕ) (v w : View T) (same : v.capacity ≡ capacity)
@@ -57,7 +52,7 @@ module _ {T : Type 0} (code : Coding T) (kd : QueueKind) where
         record {
           trace = l.trace;
           run = run;
-          since = subst (IsBeginning w.seen) l.seen (begins_itself w.seen);
+          since = subst (IsBeginning w.seen) l.seen (itself w.seen);
           until = ends_there;
           found_is = has_word;
         }

@@ -19,7 +19,8 @@ use Rattle.lock_free_queues.proofs.Queues.Sent.{appended_none, appended_more, ap
 use Rattle.lock_free_queues.proofs.Queues.Sums.{done_added, done_replaced, done_popped, done_none, done_acquired, done_released}
 use Rattle.lock_free_queues.proofs.Queues.Sums.{done_then, all_puts}
 use Rattle.lock_free_queues.proofs.Queues.Whole.{all_taken}
-use Rattle.lock_free_queues.proofs.Queues.Wrote.{find_own, first_wrote}
+use Rattle.history.proofs.Known.{begins_further}
+use Rattle.history.proofs.OneHolder.{find_own, first_wrote}
 
 -- the number as an item of a queue
 abbrev pub item : ℕ → Item ℕ
@@ -139,9 +140,6 @@ push_lasts (e ∷ es) ys t = absurd (true≢false (sym t))
 
 -- ---- pops
 
-pub begins_on : {xs ys zs : List (Event ℕ)} → IsBeginning xs ys → IsBeginning ys zs → IsBeginning xs zs
-begins_on {xs} a b = record { rest = a.rest ++ b.rest; is = b.is ∙ (ap (λ es. es ++ b.rest) a.is ∙ append_assoc xs a.rest b.rest) }
-
 pop_wrote : (xs : List ℕ) (x : ℕ) (v w u : View ℕ) → TookOut by_pop xs v w → HasPopped (Some (Index x)) w u → TookOut by_pop (xs ++ x ∷ []) v u
 pop_wrote xs x v w u k h =
     let p = h.by in
@@ -161,7 +159,7 @@ takes_none c role v w goes h =
 pub takes_one : (c : ℕ) (xs : List ℕ) (x : ℕ) (v w u : View ℕ) → HasTaken xs v w → GoesOn c w u → HasPopped (Some (Index x)) w u → HasTaken (xs ++ x ∷ []) v u
 takes_one c xs x v w u k goes h =
     record {
-      since = begins_on k.since goes.since;
+      since = begins_further _ _ _ k.since goes.since;
       popped = pop_wrote xs x v w u k.popped h;
       done = subst (λ n. HasDone 0 n v u) (sym (length-append xs (x ∷ []))) (done_then 0 (length xs) 0 1 v w u k.done (done_popped w u (Index x) h));
       share = goes.share ∙ k.share;
@@ -178,7 +176,7 @@ same_done a b v w u x y =
 takes_same : (c : ℕ) (xs : List ℕ) (v w u : View ℕ) → HasTaken xs v w → GoesOn c w u → HasDone 0 0 w u → HasTaken xs v u
 takes_same c xs v w u k goes done =
     record {
-      since = begins_on k.since goes.since;
+      since = begins_further _ _ _ k.since goes.since;
       popped = took_same by_pop pop_lasts xs v w u k.popped goes.since;
       done = same_done 0 (length xs) v w u k.done done;
       share = goes.share ∙ k.share;

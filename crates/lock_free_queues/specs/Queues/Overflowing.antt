@@ -1,9 +1,5 @@
 -- Which overflowing queue a pass is for, and what it knows of the queue's history; what its pushes and pops say.
 use Rattle.std.specs.Prelude.{◌≡◌, ◌⊎◌, ℕ, Option, Some, None, List, [], ◌∷◌}
-use Rattle.steps.specs.declared.copied.OneWord.{OneWord}
-use Rattle.steps.specs.declared.queues.overflow.Push.{Push}
-use Rattle.steps.specs.declared.queues.overflow.PushEnd.{PushEnd}
-use Rattle.steps.specs.declared.queues.overflow.PushEnd as ends
 use Rattle.model.specs.declared.event.Answer.TheVariants.{PoppedNone, PoppedIndex}
 use Rattle.model.specs.declared.event.Event.{Event}
 use Rattle.model.specs.declared.event.Event.TheVariants.{Published, HandedOut, Acted}
@@ -15,8 +11,6 @@ use Rattle.model.specs.Coding.{one_word}
 use Rattle.model.specs.Families.Queues.Calls.{popped}
 use Rattle.history.specs.declared.view.View.{View}
 use Rattle.history.specs.History.{Called, IsHistory}
-use Rattle.history.specs.Overflow.{over_push_wrote, pushes_over}
-use Rattle.history.specs.Stages.{Calling}
 use Rattle.lock_free_queues.specs.Queues.Contracts.{HasPublished, HasTakenFirst, WasAtEnd}
 pub use Rattle.lock_free_queues.specs.Queues.Rings.{Goes, MissesNothing, QueueId, queue_id, capacity_of, inner}
 pub use Rattle.lock_free_queues.specs.Queues.Rings.{token_queue, token_view, queue_of, producer_queue, consumer_queue}
@@ -67,17 +61,3 @@ module _ {T : Type 0} where
   -- one that handed a number back: the oldest, or its own, where the queue takes none
   abbrev pub PushHandedBack : ℕ → ℕ → ℕ → View T → View T → Type 0
   PushHandedBack capacity value back old new = PushReplaced value back old new ⊎ (back ≡ value) × TookNone capacity old new
-
--- ---- what the steps of a push are driven for
-
--- it ended as a call: where its number comes back to it, it is none
-abbrev pub HasActed : PushEnd → Type 0
-HasActed ends.TheVariants.Own = ⊥
-HasActed end = Unit {0}
-
--- a push that has acted, not one refused at the last position
-abbrev pub pushes_acted : {T : Type 0} → ℕ → Calling T Push OneWord PushEnd
-pushes_acted value =
-    record (pushes_over value) {
-      wrote_all = λ capacity p from e m es. HasActed e × (es ≡ over_push_wrote p value m.0 e);
-    }

@@ -1,14 +1,10 @@
 -- Calls of which each acts once, between its begin and its end and with its answer: in the order in which they act stand all
 -- that are completed, with their answers. No machine is in it.
-use Rattle.std.proofs.Common.{◌≡◌, ◌≢◌, ⊎_elim, ℕ, ◌+◌, ◌≤◌, ◌==◌, Bool, true, false, Option, Some, None, List, [], ◌∷◌, refl, sym, ap, subst, ◌∙◌, arith}
-use Rattle.std.proofs.lemmas.Bool.{cases_eq}
-use Rattle.std.proofs.lemmas.Bool.Decides.{nat_tests}
+use Rattle.model.proofs.Names.{Acted, Answer, Begun, Bool, Call, Event, Finished, List, None, Option, Response, Some}
+use Rattle.model.proofs.Names.{Start, [], ap, arith, cases_eq, false, nat_tests, refl, subst, sym, true, ℕ, ⊎_elim, ◌+◌}
+use Rattle.model.proofs.Names.{◌==◌, ◌∙◌, ◌∷◌, ◌≡◌, ◌≢◌, ◌≤◌}
 use Rattle.std.specs.List.{Contains}
-use Rattle.model.specs.declared.event.Start.{Start}
-use Rattle.model.specs.declared.event.Answer.{Answer}
-use Rattle.model.specs.declared.event.Event.{Event}
-use Rattle.model.specs.declared.event.Event.TheVariants.{Begun, Acted, Finished}
-use Rattle.model.specs.Linearizable.{Response, Call, response_in, calls_from}
+use Rattle.model.specs.Linearizable.{response_in, calls_from}
 use Rattle.model.proofs.Linearizable.Members.{put, put_same, put_other, kept_if, first, later, none_there, split}
 
 -- ---- what is known of a party's call under way: its name and, once it has acted, its answer

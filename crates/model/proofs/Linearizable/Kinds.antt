@@ -1,26 +1,14 @@
 -- What is promised of every run of a queue and of the single value makes it linearizable.
-use Rattle.std.proofs.Common.{arith}
-use Rattle.std.proofs.Common.{◌≡◌, ℕ, true, false, List, [], ◌∷◌, refl}
-use Rattle.model.specs.declared.event.Answer.{Answer}
-use Rattle.model.specs.declared.event.Event.{Event}
-use Rattle.model.specs.declared.event.Item.{Item}
-use Rattle.model.specs.declared.event.Start.{Start}
+use Rattle.model.proofs.Names.{Answer, Coding, Event, IsKept, IsKeptBy, IsLinearizable, Item, Kind, List, QueueKind}
+use Rattle.model.proofs.Names.{Start, Trace, [], arith, false, moments, promise_of, refl, true, ℕ, ◌∷◌, ◌≡◌}
 use Rattle.model.specs.declared.event.Start.TheVariants as starts
-use Rattle.model.specs.declared.families.queues.QueueKind.{QueueKind}
 use Rattle.model.specs.declared.families.queues.QueueKind as queue_kinds
 use Rattle.model.specs.declared.families.queues.QueueStart.TheVariants as queues
-use Rattle.model.specs.declared.turn.Kind.{Kind}
 use Rattle.model.specs.declared.turn.Kind.TheVariants.{IndexQueue, Overflow, Queue, Atomic}
-use Rattle.model.specs.Coding.{Coding}
 use Rattle.model.specs.Families.Atomic.Promises as value_promises
 use Rattle.model.specs.Families.Queues.Objects.{list_of}
 use Rattle.model.specs.Families.Queues.Promises as queue_promises
-use Rattle.model.specs.Linearizable.{IsLinearizable}
 use Rattle.model.specs.Linearized.{is_push_or_pop, as_list, is_store_or_load, as_value, IsLinearized, IsLinearizableRun}
-use Rattle.model.specs.Promises.{IsKeptBy, IsKept}
-use Rattle.model.specs.Promises.Families.{promise_of}
-use Rattle.model.specs.Reading.{moments}
-use Rattle.model.specs.World.{Trace}
 use Rattle.model.proofs.Linearizable.Order.{linearizable}
 use Rattle.model.proofs.Linearizable.Spans.{acts_once}
 

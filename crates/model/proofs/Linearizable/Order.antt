@@ -1,16 +1,11 @@
 -- Calls of which each acts once, between its begin and its end and with its answer, are linearizable where they are legal
 -- in the order in which they act.
-use Rattle.std.proofs.Common.{◌≡◌, ◌≢◌, ⊎_elim, ℕ, ◌+◌, ◌<◌, ◌≤◌, Bool, true, false, Option, Some, None, IfSome, List}
-use Rattle.std.proofs.Common.{[], ◌∷◌, map, refl, sym, ap, subst, ◌∙◌, arith}
-use Rattle.std.proofs.lemmas.Bool.{cases_eq}
+use Rattle.model.proofs.Names.{Acted, Answer, Begun, Bool, Call, Event, Finished, IfSome, IsLegal, IsLinearizable, List}
+use Rattle.model.proofs.Names.{None, Option, Response, Some, Start, [], answers_from, ap, arith, cases_eq, false, map}
+use Rattle.model.proofs.Names.{moments, refl, subst, sym, true, ℕ, ⊎_elim, ◌+◌, ◌<◌, ◌∙◌, ◌∷◌, ◌≡◌, ◌≢◌, ◌≤◌}
 use Rattle.std.specs.List.{Contains}
-use Rattle.model.specs.declared.event.Start.{Start}
-use Rattle.model.specs.declared.event.Answer.{Answer}
-use Rattle.model.specs.declared.event.Event.{Event}
-use Rattle.model.specs.declared.event.Event.TheVariants.{Begun, Acted, Finished}
-use Rattle.model.specs.Linearizable.{Response, Call, response_in, calls_from, calls_of, StandsBefore, Precedes, Specification, IsLinearizable}
-use Rattle.model.specs.Objects.{Object, answers_from, IsLegal}
-use Rattle.model.specs.Reading.{moments}
+use Rattle.model.specs.Linearizable.{response_in, calls_from, calls_of, StandsBefore, Precedes, Specification}
+use Rattle.model.specs.Objects.{Object}
 use Rattle.model.proofs.Linearizable.Acting.{Standing, call_at, entry_at, name_in, acted_clash, none_clash, passed}
 use Rattle.model.proofs.Linearizable.Acting.{response_late, calls_late, ActsOnce, order_in, completed_act}
 use Rattle.model.proofs.Linearizable.Members.{put, put_same, put_other, kept_if, here, there, none_there, split_if}

@@ -1,18 +1,10 @@
 -- Where every event stands right in its party's span, each call acts once, while it is under way, and ends with that answer.
-use Rattle.std.proofs.Common.{arith}
-use Rattle.std.proofs.Common.{◌≡◌, ◌≢◌, ⊎_elim, ℕ, Bool, true, false, Option, Some, None, List, [], ◌∷◌, ◌++◌, refl}
-use Rattle.std.proofs.Common.{sym, ap, subst, ◌∙◌, append_assoc, append-nil}
-use Rattle.std.proofs.lemmas.Bool.{cases_eq}
-use Rattle.std.proofs.lemmas.List.Concat.{flat_map-append}
-use Rattle.std.proofs.lemmas.List.Sums.{fold-append}
-use Rattle.model.specs.declared.event.Answer.{Answer}
-use Rattle.model.specs.declared.event.Event.{Event}
-use Rattle.model.specs.declared.event.Event.TheVariants.{Begun, Acted, Finished}
-use Rattle.model.specs.declared.event.Start.{Start}
-use Rattle.model.specs.Promise.{Promise}
-use Rattle.model.specs.Promises.Spans.{StandsRight}
-use Rattle.model.specs.Reading.{Each, acts, moments, whose, is_party, Span, Never, Open, Ended, longer, ended, own_after, span_after, span_of}
-use Rattle.model.specs.Shape.{IsOpenFor, IsShut}
+use Rattle.model.proofs.Names.{Acted, Answer, Begun, Bool, Each, Ended, Event, Finished, IsShut, List, Never, None}
+use Rattle.model.proofs.Names.{Open, Option, Promise, Some, Span, StandsRight, Start, [], ap, append-nil, append_assoc}
+use Rattle.model.proofs.Names.{arith, cases_eq, false, flat_map-append, fold-append, moments, own_after, refl}
+use Rattle.model.proofs.Names.{span_after, span_of, subst, sym, true, whose, ℕ, ⊎_elim, ◌++◌, ◌∙◌, ◌∷◌, ◌≡◌, ◌≢◌}
+use Rattle.model.specs.Reading.{acts, is_party, longer, ended}
+use Rattle.model.specs.Shape.{IsOpenFor}
 use Rattle.model.proofs.Linearizable.Acting.{Standing, Ends, ActsOnce}
 use Rattle.model.proofs.Linearizable.Members.{put, put_same, put_other}
 use Rattle.model.proofs.Readings.{AreRight, span_of-own, span_of-other}

@@ -1,17 +1,9 @@
 -- What a step of a call shows, by what it comes to, where the words alone are measured.
-use Rattle.std.proofs.Common.{◌≡◌, ◌⊎◌, inl, inr, ⊎_elim, ℕ, ◌+◌, ◌≤◌, ◌==◌, true, Some, List, sym, subst, arith}
-use Rattle.std.proofs.lemmas.List.{set-get_or}
-use Rattle.std.proofs.lemmas.Bool.Decides.{nat_tests}
-use Rattle.steps.specs.declared.ask.After.{After}
-use Rattle.steps.specs.declared.ask.After.TheVariants.{GoOn, Done}
+use Rattle.model.proofs.Names.{After, Answer, Coding, Flight, GoOn, List, Registry, Some, World, after_of, arith}
+use Rattle.model.proofs.Names.{ask_of, goes_of, inl, inr, nat_tests, old_of, set-get_or, step_count, subst, sym, true}
+use Rattle.model.proofs.Names.{want_of, words_after, ℕ, ⊎_elim, ◌+◌, ◌==◌, ◌≡◌, ◌≤◌, ◌⊎◌}
+use Rattle.steps.specs.declared.ask.After.TheVariants.{Done}
 use Rattle.steps.specs.declared.ask.Op.TheVariants.{Load}
-use Rattle.model.specs.declared.event.Answer.{Answer}
-use Rattle.model.specs.declared.families.Flight.{Flight}
-use Rattle.model.specs.Coding.{Coding}
-use Rattle.model.specs.Families.{want_of, ask_of, after_of, goes_of}
-use Rattle.model.specs.Turns.{old_of, words_after, step_count}
-use Rattle.model.specs.declared.families.Registry.{Registry}
-use Rattle.model.specs.World.{World}
 use Rattle.model.proofs.LockFree.Measure.{WordMeasure, of_words, Falls}
 
 pub same_is : (n : ℕ) → (n == n) ≡ true

@@ -1,19 +1,9 @@
 -- The same of a family whose frame holds of every run without a bound of turns: from a measure of its calls it follows that
 -- calls keep ending.
-use Rattle.std.proofs.Common.{◌≡◌, ℕ, ◌≤◌, Bool, true, Option, Some, None, refl, sym, subst, ◌∙◌}
-use Rattle.model.specs.declared.event.Start.{Start}
-use Rattle.model.specs.declared.families.Flight.{Flight}
-use Rattle.model.specs.declared.party.Doing.TheVariants.{Going}
-use Rattle.model.specs.declared.party.Party.{Party}
-use Rattle.model.specs.declared.turn.Kind.{Kind}
-use Rattle.model.specs.declared.turn.Turn.TheVariants.{Begin, Die}
-use Rattle.model.specs.Coding.{Coding}
-use Rattle.model.specs.Families.{want_of, is_question, kept_after_begin, kept_after_death}
-use Rattle.model.specs.LockFree.{Bound, KeepsEnding, AreWithinEnds, IsBelow, stretch, steps_in, ends}
-use Rattle.model.specs.Parties.{party_of}
-use Rattle.model.specs.Refusals.{call_refusal}
-use Rattle.model.specs.Turns.{old_of, number_of, after_turns, IsReachedOn}
-use Rattle.model.specs.World.{Trace, flight_in}
+use Rattle.model.proofs.Names.{AreWithinEnds, Begin, Bool, Bound, Coding, Die, Flight, Going, IsBelow, IsReachedOn}
+use Rattle.model.proofs.Names.{KeepsEnding, Kind, None, Party, Some, Start, Trace, after_turns, call_refusal}
+use Rattle.model.proofs.Names.{ends, flight_in, is_question, kept_after_begin, kept_after_death, number_of, old_of}
+use Rattle.model.proofs.Names.{party_of, refl, steps_in, stretch, subst, sym, true, want_of, ℕ, ◌∙◌, ◌≡◌, ◌≤◌}
 use Rattle.model.proofs.Frame.{Family, Sound}
 use Rattle.model.proofs.LockFree.Measure.{Measure, Owed, Leaves, Harmless, FallsBy, asked}
 use Rattle.model.proofs.LockFree.Stays.{under_way}

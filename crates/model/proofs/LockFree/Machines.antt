@@ -1,24 +1,17 @@
 -- In more steps than the bound a call ends, and the same of the machines as they run, with a number of parties and at most
 -- 2^64 - 2 turns.
-use Rattle.std.proofs.Common.{◌≡◌, ℕ, ◌+◌, ◌<◌, ◌≤◌, ⊎_elim, false, None, List, [], ◌∷◌, refl, sym, subst, ◌∙◌, arith}
+use Rattle.model.proofs.Names.{AllByRecursion, AreAllowed, AreAllowedOn, AreWithinEnds, Begin, Bound, Decide, Die}
+use Rattle.model.proofs.Names.{IsBelow, IsReached, IsReachedOn, KeepsEnding, Kind, List, Next, None, Start, Trace, Turn}
+use Rattle.model.proofs.Names.{World, [], after_turn, after_turns, arith, cases_lt, ends, false, is_loan, nat_tests}
+use Rattle.model.proofs.Names.{refl, refusal_of, steps_in, subst, sym, ℕ, ⊎_elim, ◌+◌, ◌<◌, ◌∙◌, ◌∷◌, ◌≡◌, ◌≤◌}
 use Rattle.std.specs.Prelude.{nat_le}
-use Rattle.std.specs.List.{AllByRecursion}
-use Rattle.std.proofs.lemmas.Bool.{cases_lt}
-use Rattle.std.proofs.lemmas.Bool.Decides.{nat_tests}
-use Rattle.model.specs.declared.event.Start.{Start}
-use Rattle.model.specs.declared.turn.Kind.{Kind}
-use Rattle.model.specs.declared.turn.Turn.{Turn}
-use Rattle.model.specs.declared.turn.Turn.TheVariants.{Begin, Next, Decide, Die}
 use Rattle.model.specs.declared.turn.Refusal.TheVariants.{AtEnd, NoParty}
-use Rattle.model.specs.Families.Loan.Opening.{is_loan}
-use Rattle.model.specs.Refusals.{refusal_of, is_at_end}
-use Rattle.model.specs.Turns.{after_turn, after_turns, AreAllowed, IsReached, IsReachedOn}
-use Rattle.model.specs.World.{World, Trace}
+use Rattle.model.specs.Refusals.{is_at_end}
 use Rattle.model.proofs.Openings.{opened_others}
 use Rattle.model.proofs.Reached.{turn_making, kept_by_runs, reached_on_more, reached_on_opening}
 use Rattle.model.proofs.Rows.{row_passed, passes}
-use Rattle.model.specs.LockFree.{IsBelow, AreAllowedOn, Bound, AreWithinEnds, IsLockFree, KeepsEnding, IsLockFreeOf}
-use Rattle.model.specs.LockFree.{KeepsEndingOf, HasLockFreeRuns, steps_in, ends}
+use Rattle.model.specs.LockFree.{IsLockFree, IsLockFreeOf}
+use Rattle.model.specs.LockFree.{KeepsEndingOf, HasLockFreeRuns}
 use Rattle.model.proofs.LockFree.Measure.{worth}
 
 past_none : (parties p : ℕ) → nat_le parties p ≡ false → p < parties

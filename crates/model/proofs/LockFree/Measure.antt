@@ -1,31 +1,14 @@
 -- From a measure of each call to a bound of the steps between two ends.
-use Rattle.std.proofs.Common.{◌≡◌, ◌≢◌, ℕ, ◌+◌, ◌*◌, ◌-◌, ◌<◌, ◌≤◌, ◌⊎◌, ⊎_elim, Bool, true, Option, Some, None}
-use Rattle.std.proofs.Common.{List, ◌++◌, refl, sym, ap, ◌∙◌, arith}
-use Rattle.std.proofs.lemmas.Bool.{cases_eq}
-use Rattle.std.proofs.lemmas.List.Sums.{sum_by-append}
-use Rattle.steps.specs.declared.ask.Ask.{Ask}
-use Rattle.steps.specs.declared.ask.After.{After}
-use Rattle.steps.specs.declared.ask.After.TheVariants.{GoOn, Done}
-use Rattle.model.specs.declared.event.Answer.{Answer}
-use Rattle.model.specs.declared.event.Event.{Event}
-use Rattle.model.specs.declared.event.Start.{Start}
-use Rattle.model.specs.declared.families.Flight.{Flight}
-use Rattle.model.specs.declared.families.Registry.{Registry}
-use Rattle.model.specs.declared.party.Doing.TheVariants.{Going}
-use Rattle.model.specs.declared.party.Party.{Party}
-use Rattle.model.specs.declared.turn.Turn.{Turn}
-use Rattle.model.specs.declared.turn.Turn.TheVariants.{Begin, Die}
-use Rattle.model.specs.Families.{want_of, ask_of, is_question, kept_after_begin, kept_after_death}
-use Rattle.model.specs.Parties.{party_of, doing_of, flight_of}
-use Rattle.model.specs.Refusals.{call_refusal}
-use Rattle.model.specs.Step.{Step}
-use Rattle.model.specs.Step.{answer_in}
-use Rattle.model.specs.Turns.{change_of, doing_after, old_of, words_after, step_count, number_of, after_step, party_after, step_in}
-use Rattle.model.specs.Turns.{events_of_step, ending_of}
-use Rattle.model.specs.Turns.{after_turn}
-use Rattle.model.specs.World.{World, Trace, flight_in}
+use Rattle.model.proofs.Names.{After, Answer, Ask, Begin, Bool, Die, Flight, GoOn, Going, List, None, Option}
+use Rattle.model.proofs.Names.{Party, Registry, Some, Start, Step, Trace, Turn, World, after_step, after_turn}
+use Rattle.model.proofs.Names.{answer_in, ap, arith, ask_of, call_refusal, cases_eq, change_of, doing_after, doing_of}
+use Rattle.model.proofs.Names.{ending_of, ends, events_of_step, flight_in, flight_of, is_question, kept_after_begin}
+use Rattle.model.proofs.Names.{kept_after_death, number_of, old_of, party_after, party_of, refl, step_count, step_in}
+use Rattle.model.proofs.Names.{stretch, true, want_of, words_after, ℕ, ⊎_elim, ◌*◌, ◌+◌, ◌-◌}
+use Rattle.model.proofs.Names.{◌<◌, ◌∙◌, ◌≡◌, ◌≢◌, ◌≤◌, ◌⊎◌}
+use Rattle.steps.specs.declared.ask.After.TheVariants.{Done}
 use Rattle.model.proofs.Parties.{party_put_same, party_put_other}
-use Rattle.model.specs.LockFree.{end_of, ends, stretch}
+use Rattle.model.proofs.LockFree.Weighed.{ended_more}
 use Rattle.model.proofs.LockFree.Sums.{sum_below, sum_le, sum_falls, sum_rises, sum_most}
 
 -- more of them are worth more
@@ -155,9 +138,6 @@ module _ {T : Type 0} (M : Measure T) where
     few : (ask : Option Ask) → step_count ask ≤ 1
     few None = omega arith
     few (Some ask) = omega arith
-
-    pub ended_more : (xs ys : List (Event T)) → ends (xs ++ ys) ≡ ends xs + ends ys
-    ended_more xs ys = sum_by-append end_of xs ys
 
     -- a call goes on by an answer
     pub resumes : (w : World T) (p : ℕ) (x : Party T) (flight : Flight T) (since answer : ℕ) (ask : Option Ask) → p < n

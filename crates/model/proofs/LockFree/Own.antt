@@ -1,32 +1,19 @@
 -- What holds of the machines of a family of which nothing has to be known but where each call under way may stand: every turn
 -- keeps it, and from a measure of those calls it follows that calls keep ending.
-use Rattle.std.proofs.Common.{◌≡◌, ◌≢◌, ℕ, ◌+◌, ◌≤◌, ⊎_elim, Bool, true, Option, Some, None, List, [], ◌∷◌, refl, sym, subst, ◌∙◌, arith}
-use Rattle.std.proofs.lemmas.Bool.{cases_eq}
-use Rattle.std.specs.List.{AllByRecursion}
-use Rattle.steps.specs.declared.ask.Ask.{Ask}
-use Rattle.steps.specs.declared.ask.After.{After}
-use Rattle.steps.specs.declared.ask.After.TheVariants.{GoOn, Done}
-use Rattle.model.specs.declared.event.Answer.{Answer}
-use Rattle.model.specs.declared.event.Start.{Start}
-use Rattle.model.specs.declared.families.Flight.{Flight}
-use Rattle.model.specs.declared.families.Registry.{Registry}
-use Rattle.model.specs.declared.party.Doing.{Doing}
-use Rattle.model.specs.declared.party.Doing.TheVariants.{Going, Over}
-use Rattle.model.specs.declared.party.Party.{Party}
-use Rattle.model.specs.declared.turn.Kind.{Kind}
-use Rattle.model.specs.declared.turn.Refusal.{Refusal}
-use Rattle.model.specs.declared.turn.Turn.{Turn}
-use Rattle.model.specs.declared.turn.Turn.TheVariants.{Begin, Next, Decide, Die}
-use Rattle.model.specs.Coding.{Coding, IsCoding}
-use Rattle.model.specs.Families.{opening_of, first_of, want_of, ask_of, after_of, goes_of, step_of, beside_of, is_question}
-use Rattle.model.specs.Families.{kept_after_begin, kept_after_death}
-use Rattle.model.specs.LockFree.{Bound, KeepsEnding, KeepsEndingOf, BeginsSuch, AreWithinEnds, IsBelow, stretch, steps_in, ends}
-use Rattle.model.specs.Parties.{party_of, put}
-use Rattle.model.specs.Turns.{change_of, party_after, party_at_begin, step_in, old_of, words_after, step_count, number_of, ask_of_doing}
-use Rattle.model.specs.Turns.{doing_after, after_turn, after_begin, after_next, after_decision, after_answer, after_turns, world_after, IsReachedOn}
-use Rattle.model.specs.Turns.{unless_refused, attempt_on, run_on}
-use Rattle.model.specs.Refusals.{call_refusal}
-use Rattle.model.specs.World.{World, Trace, capacity_error, opening, flight_in}
+use Rattle.model.proofs.Names.{After, AllByRecursion, Answer, AreWithinEnds, Ask, Begin, Bool, Bound, Coding, Decide}
+use Rattle.model.proofs.Names.{Die, Doing, Flight, GoOn, Going, IsBelow, IsCoding, IsReachedOn, KeepsEnding, Kind, List}
+use Rattle.model.proofs.Names.{Next, None, Option, Over, Party, Refusal, Registry, Some, Start, Trace, Turn, World, []}
+use Rattle.model.proofs.Names.{after_answer, after_begin, after_decision, after_next, after_of, after_turn, after_turns}
+use Rattle.model.proofs.Names.{arith, ask_of, ask_of_doing, beside_of, call_refusal, capacity_error, cases_eq}
+use Rattle.model.proofs.Names.{change_of, doing_after, ends, first_of, flight_in, goes_of, is_question}
+use Rattle.model.proofs.Names.{kept_after_begin, kept_after_death, number_of, old_of, opening, opening_of, party_after}
+use Rattle.model.proofs.Names.{party_at_begin, party_of, refl, run_on, step_count, step_in, step_of, steps_in, stretch}
+use Rattle.model.proofs.Names.{subst, sym, true, unless_refused, want_of, words_after, world_after, ℕ, ⊎_elim, ◌+◌, ◌∙◌}
+use Rattle.model.proofs.Names.{◌∷◌, ◌≡◌, ◌≢◌, ◌≤◌}
+use Rattle.steps.specs.declared.ask.After.TheVariants.{Done}
+use Rattle.model.specs.LockFree.{KeepsEndingOf, BeginsSuch}
+use Rattle.model.specs.Parties.{put}
+use Rattle.model.specs.Turns.{attempt_on}
 use Rattle.model.proofs.LockFree.Falls.{falls_by, FallsIn, StepFalls, StepFallsBy}
 use Rattle.model.proofs.LockFree.Measure.{Measure, WordMeasure, of_words, Owed, FallsBy}
 use Rattle.model.proofs.LockFree.Stays.{under_way}

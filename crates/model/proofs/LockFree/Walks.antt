@@ -1,34 +1,21 @@
 -- Every turn, and every list of turns.
-use Rattle.std.proofs.Common.{◌≡◌, ◌≢◌, ℕ, ◌+◌, ◌*◌, ◌<◌, ◌≤◌, ⊎_elim, Bool, true, false, Option, Some, None, is_none}
-use Rattle.std.proofs.Common.{List, [], ◌∷◌, refl, ap, ◌∙◌, arith}
-use Rattle.std.proofs.lemmas.Bool.{cases_eq}
-use Rattle.std.specs.List.{AllByRecursion}
-use Rattle.model.specs.declared.event.Start.{Start}
-use Rattle.model.specs.declared.families.Flight.{Flight}
-use Rattle.model.specs.declared.party.Doing.{Doing}
-use Rattle.model.specs.declared.party.Doing.TheVariants.{Going, Over}
-use Rattle.model.specs.declared.party.Party.{Party}
-use Rattle.model.specs.declared.turn.Turn.{Turn}
-use Rattle.model.specs.declared.turn.Turn.TheVariants.{Begin, Next, Decide, Die}
-use Rattle.model.specs.Families.{first_of, want_of, ask_of, kept_after_begin, kept_after_death}
-use Rattle.model.specs.Parties.{party_of, doing_of, flight_of}
-use Rattle.model.specs.Promises.Turns.{ask_of_flight}
-use Rattle.model.specs.Refusals.{call_refusal, is_due}
-use Rattle.model.specs.Turns.{old_of, step_count, number_of, ask_of_doing, after_begin, after_next, after_decision, after_answer}
-use Rattle.model.specs.Turns.{events_of, events_of_next, events_of_decision, events_of_answer, after_death, world_after, after_turn, after_turns}
-use Rattle.model.specs.World.{World, Trace, flight_in}
+use Rattle.model.proofs.Names.{AllByRecursion, AreAllowedOn, AreWithinEnds, Begin, Bool, Decide, Die, Doing, Flight}
+use Rattle.model.proofs.Names.{Going, IsBelow, List, Next, None, Option, Over, Party, Some, Start, Trace, Turn, World}
+use Rattle.model.proofs.Names.{after_answer, after_begin, after_decision, after_next, after_turn, after_turns, ap}
+use Rattle.model.proofs.Names.{arith, ask_of, ask_of_doing, ask_of_flight, call_refusal, cases_eq, doing_of, ends}
+use Rattle.model.proofs.Names.{events_of, events_of_answer, events_of_decision, events_of_next, false, first_of}
+use Rattle.model.proofs.Names.{flight_in, flight_of, is_due, is_none, kept_after_begin, kept_after_death, number_of}
+use Rattle.model.proofs.Names.{old_of, party_of, refl, step_count, steps_in, true, want_of, world_after, ℕ, ⊎_elim}
+use Rattle.model.proofs.Names.{◌+◌, ◌<◌, ◌∙◌, ◌≡◌, ◌≢◌, ◌≤◌}
+use Rattle.model.specs.Turns.{after_death}
 use Rattle.model.proofs.Frame.{is_true}
 use Rattle.model.proofs.Rows.{may_begin, may_next, may_decide, must_be_due}
-use Rattle.model.specs.LockFree.{ends, steps_of, steps_in, IsBelow, AreAllowedOn, AreWithinEnds}
+use Rattle.model.specs.LockFree.{steps_of}
 use Rattle.model.proofs.LockFree.Measure.{Measure, Harmless, Owed, left_of, pays_of, left_at, pays_at, weight, bound}
-use Rattle.model.proofs.LockFree.Measure.{IsWithin, Shows, at_most, by_left, resumes, ended_more}
+use Rattle.model.proofs.LockFree.Measure.{IsWithin, Shows, at_most, by_left, resumes}
+use Rattle.model.proofs.LockFree.Weighed.{Weighs, runs_end}
 use Rattle.model.proofs.LockFree.Stays.{begun}
 use Rattle.model.proofs.LockFree.Sums.{sum_le}
-
-one_turn_more : (s steps old new last before ended after each : ℕ) → s + new ≤ old + ended * each
-    → steps + last + (before + ended) * each ≤ new + after * each
-    → s + steps + last + before * each ≤ old + after * each
-one_turn_more s steps old new last before ended after each here rest = omega arith
 
 module _ {T : Type 0} (M : Measure T) (P : Trace T → Type 0) (May : Turn T → Type 0) (O : Owed M P May) where
   left_within : (t : Trace T) → P t → (q : ℕ) (o : Option (Flight T)) → flight_in t.world q ≡ o
@@ -152,24 +139,15 @@ module _ {T : Type 0} (M : Measure T) (P : Trace T → Type 0) (May : Turn T →
 
     -- ---- a list of turns
 
-    walks : (t : Trace T) → P t → (turns : List (Turn T)) → AreAllowedOn t turns → AllByRecursion May turns
-        → steps_in t turns + weight M n (after_turns t turns).world + ends t.events * (bound M n + 1)
-        ≤ weight M n t.world + ends (after_turns t turns).events * (bound M n + 1)
-    walks t h [] allowed may = omega arith
-    walks t h (turn ∷ turns) allowed may =
-        let next = O.keeps t turn allowed.0 may.0 h in
-        let here = turn_shows t h turn allowed.0 may.0 (below turn may.0) (within (after_turn t turn) next) in
-        let rest = walks (after_turn t turn) next turns allowed.1 may.1 in
-        let more = ended_more M n t.events (events_of t.world turn) in
-        one_turn_more (steps_of t.world turn) (steps_in (after_turn t turn) turns) (weight M n t.world)
-        (weight M n (world_after t.world turn)) (weight M n (after_turns (after_turn t turn) turns).world)
-        (ends t.events) (ends (events_of t.world turn)) (ends (after_turns (after_turn t turn) turns).events)
-        (bound M n + 1) here (rw more at rest)
+    weighs : Weighs call_refusal May P (weight M n) (bound M n)
+    weighs =
+        record {
+          keeps = O.keeps;
+          most = λ t h. at_most M n t.world (within t h);
+          shows = λ t turn e may h. turn_shows t h turn e may (below turn may) (within (after_turn t turn) (O.keeps t turn e may h));
+        }
 
     -- where k calls more have ended, at most k + 1 times the bound and k steps were taken
     pub calls_end : (t : Trace T) → P t → (turns : List (Turn T)) → AreAllowedOn t turns → AllByRecursion May turns
         → AreWithinEnds (bound M n) (steps_in t turns) (ends t.events) (ends (after_turns t turns).events)
-    calls_end t h turns allowed may =
-        let all = walks t h turns allowed may in
-        let most = at_most M n t.world (within t h) in
-        omega arith
+    calls_end = runs_end call_refusal May P weighs

@@ -17,7 +17,6 @@ use Rattle.steps.specs.declared.ask.Want as wants
 use Rattle.steps.specs.declared.ask.After.{After}
 use Rattle.steps.specs.declared.ask.After.TheVariants.{GoOn, Done}
 use Rattle.steps.specs.declared.indices.unique.ReleaseStage.{ReleaseStage}
-use Rattle.steps.specs.declared.loan.parts.Part.{Part}
 use Rattle.steps.specs.declared.loan.places.Place.{Place}
 use Rattle.steps.specs.declared.loan.reclaim.Reclaim.{Reclaim}
 use Rattle.steps.specs.declared.loan.reclaim.ReclaimStage as reclaims

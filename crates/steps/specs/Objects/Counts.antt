@@ -1,5 +1,5 @@
 -- The counts that a counting bit set is: one for each place, from 0 on.
-use Rattle.std.specs.Prelude.{ℕ, ◌+◌, ◌%◌, ◌^◌, ◌==◌, List, [], ◌∷◌, length, replicate, slice_index, slice_set, if◌then◌else◌}
+use Rattle.std.specs.Prelude.{ℕ, ◌+◌, ◌%◌, ◌^◌, ◌==◌, List, [], ◌∷◌, replicate, slice_index, slice_set, if◌then◌else◌}
 use Rattle.steps.specs.declared.bits.counting_bit_set.BitState.{BitState}
 
 -- one more at this place; a count wraps

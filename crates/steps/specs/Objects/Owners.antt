@@ -1,5 +1,5 @@
 -- The map from index to owner that a robust set of indices is.
-use Rattle.std.specs.Prelude.{◌≡◌, ℕ, ◌+◌, ◌-◌, ◌^◌, ◌<◌, ◌==◌, ◌&&◌, Bool, false, not, Option, Some, None, Result, Ok}
+use Rattle.std.specs.Prelude.{ℕ, ◌+◌, ◌-◌, ◌^◌, ◌==◌, ◌&&◌, Bool, false, not, Option, Some, None, Result, Ok}
 use Rattle.std.specs.Prelude.{Err, List, [], ◌∷◌, length, map, fold, filter, position, replicate, slice_set}
 use Rattle.std.specs.Prelude.{slice_index_or, is_none, ok_or, nat_lt, if◌then◌else◌}
 use Rattle.steps.specs.declared.indices.enums.ReleaseMode.{ReleaseMode}

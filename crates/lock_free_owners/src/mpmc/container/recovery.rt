@@ -19,7 +19,7 @@ ghost use Rattle.threaded.specs.Seats.{seen, table_of, key_of, IsSame};
 ghost use Rattle.lock_free_owners.specs.Robust.Contracts.{FoundState};
 ghost use Rattle.lock_free_owners.specs.Container.Questions.{TakesValues};
 ghost use Rattle.lock_free_owners.specs.Container.RecoverContract.{HasRecovered};
-ghost use Rattle.lock_free_owners.specs.Container.RecoverTurns.{RecoverAt, RecoverEnds, RecoverMay, RecoverGoes};
+ghost use Rattle.lock_free_owners.specs.Container.RecoverTurns.{IsRecovered, RecoverAt, RecoverMay, RecoverGoes};
 ghost use Rattle.lock_free_owners.specs.Container.RecoverTurns.{RecoverTells, RecoverTurns, RecoverAsks, RecoverMoves};
 ghost use Rattle.lock_free_owners.specs.Container.RecoverTurns.{at_cell, RecoverPasses, HasPassed, IsWithin, PassesFrom};
 ghost use Rattle.lock_free_owners.specs.Container.Steps.{RecoverTakes};
@@ -235,9 +235,7 @@ fn free_all<T: Words, F: FnMut(T) -> bool>(
         (λ p x b q. F.step p x b q) capacity predicate.old }
     ensures same { IsSame seat.old seat.new }
     ensures board { IsBoard T.WORDS seat.new }
-    ensures ends { (m : _) × RecoverEnds (coding_of T.WORDS T.words_of T.value_of)
-        (record { owner = owner; mode = mode }) (seen seat.old) result m (seen seat.new) }
-    ensures recovered { HasRecovered (coding_of T.WORDS T.words_of T.value_of) (λ p x b q. F.step p x b q)
+    ensures whole { IsRecovered (coding_of T.WORDS T.words_of T.value_of) (λ p x b q. F.step p x b q)
         (record { owner = owner; mode = mode }) result capacity predicate.old predicate.new (seen seat.old)
         (seen seat.new) }
 {

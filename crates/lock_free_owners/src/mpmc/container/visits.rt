@@ -16,8 +16,8 @@ ghost use Rattle.history.specs.History.{IsMachine};
 ghost use Rattle.history.specs.Passes.{Goes};
 ghost use Rattle.history.specs.Steps.{TakesAtMost};
 ghost use Rattle.lock_free_owners.specs.Container.Callable.{Visit, TakesVisits, HasFound};
-ghost use Rattle.lock_free_owners.specs.Container.FindContract.{HasSearched};
-ghost use Rattle.lock_free_owners.specs.Container.FindTurns.{FindAt, FindMay, FindTells, FindGoes, FindTurns, IsAtWord, IsLeft};
+ghost use Rattle.lock_free_owners.specs.Container.FindContract.{HasSearched, IsSearched};
+ghost use Rattle.lock_free_owners.specs.Container.FindTurns.{FindAt, FindMay, FindTells, FindGoes, FindTurns, IsAtWord};
 ghost use Rattle.lock_free_owners.specs.Container.FindTurns.{at_cell, FindPasses, HasPassed, IsWithin, PassesFrom};
 ghost use Rattle.lock_free_owners.specs.Container.Steps.{FindTakes};
 ghost use Rattle.lock_free_owners.specs.Container.Turns.{IsBoard};
@@ -236,13 +236,8 @@ fn find_all<T: Words, F: FnMut(T, ContainerHandle) -> CallbackProgression>(
         (IsNamed capacity owner id) visit.old }
     ensures same { IsSame seat.old seat.new }
     ensures board { IsBoard T.WORDS seat.new }
-    ensures left { IsLeft (coding_of T.WORDS T.words_of T.value_of) (seen seat.old) (seen seat.new) }
-    ensures found { (visits : List (Visit T)) × (bound : ℕ)
-        × HasSearched (coding_of T.WORDS T.words_of T.value_of) capacity owner result bound visits
-        (seen seat.old) (seen seat.new)
-        × HasFound (λ p x h a q. F.step p x h a q) capacity (IsNamed capacity owner id) visit.old
-        result bound visits visit.new }
-    ensures steps { FindTakes (coding_of T.WORDS T.words_of T.value_of) capacity (seen seat.old) (seen seat.new) }
+    ensures found { IsSearched (coding_of T.WORDS T.words_of T.value_of) (λ p x h a q. F.step p x h a q) capacity owner
+        id result visit.old (seen seat.old) (seen seat.new) visit.new }
 {
     let mut room = Copied { words: [0; 128] };
     let mut call = Find::new(capacity);

@@ -11,11 +11,11 @@ pub struct Pushes;
 
 impl Drives<View<u64>, Push> for Pushes {
     ghost use Rattle.history.specs.Stages.{At, Over};
-    ghost use Rattle.lock_free_queues.specs.Queues.Overflowing.{pushes_acted};
+    ghost use Rattle.history.specs.Overflow.{pushes_over};
 
-    ghost at = { λ v. At one_word kinds.Overflow (pushes_acted v) };
+    ghost at = { λ v. At one_word kinds.Overflow (pushes_over v) };
 
-    ghost ends = { λ v. Over one_word kinds.Overflow (pushes_acted v) };
+    ghost ends = { λ v. Over one_word kinds.Overflow (pushes_over v) };
 }
 
 /// Popping.

@@ -1,5 +1,5 @@
 use Rattle.std.proofs.Common.{◌∙◌, sym}
-use Rattle.steps.proofs.Places.{found_here, goes_further, none_left}
+use Rattle.steps.proofs.Places.{found_here, goes_further}
 use Rattle.steps.proofs.loan.places.next_sent.Goals as goal
 
 pub slots-preserved : goal.slots-preserved

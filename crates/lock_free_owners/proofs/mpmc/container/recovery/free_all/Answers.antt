@@ -83,8 +83,8 @@ loop-preserved g c =
           (seen called.new.seat) called.result called.new.room called.new.predicate called.ensures.turns called.ensures.moves),
     )
 
-pub returns-in-Done-clause-ends : goal.returns-in-Done-clause-ends
-returns-in-Done-clause-ends g c =
+pub returns-in-Done-clause-whole : goal.returns-in-Done-clause-whole
+returns-in-Done-clause-whole g c =
     let met = g.met.T.Words in
     let code : Coding g.row.T.Denot = coding_of g.T.Words.WORDS g.T.Words.words_of g.T.Words.value_of in
     let law : IsCoding code = record { some = met.some; few = met.few; sized = met.sized; given_back = met.given_back } in
@@ -97,32 +97,10 @@ returns-in-Done-clause-ends g c =
     (seen c.loop.seat) (seen passed.new.seat) c.loop.call passed.result c.loop.room c.loop.predicate c.loop.invariant.2
     passed.ensures.goes passed.ensures.passed in
     let called = c.recover_next-after in
-    (subst (λ a. Further code (λ p x b q. given.F-step g p x b q) c.args.capacity (record { owner = c.args.owner; mode = c.args.mode })
+    subst (λ a. Further code (λ p x b q. given.F-step g p x b q) c.args.capacity (record { owner = c.args.owner; mode = c.args.mode })
     (seen c.args.seat.now) c.args.predicate.now
     (seen called.new.seat) a called.new.room called.new.predicate) c.in-Done.is
     (further code (λ p x b q. given.F-step g p x b q) c.args.capacity (record { owner = c.args.owner; mode = c.args.mode })
     (seen c.args.seat.now) c.args.predicate.now law
     (seen passed.new.seat) passed.result c.loop.room c.loop.predicate there
-    (seen called.new.seat) called.result called.new.room called.new.predicate called.ensures.turns called.ensures.moves)).ends
-
-pub returns-in-Done-clause-recovered : goal.returns-in-Done-clause-recovered
-returns-in-Done-clause-recovered g c =
-    let met = g.met.T.Words in
-    let code : Coding g.row.T.Denot = coding_of g.T.Words.WORDS g.T.Words.words_of g.T.Words.value_of in
-    let law : IsCoding code = record { some = met.some; few = met.few; sized = met.sized; given_back = met.given_back } in
-    let passed = c.pass_others-passed in
-    let there : Standing code (λ p x b q. given.F-step g p x b q) c.args.capacity (record { owner = c.args.owner; mode = c.args.mode })
-    (seen c.args.seat.now) c.args.predicate.now
-    (seen passed.new.seat) passed.result c.loop.room c.loop.predicate =
-    passed_on code (λ p x b q. given.F-step g p x b q) c.args.capacity (record { owner = c.args.owner; mode = c.args.mode })
-    (seen c.args.seat.now) c.args.predicate.now
-    (seen c.loop.seat) (seen passed.new.seat) c.loop.call passed.result c.loop.room c.loop.predicate c.loop.invariant.2
-    passed.ensures.goes passed.ensures.passed in
-    let called = c.recover_next-after in
-    (subst (λ a. Further code (λ p x b q. given.F-step g p x b q) c.args.capacity (record { owner = c.args.owner; mode = c.args.mode })
-    (seen c.args.seat.now) c.args.predicate.now
-    (seen called.new.seat) a called.new.room called.new.predicate) c.in-Done.is
-    (further code (λ p x b q. given.F-step g p x b q) c.args.capacity (record { owner = c.args.owner; mode = c.args.mode })
-    (seen c.args.seat.now) c.args.predicate.now law
-    (seen passed.new.seat) passed.result c.loop.room c.loop.predicate there
-    (seen called.new.seat) called.result called.new.room called.new.predicate called.ensures.turns called.ensures.moves)).recovered
+    (seen called.new.seat) called.result called.new.room called.new.predicate called.ensures.turns called.ensures.moves)

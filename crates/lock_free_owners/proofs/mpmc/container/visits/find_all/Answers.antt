@@ -1,6 +1,6 @@
 use Rattle.lock_free_owners.proofs.Names.{◌<◌, ◌^◌, rules, refl, sym, subst, ◌∙◌, Coding, IsCoding, coding_of}
 use Rattle.lock_free_owners.proofs.Names.{GoOn, Done, fresh_cell, seen}
-use Rattle.lock_free_owners.proofs.ContainerSet.Finds.{Over, Further, starts, further, may_go, may_pass, passed_on}
+use Rattle.lock_free_owners.proofs.ContainerSet.Finds.{Further, starts, further, may_go, may_pass, passed_on}
 use Rattle.lock_free_owners.proofs.mpmc.container.visits.find_all.Goals as goal
 use Rattle.lock_free_owners.proofs.mpmc.container.visits.find_all.Given as given
 
@@ -85,43 +85,6 @@ loop-next-preserved g c =
           (seen called.new.seat) called.result called.new.room called.new.visit called.ensures.turns called.ensures.moves),
     )
 
-pub returns-in-Done-after-clause-left : goal.returns-in-Done-after-clause-left
-returns-in-Done-after-clause-left g c =
-    let met = g.met.T.Words in
-    let code : Coding g.row.T.Denot = coding_of g.T.Words.WORDS g.T.Words.words_of g.T.Words.value_of in
-    let law : IsCoding code = record { some = met.some; few = met.few; sized = met.sized; given_back = met.given_back } in
-    let small : c.args.capacity < 2 ^ 32 = search rules in
-    let passed = c.pass_others-passed in
-    let there =
-    passed_on code (λ p x h a q. given.F-step g p x h a q) c.args.capacity c.args.owner c.args.id
-    (seen c.args.seat.now) c.args.visit.now law small (sym c.requires.known)
-    (seen c.loop-next.seat) c.loop-next.call c.loop-next.room c.loop-next.visit c.loop-next.invariant.2
-    (seen passed.new.seat) passed.result passed.ensures.goes (GoOn c.in-GoOn.next) c.in-GoOn.is passed.ensures.passed in
-    let called = c.find_next-after in
-    let over : Over code (λ p x h a q. given.F-step g p x h a q) c.args.capacity c.args.owner c.args.id (seen c.args.seat.now) c.args.visit.now
-    (seen called.new.seat) c.in-Done-after.found called.new.visit
-    = subst (λ a. Further code (λ p x h a q. given.F-step g p x h a q) c.args.capacity c.args.owner c.args.id (seen c.args.seat.now) c.args.visit.now
-    (seen called.new.seat) a called.new.room called.new.visit) c.in-Done-after.is
-    (further code (λ p x h a q. given.F-step g p x h a q) c.args.capacity c.args.owner c.args.id
-    (seen c.args.seat.now) c.args.visit.now law small (sym c.requires.known)
-    (seen passed.new.seat) c.in-GoOn.next c.loop-next.room c.loop-next.visit there
-    (seen called.new.seat) called.result called.new.room called.new.visit called.ensures.turns called.ensures.moves) in
-    over.left
-
-pub returns-in-Done-clause-left : goal.returns-in-Done-clause-left
-returns-in-Done-clause-left g c =
-    let met = g.met.T.Words in
-    let code : Coding g.row.T.Denot = coding_of g.T.Words.WORDS g.T.Words.words_of g.T.Words.value_of in
-    let law : IsCoding code = record { some = met.some; few = met.few; sized = met.sized; given_back = met.given_back } in
-    let small : c.args.capacity < 2 ^ 32 = search rules in
-    let passed = c.pass_others-passed in
-    let over =
-    passed_on code (λ p x h a q. given.F-step g p x h a q) c.args.capacity c.args.owner c.args.id
-    (seen c.args.seat.now) c.args.visit.now law small (sym c.requires.known)
-    (seen c.loop-next.seat) c.loop-next.call c.loop-next.room c.loop-next.visit c.loop-next.invariant.2
-    (seen passed.new.seat) passed.result passed.ensures.goes (Done c.in-Done.found) c.in-Done.is passed.ensures.passed in
-    over.left
-
 pub returns-in-Done-after-clause-found : goal.returns-in-Done-after-clause-found
 returns-in-Done-after-clause-found g c =
     let met = g.met.T.Words in
@@ -135,15 +98,12 @@ returns-in-Done-after-clause-found g c =
     (seen c.loop-next.seat) c.loop-next.call c.loop-next.room c.loop-next.visit c.loop-next.invariant.2
     (seen passed.new.seat) passed.result passed.ensures.goes (GoOn c.in-GoOn.next) c.in-GoOn.is passed.ensures.passed in
     let called = c.find_next-after in
-    let over : Over code (λ p x h a q. given.F-step g p x h a q) c.args.capacity c.args.owner c.args.id (seen c.args.seat.now) c.args.visit.now
-    (seen called.new.seat) c.in-Done-after.found called.new.visit
-    = subst (λ a. Further code (λ p x h a q. given.F-step g p x h a q) c.args.capacity c.args.owner c.args.id (seen c.args.seat.now) c.args.visit.now
+    subst (λ a. Further code (λ p x h a q. given.F-step g p x h a q) c.args.capacity c.args.owner c.args.id (seen c.args.seat.now) c.args.visit.now
     (seen called.new.seat) a called.new.room called.new.visit) c.in-Done-after.is
     (further code (λ p x h a q. given.F-step g p x h a q) c.args.capacity c.args.owner c.args.id
     (seen c.args.seat.now) c.args.visit.now law small (sym c.requires.known)
     (seen passed.new.seat) c.in-GoOn.next c.loop-next.room c.loop-next.visit there
-    (seen called.new.seat) called.result called.new.room called.new.visit called.ensures.turns called.ensures.moves) in
-    (over.visits, over.bound, over.searched, over.found)
+    (seen called.new.seat) called.result called.new.room called.new.visit called.ensures.turns called.ensures.moves)
 
 pub returns-in-Done-clause-found : goal.returns-in-Done-clause-found
 returns-in-Done-clause-found g c =
@@ -152,46 +112,7 @@ returns-in-Done-clause-found g c =
     let law : IsCoding code = record { some = met.some; few = met.few; sized = met.sized; given_back = met.given_back } in
     let small : c.args.capacity < 2 ^ 32 = search rules in
     let passed = c.pass_others-passed in
-    let over =
     passed_on code (λ p x h a q. given.F-step g p x h a q) c.args.capacity c.args.owner c.args.id
     (seen c.args.seat.now) c.args.visit.now law small (sym c.requires.known)
     (seen c.loop-next.seat) c.loop-next.call c.loop-next.room c.loop-next.visit c.loop-next.invariant.2
-    (seen passed.new.seat) passed.result passed.ensures.goes (Done c.in-Done.found) c.in-Done.is passed.ensures.passed in
-    (over.visits, over.bound, over.searched, over.found)
-
-pub returns-in-Done-after-clause-steps : goal.returns-in-Done-after-clause-steps
-returns-in-Done-after-clause-steps g c =
-    let met = g.met.T.Words in
-    let code : Coding g.row.T.Denot = coding_of g.T.Words.WORDS g.T.Words.words_of g.T.Words.value_of in
-    let law : IsCoding code = record { some = met.some; few = met.few; sized = met.sized; given_back = met.given_back } in
-    let small : c.args.capacity < 2 ^ 32 = search rules in
-    let passed = c.pass_others-passed in
-    let there =
-    passed_on code (λ p x h a q. given.F-step g p x h a q) c.args.capacity c.args.owner c.args.id
-    (seen c.args.seat.now) c.args.visit.now law small (sym c.requires.known)
-    (seen c.loop-next.seat) c.loop-next.call c.loop-next.room c.loop-next.visit c.loop-next.invariant.2
-    (seen passed.new.seat) passed.result passed.ensures.goes (GoOn c.in-GoOn.next) c.in-GoOn.is passed.ensures.passed in
-    let called = c.find_next-after in
-    let over : Over code (λ p x h a q. given.F-step g p x h a q) c.args.capacity c.args.owner c.args.id (seen c.args.seat.now) c.args.visit.now
-    (seen called.new.seat) c.in-Done-after.found called.new.visit
-    = subst (λ a. Further code (λ p x h a q. given.F-step g p x h a q) c.args.capacity c.args.owner c.args.id (seen c.args.seat.now) c.args.visit.now
-    (seen called.new.seat) a called.new.room called.new.visit) c.in-Done-after.is
-    (further code (λ p x h a q. given.F-step g p x h a q) c.args.capacity c.args.owner c.args.id
-    (seen c.args.seat.now) c.args.visit.now law small (sym c.requires.known)
-    (seen passed.new.seat) c.in-GoOn.next c.loop-next.room c.loop-next.visit there
-    (seen called.new.seat) called.result called.new.room called.new.visit called.ensures.turns called.ensures.moves) in
-    over.steps
-
-pub returns-in-Done-clause-steps : goal.returns-in-Done-clause-steps
-returns-in-Done-clause-steps g c =
-    let met = g.met.T.Words in
-    let code : Coding g.row.T.Denot = coding_of g.T.Words.WORDS g.T.Words.words_of g.T.Words.value_of in
-    let law : IsCoding code = record { some = met.some; few = met.few; sized = met.sized; given_back = met.given_back } in
-    let small : c.args.capacity < 2 ^ 32 = search rules in
-    let passed = c.pass_others-passed in
-    let over =
-    passed_on code (λ p x h a q. given.F-step g p x h a q) c.args.capacity c.args.owner c.args.id
-    (seen c.args.seat.now) c.args.visit.now law small (sym c.requires.known)
-    (seen c.loop-next.seat) c.loop-next.call c.loop-next.room c.loop-next.visit c.loop-next.invariant.2
-    (seen passed.new.seat) passed.result passed.ensures.goes (Done c.in-Done.found) c.in-Done.is passed.ensures.passed in
-    over.steps
+    (seen passed.new.seat) passed.result passed.ensures.goes (Done c.in-Done.found) c.in-Done.is passed.ensures.passed

@@ -2,23 +2,24 @@ use Rattle.lock_free_queues.proofs.Names.{rules, ◌≡◌, ◌<◌, ◌^◌, �
 use Rattle.lock_free_queues.proofs.Names.{push_answer, one_word, At, Goes}
 use Rattle.steps.specs.Queues.Overflow.{first_push}
 use Rattle.model.specs.declared.turn.Kind.TheVariants as kinds
-use Rattle.lock_free_queues.specs.Queues.Overflowing.{token_view, pushes_acted, PushAdded, PushReplaced}
+use Rattle.history.specs.Overflow.{pushes_over}
+use Rattle.history.proofs.OverflowCalls.{over_push_first, over_push_keeps}
+use Rattle.lock_free_queues.specs.Queues.Overflowing.{token_view, PushAdded, PushReplaced}
 use Rattle.lock_free_queues.specs.Queues.Contracts.{WasAtEnd}
 use Rattle.lock_free_queues.proofs.Queues.Facts.{goes_over}
 use Rattle.lock_free_queues.proofs.Queues.OverEnded.{over_pushed, over_none, over_some}
-use Rattle.lock_free_queues.proofs.Queues.OverPushes.{acted_keeps, acted_first}
 use Rattle.lock_free_queues.proofs.Queues.Paid.{over_push_takes}
 use Rattle.lock_free_queues.proofs.spsc.safely_overflowing_index_queue.calls.Held+Overflowing+u64+RingRule+Overflowing+u64.push.Goals as goal
 
 pub drive-end-requires-clause-rule : goal.drive-end-requires-clause-rule
-drive-end-requires-clause-rule c base v call m key = acted_keeps one_word c.args.value base v call m key.capacity
+drive-end-requires-clause-rule c base v call m key = over_push_keeps one_word c.args.value base v call m key.capacity
 
 pub drive-end-requires-clause-at : goal.drive-end-requires-clause-at
 drive-end-requires-clause-at c =
     let mine = c.args.self.now in
     let v = token_view mine in
-    subst (λ call. At one_word kinds.Overflow (pushes_acted c.args.value) v v call (record { 0 = 0 })) (ap first_push mine.known ∙ sym c.new-call.ensures)
-    (acted_first one_word c.args.value v mine.idle mine.alone mine.some.0
+    subst (λ call. At one_word kinds.Overflow (pushes_over c.args.value) v v call (record { 0 = 0 })) (ap first_push mine.known ∙ sym c.new-call.ensures)
+    (over_push_first one_word c.args.value v mine.idle mine.alone mine.some.0
     (subst (λ n. 0 < n) (sym mine.known) c.requires.some) (subst (λ n. n < 2 ^ 32) (sym mine.known) mine.small)
     c.requires.role)
 
@@ -31,7 +32,7 @@ returns-clause-same c =
       queue = search rules;
       goes =
           subst (λ n. Goes one_word kinds.Overflow n v w) mine.known
-          (goes_over one_word kinds.Overflow (pushes_acted c.args.value) v w c.drive-end.result c.drive-end.new.room
+          (goes_over one_word kinds.Overflow (pushes_over c.args.value) v w c.drive-end.result c.drive-end.new.room
           c.drive-end.ensures.end);
     }
 
@@ -42,7 +43,7 @@ returns-clause-added c =
     let x = token_view mine in
     let w = c.drive-end.new.self.seat.me.0 in
     let o = push_answer v c.drive-end.new.room.0 c.drive-end.result in
-    let goes = goes_over one_word kinds.Overflow (pushes_acted v) x w c.drive-end.result c.drive-end.new.room c.drive-end.ensures.end in
+    let goes = goes_over one_word kinds.Overflow (pushes_over v) x w c.drive-end.result c.drive-end.new.room c.drive-end.ensures.end in
     subst (λ z. IfNone z (PushAdded v x w)) (sym c.answer.ensures)
     (over_none one_word x w mine.idle v goes.history o
     (over_pushed one_word x w mine.idle v mine.alone mine.some.0 c.requires.role c.drive-end.result
@@ -55,7 +56,7 @@ returns-clause-handed_back c =
     let x = token_view mine in
     let w = c.drive-end.new.self.seat.me.0 in
     let o = push_answer v c.drive-end.new.room.0 c.drive-end.result in
-    let goes = goes_over one_word kinds.Overflow (pushes_acted v) x w c.drive-end.result c.drive-end.new.room c.drive-end.ensures.end in
+    let goes = goes_over one_word kinds.Overflow (pushes_over v) x w c.drive-end.result c.drive-end.new.room c.drive-end.ensures.end in
     subst (λ z. IfSome z (λ y. PushReplaced v y x w ⊎ (y ≡ v) × WasAtEnd x w)) (sym c.answer.ensures)
     (over_some one_word x w mine.idle v goes.history o
     (over_pushed one_word x w mine.idle v mine.alone mine.some.0 c.requires.role c.drive-end.result

@@ -1,0 +1,224 @@
+-- A role that one party at a time holds, of any structure: while a party holds it nobody else writes what its holder
+-- writes. And where an event that a call wrote stands in the history.
+use Rattle.history.proofs.Names.{Each-less, ◌≡◌, ℕ, ◌==◌, Bool, true, false, Option, Some, None, List, [], ◌∷◌, ◌++◌, fold, refl}
+use Rattle.history.proofs.Names.{sym, ap, subst, ◌∙◌, append-nil, append_assoc, arith, nat_tests, fold-append, flat_map}
+use Rattle.history.proofs.Names.{Answer, Event, Begun, Finished, Start, Each, whose, is_party}
+use Rattle.std.proofs.lemmas.Grind.{flat_map-append}
+use Rattle.history.specs.declared.view.View.{View}
+use Rattle.history.specs.History.{Called, IsBeginning}
+use Rattle.history.specs.Known.{events_by}
+use Rattle.history.proofs.Known.{by_more}
+
+-- ---- where an event stands
+
+module _ {T : Type 0} where
+  -- the first event of the party stands somewhere
+  pub find_own : (p : ℕ) (xs es : List (Event T)) (e : Event T) → events_by p xs ≡ e ∷ es
+      → (ls : List (Event T)) × (rs : List (Event T)) × (xs ≡ ls ++ e ∷ rs) × (events_by p ls ≡ []) × (events_by p rs ≡ es)
+  find_own p [] es e is = absurd (cc)
+  find_own p (x ∷ xs) es e is = go (λ rest. find_own p xs es e rest) (is_party p (whose x)) refl
+    where
+      go : (events_by p xs ≡ e ∷ es
+          → (ls : List (Event T)) × (rs : List (Event T)) × (xs ≡ ls ++ e ∷ rs) × (events_by p ls ≡ []) × (events_by p rs ≡ es))
+          → (b : Bool) → is_party p (whose x) ≡ b
+          → (ls : List (Event T)) × (rs : List (Event T)) × (x ∷ xs ≡ ls ++ e ∷ rs) × (events_by p ls ≡ []) × (events_by p rs ≡ es)
+      go later true t =
+          let here : x ∷ events_by p xs ≡ e ∷ es = rw t at is in
+          let same : x ≡ e = cc in
+          let more : events_by p xs ≡ es = cc in
+          ([], xs, ap (λ z. z ∷ xs) same, refl, more)
+      go later false t =
+          let rest : events_by p xs ≡ e ∷ es = rw t at is in
+          let more = later rest in
+          (x ∷ more.0, more.1, ap (λ zs. x ∷ zs) more.2, rw t more.3, more.4)
+
+  -- the first event that a call wrote, with what stood before it and what its party wrote after it
+  pub record Wrote (p : ℕ) (e : Event T) (own : List (Event T)) (base w : View T) : Type 0 where
+    pub before : List (Event T)
+    pub after : List (Event T)
+    pub is : w.seen ≡ before ++ e ∷ after
+    pub since : IsBeginning base.seen before
+    pub mine : events_by p after ≡ own
+    -- what others wrote, the begin of the call, and what others wrote then
+    pub start : Start T
+    pub others : List (Event T)
+    pub during : List (Event T)
+    pub begins : before ≡ (base.seen ++ others) ++ Begun p start ∷ during
+    pub others_own : events_by p others ≡ []
+    pub during_own : events_by p during ≡ []
+
+  it_is : (p : ℕ) (start : Start T) (answer : Answer T) → events_by p (Finished p start answer ∷ []) ≡ Finished p start answer ∷ []
+  it_is p start answer = (let t : (p == p) ≡ true = grind (arith, nat_tests) in rw t refl)
+
+  pub first_wrote : (p : ℕ) (start : Start T) (answer : Answer T) (e : Event T) (es : List (Event T)) (base w : View T)
+      → Called p start answer (e ∷ es) base w → Wrote p e (es ++ Finished p start answer ∷ []) base w
+  first_wrote p start answer e es base w c =
+      let part = find_own p c.during es e c.during_own in
+      let xs : List (Event T) = base.seen ++ c.others in
+      let last : List (Event T) = Finished p start answer ∷ [] in
+      let whole : w.seen ≡ (xs ++ Begun p start ∷ part.0) ++ e ∷ (part.1 ++ last) =
+      c.is
+      ∙ (ap (λ ds. xs ++ Begun p start ∷ (ds ++ last)) part.2
+      ∙ (ap (λ zs. xs ++ Begun p start ∷ zs) (append_assoc part.0 (e ∷ part.1) last)
+      ∙ sym (append_assoc xs (Begun p start ∷ part.0) (e ∷ (part.1 ++ last)))))
+      in
+      record {
+        before = xs ++ Begun p start ∷ part.0;
+        after = part.1 ++ last;
+        is = whole;
+        since = record { rest = c.others ++ Begun p start ∷ part.0; is = append_assoc base.seen c.others (Begun p start ∷ part.0) };
+        mine = by_more p part.1 last ∙ (ap (λ zs. zs ++ events_by p last) part.4 ∙ ap (λ zs. es ++ zs) (it_is p start answer));
+        start = start;
+        others = c.others;
+        during = part.0;
+        begins = refl;
+        others_own = c.others_own;
+        during_own = part.3;
+      }
+
+-- ---- a role
+
+-- Who holds it after an event, what an event tells that only its holder writes, that its holder wrote it, and that an event
+-- that moves the role is right.
+pub record OneRole (T M : Type 0) : Type 1 where
+  pub after : Option ℕ → Event T → Option ℕ
+  pub marks : Event T → List M
+  pub ByIts : List (Event T) → Event T → Type 0
+  pub Grants : List (Event T) → Event T → Type 0
+
+module _ {T M : Type 0} (role : OneRole T M) where
+  abbrev pub held : List (Event T) → Option ℕ
+  held events = fold role.after None events
+
+  -- an event that neither moves the role from the party nor is its holder's
+  abbrev pub IsPlain : ℕ → Event T → Type 0
+  IsPlain p e = (role.marks e ≡ []) × (role.after (Some p) e ≡ Some p)
+
+  abbrev pub ArePlain : ℕ → List (Event T) → Type 0
+  ArePlain p [] = Unit {0}
+  ArePlain p (e ∷ es) = IsPlain p e × ArePlain p es
+
+  pub record HeldByOne : Type 0 where
+    -- before an event of another that leaves the role to the party, the party held it, and the event is none of the holder's
+    pub back : (p : ℕ) (before : List (Event T)) (e : Event T) → role.ByIts before e → is_party p (whose e) ≡ false
+        → role.after (held before) e ≡ Some p → (held before ≡ Some p) × (role.marks e ≡ [])
+    -- and while the party holds it such an event leaves it there
+    pub forth : (p : ℕ) (before : List (Event T)) (e : Event T) → role.ByIts before e → role.Grants before e
+        → is_party p (whose e) ≡ false → held before ≡ Some p → IsPlain p e
+    pub begin : (o : Option ℕ) (p : ℕ) (start : Start T) → (role.after o (Begun p start) ≡ o) × (role.marks (Begun p start) ≡ [])
+
+module _ {T M : Type 0} (role : OneRole T M) (one : HeldByOne role) where
+  -- who holds it at the end, and wrote nothing since, held it before, and nobody wrote what its holder writes
+  pub back_over : (p : ℕ) (before es : List (Event T)) → Each role.ByIts (before ++ es) → events_by p es ≡ []
+      → held role (before ++ es) ≡ Some p → (held role before ≡ Some p) × (flat_map role.marks es ≡ [])
+  back_over p before [] each none now = (ap (held role) (sym (append-nil before)) ∙ now, refl)
+  back_over p before (e ∷ es) each none now =
+      go (λ rest. back_over p (before ++ e ∷ []) es (subst (Each role.ByIts) (sym longer) each) rest (ap (held role) longer ∙ now))
+      (is_party p (whose e)) refl
+    where
+      longer : (before ++ e ∷ []) ++ es ≡ before ++ e ∷ es
+      longer = append_assoc before (e ∷ []) es
+
+      go : (events_by p es ≡ [] → (held role (before ++ e ∷ []) ≡ Some p) × (flat_map role.marks es ≡ [])) → (b : Bool)
+          → is_party p (whose e) ≡ b → (held role before ≡ Some p) × (flat_map role.marks (e ∷ es) ≡ [])
+      go later true t = (let mine : e ∷ events_by p es ≡ [] = rw t at none in absurd (cc))
+      go later false t =
+          let rest : events_by p es ≡ [] = rw t at none in
+          let more = later rest in
+          let leaves : role.after (held role before) e ≡ Some p = sym (fold-append role.after None before (e ∷ [])) ∙ more.0 in
+          let here = one.back p before e (each before es e refl) t leaves in
+          (here.0, ap (λ xs. xs ++ flat_map role.marks es) here.1 ∙ more.1)
+
+  -- and it stays with the party until the party gives it back
+  pub forth_over : (p : ℕ) (before es : List (Event T)) → Each role.ByIts (before ++ es) → Each role.Grants (before ++ es)
+      → ArePlain role p (events_by p es) → held role before ≡ Some p → flat_map role.marks es ≡ []
+  forth_over p before [] each grants plain now = refl
+  forth_over p before (e ∷ es) each grants plain now =
+      go (λ rest still. forth_over p (before ++ e ∷ []) es (subst (Each role.ByIts) (sym longer) each)
+      (subst (Each role.Grants) (sym longer) grants) rest
+      (fold-append role.after None before (e ∷ []) ∙ (ap (λ o. role.after o e) now ∙ still)))
+      (is_party p (whose e)) refl
+    where
+      longer : (before ++ e ∷ []) ++ es ≡ before ++ e ∷ es
+      longer = append_assoc before (e ∷ []) es
+
+      go : (ArePlain role p (events_by p es) → role.after (Some p) e ≡ Some p → flat_map role.marks es ≡ []) → (b : Bool)
+          → is_party p (whose e) ≡ b → flat_map role.marks (e ∷ es) ≡ []
+      go later true t =
+          let own : IsPlain role p e × ArePlain role p (events_by p es) = rw t at plain in
+          ap (λ xs. xs ++ flat_map role.marks es) own.0.0 ∙ later own.1 own.0.1
+      go later false t =
+          let rest : ArePlain role p (events_by p es) = rw t at plain in
+          let here = one.forth p before e (each before es e refl) (grants before es e refl) t now in
+          ap (λ xs. xs ++ flat_map role.marks es) here.0 ∙ later rest here.1
+
+  -- from what a pass had seen to what its call wrote nobody else wrote it, where the call's party holds the role there
+  module _ (p : ℕ) (start : Start T) (seen others during : List (Event T))
+      (each : Each role.ByIts ((seen ++ others) ++ Begun p start ∷ during)) (none_others : events_by p others ≡ [])
+      (none_during : events_by p during ≡ []) (holds : held role ((seen ++ others) ++ Begun p start ∷ during) ≡ Some p) where
+    split : ((seen ++ others) ++ Begun p start ∷ []) ++ during ≡ (seen ++ others) ++ Begun p start ∷ during
+    split = append_assoc (seen ++ others) (Begun p start ∷ []) during
+
+    later : (held role ((seen ++ others) ++ Begun p start ∷ []) ≡ Some p) × (flat_map role.marks during ≡ [])
+    later =
+        back_over p ((seen ++ others) ++ Begun p start ∷ []) during
+        (subst (Each role.ByIts) (sym split) each) none_during (ap (held role) split ∙ holds)
+
+    earlier : (held role seen ≡ Some p) × (flat_map role.marks others ≡ [])
+    earlier =
+        let back : held role (seen ++ others) ≡ Some p =
+        sym (one.begin (held role (seen ++ others)) p start).0
+        ∙ (sym (fold-append role.after None (seen ++ others) (Begun p start ∷ [])) ∙ later.0) in
+        back_over p seen others (Each-less role.ByIts (seen ++ others) (Begun p start ∷ during) each) none_others back
+
+    none_between : flat_map role.marks ((seen ++ others) ++ Begun p start ∷ during) ≡ flat_map role.marks seen
+    none_between =
+        let m = role.marks in
+        flat_map-append m (seen ++ others) (Begun p start ∷ during)
+        ∙ (ap (λ zs. flat_map m (seen ++ others) ++ (zs ++ flat_map m during)) (one.begin None p start).1
+        ∙ (ap (λ zs. flat_map m (seen ++ others) ++ zs) later.1
+        ∙ (append-nil (flat_map m (seen ++ others))
+        ∙ (flat_map-append m seen others ∙ (ap (λ zs. flat_map m seen ++ zs) earlier.1 ∙ append-nil (flat_map m seen))))))
+
+    -- nor is it what the call ends with
+    pub none_to_end : (last : Event T) → role.marks last ≡ []
+        → flat_map role.marks (((seen ++ others) ++ Begun p start ∷ during) ++ last ∷ []) ≡ flat_map role.marks seen
+    none_to_end last none =
+        let m = role.marks in
+        let xs : List (Event T) = (seen ++ others) ++ Begun p start ∷ during in
+        flat_map-append m xs (last ∷ [])
+        ∙ (ap (λ zs. flat_map m xs ++ (zs ++ [])) none ∙ (append-nil (flat_map m xs) ∙ none_between))
+
+  -- where the holder at the end wrote nothing since, nobody wrote what its holder writes
+  pub none_looked : (p : ℕ) (seen rest now : List (Event T)) → now ≡ seen ++ rest → Each role.ByIts now → events_by p rest ≡ []
+      → held role now ≡ Some p → flat_map role.marks now ≡ flat_map role.marks seen
+  none_looked p seen rest now is each none holds =
+      let m = role.marks in
+      let back = back_over p seen rest (subst (Each role.ByIts) is each) none (ap (held role) (sym is) ∙ holds) in
+      ap (flat_map m) is ∙ (flat_map-append m seen rest ∙ (ap (λ zs. flat_map m seen ++ zs) back.1 ∙ append-nil (flat_map m seen)))
+
+  module _ {p : ℕ} {e : Event T} {own : List (Event T)} {base w : View T} (at : Wrote p e own base w)
+      (each : Each role.ByIts w.seen) (holds : held role at.before ≡ Some p) where
+    pub none_since : flat_map role.marks at.before ≡ flat_map role.marks base.seen
+    none_since =
+        ap (flat_map role.marks) at.begins
+        ∙ none_between p at.start base.seen at.others at.during
+        (Each-less role.ByIts ((base.seen ++ at.others) ++ Begun p at.start ∷ at.during) (e ∷ at.after)
+        (subst (Each role.ByIts) (at.is ∙ ap (λ xs. xs ++ e ∷ at.after) at.begins) each))
+        at.others_own at.during_own (ap (held role) (sym at.begins) ∙ holds)
+
+    -- with the event that the holder wrote the list is longer by what it tells, and by nothing else
+    pub listed : Each role.Grants w.seen → role.after (Some p) e ≡ Some p → ArePlain role p own
+        → flat_map role.marks w.seen ≡ flat_map role.marks base.seen ++ role.marks e
+    listed grants stays plain =
+        let m = role.marks in
+        let split : w.seen ≡ (at.before ++ e ∷ []) ++ at.after = at.is ∙ sym (append_assoc at.before (e ∷ []) at.after) in
+        let now : held role (at.before ++ e ∷ []) ≡ Some p =
+        fold-append role.after None at.before (e ∷ []) ∙ (ap (λ o. role.after o e) holds ∙ stays) in
+        let rest : flat_map m at.after ≡ [] =
+        forth_over p (at.before ++ e ∷ []) at.after (subst (Each role.ByIts) split each)
+        (subst (Each role.Grants) split grants) (subst (ArePlain role p) (sym at.mine) plain) now in
+        ap (flat_map m) at.is
+        ∙ (flat_map-append m at.before (e ∷ at.after)
+        ∙ (ap (λ zs. flat_map m at.before ++ (m e ++ zs)) rest
+        ∙ (ap (λ zs. flat_map m at.before ++ zs) (append-nil (m e)) ∙ ap (λ zs. zs ++ m e) none_since)))
