@@ -1,13 +1,12 @@
 -- Every list of turns reaches a machine, from the opening with this number.
-use Rattle.std.proofs.Common.{◌≡◌, ℕ, Option, Some, None, List, [], ◌∷◌, refl, ◌∙◌}
+use Rattle.std.proofs.Common.{◌≡◌, ℕ, None, List, refl, ◌∙◌}
 use Rattle.model.specs.declared.turn.Kind.{Kind}
-use Rattle.model.specs.declared.turn.Refusal.{Refusal}
 use Rattle.model.specs.declared.turn.Turn.{Turn}
 use Rattle.model.specs.Coding.{Coding, IsCoding}
 use Rattle.model.specs.Refusals.{refusal_of}
-use Rattle.model.specs.Turns.{IsReached, after_turn, attempt, unless_refused, run}
+use Rattle.model.specs.Turns.{IsReached, after_turn, run}
 use Rattle.model.specs.World.{World, Trace, opened, capacity_error, queue_error}
-use Rattle.model.proofs.Reached.{SameMaking, turn_making}
+use Rattle.model.proofs.Reached.{SameMaking, run_keeps, turn_making}
 
 module _ {T : Type 0} where
   -- reached, with a submission queue of this capacity
@@ -24,14 +23,10 @@ module _ {T : Type 0} where
         parties = b.parties ∙ a.parties;
       }
 
-  tried : (v : World T) (t : Trace T) (turn : Turn T) (o : Option Refusal) → SameMaking v t.world
-      → SameMaking v (unless_refused t (after_turn t turn) o).world
-  tried v t turn None m = still v t.world (after_turn t turn).world m (turn_making t.world turn)
-  tried v t turn (Some refusal) m = m
-
   goes_on : (v : World T) (turns : List (Turn T)) (t : Trace T) → SameMaking v t.world → SameMaking v (run turns t).world
-  goes_on v [] t m = m
-  goes_on v (turn ∷ turns) t m = goes_on v turns (attempt t turn) (tried v t turn (refusal_of t.world turn) m)
+  goes_on v =
+      run_keeps refusal_of (λ t. SameMaking v t.world)
+      (λ t turn e m. still v t.world (after_turn t turn).world m (turn_making t.world turn))
 
   same_opening : (turns : List (Turn T)) (code code' : Coding T) (kind kind' : Kind) (capacity capacity' queue parties parties' : ℕ)
       → code' ≡ code → kind' ≡ kind → capacity' ≡ capacity → parties' ≡ parties

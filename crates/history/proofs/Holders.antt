@@ -1,7 +1,7 @@
 -- In a bounded queue only the holder of a role publishes, or takes out; there is room for what is published, and what is
 -- taken out waited first.
 use Rattle.history.proofs.Names.{◌≡◌, ◌<◌, ◌≤◌, ℕ, Bool, false, Option, Some, None, List, [], ◌∷◌}
-use Rattle.history.proofs.Names.{◌++◌, length, map, fold, refl, sym, ap, subst, ◌∙◌, append-nil, append_assoc}
+use Rattle.history.proofs.Names.{◌++◌, length, map, refl, sym, ap, subst, ◌∙◌, append-nil, append_assoc}
 use Rattle.history.proofs.Names.{arith, length-map, fold-append, Answer}
 use Rattle.history.proofs.Names.{Event, Begun, Published, HandedOut, Item, Start, Queues, Flight, Registry}
 use Rattle.history.proofs.Names.{QueueStart, PushIndex, Pop, Roles, QueueFlight}
@@ -11,7 +11,7 @@ use Rattle.history.proofs.Names.{publishes, hands_out, published, handed_out, wa
 use Rattle.history.proofs.Names.{acts_if_done, party_of, Each, whose, is_party, call_refusal}
 use Rattle.history.proofs.Names.{after_turn, events_of, events_of_answer, ending_of, number_of}
 use Rattle.history.proofs.Names.{unless_refused, attempt_on, run_on, step_in, Trace, capacity_error, AreRight}
-use Rattle.history.proofs.Names.{Each-append, Each-nil, stands_there, machine_kind, waiting_is, Val, Ring, of_indices}
+use Rattle.history.proofs.Names.{Each-append, Each-less, Each-nil, stands_there, machine_kind, waiting_is, Val, Ring, of_indices}
 use Rattle.history.proofs.Names.{of_values, kind_of, KnowsPush, KnowsPop, AllMay, attempt_sound, admitted_fits}
 use Rattle.std.proofs.Common.{length-append}
 use Rattle.std.proofs.lemmas.Grind.{flat_map-append}
@@ -37,7 +37,8 @@ use Rattle.laws_queues.proofs.Queues.Knows.{At}
 use Rattle.laws_queues.proofs.Queues.Sound.{opening_sound, fresh_laws, IsFreshTurn}
 use Rattle.history.specs.History.{IsRun, IsHistory}
 use Rattle.history.specs.Roles.{ByHolder, ByHolderOf, role_after, marks}
-use Rattle.history.proofs.OneHolder.{OneRole, HeldByOne}
+use Rattle.history.proofs.OneHolder as one
+use Rattle.history.proofs.OneHolder.{RoleEvents, HasOneHolder}
 use Rattle.history.proofs.Reached.{queue_run}
 
 module _ {T : Type 0} (c : ℕ) where
@@ -248,8 +249,7 @@ module _ {T : Type 0} (c : ℕ) where
 
   pub listed_in : (events : List (Event T)) → Each (KeepsList c) events → (part rest : List (Event T)) → events ≡ part ++ rest → IsListed part
   listed_in events each part rest is =
-      listed_from [] part
-      (λ before after e at. each before (after ++ rest) e (is ∙ (ap (λ xs. xs ++ rest) at ∙ append_assoc before (e ∷ after) rest)))
+      listed_from [] part (Each-less (KeepsList c) part rest (subst (Each (KeepsList c)) is each))
       (record { book = refl; few = omega arith })
 
   pub always_listed : (code : Coding T) (r : Ring) (events : List (Event T))
@@ -260,11 +260,11 @@ module _ {T : Type 0} (c : ℕ) where
 -- ---- a role that one party at a time holds
 
 module _ {T : Type 0} where
-  abbrev pub queue_role : Side → OneRole T (Item T)
-  queue_role role = record { after = role_after role; marks = marks role; ByIts = ByHolderOf role; Grants = GrantsRight }
+  abbrev pub queue_role : Side → RoleEvents T (Item T)
+  queue_role role = record { holder = role_after role; marks = marks role; ByHolder = ByHolderOf role; Grants = GrantsRight }
 
   abbrev pub held : Side → List (Event T) → Option ℕ
-  held role events = fold (role_after role) None events
+  held role = one.held (queue_role role)
 
   begun_leaves : (role : Side) (o : Option ℕ) (p : ℕ) (start : Start T) → role_after {T = T} role o (Begun p start) ≡ o
   begun_leaves Producer o p start = refl
@@ -286,7 +286,7 @@ module _ {T : Type 0} (p : ℕ) where
   forth_from x0 x1 x2 x3 x4 x5 x6 = grind arith
 
 module _ {T : Type 0} where
-  pub one_holder : (role : Side) → HeldByOne (queue_role {T = T} role)
+  pub one_holder : (role : Side) → HasOneHolder (queue_role {T = T} role)
   one_holder role =
       record {
         back = λ p before e by other leaves. back_from p role before e by other leaves;

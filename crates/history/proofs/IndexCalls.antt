@@ -1,5 +1,5 @@
 -- That an acquire and a release of the unique index set are calls of the model.
-use Rattle.history.proofs.Names.{◌≡◌, inl, ℕ, ◌+◌, ◌<◌, true, false, None, List, [], ◌∷◌}
+use Rattle.history.proofs.Names.{◌≡◌, inl, ℕ, ◌+◌, ◌<◌, Bool, true, false, None, List, [], ◌∷◌}
 use Rattle.history.proofs.Names.{◌++◌, refl, arith, went_on, Ask, After}
 use Rattle.history.proofs.Names.{GoOn, ReleaseState, load, Answer, Event, Freed, Flight, Coding}
 use Rattle.history.proofs.Names.{as_it_is, as_call, answer_in, answered, KeepsRule}
@@ -87,28 +87,29 @@ module _ {T : Type 0} (code : Coding T) where
 
 -- ---- release
 
+abbrev StandsBelow : {M : Type 0} → ℕ → ℕ → After (Releasing M) ReleaseState → Type 0
+StandsBelow n index (GoOn d) = (d.capacity ≡ n) × (index < n)
+StandsBelow n index (Done e) = Unit {0}
+
+-- whether or not it may lock
+module _ {M : Type 0} (may : Bool) (c : Releasing M) (index : ℕ) where
+  gives_on : (n : ℕ) → c.capacity ≡ n → index < n → (stage : releases.ReleaseStage) (k : ℕ) → StandsBelow n index (release_takes may c stage k)
+  gives_on x0 x1 x2 x3 x4 = grind arith
+
+  asks_for : (n : ℕ) → c.capacity ≡ n → index < n → (stage : releases.ReleaseStage)
+      → (a : Ask) × (a.word < core.size n) × (release_asks may c.capacity index stage ≡ wants.Ask a)
+  asks_for n same low releases.TheVariants.ClearsFlag = (_, (let l : flag_word c.capacity index < core.size n = omega arith in l), refl)
+  asks_for n same low releases.TheVariants.LoadsHead = (_, omega arith, refl)
+  asks_for n same low (releases.TheVariants.StoresNext head) = (_, (let l : 1 + index < core.size n = omega arith in l), refl)
+  asks_for n same low (releases.TheVariants.ExchangesHead head) = (_, omega arith, refl)
+  asks_for n same low releases.TheVariants.Subtracts = (_, omega arith, refl)
+
+  gives_heard : (stage : releases.ReleaseStage) (a : Ask) (n : ℕ) → release_asks may c.capacity index stage ≡ wants.Ask a
+      → release_takes may c stage (answered a.op n) ≡ release_takes may c stage n
+  gives_heard x0 x1 x2 x3 = grind arith
+
 abbrev Giving : Type 0
 Giving = Releasing DefaultMode
-
-abbrev StandingR : ℕ → ℕ → After Giving ReleaseState → Type 0
-StandingR n index (GoOn d) = (gives_index {T = ℕ} index).stands n d
-StandingR n index (Done e) = Unit {0}
-
-module _ (n index : ℕ) (c : Giving) (same : c.capacity ≡ n) (low : index < n) where
-  gives_on : (stage : releases.ReleaseStage) (k : ℕ) → StandingR n index (release_takes false c stage k)
-  gives_on x0 x1 = grind arith
-
-  asks_for : (stage : releases.ReleaseStage) → (a : Ask) × (a.word < core.size n) × (release_asks false c.capacity index stage ≡ wants.Ask a)
-  asks_for releases.TheVariants.ClearsFlag = (_, (let l : flag_word c.capacity index < core.size n = omega arith in l), refl)
-  asks_for releases.TheVariants.LoadsHead = (_, omega arith, refl)
-  asks_for (releases.TheVariants.StoresNext head) = (_, (let l : 1 + index < core.size n = omega arith in l), refl)
-  asks_for (releases.TheVariants.ExchangesHead head) = (_, omega arith, refl)
-  asks_for releases.TheVariants.Subtracts = (_, omega arith, refl)
-
-gives_heard : (index : ℕ) (c : Giving) (stage : releases.ReleaseStage) (a : Ask) (n : ℕ)
-    → release_asks false c.capacity index stage ≡ wants.Ask a
-    → release_takes false c stage (answered a.op n) ≡ release_takes false c stage n
-gives_heard x0 x1 x2 x3 x4 x5 = grind arith
 
 module _ {T : Type 0} (code : Coding T) (index : ℕ) where
   abbrev given_as : After Giving ReleaseState → After (Flight T) (Answer T)
@@ -164,26 +165,6 @@ module _ {T : Type 0} (code : Coding T) (index : ℕ) where
 abbrev Locking : Type 0
 Locking = Releasing LockMode
 
-abbrev StandingL : ℕ → ℕ → After Locking ReleaseState → Type 0
-StandingL n index (GoOn d) = (gives_or_locks {T = ℕ} index).stands n d
-StandingL n index (Done e) = Unit {0}
-
-module _ (n index : ℕ) (c : Locking) (same : c.capacity ≡ n) (low : index < n) where
-  locks_on : (stage : releases.ReleaseStage) (k : ℕ) → StandingL n index (release_takes true c stage k)
-  locks_on x0 x1 = grind arith
-
-  asks_of : (stage : releases.ReleaseStage) → (a : Ask) × (a.word < core.size n) × (release_asks true c.capacity index stage ≡ wants.Ask a)
-  asks_of releases.TheVariants.ClearsFlag = (_, (let l : flag_word c.capacity index < core.size n = omega arith in l), refl)
-  asks_of releases.TheVariants.LoadsHead = (_, omega arith, refl)
-  asks_of (releases.TheVariants.StoresNext head) = (_, (let l : 1 + index < core.size n = omega arith in l), refl)
-  asks_of (releases.TheVariants.ExchangesHead head) = (_, omega arith, refl)
-  asks_of releases.TheVariants.Subtracts = (_, omega arith, refl)
-
-locks_heard : (index : ℕ) (c : Locking) (stage : releases.ReleaseStage) (a : Ask) (n : ℕ)
-    → release_asks true c.capacity index stage ≡ wants.Ask a
-    → release_takes true c stage (answered a.op n) ≡ release_takes true c stage n
-locks_heard x0 x1 x2 x3 x4 x5 = grind arith
-
 module _ {T : Type 0} (code : Coding T) (index : ℕ) where
   abbrev locked_as : After Locking ReleaseState → After (Flight T) (Answer T)
   locked_as r =
@@ -206,7 +187,7 @@ module _ {T : Type 0} (code : Coding T) (index : ℕ) where
   locks_at x0 x1 x2 x3 = grind arith
 
   pub lock_call : IsCallOf code index_effects core.size (λ c. release_want true c index) (λ c n. release_after true c n) (λ c m n. m) (gives_or_locks index)
-  lock_call = grind (arith, as_locked, locks_heard, locks_on, asks_of, locks_at)
+  lock_call = grind (arith, as_locked, gives_heard, gives_on, asks_for, locks_at)
 
   pub lock_keeps : KeepsRule (λ (z : View T). z.asked) (λ (z : View T). z.capacity) (At code kinds.Indices (gives_or_locks index))
       (Ends code kinds.Indices (gives_or_locks index)) (λ key. core.size key + 1) (λ key. key)

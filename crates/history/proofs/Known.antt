@@ -41,6 +41,10 @@ one_third : (owner : ℕ → ℕ) (id other j n : ℕ) → j ≢ id → j ≢ ot
 one_third x0 x1 x2 x3 x4 x5 x6 x7 = grind arith
 
 module _ {T : Type 0} where
+  -- a sum begins with the first
+  pub sum_first : (f : Event T → ℕ) (e : Event T) (es : List (Event T)) → sum_by f (e ∷ es) ≡ f e + sum_by f es
+  sum_first f e es = sum_by-cons f e es
+
   -- ---- what was seen later begins with what was seen
 
   pub itself : (es : List (Event T)) → IsBeginning es es
@@ -48,10 +52,6 @@ module _ {T : Type 0} where
 
   pub begins_further : (xs ys zs : List (Event T)) → IsBeginning xs ys → IsBeginning ys zs → IsBeginning xs zs
   begins_further xs ys zs a b = record { rest = a.rest ++ b.rest; is = b.is ∙ (ap (λ es. es ++ b.rest) a.is ∙ append_assoc xs a.rest b.rest) }
-
-  -- a sum begins with the first
-  pub sum_first : (f : Event T → ℕ) (e : Event T) (es : List (Event T)) → sum_by f (e ∷ es) ≡ f e + sum_by f es
-  sum_first f e es = sum_by-cons f e es
 
   -- ---- whose events
 

@@ -59,6 +59,7 @@ pub mod ValueLaws
 pub mod Alone
 pub mod ValueOpened
 pub mod EachEvent
+pub mod Ranks
 pub mod OneHolder
 pub mod ValueHolders
 pub mod ValueQueueCalls

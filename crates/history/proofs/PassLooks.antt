@@ -15,7 +15,7 @@ use Rattle.history.specs.History.{IsBeginning, IsMachine, Fits, HasSeenOf, IsLat
 use Rattle.history.specs.Views.{Looks, LooksOnce, LooksAt, WhenIdle}
 use Rattle.history.specs.Known.{Known, owned, events_by}
 use Rattle.history.proofs.Calls.{get_left}
-use Rattle.history.proofs.Known.{by_more, nil_right, within, none_late, by_nothing}
+use Rattle.history.proofs.Known.{by_more, itself, nil_right, within, none_late, by_nothing}
 use Rattle.history.proofs.AllSeen.{known_step, known_whole, owned_whole}
 use Rattle.history.proofs.Passes.{nothing, set_same}
 
@@ -54,9 +54,6 @@ told_never k o Told h = subst (λ z. WhenIdle z o Told) (sym h.0) (λ e. absurd 
 module _ {T : Type 0} (code : Coding T) (kind : Kind) (capacity : ℕ) where
   abbrev Holds : State (Unit {0}) (View T) → Type 0
   Holds s = IsMachine code kind capacity s
-
-  all_of : (es : List (Event T)) → IsBeginning es es
-  all_of es = record { rest = []; is = sym (append-nil es) }
 
   -- a seat may know otherwise what fits
   pub reseat : (words : List ℕ) (s : State (Unit {0}) (View T)) (m : Holds s) (id : ℕ) (v w : View T)
@@ -112,7 +109,7 @@ module _ {T : Type 0} (code : Coding T) (kind : Kind) (capacity : ℕ) where
         tt,
         reseat (slice_set s.words word (slice_index s.words word)) s m id v w (set_same s.words word) at
             (record {
-              seen = all_of t.events;
+              seen = itself t.events;
               other = nothing t.events;
               self = f.self;
               going = f.going;

@@ -1,5 +1,5 @@
 -- A step of a seat's call, its begin with the first one, is allowed by the rule of a table that is a machine.
-use Rattle.history.proofs.Names.{◌≡◌, ◌≢◌, inl, ⊎_elim, ℕ, ◌<◌, ◌≤◌, List, [], ◌++◌, length, slice_set, refl, sym}
+use Rattle.history.proofs.Names.{◌≡◌, ◌≢◌, inl, ⊎_elim, ℕ, ◌<◌, ◌≤◌, List, [], ◌++◌, length, slice_set, refl}
 use Rattle.history.proofs.Names.{append-nil, arith, length-set, Some, sum_by-append, at_set, Event, Kind}
 use Rattle.history.proofs.Names.{Coding, Start, Flight, state_in, Trace}
 use mathlib.Core.Option.{some}
@@ -7,7 +7,7 @@ use lib.ListN.{get_elem?}
 use Rattle.atomic_table.specs.Table.{State}
 use Rattle.history.specs.declared.view.View.{View}
 use Rattle.history.specs.History.{IsBeginning, IsMachine, Fits, call_in, steps_in}
-use Rattle.history.proofs.Known.{within, none_late}
+use Rattle.history.proofs.Known.{itself, within, none_late}
 use Rattle.history.proofs.AllSeen.{known_step}
 use Rattle.history.proofs.Turns.{Between}
 
@@ -31,9 +31,6 @@ module _ {T : Type 0} (code : Coding T) (kind : Kind) (capacity id p : ℕ) wher
   -- its call has taken the steps that it has in the machine
   abbrev pub view_after : ℕ → View T → List (Event T) → Trace T → View T
   view_after asked v gained u = view_with asked (steps_in u.world p) v gained u
-
-  pub whole : (u : Trace T) → IsBeginning u.events u.events
-  whole u = record { rest = []; is = sym (append-nil u.events) }
 
   none_seen : (events : List (Event T)) → IsBeginning [] events
   none_seen events = record { rest = events; is = refl }
@@ -69,7 +66,7 @@ module _ {T : Type 0} (code : Coding T) (kind : Kind) (capacity id p : ℕ) wher
       none x0 x1 x2 = grind (arith, beyond, within)
 
       mine : (j : ℕ) (x : View T) → j ≡ id → view_with asked taken v gained u ≡ x → Fits owner u j x
-      mine x0 x1 x2 x3 = grind (arith, counts, whole, none_seen, state_in, none_late, inl, append-nil, sum_by-append)
+      mine x0 x1 x2 x3 = grind (arith, counts, itself, none_seen, state_in, none_late, inl, append-nil, sum_by-append)
 
   pub settle : (owner : ℕ → ℕ) (asked : ℕ) (words : List ℕ) (s : State (Unit {0}) (View T)) (v : View T) (gained : List (Event T)) (u : Trace T)
       → get_elem? s.views id ≡ some v → 0 < v.share.part

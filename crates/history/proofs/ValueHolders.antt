@@ -15,7 +15,7 @@ use Rattle.laws_value.proofs.Sound.{opening_sound, fresh_laws}
 use Rattle.history.specs.History.{IsRun, IsHistory}
 use Rattle.history.specs.Value.{ByProducer}
 use Rattle.history.proofs.EachEvent.{each_event}
-use Rattle.history.proofs.OneHolder.{OneRole, HeldByOne}
+use Rattle.history.proofs.OneHolder.{RoleEvents, HasOneHolder}
 
 module _ {T : Type 0} where
   abbrev Right : List (Event T) → List (Event T) → Type 0
@@ -55,10 +55,10 @@ module _ {T : Type 0} (p : ℕ) where
   forth_from x0 x1 x2 x3 x4 x5 = grind arith
 
 module _ {T : Type 0} where
-  abbrev pub value_role : OneRole T T
-  value_role = record { after = holder_after; marks = stores; ByIts = ByProducer; Grants = GrantsRight }
+  abbrev pub value_role : RoleEvents T T
+  value_role = record { holder = holder_after; marks = stores; ByHolder = ByProducer; Grants = GrantsRight }
 
-  pub one_holder : HeldByOne value_role
+  pub one_holder : HasOneHolder value_role
   one_holder =
       record {
         back = λ p before e by other leaves. back_from p before e by other leaves;

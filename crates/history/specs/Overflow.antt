@@ -33,7 +33,7 @@ abbrev pub HasPushWord : pushes.PushStage → Type 0
 HasPushWord pushes.TheVariants.HandsBack = ⊥
 HasPushWord stage = Unit {0}
 
--- it ended as a call: where its number comes back to it, it is none
+-- a push that ended so is a call of the history; where its own number comes back, it is none
 abbrev pub HasActed : PushEnd → Type 0
 HasActed Own = ⊥
 HasActed end = Unit {0}

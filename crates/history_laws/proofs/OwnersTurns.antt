@@ -1,7 +1,7 @@
 -- What each turn of a robust index set, or of a container, owes so that its counter stays bounded, and so every open run.
 use Rattle.std.proofs.Common.{◌≡◌, ◌≢◌, inl, inr, ℕ, ◌+◌, ◌*◌, ◌<◌, ◌≤◌, ◌==◌, not, Bool, true, false, true≢false}
 use Rattle.std.proofs.Common.{Option, Some, None, is_none, List, [], ◌∷◌, ◌++◌}
-use Rattle.std.proofs.Common.{length, length-set, refl, sym, ap, subst, ◌∙◌, arith, eq-eqb}
+use Rattle.std.proofs.Common.{length, refl, sym, ap, subst, ◌∙◌, arith, eq-eqb}
 use Rattle.steps.specs.Indices.Robust.Parts.{locked}
 use Rattle.steps.specs.declared.ask.After.{After}
 use Rattle.steps.specs.declared.ask.After.TheVariants.{GoOn, Done}
@@ -29,6 +29,7 @@ use Rattle.model.specs.Turns.{old_of, words_after, number_of, ask_of_doing, part
 use Rattle.model.specs.Turns.{after_answer, events_of_step, events_of_answer, after_next, events_of_next}
 use Rattle.model.specs.Turns.{after_decision, events_of_decision, events_of, ending_of, after_turn}
 use Rattle.model.specs.World.{World, Trace, opening, flight_in}
+use Rattle.model.proofs.Counts.{as_long}
 use Rattle.model.proofs.Frame.{is_true}
 use Rattle.model.proofs.Locks.{locked_later}
 use Rattle.model.proofs.Parties.{party_put_same, party_put_other}
@@ -41,10 +42,6 @@ use Rattle.history_laws.proofs.OwnersParts.{tested, moved_none, counts_move}
 use Rattle.history_laws.proofs.OwnersWords.{counter_of}
 use Rattle.history_laws.proofs.OwnersBounded.{credit, late, locks, credit_of, late_of, locks_of, locks_at, counter}
 use Rattle.history_laws.proofs.OwnersBounded.{Bounded, Owes, changes_more, ends_none, bounded_on, bounded_same}
-
-wide_after : (words : List ℕ) (ask : Option Ask) → length (words_after words ask) ≡ length words
-wide_after words None = refl
-wide_after words (Some ask) = length-set words ask.word _
 
 module _ {T : Type 0} where
   -- ---- where a step leaves its party
@@ -118,7 +115,7 @@ module _ {T : Type 0} where
     pub step_owes : (counter new ≢ locked → counter t ≢ locked) → Owes t new p (events_of_step p x.start s)
     step_owes opens =
         record {
-          wide = wide_after t.world.words ask;
+          wide = as_long t.world.words ask;
           events = refl;
           others = λ q ne. ap (λ o. flight_of (doing_of o)) (party_put_other q p _ t.world.latest ne);
           opens = opens;

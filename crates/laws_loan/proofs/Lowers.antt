@@ -27,6 +27,7 @@ use Rattle.model.specs.Step.{Step}
 use Rattle.model.specs.Turns.{doing_after, after_step, step_in}
 use Rattle.model.specs.World.{World}
 use Rattle.model.proofs.Frame as frame
+use Rattle.model.proofs.Counts.{steps_small}
 use Rattle.model.proofs.LockFree.Measure.{worth}
 use Rattle.model.proofs.LockFree.Weighed.{ended_more}
 use Rattle.laws_loan.proofs.Channel.{Channel, kept_is}
@@ -81,10 +82,6 @@ module _ {T : Type 0} where
           (ap (λ (b : Book). b.receiver) same ∙ rest.0, ap (λ (b : Book). b.dead) same ∙ rest.1)
 
 -- ---- sums
-
-few_steps : (ask : Option Ask) → step_count ask ≤ 1
-few_steps None = omega arith
-few_steps (Some ask) = omega arith
 
 lost_or : (b : Bool) (new old more : ℕ) → new ≤ old + more → cond b 0 new ≤ cond b 0 old + more
 lost_or true new old more le = omega arith
@@ -486,7 +483,7 @@ module _ {T : Type 0} (code : Coding T) (slots queue : ℕ) where
           go (GoOn next) e = let h = less later next e in omega arith
           go (Done answer) e =
               let most = weight_most slots new in
-              let one = few_steps ask in
+              let one = steps_small ask in
               let more = ended_more st.wrote (ending_of p x.start (answer_in st.after)) in
               let end : ends (ending_of p x.start (answer_in st.after)) ≡ 1 = rw e refl in
               let paid = worth 1 (ends told) (13 * slots + 12) (omega arith) in

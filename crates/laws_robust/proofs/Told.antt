@@ -29,13 +29,13 @@ asks_owned : (w : Want (Unit {0})) (index owner : ℕ) → owned_by w ≡ Some (
 asks_owned w index owner e = grind arith
 
 -- neither a raise nor a lock asks about any
-raise_asks_none : (raise : Raise) → is_question (raise_want raise) ≡ true → ⊥
+pub raise_asks_none : (raise : Raise) → is_question (raise_want raise) ≡ true → ⊥
 raise_asks_none x0 x1 = grind arith
 
 count_asks_none : (count : Count) → is_question (count_want count) ≡ true → ⊥
 count_asks_none count e = grind arith
 
-lock_asks_none : (lock : Lock) → is_question (lock_want lock) ≡ true → ⊥
+pub lock_asks_none : (lock : Lock) → is_question (lock_want lock) ≡ true → ⊥
 lock_asks_none x0 x1 = grind (arith, count_asks_none)
 
 module _ {T : Type 0} where

@@ -1,16 +1,13 @@
 -- No turn changes how many words a machine has, so one of the robust set has its counter and a cell an index.
-use Rattle.laws_robust.proofs.Names.{◌≡◌, ℕ, ◌+◌, Bool, Option, Some, None, List, length, refl, sym, subst, ◌∙◌}
-use Rattle.laws_robust.proofs.Names.{arith, length-set, length-replicate, empty, Ask, Start, Flight, Doing}
+use Rattle.laws_robust.proofs.Names.{◌≡◌, ℕ, ◌+◌, Bool, Option, Some, None, length, refl, sym, subst, ◌∙◌}
+use Rattle.laws_robust.proofs.Names.{arith, length-replicate, empty, Ask, Start, Flight, Doing}
 use Rattle.laws_robust.proofs.Names.{Party, Turn, first_of, opening_words}
-use Rattle.laws_robust.proofs.Names.{words_after, number_of, after_begin, after_answer}
+use Rattle.laws_robust.proofs.Names.{number_of, after_begin, after_answer}
 use Rattle.laws_robust.proofs.Names.{after_next, after_decision, world_after, World, Trace, opening}
 use Rattle.model.specs.declared.turn.Kind as kinds
 use Rattle.laws_robust.specs.Open.{open_refusal, IsReachedOpen}
+use Rattle.model.proofs.Counts.{as_long}
 use Rattle.model.proofs.Reached.{kept_by}
-
-words_wide : (words : List ℕ) (ask : Option Ask) → length (words_after words ask) ≡ length words
-words_wide words None = refl
-words_wide words (Some ask) = length-set words ask.word _
 
 opening_wide : (c : ℕ) → length (opening_words c) ≡ c + 1
 opening_wide c = let long = length-replicate {A = ℕ} c empty in omega arith
@@ -18,7 +15,7 @@ opening_wide c = let long = length-replicate {A = ℕ} c empty in omega arith
 module _ {T : Type 0} where
   answer_wide : (w : World T) (p : ℕ) (x : Party T) (ask : Option Ask) (answer : ℕ) (doing : Doing T)
       → length (after_answer w p x ask answer doing).words ≡ length w.words
-  answer_wide x0 x1 x2 x3 x4 x5 = grind (arith, words_wide)
+  answer_wide x0 x1 x2 x3 x4 x5 = grind (arith, as_long)
 
   begin_wide : (w : World T) (p : ℕ) (start : Start T) (o : Option (Flight T)) → length (after_begin w p start o).words ≡ length w.words
   begin_wide w p start None = refl

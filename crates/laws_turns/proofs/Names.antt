@@ -32,8 +32,8 @@ pub use Rattle.model.proofs.Names.{if◌then◌else◌, inl, inr, is_due, is_loo
 pub use Rattle.model.proofs.Names.{kept_after_begin, kept_after_death, kept_at, length, length-replicate, lock_after}
 pub use Rattle.model.proofs.Names.{lock_goes_back, lock_want, map, nat_lt, nat_tests, ne_eqb, not, number_of, old_of}
 pub use Rattle.model.proofs.Names.{one_more, one_word, party_of, raise_after, raise_want, refl, refusal_of, replicate}
-pub use Rattle.model.proofs.Names.{run, set_acts, set_acts_of, slice_index, state_in, step_in, step_of, subst, sym}
-pub use Rattle.model.proofs.Names.{true, unless_refused, want_of, went_on, whose, words_after, world_after, wrote_in, ℕ}
+pub use Rattle.model.proofs.Names.{set_acts, set_acts_of, slice_index, state_in, step_in, step_of, subst, sym}
+pub use Rattle.model.proofs.Names.{true, want_of, went_on, whose, words_after, world_after, wrote_in, ℕ}
 pub use Rattle.model.proofs.Names.{⊎_elim, ◌%◌, ◌&&◌, ◌*◌, ◌++◌, ◌+◌, ◌-◌, ◌<◌, ◌==◌, ◌^◌, ◌∙◌, ◌∷◌, ◌≡◌, ◌≢◌, ◌≤◌, ◌⊎◌}
 pub use Rattle.model.proofs.Parties.{found_put_same, party_put_same}
 pub use Rattle.model.proofs.Reached.{kept_by_runs, reached_more, turn_making}
@@ -52,7 +52,6 @@ pub use Rattle.model.specs.Families.Indices.Robust.Steps.{acquire_effects, grant
 pub use Rattle.model.specs.Families.Indices.Robust.Steps.{release_effects}
 pub use Rattle.model.specs.Parties.{put}
 pub use Rattle.model.specs.Promises.Turns.{GoesOn, StandsAt, ask_in}
-pub use Rattle.model.specs.Turns.{attempt}
 pub use Rattle.model.specs.World.{kept_opened}
 pub use Rattle.model.specs.declared.event.Answer.{Answer}
 pub use Rattle.model.specs.declared.event.Answer.TheVariants.{Number, State, Truth}

@@ -5,17 +5,17 @@ use Rattle.laws_turns.proofs.Names.{Ask, Answer, Event, Start, Flight, Registry,
 use Rattle.laws_turns.proofs.Names.{Party, Turn, Coding, first_of, step_of}
 use Rattle.laws_turns.proofs.Names.{kept_after_begin, kept_after_death}
 use Rattle.laws_turns.proofs.Names.{number_of, after_begin, after_answer, after_next, after_decision}
-use Rattle.laws_turns.proofs.Names.{world_after, after_turn, attempt, unless_refused, run, IsReached, refusal_of}
+use Rattle.laws_turns.proofs.Names.{world_after, IsReached, refusal_of}
 use Rattle.laws_turns.proofs.Names.{World, Trace, kept_opened}
 use Rattle.model.specs.declared.families.Registry.TheVariants as registries
 use Rattle.model.specs.declared.families.loan.Book.{Book}
 use Rattle.model.specs.declared.families.loan.LoanStart.{LoanStart}
 use Rattle.model.specs.declared.turn.Kind as kinds
-use Rattle.model.specs.declared.turn.Refusal.{Refusal}
 use Rattle.model.specs.Families.Loan.Calls.{after}
 use Rattle.model.specs.Families.Loan.Opening.{taken_from, asks_for}
 use Rattle.model.specs.Families.Loan.Steps.{book_after, ended_book, wrote}
 use Rattle.model.specs.World.{opened}
+use Rattle.model.proofs.Reached.{run_keeps}
 use Rattle.laws_turns.specs.Others.{queue_in, KeepsQueue}
 
 taken : (book : Book) (o : Option ℕ) → (taken_from book o).queue ≡ book.queue
@@ -67,14 +67,6 @@ module _ {T : Type 0} where
   pub queue_is : (t : Trace T) → t.world.kind ≡ kinds.TheVariants.Loan → (r : IsReached t) → queue_in t.world.kept ≡ Some r.queue
   queue_is t is r =
       subst (λ (u : Trace T). queue_in u.world.kept ≡ Some r.queue) (sym r.is)
-      (run_keeps r.turns (opened t.world.coding t.world.kind t.world.capacity r.queue t.world.parties)
+      (run_keeps refusal_of (λ u. queue_in u.world.kept ≡ Some r.queue) (λ u turn e h. keeps_queue u.world turn ∙ h)
+      r.turns (opened t.world.coding t.world.kind t.world.capacity r.queue t.world.parties)
       (subst (λ kind. queue_in (kept_opened {T = T} kind t.world.capacity r.queue) ≡ Some r.queue) (sym is) refl))
-    where
-      attempt_keeps : (u : Trace T) (turn : Turn T) (o : Option Refusal) → queue_in u.world.kept ≡ Some r.queue
-          → queue_in (unless_refused u (after_turn u turn) o).world.kept ≡ Some r.queue
-      attempt_keeps u turn None h = keeps_queue u.world turn ∙ h
-      attempt_keeps u turn (Some refusal) h = h
-
-      run_keeps : (turns : List (Turn T)) (u : Trace T) → queue_in u.world.kept ≡ Some r.queue → queue_in (run turns u).world.kept ≡ Some r.queue
-      run_keeps [] u h = h
-      run_keeps (turn ∷ turns) u h = run_keeps turns (attempt u turn) (attempt_keeps u turn (refusal_of u.world turn) h)

@@ -21,8 +21,6 @@ use Rattle.laws_container.proofs.Sound.{reached_sound}
 use Rattle.laws_turns.specs.Questions.{WaitsForAnswers, IsAnswered}
 use Rattle.laws_turns.proofs.Standing.{under_way}
 
--- ---- any call
-
 module _ {T : Type 0} (code : Coding T) where
   find_waits : (size c : ℕ) (stage : FindStage) (value : T) → is_question (find_asks size c stage) ≡ is_some (find_question code stage value)
   find_waits x0 x1 x2 x3 = grind arith

@@ -1,12 +1,13 @@
 -- For clients: what follows for who has the whole share, and what their proofs are made of.
 pub use Rattle.lock_free_value.proofs.Versions as ValueVersions
 pub use Rattle.history.proofs.Known as HistoryKnown
+pub use Rattle.history.proofs.OneHolder as HistoryOneHolder
+pub use Rattle.history.proofs.Holders as HistoryHolders
 pub use Rattle.history.proofs.Acts as HistoryActs
 pub use Rattle.lock_free_queues.proofs.Queues.Positions as QueuePositions
 pub use Rattle.lock_free_queues.proofs.Queues.Promised as QueuePromises
 pub use Rattle.lock_free_queues.proofs.Queues.Sums as QueueSums
 pub use Rattle.lock_free_queues.proofs.Queues.Whole as QueueWhole
-pub use Rattle.history.proofs.OneHolder as HistoryOneHolder
 pub use Rattle.threaded.proofs.Fractions
 pub use Rattle.threaded.proofs.Shares
 mod Names

@@ -90,7 +90,7 @@ pub use Rattle.steps.specs.Container.State.{Numbers, Showing, no_numbers, shown_
 pub use Rattle.steps.specs.Indices.Robust.Acquire.{Acquired, acquire_after, acquire_tries, at_acquire, first_acquire}
 pub use Rattle.steps.specs.Indices.Robust.Looks.{borrowed_after, borrowed_counted, borrowed_want, first_borrowed}
 pub use Rattle.steps.specs.Indices.Robust.Parts.{cell_word, count_comes_to, empty, first_lock, greatest, lock_after}
-pub use Rattle.steps.specs.Indices.Robust.Parts.{lock_want, locked, raise_after, raise_want}
+pub use Rattle.steps.specs.Indices.Robust.Parts.{locked, raise_after}
 pub use Rattle.steps.specs.Indices.Robust.Recover.{at_recover, recover_after}
 pub use Rattle.steps.specs.Indices.Robust.Release.{Released, first_release}
 pub use Rattle.steps.specs.Picks.{by_eq, by_test}

@@ -9,6 +9,7 @@ use Rattle.model.specs.declared.turn.Kind.TheVariants as kinds
 use Rattle.model.specs.Reading.{Each}
 use Rattle.history.proofs.Known.{sum_first}
 use Rattle.lock_free_value.specs.Calls.{MissesNothing}
+use Rattle.history.proofs.Ranks.{same_place, hits_split, before_low, hits_grow}
 use Rattle.history.proofs.ValueHolders.{history_by_producers}
 use Rattle.history.proofs.ValueLaws.{answers_right, load_tells}
 use Rattle.history.proofs.Values.{value_goes_on}
@@ -34,50 +35,12 @@ none_left [] e = refl
 none_left (x ∷ xs) e = absurd (omega arith)
 
 module _ {T : Type 0} where
-  -- two stores of the same rank are one
-  same_place : (b1 b2 a1 a2 : List (Event T)) (e1 e2 : Event T) (x1 x2 : T) → stores e1 ≡ x1 ∷ []
-      → stores e2 ≡ x2 ∷ [] → b1 ++ e1 ∷ a1 ≡ b2 ++ e2 ∷ a2 → length (stored b1) ≡ length (stored b2) → e1 ≡ e2
-  same_place [] [] a1 a2 e1 e2 x1 x2 h1 h2 same ranks = cc
-  same_place [] (c ∷ b2) a1 a2 e1 e2 x1 x2 h1 h2 same ranks =
-      let first : e1 ≡ c = cc in
-      let one : length (stores c) ≡ 1 = ap length (sym (ap stores first) ∙ h1) in
-      let long = length-append (stores c) (stored b2) in
-      absurd (omega arith)
-  same_place (c ∷ b1) [] a1 a2 e1 e2 x1 x2 h1 h2 same ranks =
-      let first : e2 ≡ c = cc in
-      let one : length (stores c) ≡ 1 = ap length (sym (ap stores first) ∙ h2) in
-      let long = length-append (stores c) (stored b1) in
-      absurd (omega arith)
-  same_place (c ∷ b1) (d ∷ b2) a1 a2 e1 e2 x1 x2 h1 h2 same ranks =
-      let first : c ≡ d = cc in
-      let rest : b1 ++ e1 ∷ a1 ≡ b2 ++ e2 ∷ a2 = cc in
-      let alike : length (stores c) ≡ length (stores d) = ap (λ z. length (stores z)) first in
-      let long = length-append (stores c) (stored b1) in
-      let long' = length-append (stores d) (stored b2) in
-      same_place b1 b2 a1 a2 e1 e2 x1 x2 h1 h2 rest (omega arith)
-
-  -- what stands before an event, of what was stored in all
-  stored_before : (events before after : List (Event T)) (e : Event T) → events ≡ before ++ e ∷ after
-      → stored events ≡ stored before ++ (stores e ++ stored after)
-  stored_before events before after e is = ap stored is ∙ flat_map-append stores before (e ∷ after)
-
-  before_low : (events before after : List (Event T)) (e : Event T) → events ≡ before ++ e ∷ after
-      → length (stored before) + length (stores e) ≤ length (stored events)
-  before_low events before after e is =
-      let all = ap length (stored_before events before after e is) in
-      let long = length-append (stored before) (stores e ++ stored after) in
-      let more = length-append (stores e) (stored after) in
-      omega arith
-
-  grows : (old new : List (Event T)) → IsBeginning old new → length (stored old) ≤ length (stored new)
-  grows x0 x1 x2 = grind (arith, length, stored, flat_map-append, stores, length-append)
-
   pub stored_once : (p q v : ℕ) (x y : T) (events : List (Event T)) → IsStored p v x events → IsStored q v y events → (p ≡ q) × (x ≡ y)
   stored_once p q v x y events a b =
       let ra = a.rank in
       let rb = b.rank in
       let same : ◌≡◌ {A = Event T} (Acted p (Atomic (Store x)) (Truth true)) (Acted q (Atomic (Store y)) (Truth true)) =
-      same_place a.before b.before a.after b.after (Acted p (Atomic (Store x)) (Truth true))
+      same_place stores a.before b.before a.after b.after (Acted p (Atomic (Store x)) (Truth true))
       (Acted q (Atomic (Store y)) (Truth true)) x y refl refl (sym a.is ∙ b.is) (omega arith) in
       (let l : p ≡ q = cc in l, let r : x ≡ y = cc in r)
 
@@ -92,9 +55,9 @@ module _ {T : Type 0} where
         let rb = b.rank in
         let told : y ≡ last_or zeros (stored b.before) = load_tells code 1 events h q y b.before b.after b.is in
         let one =
-        stored_before events a.before a.after (Acted p (Atomic (Store x)) (Truth true)) a.is
+        hits_split stores events a.before a.after (Acted p (Atomic (Store x)) (Truth true)) a.is
         ∙ sym (append_assoc (stored a.before) (x ∷ []) (stored a.after)) in
-        let two = stored_before events b.before b.after (Acted q (Atomic Load) (Loaded y)) b.is in
+        let two = hits_split stores events b.before b.after (Acted q (Atomic Load) (Loaded y)) b.is in
         let long = length-append (stored a.before) (x ∷ []) in
         let same : stored a.before ++ x ∷ [] ≡ stored b.before =
         same_part (stored a.before ++ x ∷ []) (stored b.before) (stored a.after) (stored b.after) (sym one ∙ two) (omega arith) in
@@ -104,8 +67,8 @@ module _ {T : Type 0} where
     loaded_loaded a b =
         let ra = a.rank in
         let rb = b.rank in
-        let one = stored_before events a.before a.after (Acted p (Atomic Load) (Loaded x)) a.is in
-        let two = stored_before events b.before b.after (Acted q (Atomic Load) (Loaded y)) b.is in
+        let one = hits_split stores events a.before a.after (Acted p (Atomic Load) (Loaded x)) a.is in
+        let two = hits_split stores events b.before b.after (Acted q (Atomic Load) (Loaded y)) b.is in
         let same : stored a.before ≡ stored b.before =
         same_part (stored a.before) (stored b.before) (stored a.after) (stored b.after) (sym one ∙ two) (omega arith) in
         load_tells code 1 events h p x a.before a.after a.is ∙ (ap (last_or zeros) same ∙ sym (load_tells code 1 events h q y b.before b.after b.is))
@@ -129,10 +92,16 @@ module _ {T : Type 0} where
   -- ---- versions that were known
 
   known_stored : (q v : ℕ) (y : T) (old : List (Event T)) → IsStored q v y old → v ≤ length (stored old) + 1
-  known_stored x0 x1 x2 x3 x4 = grind (arith, before_low)
+  known_stored q v y old a =
+      let low = before_low stores old a.before a.after (Acted q (Atomic (Store y)) (Truth true)) a.is in
+      let rank = a.rank in
+      omega arith
 
   known_loaded : (q v : ℕ) (y : T) (old : List (Event T)) → IsLoaded q v y old → v ≤ length (stored old) + 1
-  known_loaded x0 x1 x2 x3 x4 = grind (arith, before_low)
+  known_loaded q v y old a =
+      let low = before_low stores old a.before a.after (Acted q (Atomic Load) (Loaded y)) a.is in
+      let rank = a.rank in
+      omega arith
 
   pub stored_above : (x : T) (old new : View T) → (h : HasStored x old new)
       → IsStored h.by (length (stored old.seen) + 2) x new.seen
@@ -149,7 +118,7 @@ module _ {T : Type 0} where
       × ((q v : ℕ) (y : T) → IsStored q v y old.seen → v ≤ length (stored h.before) + 1)
       × ((q v : ℕ) (y : T) → IsLoaded q v y old.seen → v ≤ length (stored h.before) + 1)
   loaded_above x old new h =
-      let more = grows old.seen h.before h.since in (
+      let more = hits_grow stores old.seen h.before h.since in (
         record { before = h.before; after = h.after; is = h.is; rank = refl },
         λ q v y a. (let low = known_stored q v y old.seen a in omega arith),
         λ q v y a. (let low = known_loaded q v y old.seen a in omega arith),
@@ -174,7 +143,7 @@ module _ {T : Type 0} where
       let b = all_new is f in
       let c = count_is old.seen in
       let d = count_is new.seen in
-      let low = before_low new.seen h.before h.after (Acted h.by (Atomic Load) (Loaded x)) h.is in
+      let low = before_low stores new.seen h.before h.after (Acted h.by (Atomic Load) (Loaded x)) h.is in
       let since : stored h.before ≡ stored old.seen ++ stored h.since.rest = ap stored h.since.is ∙ flat_map-append stores old.seen h.since.rest in
       let long = ap length since in
       let more = length-append (stored old.seen) (stored h.since.rest) in

@@ -1,6 +1,7 @@
 -- The counts of a machine fit their types.
-use Rattle.model.proofs.Names.{Ask, Bool, List, None, Option, Some, arith, change_of, cond, false, one_if, step_count}
-use Rattle.model.proofs.Names.{true, ℕ, ◌≤◌}
+use Rattle.model.proofs.Names.{Ask, Bool, List, None, Option, Some, arith, change_of, cond, false, length, one_if, refl}
+use Rattle.model.proofs.Names.{step_count, true, words_after, ℕ, ◌≡◌, ◌≤◌}
+use Rattle.std.proofs.Common.{length-set}
 
 one_at_most : (b : Bool) → cond b 0 1 ≤ 1
 one_at_most true = omega arith
@@ -8,6 +9,11 @@ one_at_most false = omega arith
 
 pub change_small : (words : List ℕ) (ask : Option Ask) → change_of words ask ≤ 1
 change_small x0 x1 = grind (arith, one_at_most)
+
+-- as many words as before
+pub as_long : (words : List ℕ) (ask : Option Ask) → length (words_after words ask) ≡ length words
+as_long words None = refl
+as_long words (Some ask) = length-set words ask.word _
 
 pub steps_small : (ask : Option Ask) → step_count ask ≤ 1
 steps_small None = omega arith

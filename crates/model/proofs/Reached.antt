@@ -49,7 +49,7 @@ module _ {T : Type 0} where
     allowed_is : (t : Trace T) (turn : Turn T) → refuses t.world turn ≡ None → attempt_by refuses t turn ≡ after_turn t turn
     allowed_is t turn e = ap (unless_refused t (after_turn t turn)) e
 
-    -- wherever it began
+    -- from wherever the run began
     leads_on : (turns : List (Turn T)) (turn : Turn T) (t first : Trace T) → refuses t.world turn ≡ None
         → t ≡ run_by refuses turns first → after_turn t turn ≡ run_by refuses (turns ++ turn ∷ []) first
     leads_on turns turn t first e is =
@@ -137,7 +137,7 @@ module _ {T : Type 0} where
     attempt_keeps t turn None e h = keeps t turn e h
     attempt_keeps t turn (Some refusal) e h = h
 
-    run_keeps : (turns : List (Turn T)) (t : Trace T) → P t → P (run_by refuses turns t)
+    pub run_keeps : (turns : List (Turn T)) (t : Trace T) → P t → P (run_by refuses turns t)
     run_keeps [] t h = h
     run_keeps (turn ∷ turns) t h = run_keeps turns (attempt_by refuses t turn) (attempt_keeps t turn (refuses t.world turn) refl h)
 

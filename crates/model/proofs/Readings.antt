@@ -49,7 +49,7 @@ module _ {T : Type 0} where
   pub Each-nil : (P : List (Event T) → Event T → Type 0) → Each P []
   Each-nil P before after e is = absurd (no_more before e after is)
 
-  -- of a list, and so of its beginning
+  -- what holds of each event of a list holds of each event of its beginning
   pub Each-less : (P : List (Event T) → Event T → Type 0) (events es : List (Event T)) → Each P (events ++ es) → Each P events
   Each-less P events es all before after e is =
       all before (after ++ es) e (ap (λ xs. xs ++ es) is ∙ append_assoc before (e ∷ after) es)

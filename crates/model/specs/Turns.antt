@@ -193,7 +193,7 @@ module _ {T : Type 0} where
   unless_refused old new None = new
   unless_refused old new (Some refusal) = old
 
-  -- runs in which `refuses` says why a turn is refused, and a refused turn changes nothing
+  -- turns where `refuses` says why one is refused, which then changes nothing
   module _ (refuses : World T → Turn T → Option Refusal) where
     abbrev pub attempt_by : Trace T → Turn T → Trace T
     attempt_by t turn = unless_refused t (after_turn t turn) (refuses t.world turn)
@@ -216,7 +216,7 @@ module _ {T : Type 0} where
       pub is : t
           ≡ run_by turns (opening t.world.coding t.world.kind t.world.capacity t.world.parties)
 
-  -- the turns and the runs of a machine
+  -- of machines: a turn, turns, and that none is refused
   abbrev pub attempt : Trace T → Turn T → Trace T
   attempt = attempt_by refusal_of
 

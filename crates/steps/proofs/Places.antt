@@ -1,6 +1,6 @@
 -- The first index that is sent, among those from an index on.
-use Rattle.std.proofs.Common.{◌≡◌, ◌∙◌, ℕ, suc, ◌+◌, ◌-◌, ◌<◌, ◌≤◌, ap, arith}
-use Rattle.std.specs.Prelude.{true, false, Some, None, List, if◌then◌else◌}
+use Rattle.std.proofs.Common.{◌≡◌, ◌∙◌, ℕ, suc, ◌+◌, ◌-◌, ◌<◌, ap, arith}
+use Rattle.std.specs.Prelude.{true, false, Some, List, if◌then◌else◌}
 use Rattle.steps.specs.declared.loan.places.Place.{Place}
 use Rattle.steps.specs.Loan.Places.{is_sent, place_at, sent_within, next_sent}
 
@@ -26,8 +26,3 @@ pub goes_further : (places : List Place) (slots index : ℕ) → index < slots
 goes_further places slots index low kept =
     one_left places slots index low
     ∙ ap (λ b. if b then Some index else next_sent places slots (index + 1)) kept
-
-pub none_left : (places : List Place) (slots index : ℕ) → slots ≤ index
-    → next_sent places slots index ≡ None
-none_left places slots index past =
-    let left : slots - index ≡ 0 = omega (arith, past) in ap (sent_within places index) left

@@ -1,4 +1,4 @@
--- What became of a call that went on, where the call lies and its events are written down.
+-- What `advance` does to a call, to what its family keeps, and to the list of events: one step of the model.
 use Rattle.std.specs.Prelude.{◌≡◌, List, ◌++◌}
 use Rattle.steps.specs.Ask.{CameTo}
 use Rattle.model.specs.declared.event.Event.{Event}
@@ -8,7 +8,7 @@ use Rattle.model.specs.declared.families.Went.{Went}
 use Rattle.model.specs.Step.{Step}
 
 -- it is what this step makes of the call and of what its family keeps, and the events of the step were added
-pub record IsStep {T : Type 0} (step : Step (Flight T) (Registry T) T) (went : Went T) (flight : Flight T) (registry : Registry T)
+pub record IsOfStep {T : Type 0} (step : Step (Flight T) (Registry T) T) (went : Went T) (flight : Flight T) (registry : Registry T)
     (old new : List (Event T)) : Type 0 where
   pub after : CameTo went.done flight step.after
   pub back : went.back ≡ step.back

@@ -4,7 +4,7 @@ ghost use Rattle.model.specs.Families.{opening_of, first_of, begin_rows, want_of
 ghost use Rattle.model.specs.Families.{step_of, going_rows, lacks_party, death_rows, kept_after_death, kept_after_begin};
 ghost use Rattle.model.specs.Rows.{first_row};
 ghost use Rattle.model.specs.declared.turn.Refusal.TheVariants.{NoMemory};
-ghost use Rattle.turns.specs.Went.{IsStep};
+ghost use Rattle.turns.specs.Went.{IsOfStep};
 
 use model::coding::Coded;
 use model::event::{Event, Start};
@@ -254,7 +254,7 @@ pub fn advance<T: Words>(
 ) -> Went<T>
     requires { vec_len events.old + most_of ⟦<T as Coded>⟧.coding flight.old
         ≤ vec_capacity events.old }
-    ensures step { IsStep (step_of ⟦<T as Coded>⟧.coding words.now.items beside number start.now flight.old answer
+    ensures step { IsOfStep (step_of ⟦<T as Coded>⟧.coding words.now.items beside number start.now flight.old answer
         kept.old) result flight.new kept.new events.old.items events.new.items }
     ensures few { vec_len events.new
         ≤ vec_len events.old + most_of ⟦<T as Coded>⟧.coding flight.old }

@@ -15,7 +15,8 @@ use Rattle.model.specs.declared.families.bits.BitsStart as starts
 use Rattle.laws_bits.proofs.Bits.Invariant.{Holds, bit_set}
 use Rattle.laws_bits.proofs.Bits.Knows.{NextStands, KnowsNext, Passed, Began, next_at, next_number, next_wrote}
 use Rattle.laws_bits.proofs.Bits.Sets.{element_near}
-use Rattle.laws_bits.proofs.Bits.Steps.{same_bits, goes_on, ends, pays_by, as_long, by_parts}
+use Rattle.model.proofs.Counts.{as_long}
+use Rattle.laws_bits.proofs.Bits.Steps.{same_bits, goes_on, ends, pays_by, by_parts}
 use Rattle.laws_bits.proofs.Family.{SetState, StepShows, ShowsStep}
 use Rattle.laws_bits.proofs.Words.{load_leaves, failed_leaves, done_writes}
 

@@ -12,7 +12,8 @@ use Rattle.model.specs.declared.event.Event as told
 use Rattle.model.specs.declared.families.bits.BitsStart as starts
 use Rattle.laws_bits.proofs.Bits.Invariant.{Holds, bit_set}
 use Rattle.laws_bits.proofs.Bits.Knows.{SetStands, KnowsSet, set_at, set_number}
-use Rattle.laws_bits.proofs.Bits.Steps.{same_bits, ends, pays_by, as_long}
+use Rattle.model.proofs.Counts.{as_long}
+use Rattle.laws_bits.proofs.Bits.Steps.{same_bits, ends, pays_by}
 use Rattle.laws_bits.proofs.Family.{SetState, StepShows, ShowsStep}
 use Rattle.laws_bits.proofs.Words.{load_leaves, failed_leaves, done_writes}
 

@@ -1,12 +1,13 @@
 -- What a step of a call of the bit set has to show: the common cases.
-use Rattle.laws_bits.proofs.Names.{◌≡◌, ℕ, ◌+◌, ◌≤◌, Bool, Option, Some, None, List, [], ◌∷◌, ◌++◌, fold, length}
-use Rattle.laws_bits.proofs.Names.{get_or, refl, ap, length-set, Ask, After, GoOn, Done, stands, Answer, Event}
+use Rattle.laws_bits.proofs.Names.{◌≡◌, ℕ, ◌+◌, ◌≤◌, Bool, Option, List, [], ◌∷◌, ◌++◌, fold}
+use Rattle.laws_bits.proofs.Names.{get_or, refl, ap, Ask, After, GoOn, Done, stands, Answer, Event}
 use Rattle.laws_bits.proofs.Names.{Finished, Bits, BitsStart, BitsFlight, Coding, ask_of, most_bits_steps, want}
 use Rattle.laws_bits.proofs.Names.{after, goes_back, BitsAnswerRight, BitsWrote, sets, clears, position_after}
 use Rattle.laws_bits.proofs.Names.{effects_of, Open, span_of, one_if, old_of, words_after, change_of, step_count}
 use Rattle.laws_bits.proofs.Names.{AreRight}
 use Rattle.std.proofs.Common.{arith}
 use Rattle.laws_bits.proofs.Bits.Invariant.{Pays, Preserves, rest_preserves, bit_set}
+use Rattle.model.proofs.Counts.{as_long}
 use Rattle.laws_bits.proofs.Bits.Knows.{CallAt, KnowsCall, call_wrote, number_of}
 use Rattle.laws_bits.proofs.Family.{SetState, StepShows, ShowsStep}
 use Rattle.laws_bits.proofs.Spans.{wrote_in}
@@ -15,11 +16,6 @@ use Rattle.laws_bits.proofs.Words.{change_one}
 -- the words of any operation are paid
 pub pays_by : (words : List ℕ) (ask : Option Ask) (changes : ℕ) → Pays words (words_after words ask) changes (changes + change_of words ask)
 pays_by x0 x1 x2 = grind (arith, change_one)
-
--- as long as before
-pub as_long : (words : List ℕ) (ask : Option Ask) → length (words_after words ask) ≡ length words
-as_long words None = refl
-as_long words (Some ask) = length-set words ask.word _
 
 module _ {T : Type 0} (code : Coding T) (c : ℕ) (s : SetState T) (events : List (Event T)) (turns p changes since steps backs : ℕ) where
   abbrev Does : List (Event T) → BitsStart → Option Ask → Bool → After BitsFlight (Answer T) → List (Event T) → Type 0

@@ -18,16 +18,13 @@ module _ {T : Type 0} (z : Coding T) where
   fresh_any x0 x1 x2 = grind arith
 
 module _ {T : Type 0} where
-  run_more : (turns : List (Turn T)) (turn : Turn T) (t : Trace T) → run_on (turns ++ turn ∷ []) t ≡ attempt_on (run_on turns t) turn
-  run_more turns turn t = run_by_more call_refusal turns turn t
-
   may_more : (turns : List (Turn T)) (turn : Turn T) (t : Trace T) → AllMay IsFreshTurn turns t
       → IsFreshTurn (run_on turns t) turn → AllMay IsFreshTurn (turns ++ turn ∷ []) t
   may_more [] turn t all one = (λ e. one, tt)
   may_more (x ∷ xs) turn t all one = (all.0, may_more xs turn (attempt_on t x) all.1 one)
 
   pub fresh_more : (t : Trace T) (turn : Turn T) → call_refusal t.world turn ≡ None → IsFreshTurn t turn → IsFreshRun t → IsFreshRun (after_turn t turn)
-  fresh_more x0 x1 x2 x3 x4 = grind (arith, turn_making, opening, after_turn, run_more, may_more)
+  fresh_more x0 x1 x2 x3 x4 = grind (arith, turn_making, opening, after_turn, run_by_more, may_more)
 
   pub fresh_opening : (code : Coding T) (kind : Kind) (capacity parties : ℕ) → IsFreshRun (opening code kind capacity parties)
   fresh_opening code kind capacity parties = record { turns = []; is = refl; fresh = tt }

@@ -81,7 +81,7 @@ module _ {T F : Type 0} (code : Coding T) (step : F → T → Bool → F → Typ
     stepped w (Done e) left visits q n goes ends so =
         record {
           ends = ((left, visits), ends);
-          recovered =
+          did =
               record {
                 from = ends.from;
                 settled = ends.settled;

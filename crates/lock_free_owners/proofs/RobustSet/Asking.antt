@@ -1,15 +1,13 @@
 -- Where a recovery asks about an index, or has been told to free it, the set was not locked when it began.
 use Rattle.lock_free_owners.proofs.Names.{◌≡◌, inl, inr, ℕ, ◌+◌, ◌<◌, ◌==◌, nat_lt, Bool, true, false, true≢false}
 use Rattle.lock_free_owners.proofs.Names.{refl, arith, Option, Some, None, List, [], ◌∷◌, ◌++◌, sym, ap, subst, ◌∙◌}
-use Rattle.lock_free_owners.proofs.Names.{append_assoc, raise_want, lock_want, at_recover, by_test, After, GoOn, Done}
+use Rattle.lock_free_owners.proofs.Names.{append_assoc, at_recover, by_test, After, GoOn, Done}
 use Rattle.lock_free_owners.proofs.Names.{ReleaseMode, ReleaseState, Recovering, Event, Begun, Asked, Robust, Flight}
 use Rattle.lock_free_owners.proofs.Names.{one_word, is_question, is_locked, Each, number_of, Word, View, IsHistory}
 use Rattle.lock_free_owners.proofs.Names.{recovers_owned, HasAsked, WasTold, HasLocked, Visit, visit, visits_taken}
 use Rattle.lock_free_owners.proofs.Names.{wrote_to, wrote_by, wrote_now, wider, wrote_last, Since, opened, IsUnderWay}
 use Rattle.lock_free_owners.proofs.Names.{IsFirst, is_open_set}
 use Rattle.steps.specs.Indices.Robust.Recover.{recover_asks, recover_comes_to, recover_takes}
-use Rattle.steps.specs.declared.indices.robust.parts.Lock.{Lock}
-use Rattle.steps.specs.declared.indices.robust.parts.Raise.{Raise}
 use Rattle.steps.specs.declared.indices.robust.recover.RecoverStage.{RecoverStage}
 use Rattle.steps.specs.declared.indices.robust.recover.RecoverStage.TheVariants as recovers
 use Rattle.model.specs.declared.event.Event.TheVariants.{Told}
@@ -18,6 +16,7 @@ use Rattle.model.specs.declared.families.indices.robust.RobustStart.TheVariants.
 use Rattle.model.specs.declared.families.indices.robust.calls.RobustFlight.TheVariants as calls
 use Rattle.model.specs.declared.turn.Kind.TheVariants as kinds
 use Rattle.laws_robust.specs.Gone.{AsksBy}
+use Rattle.laws_robust.proofs.Told.{raise_asks_none, lock_asks_none}
 use Rattle.history.specs.Robust.{RecoverIn, Came, HasFreed}
 use Rattle.history.specs.Robust.{VisitsAt, visits_after}
 use Rattle.history.proofs.RobustVisits.{one_more}
@@ -27,12 +26,6 @@ use Rattle.lock_free_owners.proofs.RobustSet.Events.{find_own, covers}
 use Rattle.lock_free_owners.proofs.Rules.Robust.Recovering.{IsOpenAt, Knows}
 
 -- ---- which stage asks
-
-raise_asks_none : (raise : Raise) → is_question (raise_want raise) ≡ true → ⊥
-raise_asks_none x0 x1 = grind arith
-
-lock_asks_none : (lock : Lock) → is_question (lock_want lock) ≡ true → ⊥
-lock_asks_none x0 x1 = grind arith
 
 -- the stage of a recovery that is a flight
 abbrev stage_in : Option (Flight ℕ) → RecoverStage

@@ -1,4 +1,4 @@
--- Events in a history: where those of a party stand.
+-- Where the events of a party stand in a history; a moment of a call comes after all that stood before its begin.
 use Rattle.lock_free_owners.proofs.Names.{◌≡◌, ℕ, Bool, true, false, List, [], ◌∷◌, ◌++◌, refl, sym}
 use Rattle.lock_free_owners.proofs.Names.{ap, subst, ◌∙◌, Event, Begun, Start, BeginsNone}
 use Rattle.lock_free_owners.proofs.Names.{whose, is_party, IsBeginning}

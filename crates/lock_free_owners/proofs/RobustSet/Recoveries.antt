@@ -73,15 +73,15 @@ module _ {F S : Type 0} (step : F → ℕ → ℕ → Bool → F → Type 0) (te
   module _ (call : Recovering) (is : call ≡ first_recover cap) (at : RecoverAt mode base base (first_recover cap) []) (w : View ℕ)
       (after : After Recovering ReleaseState)
       (goes : (k : ℕ) × (after ≡ recover_after call mode k) × RecoverSteps mode base call k after w) where
-    first_led : LedTo step tell cap mode base f s w after f s
-    first_led =
+    first_leads : LedTo step tell cap mode base f s w after f s
+    first_leads =
         moves_to base w call after goes.0 goes.2 f f s s (stands_first call is at) (counter_moves call after goes.0 is goes.1 f s)
 
-    pub first_on : (next : Recovering) → after ≡ GoOn next → Stands w next f s
-    first_on next e = subst (λ a. LedTo step tell cap mode base f s w a f s) e first_led
+    pub first_leads_on : (next : Recovering) → after ≡ GoOn next → Stands w next f s
+    first_leads_on next e = subst (λ a. LedTo step tell cap mode base f s w a f s) e first_leads
 
-    pub first_end : (state : ReleaseState) → after ≡ Done state → Ended w state f s
-    first_end state e = subst (λ a. LedTo step tell cap mode base f s w a f s) e first_led
+    pub first_leads_end : (state : ReleaseState) → after ≡ Done state → Ended w state f s
+    first_leads_end state e = subst (λ a. LedTo step tell cap mode base f s w a f s) e first_leads
 
   -- a step that may leave the call as it is, and leaves its visits
   module _ (v w : View ℕ) (call : Recovering) (after : After Recovering ReleaseState) (goes : RecoverGoes mode v call (λ visits. visits) after w)

@@ -72,13 +72,13 @@ module _ {T : Type 0} (code : Coding T) where
         ⊎ (Rests by (Container (Find owner)) (Number number) (copied by visits) from new
         × (bound ≡ asked_below new.going))
 
-  -- A whole find by a closure whose steps these are, of a container with this number: what it left, copied, counted and
-  -- took, and what the closure made of each copy.
+  -- A whole find, in a container with this number, by a closure with these steps: how it leaves the pass, how many
+  -- indices it came to, what it copied, what the closure became, and how many operations it took.
   pub record IsSearched {F : Type 0} (step : F → T → ContainerHandle → CallbackProgression → F → Type 0)
       (capacity owner id number : ℕ) (f : F) (old new : View T) (g : F) : Type 0 where
     pub left : IsLeft code old new
     pub bound : ℕ
     pub visits : List (Visit T)
-    pub searched : HasSearched capacity owner number bound visits old new
+    pub did : HasSearched capacity owner number bound visits old new
     pub found : HasFound step capacity (IsNamed capacity owner id) f number bound visits g
     pub steps : FindTakes code capacity old new

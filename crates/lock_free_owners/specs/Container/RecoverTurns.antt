@@ -122,8 +122,8 @@ module _ {T R F : Type 0} where
       × (after ≡ recover_after size call given (if yes then 1 else 0))
   RecoverMoves step size call given stage value f after g = g ≡ f
 
--- a whole recovery, and where it leaves the pass
+-- a whole recovery: what it adds to the history, what the closure became, and how it leaves the pass
 pub record IsRecovered {T F : Type 0} (code : Coding T) (step : F → T → Bool → F → Type 0) (given : DeadOwner)
     (state : ReleaseState) (capacity : ℕ) (f last : F) (old new : View T) : Type 0 where
   pub ends : (m : Visiting T) × RecoverEnds code given old state m new
-  pub recovered : HasRecovered code step given state capacity f last old new
+  pub did : HasRecovered code step given state capacity f last old new

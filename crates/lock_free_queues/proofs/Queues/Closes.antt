@@ -20,7 +20,8 @@ use Rattle.history.proofs.Known.{begins_further}
 use Rattle.lock_free_queues.proofs.Queues.Cells.{get_behind, item_same, Stands, stands}
 use Rattle.lock_free_queues.proofs.Queues.Facts.{listed_always}
 use Rattle.lock_free_queues.proofs.Queues.Indices.{is_coding}
-use Rattle.lock_free_queues.proofs.Queues.Positions.{get_left, hits_grow}
+use Rattle.history.proofs.Ranks.{hits_grow}
+use Rattle.lock_free_queues.proofs.Queues.Positions.{get_left}
 use Rattle.lock_free_queues.proofs.Queues.Reads.{read_here, write_here, taken_here}
 use Rattle.lock_free_queues.proofs.Queues.Whole.{none_more}
 

@@ -18,7 +18,7 @@ use Rattle.lock_free_queues.specs.Queues.Contracts.{HasPublished, HasPopped, Was
 use Rattle.lock_free_queues.proofs.Queues.Ended.{was_at_end, has_popped, IsPop}
 use Rattle.lock_free_queues.proofs.Queues.Facts.{found_none, published_by}
 use Rattle.lock_free_queues.proofs.Queues.Indices.{in_room}
-use Rattle.history.proofs.OneHolder.{find_own, first_wrote}
+use Rattle.history.proofs.OneHolder.{first_own, first_wrote}
 
 module _ {T : Type 0} where
   told_is : (p value : ℕ) (m : OneWord) (e : PushEnd) → HasActed e → over_push_wrote {T = T} p value m.0 e ≡ over_push_events p value (push_answer value m.0 e)
@@ -50,7 +50,7 @@ module _ {T : Type 0} (code : Coding T) (base w : View T) (h : IsHistory code ki
       let act : Event T = Acted p start (PoppedIndex oldest) in
       let out : Event T = HandedOut p (Index oldest) in
       let at = first_wrote p start (PoppedIndex oldest) (Published p (Index value)) (out ∷ act ∷ []) base w push.called in
-      let then = find_own p at.after (act ∷ Finished p start (PoppedIndex oldest) ∷ []) out at.mine in
+      let then = first_own p at.after (act ∷ Finished p start (PoppedIndex oldest) ∷ []) out at.mine in
       let before : List (Event T) = at.before ++ Published p (Index value) ∷ then.0 in
       let is : w.seen ≡ before ++ out ∷ then.1 =
       at.is ∙ (ap (λ zs. at.before ++ Published p (Index value) ∷ zs) then.2
@@ -92,7 +92,7 @@ module _ {T : Type 0} (code : Coding T) (base w : View T) (h : IsHistory code ki
 
 -- ---- how they ended
 
--- it is left out where its first load finds the last position
+-- a push is left out where its first load finds the last position
 over_ends_at : (capacity value n : ℕ) (a : Ask) (stage : pushes.PushStage) → over_push_skips stage n ≡ true
     → push_asks capacity stage value ≡ wants.Ask a → (a.word ≡ 0) × (n ≡ 2 ^ 64 - 1)
 over_ends_at x0 x1 x2 x3 x4 x5 x6 = grind (arith, nat_tests)

@@ -17,7 +17,7 @@ use Rattle.lock_free_queues.specs.Queues.Sums.{puts, gets}
 use Rattle.lock_free_queues.specs.Queues.Contracts.{HasAcquired, HasPopped, WasEmpty, PushRefused, PopDone, PopEmpty, HasSplit, HasJoined}
 use Rattle.steps.specs.Objects.Lists.{Bounded}
 use Rattle.lock_free_queues.proofs.Queues.Facts.{listed_always}
-use Rattle.lock_free_queues.proofs.Queues.Positions.{hits_grow}
+use Rattle.history.proofs.Ranks.{hits_grow}
 use Rattle.lock_free_queues.proofs.Queues.Promised.{sound}
 use Rattle.lock_free_queues.proofs.Queues.Sent.{length_named, only_these}
 use Rattle.lock_free_queues.proofs.Queues.Sums.{whole_counted}

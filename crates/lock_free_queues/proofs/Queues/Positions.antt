@@ -1,10 +1,11 @@
 -- The laws of positions.
-use Rattle.lock_free_queues.proofs.Names.{◌≡◌, ℕ, zero, suc, ◌+◌, ◌<◌, ◌≤◌, Some, List, [], ◌∷◌, ◌++◌, length, drop}
+use Rattle.lock_free_queues.proofs.Names.{◌≡◌, ℕ, zero, suc, ◌+◌, ◌<◌, Some, List, [], ◌∷◌, ◌++◌, length, drop}
 use Rattle.lock_free_queues.proofs.Names.{slice_get, refl, sym, ap, ◌∙◌, append_assoc, false, arith, flat_map}
 use Rattle.lock_free_queues.proofs.Names.{length-drop, flat_map-append, Event, Truth, Published, HandedOut, Acted}
 use Rattle.lock_free_queues.proofs.Names.{Queues, Item, Coding, published, handed_out, waiting, publishes, hands_out}
 use Rattle.lock_free_queues.proofs.Names.{View, IsBeginning, IsHistory, machine_kind, Ring, kind_of, always_listed}
 use Rattle.std.proofs.lemmas.List.{length-append}
+use Rattle.history.proofs.Ranks.{same_place, rank_low, hits_grow}
 use Rattle.lock_free_queues.proofs.Queues.Facts.{answers_right, tells_lengths, grants, by_holder}
 use Rattle.lock_free_queues.specs.Queues.Positions.{IsPublished, IsTaken, IsSound}
 use Rattle.lock_free_queues.specs.Queues.Contracts.{push_of, HasPublished, HasTakenOut, WasEmpty, FoundNone, WasFull}
@@ -18,43 +19,10 @@ get_left [] ys i x e = absurd (cc)
 get_left (z ∷ xs) ys zero x e = e
 get_left (z ∷ xs) ys (suc i) x e = get_left xs ys i x e
 
-module _ {T A : Type 0} (hit : Event T → List A) where
-  abbrev hits : List (Event T) → List A
-  hits events = flat_map hit events
-
-  -- two events of the same rank are one
-  same_place : (b1 b2 a1 a2 : List (Event T)) (e1 e2 : Event T) (x1 x2 : A) → hit e1 ≡ x1 ∷ [] → hit e2 ≡ x2 ∷ []
-      → b1 ++ e1 ∷ a1 ≡ b2 ++ e2 ∷ a2 → length (hits b1) ≡ length (hits b2) → e1 ≡ e2
-  same_place [] [] a1 a2 e1 e2 x1 x2 h1 h2 same ranks = cc
-  same_place [] (c ∷ b2) a1 a2 e1 e2 x1 x2 h1 h2 same ranks =
-      let first : e1 ≡ c = cc in
-      let one : length (hit c) ≡ 1 = ap length (sym (ap hit first) ∙ h1) in
-      let long = length-append (hit c) (hits b2) in
-      absurd (omega arith)
-  same_place (c ∷ b1) [] a1 a2 e1 e2 x1 x2 h1 h2 same ranks =
-      let first : e2 ≡ c = cc in
-      let one : length (hit c) ≡ 1 = ap length (sym (ap hit first) ∙ h2) in
-      let long = length-append (hit c) (hits b1) in
-      absurd (omega arith)
-  same_place (c ∷ b1) (d ∷ b2) a1 a2 e1 e2 x1 x2 h1 h2 same ranks =
-      let first : c ≡ d = cc in
-      let rest : b1 ++ e1 ∷ a1 ≡ b2 ++ e2 ∷ a2 = cc in
-      let alike : length (hit c) ≡ length (hit d) = ap (λ z. length (hit z)) first in
-      let long = length-append (hit c) (hits b1) in
-      let long' = length-append (hit d) (hits b2) in
-      same_place b1 b2 a1 a2 e1 e2 x1 x2 h1 h2 rest (omega arith)
-
-  -- it stands at its rank
-  at_rank : (before after : List (Event T)) (e : Event T) (x : A) → hit e ≡ x ∷ [] → slice_get (hits (before ++ e ∷ after)) (length (hits before)) ≡ Some x
-  at_rank x0 x1 x2 x3 x4 = grind (arith, length, flat_map-append, get_here)
-
-  -- the rank of what stands is below their number
-  rank_low : (events before after : List (Event T)) (e : Event T) (x : A) → hit e ≡ x ∷ []
-      → events ≡ before ++ e ∷ after → length (hits before) < length (hits events)
-  rank_low x0 x1 x2 x3 x4 x5 x6 = grind (arith, length, flat_map-append, length-append)
-
-  pub hits_grow : (old before : List (Event T)) → IsBeginning old before → length (hits old) ≤ length (hits before)
-  hits_grow x0 x1 x2 = grind (arith, length, flat_map-append, length-append)
+-- it stands at its rank
+at_rank : {T A : Type 0} (hit : Event T → List A) (before after : List (Event T)) (e : Event T) (x : A) → hit e ≡ x ∷ []
+    → slice_get (flat_map hit (before ++ e ∷ after)) (length (flat_map hit before)) ≡ Some x
+at_rank x0 x1 x2 x3 x4 = grind (arith, length, flat_map-append, get_here)
 
 module _ {T : Type 0} (events : List (Event T)) (q j : ℕ) (y : Item T) where
   -- each position is below their number

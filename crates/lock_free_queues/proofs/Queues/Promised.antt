@@ -16,7 +16,8 @@ use Rattle.history.proofs.Reached.{queue_run}
 use Rattle.lock_free_queues.specs.Queues.Bounded.{IsBounded, machine_kind}
 use Rattle.lock_free_queues.specs.Queues.Positions.{IsPublished, IsTaken, IsSound, IsOverSound}
 use Rattle.lock_free_queues.specs.Queues.Contracts.{HasPublished, HasTakenOut, HasTakenFirst, WasEmpty, FoundNone, WasFull}
-use Rattle.lock_free_queues.proofs.Queues.Positions.{values_agree, sound_history, published_at, taken_at, none_later, found_later, full_below, hits_grow}
+use Rattle.history.proofs.Ranks.{hits_grow}
+use Rattle.lock_free_queues.proofs.Queues.Positions.{values_agree, sound_history, published_at, taken_at, none_later, found_later, full_below}
 use Rattle.lock_free_queues.proofs.Queues.Facts.{answers_right, tells_lengths, grants, listed_always}
 
 module _ {T : Type 0} (code : Coding T) where

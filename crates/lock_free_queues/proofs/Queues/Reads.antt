@@ -16,7 +16,7 @@ use Rattle.lock_free_queues.specs.Queues.Contracts.{HasLooked}
 use Rattle.lock_free_queues.proofs.Queues.Kinds.{words_long}
 use Rattle.lock_free_queues.specs.Queues.Reads.{WasRead, CellsRead, HasRead, LastWords}
 use Rattle.history.proofs.Known.{begins_further, itself}
-use Rattle.lock_free_queues.proofs.Queues.Positions.{hits_grow}
+use Rattle.history.proofs.Ranks.{hits_grow}
 use Rattle.lock_free_queues.proofs.Queues.Whole.{none_more}
 
 module _ {T : Type 0} where

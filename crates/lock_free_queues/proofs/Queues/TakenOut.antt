@@ -19,8 +19,8 @@ use Rattle.lock_free_queues.proofs.Queues.Sent.{appended_none, appended_more, ap
 use Rattle.lock_free_queues.proofs.Queues.Sums.{done_added, done_replaced, done_popped, done_none, done_acquired, done_released}
 use Rattle.lock_free_queues.proofs.Queues.Sums.{done_then, all_puts}
 use Rattle.lock_free_queues.proofs.Queues.Whole.{all_taken}
-use Rattle.history.proofs.Known.{begins_further}
-use Rattle.history.proofs.OneHolder.{find_own, first_wrote}
+use Rattle.history.proofs.Known.{begins_further, itself}
+use Rattle.history.proofs.OneHolder.{first_own, first_wrote}
 
 -- the number as an item of a queue
 abbrev pub item : ℕ → Item ℕ
@@ -192,8 +192,8 @@ takes_all c xs role v w u k goes h = takes_same c xs v w u k goes (done_released
 pub takes_here : (v : View ℕ) → HasTaken [] v v
 takes_here v =
     record {
-      since = record { rest = []; is = sym (append-nil v.seen) };
-      popped = took_none by_pop pop_lasts v v (record { rest = []; is = sym (append-nil v.seen) });
+      since = itself v.seen;
+      popped = took_none by_pop pop_lasts v v (itself v.seen);
       done = record { puts_more = omega arith; gets_more = omega arith };
       share = refl;
       all = λ none. none;
@@ -218,7 +218,7 @@ push_wrote back value oldest v w u k h =
     let act : Event ℕ = Acted p (Queues (PushIndex value)) (PoppedIndex oldest) in
     let last : Event ℕ = Finished p (Queues (PushIndex value)) (PoppedIndex oldest) in
     let at = first_wrote p (Queues (PushIndex value)) (PoppedIndex oldest) (Published p (Index value)) (HandedOut p (Index oldest) ∷ act ∷ []) w u h.called in
-    let part = find_own p at.after (act ∷ last ∷ []) (HandedOut p (Index oldest)) at.mine in
+    let part = first_own p at.after (act ∷ last ∷ []) (HandedOut p (Index oldest)) at.mine in
     let before : List (Event ℕ) = at.before ++ Published p (Index value) ∷ part.0 in
     let is : u.seen ≡ before ++ HandedOut p (Index oldest) ∷ part.1 =
     at.is ∙ (ap (λ es. at.before ++ Published p (Index value) ∷ es) part.2

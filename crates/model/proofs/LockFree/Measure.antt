@@ -7,6 +7,7 @@ use Rattle.model.proofs.Names.{kept_after_death, number_of, old_of, party_after,
 use Rattle.model.proofs.Names.{stretch, true, want_of, words_after, ℕ, ⊎_elim, ◌*◌, ◌+◌, ◌-◌}
 use Rattle.model.proofs.Names.{◌<◌, ◌∙◌, ◌≡◌, ◌≢◌, ◌≤◌, ◌⊎◌}
 use Rattle.steps.specs.declared.ask.After.TheVariants.{Done}
+use Rattle.model.proofs.Counts.{steps_small}
 use Rattle.model.proofs.Parties.{party_put_same, party_put_other}
 use Rattle.model.proofs.LockFree.Weighed.{ended_more}
 use Rattle.model.proofs.LockFree.Sums.{sum_below, sum_le, sum_falls, sum_rises, sum_most}
@@ -135,10 +136,6 @@ module _ {T : Type 0} (M : Measure T) where
     abbrev pub Shows : World T → World T → ℕ → ℕ → Type 0
     Shows old new steps ended = steps + weight new ≤ weight old + ended * (bound + 1)
 
-    few : (ask : Option Ask) → step_count ask ≤ 1
-    few None = omega arith
-    few (Some ask) = omega arith
-
     -- a call goes on by an answer
     pub resumes : (w : World T) (p : ℕ) (x : Party T) (flight : Flight T) (since answer : ℕ) (ask : Option Ask) → p < n
         → party_of p w.latest ≡ Some x → x.doing ≡ Going flight since
@@ -211,7 +208,7 @@ module _ {T : Type 0} (M : Measure T) where
         go (GoOn next) e = goes_on next e
         go (Done answer) e =
             let most = at_most new within in
-            let one = few ask in
+            let one = steps_small ask in
             let more = ended_more s.wrote (ending_of p x.start (answer_in s.after)) in
             let end : ends (ending_of p x.start (answer_in s.after)) ≡ 1 = rw e refl in
             let paid = worth 1 (ends (events_of_step p x.start s)) (bound + 1) (omega arith) in

@@ -1,4 +1,4 @@
--- From a weight of machines, which each turn that ends no call lowers by its steps, to a bound of the steps between two ends.
+-- From a weight of machines, lowered by its steps in each turn that ends no call, to a bound of the steps between ends.
 use Rattle.model.proofs.Names.{AllByRecursion, AreWithinEnds, Event, List, None, Option, Refusal, Trace, Turn, World, []}
 use Rattle.model.proofs.Names.{after_turn, after_turns, arith, ends, events_of, steps_in, sum_by-append, world_after, ℕ}
 use Rattle.model.proofs.Names.{◌*◌, ◌++◌, ◌+◌, ◌∷◌, ◌≡◌, ◌≤◌}
@@ -14,7 +14,7 @@ pub ended_more : {T : Type 0} (xs ys : List (Event T)) → ends (xs ++ ys) ≡ e
 ended_more xs ys = sum_by-append end_of xs ys
 
 module _ {T : Type 0} (refuses : World T → Turn T → Option Refusal) (May : Turn T → Type 0) (P : Trace T → Type 0) where
-  -- what is owed of the machines of which it speaks, and of such turns
+  -- what is owed of the machines of which P speaks, and of the turns that may be taken
   pub record Weighs (weight : World T → ℕ) (bound : ℕ) : Type 0 where
     pub keeps : (t : Trace T) (turn : Turn T) → refuses t.world turn ≡ None → May turn → P t → P (after_turn t turn)
     pub most : (t : Trace T) → P t → weight t.world ≤ bound

@@ -235,7 +235,7 @@ fn free_all<T: Words, F: FnMut(T) -> bool>(
         (λ p x b q. F.step p x b q) capacity predicate.old }
     ensures same { IsSame seat.old seat.new }
     ensures board { IsBoard T.WORDS seat.new }
-    ensures whole { IsRecovered (coding_of T.WORDS T.words_of T.value_of) (λ p x b q. F.step p x b q)
+    ensures recovered { IsRecovered (coding_of T.WORDS T.words_of T.value_of) (λ p x b q. F.step p x b q)
         (record { owner = owner; mode = mode }) result capacity predicate.old predicate.new (seen seat.old)
         (seen seat.new) }
 {

@@ -236,7 +236,7 @@ fn find_all<T: Words, F: FnMut(T, ContainerHandle) -> CallbackProgression>(
         (IsNamed capacity owner id) visit.old }
     ensures same { IsSame seat.old seat.new }
     ensures board { IsBoard T.WORDS seat.new }
-    ensures found { IsSearched (coding_of T.WORDS T.words_of T.value_of) (λ p x h a q. F.step p x h a q) capacity owner
+    ensures searched { IsSearched (coding_of T.WORDS T.words_of T.value_of) (λ p x h a q. F.step p x h a q) capacity owner
         id result visit.old (seen seat.old) (seen seat.new) visit.new }
 {
     let mut room = Copied { words: [0; 128] };

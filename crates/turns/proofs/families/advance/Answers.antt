@@ -36,11 +36,13 @@ returns-clause-step g c =
             | in_default-via-in-Atomic+in_default v ↦ record { after = search rules; back = search rules; kept = search rules; wrote = search rules }
             | in_default-via-in-Bits+in-Bits+in_default v ↦ record { after = search rules; back = search rules; kept = search rules; wrote = search rules }
             | in_default-via-in-Bits+in_default v ↦ record { after = search rules; back = search rules; kept = search rules; wrote = search rules }
-            | in_default-via-in-Indices+in-Indices+in_default v ↦ record { after = search rules; back = search rules; kept = search rules; wrote = search rules }
+            | in_default-via-in-Indices+in-Indices+in_default v ↦
+                record { after = search rules; back = search rules; kept = search rules; wrote = search rules }
             | in_default-via-in-Indices+in_default v ↦ record { after = search rules; back = search rules; kept = search rules; wrote = search rules }
             | in_default-via-in-Robust+in-Robust+in_default v ↦ record { after = search rules; back = search rules; kept = search rules; wrote = search rules }
             | in_default-via-in-Robust+in_default v ↦ record { after = search rules; back = search rules; kept = search rules; wrote = search rules }
-            | in_default-via-in-Container+in-Container+in_default v ↦ record { after = search rules; back = search rules; kept = search rules; wrote = search rules }
+            | in_default-via-in-Container+in-Container+in_default v ↦
+                record { after = search rules; back = search rules; kept = search rules; wrote = search rules }
             | in_default-via-in-Container+in_default v ↦ record { after = search rules; back = search rules; kept = search rules; wrote = search rules }
             | in_default-via-in-Loan+in-Loan+in_default v ↦ record { after = search rules; back = search rules; kept = search rules; wrote = search rules }
             | in_default-via-in-Loan+in_default v ↦ record { after = search rules; back = search rules; kept = search rules; wrote = search rules }

@@ -32,27 +32,27 @@ pub returns-clause-goes : goal.returns-clause-goes
 returns-clause-goes g c =
     let code : Coding g.row.T.Denot = coding_of g.T.Words.WORDS g.T.Words.words_of g.T.Words.value_of in
     subst (λ n. Goes code kinds.Container n (seen c.args.pass.now.token.seated) (seen c.find_all.new.seat)) c.args.pass.now.token.known
-    c.find_all.ensures.found.left.goes
+    c.find_all.ensures.searched.left.goes
 
 pub returns-clause-found : goal.returns-clause-found
 returns-clause-found g c =
     let code : Coding g.row.T.Denot = coding_of g.T.Words.WORDS g.T.Words.words_of g.T.Words.value_of in
-    let found = c.find_all.ensures.found in
+    let found = c.find_all.ensures.searched in
     let size = ap (λ (z : SetId). z.capacity) c.requires.pass in (
       found.visits,
       found.bound,
       subst (λ n. HasSearched code n c.args.owner c.find_all.result found.bound found.visits (seen c.args.pass.now.token.seated)
-          (seen c.find_all.new.seat)) size found.searched,
+          (seen c.find_all.new.seat)) size found.did,
       subst (λ n. HasFound (λ p x h a q. given.F-step g p x h a q) n (IsNamed n c.args.owner (number_of c.args.self.now)) c.args.visit.now
           c.find_all.result found.bound found.visits c.find_all.new.visit)
           size found.found,
     )
 
 pub returns-clause-keeps : goal.returns-clause-keeps
-returns-clause-keeps g c = c.find_all.ensures.found.left.keeps
+returns-clause-keeps g c = c.find_all.ensures.searched.left.keeps
 
 pub returns-clause-steps : goal.returns-clause-steps
 returns-clause-steps g c =
     let code : Coding g.row.T.Denot = coding_of g.T.Words.WORDS g.T.Words.words_of g.T.Words.value_of in
     subst (λ n. FindTakes code n (seen c.args.pass.now.token.seated) (seen c.find_all.new.seat)) (ap (λ (z : SetId). z.capacity) c.requires.pass)
-    c.find_all.ensures.found.steps
+    c.find_all.ensures.searched.steps

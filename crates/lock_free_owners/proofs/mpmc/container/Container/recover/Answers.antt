@@ -37,7 +37,7 @@ returns-clause-same g c =
     let dead : DeadOwner = record { owner = c.args.owner; mode = c.args.mode } in
     let v = seen c.args.pass.now.token.seated in
     let w = seen c.free_all.new.seat in
-    let ends = c.free_all.ensures.whole.ends in
+    let ends = c.free_all.ensures.recovered.ends in
     record {
       container = search rules;
       idle = ends.1.over.idle;
@@ -51,7 +51,7 @@ returns-clause-recovered g c =
     let dead : DeadOwner = record { owner = c.args.owner; mode = c.args.mode } in
     subst (λ n. HasRecovered code (λ p x b q. given.F-step g p x b q) dead c.free_all.result n c.args.predicate.now c.free_all.new.predicate
     (seen c.args.pass.now.token.seated) (seen c.free_all.new.seat))
-    (ap (λ (z : SetId). z.capacity) c.requires.pass) c.free_all.ensures.whole.recovered
+    (ap (λ (z : SetId). z.capacity) c.requires.pass) c.free_all.ensures.recovered.did
 
 pub returns-clause-answered : goal.returns-clause-answered
 returns-clause-answered g c =
@@ -59,7 +59,7 @@ returns-clause-answered g c =
     let code : Coding g.row.T.Denot = coding_of g.T.Words.WORDS g.T.Words.words_of g.T.Words.value_of in
     let law : IsCoding code = record { some = met.some; few = met.few; sized = met.sized; given_back = met.given_back } in
     recovered_answered code law (record { owner = c.args.owner; mode = c.args.mode }) (seen c.args.pass.now.token.seated) (seen c.free_all.new.seat)
-    c.free_all.result c.free_all.ensures.whole.ends.0 c.free_all.ensures.whole.ends.1
+    c.free_all.result c.free_all.ensures.recovered.ends.0 c.free_all.ensures.recovered.ends.1
 
 pub returns-clause-lock : goal.returns-clause-lock
 returns-clause-lock g c =
@@ -67,12 +67,12 @@ returns-clause-lock g c =
     let code : Coding g.row.T.Denot = coding_of g.T.Words.WORDS g.T.Words.words_of g.T.Words.value_of in
     let law : IsCoding code = record { some = met.some; few = met.few; sized = met.sized; given_back = met.given_back } in
     recovered_lock code law (record { owner = c.args.owner; mode = c.args.mode }) (seen c.args.pass.now.token.seated) (seen c.free_all.new.seat)
-    c.free_all.result c.free_all.ensures.whole.ends.0 c.free_all.ensures.whole.ends.1
+    c.free_all.result c.free_all.ensures.recovered.ends.0 c.free_all.ensures.recovered.ends.1
 
 pub returns-clause-keeps : goal.returns-clause-keeps
 returns-clause-keeps g c =
     recover_leaves (coding_of g.T.Words.WORDS g.T.Words.words_of g.T.Words.value_of) (seen c.args.pass.now.token.seated) (seen c.free_all.new.seat)
-    (record { owner = c.args.owner; mode = c.args.mode }) c.free_all.result c.free_all.ensures.whole.ends.0 c.free_all.ensures.whole.ends.1
+    (record { owner = c.args.owner; mode = c.args.mode }) c.free_all.result c.free_all.ensures.recovered.ends.0 c.free_all.ensures.recovered.ends.1
 
 pub returns-clause-steps : goal.returns-clause-steps
 returns-clause-steps g c =
@@ -80,4 +80,4 @@ returns-clause-steps g c =
     let v = seen c.args.pass.now.token.seated in
     let w = seen c.free_all.new.seat in
     subst (λ n. RecoverTakes code n c.args.mode v w) (c.args.pass.now.token.known ∙ ap (λ (z : SetId). z.capacity) c.requires.pass)
-    (recover_takes code v w c.args.owner c.args.mode c.free_all.result c.free_all.ensures.whole.ends.0 c.free_all.ensures.whole.ends.1)
+    (recover_takes code v w c.args.owner c.args.mode c.free_all.result c.free_all.ensures.recovered.ends.0 c.free_all.ensures.recovered.ends.1)

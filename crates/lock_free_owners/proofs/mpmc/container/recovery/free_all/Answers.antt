@@ -83,8 +83,8 @@ loop-preserved g c =
           (seen called.new.seat) called.result called.new.room called.new.predicate called.ensures.turns called.ensures.moves),
     )
 
-pub returns-in-Done-clause-whole : goal.returns-in-Done-clause-whole
-returns-in-Done-clause-whole g c =
+pub returns-in-Done-clause-recovered : goal.returns-in-Done-clause-recovered
+returns-in-Done-clause-recovered g c =
     let met = g.met.T.Words in
     let code : Coding g.row.T.Denot = coding_of g.T.Words.WORDS g.T.Words.words_of g.T.Words.value_of in
     let law : IsCoding code = record { some = met.some; few = met.few; sized = met.sized; given_back = met.given_back } in

@@ -85,8 +85,8 @@ loop-next-preserved g c =
           (seen called.new.seat) called.result called.new.room called.new.visit called.ensures.turns called.ensures.moves),
     )
 
-pub returns-in-Done-after-clause-found : goal.returns-in-Done-after-clause-found
-returns-in-Done-after-clause-found g c =
+pub returns-in-Done-after-clause-searched : goal.returns-in-Done-after-clause-searched
+returns-in-Done-after-clause-searched g c =
     let met = g.met.T.Words in
     let code : Coding g.row.T.Denot = coding_of g.T.Words.WORDS g.T.Words.words_of g.T.Words.value_of in
     let law : IsCoding code = record { some = met.some; few = met.few; sized = met.sized; given_back = met.given_back } in
@@ -105,8 +105,8 @@ returns-in-Done-after-clause-found g c =
     (seen passed.new.seat) c.in-GoOn.next c.loop-next.room c.loop-next.visit there
     (seen called.new.seat) called.result called.new.room called.new.visit called.ensures.turns called.ensures.moves)
 
-pub returns-in-Done-clause-found : goal.returns-in-Done-clause-found
-returns-in-Done-clause-found g c =
+pub returns-in-Done-clause-searched : goal.returns-in-Done-clause-searched
+returns-in-Done-clause-searched g c =
     let met = g.met.T.Words in
     let code : Coding g.row.T.Denot = coding_of g.T.Words.WORDS g.T.Words.words_of g.T.Words.value_of in
     let law : IsCoding code = record { some = met.some; few = met.few; sized = met.sized; given_back = met.given_back } in

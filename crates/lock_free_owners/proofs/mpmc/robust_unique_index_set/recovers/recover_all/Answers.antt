@@ -1,5 +1,5 @@
 use Rattle.lock_free_owners.proofs.Names.{refl, ◌∙◌, is_locked, seen}
-use Rattle.lock_free_owners.proofs.RobustSet.Recoveries.{stands_first, first_on, first_end, moves_on, moves_end, leads_on, leads_end}
+use Rattle.lock_free_owners.proofs.RobustSet.Recoveries.{stands_first, first_leads_on, first_leads_end, moves_on, moves_end, leads_on, leads_end}
 use Rattle.lock_free_owners.proofs.RobustSet.Recoveries.{stays_on, stays_end, may_ask_on, asks_there}
 use Rattle.lock_free_owners.proofs.Rules.Robust.Recovering.{looks_on}
 use Rattle.lock_free_owners.proofs.mpmc.robust_unique_index_set.recovers.recover_all.Goals as goal
@@ -15,14 +15,14 @@ step_recover-requires-clause-at g c =
 pub returns-in-Done-clause-ends : goal.returns-in-Done-clause-ends
 returns-in-Done-clause-ends g c =
     let base = seen c.args.seat.now in
-    first_end (λ p o i b q. given.F-step g p o i b q) (λ s o i t. given.S-step g s o i tt t) c.args.capacity
+    first_leads_end (λ p o i b q. given.F-step g p o i b q) (λ s o i t. given.S-step g s o i tt t) c.args.capacity
     c.args.mode base c.requires.idle c.requires.known c.args.predicate.now c.args.recovered.now c.new.result c.new.ensures c.requires.at
     (seen c.step_recover.new.seat) c.step_recover.result c.step_recover.ensures.goes c.in-Done.state c.in-Done.is
 
 pub ask_first-first-requires-clause-asks : goal.ask_first-first-requires-clause-asks
 ask_first-first-requires-clause-asks g c =
     let base = seen c.args.seat.now in
-    let one = first_on (λ p o i b q. given.F-step g p o i b q) (λ s o i t. given.S-step g s o i tt t) c.args.capacity
+    let one = first_leads_on (λ p o i b q. given.F-step g p o i b q) (λ s o i t. given.S-step g s o i tt t) c.args.capacity
     c.args.mode base c.requires.idle c.requires.known c.args.predicate.now c.args.recovered.now c.new.result c.new.ensures c.requires.at
     (seen c.step_recover.new.seat) c.step_recover.result c.step_recover.ensures.goes c.in-GoOn.next c.in-GoOn.is in
     may_ask_on (λ p o i b q. given.F-step g p o i b q) (λ s o i t. given.S-step g s o i tt t) c.args.capacity
@@ -32,7 +32,7 @@ ask_first-first-requires-clause-asks g c =
 pub returns-in-Done-first-clause-ends : goal.returns-in-Done-first-clause-ends
 returns-in-Done-first-clause-ends g c =
     let base = seen c.args.seat.now in
-    let one = first_on (λ p o i b q. given.F-step g p o i b q) (λ s o i t. given.S-step g s o i tt t) c.args.capacity
+    let one = first_leads_on (λ p o i b q. given.F-step g p o i b q) (λ s o i t. given.S-step g s o i tt t) c.args.capacity
     c.args.mode base c.requires.idle c.requires.known c.args.predicate.now c.args.recovered.now c.new.result c.new.ensures c.requires.at
     (seen c.step_recover.new.seat) c.step_recover.result c.step_recover.ensures.goes c.in-GoOn.next c.in-GoOn.is in
     leads_end (λ p o i b q. given.F-step g p o i b q) (λ s o i t. given.S-step g s o i tt t) c.args.capacity
@@ -43,7 +43,7 @@ returns-in-Done-first-clause-ends g c =
 pub look_again-requires-clause-at : goal.look_again-requires-clause-at
 look_again-requires-clause-at g c =
     let base = seen c.args.seat.now in
-    let one = first_on (λ p o i b q. given.F-step g p o i b q) (λ s o i t. given.S-step g s o i tt t) c.args.capacity
+    let one = first_leads_on (λ p o i b q. given.F-step g p o i b q) (λ s o i t. given.S-step g s o i tt t) c.args.capacity
     c.args.mode base c.requires.idle c.requires.known c.args.predicate.now c.args.recovered.now c.new.result c.new.ensures c.requires.at
     (seen c.step_recover.new.seat) c.step_recover.result c.step_recover.ensures.goes c.in-GoOn.next c.in-GoOn.is in
     let two = leads_on (λ p o i b q. given.F-step g p o i b q) (λ s o i t. given.S-step g s o i tt t) c.args.capacity
@@ -55,7 +55,7 @@ look_again-requires-clause-at g c =
 pub returns-in-Done-look_again-clause-ends : goal.returns-in-Done-look_again-clause-ends
 returns-in-Done-look_again-clause-ends g c =
     let base = seen c.args.seat.now in
-    let one = first_on (λ p o i b q. given.F-step g p o i b q) (λ s o i t. given.S-step g s o i tt t) c.args.capacity
+    let one = first_leads_on (λ p o i b q. given.F-step g p o i b q) (λ s o i t. given.S-step g s o i tt t) c.args.capacity
     c.args.mode base c.requires.idle c.requires.known c.args.predicate.now c.args.recovered.now c.new.result c.new.ensures c.requires.at
     (seen c.step_recover.new.seat) c.step_recover.result c.step_recover.ensures.goes c.in-GoOn.next c.in-GoOn.is in
     let two = leads_on (λ p o i b q. given.F-step g p o i b q) (λ s o i t. given.S-step g s o i tt t) c.args.capacity
@@ -74,7 +74,7 @@ returns-in-Done-look_again-clause-ends g c =
 pub loop-init : goal.loop-init
 loop-init g c =
     let base = seen c.args.seat.now in
-    let one = first_on (λ p o i b q. given.F-step g p o i b q) (λ s o i t. given.S-step g s o i tt t) c.args.capacity
+    let one = first_leads_on (λ p o i b q. given.F-step g p o i b q) (λ s o i t. given.S-step g s o i tt t) c.args.capacity
     c.args.mode base c.requires.idle c.requires.known c.args.predicate.now c.args.recovered.now c.new.result c.new.ensures c.requires.at
     (seen c.step_recover.new.seat) c.step_recover.result c.step_recover.ensures.goes c.in-GoOn.next c.in-GoOn.is in
     let two = leads_on (λ p o i b q. given.F-step g p o i b q) (λ s o i t. given.S-step g s o i tt t) c.args.capacity
