@@ -261,7 +261,7 @@ module _ {T : Type 0} (c : ℕ) where
 
 module _ {T : Type 0} where
   abbrev pub queue_role : Side → RoleEvents T (Item T)
-  queue_role role = record { holder = role_after role; marks = marks role; ByHolder = ByHolderOf role; Grants = GrantsRight }
+  queue_role role = record { holder_after = role_after role; marks = marks role; ByItsHolder = ByHolderOf role; Grants = GrantsRight }
 
   abbrev pub held : Side → List (Event T) → Option ℕ
   held role = one.held (queue_role role)

@@ -81,18 +81,18 @@ module _ {T : Type 0} where
 -- A role: who holds it after an event, what an event tells that only its holder writes, that its holder wrote such an
 -- event, and that an event that moves the role is right.
 pub record RoleEvents (T M : Type 0) : Type 1 where
-  pub holder : Option ℕ → Event T → Option ℕ
+  pub holder_after : Option ℕ → Event T → Option ℕ
   pub marks : Event T → List M
-  pub ByHolder : List (Event T) → Event T → Type 0
+  pub ByItsHolder : List (Event T) → Event T → Type 0
   pub Grants : List (Event T) → Event T → Type 0
 
 module _ {T M : Type 0} (role : RoleEvents T M) where
   abbrev pub held : List (Event T) → Option ℕ
-  held events = fold role.holder None events
+  held events = fold role.holder_after None events
 
-  -- an event that neither moves the role from the party nor is its holder's
+  -- an event that leaves the role with the party and tells nothing of it
   abbrev pub IsPlain : ℕ → Event T → Type 0
-  IsPlain p e = (role.marks e ≡ []) × (role.holder (Some p) e ≡ Some p)
+  IsPlain p e = (role.marks e ≡ []) × (role.holder_after (Some p) e ≡ Some p)
 
   abbrev pub ArePlain : ℕ → List (Event T) → Type 0
   ArePlain p [] = Unit {0}
@@ -100,20 +100,20 @@ module _ {T M : Type 0} (role : RoleEvents T M) where
 
   pub record HasOneHolder : Type 0 where
     -- before another's event that leaves the role to the party, the party held it, and the event tells nothing of it
-    pub back : (p : ℕ) (before : List (Event T)) (e : Event T) → role.ByHolder before e → is_party p (whose e) ≡ false
-        → role.holder (held before) e ≡ Some p → (held before ≡ Some p) × (role.marks e ≡ [])
-    -- and while the party holds it such an event leaves it there
-    pub forth : (p : ℕ) (before : List (Event T)) (e : Event T) → role.ByHolder before e → role.Grants before e
+    pub back : (p : ℕ) (before : List (Event T)) (e : Event T) → role.ByItsHolder before e → is_party p (whose e) ≡ false
+        → role.holder_after (held before) e ≡ Some p → (held before ≡ Some p) × (role.marks e ≡ [])
+    -- and while the party holds it, another's event leaves it there and tells nothing of it
+    pub forth : (p : ℕ) (before : List (Event T)) (e : Event T) → role.ByItsHolder before e → role.Grants before e
         → is_party p (whose e) ≡ false → held before ≡ Some p → IsPlain p e
-    pub begin : (o : Option ℕ) (p : ℕ) (start : Start T) → (role.holder o (Begun p start) ≡ o) × (role.marks (Begun p start) ≡ [])
+    pub begin : (o : Option ℕ) (p : ℕ) (start : Start T) → (role.holder_after o (Begun p start) ≡ o) × (role.marks (Begun p start) ≡ [])
 
 module _ {T M : Type 0} (role : RoleEvents T M) (one : HasOneHolder role) where
   -- who holds it at the end, and wrote nothing since, held it before, and nobody wrote what its holder writes
-  pub back_over : (p : ℕ) (before es : List (Event T)) → Each role.ByHolder (before ++ es) → events_by p es ≡ []
+  pub back_over : (p : ℕ) (before es : List (Event T)) → Each role.ByItsHolder (before ++ es) → events_by p es ≡ []
       → held role (before ++ es) ≡ Some p → (held role before ≡ Some p) × (flat_map role.marks es ≡ [])
   back_over p before [] each none now = (ap (held role) (sym (append-nil before)) ∙ now, refl)
   back_over p before (e ∷ es) each none now =
-      go (λ rest. back_over p (before ++ e ∷ []) es (subst (Each role.ByHolder) (sym longer) each) rest (ap (held role) longer ∙ now))
+      go (λ rest. back_over p (before ++ e ∷ []) es (subst (Each role.ByItsHolder) (sym longer) each) rest (ap (held role) longer ∙ now))
       (is_party p (whose e)) refl
     where
       longer : (before ++ e ∷ []) ++ es ≡ before ++ e ∷ es
@@ -125,24 +125,24 @@ module _ {T M : Type 0} (role : RoleEvents T M) (one : HasOneHolder role) where
       go later false t =
           let rest : events_by p es ≡ [] = rw t at none in
           let more = later rest in
-          let leaves : role.holder (held role before) e ≡ Some p = sym (fold-append role.holder None before (e ∷ [])) ∙ more.0 in
+          let leaves : role.holder_after (held role before) e ≡ Some p = sym (fold-append role.holder_after None before (e ∷ [])) ∙ more.0 in
           let here = one.back p before e (each before es e refl) t leaves in
           (here.0, ap (λ xs. xs ++ flat_map role.marks es) here.1 ∙ more.1)
 
   -- where the party holds it, and its own events neither move it nor tell of it, nobody writes what its holder writes
-  pub forth_over : (p : ℕ) (before es : List (Event T)) → Each role.ByHolder (before ++ es) → Each role.Grants (before ++ es)
+  pub forth_over : (p : ℕ) (before es : List (Event T)) → Each role.ByItsHolder (before ++ es) → Each role.Grants (before ++ es)
       → ArePlain role p (events_by p es) → held role before ≡ Some p → flat_map role.marks es ≡ []
   forth_over p before [] each grants plain now = refl
   forth_over p before (e ∷ es) each grants plain now =
-      go (λ rest still. forth_over p (before ++ e ∷ []) es (subst (Each role.ByHolder) (sym longer) each)
+      go (λ rest still. forth_over p (before ++ e ∷ []) es (subst (Each role.ByItsHolder) (sym longer) each)
       (subst (Each role.Grants) (sym longer) grants) rest
-      (fold-append role.holder None before (e ∷ []) ∙ (ap (λ o. role.holder o e) now ∙ still)))
+      (fold-append role.holder_after None before (e ∷ []) ∙ (ap (λ o. role.holder_after o e) now ∙ still)))
       (is_party p (whose e)) refl
     where
       longer : (before ++ e ∷ []) ++ es ≡ before ++ e ∷ es
       longer = append_assoc before (e ∷ []) es
 
-      go : (ArePlain role p (events_by p es) → role.holder (Some p) e ≡ Some p → flat_map role.marks es ≡ []) → (b : Bool)
+      go : (ArePlain role p (events_by p es) → role.holder_after (Some p) e ≡ Some p → flat_map role.marks es ≡ []) → (b : Bool)
           → is_party p (whose e) ≡ b → flat_map role.marks (e ∷ es) ≡ []
       go later true t =
           let own : IsPlain role p e × ArePlain role p (events_by p es) = rw t at plain in
@@ -152,9 +152,9 @@ module _ {T M : Type 0} (role : RoleEvents T M) (one : HasOneHolder role) where
           let here = one.forth p before e (each before es e refl) (grants before es e refl) t now in
           ap (λ xs. xs ++ flat_map role.marks es) here.0 ∙ later rest here.1
 
-  -- where the call's party holds it then, nobody wrote what its holder writes since what the pass had seen
+  -- after what a pass had seen nobody has written what a holder writes, where the call's party holds the role
   module _ (p : ℕ) (start : Start T) (seen others during : List (Event T))
-      (each : Each role.ByHolder ((seen ++ others) ++ Begun p start ∷ during)) (none_others : events_by p others ≡ [])
+      (each : Each role.ByItsHolder ((seen ++ others) ++ Begun p start ∷ during)) (none_others : events_by p others ≡ [])
       (none_during : events_by p during ≡ []) (holds : held role ((seen ++ others) ++ Begun p start ∷ during) ≡ Some p) where
     split : ((seen ++ others) ++ Begun p start ∷ []) ++ during ≡ (seen ++ others) ++ Begun p start ∷ during
     split = append_assoc (seen ++ others) (Begun p start ∷ []) during
@@ -162,14 +162,14 @@ module _ {T M : Type 0} (role : RoleEvents T M) (one : HasOneHolder role) where
     later : (held role ((seen ++ others) ++ Begun p start ∷ []) ≡ Some p) × (flat_map role.marks during ≡ [])
     later =
         back_over p ((seen ++ others) ++ Begun p start ∷ []) during
-        (subst (Each role.ByHolder) (sym split) each) none_during (ap (held role) split ∙ holds)
+        (subst (Each role.ByItsHolder) (sym split) each) none_during (ap (held role) split ∙ holds)
 
     earlier : (held role seen ≡ Some p) × (flat_map role.marks others ≡ [])
     earlier =
         let back : held role (seen ++ others) ≡ Some p =
         sym (one.begin (held role (seen ++ others)) p start).0
-        ∙ (sym (fold-append role.holder None (seen ++ others) (Begun p start ∷ [])) ∙ later.0) in
-        back_over p seen others (Each-less role.ByHolder (seen ++ others) (Begun p start ∷ during) each) none_others back
+        ∙ (sym (fold-append role.holder_after None (seen ++ others) (Begun p start ∷ [])) ∙ later.0) in
+        back_over p seen others (Each-less role.ByItsHolder (seen ++ others) (Begun p start ∷ during) each) none_others back
 
     none_between : flat_map role.marks ((seen ++ others) ++ Begun p start ∷ during) ≡ flat_map role.marks seen
     none_between =
@@ -190,33 +190,33 @@ module _ {T M : Type 0} (role : RoleEvents T M) (one : HasOneHolder role) where
         ∙ (ap (λ zs. flat_map m xs ++ (zs ++ [])) none ∙ (append-nil (flat_map m xs) ∙ none_between))
 
   -- where the holder at the end wrote nothing since, nobody wrote what its holder writes
-  pub none_looked : (p : ℕ) (seen rest now : List (Event T)) → now ≡ seen ++ rest → Each role.ByHolder now → events_by p rest ≡ []
+  pub none_looked : (p : ℕ) (seen rest now : List (Event T)) → now ≡ seen ++ rest → Each role.ByItsHolder now → events_by p rest ≡ []
       → held role now ≡ Some p → flat_map role.marks now ≡ flat_map role.marks seen
   none_looked p seen rest now is each none holds =
       let m = role.marks in
-      let back = back_over p seen rest (subst (Each role.ByHolder) is each) none (ap (held role) (sym is) ∙ holds) in
+      let back = back_over p seen rest (subst (Each role.ByItsHolder) is each) none (ap (held role) (sym is) ∙ holds) in
       ap (flat_map m) is ∙ (flat_map-append m seen rest ∙ (ap (λ zs. flat_map m seen ++ zs) back.1 ∙ append-nil (flat_map m seen)))
 
   module _ {p : ℕ} {e : Event T} {own : List (Event T)} {base w : View T} (at : Wrote p e own base w)
-      (each : Each role.ByHolder w.seen) (holds : held role at.before ≡ Some p) where
+      (each : Each role.ByItsHolder w.seen) (holds : held role at.before ≡ Some p) where
     pub none_since : flat_map role.marks at.before ≡ flat_map role.marks base.seen
     none_since =
         ap (flat_map role.marks) at.begins
         ∙ none_between p at.start base.seen at.others at.during
-        (Each-less role.ByHolder ((base.seen ++ at.others) ++ Begun p at.start ∷ at.during) (e ∷ at.after)
-        (subst (Each role.ByHolder) (at.is ∙ ap (λ xs. xs ++ e ∷ at.after) at.begins) each))
+        (Each-less role.ByItsHolder ((base.seen ++ at.others) ++ Begun p at.start ∷ at.during) (e ∷ at.after)
+        (subst (Each role.ByItsHolder) (at.is ∙ ap (λ xs. xs ++ e ∷ at.after) at.begins) each))
         at.others_own at.during_own (ap (held role) (sym at.begins) ∙ holds)
 
     -- what its holders wrote is longer by what this event tells, and by nothing else
-    pub listed : Each role.Grants w.seen → role.holder (Some p) e ≡ Some p → ArePlain role p own
+    pub listed : Each role.Grants w.seen → role.holder_after (Some p) e ≡ Some p → ArePlain role p own
         → flat_map role.marks w.seen ≡ flat_map role.marks base.seen ++ role.marks e
     listed grants stays plain =
         let m = role.marks in
         let split : w.seen ≡ (at.before ++ e ∷ []) ++ at.after = at.is ∙ sym (append_assoc at.before (e ∷ []) at.after) in
         let now : held role (at.before ++ e ∷ []) ≡ Some p =
-        fold-append role.holder None at.before (e ∷ []) ∙ (ap (λ o. role.holder o e) holds ∙ stays) in
+        fold-append role.holder_after None at.before (e ∷ []) ∙ (ap (λ o. role.holder_after o e) holds ∙ stays) in
         let rest : flat_map m at.after ≡ [] =
-        forth_over p (at.before ++ e ∷ []) at.after (subst (Each role.ByHolder) split each)
+        forth_over p (at.before ++ e ∷ []) at.after (subst (Each role.ByItsHolder) split each)
         (subst (Each role.Grants) split grants) (subst (ArePlain role p) (sym at.mine) plain) now in
         ap (flat_map m) at.is
         ∙ (flat_map-append m at.before (e ∷ at.after)

@@ -69,7 +69,7 @@ module _ {T : Type 0} where
 
 -- ---- pushes
 
--- it ends as a call where it is not left out
+-- a push that is not left out ends as a call
 acts : (c : Pushing) (e : PushEnd) (n : ℕ) (stage : pushes.PushStage) → HasPushWord stage
     → over_push_skips stage n ≡ false → push_takes c stage n ≡ Done e → HasActed e
 acts c e n pushes.TheVariants.HandsBack h skip ends = absurd h

@@ -43,7 +43,7 @@ module _ {T A : Type 0} (hit : Event T → List A) where
       let more = length-append (hit e) (hits after) in
       omega arith
 
-  -- the rank of what stands is below their number
+  -- a rank is below how much all events tell
   pub rank_low : (events before after : List (Event T)) (e : Event T) (x : A) → hit e ≡ x ∷ []
       → events ≡ before ++ e ∷ after → length (hits before) < length (hits events)
   rank_low x0 x1 x2 x3 x4 x5 x6 = grind (arith, length, flat_map-append, length-append)

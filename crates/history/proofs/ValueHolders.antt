@@ -56,7 +56,7 @@ module _ {T : Type 0} (p : ℕ) where
 
 module _ {T : Type 0} where
   abbrev pub value_role : RoleEvents T T
-  value_role = record { holder = holder_after; marks = stores; ByHolder = ByProducer; Grants = GrantsRight }
+  value_role = record { holder_after = holder_after; marks = stores; ByItsHolder = ByProducer; Grants = GrantsRight }
 
   pub one_holder : HasOneHolder value_role
   one_holder =

@@ -1,8 +1,8 @@
 -- What a decision comes to: a no ends a find at the index that it asked about, and a yes tells a recovery to free the index
 -- that it asked about. No other turn tells it.
 use Rattle.laws_robust.proofs.Names.{◌≡◌, ◌≢◌, ℕ, Bool, true, false, Option, Some, None, is_none, List, [], ◌∷◌, ◌++◌}
-use Rattle.laws_robust.proofs.Names.{refl, ap, ◌∙◌, arith, AllByRecursion, ReleaseMode, Count, Lock}
-use Rattle.laws_robust.proofs.Names.{Raise, RecoverStage, raise_want, count_want, lock_want, Answer, Event, Start}
+use Rattle.laws_robust.proofs.Names.{refl, ap, ◌∙◌, arith, AllByRecursion, ReleaseMode}
+use Rattle.laws_robust.proofs.Names.{RecoverStage, Answer, Event, Start}
 use Rattle.laws_robust.proofs.Names.{Robust, Flight, Registry, RobustStart, RobustFlight, Doing, Going, Over, Party}
 use Rattle.laws_robust.proofs.Names.{Turn, Next, Decide, Coding, want_of, ask_of}
 use Rattle.laws_robust.proofs.Names.{is_question, beside_of, step_of, want, after, owned_by, IsIn}
@@ -19,7 +19,7 @@ use Rattle.model.proofs.Frame as frame
 use Rattle.laws_robust.proofs.Invariant.{family}
 use Rattle.laws_robust.proofs.Knows.{Knows}
 use Rattle.laws_robust.specs.Gone.{Death}
-use Rattle.laws_robust.proofs.Sound.{scene_of}
+use Rattle.laws_robust.proofs.Sound.{scene_of, raise_asks_none, lock_asks_none}
 use Rattle.laws_robust.proofs.Stages.{all, now, any_call}
 use Rattle.laws_robust.proofs.Standing.{recover_at, At}
 use Rattle.laws_robust.proofs.Written.{effects_hold}
@@ -27,16 +27,6 @@ use Rattle.laws_robust.proofs.Written.{effects_hold}
 -- only a question asks about an index of an owner
 asks_owned : (w : Want (Unit {0})) (index owner : ℕ) → owned_by w ≡ Some (index, owner) → is_question w ≡ true
 asks_owned w index owner e = grind arith
-
--- neither a raise nor a lock asks about any
-pub raise_asks_none : (raise : Raise) → is_question (raise_want raise) ≡ true → ⊥
-raise_asks_none x0 x1 = grind arith
-
-count_asks_none : (count : Count) → is_question (count_want count) ≡ true → ⊥
-count_asks_none count e = grind arith
-
-pub lock_asks_none : (lock : Lock) → is_question (lock_want lock) ≡ true → ⊥
-lock_asks_none x0 x1 = grind (arith, count_asks_none)
 
 module _ {T : Type 0} where
   pub joined : (P : Event T → Type 0) (xs ys : List (Event T)) → AllByRecursion P xs → AllByRecursion P ys → AllByRecursion P (xs ++ ys)

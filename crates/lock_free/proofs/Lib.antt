@@ -3,6 +3,8 @@ pub use Rattle.lock_free_value.proofs.Versions as ValueVersions
 pub use Rattle.history.proofs.Known as HistoryKnown
 pub use Rattle.history.proofs.OneHolder as HistoryOneHolder
 pub use Rattle.history.proofs.Holders as HistoryHolders
+pub use Rattle.history.proofs.Locks as HistoryLocks
+pub use Rattle.history.proofs.Ranks as HistoryRanks
 pub use Rattle.history.proofs.Acts as HistoryActs
 pub use Rattle.lock_free_queues.proofs.Queues.Positions as QueuePositions
 pub use Rattle.lock_free_queues.proofs.Queues.Promised as QueuePromises

@@ -1,4 +1,4 @@
--- The counts of a machine fit their types.
+-- The counts of a machine fit their types, and an operation leaves as many words.
 use Rattle.model.proofs.Names.{Ask, Bool, List, None, Option, Some, arith, change_of, cond, false, length, one_if, refl}
 use Rattle.model.proofs.Names.{step_count, true, words_after, ℕ, ◌≡◌, ◌≤◌}
 use Rattle.std.proofs.Common.{length-set}

@@ -216,7 +216,7 @@ module _ {T : Type 0} where
       pub is : t
           ≡ run_by turns (opening t.world.coding t.world.kind t.world.capacity t.world.parties)
 
-  -- of machines: a turn, turns, and that none is refused
+  -- with the refusals of a `Machine`: a turn, turns, and that none is refused
   abbrev pub attempt : Trace T → Turn T → Trace T
   attempt = attempt_by refusal_of
 
@@ -226,7 +226,7 @@ module _ {T : Type 0} where
   abbrev pub AreAllowed : Trace T → List (Turn T) → Type 0
   AreAllowed = AreAllowedBy refusal_of
 
-  -- the same where neither turns nor parties have a bound
+  -- the same where neither turns nor parties have a bound, and what such turns reach
   abbrev pub attempt_on : Trace T → Turn T → Trace T
   attempt_on = attempt_by call_refusal
 

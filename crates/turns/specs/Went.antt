@@ -7,7 +7,7 @@ use Rattle.model.specs.declared.families.Registry.{Registry}
 use Rattle.model.specs.declared.families.Went.{Went}
 use Rattle.model.specs.Step.{Step}
 
--- it is what this step makes of the call and of what its family keeps, and the events of the step were added
+-- the call and what its family keeps are what this step makes of them, and its events were added
 pub record IsOfStep {T : Type 0} (step : Step (Flight T) (Registry T) T) (went : Went T) (flight : Flight T) (registry : Registry T)
     (old new : List (Event T)) : Type 0 where
   pub after : CameTo went.done flight step.after

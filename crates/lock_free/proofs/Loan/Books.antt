@@ -9,7 +9,7 @@ use Rattle.std.proofs.lemmas.List.Sums.{count_by_more_yes, count_by_more_no}
 use Rattle.lock_free.specs.Unique.Held.{HoldsNothing}
 use Rattle.lock_free.specs.Unique.Contracts.{HasAcquired, WasRefused, HasGiven}
 use Rattle.lock_free.proofs.Unique.Tables as tables
-use Rattle.lock_free.proofs.Unique.Tables.{one_when}
+use Rattle.lock_free.proofs.Unique.Tables.{as_number}
 use Rattle.lock_free.specs.declared.spsc.loan.places.Place.{Place}
 use Rattle.lock_free.specs.declared.spsc.loan.places.Place.TheVariants.{Free, Loaned, Sent}
 use Rattle.lock_free.specs.Loan.Places.{IsBookOf, is_out, is_sent, place_at, reclaimed}
@@ -40,7 +40,7 @@ module _ {v : View ℕ} {ps : List Place} (book : IsBookOf v ps) where
 
   -- what is out can be given back
   pub out_held : (i : ℕ) → is_out (place_at ps i) ≡ true → Holds i v.made
-  out_held i out = book.held i ∙ ap (λ b. sum_by (frees i) v.made + one_when b) out
+  out_held i out = book.held i ∙ ap (λ b. sum_by (frees i) v.made + as_number b) out
 
   -- what is given back is free
   pub is_freed : (i : ℕ) (state : ReleaseState) (w : View ℕ) → is_out (place_at ps i) ≡ true
@@ -75,7 +75,7 @@ book_opens v n same none =
       held =
           λ i. (let was = none i in
           let out : is_out (place_at (replicate n Free) i) ≡ false = ap is_out (get_or-replicate_all n i) in
-          let z = ap one_when out in
+          let z = ap as_number out in
           omega arith);
     }
   where

@@ -16,7 +16,7 @@ use Rattle.model.specs.declared.families.indices.robust.RobustStart.TheVariants.
 use Rattle.model.specs.declared.families.indices.robust.calls.RobustFlight.TheVariants as calls
 use Rattle.model.specs.declared.turn.Kind.TheVariants as kinds
 use Rattle.laws_robust.specs.Gone.{AsksBy}
-use Rattle.laws_robust.proofs.Told.{raise_asks_none, lock_asks_none}
+use Rattle.laws_robust.proofs.Sound.{raise_asks_none, lock_asks_none}
 use Rattle.history.specs.Robust.{RecoverIn, Came, HasFreed}
 use Rattle.history.specs.Robust.{VisitsAt, visits_after}
 use Rattle.history.proofs.RobustVisits.{one_more}
@@ -102,8 +102,8 @@ module _ (mode : ReleaseMode) (base v : View ℕ) (idle : base.going ≡ None) w
       recovers.LoadsCounterAgain (λ u. (tt, past)) (λ u. (tt, wider mode (index + 1) base.capacity more (omega arith) past)))
       (λ t. (at.0, record { before = m; passed = at.1; is = refl }))
   knows_heard c (recovers.EmptiesCell index owner) m n due at = absurd (cc)
-  knows_heard c (recovers.Raises index raise) m n due at = absurd (raise_asks_none raise due)
-  knows_heard c (recovers.Locks index lock) m n due at = absurd (lock_asks_none lock due)
+  knows_heard c (recovers.Raises index raise) m n due at = absurd (true≢false (sym due ∙ raise_asks_none raise))
+  knows_heard c (recovers.Locks index lock) m n due at = absurd (true≢false (sym due ∙ lock_asks_none lock))
   knows_heard c recovers.LoadsCounterAgain m n due at = absurd (cc)
 
   first_stage : (c : Recovering) (m : List Visit) → IsFirst one_word kinds.Robust (recovers_owned mode) base v c m → recovers.LoadsCounter ≡ c.stage

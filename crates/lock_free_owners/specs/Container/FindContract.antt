@@ -72,8 +72,8 @@ module _ {T : Type 0} (code : Coding T) where
         ⊎ (Rests by (Container (Find owner)) (Number number) (copied by visits) from new
         × (bound ≡ asked_below new.going))
 
-  -- A whole find, in a container with this number, by a closure with these steps: how it leaves the pass, how many
-  -- indices it came to, what it copied, what the closure became, and how many operations it took.
+  -- A whole find that answers this number, of the container with this id, by a closure with these steps: how it leaves
+  -- the pass, what it copied and counted, what the closure became, and how many operations it took.
   pub record IsSearched {F : Type 0} (step : F → T → ContainerHandle → CallbackProgression → F → Type 0)
       (capacity owner id number : ℕ) (f : F) (old new : View T) (g : F) : Type 0 where
     pub left : IsLeft code old new

@@ -19,7 +19,7 @@ get_left [] ys i x e = absurd (cc)
 get_left (z ∷ xs) ys zero x e = e
 get_left (z ∷ xs) ys (suc i) x e = get_left xs ys i x e
 
--- it stands at its rank
+-- what an event tells stands at the event's rank
 at_rank : {T A : Type 0} (hit : Event T → List A) (before after : List (Event T)) (e : Event T) (x : A) → hit e ≡ x ∷ []
     → slice_get (flat_map hit (before ++ e ∷ after)) (length (flat_map hit before)) ≡ Some x
 at_rank x0 x1 x2 x3 x4 = grind (arith, length, flat_map-append, get_here)

@@ -1,4 +1,4 @@
--- From a weight of machines, lowered by its steps in each turn that ends no call, to a bound of the steps between ends.
+-- From a weight of machines, which each turn that ends no call lowers by its steps, to a bound of the steps between ends.
 use Rattle.model.proofs.Names.{AllByRecursion, AreWithinEnds, Event, List, None, Option, Refusal, Trace, Turn, World, []}
 use Rattle.model.proofs.Names.{after_turn, after_turns, arith, ends, events_of, steps_in, sum_by-append, world_after, ℕ}
 use Rattle.model.proofs.Names.{◌*◌, ◌++◌, ◌+◌, ◌∷◌, ◌≡◌, ◌≤◌}

@@ -37,15 +37,15 @@ returns-clause-goes g c =
 pub returns-clause-found : goal.returns-clause-found
 returns-clause-found g c =
     let code : Coding g.row.T.Denot = coding_of g.T.Words.WORDS g.T.Words.words_of g.T.Words.value_of in
-    let found = c.find_all.ensures.searched in
+    let searched = c.find_all.ensures.searched in
     let size = ap (λ (z : SetId). z.capacity) c.requires.pass in (
-      found.visits,
-      found.bound,
-      subst (λ n. HasSearched code n c.args.owner c.find_all.result found.bound found.visits (seen c.args.pass.now.token.seated)
-          (seen c.find_all.new.seat)) size found.did,
+      searched.visits,
+      searched.bound,
+      subst (λ n. HasSearched code n c.args.owner c.find_all.result searched.bound searched.visits (seen c.args.pass.now.token.seated)
+          (seen c.find_all.new.seat)) size searched.did,
       subst (λ n. HasFound (λ p x h a q. given.F-step g p x h a q) n (IsNamed n c.args.owner (number_of c.args.self.now)) c.args.visit.now
-          c.find_all.result found.bound found.visits c.find_all.new.visit)
-          size found.found,
+          c.find_all.result searched.bound searched.visits c.find_all.new.visit)
+          size searched.found,
     )
 
 pub returns-clause-keeps : goal.returns-clause-keeps
