@@ -151,8 +151,7 @@ def stage(new, names, goals, prefix, known):
             lay_out(to)
         uses = " ".join(prefix + it if it in names else it for it in known[name])
         lines.append(f"{prefix}{name}: {uses}".strip())
-        said = f"prefix: {prefix}\nline: {lines[-1]}\n"
-        said += f"chosen: {' '.join(goals)}\n" if name == at else ""
+        said = f"prefix: {prefix}\nline: {lines[-1]}\nchosen: {' '.join(goals)}\n"
         said += "".join(f"{sum_of(it)}  {os.path.relpath(it, to)}\n" for it in files_below(to))
         write(f"{to}/{MARK}", HEAD + said)
     return lines
