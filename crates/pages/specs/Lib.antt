@@ -1,0 +1,3 @@
+pub mod IndexQueue
+pub mod Machine
+pub mod OfTheCode
