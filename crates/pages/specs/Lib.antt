@@ -1,3 +1,4 @@
 pub mod IndexQueue
 pub mod Machine
 pub mod OfTheCode
+pub mod Reading

@@ -1,11 +1,7 @@
 -- What the page of the index queue has to do with the code and with machines.
 use Rattle.std.specs.Prelude.{◌≡◌, ℕ, ◌<◌, ◌^◌, ◌==◌, true, false, Some, None, List, [], ◌∷◌, ◌++◌, length, map, fold}
-use Rattle.std.specs.List.{flat_map}
-use Rattle.steps.specs.declared.ask.Ask.{Ask}
 use Rattle.steps.specs.declared.ask.After.{After}
 use Rattle.steps.specs.declared.ask.After.TheVariants.{GoOn, Done}
-use Rattle.steps.specs.declared.ask.Op.{Op}
-use Rattle.steps.specs.declared.ask.Op.TheVariants.{Load, Store, Add, Exchange}
 use Rattle.steps.specs.declared.queues.ring.PushStage as pushes
 use Rattle.steps.specs.declared.queues.ring.PopStage as pops
 use Rattle.steps.specs.Copied.{kept_in_one}
@@ -34,6 +30,7 @@ use Rattle.model.specs.Turns.{run}
 use Rattle.model.specs.World.{Trace, opening}
 use Rattle.pages.specs.IndexQueue as page
 use Rattle.pages.specs.Machine as machine
+use Rattle.pages.specs.Reading.{Reading, all_seen, asked}
 
 -- ---- stage by stage
 
@@ -63,15 +60,6 @@ abbrev pub answered : page.Answer → Answer ℕ
 answered (page.Pushed b) = Truth b
 answered (page.Popped None) = PoppedNone
 answered (page.Popped (Some value)) = PoppedIndex value
-
-abbrev pub operation : machine.Operation → Op
-operation machine.Load = Load
-operation (machine.Store new) = Store new
-operation (machine.Add by) = Add by
-operation (machine.Exchange from to) = Exchange from to
-
-abbrev pub asked : ℕ → machine.Operation → Ask
-asked word op = record { word = word; op = operation op }
 
 abbrev pub went : ℕ → (machine.After page.Stage page.Answer) → After (QueueFlight ℕ) (Answer ℕ)
 went c (machine.GoOn stage) = GoOn (flight c stage)
@@ -121,13 +109,9 @@ answer_seen (PoppedIndex value) = page.Popped (Some value)
 answer_seen (Popped value) = page.Popped (Some value)
 answer_seen other = page.Popped None
 
-abbrev pub seen : Event ℕ → List (machine.Event page.Call page.Answer)
-seen (Begun p start) = machine.Invoked p (call_seen start) ∷ []
-seen (Finished p start answer) = machine.Responded p (answer_seen answer) ∷ []
-seen e = []
-
-abbrev pub all_seen : List (Event ℕ) → List (machine.Event page.Call page.Answer)
-all_seen es = flat_map seen es
+-- the queue's calls and answers, as the page names them
+abbrev pub reading : Reading page.Call page.Answer
+reading = record { call = call_seen; answer = answer_seen }
 
 -- a turn of the page as one of the model
 abbrev pub as_turn : (machine.Turn page.Call) → Turn ℕ
@@ -154,7 +138,7 @@ roles_told =
 pub record IsSame (t : Trace ℕ) (w : (machine.World page.Call page.Stage page.Answer)) : Type 0 where
   pub events : List (Event ℕ)
   pub is : t.events ≡ roles_told ++ events
-  pub history : all_seen events ≡ w.history
+  pub history : all_seen reading events ≡ w.history
   pub words : t.world.words ≡ w.words
 
 abbrev pub RunsAsTheMachine : Type 0
