@@ -37,12 +37,11 @@ use Rattle.model.proofs.Linearizable.Kinds.{run_linearizable}
 use Rattle.model.proofs.Linearizable.Members.{split, there}
 use Rattle.model.proofs.Reached.{reached_more, reached_opening, run_keeps}
 use Rattle.laws_queues.proofs.Queues.Sound.{queue_keeps}
-use Rattle.steps.specs.declared.ask.After as steps
 use Rattle.steps.specs.declared.ask.Op.TheVariants.{Load, Store}
 use Rattle.steps.specs.Queues.Ring.{cell_word, word_at}
 use Rattle.pages.specs.IndexQueue as page
 use Rattle.pages.specs.Machine as machine
-use Rattle.pages.specs.OfTheCode.{DoesAsTheCode, Fits, PopsByTable, PushesByTable, RunsAsTheMachine, acquired, acquires, answer_seen, answered, as_turn, call_seen, flight, queue_start, reading, roles_told, went}
+use Rattle.pages.specs.IndexQueueBridge.{DoesAsTheCode, Fits, PopsByTable, PushesByTable, RunsAsTheMachine, acquired, acquires, answer_seen, answered, as_turn, call_seen, flight, queue_start, reading, roles_told, went}
 use Rattle.pages.specs.Reading.{all_seen, asked}
 use Rattle.pages.proofs.Seen.{IsObject, IsOwn, carried}
 use Rattle.pages.proofs.Simulates.{GoesRight, Sim, StepIs, Tie, all_turns, trace}
@@ -177,13 +176,15 @@ went_same c (machine.GoOn stage) = refl
 went_same c (machine.Done answer) = refl
 
 goes : (c : ℕ) (words : List ℕ) (beside : Option (ℕ × ℕ)) (p : ℕ) (stage : page.Stage) (old : ℕ)
-    → StepIs (page.index_queue c) reading is_push_or_pop kinds.TheVariants.IndexQueue c kept
+    → StepIs (Unit {0}) (page.index_queue c) reading is_push_or_pop kinds.TheVariants.IndexQueue c kept
+    (λ r stage. flights.TheVariants.Queues (flight c stage)) answered
     (step_of one_word words beside p (Queues (queue_start (call_at stage))) (flights.TheVariants.Queues (flight c stage)) old kept)
-    (simulates.went (λ stage. flights.TheVariants.Queues (flight c stage)) answered (comes c stage old))
+    (comes c stage old)
 goes c words beside p stage old =
     let outcome = answer_in (after one_word (flight c stage) old) in
     let eff = effect_of one_word words beside (flight c stage) old in
     record {
+      room = tt;
       after_is = ap (as_call flights.TheVariants.Queues (λ answer. answer)) (after_same c stage old) ∙ went_same c (comes c stage old);
       kept_is = ap registries.TheVariants.Queues (roles_stay p (call_at stage) outcome);
       unseen = effects_unseen p (queue_start (call_at stage)) eff outcome;
@@ -199,14 +200,15 @@ lacks_row : (b : Bool) → b ≡ false → is_some (first_row ((false, WrongCall
 lacks_row b e = rw e refl
 
 abbrev tied : ℕ → Type 0
-tied c = Tie (page.index_queue c) reading is_push_or_pop kinds.TheVariants.IndexQueue c kept
+tied c = Tie (Unit {0}) (page.index_queue c) reading is_push_or_pop kinds.TheVariants.IndexQueue c kept
 
 tie : (c : ℕ) → c < 2 ^ 32 → tied c
 tie c few =
     record {
       call_at = call_at;
       start = λ call. Queues (queue_start call);
-      flight = λ stage. flights.TheVariants.Queues (flight c stage);
+      room = tt;
+      flight = λ r stage. flights.TheVariants.Queues (flight c stage);
       answered = answered;
       fits = fits c;
       reads_start = reads_start;
@@ -218,9 +220,9 @@ tie c few =
       keeps = λ p call. refl;
       first_at = first_at;
       first_fits = first_fits;
-      asks = λ stage fit. asks_same c stage few (fits_so c stage fit);
-      rows = λ stage. refl;
-      goes = goes c;
+      asks = λ r stage fit. asks_same c stage few (fits_so c stage fit);
+      rows = λ r stage. refl;
+      goes = λ words beside p r stage old. goes c words beside p stage old;
       right = λ stage old fit. right c stage old;
     }
   where

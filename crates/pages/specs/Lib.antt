@@ -1,4 +1,6 @@
 pub mod IndexQueue
+pub mod IndexQueueBridge
 pub mod Machine
-pub mod OfTheCode
 pub mod Reading
+pub mod Value
+pub mod ValueBridge

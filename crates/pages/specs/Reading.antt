@@ -1,5 +1,5 @@
 -- How a page reads what the model says: operations, invocations and responses.
-use Rattle.std.specs.Prelude.{ℕ, List, [], ◌∷◌}
+use Rattle.std.specs.Prelude.{◌≡◌, ℕ, List, [], ◌∷◌, ◌++◌}
 use Rattle.std.specs.List.{flat_map}
 use Rattle.steps.specs.declared.ask.Ask.{Ask}
 use Rattle.steps.specs.declared.ask.Op.{Op}
@@ -8,6 +8,7 @@ use Rattle.model.specs.declared.event.Answer as answers
 use Rattle.model.specs.declared.event.Event.{Event}
 use Rattle.model.specs.declared.event.Event.TheVariants.{Begun, Finished}
 use Rattle.model.specs.declared.event.Start.{Start}
+use Rattle.model.specs.World.{Trace}
 use Rattle.pages.specs.Machine as machine
 
 abbrev pub operation : machine.Operation → Op
@@ -33,3 +34,10 @@ module _ {Call Answer : Type 0} (read : Reading Call Answer) where
   -- invocations and responses, without effects and acts
   abbrev pub all_seen : List (Event ℕ) → List (machine.Event Call Answer)
   all_seen es = flat_map seen es
+
+  -- the words are the same, and behind these first events those of the page, but for effects and acts
+  pub record IsSame {Stage : Type 0} (first : List (Event ℕ)) (t : Trace ℕ) (w : machine.World Call Stage Answer) : Type 0 where
+    pub events : List (Event ℕ)
+    pub is : t.events ≡ first ++ events
+    pub history : all_seen events ≡ w.history
+    pub words : t.world.words ≡ w.words

@@ -2,14 +2,18 @@
 #![tactic(auto)]
 
 ghost use Rattle.std.specs.Prelude.{ℕ, ◌<◌, ◌^◌, List, length, fold};
-ghost use Rattle.pages.specs.IndexQueue.{Call, index_queue, bounded_list};
+ghost use Rattle.pages.specs.IndexQueue.{index_queue, bounded_list};
+ghost use Rattle.pages.specs.IndexQueue as queue;
 ghost use Rattle.pages.specs.Machine.{Turn, opening, turned, IsLinearizable};
-ghost use Rattle.pages.specs.OfTheCode.{DoesAsTheCode, PopsByTable, PushesByTable, RunsAsTheMachine};
+ghost use Rattle.pages.specs.Value.{value, register};
+ghost use Rattle.pages.specs.Value as single;
+ghost use Rattle.pages.specs.ValueBridge.{ValueDoesAsTheCode, ValueRunsAsTheMachine};
+ghost use Rattle.pages.specs.IndexQueueBridge.{DoesAsTheCode, PopsByTable, PushesByTable, RunsAsTheMachine};
 
 /// The index queue, with one producer and one consumer: the theorem of its page. The function does nothing: its contract is
 /// a law.
 pub fn index_queue()
-    ensures { (capacity : ℕ) (turns : List (Turn Call)) → capacity < 2 ^ 32 → length turns < 2 ^ 63
+    ensures { (capacity : ℕ) (turns : List (Turn queue.Call)) → capacity < 2 ^ 32 → length turns < 2 ^ 63
         → IsLinearizable (bounded_list capacity)
         (fold (turned (index_queue capacity)) (opening (index_queue capacity)) turns).history }
 {}
@@ -22,4 +26,18 @@ pub fn index_queue_is_the_code()
     ensures pushes { PushesByTable }
     ensures pops { PopsByTable }
     ensures machine { RunsAsTheMachine }
+{}
+
+/// The single value of one word, which one party stores and any loads: the theorem of its page. The function does nothing:
+/// its contract is a law.
+pub fn single_value()
+    ensures { (turns : List (Turn single.Call)) → length turns < 2 ^ 63
+        → IsLinearizable register (fold (turned value) (opening value) turns).history }
+{}
+
+/// The page of the single value is about the code, and about machines of as many parties as its turns name, from where
+/// party 0 has the role.
+pub fn single_value_is_the_code()
+    ensures code { ValueDoesAsTheCode }
+    ensures machine { ValueRunsAsTheMachine }
 {}

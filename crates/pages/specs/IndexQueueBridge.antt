@@ -1,5 +1,5 @@
 -- What the page of the index queue has to do with the code and with machines.
-use Rattle.std.specs.Prelude.{◌≡◌, ℕ, ◌<◌, ◌^◌, ◌==◌, true, false, Some, None, List, [], ◌∷◌, ◌++◌, length, map, fold}
+use Rattle.std.specs.Prelude.{◌≡◌, ℕ, ◌<◌, ◌^◌, ◌==◌, true, false, Some, None, List, [], ◌∷◌, length, map, fold}
 use Rattle.steps.specs.declared.ask.After.{After}
 use Rattle.steps.specs.declared.ask.After.TheVariants.{GoOn, Done}
 use Rattle.steps.specs.declared.queues.ring.PushStage as pushes
@@ -30,7 +30,7 @@ use Rattle.model.specs.Turns.{run}
 use Rattle.model.specs.World.{Trace, opening}
 use Rattle.pages.specs.IndexQueue as page
 use Rattle.pages.specs.Machine as machine
-use Rattle.pages.specs.Reading.{Reading, all_seen, asked}
+use Rattle.pages.specs.Reading.{IsSame, Reading, asked}
 
 -- ---- stage by stage
 
@@ -134,14 +134,7 @@ roles_told =
     ∷ Finished 1 (Queues starts.AcquireConsumer) (Truth true)
     ∷ []
 
--- the words are the same, and the events are, but for those of effects and acts
-pub record IsSame (t : Trace ℕ) (w : (machine.World page.Call page.Stage page.Answer)) : Type 0 where
-  pub events : List (Event ℕ)
-  pub is : t.events ≡ roles_told ++ events
-  pub history : all_seen reading events ≡ w.history
-  pub words : t.world.words ≡ w.words
-
 abbrev pub RunsAsTheMachine : Type 0
 RunsAsTheMachine =
     (c : ℕ) (turns : List (machine.Turn page.Call)) → c < 2 ^ 32 → length turns < 2 ^ 63
-    → IsSame (run (map as_turn turns) (acquired c)) (fold (machine.turned (page.index_queue c)) (machine.opening (page.index_queue c)) turns)
+    → IsSame reading roles_told (run (map as_turn turns) (acquired c)) (fold (machine.turned (page.index_queue c)) (machine.opening (page.index_queue c)) turns)
