@@ -1,14 +1,12 @@
 -- The theorem of the index queue's page, from the model's.
-use Rattle.std.specs.List.{AllByRecursion, Contains}
-use Rattle.std.proofs.Common.{◌%◌, ◌*◌, ◌^◌, ◌||◌, ◌-◌, drop, is_some, replicate, mod-lt}
+use Rattle.std.specs.List.{AllByRecursion}
+use Rattle.std.proofs.Common.{◌%◌, ◌*◌, ◌^◌, ◌||◌, ◌-◌, is_some, replicate, mod-lt}
 use Rattle.std.proofs.lemmas.Bool.Decides.{nat_tests}
 use Rattle.std.proofs.lemmas.List.{length-map, map-append}
 use Rattle.std.specs.Ordering.{is_eq, nat_cmp}
 use Rattle.model.proofs.Names.{fold, Bool, IsCoding, IsReached, List, None, Option, Some, Trace, [], answer_in, ap, arith, ask_of, bounded_list, capacity_error, cond, doing_of, false, first_row, flight_of, length, map, nat_lt, not, one_word, opening, refl, refusal_of, slice_get, step_of, subst, sym, true, ℕ, ⊎_elim, ◌++◌, ◌+◌, ◌<◌, ◌==◌, ◌∙◌, ◌∷◌, ◌≡◌}
 use Rattle.model.proofs.Names as model
 use Rattle.model.specs.declared.event.Answer.{Answer}
-use Rattle.model.specs.declared.event.Answer.TheVariants.{Truth}
-use Rattle.model.specs.declared.event.Event.{Event}
 use Rattle.model.specs.declared.event.Item.{Item}
 use Rattle.model.specs.declared.event.Item.TheVariants.{Index, Value}
 use Rattle.model.specs.declared.event.Start.{Start}
@@ -16,25 +14,17 @@ use Rattle.model.specs.declared.event.Start.TheVariants.{Queues}
 use Rattle.model.specs.declared.families.Flight as flights
 use Rattle.model.specs.declared.families.Registry as registries
 use Rattle.model.specs.declared.families.queues.QueueKind as queue_kinds
-use Rattle.model.specs.declared.families.queues.QueueStart.{QueueStart}
-use Rattle.model.specs.declared.families.queues.QueueStart.TheVariants.{PushIndex, Push, Pop, AcquireProducer, AcquireConsumer}
-use Rattle.model.specs.declared.families.queues.Roles.{Roles}
-use Rattle.model.specs.declared.families.queues.effects.Effect.{Effect}
-use Rattle.model.specs.declared.families.queues.effects.Effect.TheVariants.{Quiet, Acts, Publishes, PublishesAndActs, HandsOut, TakesOut, MakesRoom}
-use Rattle.model.specs.declared.party.Party.{Party}
+use Rattle.model.specs.declared.families.queues.QueueStart.TheVariants.{PushIndex, Push, Pop}
 use Rattle.model.specs.declared.turn.Kind as kinds
-use Rattle.model.specs.declared.turn.Refusal.TheVariants.{NoRole, WrongCall}
 use Rattle.model.specs.declared.turn.Turn.{Turn}
 use Rattle.model.specs.Families.{begin_rows}
 use Rattle.model.specs.Families.Queues.Calls.{after, want}
 use Rattle.model.specs.Families.Queues.Objects.{appended, answer_of_item, list_after, list_answer}
-use Rattle.model.specs.Families.Queues.Steps.{effect_of, effects_of, roles_after}
-use Rattle.model.specs.Linearizable.{calls_from, calls_of}
+use Rattle.model.specs.Families.Queues.Steps.{effect_of, roles_after}
 use Rattle.model.specs.Linearized.{as_list, is_push_or_pop}
 use Rattle.model.specs.Step.{as_call}
 use Rattle.model.specs.Turns.{run}
 use Rattle.model.proofs.Linearizable.Kinds.{run_linearizable}
-use Rattle.model.proofs.Linearizable.Members.{split, there}
 use Rattle.model.proofs.Reached.{reached_more, reached_opening, run_keeps}
 use Rattle.laws_queues.proofs.Queues.Sound.{queue_keeps}
 use Rattle.steps.specs.declared.ask.Op.TheVariants.{Load, Store}
@@ -42,10 +32,11 @@ use Rattle.steps.specs.Queues.Ring.{cell_word, word_at}
 use Rattle.pages.specs.IndexQueue as page
 use Rattle.pages.specs.Machine as machine
 use Rattle.pages.specs.IndexQueueBridge.{DoesAsTheCode, Fits, PopsByTable, PushesByTable, RunsAsTheMachine, acquired, acquires, answer_seen, answered, as_turn, call_seen, flight, queue_start, reading, roles_told, went}
-use Rattle.pages.specs.Reading.{all_seen, asked}
-use Rattle.pages.proofs.Seen.{IsObject, IsOwn, carried}
+use Rattle.pages.specs.Reading.{asked}
+use Rattle.pages.proofs.Seen.{IsObject, carried}
 use Rattle.pages.proofs.Simulates.{GoesRight, Sim, StepIs, Tie, all_turns, trace}
 use Rattle.pages.proofs.Simulates as simulates
+use Rattle.pages.proofs.Roles.{among, coded, effects_own, effects_unseen, held, holds_row, idle, kept, lacks_row, number, number_rest, within}
 
 -- ---- the tables are the same
 
@@ -134,41 +125,9 @@ right c (page.PopStoresRead read value) old = tt
 
 -- ---- what a step does beside
 
-abbrev pub held : Roles
-held = record { producer = Some 0; consumer = Some 1 }
-
 roles_stay : (p : ℕ) (call : page.Call) (outcome : Option (Answer ℕ)) → roles_after p (queue_start call) outcome held ≡ held
 roles_stay p (page.Push value) outcome = refl
 roles_stay p page.Pop outcome = refl
-
-effects_unseen : (p : ℕ) (start : QueueStart ℕ) (eff : Effect ℕ) (outcome : Option (Answer ℕ)) → all_seen reading (effects_of p start eff outcome) ≡ []
-effects_unseen p start Quiet outcome = refl
-effects_unseen p start Acts None = refl
-effects_unseen p start Acts (Some answer) = refl
-effects_unseen p start (Publishes item) None = refl
-effects_unseen p start (Publishes item) (Some answer) = refl
-effects_unseen p start (PublishesAndActs item) outcome = refl
-effects_unseen p start (HandsOut item) None = refl
-effects_unseen p start (HandsOut item) (Some answer) = refl
-effects_unseen p start (TakesOut index) outcome = refl
-effects_unseen p start (MakesRoom item q pushed) None = refl
-effects_unseen p start (MakesRoom item q pushed) (Some answer) = refl
-
-effects_own : (p : ℕ) (start : QueueStart ℕ) (eff : Effect ℕ) (outcome : Option (Answer ℕ)) → AllByRecursion (IsOwn is_push_or_pop) (effects_of p start eff outcome)
-effects_own p start Quiet outcome = tt
-effects_own p start Acts None = tt
-effects_own p start Acts (Some answer) = (tt, tt)
-effects_own p start (Publishes item) None = (tt, tt)
-effects_own p start (Publishes item) (Some answer) = (tt, (tt, tt))
-effects_own p start (PublishesAndActs item) outcome = (tt, (tt, tt))
-effects_own p start (HandsOut item) None = (tt, tt)
-effects_own p start (HandsOut item) (Some answer) = (tt, (tt, tt))
-effects_own p start (TakesOut index) outcome = (tt, (tt, tt))
-effects_own p start (MakesRoom item q pushed) None = (tt, (tt, tt))
-effects_own p start (MakesRoom item q pushed) (Some answer) = (tt, (tt, (tt, tt)))
-
-abbrev kept : registries.Registry ℕ
-kept = registries.TheVariants.Queues held
 
 went_same : (c : ℕ) (a : (machine.After page.Stage page.Answer))
     → as_call flights.TheVariants.Queues (λ (answer : Answer ℕ). answer) (went c a) ≡ simulates.went (λ stage. flights.TheVariants.Queues (flight c stage)) answered a
@@ -187,17 +146,11 @@ goes c words beside p stage old =
       room = tt;
       after_is = ap (as_call flights.TheVariants.Queues (λ answer. answer)) (after_same c stage old) ∙ went_same c (comes c stage old);
       kept_is = ap registries.TheVariants.Queues (roles_stay p (call_at stage) outcome);
-      unseen = effects_unseen p (queue_start (call_at stage)) eff outcome;
+      unseen = effects_unseen reading p (queue_start (call_at stage)) eff outcome;
       own = effects_own p (queue_start (call_at stage)) eff outcome;
     }
 
 -- ---- who may begin
-
-holds_row : (b : Bool) → b ≡ true → first_row ((false, WrongCall) ∷ (not b, NoRole) ∷ []) ≡ None
-holds_row b e = rw e refl
-
-lacks_row : (b : Bool) → b ≡ false → is_some (first_row ((false, WrongCall) ∷ (not b, NoRole) ∷ [])) ≡ true
-lacks_row b e = rw e refl
 
 abbrev tied : ℕ → Type 0
 tied c = Tie (Unit {0}) (page.index_queue c) reading is_push_or_pop kinds.TheVariants.IndexQueue c kept
@@ -263,10 +216,6 @@ tie c few =
 
 -- ---- the list
 
-abbrev number : Item ℕ → ℕ
-number (Index value) = value
-number (Value value) = value
-
 pushed_after : (capacity : ℕ) (items : List (Item ℕ)) (item : Item ℕ)
     → map number (appended capacity items item) ≡ (page.listed capacity (map number items) (page.Push (number item))).1
 pushed_after capacity items item = rw (length-map items number) (go (nat_lt (length items) capacity))
@@ -289,10 +238,6 @@ number_front [] = refl
 number_front (Index value ∷ items) = refl
 number_front (Value value ∷ items) = refl
 
-number_rest : (items : List (Item ℕ)) → map number (drop 1 items) ≡ drop 1 (map number items)
-number_rest [] = refl
-number_rest (item ∷ items) = refl
-
 -- the page's list after a call, and its answer
 one_after : (capacity : ℕ) (items : List (Item ℕ)) (start : Start ℕ) → is_push_or_pop start ≡ true
     → map number (list_after capacity items start) ≡ (page.listed capacity (map number items) (call_seen start)).1
@@ -311,38 +256,10 @@ one_answer capacity items other own = absurd (cc)
 is_list : (c : ℕ) → IsObject reading (as_list queue_kinds.TheVariants.IndexQueue c) (page.bounded_list c)
 is_list c = record { state = map number; opens = refl; after = one_after c; answer = one_answer c }
 
--- ---- behind the two acquires
-
-abbrev producer : model.Call ℕ
-producer = record { place = 0; party = 0; start = Queues AcquireProducer; response = Some (record { place = 1; answer = Truth true }) }
-
-abbrev consumer : model.Call ℕ
-consumer = record { place = 2; party = 1; start = Queues AcquireConsumer; response = Some (record { place = 3; answer = Truth true }) }
-
-among : (es : List (Event ℕ)) (c : model.Call ℕ) → is_push_or_pop c.start ≡ true → Contains (calls_of (roles_told ++ es)) c → Contains (calls_from es 4) c
-among es c mine is =
-    ⊎_elim (λ e. let other : false ≡ is_push_or_pop c.start = ap (λ (x : model.Call ℕ). is_push_or_pop x.start) e in absurd (cc))
-    (λ more.
-    ⊎_elim (λ e. let other : false ≡ is_push_or_pop c.start = ap (λ (x : model.Call ℕ). is_push_or_pop x.start) e in absurd (cc)) (λ rest. rest)
-    (split consumer c (calls_from es 4) more))
-    (split producer c (consumer ∷ calls_from es 4) is)
-
-within : (es : List (Event ℕ)) (c : model.Call ℕ) → Contains (calls_from es 4) c → Contains (calls_of (roles_told ++ es)) c
-within es c is = there producer c (consumer ∷ calls_from es 4) (there consumer c (calls_from es 4) is)
-
 -- ---- every list of turns
-
-coded : IsCoding one_word
-coded = grind arith
 
 admitted : (c : ℕ) → c < 2 ^ 32 → capacity_error kinds.TheVariants.IndexQueue c ≡ None
 admitted c few = grind (arith, nat_tests)
-
-idle : (x y : Party ℕ) → flight_of (doing_of (Some x)) ≡ None → flight_of (doing_of (Some y)) ≡ None → (a b : Bool)
-    → flight_of (doing_of (cond a (Some x) (cond b (Some y) None))) ≡ None
-idle x y free too true b = free
-idle x y free too false true = too
-idle x y free too false false = refl
 
 opens : (c : ℕ) (few : c < 2 ^ 32) → Sim (tie c few) 2 roles_told (machine.opening (page.index_queue c)) 0 (acquired c)
 opens c few =

@@ -5,6 +5,9 @@ ghost use Rattle.std.specs.Prelude.{ℕ, ◌<◌, ◌^◌, List, length, fold};
 ghost use Rattle.pages.specs.IndexQueue.{index_queue, bounded_list};
 ghost use Rattle.pages.specs.IndexQueue as queue;
 ghost use Rattle.pages.specs.Machine.{Turn, opening, turned, IsLinearizable};
+ghost use Rattle.pages.specs.OverflowingQueue.{overflowing_list};
+ghost use Rattle.pages.specs.OverflowingQueue as overflowing;
+ghost use Rattle.pages.specs.OverflowingQueueBridge.{OverflowingDoesAsTheCode, OverflowingRunsAsTheMachine};
 ghost use Rattle.pages.specs.Value.{value, register};
 ghost use Rattle.pages.specs.Value as single;
 ghost use Rattle.pages.specs.ValueBridge.{ValueDoesAsTheCode, ValueRunsAsTheMachine};
@@ -40,4 +43,19 @@ pub fn single_value()
 pub fn single_value_is_the_code()
     ensures code { ValueDoesAsTheCode }
     ensures machine { ValueRunsAsTheMachine }
+{}
+
+/// The overflowing queue of a capacity above 0, with one producer and one consumer: the theorem of its page. The function
+/// does nothing: its contract is a law. Without capacity no call takes a step: a push hands its own value back, and a pop
+/// returns None.
+pub fn overflowing_queue()
+    ensures { (capacity : ℕ) (turns : List (Turn overflowing.Call)) → 0 < capacity → capacity < 2 ^ 32 → length turns < 2 ^ 63
+        → IsLinearizable (overflowing_list capacity)
+        (fold (turned (overflowing.overflowing_queue capacity)) (opening (overflowing.overflowing_queue capacity)) turns).history }
+{}
+
+/// The page of the overflowing queue is about the code, and about machines, from where parties 0 and 1 have the roles.
+pub fn overflowing_queue_is_the_code()
+    ensures code { OverflowingDoesAsTheCode }
+    ensures machine { OverflowingRunsAsTheMachine }
 {}
