@@ -32,7 +32,7 @@ use Rattle.steps.specs.Queues.Ring.{cell_word, word_at}
 use Rattle.pages.specs.IndexQueue as page
 use Rattle.pages.specs.Machine as machine
 use Rattle.pages.specs.IndexQueueBridge.{DoesAsTheCode, Fits, PopsByTable, PushesByTable, RunsAsTheMachine, acquired, acquires, answer_seen, answered, as_turn, call_seen, flight, queue_start, reading, roles_told, went}
-use Rattle.pages.specs.Reading.{asked}
+use Rattle.pages.specs.Reading.{IsSame, asked}
 use Rattle.pages.proofs.Seen.{IsObject, carried}
 use Rattle.pages.proofs.Simulates.{GoesRight, Sim, StepIs, Tie, all_turns, trace}
 use Rattle.pages.proofs.Simulates as simulates
@@ -331,3 +331,8 @@ pushes c value stage old = (refl, refl)
 
 pub pops : PopsByTable
 pops c value stage old = (refl, refl)
+
+-- a run that those turns lead to
+pub runs_of : (t : Trace ℕ) (c : ℕ) (turns : List (machine.Turn page.Call)) → c < 2 ^ 32 → length turns < 2 ^ 63 → t ≡ run (map as_turn turns) (acquired c)
+    → IsSame reading roles_told t (world_of c turns)
+runs_of t c turns few small is = subst (λ u. IsSame reading roles_told u (world_of c turns)) (sym is) (runs c turns few small)

@@ -1,7 +1,9 @@
 //! Theorems on pages: for each structure one file of `specs`, which stands alone, says what its machine is.
 #![tactic(auto)]
 
-ghost use Rattle.std.specs.Prelude.{ℕ, ◌<◌, ◌^◌, List, length, fold};
+ghost use Rattle.std.specs.Prelude.{◌≡◌, ℕ, ◌<◌, ◌^◌, List, length, map, fold};
+ghost use Rattle.model.specs.Turns.{run};
+ghost use Rattle.model.specs.World.{trace_in};
 ghost use Rattle.pages.specs.IndexQueue.{index_queue, bounded_list};
 ghost use Rattle.pages.specs.IndexQueue as queue;
 ghost use Rattle.pages.specs.Machine.{Turn, opening, turned, IsLinearizable};
@@ -11,7 +13,11 @@ ghost use Rattle.pages.specs.OverflowingQueueBridge.{OverflowingDoesAsTheCode, O
 ghost use Rattle.pages.specs.Value.{value, register};
 ghost use Rattle.pages.specs.Value as single;
 ghost use Rattle.pages.specs.ValueBridge.{ValueDoesAsTheCode, ValueRunsAsTheMachine};
-ghost use Rattle.pages.specs.IndexQueueBridge.{DoesAsTheCode, PopsByTable, PushesByTable, RunsAsTheMachine};
+ghost use Rattle.pages.specs.IndexQueueBridge.{DoesAsTheCode, PopsByTable, PushesByTable, RunsAsTheMachine, acquired, as_turn, reading, roles_told};
+ghost use Rattle.pages.specs.Reading.{IsSame};
+
+use machine::Machine;
+use model::coding::Coded;
 
 /// The index queue, with one producer and one consumer: the theorem of its page. The function does nothing: its contract is
 /// a law.
@@ -43,6 +49,17 @@ pub fn single_value()
 pub fn single_value_is_the_code()
     ensures code { ValueDoesAsTheCode }
     ensures machine { ValueRunsAsTheMachine }
+{}
+
+/// What a `Machine` has taken is a run of the page: if its parties 0 and 1 acquired the roles first, and then took these
+/// turns, its words, the invocations and the responses are those of the page's machine over the same turns. `Machine::new`
+/// and each `Machine::step` say which turns a machine has taken; one that is refused for memory is not among them. The
+/// function does nothing.
+pub fn a_machine_runs_the_page(machine: &Machine<u64>)
+    ensures { (capacity : ℕ) (turns : List (Turn queue.Call)) → capacity < 2 ^ 32 → length turns < 2 ^ 63
+        → trace_in ⟦<u64 as Coded>⟧.coding machine.now ≡ run (map as_turn turns) (acquired capacity)
+        → IsSame reading roles_told (trace_in ⟦<u64 as Coded>⟧.coding machine.now)
+        (fold (turned (index_queue capacity)) (opening (index_queue capacity)) turns) }
 {}
 
 /// The overflowing queue of a capacity above 0, with one producer and one consumer: the theorem of its page. The function
