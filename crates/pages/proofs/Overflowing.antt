@@ -1,0 +1,317 @@
+-- The theorem of the overflowing queue's page, from the model's.
+use Rattle.std.specs.List.{AllByRecursion}
+use Rattle.std.proofs.Common.{◌%◌, ◌*◌, ◌^◌, ◌-◌, drop, is_some, replicate}
+use Rattle.std.proofs.lemmas.Bool.Decides.{nat_tests}
+use Rattle.std.proofs.lemmas.List.{length-map, map-append}
+use Rattle.std.specs.Ordering.{is_eq, nat_cmp}
+use Rattle.model.proofs.Names.{fold, Bool, IsReached, List, None, Option, Some, Trace, [], answer_in, ap, arith, ask_of, capacity_error, cond, false, first_row, length, map, nat_lt, one_word, opening, refl, refusal_of, slice_get, step_of, subst, sym, true, ℕ, ◌++◌, ◌+◌, ◌<◌, ◌==◌, ◌∙◌, ◌∷◌, ◌≡◌}
+use Rattle.model.proofs.Names as model
+use Rattle.model.specs.declared.event.Answer.{Answer}
+use Rattle.model.specs.declared.event.Item.{Item}
+use Rattle.model.specs.declared.event.Item.TheVariants.{Index, Value}
+use Rattle.model.specs.declared.event.Start.{Start}
+use Rattle.model.specs.declared.event.Start.TheVariants.{Queues}
+use Rattle.model.specs.declared.families.Flight as flights
+use Rattle.model.specs.declared.families.Registry as registries
+use Rattle.model.specs.declared.families.queues.QueueKind as queue_kinds
+use Rattle.model.specs.declared.families.queues.QueueStart.TheVariants.{PushIndex, Push, Pop}
+use Rattle.model.specs.declared.turn.Kind as kinds
+use Rattle.model.specs.declared.turn.Turn.{Turn}
+use Rattle.model.specs.Families.{begin_rows}
+use Rattle.model.specs.Families.Queues.Calls.{after, want}
+use Rattle.model.specs.Families.Queues.Objects.{answer_of_item, cut, cut_off, overflow_after, overflow_answer}
+use Rattle.model.specs.Families.Queues.Steps.{effect_of, roles_after}
+use Rattle.model.specs.Linearized.{as_list, is_push_or_pop}
+use Rattle.model.specs.Step.{as_call}
+use Rattle.model.specs.Turns.{run}
+use Rattle.model.proofs.Linearizable.Kinds.{run_linearizable}
+use Rattle.model.proofs.Reached.{reached_more, reached_opening, run_keeps}
+use Rattle.laws_queues.proofs.Queues.Sound.{queue_keeps}
+use Rattle.pages.specs.OverflowingQueue as page
+use Rattle.pages.specs.Machine as machine
+use Rattle.pages.specs.IndexQueueBridge.{acquires, roles_told}
+use Rattle.pages.specs.OverflowingQueueBridge.{OverflowingDoesAsTheCode, OverflowingRunsAsTheMachine, acquired, answer_seen, answered, as_turn, call_seen, flight, queue_start, read_then, reading, went}
+use Rattle.pages.specs.Reading.{asked}
+use Rattle.pages.proofs.Seen.{IsObject, carried}
+use Rattle.pages.proofs.Simulates.{GoesRight, Sim, StepIs, Tie, all_turns, trace}
+use Rattle.pages.proofs.Simulates as simulates
+use Rattle.pages.proofs.Roles.{among, coded, effects_own, effects_unseen, held, holds_row, idle, kept, lacks_row, number, number_rest, within}
+
+-- ---- the tables are the same
+
+abbrev pub call_at : page.Stage → page.Call
+call_at (page.PushLoadsWrite value) = page.Push value
+call_at (page.PushLoadsRead value write) = page.Push value
+call_at (page.PushStoresCell value write read) = page.Push value
+call_at (page.PushStoresWrite value write read) = page.Push value
+call_at (page.PushMovesRead value read) = page.Push value
+call_at (page.PushLoadsOldest value read) = page.Push value
+call_at page.PopLoadsRead = page.Pop
+call_at (page.PopLoadsWrite read) = page.Pop
+call_at (page.PopLoadsCell read) = page.Pop
+call_at (page.PopMovesRead read value) = page.Pop
+
+abbrev comes : ℕ → page.Stage → ℕ → (machine.After page.Stage (Option ℕ))
+comes c stage old = (page.does c stage).2 old
+
+asks_same : (c before : ℕ) (stage : page.Stage) → ask_of (want one_word (flight c before stage)) ≡ Some (asked (page.does c stage).0 (page.does c stage).1)
+asks_same c before (page.PushLoadsWrite value) = refl
+asks_same c before (page.PushLoadsRead value write) = refl
+asks_same c before (page.PushStoresCell value write read) = refl
+asks_same c before (page.PushStoresWrite value write read) = refl
+asks_same c before (page.PushMovesRead value read) = refl
+asks_same c before (page.PushLoadsOldest value read) = refl
+asks_same c before page.PopLoadsRead = refl
+asks_same c before (page.PopLoadsWrite read) = refl
+asks_same c before (page.PopLoadsCell read) = refl
+asks_same c before (page.PopMovesRead read value) = refl
+
+after_same : (c before : ℕ) (stage : page.Stage) (old : ℕ) → after one_word (flight c before stage) old ≡ went c (read_then before stage) (comes c stage old)
+after_same c before (page.PushLoadsWrite value) old = grind arith
+after_same c before (page.PushLoadsRead value write) old = refl
+after_same c before (page.PushStoresCell value write read) old = refl
+after_same c before (page.PushStoresWrite value write read) old = grind arith
+after_same c before (page.PushMovesRead value read) old = grind arith
+after_same c before (page.PushLoadsOldest value read) old = refl
+after_same c before page.PopLoadsRead old = refl
+after_same c before (page.PopLoadsWrite read) old = grind arith
+after_same c before (page.PopLoadsCell read) old = refl
+after_same c before (page.PopMovesRead read value) old = grind arith
+
+abbrev fits : page.Stage → Bool
+fits stage = true
+
+done_or : (b : Bool) (call : page.Call) (answer : Option ℕ) (stage : page.Stage) → call_at stage ≡ call
+    → GoesRight call_at fits call (cond b (machine.Done answer) (machine.GoOn stage))
+done_or true call answer stage e = tt
+done_or false call answer stage e = (e, refl)
+
+on_or : (b : Bool) (call : page.Call) (answer : Option ℕ) (stage : page.Stage) → call_at stage ≡ call
+    → GoesRight call_at fits call (cond b (machine.GoOn stage) (machine.Done answer))
+on_or true call answer stage e = (e, refl)
+on_or false call answer stage e = tt
+
+right : (c : ℕ) (stage : page.Stage) (old : ℕ) → GoesRight call_at fits (call_at stage) (comes c stage old)
+right c (page.PushLoadsWrite value) old = done_or (old == 2 ^ 64 - 1) (page.Push value) (Some value) (page.PushLoadsRead value old) refl
+right c (page.PushLoadsRead value write) old = (refl, refl)
+right c (page.PushStoresCell value write read) old = (refl, refl)
+right c (page.PushStoresWrite value write read) old =
+    on_or ((write + 2 ^ 64 - read) % 2 ^ 64 == c) (page.Push value) None (page.PushMovesRead value read) refl
+right c (page.PushMovesRead value read) old = on_or (old == read) (page.Push value) None (page.PushLoadsOldest value read) refl
+right c (page.PushLoadsOldest value read) old = tt
+right c page.PopLoadsRead old = (refl, refl)
+right c (page.PopLoadsWrite read) old = done_or (old == read) page.Pop None (page.PopLoadsCell read) refl
+right c (page.PopLoadsCell read) old = (refl, refl)
+right c (page.PopMovesRead read value) old = done_or (old == read) page.Pop (Some value) (page.PopLoadsCell old) refl
+
+-- ---- what a step does beside
+
+roles_stay : (p : ℕ) (call : page.Call) (outcome : Option (Answer ℕ)) → roles_after p (queue_start call) outcome held ≡ held
+roles_stay p (page.Push value) outcome = refl
+roles_stay p page.Pop outcome = refl
+
+went_same : (c before : ℕ) (a : (machine.After page.Stage (Option ℕ)))
+    → as_call flights.TheVariants.Queues (λ (answer : Answer ℕ). answer) (went c before a)
+    ≡ simulates.went (λ stage. flights.TheVariants.Queues (flight c before stage)) answered a
+went_same c before (machine.GoOn stage) = refl
+went_same c before (machine.Done answer) = refl
+
+goes : (c : ℕ) (words : List ℕ) (beside : Option (ℕ × ℕ)) (p before : ℕ) (stage : page.Stage) (old : ℕ)
+    → StepIs ℕ (page.overflowing_queue c) reading is_push_or_pop kinds.TheVariants.Overflow c kept
+    (λ r stage. flights.TheVariants.Queues (flight c r stage)) answered
+    (step_of one_word words beside p (Queues (queue_start (call_at stage))) (flights.TheVariants.Queues (flight c before stage)) old kept)
+    (comes c stage old)
+goes c words beside p before stage old =
+    let outcome = answer_in (after one_word (flight c before stage) old) in
+    let eff = effect_of one_word words beside (flight c before stage) old in
+    record {
+      room = read_then before stage;
+      after_is = ap (as_call flights.TheVariants.Queues (λ answer. answer)) (after_same c before stage old) ∙ went_same c (read_then before stage) (comes c stage old);
+      kept_is = ap registries.TheVariants.Queues (roles_stay p (call_at stage) outcome);
+      unseen = effects_unseen reading p (queue_start (call_at stage)) eff outcome;
+      own = effects_own p (queue_start (call_at stage)) eff outcome;
+    }
+
+-- ---- who may begin
+
+abbrev tied : ℕ → Type 0
+tied c = Tie ℕ (page.overflowing_queue c) reading is_push_or_pop kinds.TheVariants.Overflow c kept
+
+tie : (c : ℕ) → (c == 0) ≡ false → tied c
+tie c some =
+    record {
+      call_at = call_at;
+      start = λ call. Queues (queue_start call);
+      room = 0;
+      flight = λ before stage. flights.TheVariants.Queues (flight c before stage);
+      answered = answered;
+      fits = fits;
+      reads_start = reads_start;
+      reads_answer = reads_answer;
+      is_own = is_own;
+      admits = admits;
+      refuses = refuses;
+      begins = begins;
+      keeps = λ p call. refl;
+      first_at = first_at;
+      first_fits = λ call. refl;
+      asks = λ before stage fit. asks_same c before stage;
+      rows = λ before stage. refl;
+      goes = goes c;
+      right = λ stage old fit. right c stage old;
+    }
+  where
+    reads_start : (call : page.Call) → call_seen (Queues (queue_start call)) ≡ call
+    reads_start (page.Push value) = refl
+    reads_start page.Pop = refl
+
+    reads_answer : (answer : Option ℕ) → answer_seen (answered answer) ≡ answer
+    reads_answer None = refl
+    reads_answer (Some value) = refl
+
+    is_own : (call : page.Call) → is_push_or_pop (Queues (queue_start call)) ≡ true
+    is_own (page.Push value) = refl
+    is_own page.Pop = refl
+
+    admits : (p : ℕ) (call : page.Call) → page.may p call ≡ true
+        → first_row (begin_rows kinds.TheVariants.Overflow c kept p (Queues (queue_start call))) ≡ None
+    admits p (page.Push value) m = holds_row (0 == p) (grind (arith, nat_tests))
+    admits p page.Pop m = holds_row (1 == p) (grind (arith, nat_tests))
+
+    refuses : (p : ℕ) (call : page.Call) → page.may p call ≡ false
+        → is_some (first_row (begin_rows kinds.TheVariants.Overflow c kept p (Queues (queue_start call)))) ≡ true
+    refuses p (page.Push value) m = lacks_row (0 == p) (grind (arith, nat_tests))
+    refuses p page.Pop m = lacks_row (1 == p) (grind (arith, nat_tests))
+
+    begins : (call : page.Call) → model.first_of kinds.TheVariants.Overflow c (Queues (queue_start call)) kept ≡ Some (flights.TheVariants.Queues (flight c 0 (page.first call)))
+    begins (page.Push value) = rw some refl
+    begins page.Pop = rw some refl
+
+    first_at : (call : page.Call) → call_at (page.first call) ≡ call
+    first_at (page.Push value) = refl
+    first_at page.Pop = refl
+
+-- ---- the list
+
+front : (items : List (Item ℕ)) → answer_seen (answer_of_item (slice_get items 0)) ≡ slice_get (map number items) 0
+front [] = refl
+front (Index value ∷ items) = refl
+front (Value value ∷ items) = refl
+
+numbers_of : (items : List (Item ℕ)) (item : Item ℕ) → map number (items ++ item ∷ []) ≡ map number items ++ number item ∷ []
+numbers_of items item = map-append number items (item ∷ [])
+
+-- the page's list after a push, from the list with the new value at its end
+abbrev pushed : ℕ → List ℕ → Option ℕ × List ℕ
+pushed capacity all = cond (nat_lt capacity (length all)) (slice_get all 0, drop 1 all) (None, all)
+
+cut_after : (capacity : ℕ) (all : List (Item ℕ)) → map number (cut capacity all) ≡ (pushed capacity (map number all)).1
+cut_after capacity all = rw (length-map all number) (go (nat_lt capacity (length all)))
+  where
+    go : (b : Bool) → map number (cond b (drop 1 all) all)
+        ≡ (cond {A = Option ℕ × List ℕ} b (slice_get (map number all) 0, drop 1 (map number all)) (None, map number all)).1
+    go true = number_rest all
+    go false = refl
+
+cut_answer : (capacity : ℕ) (all : List (Item ℕ)) → answer_seen (answer_of_item (cut_off capacity all)) ≡ (pushed capacity (map number all)).0
+cut_answer capacity all = rw (length-map all number) (go (nat_lt capacity (length all)))
+  where
+    go : (b : Bool) → answer_seen (answer_of_item (cond b (slice_get all 0) None))
+        ≡ (cond {A = Option ℕ × List ℕ} b (slice_get (map number all) 0, drop 1 (map number all)) (None, map number all)).0
+    go true = front all
+    go false = refl
+
+one_after : (capacity : ℕ) (items : List (Item ℕ)) (start : Start ℕ) → is_push_or_pop start ≡ true
+    → map number (overflow_after capacity items start) ≡ (page.listed capacity (map number items) (call_seen start)).1
+one_after capacity items (Queues (PushIndex value)) own =
+    cut_after capacity (items ++ Index value ∷ []) ∙ ap (λ all. (pushed capacity all).1) (numbers_of items (Index value))
+one_after capacity items (Queues (Push value)) own =
+    cut_after capacity (items ++ Value value ∷ []) ∙ ap (λ all. (pushed capacity all).1) (numbers_of items (Value value))
+one_after capacity items (Queues Pop) own = number_rest items
+one_after capacity items other own = absurd (cc)
+
+one_answer : (capacity : ℕ) (items : List (Item ℕ)) (start : Start ℕ) → is_push_or_pop start ≡ true
+    → answer_seen (overflow_answer capacity items start) ≡ (page.listed capacity (map number items) (call_seen start)).0
+one_answer capacity items (Queues (PushIndex value)) own =
+    cut_answer capacity (items ++ Index value ∷ []) ∙ ap (λ all. (pushed capacity all).0) (numbers_of items (Index value))
+one_answer capacity items (Queues (Push value)) own =
+    cut_answer capacity (items ++ Value value ∷ []) ∙ ap (λ all. (pushed capacity all).0) (numbers_of items (Value value))
+one_answer capacity items (Queues Pop) own = front items
+one_answer capacity items other own = absurd (cc)
+
+is_list : (c : ℕ) → IsObject reading (as_list queue_kinds.TheVariants.Overflow c) (page.overflowing_list c)
+is_list c = record { state = map number; opens = refl; after = one_after c; answer = one_answer c }
+
+-- ---- every list of turns
+
+admitted : (c : ℕ) → c < 2 ^ 32 → capacity_error kinds.TheVariants.Overflow c ≡ None
+admitted c few = grind (arith, nat_tests)
+
+some_is : (c : ℕ) → 0 < c → (c == 0) ≡ false
+some_is c lt = grind (arith, nat_tests)
+
+opens : (c : ℕ) (some : (c == 0) ≡ false) → Sim (tie c some) 2 roles_told (machine.opening (page.overflowing_queue c)) 0 (acquired c)
+opens c some =
+    let last = acquired c in
+    let cells : 1 * (c + 1) ≡ c + 1 = omega arith in
+    record {
+      latest = last.world.latest;
+      changes = last.world.changes;
+      turns = last.world.turns;
+      events = [];
+      few = omega arith;
+      is = ap (λ k. trace (tie c some) 2 roles_told (0 ∷ 0 ∷ 0 ∷ 0 ∷ replicate k 0) last.world.latest last.world.changes last.world.turns []) cells;
+      told = refl;
+      own = tt;
+      matches = λ p. idle _ _ refl refl (is_eq (nat_cmp p 0)) (is_eq (nat_cmp p 1));
+    }
+
+may_below : (p : ℕ) (call : page.Call) → page.may p call ≡ true → p < 2
+may_below p (page.Push value) m = grind (arith, nat_tests)
+may_below p page.Pop m = grind (arith, nat_tests)
+
+all_within : (c : ℕ) (some : (c == 0) ≡ false) (turns : List (machine.Turn page.Call)) → AllByRecursion (simulates.IsWithin (tie c some) 2 roles_told) turns
+all_within c some [] = tt
+all_within c some (machine.Begin p call ∷ turns) = (may_below p call, all_within c some turns)
+all_within c some (machine.Next p ∷ turns) = (tt, all_within c some turns)
+
+same_turns : (c : ℕ) (some : (c == 0) ≡ false) (turns : List (machine.Turn page.Call)) → map (simulates.as_turn (tie c some) 2 roles_told) turns ≡ map as_turn turns
+unfolding tie
+same_turns c some [] = refl
+same_turns c some (machine.Begin p call ∷ turns) = ap (λ ts. as_turn (machine.Begin p call) ∷ ts) (same_turns c some turns)
+same_turns c some (machine.Next p ∷ turns) = ap (λ ts. as_turn (machine.Next p) ∷ ts) (same_turns c some turns)
+
+reached : (c : ℕ) (turns : List (Turn ℕ)) → c < 2 ^ 32 → IsReached (run turns (acquired c))
+reached c turns few =
+    run_keeps refusal_of IsReached (λ t turn e r. reached_more t turn e r) turns (acquired c)
+    (run_keeps refusal_of IsReached (λ t turn e r. reached_more t turn e r) acquires (opening one_word kinds.TheVariants.Overflow c 2)
+    (reached_opening one_word kinds.TheVariants.Overflow c 2 coded (admitted c few)))
+
+abbrev world_of : ℕ → List (machine.Turn page.Call) → (machine.World page.Call page.Stage (Option ℕ))
+world_of c turns = fold (machine.turned (page.overflowing_queue c)) (machine.opening (page.overflowing_queue c)) turns
+
+simulated : (c : ℕ) (turns : List (machine.Turn page.Call)) (some : (c == 0) ≡ false) → length turns < 2 ^ 63
+    → Sim (tie c some) 2 roles_told (world_of c turns) (0 + length turns) (run (map as_turn turns) (acquired c))
+simulated c turns some small =
+    subst (λ ts. Sim (tie c some) 2 roles_told (world_of c turns) (0 + length turns) (run ts (acquired c))) (same_turns c some turns)
+    (all_turns (tie c some) 2 roles_told turns (all_within c some turns) (machine.opening (page.overflowing_queue c)) 0 (acquired c) (omega arith) (opens c some))
+
+pub linearizable : (c : ℕ) (turns : List (machine.Turn page.Call)) → 0 < c → c < 2 ^ 32 → length turns < 2 ^ 63
+    → machine.IsLinearizable (page.overflowing_list c) (world_of c turns).history
+linearizable c turns more few small =
+    let some = some_is c more in
+    let s = simulated c turns some small in
+    let t = trace (tie c some) 2 roles_told (world_of c turns).words s.latest s.changes s.turns s.events in
+    let r : IsReached t = subst IsReached s.is (reached c (map as_turn turns) few) in
+    let keeps = (queue_keeps {T = ℕ} queue_kinds.TheVariants.Overflow).kept t refl r in
+    subst (machine.IsLinearizable (page.overflowing_list c)) s.told
+    (carried reading (as_list queue_kinds.TheVariants.Overflow c) (page.overflowing_list c) (is_list c) roles_told 4 s.events s.own (among s.events) (within s.events)
+    (run_linearizable t keeps))
+
+pub code : OverflowingDoesAsTheCode
+code c before stage = (asks_same c before stage, after_same c before stage)
+
+pub runs : OverflowingRunsAsTheMachine
+runs c turns more few small =
+    let s = simulated c turns (some_is c more) small in
+    record { events = s.events; is = ap (λ (t : Trace ℕ). t.events) s.is; history = s.told; words = ap (λ (t : Trace ℕ). t.world.words) s.is }

@@ -1,0 +1,338 @@
+-- The theorem of the index queue's page, from the model's.
+use Rattle.std.specs.List.{AllByRecursion}
+use Rattle.std.proofs.Common.{◌%◌, ◌*◌, ◌^◌, ◌||◌, ◌-◌, is_some, replicate, mod-lt}
+use Rattle.std.proofs.lemmas.Bool.Decides.{nat_tests}
+use Rattle.std.proofs.lemmas.List.{length-map, map-append}
+use Rattle.std.specs.Ordering.{is_eq, nat_cmp}
+use Rattle.model.proofs.Names.{fold, Bool, IsCoding, IsReached, List, None, Option, Some, Trace, [], answer_in, ap, arith, ask_of, bounded_list, capacity_error, cond, doing_of, false, first_row, flight_of, length, map, nat_lt, not, one_word, opening, refl, refusal_of, slice_get, step_of, subst, sym, true, ℕ, ⊎_elim, ◌++◌, ◌+◌, ◌<◌, ◌==◌, ◌∙◌, ◌∷◌, ◌≡◌}
+use Rattle.model.proofs.Names as model
+use Rattle.model.specs.declared.event.Answer.{Answer}
+use Rattle.model.specs.declared.event.Item.{Item}
+use Rattle.model.specs.declared.event.Item.TheVariants.{Index, Value}
+use Rattle.model.specs.declared.event.Start.{Start}
+use Rattle.model.specs.declared.event.Start.TheVariants.{Queues}
+use Rattle.model.specs.declared.families.Flight as flights
+use Rattle.model.specs.declared.families.Registry as registries
+use Rattle.model.specs.declared.families.queues.QueueKind as queue_kinds
+use Rattle.model.specs.declared.families.queues.QueueStart.TheVariants.{PushIndex, Push, Pop}
+use Rattle.model.specs.declared.turn.Kind as kinds
+use Rattle.model.specs.declared.turn.Turn.{Turn}
+use Rattle.model.specs.Families.{begin_rows}
+use Rattle.model.specs.Families.Queues.Calls.{after, want}
+use Rattle.model.specs.Families.Queues.Objects.{appended, answer_of_item, list_after, list_answer}
+use Rattle.model.specs.Families.Queues.Steps.{effect_of, roles_after}
+use Rattle.model.specs.Linearized.{as_list, is_push_or_pop}
+use Rattle.model.specs.Step.{as_call}
+use Rattle.model.specs.Turns.{run}
+use Rattle.model.proofs.Linearizable.Kinds.{run_linearizable}
+use Rattle.model.proofs.Reached.{reached_more, reached_opening, run_keeps}
+use Rattle.laws_queues.proofs.Queues.Sound.{queue_keeps}
+use Rattle.steps.specs.declared.ask.Op.TheVariants.{Load, Store}
+use Rattle.steps.specs.Queues.Ring.{cell_word, word_at}
+use Rattle.pages.specs.IndexQueue as page
+use Rattle.pages.specs.Machine as machine
+use Rattle.pages.specs.IndexQueueBridge.{DoesAsTheCode, Fits, PopsByTable, PushesByTable, RunsAsTheMachine, acquired, acquires, answer_seen, answered, as_turn, call_seen, flight, queue_start, reading, roles_told, went}
+use Rattle.pages.specs.Reading.{IsSame, asked}
+use Rattle.pages.proofs.Seen.{IsObject, carried}
+use Rattle.pages.proofs.Simulates.{GoesRight, Sim, StepIs, Tie, all_turns, trace}
+use Rattle.pages.proofs.Simulates as simulates
+use Rattle.pages.proofs.Roles.{among, coded, effects_own, effects_unseen, held, holds_row, idle, kept, lacks_row, number, number_rest, within}
+
+-- ---- the tables are the same
+
+abbrev pub call_at : page.Stage → page.Call
+call_at (page.PushLoadsWrite value) = page.Push value
+call_at (page.PushLoadsRead value write) = page.Push value
+call_at (page.PushStoresCell value write) = page.Push value
+call_at (page.PushStoresWrite value write) = page.Push value
+call_at page.PopLoadsRead = page.Pop
+call_at (page.PopLoadsWrite read) = page.Pop
+call_at (page.PopLoadsCell read) = page.Pop
+call_at (page.PopStoresRead read value) = page.Pop
+
+-- a call that goes to a cell has found that there is one
+abbrev fits : ℕ → page.Stage → Bool
+fits c (page.PushStoresCell value write) = not (c == 0)
+fits c (page.PopLoadsCell read) = not (c == 0)
+fits c stage = true
+
+fits_so : (c : ℕ) (stage : page.Stage) → fits c stage ≡ true → Fits c stage
+fits_so c (page.PushLoadsWrite value) e = tt
+fits_so c (page.PushLoadsRead value write) e = tt
+fits_so c (page.PushStoresCell value write) e = grind arith
+fits_so c (page.PushStoresWrite value write) e = tt
+fits_so c page.PopLoadsRead e = tt
+fits_so c (page.PopLoadsWrite read) e = tt
+fits_so c (page.PopLoadsCell read) e = grind arith
+fits_so c (page.PopStoresRead read value) e = tt
+
+abbrev comes : ℕ → page.Stage → ℕ → (machine.After page.Stage page.Answer)
+comes c stage old = (page.does c stage).2 old
+
+small_word : (r : ℕ) → r < 2 ^ 32 → (4 + 1 * r + 0) % 2 ^ 64 ≡ 4 + r
+small_word r lt = omega arith
+
+cell_is : (c position : ℕ) → c < 2 ^ 32 → (c == 0) ≡ false → word_at (cell_word c 1 position) 0 ≡ 4 + position % c
+cell_is c position few some =
+    let more : 0 < c = grind (arith, nat_tests) in
+    let below = mod-lt position more in
+    let lt : position % c < 2 ^ 32 = omega arith in
+    rw some (small_word (position % c) lt)
+
+asks_same : (c : ℕ) (stage : page.Stage) → c < 2 ^ 32 → Fits c stage → ask_of (want one_word (flight c stage)) ≡ Some (asked (page.does c stage).0 (page.does c stage).1)
+asks_same c (page.PushLoadsWrite value) few fits = refl
+asks_same c (page.PushLoadsRead value write) few fits = refl
+asks_same c (page.PushStoresCell value write) few fits = ap (λ k. Some (record { word = k; op = Store value })) (cell_is c write few fits)
+asks_same c (page.PushStoresWrite value write) few fits = refl
+asks_same c page.PopLoadsRead few fits = refl
+asks_same c (page.PopLoadsWrite read) few fits = refl
+asks_same c (page.PopLoadsCell read) few fits = ap (λ k. Some (record { word = k; op = Load })) (cell_is c read few fits)
+asks_same c (page.PopStoresRead read value) few fits = refl
+
+after_same : (c : ℕ) (stage : page.Stage) (old : ℕ) → after one_word (flight c stage) old ≡ went c (comes c stage old)
+after_same c (page.PushLoadsWrite value) old = grind arith
+after_same c (page.PushLoadsRead value write) old = grind arith
+after_same c (page.PushStoresCell value write) old = refl
+after_same c (page.PushStoresWrite value write) old = refl
+after_same c page.PopLoadsRead old = refl
+after_same c (page.PopLoadsWrite read) old = grind arith
+after_same c (page.PopLoadsCell read) old = refl
+after_same c (page.PopStoresRead read value) old = refl
+
+right : (c : ℕ) (stage : page.Stage) (old : ℕ) → GoesRight call_at (fits c) (call_at stage) (comes c stage old)
+right c (page.PushLoadsWrite value) old = go (old == 2 ^ 64 - 1)
+  where
+    go : (b : Bool) → GoesRight call_at (fits c) (page.Push value) (cond b (machine.Done (page.Pushed false)) (machine.GoOn (page.PushLoadsRead value old)))
+    go true = tt
+    go false = (refl, refl)
+right c (page.PushLoadsRead value write) old = go (c == 0) refl ((write + 2 ^ 64 - old) % 2 ^ 64 == c)
+  where
+    go : (a : Bool) → (c == 0) ≡ a → (d : Bool) → GoesRight call_at (fits c) (page.Push value) (cond (a || d) (machine.Done (page.Pushed false)) (machine.GoOn (page.PushStoresCell value write)))
+    go true t d = tt
+    go false t true = tt
+    go false t false = (refl, ap not t)
+right c (page.PushStoresCell value write) old = (refl, refl)
+right c (page.PushStoresWrite value write) old = tt
+right c page.PopLoadsRead old = (refl, refl)
+right c (page.PopLoadsWrite read) old = go (c == 0) refl (old == read)
+  where
+    go : (a : Bool) → (c == 0) ≡ a → (d : Bool) → GoesRight call_at (fits c) page.Pop (cond (a || d) (machine.Done (page.Popped None)) (machine.GoOn (page.PopLoadsCell read)))
+    go true t d = tt
+    go false t true = tt
+    go false t false = (refl, ap not t)
+right c (page.PopLoadsCell read) old = (refl, refl)
+right c (page.PopStoresRead read value) old = tt
+
+-- ---- what a step does beside
+
+roles_stay : (p : ℕ) (call : page.Call) (outcome : Option (Answer ℕ)) → roles_after p (queue_start call) outcome held ≡ held
+roles_stay p (page.Push value) outcome = refl
+roles_stay p page.Pop outcome = refl
+
+went_same : (c : ℕ) (a : (machine.After page.Stage page.Answer))
+    → as_call flights.TheVariants.Queues (λ (answer : Answer ℕ). answer) (went c a) ≡ simulates.went (λ stage. flights.TheVariants.Queues (flight c stage)) answered a
+went_same c (machine.GoOn stage) = refl
+went_same c (machine.Done answer) = refl
+
+goes : (c : ℕ) (words : List ℕ) (beside : Option (ℕ × ℕ)) (p : ℕ) (stage : page.Stage) (old : ℕ)
+    → StepIs (Unit {0}) (page.index_queue c) reading is_push_or_pop kinds.TheVariants.IndexQueue c kept
+    (λ r stage. flights.TheVariants.Queues (flight c stage)) answered
+    (step_of one_word words beside p (Queues (queue_start (call_at stage))) (flights.TheVariants.Queues (flight c stage)) old kept)
+    (comes c stage old)
+goes c words beside p stage old =
+    let outcome = answer_in (after one_word (flight c stage) old) in
+    let eff = effect_of one_word words beside (flight c stage) old in
+    record {
+      room = tt;
+      after_is = ap (as_call flights.TheVariants.Queues (λ answer. answer)) (after_same c stage old) ∙ went_same c (comes c stage old);
+      kept_is = ap registries.TheVariants.Queues (roles_stay p (call_at stage) outcome);
+      unseen = effects_unseen reading p (queue_start (call_at stage)) eff outcome;
+      own = effects_own p (queue_start (call_at stage)) eff outcome;
+    }
+
+-- ---- who may begin
+
+abbrev tied : ℕ → Type 0
+tied c = Tie (Unit {0}) (page.index_queue c) reading is_push_or_pop kinds.TheVariants.IndexQueue c kept
+
+tie : (c : ℕ) → c < 2 ^ 32 → tied c
+tie c few =
+    record {
+      call_at = call_at;
+      start = λ call. Queues (queue_start call);
+      room = tt;
+      flight = λ r stage. flights.TheVariants.Queues (flight c stage);
+      answered = answered;
+      fits = fits c;
+      reads_start = reads_start;
+      reads_answer = reads_answer;
+      is_own = is_own;
+      admits = admits;
+      refuses = refuses;
+      begins = begins;
+      keeps = λ p call. refl;
+      first_at = first_at;
+      first_fits = first_fits;
+      asks = λ r stage fit. asks_same c stage few (fits_so c stage fit);
+      rows = λ r stage. refl;
+      goes = λ words beside p r stage old. goes c words beside p stage old;
+      right = λ stage old fit. right c stage old;
+    }
+  where
+    reads_start : (call : page.Call) → call_seen (Queues (queue_start call)) ≡ call
+    reads_start (page.Push value) = refl
+    reads_start page.Pop = refl
+
+    reads_answer : (answer : page.Answer) → answer_seen (answered answer) ≡ answer
+    reads_answer (page.Pushed b) = refl
+    reads_answer (page.Popped None) = refl
+    reads_answer (page.Popped (Some value)) = refl
+
+    is_own : (call : page.Call) → is_push_or_pop (Queues (queue_start call)) ≡ true
+    is_own (page.Push value) = refl
+    is_own page.Pop = refl
+
+    admits : (p : ℕ) (call : page.Call) → page.may p call ≡ true
+        → first_row (begin_rows kinds.TheVariants.IndexQueue c kept p (Queues (queue_start call))) ≡ None
+    admits p (page.Push value) m = holds_row (0 == p) (grind (arith, nat_tests))
+    admits p page.Pop m = holds_row (1 == p) (grind (arith, nat_tests))
+
+    refuses : (p : ℕ) (call : page.Call) → page.may p call ≡ false
+        → is_some (first_row (begin_rows kinds.TheVariants.IndexQueue c kept p (Queues (queue_start call)))) ≡ true
+    refuses p (page.Push value) m = lacks_row (0 == p) (grind (arith, nat_tests))
+    refuses p page.Pop m = lacks_row (1 == p) (grind (arith, nat_tests))
+
+    begins : (call : page.Call) → model.first_of kinds.TheVariants.IndexQueue c (Queues (queue_start call)) kept ≡ Some (flights.TheVariants.Queues (flight c (page.first call)))
+    begins (page.Push value) = refl
+    begins page.Pop = refl
+
+    first_at : (call : page.Call) → call_at (page.first call) ≡ call
+    first_at (page.Push value) = refl
+    first_at page.Pop = refl
+
+    first_fits : (call : page.Call) → fits c (page.first call) ≡ true
+    first_fits (page.Push value) = refl
+    first_fits page.Pop = refl
+
+-- ---- the list
+
+pushed_after : (capacity : ℕ) (items : List (Item ℕ)) (item : Item ℕ)
+    → map number (appended capacity items item) ≡ (page.listed capacity (map number items) (page.Push (number item))).1
+pushed_after capacity items item = rw (length-map items number) (go (nat_lt (length items) capacity))
+  where
+    go : (b : Bool) → map number (cond b (items ++ item ∷ []) items)
+        ≡ (cond {A = page.Answer × List ℕ} b (page.Pushed true, map number items ++ number item ∷ []) (page.Pushed false, map number items)).1
+    go true = map-append number items (item ∷ [])
+    go false = refl
+
+pushed_answer : (capacity : ℕ) (items : List (Item ℕ)) (value : ℕ)
+    → page.Pushed (nat_lt (length items) capacity) ≡ (page.listed capacity (map number items) (page.Push value)).0
+pushed_answer capacity items value = rw (length-map items number) (go (nat_lt (length items) capacity))
+  where
+    go : (b : Bool) → page.Pushed b ≡ (cond {A = page.Answer × List ℕ} b (page.Pushed true, map number items ++ value ∷ []) (page.Pushed false, map number items)).0
+    go true = refl
+    go false = refl
+
+number_front : (items : List (Item ℕ)) → answer_seen (answer_of_item (slice_get items 0)) ≡ page.Popped (slice_get (map number items) 0)
+number_front [] = refl
+number_front (Index value ∷ items) = refl
+number_front (Value value ∷ items) = refl
+
+-- the page's list after a call, and its answer
+one_after : (capacity : ℕ) (items : List (Item ℕ)) (start : Start ℕ) → is_push_or_pop start ≡ true
+    → map number (list_after capacity items start) ≡ (page.listed capacity (map number items) (call_seen start)).1
+one_after capacity items (Queues (PushIndex value)) own = pushed_after capacity items (Index value)
+one_after capacity items (Queues (Push value)) own = pushed_after capacity items (Value value)
+one_after capacity items (Queues Pop) own = number_rest items
+one_after capacity items other own = absurd (cc)
+
+one_answer : (capacity : ℕ) (items : List (Item ℕ)) (start : Start ℕ) → is_push_or_pop start ≡ true
+    → answer_seen (list_answer capacity items start) ≡ (page.listed capacity (map number items) (call_seen start)).0
+one_answer capacity items (Queues (PushIndex value)) own = pushed_answer capacity items value
+one_answer capacity items (Queues (Push value)) own = pushed_answer capacity items value
+one_answer capacity items (Queues Pop) own = number_front items
+one_answer capacity items other own = absurd (cc)
+
+is_list : (c : ℕ) → IsObject reading (as_list queue_kinds.TheVariants.IndexQueue c) (page.bounded_list c)
+is_list c = record { state = map number; opens = refl; after = one_after c; answer = one_answer c }
+
+-- ---- every list of turns
+
+admitted : (c : ℕ) → c < 2 ^ 32 → capacity_error kinds.TheVariants.IndexQueue c ≡ None
+admitted c few = grind (arith, nat_tests)
+
+opens : (c : ℕ) (few : c < 2 ^ 32) → Sim (tie c few) 2 roles_told (machine.opening (page.index_queue c)) 0 (acquired c)
+opens c few =
+    let last = acquired c in
+    let cells : 1 * c ≡ c = omega arith in
+    record {
+      latest = last.world.latest;
+      changes = last.world.changes;
+      turns = last.world.turns;
+      events = [];
+      few = omega arith;
+      is = ap (λ k. trace (tie c few) 2 roles_told (0 ∷ 0 ∷ 0 ∷ 0 ∷ replicate k 0) last.world.latest last.world.changes last.world.turns []) cells;
+      told = refl;
+      own = tt;
+      matches = λ p. idle _ _ refl refl (is_eq (nat_cmp p 0)) (is_eq (nat_cmp p 1));
+    }
+
+may_below : (p : ℕ) (call : page.Call) → page.may p call ≡ true → p < 2
+may_below p (page.Push value) m = grind (arith, nat_tests)
+may_below p page.Pop m = grind (arith, nat_tests)
+
+all_within : (c : ℕ) (few : c < 2 ^ 32) (turns : List (machine.Turn page.Call)) → AllByRecursion (simulates.IsWithin (tie c few) 2 roles_told) turns
+all_within c few [] = tt
+all_within c few (machine.Begin p call ∷ turns) = (may_below p call, all_within c few turns)
+all_within c few (machine.Next p ∷ turns) = (tt, all_within c few turns)
+
+same_turns : (c : ℕ) (few : c < 2 ^ 32) (turns : List (machine.Turn page.Call)) → map (simulates.as_turn (tie c few) 2 roles_told) turns ≡ map as_turn turns
+unfolding tie
+same_turns c few [] = refl
+same_turns c few (machine.Begin p call ∷ turns) = ap (λ ts. as_turn (machine.Begin p call) ∷ ts) (same_turns c few turns)
+same_turns c few (machine.Next p ∷ turns) = ap (λ ts. as_turn (machine.Next p) ∷ ts) (same_turns c few turns)
+
+reached : (c : ℕ) (turns : List (Turn ℕ)) → c < 2 ^ 32 → IsReached (run turns (acquired c))
+reached c turns few =
+    run_keeps refusal_of IsReached (λ t turn e r. reached_more t turn e r) turns (acquired c)
+    (run_keeps refusal_of IsReached (λ t turn e r. reached_more t turn e r) acquires (opening one_word kinds.TheVariants.IndexQueue c 2)
+    (reached_opening one_word kinds.TheVariants.IndexQueue c 2 coded (admitted c few)))
+
+abbrev world_of : ℕ → List (machine.Turn page.Call) → (machine.World page.Call page.Stage page.Answer)
+world_of c turns = fold (machine.turned (page.index_queue c)) (machine.opening (page.index_queue c)) turns
+
+simulated : (c : ℕ) (turns : List (machine.Turn page.Call)) (few : c < 2 ^ 32) → length turns < 2 ^ 63
+    → Sim (tie c few) 2 roles_told (world_of c turns) (0 + length turns) (run (map as_turn turns) (acquired c))
+simulated c turns few small =
+    subst (λ ts. Sim (tie c few) 2 roles_told (world_of c turns) (0 + length turns) (run ts (acquired c))) (same_turns c few turns)
+    (all_turns (tie c few) 2 roles_told turns (all_within c few turns) (machine.opening (page.index_queue c)) 0 (acquired c) (omega arith) (opens c few))
+
+pub linearizable : (c : ℕ) (turns : List (machine.Turn page.Call)) → c < 2 ^ 32 → length turns < 2 ^ 63
+    → machine.IsLinearizable (page.bounded_list c) (world_of c turns).history
+linearizable c turns few small =
+    let s = simulated c turns few small in
+    let t = trace (tie c few) 2 roles_told (world_of c turns).words s.latest s.changes s.turns s.events in
+    let r : IsReached t = subst IsReached s.is (reached c (map as_turn turns) few) in
+    let keeps = (queue_keeps {T = ℕ} queue_kinds.TheVariants.IndexQueue).kept t refl r in
+    subst (machine.IsLinearizable (page.bounded_list c)) s.told
+    (carried reading (as_list queue_kinds.TheVariants.IndexQueue c) (page.bounded_list c) (is_list c) roles_told 4 s.events s.own (among s.events) (within s.events)
+    (run_linearizable t keeps))
+
+pub code : DoesAsTheCode
+code c stage few fits = (asks_same c stage few fits, after_same c stage)
+
+pub runs : RunsAsTheMachine
+runs c turns few small =
+    let s = simulated c turns few small in
+    record { events = s.events; is = ap (λ (t : Trace ℕ). t.events) s.is; history = s.told; words = ap (λ (t : Trace ℕ). t.world.words) s.is }
+
+pub pushes : PushesByTable
+pushes c value stage old = (refl, refl)
+
+pub pops : PopsByTable
+pops c value stage old = (refl, refl)
+
+-- a run that those turns lead to
+pub runs_of : (t : Trace ℕ) (c : ℕ) (turns : List (machine.Turn page.Call)) → c < 2 ^ 32 → length turns < 2 ^ 63 → t ≡ run (map as_turn turns) (acquired c)
+    → IsSame reading roles_told t (world_of c turns)
+runs_of t c turns few small is = subst (λ u. IsSame reading roles_told u (world_of c turns)) (sym is) (runs c turns few small)

@@ -1,0 +1,108 @@
+-- What the pages of both queues of indices share: the roles, the effects of a step, and the two acquires before the page begins.
+use Rattle.std.specs.List.{AllByRecursion, Contains}
+use Rattle.std.proofs.Common.{drop, is_some}
+use Rattle.model.proofs.Names.{Bool, IsCoding, List, None, Option, Some, [], ap, arith, cond, doing_of, false, first_row, flight_of, map, not, one_word, refl, true, ℕ, ⊎_elim, ◌++◌, ◌∷◌, ◌≡◌}
+use Rattle.model.proofs.Names as model
+use Rattle.model.specs.declared.event.Answer.{Answer}
+use Rattle.model.specs.declared.event.Answer.TheVariants.{Truth}
+use Rattle.model.specs.declared.event.Event.{Event}
+use Rattle.model.specs.declared.event.Item.{Item}
+use Rattle.model.specs.declared.event.Item.TheVariants.{Index, Value}
+use Rattle.model.specs.declared.event.Start.TheVariants.{Queues}
+use Rattle.model.specs.declared.families.Registry as registries
+use Rattle.model.specs.declared.families.queues.QueueStart.{QueueStart}
+use Rattle.model.specs.declared.families.queues.QueueStart.TheVariants.{AcquireProducer, AcquireConsumer}
+use Rattle.model.specs.declared.families.queues.Roles.{Roles}
+use Rattle.model.specs.declared.families.queues.effects.Effect.{Effect}
+use Rattle.model.specs.declared.families.queues.effects.Effect.TheVariants.{Quiet, Acts, Publishes, PublishesAndActs, HandsOut, TakesOut, MakesRoom}
+use Rattle.model.specs.declared.party.Party.{Party}
+use Rattle.model.specs.declared.turn.Refusal.TheVariants.{NoRole, WrongCall}
+use Rattle.model.specs.Families.Queues.Steps.{effects_of}
+use Rattle.model.specs.Linearizable.{calls_from, calls_of}
+use Rattle.model.specs.Linearized.{is_push_or_pop}
+use Rattle.model.proofs.Linearizable.Members.{split, there}
+use Rattle.pages.specs.IndexQueueBridge.{roles_told}
+use Rattle.pages.specs.Reading.{Reading, all_seen}
+use Rattle.pages.proofs.Seen.{IsOwn}
+
+-- ---- the roles
+
+abbrev pub held : Roles
+held = record { producer = Some 0; consumer = Some 1 }
+
+abbrev pub kept : registries.Registry ℕ
+kept = registries.TheVariants.Queues held
+
+pub holds_row : (b : Bool) → b ≡ true → first_row ((false, WrongCall) ∷ (not b, NoRole) ∷ []) ≡ None
+holds_row b e = rw e refl
+
+pub lacks_row : (b : Bool) → b ≡ false → is_some (first_row ((false, WrongCall) ∷ (not b, NoRole) ∷ [])) ≡ true
+lacks_row b e = rw e refl
+
+-- ---- the effects of a step
+
+pub effects_unseen : {Call Answered : Type 0} (read : Reading Call Answered) (p : ℕ) (start : QueueStart ℕ) (eff : Effect ℕ) (outcome : Option (Answer ℕ)) → all_seen read (effects_of p start eff outcome) ≡ []
+effects_unseen read p start Quiet outcome = refl
+effects_unseen read p start Acts None = refl
+effects_unseen read p start Acts (Some answer) = refl
+effects_unseen read p start (Publishes item) None = refl
+effects_unseen read p start (Publishes item) (Some answer) = refl
+effects_unseen read p start (PublishesAndActs item) outcome = refl
+effects_unseen read p start (HandsOut item) None = refl
+effects_unseen read p start (HandsOut item) (Some answer) = refl
+effects_unseen read p start (TakesOut index) outcome = refl
+effects_unseen read p start (MakesRoom item q pushed) None = refl
+effects_unseen read p start (MakesRoom item q pushed) (Some answer) = refl
+
+pub effects_own : (p : ℕ) (start : QueueStart ℕ) (eff : Effect ℕ) (outcome : Option (Answer ℕ)) → AllByRecursion (IsOwn is_push_or_pop) (effects_of p start eff outcome)
+effects_own p start Quiet outcome = tt
+effects_own p start Acts None = tt
+effects_own p start Acts (Some answer) = (tt, tt)
+effects_own p start (Publishes item) None = (tt, tt)
+effects_own p start (Publishes item) (Some answer) = (tt, (tt, tt))
+effects_own p start (PublishesAndActs item) outcome = (tt, (tt, tt))
+effects_own p start (HandsOut item) None = (tt, tt)
+effects_own p start (HandsOut item) (Some answer) = (tt, (tt, tt))
+effects_own p start (TakesOut index) outcome = (tt, (tt, tt))
+effects_own p start (MakesRoom item q pushed) None = (tt, (tt, tt))
+effects_own p start (MakesRoom item q pushed) (Some answer) = (tt, (tt, (tt, tt)))
+
+-- ---- the numbers in a list
+
+abbrev pub number : Item ℕ → ℕ
+number (Index value) = value
+number (Value value) = value
+
+pub number_rest : (items : List (Item ℕ)) → map number (drop 1 items) ≡ drop 1 (map number items)
+number_rest [] = refl
+number_rest (item ∷ items) = refl
+
+-- ---- behind the two acquires
+
+abbrev pub producer : model.Call ℕ
+producer = record { place = 0; party = 0; start = Queues AcquireProducer; response = Some (record { place = 1; answer = Truth true }) }
+
+abbrev pub consumer : model.Call ℕ
+consumer = record { place = 2; party = 1; start = Queues AcquireConsumer; response = Some (record { place = 3; answer = Truth true }) }
+
+pub among : (es : List (Event ℕ)) (c : model.Call ℕ) → is_push_or_pop c.start ≡ true → Contains (calls_of (roles_told ++ es)) c → Contains (calls_from es 4) c
+among es c mine is =
+    ⊎_elim (λ e. let other : false ≡ is_push_or_pop c.start = ap (λ (x : model.Call ℕ). is_push_or_pop x.start) e in absurd (cc))
+    (λ more.
+    ⊎_elim (λ e. let other : false ≡ is_push_or_pop c.start = ap (λ (x : model.Call ℕ). is_push_or_pop x.start) e in absurd (cc)) (λ rest. rest)
+    (split consumer c (calls_from es 4) more))
+    (split producer c (consumer ∷ calls_from es 4) is)
+
+pub within : (es : List (Event ℕ)) (c : model.Call ℕ) → Contains (calls_from es 4) c → Contains (calls_of (roles_told ++ es)) c
+within es c is = there producer c (consumer ∷ calls_from es 4) (there consumer c (calls_from es 4) is)
+
+-- ---- the opening
+
+pub coded : IsCoding one_word
+coded = grind arith
+
+pub idle : (x y : Party ℕ) → flight_of (doing_of (Some x)) ≡ None → flight_of (doing_of (Some y)) ≡ None → (a b : Bool)
+    → flight_of (doing_of (cond a (Some x) (cond b (Some y) None))) ≡ None
+idle x y free too true b = free
+idle x y free too false true = too
+idle x y free too false false = refl

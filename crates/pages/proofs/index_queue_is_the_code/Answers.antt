@@ -1,0 +1,14 @@
+use Rattle.pages.proofs.Queue as queue
+use Rattle.pages.proofs.index_queue_is_the_code.Goals as goal
+
+pub returns-clause-code : goal.returns-clause-code
+returns-clause-code c = queue.code
+
+pub returns-clause-machine : goal.returns-clause-machine
+returns-clause-machine c = queue.runs
+
+pub returns-clause-pushes : goal.returns-clause-pushes
+returns-clause-pushes c = queue.pushes
+
+pub returns-clause-pops : goal.returns-clause-pops
+returns-clause-pops c = queue.pops

@@ -1,0 +1,8 @@
+use Rattle.pages.proofs.Value as single
+use Rattle.pages.proofs.single_value_is_the_code.Goals as goal
+
+pub returns-clause-code : goal.returns-clause-code
+returns-clause-code c = single.code
+
+pub returns-clause-machine : goal.returns-clause-machine
+returns-clause-machine c = single.runs

@@ -1,0 +1,106 @@
+-- What the page of the overflowing queue has to do with the code and with machines.
+use Rattle.std.specs.Prelude.{◌≡◌, ℕ, ◌<◌, ◌^◌, Option, Some, None, List, length, map, fold}
+use Rattle.steps.specs.declared.ask.After.{After}
+use Rattle.steps.specs.declared.ask.After.TheVariants.{GoOn, Done}
+use Rattle.steps.specs.declared.queues.overflow.PushStage as pushes
+use Rattle.steps.specs.declared.queues.overflow.PopStage as pops
+use Rattle.model.specs.declared.event.Answer.{Answer}
+use Rattle.model.specs.declared.event.Answer.TheVariants.{PoppedNone, PoppedIndex, Popped}
+use Rattle.model.specs.declared.event.Start.{Start}
+use Rattle.model.specs.declared.event.Start.TheVariants.{Queues}
+use Rattle.model.specs.declared.families.queues.QueueStart.{QueueStart}
+use Rattle.model.specs.declared.families.queues.QueueStart.TheVariants as starts
+use Rattle.model.specs.declared.families.queues.calls.QueueFlight.{QueueFlight}
+use Rattle.model.specs.declared.families.queues.calls.QueueFlight.TheVariants.{Overflow}
+use Rattle.model.specs.declared.families.queues.calls.OverflowCall as overflows
+use Rattle.model.specs.declared.turn.Kind as kinds
+use Rattle.model.specs.declared.turn.Turn.{Turn}
+use Rattle.model.specs.declared.turn.Turn.TheVariants.{Begin, Next}
+use Rattle.model.specs.Coding.{one_word}
+use Rattle.model.specs.Families.{ask_of}
+use Rattle.model.specs.Families.Queues.Calls.{after, want}
+use Rattle.model.specs.Turns.{run}
+use Rattle.model.specs.World.{Trace, opening}
+use Rattle.pages.specs.OverflowingQueue as page
+use Rattle.pages.specs.Machine as machine
+use Rattle.pages.specs.Reading.{IsSame, Reading, asked}
+use Rattle.pages.specs.IndexQueueBridge.{acquires, roles_told}
+
+-- ---- stage by stage
+
+abbrev pub queue_start : page.Call → QueueStart ℕ
+queue_start (page.Push value) = starts.PushIndex value
+queue_start page.Pop = starts.Pop
+
+abbrev pub pushing : ℕ → ℕ → pushes.PushStage → QueueFlight ℕ
+pushing capacity value stage =
+    Overflow (overflows.TheVariants.Push (record { call = record { capacity = capacity; stage = stage }; given = value; room = record { 0 = 0 } }))
+
+-- a pop has read this value last, or none yet
+abbrev pub popping : ℕ → ℕ → pops.PopStage → QueueFlight ℕ
+popping capacity value stage =
+    Overflow (overflows.TheVariants.Pop (record { call = record { capacity = capacity; stage = stage }; given = tt; room = record { 0 = value } }))
+
+-- the page does not name what a pop read before it went back
+abbrev pub flight : ℕ → ℕ → page.Stage → QueueFlight ℕ
+flight c before (page.PushLoadsWrite value) = pushing c value pushes.TheVariants.LoadsWrite
+flight c before (page.PushLoadsRead value write) = pushing c value (pushes.TheVariants.LoadsRead write)
+flight c before (page.PushStoresCell value write read) = pushing c value (pushes.TheVariants.StoresCell write read)
+flight c before (page.PushStoresWrite value write read) = pushing c value (pushes.TheVariants.StoresWrite write read)
+flight c before (page.PushMovesRead value read) = pushing c value (pushes.TheVariants.MovesRead read)
+flight c before (page.PushLoadsOldest value read) = pushing c value (pushes.TheVariants.LoadsCell read)
+flight c before page.PopLoadsRead = popping c before pops.TheVariants.LoadsRead
+flight c before (page.PopLoadsWrite read) = popping c before (pops.TheVariants.LoadsWrite read)
+flight c before (page.PopLoadsCell read) = popping c before (pops.TheVariants.LoadsCell read)
+flight c before (page.PopMovesRead read value) = popping c value (pops.TheVariants.MovesRead read)
+
+abbrev pub answered : Option ℕ → Answer ℕ
+answered None = PoppedNone
+answered (Some value) = PoppedIndex value
+
+abbrev pub went : ℕ → ℕ → (machine.After page.Stage (Option ℕ)) → After (QueueFlight ℕ) (Answer ℕ)
+went c before (machine.GoOn stage) = GoOn (flight c before stage)
+went c before (machine.Done answer) = Done (answered answer)
+
+-- what a pop has read once it is past this stage
+abbrev pub read_then : ℕ → page.Stage → ℕ
+read_then before (page.PopMovesRead read value) = value
+read_then before stage = before
+
+-- it asks for what the code asks for, and goes on from each old word as the code does
+abbrev pub OverflowingDoesAsTheCode : Type 0
+OverflowingDoesAsTheCode =
+    (c before : ℕ) (stage : page.Stage)
+    → (ask_of (want one_word (flight c before stage)) ≡ Some (asked (page.does c stage).0 (page.does c stage).1))
+    × ((old : ℕ) → after one_word (flight c before stage) old ≡ went c (read_then before stage) ((page.does c stage).2 old))
+
+-- ---- turn by turn
+
+abbrev pub call_seen : Start ℕ → page.Call
+call_seen (Queues (starts.PushIndex value)) = page.Push value
+call_seen (Queues (starts.Push value)) = page.Push value
+call_seen other = page.Pop
+
+abbrev pub answer_seen : Answer ℕ → Option ℕ
+answer_seen (PoppedIndex value) = Some value
+answer_seen (Popped value) = Some value
+answer_seen other = None
+
+-- the queue's calls and answers, as the page names them
+abbrev pub reading : Reading page.Call (Option ℕ)
+reading = record { call = call_seen; answer = answer_seen }
+
+-- a turn of the page as one of the model
+abbrev pub as_turn : (machine.Turn page.Call) → Turn ℕ
+as_turn (machine.Begin p call) = Begin p (Queues (queue_start call))
+as_turn (machine.Next p) = Next p
+
+-- the model's machine once parties 0 and 1 have acquired the roles
+abbrev pub acquired : ℕ → Trace ℕ
+acquired c = run acquires (opening one_word kinds.TheVariants.Overflow c 2)
+
+abbrev pub OverflowingRunsAsTheMachine : Type 0
+OverflowingRunsAsTheMachine =
+    (c : ℕ) (turns : List (machine.Turn page.Call)) → 0 < c → c < 2 ^ 32 → length turns < 2 ^ 63
+    → IsSame reading roles_told (run (map as_turn turns) (acquired c))
+    (fold (machine.turned (page.overflowing_queue c)) (machine.opening (page.overflowing_queue c)) turns)

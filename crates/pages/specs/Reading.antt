@@ -1,0 +1,43 @@
+-- How a page reads what the model says: operations, invocations and responses.
+use Rattle.std.specs.Prelude.{◌≡◌, ℕ, List, [], ◌∷◌, ◌++◌}
+use Rattle.std.specs.List.{flat_map}
+use Rattle.steps.specs.declared.ask.Ask.{Ask}
+use Rattle.steps.specs.declared.ask.Op.{Op}
+use Rattle.steps.specs.declared.ask.Op.TheVariants.{Load, Store, Add, Exchange}
+use Rattle.model.specs.declared.event.Answer as answers
+use Rattle.model.specs.declared.event.Event.{Event}
+use Rattle.model.specs.declared.event.Event.TheVariants.{Begun, Finished}
+use Rattle.model.specs.declared.event.Start.{Start}
+use Rattle.model.specs.World.{Trace}
+use Rattle.pages.specs.Machine as machine
+
+abbrev pub operation : machine.Operation → Op
+operation machine.Load = Load
+operation (machine.Store new) = Store new
+operation (machine.Add by) = Add by
+operation (machine.Exchange from to) = Exchange from to
+
+abbrev pub asked : ℕ → machine.Operation → Ask
+asked word op = record { word = word; op = operation op }
+
+-- a call and an answer of the model, as the page names them
+pub record Reading (Call Answer : Type 0) : Type 0 where
+  pub call : Start ℕ → Call
+  pub answer : answers.Answer ℕ → Answer
+
+module _ {Call Answer : Type 0} (read : Reading Call Answer) where
+  abbrev pub seen : Event ℕ → List (machine.Event Call Answer)
+  seen (Begun p start) = machine.Invoked p (read.call start) ∷ []
+  seen (Finished p start answer) = machine.Responded p (read.answer answer) ∷ []
+  seen e = []
+
+  -- invocations and responses, without effects and acts
+  abbrev pub all_seen : List (Event ℕ) → List (machine.Event Call Answer)
+  all_seen es = flat_map seen es
+
+  -- the words are the same, and behind these first events those of the page, but for effects and acts
+  pub record IsSame {Stage : Type 0} (first : List (Event ℕ)) (t : Trace ℕ) (w : machine.World Call Stage Answer) : Type 0 where
+    pub events : List (Event ℕ)
+    pub is : t.events ≡ first ++ events
+    pub history : all_seen events ≡ w.history
+    pub words : t.world.words ≡ w.words

@@ -1,0 +1,78 @@
+//! Theorems on pages: for each structure one file of `specs`, which stands alone, says what its machine is.
+#![tactic(auto)]
+
+ghost use Rattle.std.specs.Prelude.{◌≡◌, ℕ, ◌<◌, ◌^◌, List, length, map, fold};
+ghost use Rattle.model.specs.Turns.{run};
+ghost use Rattle.model.specs.World.{trace_in};
+ghost use Rattle.pages.specs.IndexQueue.{index_queue, bounded_list};
+ghost use Rattle.pages.specs.IndexQueue as queue;
+ghost use Rattle.pages.specs.Machine.{Turn, opening, turned, IsLinearizable};
+ghost use Rattle.pages.specs.OverflowingQueue.{overflowing_list};
+ghost use Rattle.pages.specs.OverflowingQueue as overflowing;
+ghost use Rattle.pages.specs.OverflowingQueueBridge.{OverflowingDoesAsTheCode, OverflowingRunsAsTheMachine};
+ghost use Rattle.pages.specs.Value.{value, register};
+ghost use Rattle.pages.specs.Value as single;
+ghost use Rattle.pages.specs.ValueBridge.{ValueDoesAsTheCode, ValueRunsAsTheMachine};
+ghost use Rattle.pages.specs.IndexQueueBridge.{DoesAsTheCode, PopsByTable, PushesByTable, RunsAsTheMachine, acquired, as_turn, reading, roles_told};
+ghost use Rattle.pages.specs.Reading.{IsSame};
+
+use machine::Machine;
+use model::coding::Coded;
+
+/// The index queue, with one producer and one consumer: the theorem of its page. The function does nothing: its contract is
+/// a law.
+pub fn index_queue()
+    ensures { (capacity : ℕ) (turns : List (Turn queue.Call)) → capacity < 2 ^ 32 → length turns < 2 ^ 63
+        → IsLinearizable (bounded_list capacity)
+        (fold (turned (index_queue capacity)) (opening (index_queue capacity)) turns).history }
+{}
+
+/// The page is about the code: each stage asks for what the code's function asks for, and goes on as it does. And it is
+/// about machines: from where parties 0 and 1 have the roles, turn by turn, the words, the invocations and the responses
+/// are those of the model's machine.
+pub fn index_queue_is_the_code()
+    ensures code { DoesAsTheCode }
+    ensures pushes { PushesByTable }
+    ensures pops { PopsByTable }
+    ensures machine { RunsAsTheMachine }
+{}
+
+/// The single value of one word, which one party stores and any loads: the theorem of its page. The function does nothing:
+/// its contract is a law.
+pub fn single_value()
+    ensures { (turns : List (Turn single.Call)) → length turns < 2 ^ 63
+        → IsLinearizable register (fold (turned value) (opening value) turns).history }
+{}
+
+/// The page of the single value is about the code, and about machines of as many parties as its turns name, from where
+/// party 0 has the role.
+pub fn single_value_is_the_code()
+    ensures code { ValueDoesAsTheCode }
+    ensures machine { ValueRunsAsTheMachine }
+{}
+
+/// What a `Machine` has taken is a run of the page: if its parties 0 and 1 acquired the roles first, and then took these
+/// turns, its words, the invocations and the responses are those of the page's machine over the same turns. `Machine::new`
+/// and each `Machine::step` say which turns a machine has taken; one that is refused for memory is not among them. The
+/// function does nothing.
+pub fn a_machine_runs_the_page(machine: &Machine<u64>)
+    ensures { (capacity : ℕ) (turns : List (Turn queue.Call)) → capacity < 2 ^ 32 → length turns < 2 ^ 63
+        → trace_in ⟦<u64 as Coded>⟧.coding machine.now ≡ run (map as_turn turns) (acquired capacity)
+        → IsSame reading roles_told (trace_in ⟦<u64 as Coded>⟧.coding machine.now)
+        (fold (turned (index_queue capacity)) (opening (index_queue capacity)) turns) }
+{}
+
+/// The overflowing queue of a capacity above 0, with one producer and one consumer: the theorem of its page. The function
+/// does nothing: its contract is a law. Without capacity no call takes a step: a push hands its own value back, and a pop
+/// returns None.
+pub fn overflowing_queue()
+    ensures { (capacity : ℕ) (turns : List (Turn overflowing.Call)) → 0 < capacity → capacity < 2 ^ 32 → length turns < 2 ^ 63
+        → IsLinearizable (overflowing_list capacity)
+        (fold (turned (overflowing.overflowing_queue capacity)) (opening (overflowing.overflowing_queue capacity)) turns).history }
+{}
+
+/// The page of the overflowing queue is about the code, and about machines, from where parties 0 and 1 have the roles.
+pub fn overflowing_queue_is_the_code()
+    ensures code { OverflowingDoesAsTheCode }
+    ensures machine { OverflowingRunsAsTheMachine }
+{}
