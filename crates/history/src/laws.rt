@@ -11,7 +11,8 @@ ghost use Rattle.model.specs.Linearizable.{Precedes};
 ghost use Rattle.model.specs.Turns.{IsReached, IsReachedOn};
 ghost use Rattle.model.specs.World.{Trace};
 ghost use Rattle.history.specs.declared.view.View.{View};
-ghost use Rattle.history.specs.History.{IsBeginning, IsHistory, Called};
+ghost use Rattle.history.specs.History.{IsBeginning, IsHistory, Called, Knows, Continues};
+ghost use Rattle.history.specs.Passes.{HasSplit, HasJoined};
 ghost use Rattle.history.specs.Acts.{ActsByPlace, IsSet};
 ghost use Rattle.history.specs.Order.{StandsIn, EndsNone};
 
@@ -49,4 +50,17 @@ pub fn calls_are_in_order<T>()
     ensures { (p q : ℕ) (s t : Start T) (a b : Answer T) (old new later last : View T) (history : List (Event T))
         → (x : StandsIn p s a old new history) → (y : StandsIn q t b later last history)
         → IsBeginning new.seen later.seen → Precedes x.call y.call }
+{}
+
+/// One run of the model is the whole life of a table. From call to call the run that a pass knew goes on to the one that it
+/// knows: turns, none refused, lead from the one to the other. So it is over splits and joins. A pass that is split off knows
+/// the run of the other, and what two passes knew are beginnings of what the joined one knows. The lemmas are in
+/// `proofs/OneRun.antt`.
+pub fn runs_go_on<T>()
+    ensures calls { (code : Coding T) (kind : Kind) (capacity : ℕ) (a b c : View T) → Continues code kind capacity a b
+        → Continues code kind capacity b c → Continues code kind capacity a c }
+    ensures splits { (code : Coding T) (kind : Kind) (capacity : ℕ) (old left right : View T) → HasSplit old left right
+        → Knows code kind capacity old → Continues code kind capacity old left × Continues code kind capacity old right }
+    ensures joins { (code : Coding T) (kind : Kind) (capacity : ℕ) (mine theirs new : View T) → HasJoined mine theirs new
+        → Knows code kind capacity new → Continues code kind capacity mine new × Continues code kind capacity theirs new }
 {}
