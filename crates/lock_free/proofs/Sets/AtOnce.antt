@@ -45,11 +45,15 @@ module _ {T C M E : Type 0} (code : Coding T) (kind : Kind) (effects : ℕ → F
           view_then code kind (λ w. effects) size_of there call s v v.capacity id c m at refl y None tt asks_none finds,
           table.keeps,
           tt,
-          settle code kind v.capacity id y.p y.owner (v.asked + 1) (slice_set s.words word (slice_index s.words word)) s v
-              (then_gained code kind (λ w. effects) size_of there call s v v.capacity id c m at refl y None tt asks_none finds) u at first.some
-              (subst (λ ws. Between code kind v.capacity y.owner (record { words = ws; homes = s.homes; views = s.views }) id y.p
-              (then_gained code kind (λ w. effects) size_of there call s v v.capacity id c m at refl y None tt asks_none finds) u)
+          subst (λ ws. IsMachine code kind v.capacity
+              (record {
+                words = ws;
+                homes = s.homes;
+                views = slice_set s.views id (view_then code kind (λ w. effects) size_of there call s v v.capacity id c m at refl y None tt asks_none finds);
+              }))
               (sym (set_same s.words word))
+              (settle code kind v.capacity id y.p y.owner (v.asked + 1) s.words s v
+              (then_gained code kind (λ w. effects) size_of there call s v v.capacity id c m at refl y None tt asks_none finds) u at first.some
               (next_between code kind (λ w. effects) size_of there call s v v.capacity id c m at refl y None tt asks_none finds)),
           (
             ends_then code kind (λ w. effects) size_of there call s v v.capacity id c m at refl y None tt asks_none finds v (inl first) end m'

@@ -59,6 +59,8 @@ returns-clause-same c =
         share = looks.share;
         ours = looks.mine;
         others = looks.theirs;
+        ours_ran = looks.ran.first;
+        theirs_ran = looks.theirs_ran;
         whole = λ all. looks.whole (subst IsAll looks.share all);
       };
       sound = sound _ w looks.capacity looks.history looks.parties;
