@@ -8,7 +8,7 @@ use Rattle.uses_programs.proofs.relay_readings.show.Goals as goal
 
 pub returns-clause-seen : goal.returns-clause-seen
 returns-clause-seen g c =
-    let first : view c.in-Ok.mine ≡ opened_view c.args.first 1 = first_of (search rules, grind (arith, common_steps)) in
+    let first : view c.in-Ok.mine ≡ opened_view c.args.first 3 1 = first_of (search rules, grind (arith, common_steps)) in
     let cut : HasSplit (view c.in-Ok.mine) (view c.split.new.self) (view c.in_ok-other.other) = search rules in
     let wrote : HasWritten c.args.readings.now (view c.split.new.self) (view c.in_ok-pass.pass) = search rules in
     let read : HasRead c.in_ok-further.seen.items (view c.in_ok-other.other) (view c.in_ok-further.further) = search rules in
@@ -16,7 +16,7 @@ returns-clause-seen g c =
 
 pub returns-clause-last : goal.returns-clause-last
 returns-clause-last g c =
-    let first : view c.in-Ok.mine ≡ opened_view c.args.first 1 = first_of (search rules, grind (arith, common_steps)) in
+    let first : view c.in-Ok.mine ≡ opened_view c.args.first 3 1 = first_of (search rules, grind (arith, common_steps)) in
     let cut : HasSplit (view c.in-Ok.mine) (view c.split.new.self) (view c.in_ok-other.other) = search rules in
     let wrote : HasWritten c.args.readings.now (view c.split.new.self) (view c.in_ok-pass.pass) = search rules in
     let read : HasRead c.in_ok-further.seen.items (view c.in_ok-other.other) (view c.in_ok-further.further) = search rules in
