@@ -1,6 +1,8 @@
 -- The one run of a table: what a turn more leaves of it, and what a seat knows of it that is put in another's place.
 use Rattle.history.proofs.Names.{◌≡◌, ◌≢◌, ⊎_elim, ℕ, Option, None, List, [], ◌∷◌, ◌++◌, set, refl, sym, ap, subst, ◌∙◌}
-use Rattle.history.proofs.Names.{append-nil, append_assoc, at_set, Kind, Turn, Coding, Refusal, after_turn, World, Trace}
+use Rattle.history.proofs.Names.{append-nil, append_assoc, at_set, Kind, Turn, Coding, IsCoding, Refusal, after_turn, World, Trace}
+use Rattle.history.proofs.Names.{inl, inr, ◌⊎◌, capacity_error}
+use Rattle.atomic_table.specs.Table.{State}
 use mathlib.Core.Option.{some}
 use lib.ListN.{get_elem?}
 use Rattle.model.specs.Turns.{AreAllowedBy, after_turns}
@@ -8,7 +10,10 @@ use Rattle.model.specs.World.{opening}
 use Rattle.model.proofs.Reached.{after_turns_more}
 use Rattle.history.specs.declared.view.View.{View}
 use Rattle.history.specs.Passes.{HasSplit, HasJoined}
-use Rattle.history.specs.History.{IsRun, AreFirst, Knew, OneRun, Knows, Continues, refusal_as, run_of}
+use Rattle.history.specs.Views.{first_view}
+use Rattle.history.specs.History.{IsMachine, IsRun, AreFirst, Knew, OneRun, Knows, Continues, refusal_as, run_of}
+use Rattle.history.specs.OneRun.{KnowOneRun, SeatsKnowOneRun}
+use Rattle.history.proofs.Reached.{reached_as_opening, fresh_as_opening}
 
 module _ {T : Type 0} where
   pub first_all : (turns : List (Turn T)) → AreFirst turns turns
@@ -22,6 +27,20 @@ module _ {T : Type 0} where
 
   pub first_more : (xs ys zs : List (Turn T)) → AreFirst xs ys → AreFirst xs (ys ++ zs)
   first_more xs ys zs a = first_further xs ys (ys ++ zs) a (record { rest = zs; is = refl })
+
+  -- of two that are first turns of the same, the one goes on to the other
+  either_first : (xs ys xs' ys' : List (Turn T)) → xs ++ xs' ≡ ys ++ ys' → AreFirst xs ys ⊎ AreFirst ys xs
+  either_first [] ys xs' ys' e = inl (first_none ys)
+  either_first (x ∷ xs) [] xs' ys' e = inr (first_none (x ∷ xs))
+  either_first (x ∷ xs) (y ∷ ys) xs' ys' e =
+      let here : x ≡ y = cc in
+      let rest : xs ++ xs' ≡ ys ++ ys' = cc in
+      ⊎_elim (λ (a : AreFirst xs ys). inl (record { rest = a.rest; is = ap (λ z. z ∷ ys) (sym here) ∙ ap (λ zs. x ∷ zs) a.is }))
+      (λ (a : AreFirst ys xs). inr (record { rest = a.rest; is = ap (λ z. z ∷ xs) here ∙ ap (λ zs. y ∷ zs) a.is }))
+      (either_first xs ys xs' ys' rest)
+
+  pub know_one : (turns : List (Turn T)) (v w : View T) → Knew turns v → Knew turns w → KnowOneRun v w
+  know_one turns v w a b = either_first v.turns w.turns a.mine.rest b.mine.rest (sym a.mine.is ∙ b.mine.is)
 
   pub allowed_more : (refuses : World T → Turn T → Option Refusal) (t : Trace T) (turns : List (Turn T)) (turn : Turn T)
       → AreAllowedBy refuses t turns → refuses (after_turns t turns).world turn ≡ None → AreAllowedBy refuses t (turns ++ turn ∷ [])
@@ -118,3 +137,24 @@ module _ {T : Type 0} where
         → Continues code kind capacity mine new × Continues code kind capacity theirs new
     continues_join mine theirs new joined knows =
         (record { first = joined.ours_ran; knows = knows }, record { first = joined.theirs_ran; knows = knows })
+
+    -- ---- a table
+
+    -- the first pass knows that nothing has happened
+    pub knows_first : IsCoding code → capacity_error kind capacity ≡ None → Knows code kind capacity (first_view capacity)
+    knows_first coded admitted =
+        record {
+          allowed = tt;
+          run =
+              record {
+                reached = reached_as_opening code kind capacity 0 coded admitted;
+                coded = refl;
+                of_kind = refl;
+                sized = refl;
+                fresh = fresh_as_opening code kind capacity 0;
+              };
+          is = refl;
+        }
+
+    pub seats_know_one : (s : State (Unit {0}) (View T)) → IsMachine code kind capacity s → SeatsKnowOneRun s
+    seats_know_one s m i j v w at there = know_one m.one.turns v w (m.one.knew i v at) (m.one.knew j w there)

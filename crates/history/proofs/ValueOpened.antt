@@ -101,7 +101,8 @@ module _ {T : Type 0} (code : Coding T) (law : IsCoding code) (value : T) where
   abbrev maker : List (Turn T) → List (Event T) → View T
   maker = alone.maker code kinds.Atomic 1 (2 + code.size * 2) effects laws
 
-  sums : (words : List ℕ) (ts : List (Turn T)) (es : List (Event T)) → (h : Here words ts es None) → (f : Event T → ℕ) → sum_by f es ≡ sum_by (owned same_seat 0 f) h.u.events
+  sums : (words : List ℕ) (ts : List (Turn T)) (es : List (Event T)) → (h : Here words ts es None)
+      → (f : Event T → ℕ) → sum_by f es ≡ sum_by (owned same_seat 0 f) h.u.events
   sums words ts es h = alone.sums code kinds.Atomic 1 (2 + code.size * 2) effects laws words ts es None h
 
   -- the version, the role, and the two cells
@@ -249,7 +250,9 @@ module _ {T : Type 0} (code : Coding T) (law : IsCoding code) (value : T) where
   stored : (n : ℕ) → n < 2 ^ 64 - 1 → Here (words_at (n + 1) 0 (opened_cells code value n)) (stored_turns value code.size n) (stored_times value n) None
   stored zero low = taken
   stored (suc zero) low = once
-  stored (suc (suc zero)) low = stores_it 2 (omega arith) zeros ws zeros_long (law.sized value) (stored_turns value code.size 1) (stored_times value 1) (has_it 1) once
+  stored (suc (suc zero)) low =
+      stores_it 2 (omega arith) zeros ws zeros_long (law.sized value) (stored_turns value code.size 1)
+      (stored_times value 1) (has_it 1) once
   stored (suc (suc (suc n))) low =
       let v = suc (suc n) + 1 in
       let long = law.sized value in

@@ -1,4 +1,4 @@
-use Rattle.history.proofs.OneRun.{continues_further, continues_split, continues_join}
+use Rattle.history.proofs.OneRun.{continues_further, continues_split, continues_join, knows_first, seats_know_one}
 use Rattle.history.proofs.laws.runs_go_on.Goals as goal
 
 pub returns-clause-calls : goal.returns-clause-calls
@@ -9,3 +9,9 @@ returns-clause-splits g c code kind capacity old left right cut knows = continue
 
 pub returns-clause-joins : goal.returns-clause-joins
 returns-clause-joins g c code kind capacity mine theirs new joined knows = continues_join code kind capacity mine theirs new joined knows
+
+pub returns-clause-first : goal.returns-clause-first
+returns-clause-first g c code kind capacity coded admitted = knows_first code kind capacity coded admitted
+
+pub returns-clause-tables : goal.returns-clause-tables
+returns-clause-tables g c code kind capacity s m = seats_know_one code kind capacity s m
