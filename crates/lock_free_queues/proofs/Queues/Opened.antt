@@ -26,7 +26,8 @@ use Rattle.history.proofs.ValueOpened.{mix, mix_step}
 use Rattle.lock_free_queues.specs.Queues.Contracts.{push_of, popped_item}
 use Rattle.model.specs.declared.turn.Turn.{Turn}
 use Rattle.model.specs.declared.turn.Turn.TheVariants.{Begin, Next}
-use Rattle.lock_free_queues.specs.Queues.Opened.{pushed_once, popped_once, rounds, opened, position_at, opened_view, opened_with, then_next, moved_turns, round_turns, opened_turns}
+use Rattle.lock_free_queues.specs.Queues.Opened.{pushed_once, popped_once, rounds, opened, position_at, opened_view}
+use Rattle.lock_free_queues.specs.Queues.Opened.{opened_with, then_next, moved_turns, round_turns, opened_turns}
 use Rattle.lock_free_queues.proofs.Queues.Grants.{after_push, has_it, quiet_true}
 use Rattle.lock_free_queues.proofs.Queues.Tests.{not_last, some_cells, not_full, one_apart, at_last, before_last, not_below, none_used}
 use Rattle.lock_free_queues.proofs.Queues.Filled.{filled, filled_length, filled_there, filled_again}
@@ -75,7 +76,8 @@ module _ {T : Type 0} (code : Coding T) (law : IsCoding code) (r : Ring) (v : Va
   abbrev maker : List (Turn T) → List (Event T) → View T
   maker = alone.maker code kind capacity (4 + size * capacity) effects owes
 
-  sums : (words : List ℕ) (ts : List (Turn T)) (es : List (Event T)) → (h : Here words ts es None) → (f : Event T → ℕ) → sum_by f es ≡ sum_by (owned same_seat 0 f) h.u.events
+  sums : (words : List ℕ) (ts : List (Turn T)) (es : List (Event T)) → (h : Here words ts es None)
+      → (f : Event T → ℕ) → sum_by f es ≡ sum_by (owned same_seat 0 f) h.u.events
   sums words ts es h = alone.sums code kind capacity (4 + size * capacity) effects owes words ts es None h
 
   -- the positions and the roles, and the cells
@@ -187,7 +189,8 @@ module _ {T : Type 0} (code : Coding T) (law : IsCoding code) (r : Ring) (v : Va
           (now (suc k)) (stored k (omega arith))
           (push_stores_cell code capacity r v n cell k (slice_index (now k) (word_at cell k)) t)))
 
-      pushed : HasRole Producer es → Here (now 0) ts es None → Here (words_at (n + 1) n 0 0 (cells size)) (moved_turns size name ts) (es ++ pushed_once (Truth true) it) None
+      pushed : HasRole Producer es → Here (now 0) ts es None
+          → Here (words_at (n + 1) n 0 0 (cells size)) (moved_turns size name ts) (es ++ pushed_once (Truth true) it) None
       pushed has h =
           let xs = es ++ Begun 0 name ∷ [] in
           let ts1 = ts ++ Begin 0 name ∷ [] in
@@ -222,7 +225,8 @@ module _ {T : Type 0} (code : Coding T) (law : IsCoding code) (r : Ring) (v : Va
           (words_at (n + 1) n 0 0 (cells size)) (Truth true) (wrote_by_push code capacity it)
           (ap (λ k. words_at k n 0 0 (cells size)) next_is) (push_ends code capacity r v n n)
           (push_tells code capacity r v n n) (refl, (refl, tt)) in
-          subst (λ zs. Here (words_at (n + 1) n 0 0 (cells size)) (moved_turns size name ts) zs None) (append_assoc es (Begun 0 name ∷ []) (events_of_push code capacity it)) e
+          subst (λ zs. Here (words_at (n + 1) n 0 0 (cells size)) (moved_turns size name ts) zs None)
+          (append_assoc es (Begun 0 name ∷ []) (events_of_push code capacity it)) e
 
     -- ---- the pop of what it pushed
 
@@ -280,7 +284,9 @@ module _ {T : Type 0} (code : Coding T) (law : IsCoding code) (r : Ring) (v : Va
           let same : suc k ≡ size = omega arith in
           let below : k < size = omega arith in
           subst (λ m. Here then (us ++ Next 0 ∷ []) xs (Some (Queues Pop, popping r capacity (pops.TheVariants.StoresRead n) (room_at m)))) same
-          (subst (λ w. Here then (us ++ Next 0 ∷ []) xs (Some (Queues Pop, popping r capacity (pops.TheVariants.StoresRead n) (with_word r (room_at k) k w)))) (found_is k below)
+          (subst (λ w. Here then (us ++ Next 0 ∷ []) xs
+          (Some (Queues Pop, popping r capacity (pops.TheVariants.StoresRead n) (with_word r (room_at k) k w))))
+          (found_is k below)
           (step then us xs (Queues Pop) (loading k)
           (popping r capacity (pops.TheVariants.StoresRead n) (with_word r (room_at k) k (slice_index then (word_at cell k))))
           (record { word = word_at cell k; op = Load }) h (then_low k below)
@@ -306,7 +312,8 @@ module _ {T : Type 0} (code : Coding T) (law : IsCoding code) (r : Ring) (v : Va
           then (set_same then (word_at cell k))
           (pop_loads_cell code capacity r n cell k (slice_index then (word_at cell k)) (room_at k) t))))
 
-      popped : HasRole Consumer es → Here then ts es None → Here (words_at (n + 1) (n + 1) 0 0 cells) (moved_turns size (Queues Pop) ts) (es ++ popped_once it) None
+      popped : HasRole Consumer es → Here then ts es None
+          → Here (words_at (n + 1) (n + 1) 0 0 cells) (moved_turns size (Queues Pop) ts) (es ++ popped_once it) None
       popped role h =
           let xs = es ++ Begun 0 (Queues Pop) ∷ [] in
           let ts1 = ts ++ Begin 0 (Queues Pop) ∷ [] in
@@ -339,7 +346,8 @@ module _ {T : Type 0} (code : Coding T) (law : IsCoding code) (r : Ring) (v : Va
           (words_at (n + 1) (n + 1) 0 0 cells) (popped_item (Some it)) (wrote_by_pop code capacity it)
           (ap (λ k. words_at (n + 1) k 0 0 cells) next_is) (pop_ends code capacity r v n n (room_at size) reads_it)
           (pop_tells code capacity r v n n (room_at size) reads_it) (refl, (refl, tt)) in
-          subst (λ zs. Here (words_at (n + 1) (n + 1) 0 0 cells) (moved_turns size (Queues Pop) ts) zs None) (append_assoc es (Begun 0 (Queues Pop) ∷ []) (events_of_pop code capacity it)) e
+          subst (λ zs. Here (words_at (n + 1) (n + 1) 0 0 cells) (moved_turns size (Queues Pop) ts) zs None)
+          (append_assoc es (Begun 0 (Queues Pop) ∷ []) (events_of_pop code capacity it)) e
 
   quiet_roles : QuietRoles effects
   quiet_roles x0 = grind arith
@@ -416,7 +424,9 @@ module _ {T : Type 0} (code : Coding T) (law : IsCoding code) (r : Ring) (v : Va
       (subst (λ m. Here (words_at n n 0 0 (filled ws size capacity (size * m))) (took n) (rounds (Truth true) it n) None) all h)))
       (cases_lt n capacity)
 
-  opens_at : (n : ℕ) → 0 < capacity → n < 2 ^ 64 → IsMachine code kind capacity (opening (words_at n n 1 1 (cells_at n)) [] (maker (opened_turns size it n) (opened (Truth true) it n)))
+  opens_at : (n : ℕ) → 0 < capacity → n < 2 ^ 64
+      → IsMachine code kind capacity
+      (opening (words_at n n 1 1 (cells_at n)) [] (maker (opened_turns size it n) (opened (Truth true) it n)))
   opens_at zero room low =
       let nothing = none_used size capacity in
       subst (λ m. IsMachine code kind capacity (opening (words_at 0 0 1 1 (filled ws size capacity m)) [] (maker [] []))) (sym nothing)
@@ -442,7 +452,9 @@ module _ {T : Type 0} (code : Coding T) (law : IsCoding code) (r : Ring) (v : Va
           let without : min position capacity ≡ 0 = omega arith in
           let nothing : size * min position capacity ≡ 0 = ap (λ m. size * m) without ∙ omega arith in
           let start : position_at capacity position ≡ 0 = ap (λ c. position_at c position) (sym e) in
-          subst (λ p. IsMachine code kind capacity (opening (words_at p p 1 1 (cells_at position)) [] (maker (opened_turns size it p) (opened (Truth true) it p)))) (sym start)
+          subst (λ p. IsMachine code kind capacity
+          (opening (words_at p p 1 1 (cells_at position)) [] (maker (opened_turns size it p) (opened (Truth true) it p))))
+          (sym start)
           (subst (λ m. IsMachine code kind capacity (opening (words_at 0 0 1 1 (filled ws size capacity m)) [] (maker [] []))) (sym nothing)
           (alone.opens_so code kind capacity (4 + size * capacity) effects owes (words_at 0 0 1 1 (replicate (size * capacity) 0)) [] [] starts))
       go (suc less) e =

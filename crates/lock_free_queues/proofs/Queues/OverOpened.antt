@@ -24,7 +24,8 @@ use Rattle.laws_queues.proofs.Queues.Core as core
 use Rattle.history.proofs.Alone as alone
 use Rattle.model.specs.declared.turn.Turn.{Turn}
 use Rattle.model.specs.declared.turn.Turn.TheVariants.{Begin, Next}
-use Rattle.lock_free_queues.specs.Queues.Opened.{pushed_once, popped_once, rounds, opened, position_at, over_opened_view, moved_turns, round_turns, opened_turns}
+use Rattle.lock_free_queues.specs.Queues.Opened.{pushed_once, popped_once, rounds, opened, position_at}
+use Rattle.lock_free_queues.specs.Queues.Opened.{over_opened_view, moved_turns, round_turns, opened_turns}
 use Rattle.lock_free_queues.proofs.Queues.Grants.{after_push, has_it, quiet_none}
 use Rattle.lock_free_queues.proofs.Queues.Roles.{QuietRoles, takes_both, gives_both}
 use Rattle.lock_free_queues.proofs.Queues.Tests.{not_last, some_cells, not_full, one_apart}
@@ -116,7 +117,8 @@ module _ {T : Type 0} (code : Coding T) (law : IsCoding code) (capacity : ℕ) (
   abbrev maker : List (Turn T) → List (Event T) → View T
   maker = alone.maker code kinds.Overflow capacity size over_effects (overflow_owes code capacity)
 
-  sums : (words : List ℕ) (ts : List (Turn T)) (es : List (Event T)) → (h : Here words ts es None) → (f : Event T → ℕ) → sum_by f es ≡ sum_by (owned same_seat 0 f) h.u.events
+  sums : (words : List ℕ) (ts : List (Turn T)) (es : List (Event T)) → (h : Here words ts es None)
+      → (f : Event T → ℕ) → sum_by f es ≡ sum_by (owned same_seat 0 f) h.u.events
   sums words ts es h = alone.sums code kinds.Overflow capacity size over_effects (overflow_owes code capacity) words ts es None h
 
   -- the positions and the roles, and cells with zeros
@@ -180,7 +182,8 @@ module _ {T : Type 0} (code : Coding T) (law : IsCoding code) (capacity : ℕ) (
     abbrev events_of_push : List (Event T)
     events_of_push = Published 0 it ∷ Acted 0 push_name answers.PoppedNone ∷ Finished 0 push_name answers.PoppedNone ∷ []
 
-    pushed : HasRole Producer es → Here (at n n 0 0) ts es None → Here (at (n + 1) n 0 0) (moved_turns 1 push_name ts) (es ++ pushed_once answers.PoppedNone it) None
+    pushed : HasRole Producer es → Here (at n n 0 0) ts es None
+        → Here (at (n + 1) n 0 0) (moved_turns 1 push_name ts) (es ++ pushed_once answers.PoppedNone it) None
     pushed has h =
         let xs = es ++ Begun 0 push_name ∷ [] in
         let ts1 = ts ++ Begin 0 push_name ∷ [] in
@@ -299,7 +302,8 @@ module _ {T : Type 0} (code : Coding T) (law : IsCoding code) (capacity : ℕ) (
         (popping capacity (pops.TheVariants.MovesRead n)) d
         (record { word = 1; op = Exchange n (after_position n) }) (omega arith) refl tt (at (n + 1) (n + 1) 0 0)
         (answers.PoppedIndex 0) (HandedOut 0 it ∷ Acted 0 pop_name (answers.PoppedIndex 0) ∷ [])
-        (ap (λ k. at (n + 1) k 0 0) (moved_on n (after_position n) equal ∙ next_is)) (pop_ends code capacity n equal) (wrote_then ts4 xs d) (refl, (refl, tt)) in
+        (ap (λ k. at (n + 1) k 0 0) (moved_on n (after_position n) equal ∙ next_is))
+        (pop_ends code capacity n equal) (wrote_then ts4 xs d) (refl, (refl, tt)) in
         subst (λ zs. Here (at (n + 1) (n + 1) 0 0) (moved_turns 1 pop_name ts) zs None) (append_assoc es (Begun 0 pop_name ∷ []) events_of_pop) e
 
   -- ---- all of it
@@ -328,7 +332,8 @@ module _ {T : Type 0} (code : Coding T) (law : IsCoding code) (capacity : ℕ) (
       (subst (λ zs. Here (at (n + 1) (n + 1) 0 0) (took (suc n)) zs None)
       (append_assoc (turns n) (pushed_once answers.PoppedNone it) (popped_once it)) b)
 
-  opens : (n : ℕ) → 0 < capacity → n < 2 ^ 64 → IsMachine code kinds.Overflow capacity (opening (at n n 1 1) [] (maker (opened_turns 1 it n) (opened answers.PoppedNone it n)))
+  opens : (n : ℕ) → 0 < capacity → n < 2 ^ 64
+      → IsMachine code kinds.Overflow capacity (opening (at n n 1 1) [] (maker (opened_turns 1 it n) (opened answers.PoppedNone it n)))
   opens zero room low = alone.opens_so code kinds.Overflow capacity size over_effects (overflow_owes code capacity) (at 0 0 1 1) [] [] starts
   opens (suc n) room low =
       let k = suc n in

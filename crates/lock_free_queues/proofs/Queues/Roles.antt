@@ -10,7 +10,7 @@ use Rattle.steps.specs.declared.ask.After.TheVariants.{Done}
 use Rattle.model.specs.declared.event.Answer.TheVariants as answers
 use Rattle.model.specs.declared.turn.Turn.{Turn}
 use Rattle.model.specs.declared.turn.Turn.TheVariants.{Begin}
-use Rattle.model.specs.declared.families.queues.QueueStart.TheVariants.{AcquireProducer, ReleaseProducer, AcquireConsumer, ReleaseConsumer}
+use Rattle.model.specs.declared.families.queues.QueueStart.TheVariants.{AcquireProducer, ReleaseProducer, AcquireConsumer}
 use Rattle.lock_free_queues.specs.Queues.Opened.{taken_roles, given_roles, call_turns, given_turns}
 use Rattle.lock_free_queues.proofs.Queues.Grants.{still_has}
 use Rattle.lock_free_queues.proofs.Queues.Single.{acquire_named, release_named, acquire_lacks, release_lacks}
@@ -40,7 +40,8 @@ module _ {T : Type 0} (code : Coding T) (kd : QueueKind) (capacity size : ℕ)
     abbrev released : List (Event T)
     released = Begun 0 (Queues (release_start role)) ∷ Finished 0 (Queues (release_start role)) answers.Done ∷ []
 
-    role_taken : slice_index words (role_word role) ≡ 1 → slice_set words (role_word role) 0 ≡ words' → Now words' (call_turns ts (Queues (acquire_start role)) 1) (es ++ acquired)
+    role_taken : slice_index words (role_word role) ≡ 1 → slice_set words (role_word role) 0 ≡ words'
+        → Now words' (call_turns ts (Queues (acquire_start role)) 1) (es ++ acquired)
     role_taken free same =
         let start = Queues (acquire_start role) in
         let xs = es ++ Begun 0 start ∷ [] in
