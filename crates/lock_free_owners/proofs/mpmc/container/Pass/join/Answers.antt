@@ -4,7 +4,7 @@ use Rattle.lock_free_owners.proofs.Names.{joined_view, Looks, positive, joins}
 use Rattle.steps.specs.declared.ask.Op.TheVariants.{Load}
 use Rattle.model.specs.declared.turn.Kind.TheVariants as kinds
 use Rattle.threaded.specs.Shares.{both_of}
-use Rattle.history.specs.History.{AreFirst}
+use Rattle.history.specs.History.{AreFirst, Knows}
 use Rattle.history.specs.Views.{LooksOnce}
 use Rattle.history.proofs.PassLooks.{owes_look}
 use Rattle.lock_free_owners.specs.Container.Settling.{HasSettled}
@@ -103,5 +103,6 @@ returns-clause-same g c =
       };
       keeps = λ p is. (looked.party ∙ is, looked.state);
       history = subst (λ n. IsHistory code kinds.Container n new.seen) seat.known looked.history;
+      knows = subst (λ n. Knows code kinds.Container n new) seat.known looked.ran.knows;
       all = λ whole. looked.all (subst IsAll looked.share whole);
     }
