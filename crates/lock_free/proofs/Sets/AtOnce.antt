@@ -1,7 +1,7 @@
 -- A call that needs no word is one look at any word, which the view counts.
 use Rattle.lock_free.proofs.Names.{◌≡◌, inl, ℕ, ◌+◌, ◌<◌, ◌≤◌, Some, List, [], ◌++◌, refl, sym, ap, subst, ◌∙◌, arith}
 use Rattle.lock_free.proofs.Names.{Event, Kind, View, Calling, Ends, IsMachine, OwesAsk, after_of}
-use Rattle.std.proofs.Common.{None, inr, slice_index, slice_set}
+use Rattle.std.proofs.Common.{None, inr, slice_set}
 use Rattle.atomic_table.specs.Table as table
 use Rattle.steps.specs.declared.ask.Op.TheVariants.{Load}
 use Rattle.steps.specs.declared.ask.After.TheVariants.{Done}
@@ -19,7 +19,7 @@ use Rattle.history.proofs.Drives.{NeverPushes, all_laws, all_kept_laws}
 use Rattle.history.proofs.Known.{by_mine, AreOf}
 use Rattle.history.proofs.Passes.{set_same}
 use Rattle.history.proofs.Steps.{settle}
-use Rattle.history.proofs.Turns.{KindLaws, Between, goes_on_alike}
+use Rattle.history.proofs.Turns.{KindLaws, goes_on_alike}
 
 as_much : (n : ℕ) → n ≤ n
 as_much n = omega arith

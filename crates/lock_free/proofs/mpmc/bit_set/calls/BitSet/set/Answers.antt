@@ -25,7 +25,9 @@ returns-clause-same g c =
       share = search rules;
       party = search rules;
       history = subst (λ n. IsHistory one_word kinds.Bits n (seen c.drive_on-end.new.self).seen) c.args.pass.now.known c.drive_on-end.ensures.end.history;
-      ran = subst (λ n. Continues one_word kinds.Bits n (seen c.args.pass.now.seated) (seen c.drive_on-end.new.self)) c.args.pass.now.known c.drive_on-end.ensures.end.ran;
+      ran =
+          subst (λ n. Continues one_word kinds.Bits n (seen c.args.pass.now.seated) (seen c.drive_on-end.new.self))
+          c.args.pass.now.known c.drive_on-end.ensures.end.ran;
       all = search rules;
     }
 

@@ -24,7 +24,9 @@ returns-clause-same c =
       share = search rules;
       party = search rules;
       history = subst (λ n. IsHistory one_word kinds.Counts n (seen c.drive-old.new.self).seen) c.args.pass.now.known c.drive-old.ensures.end.history;
-      ran = subst (λ n. Continues one_word kinds.Counts n (seen c.args.pass.now.seated) (seen c.drive-old.new.self)) c.args.pass.now.known c.drive-old.ensures.end.ran;
+      ran =
+          subst (λ n. Continues one_word kinds.Counts n (seen c.args.pass.now.seated) (seen c.drive-old.new.self))
+          c.args.pass.now.known c.drive-old.ensures.end.ran;
       all = search rules;
     }
 
