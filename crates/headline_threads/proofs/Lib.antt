@@ -1,2 +1,2 @@
-pub mod Ending
-pub mod Worked
+pub mod OneRunWorked
+pub mod Passing

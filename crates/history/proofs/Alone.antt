@@ -1,7 +1,7 @@
 -- A machine that one party has to itself, of any kind: what it is after the calls of that party, from its opening on.
 use Rattle.history.proofs.Names.{◌≡◌, ◌≢◌, ℕ, zero, suc, ◌+◌, ◌<◌, Option, Some, None, List, [], ◌∷◌, ◌++◌}
 use Rattle.history.proofs.Names.{slice_index, slice_set, refl, sym, ap, subst, ◌∙◌, append-nil, arith, sum_by}
-use Rattle.history.proofs.Names.{written, Ask, After, GoOn, Answer, Event, Begun, Start, Flight, Kind, Begin, Next}
+use Rattle.history.proofs.Names.{written, Ask, After, GoOn, Answer, Event, Begun, Start, Flight, Kind, Turn, Begin, Next}
 use Rattle.history.proofs.Names.{Coding, IsCoding, opening_of, want_of, after_of, goes_of, first_row, answer_in}
 use Rattle.history.proofs.Names.{after_turn, events_of, ending_of, state_in, World, Trace, capacity_error}
 use Rattle.history.proofs.Names.{IsFreshCall, all_shares}
@@ -12,16 +12,18 @@ use Rattle.steps.specs.declared.ask.After.TheVariants.{Done}
 use Rattle.steps.specs.declared.ask.Want.TheVariants as wants
 use Rattle.model.specs.World as worlds
 use Rattle.history.specs.declared.view.View.{View}
-use Rattle.history.specs.History.{IsMachine, call_in}
+use Rattle.history.specs.History.{IsMachine, OneRun, Knew, call_in}
+use Rattle.steps.specs.declared.container.state.ContainerState.{ContainerState}
 use Rattle.history.specs.Known.{owned, events_by}
 use Rattle.history.specs.Stages.{Calling, Starts, rows_as}
 use Rattle.history.specs.Views.{first_view}
-use Rattle.history.proofs.Reached.{reached_as_opening, fresh_as_opening}
+use Rattle.history.proofs.Reached.{reached_as_opening, fresh_as_opening, next_as}
+use Rattle.history.proofs.OneRun.{first_none, one_opens, one_more}
 use Rattle.history.proofs.Calls.{call_then, stateless_none}
 use Rattle.history.proofs.Known.{by_mine, AreOf}
 use Rattle.history.proofs.AllSeen.{known_alone}
 use Rattle.history.proofs.Steps.{settle_with}
-use Rattle.history.proofs.Turns.{KeptLaws, MachineLaws, kept_laws, Between, begun, begun_at, gone, goes_to, told, own_told}
+use Rattle.history.proofs.Turns.{KeptLaws, MachineLaws, kept_laws, Between, begun, begun_at, begins_free, goes_free, gone, goes_to, told, own_told}
 
 -- each party is its own seat
 abbrev pub same_seat : ℕ → ℕ
@@ -35,14 +37,16 @@ module _ {T : Type 0} (code : Coding T) (kind : Kind) (capacity size : ℕ)
   abbrev alone : List ℕ → State (Unit {0}) (View T)
   alone words = record { words = words; homes = []; views = first_view capacity ∷ [] }
 
-  -- the machine has these words, one more among them, and these events, and the party this call under way
-  pub record Here (words : List ℕ) (es : List (Event T)) (going : Option (Start T × Flight T)) : Type 0 where
+  -- these turns have led to the machine, which has these words, one more among them, and these events, and the party this call under way
+  pub record Here (words : List ℕ) (ts : List (Turn T)) (es : List (Event T)) (going : Option (Start T × Flight T)) : Type 0 where
     pub u : Trace T
     pub between : Between code kind capacity same_seat (alone words) 0 0 es u
+    pub one : OneRun code kind capacity (first_view capacity ∷ []) u
+    pub turns : one.turns ≡ ts
     pub events : u.events ≡ es
     pub there : call_in u.world 0 ≡ going
 
-  pub opens_here : IsCoding code → capacity_error kind capacity ≡ None → Here ((opening_of kind).words code.size capacity ++ 0 ∷ []) [] None
+  pub opens_here : IsCoding code → capacity_error kind capacity ≡ None → Here ((opening_of kind).words code.size capacity ++ 0 ∷ []) [] [] None
   opens_here coded admitted =
       let t : Trace T = worlds.opening code kind capacity 0 in
       let known = known_alone (first_view capacity) refl refl in
@@ -71,11 +75,21 @@ module _ {T : Type 0} (code : Coding T) (kind : Kind) (capacity size : ℕ)
               shares = known.shares;
               someone = refl;
               spent = known.spent;
+              one = first_run;
             };
+        one = first_run;
+        turns = refl;
         events = refl;
         there = refl;
       }
     where
+      knew : (j : ℕ) (v : View T) → get_elem? (first_view capacity ∷ []) j ≡ some v → Knew [] v
+      knew zero v e = subst (λ z. Knew [] z) (some-injective (first_view capacity) v e) (record { mine = first_none []; theirs = first_none [] })
+      knew (suc j) v e = absurd (some-ne-none v (sym e))
+
+      first_run : OneRun code kind capacity (first_view capacity ∷ []) (worlds.opening code kind capacity 0)
+      first_run = one_opens code kind capacity (first_view capacity ∷ []) knew
+
       other : (j : ℕ) (v : View T) → j ≢ 0 → get_elem? (first_view capacity ∷ []) j ≡ some v → ⊥
       other zero v ne at = ne refl
       other (suc j) v ne at = some-ne-none v (sym at)
@@ -86,14 +100,16 @@ module _ {T : Type 0} (code : Coding T) (kind : Kind) (capacity size : ℕ)
   -- ---- a call begins
 
   -- a pass that has made these events
-  abbrev pub maker : List (Event T) → View T
-  maker es =
+  abbrev pub maker : List (Turn T) → List (Event T) → View T
+  maker ts es =
       record {
         capacity = capacity;
         party = Some 0;
         share = all_shares;
         seen = es;
         other = [];
+        turns = ts;
+        other_turns = [];
         made = es;
         going = None;
         state = None;
@@ -101,15 +117,15 @@ module _ {T : Type 0} (code : Coding T) (kind : Kind) (capacity size : ℕ)
         taken = 0;
       }
 
-  pub sums : (words : List ℕ) (es : List (Event T)) (going : Option (Start T × Flight T))
-      → (h : Here words es going) → (f : Event T → ℕ)
-      → sum_by f (maker es).made ≡ sum_by (owned same_seat 0 f) h.u.events
-  sums words es going h f = (let all = h.between.made_own (first_view capacity) refl f in omega arith)
+  pub sums : (words : List ℕ) (ts : List (Turn T)) (es : List (Event T)) (going : Option (Start T × Flight T))
+      → (h : Here words ts es going) → (f : Event T → ℕ)
+      → sum_by f (maker ts es).made ≡ sum_by (owned same_seat 0 f) h.u.events
+  sums words ts es going h f = (let all = h.between.made_own (first_view capacity) refl f in omega arith)
 
-  pub begins : {C M E : Type 0} (call : Calling T C M E) (c : C) (m : M) (words : List ℕ) (es : List (Event T))
-      → (h : Here words es None) → Starts code kind call (maker es) c m h.u same_seat 0
-      → Here words (es ++ Begun 0 call.start ∷ []) (Some (call.start, call.flight c m))
-  begins call c m words es h s =
+  pub begins : {C M E : Type 0} (call : Calling T C M E) (c : C) (m : M) (words : List ℕ) (ts : List (Turn T)) (es : List (Event T))
+      → (h : Here words ts es None) → Starts code kind call (maker ts es) c m h.u same_seat 0
+      → Here words (ts ++ Begin 0 call.start ∷ []) (es ++ Begun 0 call.start ∷ []) (Some (call.start, call.flight c m))
+  begins call c m words ts es h s =
       let is : s.party ≡ 0 = s.mine in
       let may : first_row (rows_as kind capacity h.u.world.kept 0 call.start) ≡ None =
       subst (λ p. first_row (rows_as kind capacity h.u.world.kept p call.start) ≡ None) is s.may in
@@ -118,6 +134,11 @@ module _ {T : Type 0} (code : Coding T) (kind : Kind) (capacity size : ℕ)
         between =
             begun code kind capacity size effects there_laws same_seat (alone words) 0 0 es h.u h.between call.start
             (call.flight c m) h.there s.first may;
+        one =
+            one_more code kind capacity (first_view capacity ∷ []) h.u (Begin 0 call.start)
+            (begins_free code kind capacity size effects there_laws same_seat (alone words) 0 0 es h.u h.between call.start
+            (call.flight c m) h.there s.first may) h.one;
+        turns = ap (λ xs. xs ++ Begin 0 call.start ∷ []) h.turns;
         events = ap (λ xs. xs ++ Begun 0 call.start ∷ []) h.events;
         there =
             begun_at code kind capacity size effects there_laws same_seat (alone words) 0 0 es h.u h.between call.start
@@ -126,8 +147,8 @@ module _ {T : Type 0} (code : Coding T) (kind : Kind) (capacity size : ℕ)
 
   -- ---- it takes a step
 
-  module _ (words : List ℕ) (es : List (Event T)) (start : Start T) (flight : Flight T)
-      (h : Here words es (Some (start, flight))) (a : Ask) (low : a.word < size)
+  module _ (words : List ℕ) (ts : List (Turn T)) (es : List (Event T)) (start : Start T) (flight : Flight T)
+      (h : Here words ts es (Some (start, flight))) (a : Ask) (low : a.word < size)
       (asks : want_of code flight ≡ wants.Ask a) (finds : IsFreshCall (slice_index words a.word) flight) where
     abbrev found : ℕ
     found = slice_index words a.word
@@ -147,7 +168,7 @@ module _ {T : Type 0} (code : Coding T) (kind : Kind) (capacity size : ℕ)
       abbrev wrote : List (Event T)
       wrote = own ++ ending_of 0 start (answer_in comes)
 
-      took : Here (slice_set words a.word (written a.op found)) (es ++ wrote) (call_then start comes)
+      took : Here (slice_set words a.word (written a.op found)) (ts ++ Next 0 ∷ []) (es ++ wrote) (call_then start comes)
       took =
           let tells : events_of h.u.world (Next 0) ≡ wrote =
           told code kind capacity size effects there_laws same_seat (alone words) 0 0 es h.u h.between start flight
@@ -166,6 +187,12 @@ module _ {T : Type 0} (code : Coding T) (kind : Kind) (capacity size : ℕ)
                 told_own
                 (gone code kind capacity size effects there_laws same_seat (alone words) 0 0 es h.u h.between start
                 flight (Some a) low h.there asks finds);
+            one =
+                one_more code kind capacity (first_view capacity ∷ []) h.u (Next 0)
+                (next_as kind h.u.world 0
+                (goes_free code kind capacity size effects there_laws same_seat (alone words) 0 0 es h.u h.between start
+                flight (Some a) low h.there asks finds)) h.one;
+            turns = ap (λ xs. xs ++ Next 0 ∷ []) h.turns;
             events = ap (λ xs. xs ++ events_of h.u.world (Next 0)) h.events ∙ ap (λ zs. es ++ zs) tells;
             there = goes_to code kind capacity size effects there_laws same_seat (alone words) 0 0 es h.u h.between start flight (Some a) low h.there asks finds
                 ∙ ap (call_then start) comes_there;
@@ -173,67 +200,52 @@ module _ {T : Type 0} (code : Coding T) (kind : Kind) (capacity size : ℕ)
 
     -- it goes on, and tells nothing
     pub goes_on : (words' : List ℕ) (next : Flight T) → slice_set words a.word (written a.op found) ≡ words'
-        → comes ≡ GoOn next → effects h.u.world 0 flight found ≡ [] → Here words' es (Some (start, next))
+        → comes ≡ GoOn next → effects h.u.world 0 flight found ≡ [] → Here words' (ts ++ Next 0 ∷ []) es (Some (start, next))
     goes_on words' next same is none =
         let quiet : es ++ wrote [] none tt ≡ es = ap (λ (r : After (Flight T) (Answer T)). es ++ ending_of 0 start (answer_in r)) is ∙ append-nil es in
-        subst (λ o. Here words' es o) (ap (call_then start) is)
-        (subst (λ zs. Here words' zs (call_then start comes)) quiet
-        (subst (λ ws. Here ws (es ++ wrote [] none tt) (call_then start comes)) same (took [] none tt)))
+        subst (λ o. Here words' (ts ++ Next 0 ∷ []) es o) (ap (call_then start) is)
+        (subst (λ zs. Here words' (ts ++ Next 0 ∷ []) zs (call_then start comes)) quiet
+        (subst (λ ws. Here ws (ts ++ Next 0 ∷ []) (es ++ wrote [] none tt) (call_then start comes)) same (took [] none tt)))
 
     -- it ends
     pub ends : (words' : List ℕ) (answer : Answer T) (own : List (Event T))
         → slice_set words a.word (written a.op found) ≡ words' → comes ≡ Done answer
         → effects h.u.world 0 flight found ≡ own → AreOf 0 own
-        → Here words' (es ++ (own ++ ending_of 0 start (Some answer))) None
+        → Here words' (ts ++ Next 0 ∷ []) (es ++ (own ++ ending_of 0 start (Some answer))) None
     ends words' answer own same is wrote_own only =
         let last : List (Event T) = own ++ ending_of 0 start (Some answer) in
         let all : wrote own wrote_own only ≡ last = ap (λ (r : After (Flight T) (Answer T)). own ++ ending_of 0 start (answer_in r)) is in
-        subst (λ o. Here words' (es ++ last) o) (ap (call_then start) is)
-        (subst (λ zs. Here words' (es ++ zs) (call_then start comes)) all
-        (subst (λ ws. Here ws (es ++ wrote own wrote_own only) (call_then start comes)) same (took own wrote_own only)))
+        subst (λ o. Here words' (ts ++ Next 0 ∷ []) (es ++ last) o) (ap (call_then start) is)
+        (subst (λ zs. Here words' (ts ++ Next 0 ∷ []) (es ++ zs) (call_then start comes)) all
+        (subst (λ ws. Here ws (ts ++ Next 0 ∷ []) (es ++ wrote own wrote_own only) (call_then start comes)) same (took own wrote_own only)))
 
   -- ---- a table opens so
 
-  pub opens_so : (words : List ℕ) (es : List (Event T)) → Here words es None → IsMachine code kind capacity (opening words [] (maker es))
-  opens_so words es h =
+  pub opens_so : (words : List ℕ) (ts : List (Turn T)) (es : List (Event T)) → Here words ts es None
+      → IsMachine code kind capacity (opening words [] (maker ts es))
+  opens_so words ts es h =
       let first : View T = first_view capacity in
       subst (λ v. IsMachine code kind capacity (opening words [] v))
-      (ap (λ zs. record {
-        capacity = capacity;
-        party = Some 0;
-        share = all_shares;
-        seen = zs;
-        other = [];
-        made = es;
-        going = call_in h.u.world 0;
-        state = state_in h.u.world.kept 0;
-        asked = 0;
-        taken = 0;
-      }) h.events
-      ∙ (ap (λ o. record {
-        capacity = capacity;
-        party = Some 0;
-        share = all_shares;
-        seen = es;
-        other = [];
-        made = es;
-        going = o;
-        state = state_in h.u.world.kept 0;
-        asked = 0;
-        taken = 0;
-      }) h.there
-      ∙ ap (λ z. record {
-        capacity = capacity;
-        party = Some 0;
-        share = all_shares;
-        seen = es;
-        other = [];
-        made = es;
-        going = None;
-        state = z;
-        asked = 0;
-        taken = 0;
-      })
-      (stateless_none h.u.world.kept 0 (laws.stateless h.u h.between.run))))
+      (ap (λ zs. so h.one.turns zs (call_in h.u.world 0) (state_in h.u.world.kept 0)) h.events
+      ∙ (ap (λ o. so h.one.turns es o (state_in h.u.world.kept 0)) h.there
+      ∙ (ap (λ z. so h.one.turns es None z) (stateless_none h.u.world.kept 0 (laws.stateless h.u h.between.run))
+      ∙ ap (λ xs. so xs es None None) h.turns)))
       (settle_with code kind capacity 0 0 same_seat 0 0 words (alone words) first es h.u refl (omega arith)
-      (λ call is. (let no : ◌≡◌ {A = Option (Start T × Flight T)} None (Some call) = sym h.there ∙ is in absurd (cc))) h.between)
+      (λ call is. (let no : ◌≡◌ {A = Option (Start T × Flight T)} None (Some call) = sym h.there ∙ is in absurd (cc))) h.between h.one)
+    where
+      so : List (Turn T) → List (Event T) → Option (Start T × Flight T) → Option (ContainerState T) → View T
+      so xs zs o z =
+          record {
+            capacity = capacity;
+            party = Some 0;
+            share = all_shares;
+            seen = zs;
+            other = [];
+            turns = xs;
+            other_turns = [];
+            made = es;
+            going = o;
+            state = z;
+            asked = 0;
+            taken = 0;
+          }

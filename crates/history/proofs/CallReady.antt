@@ -8,11 +8,12 @@ use lib.ListN.{get_elem?}
 use Rattle.atomic_table.specs.Table.{State}
 use Rattle.history.specs.declared.view.View.{View}
 use Rattle.history.specs.Known.{events_by, by_party, owned}
-use Rattle.history.specs.History.{IsRun, IsMachine, Fits, IsLate, call_in, steps_in}
+use Rattle.history.specs.History.{IsRun, IsMachine, AreFirst, Fits, IsLate, call_in, steps_in}
 use Rattle.history.specs.Stages.{Calling, LeavesState, opened, Starts, At, rows_as, taken_by}
 use Rattle.history.proofs.Known.{by_more, nil_right, idle_seat, none_late}
 use Rattle.history.proofs.AllSeen.{known_whole}
 use Rattle.history.proofs.Calls.{begins_no_look}
+use Rattle.history.proofs.OneRun.{first_all}
 use Rattle.history.proofs.Turns.{KeptLaws, Between, at_first, begun, begun_at, begun_kept, begun_steps, begins_free}
 use Rattle.history.proofs.CallsIn.{no_rest, same_rest, none_after, Prior}
 
@@ -24,6 +25,10 @@ module _ {T C M E : Type 0} (code : Coding T) (kind : Kind) (effects : World T �
 
   pub same_capacity : (base v : View T) (c : C) (m : M) → Stage base v c m → v.capacity ≡ base.capacity
   same_capacity x0 x1 x2 x3 x4 = grind arith
+
+  pub came_first : (base v : View T) (c : C) (m : M) → Stage base v c m → AreFirst base.turns v.turns
+  came_first base v c m (inl first) = subst (λ (z : View T). AreFirst base.turns z.turns) (sym first.is) (first_all base.turns)
+  came_first base v c m (inr under) = under.ran.first
 
   pub same_share : (base v : View T) (c : C) (m : M) → Stage base v c m → v.share ≡ base.share
   same_share x0 x1 x2 x3 x4 = grind arith

@@ -9,10 +9,11 @@ use mathlib.Core.Option.{some}
 use lib.ListN.{get_elem?}
 use Rattle.atomic_table.specs.Table.{State}
 use Rattle.steps.specs.declared.ask.After.TheVariants.{Done}
+use Rattle.model.specs.Parties.{party_of}
 use Rattle.model.specs.Turns.{step_count}
 use Rattle.history.specs.declared.view.View.{View}
 use Rattle.history.specs.Known.{events_by}
-use Rattle.history.specs.History.{IsRun, IsLate, IsOfParties, LastStep, call_in, steps_in, refusal_as}
+use Rattle.history.specs.History.{IsRun, Continues, IsLate, IsOfParties, LastStep, call_in, started, steps_in, refusal_as, run_of}
 use Rattle.history.specs.Stages.{Calling, LeavesState, Since, opened, IsUnderWay, At, Ends, StepsOnly, taken_by}
 use Rattle.history.proofs.Known.{by_more}
 use Rattle.history.proofs.Calls.{stands, call_then, next_no_look}
@@ -21,7 +22,8 @@ use Rattle.history.proofs.Turns.{KeptLaws, Between, want_for, at_ask, goes_free,
 use Rattle.history.proofs.Turns.{told as turn_told, own_told, found_old, made_between}
 use Rattle.history.proofs.Steps.{view_after}
 use Rattle.history.proofs.CallsIn.{regroup, Prior, span_since, Met}
-use Rattle.history.proofs.CallReady.{same_capacity, same_share, some_share, asked_so, Ready}
+use Rattle.history.proofs.OneRun.{continues_all, continues_further}
+use Rattle.history.proofs.CallReady.{same_capacity, came_first, same_share, some_share, asked_so, Ready}
 
 module _ {T C M E : Type 0} (code : Coding T) (kind : Kind) (effects : World T → ℕ → Flight T → ℕ → List (Event T))
     (size_of : ℕ → ℕ) (laws : (capacity : ℕ) → KeptLaws code kind capacity (size_of capacity) effects)
@@ -30,12 +32,12 @@ module _ {T C M E : Type 0} (code : Coding T) (kind : Kind) (effects : World T �
   Stage base v c m = At code kind call base v c m
 
   -- the call is later by what a turn of its party wrote, and by its end
-  pub since_turn : (asked p id : ℕ) (turn : Turn T) (u : Trace T) (v base : View T) (gained wrote effs last : List (Event T))
+  pub since_turn : (turns : List (Turn T)) (asked p id : ℕ) (turn : Turn T) (u : Trace T) (v base : View T) (gained wrote effs last : List (Event T))
       → Prior p call.start wrote base u.events (v.made ++ gained) → events_of u.world turn ≡ effs ++ last
       → events_by p (events_of u.world turn) ≡ events_by p effs ++ last
       → Since p call.start (wrote ++ events_by p effs) last base
-      (view_after code kind base.capacity id p asked v (gained ++ events_by p (events_of u.world turn)) (after_turn u turn))
-  since_turn asked p id turn u v base gained wrote effs last prior told_now own_now =
+      (view_after code kind base.capacity id p turns asked v (gained ++ events_by p (events_of u.world turn)) (after_turn u turn))
+  since_turn turns asked p id turn u v base gained wrote effs last prior told_now own_now =
       record {
         others = prior.others;
         during = prior.during ++ effs;
@@ -93,7 +95,19 @@ module _ {T C M E : Type 0} (code : Coding T) (kind : Kind) (effects : World T �
     run_then x0 x1 = grind (arith, same_capacity, next_between)
 
     abbrev pub view_then : View T
-    view_then = view_after code kind key id y.p (v.asked + 1) v then_gained then_trace
+    view_then = view_after code kind key id y.p next_between.one.turns (v.asked + 1) v then_gained then_trace
+
+    one_then : (base : View T) → Stage base v c m → then_trace ≡ run_of code kind base.capacity next_between.one.turns
+    one_then base stage =
+        next_between.one.is
+        ∙ ap (λ n. run_of code kind n next_between.one.turns) (sym known ∙ same_capacity code kind effects size_of laws call base v c m stage)
+
+    -- the run that the seat knew goes on to this one
+    ran_then : (base : View T) → Stage base v c m → Continues code kind base.capacity base view_then
+    ran_then base stage =
+        subst (λ n. Continues code kind n base view_then) (sym known ∙ same_capacity code kind effects size_of laws call base v c m stage)
+        (continues_further code kind key base v view_then (came_first code kind effects size_of laws call base v c m stage)
+        (continues_all code kind key s.views then_trace id v view_then next_between.one at next_between.run refl refl))
 
     -- what it writes now, and of its own
     abbrev effs : List (Event T)
@@ -137,7 +151,7 @@ module _ {T C M E : Type 0} (code : Coding T) (kind : Kind) (effects : World T �
         flight_now ask low y.there asks_it finds
         ∙ ap (λ zs. mine_now ++ zs) ends
         in
-        since_turn (v.asked + 1) y.p id (Next y.p) y.u v base y.gained wrote effs last prior told_now own_now
+        since_turn next_between.one.turns (v.asked + 1) y.p id (Next y.p) y.u v base y.gained wrote effs last prior told_now own_now
 
     steps_then : steps_in then_trace.world y.p ≡ steps_in y.u.world y.p + step_count ask
     steps_then =
@@ -227,6 +241,7 @@ module _ {T C M E : Type 0} (code : Coding T) (kind : Kind) (effects : World T �
               since_then base (before.wrote ++ before.late) [] before.prior
               (ap (λ (a : After (Flight T) (Answer T)). ending_of y.p call.start (answer_in a)) afters);
           history = record { trace = then_trace; run = run_then base stage; is = refl };
+          ran = ran_then base stage;
           stood = record { trace = then_trace; run = run_then base stage; is = refl; there = going_then ∙ ap (call_then call.start) afters };
           all = all_then base stage;
           parties = parties_then;
@@ -256,12 +271,14 @@ module _ {T C M E : Type 0} (code : Coding T) (kind : Kind) (effects : World T �
               since_then base (before.wrote ++ before.late) (Finished y.p call.start (call.answer end m') ∷ [])
               before.prior (ap (λ (a : After (Flight T) (Answer T)). ending_of y.p call.start (answer_in a)) afters);
           history = record { trace = then_trace; run = run_then base stage; is = refl };
+          ran = ran_then base stage;
           last = last_then base stage (Finished y.p call.start (call.answer end m'))
               (ap (λ (a : After (Flight T) (Answer T)). ending_of y.p call.start (answer_in a)) afters);
           named =
-              gone_named code kind key (size_of key) effects (laws key) y.owner s id y.p y.gained y.u y.between call.start
-              flight_now ask low y.there asks_it finds;
-          counted = refl;
+              subst (λ (t : Trace T). started (party_of y.p t.world.latest) ≡ Some call.start) (one_then base stage)
+              (gone_named code kind key (size_of key) effects (laws key) y.owner s id y.p y.gained y.u y.between call.start
+              flight_now ask low y.there asks_it finds);
+          counted = ap (λ (t : Trace T). steps_in t.world y.p) (sym (one_then base stage));
           took = took;
           all = all_then base stage;
           parties = parties_then;

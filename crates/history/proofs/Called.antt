@@ -3,7 +3,8 @@ use Rattle.std.proofs.Common.{arith}
 use Rattle.history.proofs.Names.{◌≡◌, inl, inr, ℕ, ◌+◌, ◌≤◌, Option, Some, None, [], ◌++◌, refl, sym, ap, subst, ◌∙◌}
 use Rattle.history.proofs.Names.{append-nil, Start, Flight, Kind, Coding, IsAll}
 use Rattle.history.specs.declared.view.View.{View}
-use Rattle.history.specs.History.{IsHistory, HasStood, Called}
+use Rattle.history.specs.History.{IsHistory, Knows, HasStood, Called}
+use Rattle.history.proofs.OneRun.{first_all}
 use Rattle.history.specs.Stages.{Calling, opened, taken_by, At, Ends}
 
 as_much : (n : ℕ) → n ≤ n
@@ -50,6 +51,7 @@ module _ {T C M E : Type 0} (code : Coding T) (kind : Kind) (call : Calling T C 
         wrote = [];
         tells = subst (λ (o : Option (Start T × Flight T)). call.wrote v.capacity under.party o c m []) (sym under.going) (none v.capacity under.party);
         history = subst (λ n. IsHistory code kind n v.seen) (sym under.capacity) under.history;
+        ran = record { first = first_all v.turns; knows = subst (λ n. Knows code kind n v) (sym under.capacity) under.ran.knows };
         stood = subst (λ n. HasStood code kind n under.party call.start (call.flight c m) v.seen) (sym under.capacity) under.stood;
         all = λ all. under.all (subst IsAll under.share all);
         parties = under.parties;

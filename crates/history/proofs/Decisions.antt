@@ -13,12 +13,13 @@ use Rattle.steps.specs.declared.ask.Want.TheVariants as wants
 use Rattle.threaded.specs.Driver.{Told}
 use Rattle.history.specs.declared.view.View.{View}
 use Rattle.history.specs.Known.{events_by}
-use Rattle.history.specs.History.{IsRun, IsMachine, call_in, steps_in, refusal_as}
+use Rattle.history.specs.History.{IsRun, IsMachine, Continues, call_in, steps_in, refusal_as}
 use Rattle.history.specs.Stages.{Calling, LeavesState, Since, IsUnderWay, At, Ends, HasHeard, AtAsked, StepsOnly, taken_by}
 use Rattle.history.proofs.Known.{by_more, within}
 use Rattle.history.proofs.Reached.{MayDecide, decide_as}
 use Rattle.history.proofs.Calls.{stands, flight_is}
 use Rattle.history.proofs.Turns.{KeptLaws, Between, heard, decided, decided_at, decided_steps, made_between}
+use Rattle.history.proofs.OneRun.{continues_all, continues_further}
 use Rattle.history.proofs.Steps.{view_after, settle}
 use Rattle.history.proofs.CallsIn.{by_bool, goes, AsksFor, StepsOf, StepsThere, ActsAlone, written_alone, steps_alone}
 use Rattle.history.proofs.CallTurns.{since_turn}
@@ -81,16 +82,16 @@ module _ {T C M E : Type 0} (code : Coding T) (kind : Kind) (decides : MayDecide
     abbrev u_then : Trace T
     u_then = after_turn y.u (Decide y.p h.said)
 
-    -- what the seat would know then
-    abbrev view_heard : View T
-    view_heard = view_after code kind key id y.p v.asked v gained_then u_then
-
-    abbrev table_heard : State (Unit {0}) (View T)
-    table_heard = record { words = s.words; homes = s.homes; views = slice_set s.views id view_heard }
-
     between_heard : Between code kind key y.owner s id y.p gained_then u_then
     between_heard = decided code kind key (size_of key) effects (laws key) y.owner s id y.p y.gained y.u y.between call.start from
         (GoOn (call.flight c m)) h.said y.there free comes
+
+    -- what the seat would know then
+    abbrev view_heard : View T
+    view_heard = view_after code kind key id y.p between_heard.one.turns v.asked v gained_then u_then
+
+    abbrev table_heard : State (Unit {0}) (View T)
+    table_heard = record { words = s.words; homes = s.homes; views = slice_set s.views id view_heard }
 
     machine_heard : IsMachine code kind key table_heard
     machine_heard = settle code kind key id y.p y.owner v.asked s.words s v gained_then u_then at h.before.some between_heard
@@ -132,7 +133,7 @@ module _ {T C M E : Type 0} (code : Coding T) (kind : Kind) (decides : MayDecide
 
       since_then : Since y.p call.start ((told_by.wrote ++ told_by.late) ++ events_by y.p effs) [] base view_heard
       since_then =
-          since_turn code kind effects size_of laws call v.asked y.p id (Decide y.p h.said) y.u v base y.gained
+          since_turn code kind effects size_of laws call between_heard.one.turns v.asked y.p id (Decide y.p h.said) y.u v base y.gained
           (told_by.wrote ++ told_by.late) effs [] told_by.prior told_heard
           (ap (events_by y.p) told_heard ∙ by_more y.p effs [])
 
@@ -158,6 +159,12 @@ module _ {T C M E : Type 0} (code : Coding T) (kind : Kind) (decides : MayDecide
       run_then : IsRun code kind base.capacity u_then
       run_then = grind (arith, between_heard)
 
+      ran_then : Continues code kind base.capacity base view_heard
+      ran_then =
+          subst (λ n. Continues code kind n base view_heard) (sym known ∙ k.before.capacity)
+          (continues_further code kind key base v view_heard k.before.ran.first
+          (continues_all code kind key s.views u_then id v view_heard between_heard.one at between_heard.run refl refl))
+
       lifted : IsUnderWay code kind call base view_heard c m
       lifted =
           record {
@@ -177,6 +184,7 @@ module _ {T C M E : Type 0} (code : Coding T) (kind : Kind) (decides : MayDecide
             tells = subst (λ zs. call.wrote base.capacity y.p base.going c m zs) (sym all_its_own) tells_then;
             since = since_then;
             history = record { trace = u_then; run = run_then; is = refl };
+            ran = ran_then;
             stood = record { trace = u_then; run = run_then; is = refl; there = there_heard };
             all = λ all f. made_between code kind key y.owner id y.p gained_then u_then s between_heard v at (subst IsAll (sym k.before.share) all) f;
             parties = record { owner = y.owner; seat = id; sums = λ f. sum_by-append f v.made gained_then ∙ between_heard.made_own v at f };

@@ -133,6 +133,7 @@ module _ {T C M E Asks : Type 0} (code : Coding T) (kind : Kind) (effects : Worl
   pub keeps_at : (base₀ v : View T) (c : C) (m : M) (key words slots id : ℕ) → words ≡ size_of key + 1 → v.capacity ≡ key → At code kind call base₀ v c m
       → AsksFor (size_of base₀.capacity) (want c)
       → Owes (λ (z : View T). z.asked) (IsMachine code kind key) words slots id (ToldOver c m) (want c) (v, [])
+  unfolding between_then
   keeps_at base₀ v c m key words slots id wide known at₀ asked =
       let ask = asked.0 in
       let same : base₀.capacity ≡ key = sym (same_capacity code kind effects size_of laws call base₀ v c m at₀) ∙ known in

@@ -7,6 +7,7 @@ use Rattle.history.specs.declared.view.View.{View}
 use Rattle.history.specs.History.{IsOfParties}
 use Rattle.history.specs.Known.{own_of, events_by, owned}
 use Rattle.history.specs.Views.{Looks}
+use Rattle.history.proofs.OneRun.{first_further, continues_further}
 use Rattle.history.proofs.Known.{begins_further, by_more, nil_right, none_before, sum_first}
 
 no_length : {A : Type 0} → (xs : List A) → length xs ≡ 0 → xs ≡ []
@@ -84,6 +85,8 @@ module _ {T : Type 0} (code : Coding T) (kind : Kind) (size : ℕ) (u v w : View
             (b.whole (subst IsAll (sym a.share) all));
         all = λ all f. b.all (subst IsAll (sym a.share) all) f;
         history = b.history;
+        ran = continues_further code kind size u v w a.ran.first b.ran;
+        theirs_ran = first_further u.other_turns v.turns w.turns a.theirs_ran b.ran.first;
         parties = b.parties;
         apart = apart_both;
       }

@@ -12,7 +12,7 @@ use Rattle.model.proofs.Frame as frame
 use Rattle.model.proofs.Frame.{Family}
 use Rattle.model.proofs.Progress.{guaranteed}
 use Rattle.history.specs.declared.view.View.{View}
-use Rattle.history.specs.History.{IsRun, steps_of, started}
+use Rattle.history.specs.History.{IsRun, steps_of, started, run_of}
 use Rattle.history.specs.Stages.{Calling, Ends, LeftOut, StepsOnly, taken_by}
 use Rattle.history.specs.Steps.{TakesAtMost, TakesAlone}
 
@@ -105,17 +105,21 @@ TakesBy code kind capacity (WaitFree most) old new = TakesAtMost most old new
 TakesBy code kind capacity (ObstructionFree alone retry) old new = TakesAlone code kind capacity alone retry old new
 
 module _ {T C M E : Type 0} (code : Coding T) (kind : Kind) (call : Calling T C M E) (base w : View T) (e : E) (m : M) where
-  -- the party's latest call, which this one is
+  -- the run that the pass knows then
+  abbrev known : Trace T
+  known = run_of code kind base.capacity w.turns
+
+  -- the party's latest call there, which this one is
   record Latest (ends : Ends code kind call base e m w) : Type 0 where
     pub x : Party T
-    pub found : party_of ends.party ends.history.trace.world.latest ≡ Some x
+    pub found : party_of ends.party known.world.latest ≡ Some x
     pub named : x.start ≡ call.start
     pub steps : x.steps ≡ w.taken
 
   latest : (ends : Ends code kind call base e m w) → Latest ends
-  latest ends = go (party_of ends.party ends.history.trace.world.latest) refl
+  latest ends = go (party_of ends.party known.world.latest) refl
     where
-      go : (o : Option (Party T)) → party_of ends.party ends.history.trace.world.latest ≡ o → Latest ends
+      go : (o : Option (Party T)) → party_of ends.party known.world.latest ≡ o → Latest ends
       go None is = (let no : ◌≡◌ {A = Option (Start T)} None (Some call.start) = sym (ap started is) ∙ ends.named in absurd (cc))
       go (Some x) is =
           let named : ◌≡◌ {A = Option (Start T)} (Some x.start) (Some call.start) = sym (ap started is) ∙ ends.named in
@@ -137,19 +141,17 @@ module _ {T C M E : Type 0} (code : Coding T) (kind : Kind) (call : Calling T C 
   few_enough steps most same within least (inr h) = omega arith
 
   takes_by : base.going ≡ None → (ends : Ends code kind call base e m w) → (now : Latest ends) → (g : Guarantee) → AllowsOne g
-      → IsWithin g (progress_of ends.history.trace.world.changes now.x) → TakesBy code kind base.capacity g base w
+      → IsWithin g (progress_of known.world.changes now.x) → TakesBy code kind base.capacity g base w
   takes_by idle ends now (WaitFree most) least within = few_enough now.x.steps most now.steps within least (few idle ends)
   takes_by idle ends now (ObstructionFree alone retry) least within =
       record {
-        trace = ends.history.trace;
-        run = ends.history.run;
-        seen = ends.history.is;
+        ran = ends.ran;
         party = ends.party;
         mine = ends.mine;
-        progress = progress_of ends.history.trace.world.changes now.x;
-        latest = ap (progress_after ends.history.trace.world.changes) now.found;
+        progress = progress_of known.world.changes now.x;
+        latest = ap (progress_after known.world.changes) now.found;
         steps =
-            few_enough now.x.steps (alone + others_of ends.history.trace.world.changes now.x.doing * retry) now.steps within
+            few_enough now.x.steps (alone + others_of known.world.changes now.x.doing * retry) now.steps within
             (omega arith) (few idle ends);
       }
 
@@ -160,8 +162,8 @@ module _ {T C M E : Type 0} (code : Coding T) (kind : Kind) (call : Calling T C 
   takes idle pays one ends =
       (let now = latest ends in
       takes_by idle ends now (guarantee_of kind base.capacity code.size call.start) one
-      (subst (λ start. IsWithin (guarantee_of kind base.capacity code.size start) (progress_of ends.history.trace.world.changes now.x)) now.named
-      (pays ends.history.trace ends.history.run ends.party now.x now.found)))
+      (subst (λ start. IsWithin (guarantee_of kind base.capacity code.size start) (progress_of known.world.changes now.x)) now.named
+      (pays known ends.ran.knows.run ends.party now.x now.found)))
 
   -- a look is one operation
   pub left_takes : (most : ℕ) → 1 ≤ most → LeftOut code kind call base e m w → TakesAtMost most base w

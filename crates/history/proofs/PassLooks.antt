@@ -11,12 +11,13 @@ use Rattle.steps.specs.declared.ask.Op.TheVariants.{Load}
 use Rattle.history.proofs.Names.{OwesAsk}
 use Rattle.model.specs.declared.turn.Kind.TheVariants as kinds
 use Rattle.history.specs.declared.view.View.{View}
-use Rattle.history.specs.History.{IsBeginning, IsMachine, Fits, HasSeenOf, IsLate}
+use Rattle.history.specs.History.{IsBeginning, IsMachine, Knew, Fits, HasSeenOf, IsLate}
 use Rattle.history.specs.Views.{Looks, LooksOnce, LooksAt, WhenIdle}
 use Rattle.history.specs.Known.{Known, owned, events_by}
 use Rattle.history.proofs.Calls.{get_left}
 use Rattle.history.proofs.Known.{by_more, itself, nil_right, within, none_late, by_nothing}
 use Rattle.history.proofs.AllSeen.{known_step, known_whole, owned_whole}
+use Rattle.history.proofs.OneRun.{one_set, knew_all, continues_all}
 use Rattle.history.proofs.Passes.{nothing, set_same}
 
 -- what was not seen has nothing of a party of which all was seen
@@ -58,9 +59,9 @@ module _ {T : Type 0} (code : Coding T) (kind : Kind) (capacity : ℕ) where
   -- a seat may know otherwise what fits
   pub reseat : (words : List ℕ) (s : State (Unit {0}) (View T)) (m : Holds s) (id : ℕ) (v w : View T)
       → words ≡ s.words → get_elem? s.views id ≡ some v → Fits m.owner m.trace id w
-      → Known (set s.views id w) m.trace.events
+      → Known (set s.views id w) m.trace.events → Knew m.one.turns w
       → Holds (record { words = words; homes = s.homes; views = set s.views id w })
-  reseat words s m id v w same at fits known =
+  reseat words s m id v w same at fits known knew =
       record {
         trace = m.trace;
         run = m.run;
@@ -75,6 +76,7 @@ module _ {T : Type 0} (code : Coding T) (kind : Kind) (capacity : ℕ) where
         further = λ j past. (let long = length-set s.views id w in m.further j (omega arith));
         made_none = λ j past. (let long = length-set s.views id w in m.made_none j (omega arith));
         known = known;
+        one = one_set code kind capacity s.views m.trace id w m.one knew;
       }
 
   -- a look at this table, where nothing is late for the seat
@@ -98,6 +100,8 @@ module _ {T : Type 0} (code : Coding T) (kind : Kind) (capacity : ℕ) where
         share = v.share;
         seen = t.events;
         other = [];
+        turns = m.one.turns;
+        other_turns = [];
         made = v.made;
         going = v.going;
         state = v.state;
@@ -123,7 +127,8 @@ module _ {T : Type 0} (code : Coding T) (kind : Kind) (capacity : ℕ) where
               own = λ any p of_id. inl (append-nil (events_by p t.events));
               made = λ g. (let is = made g in omega arith);
             })
-            (known_step s.views t.events id v w (within s.views id v at) at refl some_share refl m.known.someone m.known.spent m.known.shares),
+            (known_step s.views t.events id v w (within s.views id v at) at refl some_share refl m.known.someone m.known.spent m.known.shares)
+            (knew_all code kind capacity s.views t w m.one refl refl),
         (
           record {
             capacity = refl;
@@ -143,6 +148,8 @@ module _ {T : Type 0} (code : Coding T) (kind : Kind) (capacity : ℕ) where
                 (λ j u ne there. m.seats j u there) m.inside (λ q ne past. m.made_none q past) m.known.someone g
                 ∙ sym (made g);
             history = record { trace = t; run = m.run; is = refl };
+            ran = continues_all code kind capacity s.views t id v w m.one at m.run refl refl;
+            theirs_ran = (m.one.knew id v at).theirs;
             parties = record { owner = m.owner; seat = id; sums = made };
             apart = λ alone any p of_id. rest_apart v t f.late f.seen p alone none (f.own any p of_id);
           },
@@ -195,7 +202,7 @@ module _ {T : Type 0} (code : Coding T) (kind : Kind) (capacity : ℕ) where
         table.keeps,
         tt,
         reseat (slice_set s.words word (slice_index s.words word)) s m id v v (set_same s.words word) at
-            (m.seats id v at) (subst (λ views. Known views m.trace.events) (sym (set_again s.views id v at)) m.known),
+            (m.seats id v at) (subst (λ views. Known views m.trace.events) (sym (set_again s.views id v at)) m.known) (m.one.knew id v at),
         refl,
         told_never kind v.going (Looks code kind capacity v v × (v.seen ≡ m.trace.events)) h,
       )

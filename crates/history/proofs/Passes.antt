@@ -9,7 +9,7 @@ use lib.ListN.{get_elem?}
 use Rattle.atomic_table.specs.Table.{State, opening}
 use Rattle.model.specs.World as worlds
 use Rattle.history.specs.declared.view.View.{View}
-use Rattle.history.specs.History.{IsBeginning, IsMachine, Fits, HasSeenOf, call_in}
+use Rattle.history.specs.History.{IsBeginning, IsMachine, OneRun, Knew, Fits, HasSeenOf, call_in}
 use Rattle.history.specs.Views.{first_view, left_view, right_view, joined_view, spent_view}
 use Rattle.history.specs.Known.{events_by}
 use Rattle.history.proofs.Reached.{reached_as_opening, fresh_as_opening}
@@ -17,6 +17,7 @@ use Rattle.history.proofs.Calls.{opens_without}
 use Rattle.history.proofs.Known.{within, handed_on, owned_none, owned_both, owned_third, idle_seat, nat_cases}
 use Rattle.history.proofs.Known.{none_before, late_none, none_late, quiet_late}
 use Rattle.history.proofs.AllSeen.{known_alone, known_split, known_join}
+use Rattle.history.proofs.OneRun.{first_none, one_set, one_opens}
 
 pub set_same : (xs : List ℕ) (i : ℕ) → set xs i (get_or xs i 0) ≡ xs
 set_same [] i = refl
@@ -69,8 +70,29 @@ module _ {T : Type 0} (code : Coding T) (kind : Kind) (capacity : ℕ) where
         further = λ j past. (let l = long in m.further j (omega arith));
         made_none = λ j past. (let l = long in m.made_none j (omega arith));
         known = known_split s.views m.trace.events id v (within s.views id v at) at m.known;
+        one = one;
       }
     where
+      knew : Knew m.one.turns v
+      knew = m.one.knew id v at
+
+      cut : OneRun code kind capacity (set s.views id (left_view v)) m.trace
+      cut = one_set code kind capacity s.views m.trace id (left_view v) m.one (record { mine = knew.mine; theirs = knew.theirs })
+
+      -- the new seat knows what the other knows
+      one : OneRun code kind capacity (set s.views id (left_view v) ++ right_view v ∷ []) m.trace
+      one =
+          record {
+            turns = m.one.turns;
+            allowed = m.one.allowed;
+            is = m.one.is;
+            knew =
+                λ j x found. ⊎_elim (λ (e : get_elem? (set s.views id (left_view v)) j ≡ some x). cut.knew j x e)
+                (λ (e : (j ≡ length (set s.views id (left_view v))) × (right_view v ≡ x)). subst (λ z. Knew m.one.turns z) e.1
+                (record { mine = knew.mine; theirs = first_none m.one.turns }))
+                (at_end (set s.views id (left_view v)) (right_view v) x j found);
+          }
+
       same : length (set s.views id (left_view v)) ≡ length s.views
       same = length-set s.views id (left_view v)
 
@@ -153,6 +175,11 @@ module _ {T : Type 0} (code : Coding T) (kind : Kind) (capacity : ℕ) where
         further = λ j past. (let l = long in m.further j (omega arith));
         made_none = λ j past. (let l = long in m.made_none j (omega arith));
         known = known_join s.views m.trace.events id other v w at apart theirs some_share (m.seats id v at).seen alone alone' m.known;
+        one =
+            one_set code kind capacity (set s.views id (joined_view v w)) m.trace other spent_view
+            (one_set code kind capacity s.views m.trace id (joined_view v w) m.one
+            (record { mine = (m.one.knew id v at).mine; theirs = (m.one.knew other w theirs).mine }))
+            (record { mine = first_none m.one.turns; theirs = first_none m.one.turns });
       }
     where
       long : length (set (set s.views id (joined_view v w)) other spent_view) ≡ length s.views
@@ -295,7 +322,12 @@ module _ {T : Type 0} (code : Coding T) (kind : Kind) (capacity : ℕ) where
         further = λ j past. refl;
         made_none = λ j past. refl;
         known = known_alone (first_view capacity) refl refl;
+        one = one_opens code kind capacity (first_view capacity ∷ []) knew;
       }
     where
+      knew : (j : ℕ) (v : View T) → get_elem? (first_view capacity ∷ []) j ≡ some v → Knew [] v
+      knew zero v e = subst (λ z. Knew [] z) (some-injective (first_view capacity) v e) (record { mine = first_none []; theirs = first_none [] })
+      knew (suc j) v e = absurd (some-ne-none v (sym e))
+
       seats : (j : ℕ) (v : View T) → get_elem? (first_view capacity ∷ []) j ≡ some v → Fits (λ p. p) (worlds.opening code kind capacity 0) j v
       seats x0 x1 x2 = grind (arith, some-injective, nothing, opens_without, none_late, inl, some-ne-none)

@@ -13,7 +13,7 @@ use Rattle.steps.specs.declared.ask.After.TheVariants.{Done}
 use Rattle.threaded.specs.Driver.{Told}
 use Rattle.history.specs.declared.view.View.{View}
 use Rattle.history.specs.Known.{events_by}
-use Rattle.history.specs.History.{IsRun, IsMachine, Fits, IsLate, call_in, refusal_as}
+use Rattle.history.specs.History.{IsRun, IsMachine, Continues, Fits, IsLate, call_in, refusal_as}
 use Rattle.history.specs.Settled.{IsResting, Settles, SettledFrom, AtWaiting, AtRested, EndsSettled, EndsRested}
 use Rattle.history.proofs.Known.{by_more, within}
 use Rattle.history.proofs.AllSeen.{known_whole}
@@ -21,6 +21,7 @@ use Rattle.history.proofs.Reached.{MayDecide, decide_as}
 use Rattle.history.proofs.Calls.{stands, flight_is}
 use Rattle.history.proofs.Turns.{KeptLaws, Between, at_first, heard, own_heard, decided, decided_at, made_between}
 use Rattle.history.proofs.Passes.{set_same}
+use Rattle.history.proofs.OneRun.{continues_all}
 use Rattle.history.proofs.Steps.{view_after, settle}
 use Rattle.history.proofs.CallsIn.{AsksFor, no_rest, same_rest, none_after}
 
@@ -82,17 +83,17 @@ module _ {T : Type 0} (code : Coding T) (kind : Kind) (decides : MayDecide kind)
     abbrev gained_then : List (Event T)
     gained_then = [] ++ events_by h.party (events_of r.trace.world (Decide h.party false))
 
-    -- what the seat would know then
-    abbrev pub view_settled : View T
-    view_settled = view_after code kind key id h.party v.asked v gained_then u_then
-
-    abbrev pub table_settled : State (Unit {0}) (View T)
-    table_settled = record { words = s.words; homes = s.homes; views = slice_set s.views id view_settled }
-
-    between_then : Between code kind key r.owner s id h.party gained_then u_then
+    pub between_then : Between code kind key r.owner s id h.party gained_then u_then
     between_then =
         decided code kind key (size_of key) effects (laws key) r.owner s id h.party [] r.trace between h.start h.flight
         (Done h.answer) false there free comes
+
+    -- what the seat would know then
+    abbrev pub view_settled : View T
+    view_settled = view_after code kind key id h.party between_then.one.turns v.asked v gained_then u_then
+
+    abbrev pub table_settled : State (Unit {0}) (View T)
+    table_settled = record { words = s.words; homes = s.homes; views = slice_set s.views id view_settled }
 
     pub machine_settled : IsMachine code kind key table_settled
     machine_settled = settle code kind key id h.party r.owner v.asked s.words s v gained_then u_then at h.some between_then
@@ -160,6 +161,9 @@ module _ {T : Type 0} (code : Coding T) (kind : Kind) (decides : MayDecide kind)
           others_own = seen_own;
           made = made_end;
           history = record { trace = u_then; run = run_then; is = refl };
+          ran =
+              subst (λ n. Continues code kind n v view_settled) (sym known)
+              (continues_all code kind key s.views u_then id v view_settled between_then.one at between_then.run refl refl);
           all = λ all f. made_between code kind key r.owner id h.party gained_then u_then s between_then v at all f;
           parties = record { owner = r.owner; seat = id; sums = λ f. sum_by-append f v.made gained_then ∙ between_then.made_own v at f };
         }

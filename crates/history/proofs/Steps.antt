@@ -1,26 +1,29 @@
 -- A step of a seat's call, its begin with the first one, is allowed by the rule of a table that is a machine.
 use Rattle.history.proofs.Names.{◌≡◌, ◌≢◌, inl, ⊎_elim, ℕ, ◌<◌, ◌≤◌, List, [], ◌++◌, length, slice_set, refl}
 use Rattle.history.proofs.Names.{append-nil, arith, length-set, Some, sum_by-append, at_set, Event, Kind}
-use Rattle.history.proofs.Names.{Coding, Start, Flight, state_in, Trace}
+use Rattle.history.proofs.Names.{Coding, Start, Flight, Turn, state_in, Trace}
 use mathlib.Core.Option.{some}
 use lib.ListN.{get_elem?}
 use Rattle.atomic_table.specs.Table.{State}
 use Rattle.history.specs.declared.view.View.{View}
-use Rattle.history.specs.History.{IsBeginning, IsMachine, Fits, call_in, steps_in}
+use Rattle.history.specs.History.{IsBeginning, IsMachine, OneRun, Fits, call_in, steps_in}
 use Rattle.history.proofs.Known.{itself, within, none_late}
 use Rattle.history.proofs.AllSeen.{known_step}
+use Rattle.history.proofs.OneRun.{one_set, knew_all}
 use Rattle.history.proofs.Turns.{Between}
 
 module _ {T : Type 0} (code : Coding T) (kind : Kind) (capacity id p : ℕ) where
   -- what the seat knows afterwards, as this party, with these counts
-  abbrev pub view_with : ℕ → ℕ → View T → List (Event T) → Trace T → View T
-  view_with asked taken v gained u =
+  abbrev pub view_with : List (Turn T) → ℕ → ℕ → View T → List (Event T) → Trace T → View T
+  view_with turns asked taken v gained u =
       record {
         capacity = v.capacity;
         party = Some p;
         share = v.share;
         seen = u.events;
         other = [];
+        turns = turns;
+        other_turns = [];
         made = v.made ++ gained;
         going = call_in u.world p;
         state = state_in u.world.kept p;
@@ -29,8 +32,8 @@ module _ {T : Type 0} (code : Coding T) (kind : Kind) (capacity id p : ℕ) wher
       }
 
   -- its call has taken the steps that it has in the machine
-  abbrev pub view_after : ℕ → View T → List (Event T) → Trace T → View T
-  view_after asked v gained u = view_with asked (steps_in u.world p) v gained u
+  abbrev pub view_after : List (Turn T) → ℕ → View T → List (Event T) → Trace T → View T
+  view_after turns asked v gained u = view_with turns asked (steps_in u.world p) v gained u
 
   none_seen : (events : List (Event T)) → IsBeginning [] events
   none_seen events = record { rest = events; is = refl }
@@ -40,37 +43,42 @@ module _ {T : Type 0} (code : Coding T) (kind : Kind) (capacity id p : ℕ) wher
       → get_elem? s.views id ≡ some v → 0 < v.share.part
       → ((call : Start T × Flight T) → call_in u.world p ≡ Some call → steps_in u.world p ≡ taken)
       → Between code kind capacity owner (record { words = words; homes = s.homes; views = s.views }) id p gained u
-      → IsMachine code kind capacity (record { words = words; homes = s.homes; views = slice_set s.views id (view_with asked taken v gained u) })
-  settle_with owner asked taken words s v gained u at some_share counts b =
+      → (one : OneRun code kind capacity s.views u)
+      → IsMachine code kind capacity (record { words = words; homes = s.homes; views = slice_set s.views id (view_with one.turns asked taken v gained u) })
+  settle_with owner asked taken words s v gained u at some_share counts b one =
       record {
         trace = u;
         run = b.run;
         words = b.words;
         owner = owner;
         seats =
-            λ j x found. ⊎_elim (λ (e : (j ≡ id) × (view_with asked taken v gained u ≡ x)). mine j x e.0 e.1)
+            λ j x found. ⊎_elim (λ (e : (j ≡ id) × (now ≡ x)). mine j x e.0 e.1)
             (λ (e : (j ≢ id) × (get_elem? s.views j ≡ some x)). b.others j x e.0 e.1)
-            (at_set s.views id j (view_with asked taken v gained u) x found);
-        inside = λ q low. (let long = length-set s.views id (view_with asked taken v gained u) in let h = b.inside q (omega arith) in omega arith);
-        fresh = λ q past. (let long = length-set s.views id (view_with asked taken v gained u) in b.fresh q (omega arith));
+            (at_set s.views id j now x found);
+        inside = λ q low. (let long = length-set s.views id now in let h = b.inside q (omega arith) in omega arith);
+        fresh = λ q past. (let long = length-set s.views id now in b.fresh q (omega arith));
         further = λ j past. b.further j (λ e. absurd (none j past e)) (beyond j past);
         made_none = λ j past. b.made_none j (λ e. absurd (none j past e)) (beyond j past);
-        known = known_step s.views u.events id v (view_with asked taken v gained u) (within s.views id v at) at refl some_share refl b.someone b.spent b.shares;
+        one = one_set code kind capacity s.views u id now one (knew_all code kind capacity s.views u now one refl refl);
+        known = known_step s.views u.events id v now (within s.views id v at) at refl some_share refl b.someone b.spent b.shares;
       }
     where
-      beyond : (j : ℕ) → length (slice_set s.views id (view_with asked taken v gained u)) ≤ j → length s.views ≤ j
+      now : View T
+      now = view_with one.turns asked taken v gained u
+
+      beyond : (j : ℕ) → length (slice_set s.views id now) ≤ j → length s.views ≤ j
       beyond j past = grind (arith, length-set)
 
       -- the party's number is one of a seat
-      none : (j : ℕ) → length (slice_set s.views id (view_with asked taken v gained u)) ≤ j → j ≡ p → ⊥
+      none : (j : ℕ) → length (slice_set s.views id now) ≤ j → j ≡ p → ⊥
       none x0 x1 x2 = grind (arith, beyond, within)
 
-      mine : (j : ℕ) (x : View T) → j ≡ id → view_with asked taken v gained u ≡ x → Fits owner u j x
+      mine : (j : ℕ) (x : View T) → j ≡ id → now ≡ x → Fits owner u j x
       mine x0 x1 x2 x3 = grind (arith, counts, itself, none_seen, state_in, none_late, inl, append-nil, sum_by-append)
 
   pub settle : (owner : ℕ → ℕ) (asked : ℕ) (words : List ℕ) (s : State (Unit {0}) (View T)) (v : View T) (gained : List (Event T)) (u : Trace T)
       → get_elem? s.views id ≡ some v → 0 < v.share.part
-      → Between code kind capacity owner (record { words = words; homes = s.homes; views = s.views }) id p gained u
-      → IsMachine code kind capacity (record { words = words; homes = s.homes; views = slice_set s.views id (view_after asked v gained u) })
+      → (b : Between code kind capacity owner (record { words = words; homes = s.homes; views = s.views }) id p gained u)
+      → IsMachine code kind capacity (record { words = words; homes = s.homes; views = slice_set s.views id (view_after b.one.turns asked v gained u) })
   settle owner asked words s v gained u at some_share b =
-      settle_with owner asked (steps_in u.world p) words s v gained u at some_share (λ call is. refl) b
+      settle_with owner asked (steps_in u.world p) words s v gained u at some_share (λ call is. refl) b b.one

@@ -16,12 +16,13 @@ use Rattle.model.proofs.Turns.{writes_one_word}
 use Rattle.laws_queues.proofs.Queues.Sound.{IsFreshTurn}
 use Rattle.history.specs.declared.view.View.{View}
 use Rattle.history.specs.Known.{events_by, owned, of_none}
-use Rattle.history.specs.History.{IsRun, IsMachine, Fits, call_in, started, steps_in, IsLate, refusal_as}
+use Rattle.history.specs.History.{IsRun, IsMachine, OneRun, Fits, call_in, started, steps_in, IsLate, refusal_as}
 use Rattle.history.specs.Stages.{rows_as}
 use Rattle.history.proofs.Known.{by_more, by_same, by_other, by_mine, owned_one, late_none, none_late, AreOf, sum_first}
 use Rattle.history.proofs.AllSeen.{owned_whole}
 use Rattle.history.proofs.Reached.{next_as, reached_as_more, fresh_as_more}
 use Rattle.history.proofs.StillFits.{still_fits}
+use Rattle.history.proofs.OneRun.{one_more}
 use Rattle.history.proofs.Calls.{IsStateless, goes_alike, look_begin, look_next, stands, flight_is}
 use Rattle.history.proofs.Calls.{next_other, begin_other, decision_other, begin_own, next_kept}
 use Rattle.history.proofs.Calls.{steps_next_other, steps_begin_other, steps_decision_other}
@@ -143,6 +144,7 @@ module _ {T : Type 0} where
       pub shares : Shares (λ (v : View T). v.share) s.views
       pub someone : sum_by (λ e. of_none (whose e)) u.events ≡ 0
       pub spent : (j : ℕ) (v : View T) → get_elem? s.views j ≡ some v → v.share.part ≡ 0 → (v.made ≡ []) × (v.going ≡ None)
+      pub one : OneRun code kind capacity s.views u
 
     -- what the seat had still to see is gained
     pub at_first : (s : State (Unit {0}) (View T)) (id p : ℕ) (m : IsMachine code kind capacity s) (gained : List (Event T))
@@ -208,6 +210,7 @@ module _ {T : Type 0} where
                 let two = sum_by-append (λ e. of_none (whose e)) u.events es in
                 omega arith);
             spent = b.spent;
+            one = one_more code kind capacity s.views u turn free b.one;
           }
         where
           none_of : (es : List (Event T)) → ((q : ℕ) → q ≢ p → IsLate kind (call_in u.world q) (events_by q es))

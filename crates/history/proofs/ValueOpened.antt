@@ -3,7 +3,7 @@ use Rattle.history.proofs.Names.{◌≡◌, ℕ, zero, suc, ◌+◌, ◌-◌, �
 use Rattle.history.proofs.Names.{Option, Some, None, List, [], ◌∷◌, ◌++◌, length, drop, set, get_or, replicate}
 use Rattle.history.proofs.Names.{slice_set, refl, sym, ap, subst, ◌∙◌, append_assoc, arith, sum_by, nat_tests}
 use Rattle.history.proofs.Names.{length-replicate, sum_by-append, first_store, at_store, Truth, Event, Begun, Acted}
-use Rattle.history.proofs.Names.{Finished, Start, Flight, Coding, IsCoding, producer_word, World, cell_within}
+use Rattle.history.proofs.Names.{Finished, Start, Flight, Turn, Begin, Next, Coding, IsCoding, producer_word, World, cell_within}
 use Rattle.std.proofs.Common.{take}
 use Rattle.std.proofs.Common.{length-append}
 use Rattle.atomic_table.specs.Table.{opening}
@@ -21,7 +21,7 @@ use Rattle.history.specs.declared.view.View.{View}
 use Rattle.history.specs.History.{IsMachine}
 use Rattle.history.specs.Known.{owned}
 use Rattle.history.specs.Value.{takes_producer, gives_producer, HasProducer, acquires_producer, releases_producer, stores_value}
-use Rattle.history.specs.ValueOpened.{first_stores, stored_once, stored_times, opened, opened_view, opened_cells}
+use Rattle.history.specs.ValueOpened.{first_stores, stored_once, stored_times, opened, store_turns, stored_turns, opened_turns, opened_view, opened_cells}
 use Rattle.history.proofs.Alone as alone
 use Rattle.history.proofs.Alone.{same_seat}
 use Rattle.history.proofs.Calls.{set_left}
@@ -95,14 +95,15 @@ module _ {T : Type 0} (code : Coding T) (law : IsCoding code) (value : T) where
   laws : MachineLaws code kinds.Atomic 1 (2 + code.size * 2) effects
   laws = machine_laws code kinds.Atomic 1 (2 + code.size * 2) (value_effects code) (value_owes code 1)
 
-  abbrev Here : List ℕ → List (Event T) → Option (Start T × Flight T) → Type 0
+  abbrev Here : List ℕ → List (Turn T) → List (Event T) → Option (Start T × Flight T) → Type 0
   Here = alone.Here code kinds.Atomic 1 (2 + code.size * 2) effects laws
 
-  abbrev maker : List (Event T) → View T
+  abbrev maker : List (Turn T) → List (Event T) → View T
   maker = alone.maker code kinds.Atomic 1 (2 + code.size * 2) effects laws
 
-  sums : (words : List ℕ) (es : List (Event T)) → (h : Here words es None) → (f : Event T → ℕ) → sum_by f es ≡ sum_by (owned same_seat 0 f) h.u.events
-  sums words es h = alone.sums code kinds.Atomic 1 (2 + code.size * 2) effects laws words es None h
+  sums : (words : List ℕ) (ts : List (Turn T)) (es : List (Event T)) → (h : Here words ts es None)
+      → (f : Event T → ℕ) → sum_by f es ≡ sum_by (owned same_seat 0 f) h.u.events
+  sums words ts es h = alone.sums code kinds.Atomic 1 (2 + code.size * 2) effects laws words ts es None h
 
   -- the version, the role, and the two cells
   abbrev words_at : ℕ → ℕ → List ℕ → List ℕ
@@ -145,56 +146,67 @@ module _ {T : Type 0} (code : Coding T) (law : IsCoding code) (value : T) where
     word_low : (at : ℕ) → at < code.size → word_at cell at < 2 + code.size * 2
     word_low x0 x1 = grind arith
 
-    next : (es : List (Event T)) (at : ℕ) → at + 1 < code.size → Here (now at) es (Some (name, storing at))
-        → Here (now (suc at)) es (Some (name, storing (at + 1)))
-    next es at more h =
+    next : (ts : List (Turn T)) (es : List (Event T)) (at : ℕ) → at + 1 < code.size → Here (now at) ts es (Some (name, storing at))
+        → Here (now (suc at)) (ts ++ Next 0 ∷ []) es (Some (name, storing (at + 1)))
+    next ts es at more h =
         let t : nat_lt (at + 1) code.size ≡ true = grind (arith, nat_tests) in
-        alone.goes_on code kinds.Atomic 1 (2 + code.size * 2) effects laws (now at) es name (storing at) h
+        alone.goes_on code kinds.Atomic 1 (2 + code.size * 2) effects laws (now at) ts es name (storing at) h
         (record { word = word_at cell at; op = ops.Store (get_or ws at 0) }) (word_low at (omega arith)) refl tt
         (now (suc at)) (storing (at + 1)) (put at (omega arith)) (rw t refl) (rw t refl)
 
-    last : (es : List (Event T)) (at : ℕ) → at + 1 ≡ code.size → Here (now at) es (Some (name, storing at))
-        → Here (now (suc at)) es (Some (name, flight_at stores.TheVariants.AddsVersion))
-    last es at all h =
+    last : (ts : List (Turn T)) (es : List (Event T)) (at : ℕ) → at + 1 ≡ code.size → Here (now at) ts es (Some (name, storing at))
+        → Here (now (suc at)) (ts ++ Next 0 ∷ []) es (Some (name, flight_at stores.TheVariants.AddsVersion))
+    last ts es at all h =
         let t : nat_lt (at + 1) code.size ≡ false = grind (arith, nat_tests) in
-        alone.goes_on code kinds.Atomic 1 (2 + code.size * 2) effects laws (now at) es name (storing at) h
+        alone.goes_on code kinds.Atomic 1 (2 + code.size * 2) effects laws (now at) ts es name (storing at) h
         (record { word = word_at cell at; op = ops.Store (get_or ws at 0) }) (word_low at (omega arith)) refl tt
         (now (suc at)) (flight_at stores.TheVariants.AddsVersion) (put at (omega arith)) (rw t refl) (rw t refl)
 
-    fills : (es : List (Event T)) (rest at : ℕ) → at + suc rest ≡ code.size
-        → Here (now at) es (Some (name, storing at))
-        → Here (now code.size) es (Some (name, flight_at stores.TheVariants.AddsVersion))
-    fills es zero at sum h = let same : suc at ≡ code.size = omega arith in
-        subst (λ n. Here (now n) es (Some (name, flight_at stores.TheVariants.AddsVersion))) same (last es at (omega arith) h)
-    fills es (suc rest) at sum h =
+    fills : (ts : List (Turn T)) (es : List (Event T)) (rest at : ℕ) → at + suc rest ≡ code.size
+        → Here (now at) ts es (Some (name, storing at))
+        → Here (now code.size) (ts ++ replicate (suc rest) (Next 0)) es (Some (name, flight_at stores.TheVariants.AddsVersion))
+    fills ts es zero at sum h = let same : suc at ≡ code.size = omega arith in
+        subst (λ n. Here (now n) (ts ++ Next 0 ∷ []) es (Some (name, flight_at stores.TheVariants.AddsVersion))) same (last ts es at (omega arith) h)
+    fills ts es (suc rest) at sum h =
         let same : at + 1 ≡ suc at = omega arith in
-        fills es rest (suc at) (omega arith) (subst (λ n. Here (now (suc at)) es (Some (name, storing n))) same (next es at (omega arith) h))
+        subst (λ zs. Here (now code.size) zs es (Some (name, flight_at stores.TheVariants.AddsVersion)))
+        (append_assoc ts (Next 0 ∷ []) (replicate (suc rest) (Next 0)))
+        (fills (ts ++ Next 0 ∷ []) es rest (suc at) (omega arith)
+        (subst (λ n. Here (now (suc at)) (ts ++ Next 0 ∷ []) es (Some (name, storing n))) same (next ts es at (omega arith) h)))
 
     -- the value is stored once more
-    stores_it : (es : List (Event T)) → HasProducer es → Here (words_at v 0 (two (v % 2) x y)) es None
-        → Here (words_at (v + 1) 0 (two (v % 2) ws y)) (es ++ stored_once value) None
-    stores_it es has h =
+    stores_it : (ts : List (Turn T)) (es : List (Event T)) → HasProducer es → Here (words_at v 0 (two (v % 2) x y)) ts es None
+        → Here (words_at (v + 1) 0 (two (v % 2) ws y)) (ts ++ store_turns value code.size) (es ++ stored_once value) None
+    stores_it ts es has h =
         let not_last : (v == 2 ^ 64 - 1) ≡ false = grind (arith, nat_tests) in
         let xs = es ++ Begun 0 name ∷ [] in
+        let ts1 = ts ++ Begin 0 name ∷ [] in
+        let ts2 = ts1 ++ Next 0 ∷ [] in
+        let filling : List (Turn T) = replicate (suc (code.size - 1)) (Next 0) in
         let ended : List (Event T) = Acted 0 name (Truth true) ∷ Finished 0 name (Truth true) ∷ [] in
-        let a = alone.begins code kinds.Atomic 1 (2 + code.size * 2) effects laws (stores_value code value) first_store tt (now 0) es h
-        (producer_starts code (maker es) (stores_value code value) (Store value) first_store tt refl (λ kept. refl)
+        let a = alone.begins code kinds.Atomic 1 (2 + code.size * 2) effects laws (stores_value code value) first_store tt (now 0) ts es h
+        (producer_starts code (maker ts es) (stores_value code value) (Store value) first_store tt refl (λ kept. refl)
         (λ o p. tt) (λ holder p is. holds_it holder p is) has h.u same_seat 0 h.between.run refl refl
-        (sums (now 0) es h)) in
+        (sums (now 0) ts es h)) in
         let b =
-        alone.goes_on code kinds.Atomic 1 (2 + code.size * 2) effects laws (now 0) xs name
+        alone.goes_on code kinds.Atomic 1 (2 + code.size * 2) effects laws (now 0) ts1 xs name
         (flight_at stores.TheVariants.LoadsVersion) a (record { word = 0; op = ops.Load }) (omega arith) refl small
         (now 0) (storing 0) refl (rw not_last refl) (rw not_last refl) in
-        let c = fills xs (code.size - 1) 0 (let some = law.some in omega arith) b in
+        let c = fills ts2 xs (code.size - 1) 0 (let some = law.some in omega arith) b in
         let one : (v + 1) % 2 ^ 64 ≡ v + 1 = omega arith in
         let d =
-        alone.ends code kinds.Atomic 1 (2 + code.size * 2) effects laws (now code.size) xs name
+        alone.ends code kinds.Atomic 1 (2 + code.size * 2) effects laws (now code.size) (ts2 ++ filling) xs name
         (flight_at stores.TheVariants.AddsVersion) c (record { word = 0; op = ops.Add 1 }) (omega arith) refl tt
         (words_at (v + 1) 0 (cells code.size)) (Truth true) (Acted 0 name (Truth true) ∷ [])
         (ap (λ n. words_at n 0 (cells code.size)) one) refl refl (refl, tt) in
         let whole : mix code.size ws x ≡ ws = mix_all code.size ws x (law.sized value) x_long in
-        subst (λ zs. Here (words_at (v + 1) 0 (two (v % 2) zs y)) (es ++ stored_once value) None) whole
-        (subst (λ zs. Here (words_at (v + 1) 0 (cells code.size)) zs None) (append_assoc es (Begun 0 name ∷ []) ended) d)
+        let order : ((ts2 ++ filling) ++ Next 0 ∷ []) ≡ ts ++ store_turns value code.size =
+        append_assoc ts2 filling (Next 0 ∷ [])
+        ∙ (append_assoc ts1 (Next 0 ∷ []) (filling ++ Next 0 ∷ [])
+        ∙ append_assoc ts (Begin 0 name ∷ []) (Next 0 ∷ (filling ++ Next 0 ∷ []))) in
+        subst (λ zs. Here (words_at (v + 1) 0 (two (v % 2) zs y)) (ts ++ store_turns value code.size) (es ++ stored_once value) None) whole
+        (subst (λ zs. Here (words_at (v + 1) 0 (cells code.size)) zs (es ++ stored_once value) None) order
+        (subst (λ zs. Here (words_at (v + 1) 0 (cells code.size)) ((ts2 ++ filling) ++ Next 0 ∷ []) zs None) (append_assoc es (Begun 0 name ∷ []) ended) d))
 
   -- ---- so many stores
 
@@ -213,61 +225,66 @@ module _ {T : Type 0} (code : Coding T) (law : IsCoding code) (value : T) where
   zeros_long = length-replicate code.size 0
 
   -- the role is taken
-  taken : Here (words_at 1 0 (opened_cells code value 0)) (stored_times value 0) None
+  taken : Here (words_at 1 0 (opened_cells code value 0)) (stored_turns value code.size 0) (stored_times value 0) None
   taken =
       let all : code.size + code.size ≡ code.size * 2 = omega arith in
       let cells : replicate (code.size * 2) 0 ≡ zeros ++ zeros = sym (replicate_both code.size code.size 0 ∙ ap (λ n. replicate n 0) all) in
       let start = Atomic AcquireProducer in
-      let h : Here (words_at 1 1 (zeros ++ zeros)) [] None =
-      subst (λ zs. Here (words_at 1 1 zs) [] None) cells
+      let h : Here (words_at 1 1 (zeros ++ zeros)) [] [] None =
+      subst (λ zs. Here (words_at 1 1 zs) [] [] None) cells
       (alone.opens_here code kinds.Atomic 1 (2 + code.size * 2) effects laws law refl) in
       let a =
       alone.begins code kinds.Atomic 1 (2 + code.size * 2) effects laws acquires_producer
-      (record { word = producer_word }) tt (words_at 1 1 (zeros ++ zeros)) [] h
-      (plain_starts code (maker []) acquires_producer AcquireProducer (record { word = producer_word }) tt refl
+      (record { word = producer_word }) tt (words_at 1 1 (zeros ++ zeros)) [] [] h
+      (plain_starts code (maker [] []) acquires_producer AcquireProducer (record { word = producer_word }) tt refl
       (λ kept. refl) (λ o p is. is) (λ holder p. refl) h.u same_seat 0 h.between.run refl refl
-      (sums (words_at 1 1 (zeros ++ zeros)) [] h)) in
+      (sums (words_at 1 1 (zeros ++ zeros)) [] [] h)) in
       alone.ends code kinds.Atomic 1 (2 + code.size * 2) effects laws (words_at 1 1 (zeros ++ zeros))
-      (Begun 0 start ∷ []) start (acquires_producer.flight (record { word = producer_word }) tt) a
+      (Begin 0 start ∷ []) (Begun 0 start ∷ []) start (acquires_producer.flight (record { word = producer_word }) tt) a
       (record { word = producer_word; op = ops.Exchange 1 0 }) (omega arith) refl tt (words_at 1 0 (zeros ++ zeros))
       (Truth true) [] refl refl refl tt
 
-  once : Here (words_at 2 0 (opened_cells code value 1)) (stored_times value 1) None
-  once = stores_it 1 (omega arith) zeros zeros zeros_long zeros_long (stored_times value 0) (has_it 0) taken
+  once : Here (words_at 2 0 (opened_cells code value 1)) (stored_turns value code.size 1) (stored_times value 1) None
+  once = stores_it 1 (omega arith) zeros zeros zeros_long zeros_long (stored_turns value code.size 0) (stored_times value 0) (has_it 0) taken
 
-  stored : (n : ℕ) → n < 2 ^ 64 - 1 → Here (words_at (n + 1) 0 (opened_cells code value n)) (stored_times value n) None
+  stored : (n : ℕ) → n < 2 ^ 64 - 1 → Here (words_at (n + 1) 0 (opened_cells code value n)) (stored_turns value code.size n) (stored_times value n) None
   stored zero low = taken
   stored (suc zero) low = once
-  stored (suc (suc zero)) low = stores_it 2 (omega arith) zeros ws zeros_long (law.sized value) (stored_times value 1) (has_it 1) once
+  stored (suc (suc zero)) low =
+      stores_it 2 (omega arith) zeros ws zeros_long (law.sized value) (stored_turns value code.size 1)
+      (stored_times value 1) (has_it 1) once
   stored (suc (suc (suc n))) low =
       let v = suc (suc n) + 1 in
       let long = law.sized value in
-      let before : Here (words_at v 0 (two (v % 2) ws ws)) (stored_times value (suc (suc n))) None =
-      subst (λ zs. Here (words_at v 0 zs) (stored_times value (suc (suc n))) None) (sym (two_same (v % 2) ws))
+      let before : Here (words_at v 0 (two (v % 2) ws ws)) (stored_turns value code.size (suc (suc n))) (stored_times value (suc (suc n))) None =
+      subst (λ zs. Here (words_at v 0 zs) (stored_turns value code.size (suc (suc n))) (stored_times value (suc (suc n))) None) (sym (two_same (v % 2) ws))
       (stored (suc (suc n)) (omega arith)) in
       let next_one : v + 1 ≡ suc (suc (suc n)) + 1 = omega arith in
-      subst (λ k. Here (words_at k 0 (ws ++ ws)) (stored_times value (suc (suc (suc n)))) None) next_one
-      (subst (λ zs. Here (words_at (v + 1) 0 zs) (stored_times value (suc (suc (suc n)))) None)
+      subst (λ k. Here (words_at k 0 (ws ++ ws)) (stored_turns value code.size (suc (suc (suc n)))) (stored_times value (suc (suc (suc n)))) None) next_one
+      (subst (λ zs. Here (words_at (v + 1) 0 zs) (stored_turns value code.size (suc (suc (suc n)))) (stored_times value (suc (suc (suc n)))) None)
       (two_same (v % 2) ws)
-      (stores_it v (omega arith) ws ws long long (stored_times value (suc (suc n))) (has_it (suc (suc n))) before))
+      (stores_it v (omega arith) ws ws long long (stored_turns value code.size (suc (suc n))) (stored_times value (suc (suc n))) (has_it (suc (suc n))) before))
 
   -- the role is given back
-  given : (n : ℕ) → n < 2 ^ 64 - 1 → Here (words_at (n + 1) 1 (opened_cells code value n)) (opened value n) None
+  given : (n : ℕ) → n < 2 ^ 64 - 1 → Here (words_at (n + 1) 1 (opened_cells code value n)) (opened_turns value code.size n) (opened value n) None
   given n low =
       let start = Atomic ReleaseProducer in
       let ws' = words_at (n + 1) 0 (opened_cells code value n) in
       let es = stored_times value n in
+      let ts = stored_turns value code.size n in
       let h = stored n low in
-      let a = alone.begins code kinds.Atomic 1 (2 + code.size * 2) effects laws releases_producer (record { word = producer_word }) tt ws' es h
-      (producer_starts code (maker es) releases_producer ReleaseProducer (record { word = producer_word }) tt refl
+      let a = alone.begins code kinds.Atomic 1 (2 + code.size * 2) effects laws releases_producer (record { word = producer_word }) tt ws' ts es h
+      (producer_starts code (maker ts es) releases_producer ReleaseProducer (record { word = producer_word }) tt refl
       (λ kept. refl) (λ o p. tt) (λ holder p is. holds_it holder p is) (has_it n) h.u same_seat 0 h.between.run refl
-      refl (sums ws' es h)) in
+      refl (sums ws' ts es h)) in
       let b =
-      alone.ends code kinds.Atomic 1 (2 + code.size * 2) effects laws ws' (es ++ Begun 0 start ∷ []) start
+      alone.ends code kinds.Atomic 1 (2 + code.size * 2) effects laws ws' (ts ++ Begin 0 start ∷ []) (es ++ Begun 0 start ∷ []) start
       (releases_producer.flight (record { word = producer_word }) tt) a
       (record { word = producer_word; op = ops.Store 1 }) (omega arith) refl tt
       (words_at (n + 1) 1 (opened_cells code value n)) answers.Done [] refl refl refl tt in
-      subst (λ zs. Here (words_at (n + 1) 1 (opened_cells code value n)) zs None) (append_assoc es (Begun 0 start ∷ []) (Finished 0 start answers.Done ∷ [])) b
+      subst (λ zs. Here (words_at (n + 1) 1 (opened_cells code value n)) zs (opened value n) None) (append_assoc ts (Begin 0 start ∷ []) (Next 0 ∷ []))
+      (subst (λ zs. Here (words_at (n + 1) 1 (opened_cells code value n)) ((ts ++ Begin 0 start ∷ []) ++ Next 0 ∷ []) zs None)
+      (append_assoc es (Begun 0 start ∷ []) (Finished 0 start answers.Done ∷ [])) b)
 
   few : (version : ℕ) → version < 2 ^ 64 → first_stores version < 2 ^ 64 - 1
   few x0 x1 = grind arith
@@ -275,9 +292,9 @@ module _ {T : Type 0} (code : Coding T) (law : IsCoding code) (value : T) where
   -- a table opens so, at any version
   pub value_opens : (version : ℕ) → version < 2 ^ 64 → (words : List ℕ)
       → words ≡ (first_stores version + 1) ∷ 1 ∷ (opened_cells code value (first_stores version) ++ 0 ∷ [])
-      → IsMachine code kinds.Atomic 1 (opening words [] (opened_view value version))
+      → IsMachine code kinds.Atomic 1 (opening words [] (opened_view value code.size version))
   value_opens version low words same =
       let n = first_stores version in
-      subst (λ zs. IsMachine code kinds.Atomic 1 (opening zs [] (opened_view value version))) (sym same)
+      subst (λ zs. IsMachine code kinds.Atomic 1 (opening zs [] (opened_view value code.size version))) (sym same)
       (alone.opens_so code kinds.Atomic 1 (2 + code.size * 2) effects laws
-      (words_at (n + 1) 1 (opened_cells code value n)) (opened value n) (given n (few version low)))
+      (words_at (n + 1) 1 (opened_cells code value n)) (opened_turns value code.size n) (opened value n) (given n (few version low)))

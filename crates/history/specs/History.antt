@@ -25,8 +25,8 @@ use Rattle.model.specs.Coding.{Coding}
 use Rattle.model.specs.Families.Container.Looks.{state_in}
 use Rattle.model.specs.Parties.{party_of}
 use Rattle.model.specs.Refusals.{call_refusal}
-use Rattle.model.specs.Turns.{IsReachedOn, after_turn, events_of}
-use Rattle.model.specs.World.{World, Trace}
+use Rattle.model.specs.Turns.{IsReachedOn, AreAllowedBy, after_turn, after_turns, events_of}
+use Rattle.model.specs.World.{World, Trace, opening}
 use Rattle.laws_queues.specs.Fresh.{IsFreshRun}
 use Rattle.laws_robust.specs.Open.{IsReachedOpen, open_refusal}
 use Rattle.threaded.specs.Shares.{IsAll}
@@ -132,6 +132,36 @@ module _ {T : Type 0} where
     pub sized : t.world.capacity ≡ capacity
     pub fresh : IsFreshAs kind t
 
+  -- what refuses a turn of such a machine
+  abbrev pub refusal_as : Kind → World T → Turn T → Option Refusal
+  refusal_as kinds.TheVariants.Robust w turn = open_refusal w turn
+  refusal_as kinds.TheVariants.Container w turn = open_refusal w turn
+  refusal_as kind w turn = call_refusal w turn
+
+  -- ---- the one run of a table
+
+  -- the machine that these turns lead to from the opening
+  abbrev pub run_of : Coding T → Kind → ℕ → List (Turn T) → Trace T
+  run_of code kind capacity turns = after_turns (opening code kind capacity 0) turns
+
+  -- these turns are the first of those
+  pub record AreFirst (first turns : List (Turn T)) : Type 0 where
+    pub rest : List (Turn T)
+    pub is : turns ≡ first ++ rest
+
+  -- what the seat knows are first turns of these, and what a seat that was taken in knew too
+  pub record Knew (turns : List (Turn T)) (v : View T) : Type 0 where
+    pub mine : AreFirst v.turns turns
+    pub theirs : AreFirst v.other_turns turns
+
+  -- One list of turns, none of them refused, leads from the opening to this machine. A step of the table can only add to it,
+  -- and each seat knows its first ones.
+  pub record OneRun (code : Coding T) (kind : Kind) (capacity : ℕ) (views : List (View T)) (t : Trace T) : Type 0 where
+    pub turns : List (Turn T)
+    pub allowed : AreAllowedBy (refusal_as kind) (opening code kind capacity 0) turns
+    pub is : t ≡ run_of code kind capacity turns
+    pub knew : (j : ℕ) (v : View T) → get_elem? views j ≡ some v → Knew turns v
+
   -- the words of a table: the machine's, and one more, since passes are split at a word
   pub record IsMachine (code : Coding T) (kind : Kind) (capacity : ℕ)
       (s : State (Unit {0}) (View T)) : Type 0 where
@@ -145,12 +175,7 @@ module _ {T : Type 0} where
     pub further : (j : ℕ) → length s.views ≤ j → call_in trace.world j ≡ None
     pub made_none : (j : ℕ) → length s.views ≤ j → events_by j trace.events ≡ []
     pub known : Known s.views trace.events
-
-  -- what refuses a turn of such a machine
-  abbrev pub refusal_as : Kind → World T → Turn T → Option Refusal
-  refusal_as kinds.TheVariants.Robust w turn = open_refusal w turn
-  refusal_as kinds.TheVariants.Container w turn = open_refusal w turn
-  refusal_as kind w turn = call_refusal w turn
+    pub one : OneRun code kind capacity s.views trace
 
   -- ---- what a caller knows
 
@@ -166,6 +191,17 @@ module _ {T : Type 0} where
     pub trace : Trace T
     pub run : IsRun code kind capacity trace
     pub is : events ≡ trace.events
+
+  -- what the pass has seen are the events of its turns, a run of a machine of this kind and capacity
+  pub record Knows (code : Coding T) (kind : Kind) (capacity : ℕ) (v : View T) : Type 0 where
+    pub allowed : AreAllowedBy (refusal_as kind) (opening code kind capacity 0) v.turns
+    pub run : IsRun code kind capacity (run_of code kind capacity v.turns)
+    pub is : v.seen ≡ (run_of code kind capacity v.turns).events
+
+  -- the run that it knew goes on to the one that it knows
+  pub record Continues (code : Coding T) (kind : Kind) (capacity : ℕ) (old new : View T) : Type 0 where
+    pub first : AreFirst old.turns new.turns
+    pub knows : Knows code kind capacity new
 
   -- the same, of a machine on which the party's call stands so
   pub record HasStood (code : Coding T) (kind : Kind) (capacity p : ℕ) (start : Start T)

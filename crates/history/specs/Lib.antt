@@ -22,3 +22,4 @@ pub mod Settled
 pub mod ContainerFind
 pub mod Acts
 pub mod Order
+pub mod OneRun

@@ -5,7 +5,7 @@ use Rattle.model.specs.declared.turn.Kind.{Kind}
 use Rattle.model.specs.Coding.{Coding}
 use Rattle.threaded.specs.Shares.{half_of, both_of, IsAll}
 use Rattle.history.specs.declared.view.View.{View}
-use Rattle.history.specs.History.{IsBeginning, IsHistory}
+use Rattle.history.specs.History.{IsBeginning, IsHistory, AreFirst, Continues}
 
 module _ {T : Type 0} where
   -- with the whole share, the history is what it made: every measure of the events says so
@@ -17,6 +17,8 @@ module _ {T : Type 0} where
     pub share : new.share ≡ old.share
     pub since : IsBeginning old.seen new.seen
     pub history : IsHistory code kind capacity new.seen
+    -- turns, none refused, lead from the run that it knew to the run that it knows
+    pub ran : Continues code kind capacity old new
     pub all : MissesNothing new
 
   -- a new pass has seen the same, made nothing and is no party yet; the share is halved
@@ -27,6 +29,8 @@ module _ {T : Type 0} where
     pub right_seen : right.seen ≡ old.seen
     pub right_made : right.made ≡ []
     pub right_party : right.party ≡ None
+    pub turns : left.turns ≡ old.turns
+    pub right_turns : right.turns ≡ old.turns
     pub share : left.share ≡ half_of old.share
     pub right_share : right.share ≡ half_of old.share
 
@@ -37,4 +41,6 @@ module _ {T : Type 0} where
     pub share : new.share ≡ both_of mine.share theirs.share
     pub ours : IsBeginning mine.seen new.seen
     pub others : IsBeginning theirs.seen new.seen
+    pub ours_ran : AreFirst mine.turns new.turns
+    pub theirs_ran : AreFirst theirs.turns new.turns
     pub whole : IsAll new.share → (new.seen ≡ mine.seen) ⊎ (new.seen ≡ theirs.seen)

@@ -16,7 +16,7 @@ use Rattle.model.specs.Turns.{number_of}
 use Rattle.threaded.specs.Shares.{IsAll}
 use Rattle.history.specs.declared.view.View.{View}
 use Rattle.history.specs.Known.{events_by}
-use Rattle.history.specs.History.{IsHistory, IsOfParties}
+use Rattle.history.specs.History.{IsHistory, Continues, IsOfParties}
 use Rattle.history.specs.Stages.{Calling, IsUnderWay, Ends}
 
 module _ {T : Type 0} (code : Coding T) where
@@ -50,6 +50,7 @@ module _ {T : Type 0} (code : Coding T) where
     pub others_own : events_by resting.party others ≡ []
     pub made : new.made ≡ old.made ++ Finished resting.party resting.start resting.answer ∷ []
     pub history : IsHistory code kind old.capacity new.seen
+    pub ran : Continues code kind old.capacity old new
     -- who has the whole has made all of it
     pub all : IsAll old.share → (f : Event T → ℕ) → sum_by f new.seen ≡ sum_by f new.made
     pub parties : IsOfParties new

@@ -26,7 +26,7 @@ use Rattle.model.specs.World.{Trace}
 use Rattle.threaded.specs.Shares.{IsAll}
 use Rattle.history.specs.declared.view.View.{View}
 use Rattle.history.specs.Known.{events_by, owned}
-use Rattle.history.specs.History.{IsHistory, IsOfParties, IsRun, LastStep, HasStood, started, steps_in}
+use Rattle.history.specs.History.{IsHistory, Continues, IsOfParties, IsRun, LastStep, HasStood, started, steps_in, run_of}
 use Rattle.history.specs.Views.{Looks}
 
 -- A call of the driver as a call of the model.
@@ -133,6 +133,7 @@ module _ {T C M E : Type 0} (code : Coding T) (kind : Kind) (call : Calling T C 
     pub tells : call.wrote base.capacity party base.going c m wrote
     pub since : Since party call.start wrote [] base v
     pub history : IsHistory code kind base.capacity v.seen
+    pub ran : Continues code kind base.capacity base v
     pub stood : HasStood code kind base.capacity party call.start (call.flight c m) v.seen
     -- who has the whole has made all of it
     pub all : IsAll base.share → (f : Event T → ℕ) → sum_by f v.seen ≡ sum_by f v.made
@@ -173,12 +174,13 @@ module _ {T C M E : Type 0} (code : Coding T) (kind : Kind) (call : Calling T C 
     pub since : Since party call.start wrote
         (Finished party call.start (call.answer e m) ∷ []) base w
     pub history : IsHistory code kind base.capacity w.seen
+    pub ran : Continues code kind base.capacity base w
     pub last : LastStep code kind base.capacity party
         (Finished party call.start (call.answer e m)) w.seen
     -- the party's latest call in the machine is this one; each operation was one of its steps, or it needed none and was
     -- one look
-    pub named : started (party_of party history.trace.world.latest) ≡ Some call.start
-    pub counted : steps_in history.trace.world party ≡ w.taken
+    pub named : started (party_of party (run_of code kind base.capacity w.turns).world.latest) ≡ Some call.start
+    pub counted : steps_in (run_of code kind base.capacity w.turns).world party ≡ w.taken
     pub took : StepsOnly base w ⊎ (w.asked ≤ base.asked + 1)
     -- who has the whole has made all of it
     pub all : IsAll base.share → (f : Event T → ℕ) → sum_by f w.seen ≡ sum_by f w.made

@@ -3,9 +3,9 @@ use Rattle.std.specs.Prelude.{◌≡◌, ◌≤◌, ℕ, ◌+◌, ◌*◌, Some}
 use Rattle.model.specs.declared.party.Progress.{Progress}
 use Rattle.model.specs.declared.turn.Kind.{Kind}
 use Rattle.model.specs.Coding.{Coding}
-use Rattle.model.specs.World.{Trace, progress_in}
+use Rattle.model.specs.World.{progress_in}
 use Rattle.history.specs.declared.view.View.{View}
-use Rattle.history.specs.History.{IsRun}
+use Rattle.history.specs.History.{Continues, run_of}
 
 module _ {T : Type 0} where
   -- at most so many
@@ -17,13 +17,11 @@ module _ {T : Type 0} where
   JoinsWithin most mine other new = new.asked ≤ mine.asked + other.asked + most
 
   -- At most so many alone, and so many more for each change of a word that other parties made while the call was under
-  -- way, in a run that has the history. The party's latest call there is this one.
+  -- way, in the run that the pass knows. The party's latest call there is this one.
   pub record TakesAlone (code : Coding T) (kind : Kind) (capacity alone retry : ℕ) (old new : View T) : Type 0 where
-    pub trace : Trace T
-    pub run : IsRun code kind capacity trace
-    pub seen : new.seen ≡ trace.events
+    pub ran : Continues code kind capacity old new
     pub party : ℕ
     pub mine : new.party ≡ Some party
     pub progress : Progress
-    pub latest : progress_in trace.world party ≡ Some progress
+    pub latest : progress_in (run_of code kind capacity new.turns).world party ≡ Some progress
     pub steps : new.asked ≤ old.asked + (alone + progress.others * retry)

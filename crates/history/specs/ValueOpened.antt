@@ -1,10 +1,12 @@
 -- The history with which a single value opens: one party has the role for so many stores of it.
-use Rattle.std.specs.Prelude.{ℕ, zero, suc, true, Some, None, List, [], ◌∷◌, ◌++◌, replicate}
+use Rattle.std.specs.Prelude.{ℕ, ◌-◌, zero, suc, true, Some, None, List, [], ◌∷◌, ◌++◌, replicate}
 use Rattle.model.specs.declared.event.Answer.TheVariants.{Truth, Done}
 use Rattle.model.specs.declared.event.Event.{Event}
 use Rattle.model.specs.declared.event.Event.TheVariants.{Begun, Acted, Finished}
 use Rattle.model.specs.declared.event.Start.TheVariants.{Atomic}
 use Rattle.model.specs.declared.families.atomic.AtomicStart.TheVariants.{AcquireProducer, ReleaseProducer, Store}
+use Rattle.model.specs.declared.turn.Turn.{Turn}
+use Rattle.model.specs.declared.turn.Turn.TheVariants.{Begin, Next}
 use Rattle.model.specs.Coding.{Coding}
 use Rattle.threaded.specs.Shares.{all_shares}
 use Rattle.history.specs.declared.view.View.{View}
@@ -31,15 +33,28 @@ module _ {T : Type 0} (value : T) where
       stored_times stores
       ++ Begun 0 (Atomic ReleaseProducer) ∷ Finished 0 (Atomic ReleaseProducer) Done ∷ []
 
-  -- what the first pass knows: it is the party, and has the whole share
-  abbrev pub opened_view : ℕ → View T
-  opened_view version =
+  -- the turns that it takes for that, where a value has so many words: a store loads the version, stores the words, and adds to it
+  abbrev pub store_turns : ℕ → List (Turn T)
+  store_turns size = Begin 0 (Atomic (Store value)) ∷ Next 0 ∷ (replicate (suc (size - 1)) (Next 0) ++ Next 0 ∷ [])
+
+  abbrev pub stored_turns : ℕ → ℕ → List (Turn T)
+  stored_turns size zero = Begin 0 (Atomic AcquireProducer) ∷ Next 0 ∷ []
+  stored_turns size (suc n) = stored_turns size n ++ store_turns size
+
+  abbrev pub opened_turns : ℕ → ℕ → List (Turn T)
+  opened_turns size stores = stored_turns size stores ++ Begin 0 (Atomic ReleaseProducer) ∷ Next 0 ∷ []
+
+  -- what the first pass knows, where a value has so many words: it is the party, and has the whole share
+  abbrev pub opened_view : ℕ → ℕ → View T
+  opened_view size version =
       record {
         capacity = 1;
         party = Some 0;
         share = all_shares;
         seen = opened (first_stores version);
         other = [];
+        turns = opened_turns size (first_stores version);
+        other_turns = [];
         made = opened (first_stores version);
         going = None;
         state = None;

@@ -10,7 +10,7 @@ use Rattle.model.specs.World.{Trace}
 use Rattle.threaded.specs.Shares.{all_shares, no_share, half_of, both_of, IsAll}
 use Rattle.history.specs.declared.view.View.{View}
 use Rattle.history.specs.Known.{events_by}
-use Rattle.history.specs.History.{IsBeginning, IsHistory, IsOfParties, IsRun}
+use Rattle.history.specs.History.{IsBeginning, IsHistory, IsOfParties, IsRun, AreFirst, Continues}
 
 module _ {T : Type 0} where
   -- the first seat is the party 0
@@ -22,6 +22,8 @@ module _ {T : Type 0} where
         share = all_shares;
         seen = [];
         other = [];
+        turns = [];
+        other_turns = [];
         made = [];
         going = None;
         state = None;
@@ -38,6 +40,8 @@ module _ {T : Type 0} where
         share = half_of v.share;
         seen = v.seen;
         other = [];
+        turns = v.turns;
+        other_turns = [];
         made = [];
         going = None;
         state = None;
@@ -56,6 +60,8 @@ module _ {T : Type 0} where
         share = both_of v.share w.share;
         seen = v.seen;
         other = w.seen;
+        turns = v.turns;
+        other_turns = w.turns;
         made = v.made ++ w.made;
         going = v.going;
         state = v.state;
@@ -71,6 +77,8 @@ module _ {T : Type 0} where
         share = no_share;
         seen = [];
         other = [];
+        turns = [];
+        other_turns = [];
         made = [];
         going = None;
         state = None;
@@ -93,6 +101,9 @@ module _ {T : Type 0} where
     pub whole : IsAll v.share → (w.seen ≡ v.seen) ⊎ (w.seen ≡ v.other)
     pub all : IsAll v.share → (f : Event T → ℕ) → sum_by f w.seen ≡ sum_by f w.made
     pub history : IsHistory code kind size w.seen
+    -- the run that each of both knew goes on to this one
+    pub ran : Continues code kind size v w
+    pub theirs_ran : AreFirst v.other_turns w.turns
     pub parties : IsOfParties w
     -- what it had not seen is of other parties
     pub apart : v.other ≡ [] → 0 < v.share.part → (p : ℕ) → parties.owner p ≡ parties.seat

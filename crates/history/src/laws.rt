@@ -1,17 +1,21 @@
 //! What one history of a bit set or of a counting bit set says in the field's words: the laws of every history that
 //! threads have seen, and of every run of a machine. These functions do nothing: the contract of each is a law, whose
 //! proof is a lemma that a client's proof can cite.
-ghost use Rattle.std.specs.Prelude.{◌≡◌, ℕ, List};
+ghost use Rattle.std.specs.Prelude.{◌≡◌, ℕ, None, List};
+ghost use Rattle.atomic_table.specs.Table.{State};
 ghost use Rattle.model.specs.declared.event.Answer.{Answer};
 ghost use Rattle.model.specs.declared.event.Event.{Event};
 ghost use Rattle.model.specs.declared.event.Start.{Start};
 ghost use Rattle.model.specs.declared.turn.Kind.{Kind};
-ghost use Rattle.model.specs.Coding.{Coding};
+ghost use Rattle.model.specs.Coding.{Coding, IsCoding};
 ghost use Rattle.model.specs.Linearizable.{Precedes};
 ghost use Rattle.model.specs.Turns.{IsReached, IsReachedOn};
-ghost use Rattle.model.specs.World.{Trace};
+ghost use Rattle.model.specs.World.{Trace, capacity_error};
 ghost use Rattle.history.specs.declared.view.View.{View};
-ghost use Rattle.history.specs.History.{IsBeginning, IsHistory, Called};
+ghost use Rattle.history.specs.History.{IsBeginning, IsHistory, IsMachine, Called, Knows, Continues};
+ghost use Rattle.history.specs.OneRun.{SeatsKnowOneRun};
+ghost use Rattle.history.specs.Passes.{HasSplit, HasJoined};
+ghost use Rattle.history.specs.Views.{first_view};
 ghost use Rattle.history.specs.Acts.{ActsByPlace, IsSet};
 ghost use Rattle.history.specs.Order.{StandsIn, EndsNone};
 
@@ -49,4 +53,22 @@ pub fn calls_are_in_order<T>()
     ensures { (p q : ℕ) (s t : Start T) (a b : Answer T) (old new later last : View T) (history : List (Event T))
         → (x : StandsIn p s a old new history) → (y : StandsIn q t b later last history)
         → IsBeginning new.seen later.seen → Precedes x.call y.call }
+{}
+
+/// One run of the model is the whole life of a table. From call to call the run that a pass knew goes on to the one that it
+/// knows: turns, none refused, lead from the one to the other (`calls`). So it is over splits and joins: a pass that is split
+/// off knows the run of the other, and what two passes knew are beginnings of what the joined one knows. The first pass of a
+/// table knows the run in which nothing has happened (`first`). Of any two seats of a table, at any moment, the run that the
+/// one knows goes on to the run that the other knows (`tables`). The lemmas are in `proofs/OneRun.antt`.
+pub fn runs_go_on<T>()
+    ensures calls { (code : Coding T) (kind : Kind) (capacity : ℕ) (a b c : View T) → Continues code kind capacity a b
+        → Continues code kind capacity b c → Continues code kind capacity a c }
+    ensures splits { (code : Coding T) (kind : Kind) (capacity : ℕ) (old left right : View T) → HasSplit old left right
+        → Knows code kind capacity old → Continues code kind capacity old left × Continues code kind capacity old right }
+    ensures joins { (code : Coding T) (kind : Kind) (capacity : ℕ) (mine theirs new : View T) → HasJoined mine theirs new
+        → Knows code kind capacity new → Continues code kind capacity mine new × Continues code kind capacity theirs new }
+    ensures first { (code : Coding T) (kind : Kind) (capacity : ℕ) → IsCoding code → capacity_error kind capacity ≡ None
+        → Knows code kind capacity (first_view capacity) }
+    ensures tables { (code : Coding T) (kind : Kind) (capacity : ℕ) (s : State (Unit {0}) (View T))
+        → IsMachine code kind capacity s → SeatsKnowOneRun s }
 {}

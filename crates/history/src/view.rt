@@ -6,6 +6,7 @@ ghost use base.Fml.{ftrue};
 ghost use Rattle.model.specs.declared.event.Event.{Event};
 ghost use Rattle.model.specs.declared.event.Start.{Start};
 ghost use Rattle.model.specs.declared.families.Flight.{Flight};
+ghost use Rattle.model.specs.declared.turn.Turn.{Turn};
 ghost use Rattle.steps.specs.declared.container.state.ContainerState.{ContainerState};
 
 use std::marker::{Model, PhantomData};
@@ -23,6 +24,20 @@ impl<T> Model for Events<T> {
     ghost Value = { List (Event T) };
 
     ghost view = { λ e. e.events };
+}
+
+/// A list of turns of the model, as contracts see it.
+pub struct Turns<T> {
+    marker: PhantomData<T>,
+    ghost turns: { List (Turn T) },
+}
+
+impl<T> Model for Turns<T> {
+    ghost also_owns = { λ _. ftrue };
+
+    ghost Value = { List (Turn T) };
+
+    ghost view = { λ t. t.turns };
 }
 
 /// A call under way, as contracts see it: what it began as, and where it stands.
@@ -65,6 +80,10 @@ pub struct View<T> {
     pub seen: Events<T>,
     /// What a seat that was taken in has seen: a beginning of the history too.
     pub other: Events<T>,
+    /// The turns of the table's run of which `seen` are the events: its first ones.
+    pub turns: Turns<T>,
+    /// Those of which `other` are the events: its first ones too.
+    pub other_turns: Turns<T>,
     /// The events of its own calls, and those of the seats that were taken in.
     pub made: Events<T>,
     /// Its call under way.

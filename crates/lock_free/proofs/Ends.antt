@@ -17,6 +17,7 @@ module _ {C M E : Type 0} (kind : Kind) (call : Calling ℕ C M E)
         idle = ends.idle;
         alone = ends.alone;
         history = ends.history;
+        ran = ends.ran;
         all = ends.all;
       }
     where

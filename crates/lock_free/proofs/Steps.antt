@@ -5,7 +5,8 @@ use Rattle.model.specs.declared.party.Party.{Party}
 use Rattle.model.specs.declared.turn.Kind.TheVariants as kinds
 use Rattle.model.specs.Parties.{party_of}
 use Rattle.model.specs.Progress.{WaitFree, IsWithin, guarantee_of}
-use Rattle.history.specs.History.{started, steps_of}
+use Rattle.model.specs.World.{Trace}
+use Rattle.history.specs.History.{started, steps_of, run_of}
 use Rattle.history.specs.Stages.{StepsOnly, taken_by}
 use Rattle.history.specs.Steps.{TakesAtMost}
 use Rattle.history.proofs.Indices.{index_pays}
@@ -40,19 +41,22 @@ module _ {C M E : Type 0} (call : Calling ℕ C M E) (base w : View ℕ) (e : E)
 module _ (kind : Kind) {C M E : Type 0} (call : Calling ℕ C M E) (base w : View ℕ) (e : E) (m : M) (idle : base.going ≡ None)
     (pays : Pays {T = ℕ} one_word kind base.capacity) (none : guarantee_of kind base.capacity one_word.size call.start ≡ WaitFree 0)
     (ends : Ends one_word kind call base e m w) where
+  abbrev known : Trace ℕ
+  known = run_of one_word kind base.capacity w.turns
+
   no_step : w.taken ≤ 0
-  no_step = go (party_of ends.party ends.history.trace.world.latest) refl
+  no_step = go (party_of ends.party known.world.latest) refl
     where
-      go : (o : Option (Party ℕ)) → party_of ends.party ends.history.trace.world.latest ≡ o → w.taken ≤ 0
+      go : (o : Option (Party ℕ)) → party_of ends.party known.world.latest ≡ o → w.taken ≤ 0
       go None is = (let no : ◌≡◌ {A = Option (Start ℕ)} None (Some call.start) = sym (ap started is) ∙ ends.named in absurd (cc))
       go (Some x) is =
           let named : ◌≡◌ {A = Option (Start ℕ)} (Some x.start) (Some call.start) = sym (ap started is) ∙ ends.named in
           let same : x.start ≡ call.start = cc in
           let steps : x.steps ≡ w.taken = sym (ap steps_of is) ∙ ends.counted in
-          let within : IsWithin (WaitFree 0) (progress_of ends.history.trace.world.changes x) =
-          subst (λ g. IsWithin g (progress_of ends.history.trace.world.changes x))
+          let within : IsWithin (WaitFree 0) (progress_of known.world.changes x) =
+          subst (λ g. IsWithin g (progress_of known.world.changes x))
           (ap (guarantee_of kind base.capacity one_word.size) same ∙ none)
-          (pays ends.history.trace ends.history.run ends.party x is) in
+          (pays known ends.ran.knows.run ends.party x is) in
           omega arith
 
   one_look : TakesAtMost 1 base w

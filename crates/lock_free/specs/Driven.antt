@@ -7,7 +7,7 @@ use Rattle.model.specs.declared.turn.Kind.{Kind}
 use Rattle.model.specs.Coding.{one_word}
 use Rattle.threaded.specs.Shares.{IsAll}
 use Rattle.history.specs.declared.view.View.{View}
-use Rattle.history.specs.History.{Called, IsHistory}
+use Rattle.history.specs.History.{Called, IsHistory, Continues}
 
 -- no call of it is under way
 pub record IsIdle (capacity : ℕ) (v : View ℕ) : Type 0 where
@@ -24,6 +24,7 @@ pub record HasDone (kind : Kind) (old new : View ℕ) : Type 0 where
   pub idle : new.going ≡ None
   pub alone : new.other ≡ []
   pub history : IsHistory one_word kind old.capacity new.seen
+  pub ran : Continues one_word kind old.capacity old new
   pub all : IsAll old.share → (f : Event ℕ → ℕ) → sum_by f new.seen ≡ sum_by f new.made
 
 -- one call of the history, by a party of the pass, which wrote this

@@ -26,6 +26,7 @@ pub use Rattle.model.specs.Families.Container.Promises as ContainerPromises
 pub use Rattle.laws_container.specs.Open as ContainerRuns
 pub use Rattle.history.specs.Acts as HistoryActs
 pub use Rattle.history.specs.Order as HistoryOrder
+pub use Rattle.history.specs.OneRun as HistoryRun
 pub use Rattle.model.specs.Linearizable
 pub use Rattle.model.specs.Linearized
 pub use Rattle.model.specs.Families.Indices.Reading as IndexReading

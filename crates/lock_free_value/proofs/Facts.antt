@@ -18,7 +18,7 @@ use Rattle.model.specs.declared.families.atomic.AtomicStart.TheVariants.{Acquire
 use Rattle.model.specs.declared.turn.Kind.TheVariants as kinds
 use Rattle.model.specs.Families.Atomic.Reading.{holder_of}
 use Rattle.model.specs.Reading.{Each}
-use Rattle.history.specs.History.{Called}
+use Rattle.history.specs.History.{Called, Continues}
 use Rattle.history.specs.Stages.{Calling, opened, Ends, Over}
 use Rattle.history.specs.Steps.{TakesAtMost}
 use Rattle.model.specs.Progress.{guarantee_of}
@@ -76,6 +76,7 @@ module _ {T : Type 0} (code : Coding T) (base w : View T) (idle : base.going ≡
                 share = looked.share;
                 since = looked.mine;
                 history = subst (λ n. IsHistory code kinds.Atomic n w.seen) one looked.history;
+                ran = subst (λ n. Continues code kinds.Atomic n base w) one looked.ran;
                 all = λ whole. looked.all (subst IsAll looked.share whole);
               };
           sized = looked.capacity ∙ one;

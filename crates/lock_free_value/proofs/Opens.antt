@@ -120,8 +120,8 @@ module _ {T : Type 0} (value : T) where
   stores_some x0 = grind (arith, suc)
 
   -- something was stored
-  pub opened_some : (version : ℕ) → 0 < length (stored (opened_view value version).seen)
-  opened_some x0 = grind (arith, first_stores, times_some, stores_some, length, stored, stored_times, flat_map-append, stores, length-append)
+  pub opened_some : (size version : ℕ) → 0 < length (stored (opened_view value size version).seen)
+  opened_some x0 x1 = grind (arith, first_stores, times_some, stores_some, length, stored, stored_times, flat_map-append, stores, length-append)
 
   times_has : (n : ℕ) → HasProducer (stored_times value n)
   times_has zero = refl
@@ -132,5 +132,5 @@ module _ {T : Type 0} (value : T) where
       omega arith
 
   -- and the role was given back
-  pub opened_lacks : (version : ℕ) → LacksProducer (opened_view value version).made
-  opened_lacks x0 = grind (arith, first_stores, sum_by-append, takes_producer, stored_times, gives_producer, times_has)
+  pub opened_lacks : (size version : ℕ) → LacksProducer (opened_view value size version).made
+  opened_lacks x0 x1 = grind (arith, first_stores, sum_by-append, takes_producer, stored_times, gives_producer, times_has)

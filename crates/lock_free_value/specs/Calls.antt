@@ -7,7 +7,7 @@ use Rattle.model.specs.declared.turn.Kind.TheVariants as kinds
 use Rattle.model.specs.Coding.{Coding, coding_of}
 use Rattle.threaded.specs.Seats.{home_id}
 use Rattle.history.specs.declared.view.View.{View}
-use Rattle.history.specs.History.{IsHistory}
+use Rattle.history.specs.History.{IsHistory, Knows}
 pub use Rattle.history.specs.Passes.{MissesNothing}
 use Rattle.history.specs.Passes.{Goes, HasJoined}
 use Rattle.lock_free_value.specs.declared.spmc.unrestricted_atomic.UnrestrictedAtomic.{UnrestrictedAtomic}
@@ -86,6 +86,7 @@ module _ {T : Type 0} {words : Ghosts T} where
     pub table : table_of new ≡ table_of old
     pub joined : HasJoined (seen old) (seen other) (seen new)
     pub history : HasHistory (code_of old) (seen new)
+    pub knows : Knows (code_of old) kinds.Atomic 1 (seen new)
     pub all : MissesNothing (seen new)
 
   abbrev pub PassJoins : Pass T words → Pass T words → Pass T words → Type 0

@@ -1,5 +1,6 @@
 -- What the contracts of this crate speak of.
 pub mod Acts
+pub mod Ending
 pub mod Order
 pub mod Leases
 pub mod Sums

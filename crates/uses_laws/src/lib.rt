@@ -6,6 +6,7 @@ pub mod alone;
 pub mod copies;
 pub mod counted;
 pub mod drain;
+pub mod ending;
 pub mod leases;
 pub mod order;
 pub mod sole;

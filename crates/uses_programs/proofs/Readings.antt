@@ -118,7 +118,7 @@ module _ {T : Type 0} where
 
   -- ---- both joined: who has the whole share knows all that was stored
 
-  module _ (first : T) (all seen : List T) (v left right a b z : View T) (opens : v ≡ opened_view first 1) (cut : HasSplit v left right)
+  module _ (size : ℕ) (first : T) (all seen : List T) (v left right a b z : View T) (opens : v ≡ opened_view first size 1) (cut : HasSplit v left right)
       (s : HasWritten all left a) (r : HasRead seen right b) (h : HasJoined a b z) (none : MissesNothing z) where
     whole : IsAll z.share
     whole =

@@ -12,6 +12,8 @@ use Rattle.model.specs.Coding.{Coding}
 use Rattle.model.specs.declared.event.Item.TheVariants.{Index}
 use Rattle.model.specs.declared.turn.Kind.TheVariants as kinds
 use Rattle.history.specs.Passes.{Goes}
+use Rattle.history.specs.History.{AreFirst, Continues}
+use Rattle.history.proofs.OneRun.{first_all, first_further, continues_further}
 use Rattle.history.proofs.Known.{begins_further, itself}
 use Rattle.lock_free_queues.specs.Queues.Contracts.{HasPopped, WasEmpty, FoundNone}
 use Rattle.lock_free.specs.declared.mpmc.unique_index_set.Pass.{Pass}
@@ -50,6 +52,9 @@ set_goes old new known goes since =
       history =
           subst (λ n. IsHistory one_word kinds.Indices n (view new).seen)
           (ap (λ (z : SetId). z.capacity) goes.set ∙ sym known) goes.history;
+      ran =
+          subst (λ n. Continues one_word kinds.Indices n (view old) (view new))
+          (ap (λ (z : SetId). z.capacity) goes.set ∙ sym known) goes.ran;
       all = goes.all;
     }
 
@@ -132,11 +137,12 @@ module _ (ps : List Place) (i : ℕ) where
 pub record Popping (old now : View ℕ) : Type 0 where
   pub share : now.share ≡ old.share
   pub since : IsBeginning old.seen now.seen
+  pub ran : AreFirst old.turns now.turns
   pub numbers : List ℕ
   pub popped : InTurn HasPoppedOne numbers old now
 
 pub pops_none : (v : View ℕ) → Popping v v
-pops_none v = record { share = refl; since = itself v.seen; numbers = []; popped = refl }
+pops_none v = record { share = refl; since = itself v.seen; ran = first_all v.turns; numbers = []; popped = refl }
 
 module _ (code : Coding ℕ) (kind : Kind) (capacity : ℕ) (old now new : View ℕ) (before : Popping old now)
     (goes : Goes code kind capacity now new) where
@@ -146,6 +152,7 @@ module _ (code : Coding ℕ) (kind : Kind) (capacity : ℕ) (old now new : View 
         share = goes.share ∙ before.share;
         since = begins_further old.seen now.seen new.seen before.since goes.since;
         history = goes.history;
+        ran = continues_further code kind capacity old now new before.ran goes.ran;
         all = goes.all;
       }
 
@@ -156,6 +163,7 @@ module _ (code : Coding ℕ) (kind : Kind) (capacity : ℕ) (old now new : View 
       record {
         share = goes.share ∙ before.share;
         since = begins_further old.seen now.seen new.seen before.since goes.since;
+        ran = first_further old.turns now.turns new.turns before.ran goes.ran.first;
         numbers = before.numbers ++ x ∷ [];
         popped = in_turn_more HasPoppedOne before.numbers x old now new before.popped popped;
       }

@@ -1,7 +1,7 @@
 -- A call that needs no word is one look at any word, which the view counts.
 use Rattle.lock_free.proofs.Names.{◌≡◌, inl, ℕ, ◌+◌, ◌<◌, ◌≤◌, Some, List, [], ◌++◌, refl, sym, ap, subst, ◌∙◌, arith}
 use Rattle.lock_free.proofs.Names.{Event, Kind, View, Calling, Ends, IsMachine, OwesAsk, after_of}
-use Rattle.std.proofs.Common.{None, inr, slice_index, slice_set}
+use Rattle.std.proofs.Common.{None, inr, slice_set}
 use Rattle.atomic_table.specs.Table as table
 use Rattle.steps.specs.declared.ask.Op.TheVariants.{Load}
 use Rattle.steps.specs.declared.ask.After.TheVariants.{Done}
@@ -19,7 +19,7 @@ use Rattle.history.proofs.Drives.{NeverPushes, all_laws, all_kept_laws}
 use Rattle.history.proofs.Known.{by_mine, AreOf}
 use Rattle.history.proofs.Passes.{set_same}
 use Rattle.history.proofs.Steps.{settle}
-use Rattle.history.proofs.Turns.{KindLaws, Between, goes_on_alike}
+use Rattle.history.proofs.Turns.{KindLaws, goes_on_alike}
 
 as_much : (n : ℕ) → n ≤ n
 as_much n = omega arith
@@ -45,11 +45,15 @@ module _ {T C M E : Type 0} (code : Coding T) (kind : Kind) (effects : ℕ → F
           view_then code kind (λ w. effects) size_of there call s v v.capacity id c m at refl y None tt asks_none finds,
           table.keeps,
           tt,
-          settle code kind v.capacity id y.p y.owner (v.asked + 1) (slice_set s.words word (slice_index s.words word)) s v
-              (then_gained code kind (λ w. effects) size_of there call s v v.capacity id c m at refl y None tt asks_none finds) u at first.some
-              (subst (λ ws. Between code kind v.capacity y.owner (record { words = ws; homes = s.homes; views = s.views }) id y.p
-              (then_gained code kind (λ w. effects) size_of there call s v v.capacity id c m at refl y None tt asks_none finds) u)
+          subst (λ ws. IsMachine code kind v.capacity
+              (record {
+                words = ws;
+                homes = s.homes;
+                views = slice_set s.views id (view_then code kind (λ w. effects) size_of there call s v v.capacity id c m at refl y None tt asks_none finds);
+              }))
               (sym (set_same s.words word))
+              (settle code kind v.capacity id y.p y.owner (v.asked + 1) s.words s v
+              (then_gained code kind (λ w. effects) size_of there call s v v.capacity id c m at refl y None tt asks_none finds) u at first.some
               (next_between code kind (λ w. effects) size_of there call s v v.capacity id c m at refl y None tt asks_none finds)),
           (
             ends_then code kind (λ w. effects) size_of there call s v v.capacity id c m at refl y None tt asks_none finds v (inl first) end m'

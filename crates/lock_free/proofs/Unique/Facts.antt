@@ -21,6 +21,7 @@ use Rattle.model.specs.Promises.Spans.{Stands}
 use Rattle.laws_indices.proofs.Sound.{kept_on, reached_on_sound}
 use Rattle.model.specs.Families.Indices.Reading.{holder_of, is_locked}
 use Rattle.model.specs.Reading.{Span, Never, Open, Ended, span_of}
+use Rattle.history.specs.History.{Continues}
 use Rattle.history.specs.Indices.{claimed_by}
 use Rattle.history.proofs.Indices.{is_index_set}
 use Rattle.history.proofs.Locks.{not_locked}
@@ -237,5 +238,7 @@ same_pass {old = old} {new = new} set ends =
       sound = sound (view old).capacity (view new) ends.capacity ends.history ends.parties;
       history =
           subst (λ n. IsHistory one_word kinds.Indices n (history new)) (old.known ∙ sym (ap (λ (z : SetId). z.capacity) set)) ends.history;
+      ran =
+          subst (λ n. Continues one_word kinds.Indices n (view old) (view new)) (old.known ∙ sym (ap (λ (z : SetId). z.capacity) set)) ends.ran;
       all = λ whole. ends.all (subst IsAll ends.share whole);
     }

@@ -10,6 +10,7 @@ use Rattle.model.specs.Coding.{Coding}
 use Rattle.model.specs.Parties.{party_of, progress_after, others_of}
 use Rattle.model.specs.Reading.{whose, is_party}
 use Rattle.history.specs.Passes.{MissesNothing, HasJoined}
+use Rattle.history.specs.History.{run_of}
 use Rattle.history.specs.Steps.{TakesAtMost, TakesAlone}
 use Rattle.lock_free.specs.Whole.{begins, ends, IsDone, AllInside, HasWhole, CallsWhole}
 use Rattle.lock_free.proofs.Sums.{sum_made}
@@ -109,24 +110,24 @@ module _ {T : Type 0} where
 
     module _ (code : Coding T) (kind : Kind) (capacity most retry : ℕ) (takes : TakesAlone code kind capacity most retry old new) where
       abbrev t : Trace T
-      t = takes.trace
+      t = run_of code kind capacity new.turns
 
       counted : IsCounted t
-      counted = counted_as kind t takes.run.reached
+      counted = counted_as kind t takes.ran.knows.run.reached
 
       -- no call is under way
       none_going : (q : ℕ) → is_going (party_of q t.world.latest) ≡ 0
       none_going q =
           let all = counted.calls q in
-          let one = ap (sum_by (begins q)) takes.seen in
-          let two = ap (sum_by (ends q)) takes.seen in
+          let one = ap (sum_by (begins q)) takes.ran.knows.is in
+          let two = ap (sum_by (ends q)) takes.ran.knows.is in
           let three = c.has.all (begins q) in
           let four = c.has.all (ends q) in
           let five = c.has.done q in
           omega arith
 
       none_passed_by : passed c.by t.events ≡ 0
-      none_passed_by = ap (passed c.by) (sym takes.seen) ∙ none_ended
+      none_passed_by = ap (passed c.by) (sym takes.ran.knows.is) ∙ none_ended
 
       none_of_others : takes.progress.others ≡ 0
       none_of_others = go (party_of takes.party t.world.latest) refl

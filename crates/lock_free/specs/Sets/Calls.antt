@@ -6,7 +6,7 @@ use Rattle.threaded.specs.declared.share.Share.{Share}
 use Rattle.threaded.specs.Seats.{home_id}
 pub use Rattle.threaded.specs.Sets.{SetId}
 use Rattle.history.specs.declared.view.View.{View}
-use Rattle.history.specs.History.{IsHistory}
+use Rattle.history.specs.History.{IsHistory, Knows, Continues}
 use Rattle.history.specs.Passes as passes
 use Rattle.lock_free.specs.Sets.Kinds.{machine_kind}
 use Rattle.lock_free.specs.declared.mpmc.sets.rule.Kind.{Ghosts}
@@ -73,6 +73,8 @@ module _ {E : Type 0} {kind : Ghosts E} where
     pub share : share new ≡ share old
     pub party : IsSameParty old new
     pub history : HasHistory new
+    -- turns, none refused, lead from the run that it knew to the run that it knows
+    pub ran : Continues one_word (machine_kind kind.KIND) (set_of new).capacity (view old) (view new)
     pub all : MissesNothing new
 
   -- what a join leaves of a pass, which has what both had
@@ -80,4 +82,5 @@ module _ {E : Type 0} {kind : Ghosts E} where
     pub set : set_of new ≡ set_of old
     pub joined : passes.HasJoined (view old) (view other) (view new)
     pub history : HasHistory new
+    pub knows : Knows one_word (machine_kind kind.KIND) (set_of new).capacity (view new)
     pub all : MissesNothing new

@@ -1,5 +1,5 @@
-//! Laws of every structure. They say where the calls of passes stand in one history, when joined shares are the whole, and
-//! that who has the whole share makes each call alone.
+//! Laws of every structure. They say where the calls of passes stand in one history, that the runs which passes know are one
+//! run, when joined shares are the whole, and that who has the whole share makes each call alone.
 ghost use Rattle.std.specs.Prelude.{◌≡◌, ℕ, List, []};
 ghost use Rattle.model.specs.declared.event.Answer.{Answer};
 ghost use Rattle.model.specs.declared.event.Event.{Event};
@@ -13,7 +13,7 @@ ghost use Rattle.history.specs.Passes.{MissesNothing, HasJoined};
 ghost use Rattle.history.specs.Steps.{TakesAlone, TakesAtMost};
 ghost use Rattle.lock_free.specs.Whole.{IsDone, AllInside, HasWhole, CallsWhole};
 
-pub use history::laws::{calls_are_in_order, calls_stand};
+pub use history::laws::{calls_are_in_order, calls_stand, runs_go_on};
 pub use threaded::laws::{any_number, any_order};
 
 /// Who has the whole share, and whose calls have ended, makes each call alone. Nobody else changes a word during it, so of

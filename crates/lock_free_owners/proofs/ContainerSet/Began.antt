@@ -1,6 +1,6 @@
 -- What a call on a pass whose last one may rest leaves: of one that has ended, and of one that rests itself.
 use Rattle.std.proofs.Common.{arith}
-use Rattle.lock_free_owners.proofs.Names.{◌≡◌, ℕ, false, Option, Some, None, IfSome, List, [], ◌∷◌, ◌++◌}
+use Rattle.lock_free_owners.proofs.Names.{◌≡◌, inl, inr, ℕ, false, Option, Some, None, IfSome, List, [], ◌∷◌, ◌++◌}
 use Rattle.lock_free_owners.proofs.Names.{sym, ap, subst, ◌∙◌, append_assoc, append-nil, Answer, Event, Begun}
 use Rattle.lock_free_owners.proofs.Names.{Finished, Start, Container, ContainerStart, Coding, is_locked, IsUnlocked}
 use Rattle.lock_free_owners.proofs.Names.{HeldSometime, IsAll, View, IsHistory, Called, IsBeginning, Goes}
@@ -9,6 +9,8 @@ use Rattle.lock_free_owners.proofs.Names.{opened, called}
 use Rattle.model.specs.declared.turn.Kind.TheVariants as kinds
 use Rattle.lock_free_owners.specs.Container.Contracts.{Answered}
 use Rattle.lock_free_owners.proofs.ContainerSet.Sound.{sound_history}
+use Rattle.history.specs.History.{AreFirst, Continues}
+use Rattle.history.proofs.OneRun.{first_all, continues_further}
 use Rattle.history.proofs.Locks.{not_locked}
 use Rattle.lock_free_owners.proofs.RobustSet.Events.{covers}
 
@@ -33,6 +35,10 @@ module _ {T : Type 0} (code : Coding T) (base from : View T) (settled : SettledF
   settled_state : SettledFrom code kinds.Container base from → from.state ≡ base.state
   settled_state x0 = grind arith
 
+  pub settled_ran : SettledFrom code kinds.Container base from → AreFirst base.turns from.turns
+  settled_ran (inl h) = subst (λ (z : View T). AreFirst base.turns z.turns) (sym h.0) (first_all base.turns)
+  settled_ran (inr h) = h.ran.first
+
   pub idle_from : from.going ≡ None
   idle_from = settled_idle settled
 
@@ -41,6 +47,11 @@ module _ {T : Type 0} (code : Coding T) (base from : View T) (settled : SettledF
 
   pub share_from : from.share ≡ base.share
   share_from = settled_share settled
+
+  ran_base : (w : View T) → Continues code kinds.Container from.capacity from w → Continues code kinds.Container base.capacity base w
+  ran_base w h =
+      subst (λ n. Continues code kinds.Container n base w) capacity_from
+      (continues_further code kinds.Container from.capacity base from w (settled_ran settled) h)
 
   pub later : (xs : List (Event T)) → IsBeginning base.seen (from.seen ++ xs)
   later x0 = grind (arith, settled_since, append_assoc)
@@ -74,6 +85,7 @@ module _ {T : Type 0} (code : Coding T) (base from : View T) (settled : SettledF
             share = ends.share ∙ share_from;
             since = since_base ends.party call.start ends.wrote (Finished ends.party call.start (call.answer e m) ∷ []) w ends.since;
             history = history_of;
+            ran = ran_base w ends.ran;
             all = λ whole. ends.all (subst IsAll ends.share whole);
           }
 
@@ -114,6 +126,7 @@ module _ {T : Type 0} (code : Coding T) (base from : View T) (settled : SettledF
             share = under.share ∙ share_from;
             since = since_base under.party call.start under.wrote [] w under.since;
             history = subst (λ n. IsHistory code kinds.Container n w.seen) capacity_from under.history;
+            ran = ran_base w under.ran;
             all = λ whole. under.all (subst IsAll under.share whole);
           }
 

@@ -10,11 +10,12 @@ use Rattle.model.specs.declared.families.container.calls.LookOf.TheVariants as w
 use Rattle.model.specs.declared.turn.Kind.TheVariants as kinds
 use Rattle.model.specs.Progress.{Guarantee, WaitFree, ObstructionFree, guarantee_of}
 use Rattle.history.proofs.Containers.{container_pays}
+use Rattle.history.proofs.OneRun.{continues_further}
 use Rattle.history.proofs.Paid.{AllowsOne, TakesBy, takes}
 use Rattle.lock_free_owners.specs.Container.RecoverTurns.{Visiting, RecoverEnds, recovering}
 use Rattle.lock_free_owners.specs.Container.Steps.{one_if_some, to_settle, TakesFew, ContainerTakes, RemoveTakes, RecoverTakes, LookTakes}
 use Rattle.lock_free_owners.specs.Container.Turns.{AddEnds, RemoveEnds, ReplaceEnds, CountEnds, LockEnds}
-use Rattle.lock_free_owners.proofs.ContainerSet.Began.{idle_from, capacity_from}
+use Rattle.lock_free_owners.proofs.ContainerSet.Began.{idle_from, capacity_from, settled_ran}
 
 -- what a guarantee says of a call of a pass
 abbrev pub TakesThen : {T : Type 0} → Coding T → ℕ → Guarantee → View T → View T → Type 0
@@ -37,9 +38,7 @@ module _ {T : Type 0} (code : Coding T) (base from : View T) (settled : SettledF
   takes_then capacity (WaitFree most) w h = more w.asked from.asked most base.asked (to_settle base) h (settling settled)
   takes_then capacity (ObstructionFree alone retry) w h =
       record {
-        trace = h.trace;
-        run = h.run;
-        seen = h.seen;
+        ran = continues_further code kinds.Container capacity base from w (settled_ran code base from settled settled) h.ran;
         party = h.party;
         mine = h.mine;
         progress = h.progress;

@@ -26,6 +26,7 @@ use Rattle.lock_free_owners.specs.Robust.Steps.{SetTakes, ReleaseTakes, RecoverT
 use Rattle.lock_free_owners.proofs.RobustSet.Asking.{visits_none}
 use Rattle.lock_free_owners.proofs.RobustSet.Sound.{sound_history}
 use Rattle.history.proofs.Known.{begins_further}
+use Rattle.history.proofs.OneRun.{continues_further}
 use Rattle.history.proofs.Locks.{lock_stays, not_locked}
 use Rattle.lock_free_owners.proofs.RobustSet.Events.{find_own}
 
@@ -253,6 +254,7 @@ looks_after capacity base v w first looks =
       share = next.share ∙ first.share;
       since = begins_further _ _ _ first.since next.since;
       history = next.history;
+      ran = continues_further one_word kinds.Robust capacity base v w first.ran.first next.ran;
       all = next.all;
     }
 

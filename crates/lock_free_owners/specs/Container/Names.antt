@@ -13,7 +13,7 @@ use Rattle.threaded.specs.Seats.{home_id}
 use Rattle.threaded.specs.Sets.{SetId}
 use Rattle.threaded.specs.declared.share.Share.{Share}
 use Rattle.history.specs.declared.view.View.{View}
-use Rattle.history.specs.History.{IsHistory}
+use Rattle.history.specs.History.{IsHistory, Knows}
 use Rattle.history.specs.Passes as passes
 use Rattle.history.specs.ContainerLooks.{KeepsState}
 use Rattle.lock_free_owners.specs.Container.Contracts.{HasJoined}
@@ -111,6 +111,7 @@ module _ {T : Type 0} {words : Ghosts T} where
     pub joined : HasJoined (code_of old) (view old) (view other) (view new)
     pub keeps : KeepsState (view old) (view new)
     pub history : HasHistory new
+    pub knows : Knows (code_of new) kinds.Container (container_of new).capacity (view new)
     pub all : MissesNothing new
 
 module _ {T : Type 0} {CAPACITY : ℕ} where

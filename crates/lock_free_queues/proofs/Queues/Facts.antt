@@ -332,6 +332,7 @@ module _ {T : Type 0} (code : Coding T) (kind : Kind) where
           share = ends.share;
           since = later_than ends.party ends.wrote (Finished ends.party call.start (call.answer e m) ∷ []) ends.since;
           history = ends.history;
+          ran = ends.ran;
           all = λ whole. ends.all (subst IsAll ends.share whole);
         }
 

@@ -24,7 +24,10 @@ use Rattle.laws_queues.proofs.Queues.Stages.{asked_place}
 use Rattle.history.proofs.Alone as alone
 use Rattle.history.proofs.ValueOpened.{mix, mix_step}
 use Rattle.lock_free_queues.specs.Queues.Contracts.{push_of, popped_item}
-use Rattle.lock_free_queues.specs.Queues.Opened.{pushed_once, popped_once, rounds, opened, position_at, opened_view, opened_with}
+use Rattle.model.specs.declared.turn.Turn.{Turn}
+use Rattle.model.specs.declared.turn.Turn.TheVariants.{Begin, Next}
+use Rattle.lock_free_queues.specs.Queues.Opened.{pushed_once, popped_once, rounds, opened, position_at, opened_view}
+use Rattle.lock_free_queues.specs.Queues.Opened.{opened_with, then_next, moved_turns, round_turns, opened_turns}
 use Rattle.lock_free_queues.proofs.Queues.Grants.{after_push, has_it, quiet_true}
 use Rattle.lock_free_queues.proofs.Queues.Tests.{not_last, some_cells, not_full, one_apart, at_last, before_last, not_below, none_used}
 use Rattle.lock_free_queues.proofs.Queues.Filled.{filled, filled_length, filled_there, filled_again}
@@ -67,22 +70,23 @@ module _ {T : Type 0} (code : Coding T) (law : IsCoding code) (r : Ring) (v : Va
   owes : MachineLaws code kind capacity (4 + size * capacity) effects
   owes = machine_laws code kind capacity (4 + size * capacity) (queue_effects code) (ring_owes code capacity r)
 
-  abbrev Here : List ℕ → List (Event T) → Option (Start T × Flight T) → Type 0
+  abbrev Here : List ℕ → List (Turn T) → List (Event T) → Option (Start T × Flight T) → Type 0
   Here = alone.Here code kind capacity (4 + size * capacity) effects owes
 
-  abbrev maker : List (Event T) → View T
+  abbrev maker : List (Turn T) → List (Event T) → View T
   maker = alone.maker code kind capacity (4 + size * capacity) effects owes
 
-  sums : (words : List ℕ) (es : List (Event T)) → (h : Here words es None) → (f : Event T → ℕ) → sum_by f es ≡ sum_by (owned same_seat 0 f) h.u.events
-  sums words es h = alone.sums code kind capacity (4 + size * capacity) effects owes words es None h
+  sums : (words : List ℕ) (ts : List (Turn T)) (es : List (Event T)) → (h : Here words ts es None)
+      → (f : Event T → ℕ) → sum_by f es ≡ sum_by (owned same_seat 0 f) h.u.events
+  sums words ts es h = alone.sums code kind capacity (4 + size * capacity) effects owes words ts es None h
 
   -- the positions and the roles, and the cells
   abbrev words_at : ℕ → ℕ → ℕ → ℕ → List ℕ → List ℕ
   words_at write read producer consumer cells = write ∷ read ∷ producer ∷ consumer ∷ (cells ++ 0 ∷ [])
 
-  starts : Here (words_at 0 0 1 1 (replicate (size * capacity) 0)) [] None
+  starts : Here (words_at 0 0 1 1 (replicate (size * capacity) 0)) [] [] None
   starts =
-      subst (λ zs. Here (zs ++ 0 ∷ []) [] None) (opens_with code capacity r)
+      subst (λ zs. Here (zs ++ 0 ∷ []) [] [] None) (opens_with code capacity r)
       (alone.opens_here code kind capacity (4 + size * capacity) effects owes law (admits code capacity r small))
 
   -- the calls as those of a pass
@@ -115,16 +119,16 @@ module _ {T : Type 0} (code : Coding T) (law : IsCoding code) (r : Ring) (v : Va
       }
 
   -- a step that goes on
-  step : (words : List ℕ) (es : List (Event T)) (start : Start T) (flight next : Flight T) (a : Ask)
-      → Here words es (Some (start, flight)) → a.word < 4 + size * capacity → want_of code flight ≡ wants.Ask a
+  step : (words : List ℕ) (ts : List (Turn T)) (es : List (Event T)) (start : Start T) (flight next : Flight T) (a : Ask)
+      → Here words ts es (Some (start, flight)) → a.word < 4 + size * capacity → want_of code flight ≡ wants.Ask a
       → IsFreshCall (slice_index words a.word) flight → (words' : List ℕ)
       → slice_set words a.word (written a.op (slice_index words a.word)) ≡ words'
-      → GoesOn code capacity flight next (slice_index words a.word) → Here words' es (Some (start, next))
-  step words es start flight next a h low asks finds words' same goes =
-      alone.goes_on code kind capacity (4 + size * capacity) effects owes words es start flight h a low asks finds
+      → GoesOn code capacity flight next (slice_index words a.word) → Here words' (ts ++ Next 0 ∷ []) es (Some (start, next))
+  step words ts es start flight next a h low asks finds words' same goes =
+      alone.goes_on code kind capacity (4 + size * capacity) effects owes words ts es start flight h a low asks finds
       words' next same goes.comes goes.quiet
 
-  module _ (room : 0 < capacity) (n : ℕ) (below_end : n < 2 ^ 64 - 1) (es : List (Event T)) where
+  module _ (room : 0 < capacity) (n : ℕ) (below_end : n < 2 ^ 64 - 1) (ts : List (Turn T)) (es : List (Event T)) where
     none : (capacity == 0) ≡ false
     none = some_cells capacity room
 
@@ -162,54 +166,58 @@ module _ {T : Type 0} (code : Coding T) (law : IsCoding code) (r : Ring) (v : Va
       word_low : (k : ℕ) → k < size → word_at cell k < 4 + size * capacity
       word_low k below = (let is = place_is k below in let inside = place_low k below in omega arith)
 
-      fills : (xs : List (Event T)) (rest k : ℕ) → k + suc rest ≡ size → Here (now k) xs (Some (name, storing k))
-          → Here (now size) xs (Some (name, pushing r v capacity (pushes.TheVariants.StoresWrite n)))
-      fills xs zero k sum h =
+      fills : (us : List (Turn T)) (xs : List (Event T)) (rest k : ℕ) → k + suc rest ≡ size → Here (now k) us xs (Some (name, storing k))
+          → Here (now size) (then_next us (suc rest)) xs (Some (name, pushing r v capacity (pushes.TheVariants.StoresWrite n)))
+      fills us xs zero k sum h =
           let t = at_last k size (omega arith) in
           let same : suc k ≡ size = omega arith in
-          subst (λ m. Here (now m) xs (Some (name, pushing r v capacity (pushes.TheVariants.StoresWrite n)))) same
-          (step (now k) xs name (storing k) (pushing r v capacity (pushes.TheVariants.StoresWrite n))
+          subst (λ m. Here (now m) (us ++ Next 0 ∷ []) xs (Some (name, pushing r v capacity (pushes.TheVariants.StoresWrite n)))) same
+          (step (now k) us xs name (storing k) (pushing r v capacity (pushes.TheVariants.StoresWrite n))
           (record { word = word_at cell k; op = Store (get_or ws k 0) }) h (word_low k (omega arith))
           (push_wants code capacity r v (pushes.TheVariants.StoresCell n cell k))
           (push_fresh code capacity r v (slice_index (now k) (word_at cell k)) (pushes.TheVariants.StoresCell n cell k) tt)
           (now (suc k)) (stored k (omega arith))
           (push_stores_last code capacity r v n cell k (slice_index (now k) (word_at cell k)) t))
-      fills xs (suc rest) k sum h =
+      fills us xs (suc rest) k sum h =
           let t = before_last k size (omega arith) in
           let same : k + 1 ≡ suc k = omega arith in
-          fills xs rest (suc k) (omega arith) (subst (λ m. Here (now (suc k)) xs (Some (name, storing m))) same
-          (step (now k) xs name (storing k) (storing (k + 1))
+          fills (us ++ Next 0 ∷ []) xs rest (suc k) (omega arith) (subst (λ m. Here (now (suc k)) (us ++ Next 0 ∷ []) xs (Some (name, storing m))) same
+          (step (now k) us xs name (storing k) (storing (k + 1))
           (record { word = word_at cell k; op = Store (get_or ws k 0) }) h (word_low k (omega arith))
           (push_wants code capacity r v (pushes.TheVariants.StoresCell n cell k))
           (push_fresh code capacity r v (slice_index (now k) (word_at cell k)) (pushes.TheVariants.StoresCell n cell k) tt)
           (now (suc k)) (stored k (omega arith))
           (push_stores_cell code capacity r v n cell k (slice_index (now k) (word_at cell k)) t)))
 
-      pushed : HasRole Producer es → Here (now 0) es None → Here (words_at (n + 1) n 0 0 (cells size)) (es ++ pushed_once (Truth true) it) None
+      pushed : HasRole Producer es → Here (now 0) ts es None
+          → Here (words_at (n + 1) n 0 0 (cells size)) (moved_turns size name ts) (es ++ pushed_once (Truth true) it) None
       pushed has h =
           let xs = es ++ Begun 0 name ∷ [] in
+          let ts1 = ts ++ Begin 0 name ∷ [] in
+          let ts2 = ts1 ++ Next 0 ∷ [] in
+          let ts3 = ts2 ++ Next 0 ∷ [] in
           let a =
           alone.begins code kind capacity (4 + size * capacity) effects owes push_call (first_push capacity) tt
-          (now 0) es h
-          (role_starts code (kind_of r) (maker es) push_call (push_of it) (first_push capacity) tt refl
+          (now 0) ts es h
+          (role_starts code (kind_of r) (maker ts es) push_call (push_of it) (first_push capacity) tt refl
           (λ kept. push_named code capacity r v kept) Producer (λ o p. tt)
           (λ roles p is. push_lacks code capacity r v roles p is) has h.u same_seat 0 h.between.run refl refl
-          (sums (now 0) es h)) in
+          (sums (now 0) ts es h)) in
           let b =
-          step (now 0) xs name (pushing r v capacity pushes.TheVariants.LoadsWrite)
+          step (now 0) ts1 xs name (pushing r v capacity pushes.TheVariants.LoadsWrite)
           (pushing r v capacity (pushes.TheVariants.LoadsRead n)) (record { word = 0; op = Load }) a (omega arith)
           (push_wants code capacity r v pushes.TheVariants.LoadsWrite)
           (push_fresh code capacity r v n pushes.TheVariants.LoadsWrite below_end) (now 0) refl
           (push_loads_write code capacity r v n (not_last n below_end)) in
           let c =
-          step (now 0) xs name (pushing r v capacity (pushes.TheVariants.LoadsRead n)) (storing 0)
+          step (now 0) ts2 xs name (pushing r v capacity (pushes.TheVariants.LoadsRead n)) (storing 0)
           (record { word = 1; op = Load }) b (omega arith)
           (push_wants code capacity r v (pushes.TheVariants.LoadsRead n))
           (push_fresh code capacity r v n (pushes.TheVariants.LoadsRead n) tt) (now 0) refl
           (push_loads_read code capacity r v n none (not_full n capacity (omega arith) room)) in
-          let d = fills xs (size - 1) 0 (let one = some in omega arith) c in
+          let d = fills ts3 xs (size - 1) 0 (let one = some in omega arith) c in
           let e =
-          alone.ends code kind capacity (4 + size * capacity) effects owes (now size) xs name
+          alone.ends code kind capacity (4 + size * capacity) effects owes (now size) (then_next ts3 (suc (size - 1))) xs name
           (pushing r v capacity (pushes.TheVariants.StoresWrite n)) d
           (record { word = 0; op = Store (after_position n) }) (omega arith)
           (push_wants code capacity r v (pushes.TheVariants.StoresWrite n))
@@ -217,7 +225,8 @@ module _ {T : Type 0} (code : Coding T) (law : IsCoding code) (r : Ring) (v : Va
           (words_at (n + 1) n 0 0 (cells size)) (Truth true) (wrote_by_push code capacity it)
           (ap (λ k. words_at k n 0 0 (cells size)) next_is) (push_ends code capacity r v n n)
           (push_tells code capacity r v n n) (refl, (refl, tt)) in
-          subst (λ zs. Here (words_at (n + 1) n 0 0 (cells size)) zs None) (append_assoc es (Begun 0 name ∷ []) (events_of_push code capacity it)) e
+          subst (λ zs. Here (words_at (n + 1) n 0 0 (cells size)) (moved_turns size name ts) zs None)
+          (append_assoc es (Begun 0 name ∷ []) (events_of_push code capacity it)) e
 
     -- ---- the pop of what it pushed
 
@@ -268,30 +277,33 @@ module _ {T : Type 0} (code : Coding T) (law : IsCoding code) (r : Ring) (v : Va
       then_low : (k : ℕ) → k < size → word_at cell k < 4 + size * capacity
       then_low k below = (let is = place_is k below in let inside = place_low k below in omega arith)
 
-      loads : (xs : List (Event T)) (rest k : ℕ) → k + suc rest ≡ size → Here then xs (Some (Queues Pop, loading k)) → Here then xs (Some (Queues Pop, last_of))
-      loads xs zero k sum h =
+      loads : (us : List (Turn T)) (xs : List (Event T)) (rest k : ℕ) → k + suc rest ≡ size → Here then us xs (Some (Queues Pop, loading k))
+          → Here then (then_next us (suc rest)) xs (Some (Queues Pop, last_of))
+      loads us xs zero k sum h =
           let t = at_last k size (omega arith) in
           let same : suc k ≡ size = omega arith in
           let below : k < size = omega arith in
-          subst (λ m. Here then xs (Some (Queues Pop, popping r capacity (pops.TheVariants.StoresRead n) (room_at m)))) same
-          (subst (λ w. Here then xs (Some (Queues Pop, popping r capacity (pops.TheVariants.StoresRead n) (with_word r (room_at k) k w)))) (found_is k below)
-          (step then xs (Queues Pop) (loading k)
+          subst (λ m. Here then (us ++ Next 0 ∷ []) xs (Some (Queues Pop, popping r capacity (pops.TheVariants.StoresRead n) (room_at m)))) same
+          (subst (λ w. Here then (us ++ Next 0 ∷ []) xs
+          (Some (Queues Pop, popping r capacity (pops.TheVariants.StoresRead n) (with_word r (room_at k) k w))))
+          (found_is k below)
+          (step then us xs (Queues Pop) (loading k)
           (popping r capacity (pops.TheVariants.StoresRead n) (with_word r (room_at k) k (slice_index then (word_at cell k))))
           (record { word = word_at cell k; op = Load }) h (then_low k below)
           (pop_wants code capacity r (pops.TheVariants.LoadsCell n cell k) (room_at k))
           (pop_fresh code capacity r (slice_index then (word_at cell k)) (pops.TheVariants.LoadsCell n cell k) (room_at k))
           then (set_same then (word_at cell k))
           (pop_loads_last code capacity r n cell k (slice_index then (word_at cell k)) (room_at k) t)))
-      loads xs (suc rest) k sum h =
+      loads us xs (suc rest) k sum h =
           let t = before_last k size (omega arith) in
           let same : k + 1 ≡ suc k = omega arith in
           let below : k < size = omega arith in
-          loads xs rest (suc k) (omega arith)
-          (subst (λ m. Here then xs (Some (Queues Pop, popping r capacity (pops.TheVariants.LoadsCell n cell m) (room_at (suc k))))) same
-          (subst (λ w. Here then xs
+          loads (us ++ Next 0 ∷ []) xs rest (suc k) (omega arith)
+          (subst (λ m. Here then (us ++ Next 0 ∷ []) xs (Some (Queues Pop, popping r capacity (pops.TheVariants.LoadsCell n cell m) (room_at (suc k))))) same
+          (subst (λ w. Here then (us ++ Next 0 ∷ []) xs
           (Some (Queues Pop, popping r capacity (pops.TheVariants.LoadsCell n cell (k + 1)) (with_word r (room_at k) k w))))
           (found_is k below)
-          (step then xs (Queues Pop) (loading k)
+          (step then us xs (Queues Pop) (loading k)
           (popping r capacity (pops.TheVariants.LoadsCell n cell (k + 1))
           (with_word r (room_at k) k (slice_index then (word_at cell k))))
           (record { word = word_at cell k; op = Load }) h (then_low k below)
@@ -300,37 +312,42 @@ module _ {T : Type 0} (code : Coding T) (law : IsCoding code) (r : Ring) (v : Va
           then (set_same then (word_at cell k))
           (pop_loads_cell code capacity r n cell k (slice_index then (word_at cell k)) (room_at k) t))))
 
-      popped : HasRole Consumer es → Here then es None → Here (words_at (n + 1) (n + 1) 0 0 cells) (es ++ popped_once it) None
+      popped : HasRole Consumer es → Here then ts es None
+          → Here (words_at (n + 1) (n + 1) 0 0 cells) (moved_turns size (Queues Pop) ts) (es ++ popped_once it) None
       popped role h =
           let xs = es ++ Begun 0 (Queues Pop) ∷ [] in
+          let ts1 = ts ++ Begin 0 (Queues Pop) ∷ [] in
+          let ts2 = ts1 ++ Next 0 ∷ [] in
+          let ts3 = ts2 ++ Next 0 ∷ [] in
           let a =
           alone.begins code kind capacity (4 + size * capacity) effects owes pop_call (first_pop capacity) (fresh r)
-          then es h
-          (role_starts code (kind_of r) (maker es) pop_call Pop (first_pop capacity) (fresh r) refl
+          then ts es h
+          (role_starts code (kind_of r) (maker ts es) pop_call Pop (first_pop capacity) (fresh r) refl
           (λ kept. pop_named code capacity r kept) Consumer (λ o p. tt) (λ roles p is. holds_it roles.consumer p is)
-          role h.u same_seat 0 h.between.run refl refl (sums then es h)) in
+          role h.u same_seat 0 h.between.run refl refl (sums then ts es h)) in
           let b =
-          step then xs (Queues Pop) (popping r capacity pops.TheVariants.LoadsRead (room_at 0))
+          step then ts1 xs (Queues Pop) (popping r capacity pops.TheVariants.LoadsRead (room_at 0))
           (popping r capacity (pops.TheVariants.LoadsWrite n) (room_at 0)) (record { word = 1; op = Load }) a
           (omega arith) (pop_wants code capacity r pops.TheVariants.LoadsRead (room_at 0))
           (pop_fresh code capacity r n pops.TheVariants.LoadsRead (room_at 0)) then refl
           (pop_loads_read code capacity r n (room_at 0)) in
           let c =
-          step then xs (Queues Pop) (popping r capacity (pops.TheVariants.LoadsWrite n) (room_at 0)) (loading 0)
+          step then ts2 xs (Queues Pop) (popping r capacity (pops.TheVariants.LoadsWrite n) (room_at 0)) (loading 0)
           (record { word = 0; op = Load }) b (omega arith)
           (pop_wants code capacity r (pops.TheVariants.LoadsWrite n) (room_at 0))
           (pop_fresh code capacity r (n + 1) (pops.TheVariants.LoadsWrite n) (room_at 0)) then refl
           (pop_loads_write code capacity r n (n + 1) (room_at 0) none (one_apart n)) in
-          let d = loads xs (size - 1) 0 (let one = some in omega arith) c in
+          let d = loads ts3 xs (size - 1) 0 (let one = some in omega arith) c in
           let e =
-          alone.ends code kind capacity (4 + size * capacity) effects owes then xs (Queues Pop) last_of d
+          alone.ends code kind capacity (4 + size * capacity) effects owes then (then_next ts3 (suc (size - 1))) xs (Queues Pop) last_of d
           (record { word = 1; op = Store (after_position n) }) (omega arith)
           (pop_wants code capacity r (pops.TheVariants.StoresRead n) (room_at size))
           (pop_fresh code capacity r n (pops.TheVariants.StoresRead n) (room_at size))
           (words_at (n + 1) (n + 1) 0 0 cells) (popped_item (Some it)) (wrote_by_pop code capacity it)
           (ap (λ k. words_at (n + 1) k 0 0 cells) next_is) (pop_ends code capacity r v n n (room_at size) reads_it)
           (pop_tells code capacity r v n n (room_at size) reads_it) (refl, (refl, tt)) in
-          subst (λ zs. Here (words_at (n + 1) (n + 1) 0 0 cells) zs None) (append_assoc es (Begun 0 (Queues Pop) ∷ []) (events_of_pop code capacity it)) e
+          subst (λ zs. Here (words_at (n + 1) (n + 1) 0 0 cells) (moved_turns size (Queues Pop) ts) zs None)
+          (append_assoc es (Begun 0 (Queues Pop) ∷ []) (events_of_pop code capacity it)) e
 
   quiet_roles : QuietRoles effects
   quiet_roles x0 = grind arith
@@ -340,33 +357,36 @@ module _ {T : Type 0} (code : Coding T) (law : IsCoding code) (r : Ring) (v : Va
   abbrev cells_at : ℕ → List ℕ
   cells_at n = filled ws size capacity (size * min n capacity)
 
+  abbrev took : ℕ → List (Turn T)
+  took n = round_turns size it n
+
   -- a round, in which the push writes so
   round : (n : ℕ) → (room : 0 < capacity) → n < 2 ^ 64 - 1 → (cells : ℕ → List ℕ)
       → ((k : ℕ) → length (cells k) ≡ size * capacity)
       → ((k : ℕ) → k < size → set (cells k) (size * (n % capacity) + k) (get_or ws k 0) ≡ cells (suc k))
       → ((k : ℕ) → k < size → get_or (cells size) (size * (n % capacity) + k) 0 ≡ get_or ws k 0)
-      → Here (words_at n n 0 0 (cells 0)) (rounds (Truth true) it n) None
-      → Here (words_at (suc n) (suc n) 0 0 (cells size)) (rounds (Truth true) it (suc n)) None
+      → Here (words_at n n 0 0 (cells 0)) (took n) (rounds (Truth true) it n) None
+      → Here (words_at (suc n) (suc n) 0 0 (cells size)) (took (suc n)) (rounds (Truth true) it (suc n)) None
   round n room low cells long put has h =
-      let a = pushed room n low (rounds (Truth true) it n) cells long put (has_it (Truth true) quiet_true it n Producer) h in
+      let a = pushed room n low (took n) (rounds (Truth true) it n) cells long put (has_it (Truth true) quiet_true it n Producer) h in
       let b =
-      popped room n low (rounds (Truth true) it n ++ pushed_once (Truth true) it) (cells size) (long size) has
+      popped room n low (moved_turns size (Queues (push_of it)) (took n)) (rounds (Truth true) it n ++ pushed_once (Truth true) it) (cells size) (long size) has
       (after_push (Truth true) quiet_true Consumer it (rounds (Truth true) it n) (has_it (Truth true) quiet_true it n Consumer))
       a in
       let same : n + 1 ≡ suc n = omega arith in
-      subst (λ k. Here (words_at k k 0 0 (cells size)) (rounds (Truth true) it (suc n)) None) same
-      (subst (λ zs. Here (words_at (n + 1) (n + 1) 0 0 (cells size)) zs None)
+      subst (λ k. Here (words_at k k 0 0 (cells size)) (took (suc n)) (rounds (Truth true) it (suc n)) None) same
+      (subst (λ zs. Here (words_at (n + 1) (n + 1) 0 0 (cells size)) (took (suc n)) zs None)
       (append_assoc (rounds (Truth true) it n) (pushed_once (Truth true) it) (popped_once it)) b)
 
   rank : (q k : ℕ) → k < size → (size * q + k) % size ≡ k
   rank q k below = mul-add-mod_self_left size q k ∙ mod-eq_of_lt below
 
-  driven : (n : ℕ) → 0 < capacity → n < 2 ^ 64 → Here (words_at n n 0 0 (cells_at n)) (rounds (Truth true) it n) None
+  driven : (n : ℕ) → 0 < capacity → n < 2 ^ 64 → Here (words_at n n 0 0 (cells_at n)) (took n) (rounds (Truth true) it n) None
   driven zero room low =
       let a =
       takes_both code (kind_of r) capacity (4 + size * capacity) effects owes (omega arith) quiet_roles 0 0
       (replicate (size * capacity) 0 ++ 0 ∷ []) starts in
-      subst (λ m. Here (words_at 0 0 0 0 (filled ws size capacity m)) (rounds (Truth true) it zero) None) (sym (none_used size capacity)) a
+      subst (λ m. Here (words_at 0 0 0 0 (filled ws size capacity m)) (took zero) (rounds (Truth true) it zero) None) (sym (none_used size capacity)) a
   driven (suc n) room low =
       let h = driven n room (omega arith) in
       ⊎_elim (λ (early : n < capacity).
@@ -381,7 +401,7 @@ module _ {T : Type 0} (code : Coding T) (law : IsCoding code) (r : Ring) (v : Va
       (let both : size * (n + 1) ≡ size * n + size = omega arith in
       let low' : size * (n + 1) ≤ size * capacity = mul-le-mul_left size (omega arith) in
       omega arith) in
-      subst (λ m. Here (words_at (suc n) (suc n) 0 0 (filled ws size capacity m)) (rounds (Truth true) it (suc n)) None) end
+      subst (λ m. Here (words_at (suc n) (suc n) 0 0 (filled ws size capacity m)) (took (suc n)) (rounds (Truth true) it (suc n)) None) end
       (round n room (omega arith) cells (λ k. filled_length ws size capacity (size * n + k))
       (λ k below.
       let next : suc (size * n + k) ≡ size * n + suc k = omega arith in
@@ -389,57 +409,61 @@ module _ {T : Type 0} (code : Coding T) (law : IsCoding code) (r : Ring) (v : Va
       ∙ (ap (λ i. set (cells k) (size * n + k) (get_or ws i 0)) (sym (rank n k below)) ∙ ap (filled ws size capacity) next))
       (λ k below. ap (λ q. get_or (cells size) (size * q + k) 0) here
       ∙ (filled_there ws size capacity (size * n + size) (size * n + k) (omega arith) up_to ∙ ap (λ i. get_or ws i 0) (rank n k below)))
-      (subst (λ m. Here (words_at n n 0 0 (filled ws size capacity m)) (rounds (Truth true) it n) None) start h)))
+      (subst (λ m. Here (words_at n n 0 0 (filled ws size capacity m)) (took n) (rounds (Truth true) it n) None) start h)))
       (λ (late : capacity ≤ n).
       let all : min n capacity ≡ capacity = omega arith in
       let all_later : min (suc n) capacity ≡ capacity = omega arith in
       let cells : ℕ → List ℕ = λ k. filled ws size capacity (size * capacity) in
-      subst (λ m. Here (words_at (suc n) (suc n) 0 0 (filled ws size capacity (size * m))) (rounds (Truth true) it (suc n)) None) (sym all_later)
+      subst (λ m. Here (words_at (suc n) (suc n) 0 0 (filled ws size capacity (size * m))) (took (suc n)) (rounds (Truth true) it (suc n)) None) (sym all_later)
       (round n room (omega arith) cells (λ k. filled_length ws size capacity (size * capacity))
       (λ k below. ap (λ i. set (cells k) (size * (n % capacity) + k) (get_or ws i 0)) (sym (rank (n % capacity) k below))
       ∙ filled_again ws size capacity (size * (n % capacity) + k) (cell_within size capacity n k room below))
       (λ k below. filled_there ws size capacity (size * capacity) (size * (n % capacity) + k)
       (cell_within size capacity n k room below) (omega arith)
       ∙ ap (λ i. get_or ws i 0) (rank (n % capacity) k below))
-      (subst (λ m. Here (words_at n n 0 0 (filled ws size capacity (size * m))) (rounds (Truth true) it n) None) all h)))
+      (subst (λ m. Here (words_at n n 0 0 (filled ws size capacity (size * m))) (took n) (rounds (Truth true) it n) None) all h)))
       (cases_lt n capacity)
 
-  opens_at : (n : ℕ) → 0 < capacity → n < 2 ^ 64 → IsMachine code kind capacity (opening (words_at n n 1 1 (cells_at n)) [] (maker (opened (Truth true) it n)))
+  opens_at : (n : ℕ) → 0 < capacity → n < 2 ^ 64
+      → IsMachine code kind capacity
+      (opening (words_at n n 1 1 (cells_at n)) [] (maker (opened_turns size it n) (opened (Truth true) it n)))
   opens_at zero room low =
       let nothing = none_used size capacity in
-      subst (λ m. IsMachine code kind capacity (opening (words_at 0 0 1 1 (filled ws size capacity m)) [] (maker []))) (sym nothing)
-      (alone.opens_so code kind capacity (4 + size * capacity) effects owes (words_at 0 0 1 1 (replicate (size * capacity) 0)) [] starts)
+      subst (λ m. IsMachine code kind capacity (opening (words_at 0 0 1 1 (filled ws size capacity m)) [] (maker [] []))) (sym nothing)
+      (alone.opens_so code kind capacity (4 + size * capacity) effects owes (words_at 0 0 1 1 (replicate (size * capacity) 0)) [] [] starts)
   opens_at (suc n) room low =
       let k = suc n in
-      alone.opens_so code kind capacity (4 + size * capacity) effects owes (words_at k k 1 1 (cells_at k)) (opened (Truth true) it k)
+      alone.opens_so code kind capacity (4 + size * capacity) effects owes (words_at k k 1 1 (cells_at k)) (opened_turns size it k) (opened (Truth true) it k)
       (gives_both code (kind_of r) capacity (4 + size * capacity) effects owes (omega arith) quiet_roles k k
-      (cells_at k ++ 0 ∷ []) (rounds (Truth true) it k) (has_it (Truth true) quiet_true it k) (driven k room low))
+      (cells_at k ++ 0 ∷ []) (took k) (rounds (Truth true) it k) (has_it (Truth true) quiet_true it k) (driven k room low))
 
   -- a queue opens so, at any position
   pub queue_opens : (position : ℕ) → position < 2 ^ 64 → (words : List ℕ)
       → words ≡ position_at capacity position ∷ position_at capacity position ∷ 1 ∷ 1 ∷ (cells_at position ++ 0 ∷ [])
-      → IsMachine code kind capacity (opening words [] (opened_view it capacity position))
+      → IsMachine code kind capacity (opening words [] (opened_view size it capacity position))
   queue_opens position low words same =
-      subst (λ ys. IsMachine code kind capacity (opening ys [] (opened_view it capacity position))) (sym same) (go capacity refl)
+      subst (λ ys. IsMachine code kind capacity (opening ys [] (opened_view size it capacity position))) (sym same) (go capacity refl)
     where
       go : (c : ℕ) → c ≡ capacity
           → IsMachine code kind capacity
           (opening (words_at (position_at capacity position) (position_at capacity position) 1 1 (cells_at position)) []
-          (opened_view it capacity position))
+          (opened_view size it capacity position))
       go zero e =
           let without : min position capacity ≡ 0 = omega arith in
           let nothing : size * min position capacity ≡ 0 = ap (λ m. size * m) without ∙ omega arith in
           let start : position_at capacity position ≡ 0 = ap (λ c. position_at c position) (sym e) in
-          subst (λ p. IsMachine code kind capacity (opening (words_at p p 1 1 (cells_at position)) [] (maker (opened (Truth true) it p)))) (sym start)
-          (subst (λ m. IsMachine code kind capacity (opening (words_at 0 0 1 1 (filled ws size capacity m)) [] (maker []))) (sym nothing)
-          (alone.opens_so code kind capacity (4 + size * capacity) effects owes (words_at 0 0 1 1 (replicate (size * capacity) 0)) [] starts))
+          subst (λ p. IsMachine code kind capacity
+          (opening (words_at p p 1 1 (cells_at position)) [] (maker (opened_turns size it p) (opened (Truth true) it p))))
+          (sym start)
+          (subst (λ m. IsMachine code kind capacity (opening (words_at 0 0 1 1 (filled ws size capacity m)) [] (maker [] []))) (sym nothing)
+          (alone.opens_so code kind capacity (4 + size * capacity) effects owes (words_at 0 0 1 1 (replicate (size * capacity) 0)) [] [] starts))
       go (suc less) e =
           let start : position_at capacity position ≡ position = ap (λ c. position_at c position) (sym e) in
           subst
-          (λ p. IsMachine code kind capacity (opening (words_at p p 1 1 (cells_at position)) [] (maker (opened (Truth true) it p))))
+          (λ p. IsMachine code kind capacity (opening (words_at p p 1 1 (cells_at position)) [] (maker (opened_turns size it p) (opened (Truth true) it p))))
           (sym start) (opens_at position (omega arith) low)
 
 -- at position 0 nothing was done
-pub opens_at_first : {T : Type 0} (answer : Answer T) (x : Item T) (capacity : ℕ) → opened_with answer x capacity 0 ≡ first_view capacity
-opens_at_first answer x zero = refl
-opens_at_first answer x (suc less) = refl
+pub opens_at_first : {T : Type 0} (words : ℕ) (answer : Answer T) (x : Item T) (capacity : ℕ) → opened_with words answer x capacity 0 ≡ first_view capacity
+opens_at_first words answer x zero = refl
+opens_at_first words answer x (suc less) = refl

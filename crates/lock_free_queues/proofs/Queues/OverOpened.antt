@@ -22,7 +22,10 @@ use Rattle.model.specs.declared.families.queues.calls.QueueFlight as flying
 use Rattle.model.specs.declared.turn.Kind.TheVariants as kinds
 use Rattle.laws_queues.proofs.Queues.Core as core
 use Rattle.history.proofs.Alone as alone
-use Rattle.lock_free_queues.specs.Queues.Opened.{pushed_once, popped_once, rounds, opened, position_at, over_opened_view}
+use Rattle.model.specs.declared.turn.Turn.{Turn}
+use Rattle.model.specs.declared.turn.Turn.TheVariants.{Begin, Next}
+use Rattle.lock_free_queues.specs.Queues.Opened.{pushed_once, popped_once, rounds, opened, position_at}
+use Rattle.lock_free_queues.specs.Queues.Opened.{over_opened_view, moved_turns, round_turns, opened_turns}
 use Rattle.lock_free_queues.proofs.Queues.Grants.{after_push, has_it, quiet_none}
 use Rattle.lock_free_queues.proofs.Queues.Roles.{QuietRoles, takes_both, gives_both}
 use Rattle.lock_free_queues.proofs.Queues.Tests.{not_last, some_cells, not_full, one_apart}
@@ -108,14 +111,15 @@ module _ {T : Type 0} (code : Coding T) (law : IsCoding code) (capacity : ℕ) (
   abbrev size : ℕ
   size = 4 + (capacity + 1)
 
-  abbrev Here : List ℕ → List (Event T) → Option (Start T × Flight T) → Type 0
+  abbrev Here : List ℕ → List (Turn T) → List (Event T) → Option (Start T × Flight T) → Type 0
   Here = alone.Here code kinds.Overflow capacity size over_effects (overflow_owes code capacity)
 
-  abbrev maker : List (Event T) → View T
+  abbrev maker : List (Turn T) → List (Event T) → View T
   maker = alone.maker code kinds.Overflow capacity size over_effects (overflow_owes code capacity)
 
-  sums : (words : List ℕ) (es : List (Event T)) → (h : Here words es None) → (f : Event T → ℕ) → sum_by f es ≡ sum_by (owned same_seat 0 f) h.u.events
-  sums words es h = alone.sums code kinds.Overflow capacity size over_effects (overflow_owes code capacity) words es None h
+  sums : (words : List ℕ) (ts : List (Turn T)) (es : List (Event T)) → (h : Here words ts es None)
+      → (f : Event T → ℕ) → sum_by f es ≡ sum_by (owned same_seat 0 f) h.u.events
+  sums words ts es h = alone.sums code kinds.Overflow capacity size over_effects (overflow_owes code capacity) words ts es None h
 
   -- the positions and the roles, and cells with zeros
   abbrev at : ℕ → ℕ → ℕ → ℕ → List ℕ
@@ -127,10 +131,10 @@ module _ {T : Type 0} (code : Coding T) (law : IsCoding code) (capacity : ℕ) (
   least : nat_lt capacity 0 ≡ false
   least = grind (arith, nat_tests)
 
-  starts : Here (at 0 0 1 1) [] None
+  starts : Here (at 0 0 1 1) [] [] None
   starts =
       let many : 1 * (capacity + 1) ≡ capacity + 1 = omega arith in
-      subst (λ n. Here (0 ∷ 0 ∷ 1 ∷ 1 ∷ (replicate n 0 ++ 0 ∷ [])) [] None) many
+      subst (λ n. Here (0 ∷ 0 ∷ 1 ∷ 1 ∷ (replicate n 0 ++ 0 ∷ [])) [] [] None) many
       (alone.opens_here code kinds.Overflow capacity size over_effects (overflow_owes code capacity) law (rw (most, least) refl))
 
   quiet_roles : QuietRoles {T = T} over_effects
@@ -138,18 +142,18 @@ module _ {T : Type 0} (code : Coding T) (law : IsCoding code) (capacity : ℕ) (
 
   -- ---- a step that goes on, and tells nothing
 
-  step : (words : List ℕ) (es : List (Event T)) (start : Start T) (flight next : Flight T) (a : Ask)
-      → Here words es (Some (start, flight)) → a.word < size → want_of code flight ≡ wants.Ask a
+  step : (words : List ℕ) (ts : List (Turn T)) (es : List (Event T)) (start : Start T) (flight next : Flight T) (a : Ask)
+      → Here words ts es (Some (start, flight)) → a.word < size → want_of code flight ≡ wants.Ask a
       → IsFreshCall (slice_index words a.word) flight → (words' : List ℕ)
       → slice_set words a.word (written a.op (slice_index words a.word)) ≡ words'
       → after_of code flight (slice_index words a.word) ≡ GoOn next
       → ((w : World T) → over_effects w 0 flight (slice_index words a.word) ≡ [])
-      → Here words' es (Some (start, next))
-  step words es start flight next a h low asks finds words' same comes quiet =
-      alone.goes_on code kinds.Overflow capacity size over_effects (overflow_owes code capacity) words es start flight h
+      → Here words' (ts ++ Next 0 ∷ []) es (Some (start, next))
+  step words ts es start flight next a h low asks finds words' same comes quiet =
+      alone.goes_on code kinds.Overflow capacity size over_effects (overflow_owes code capacity) words ts es start flight h
       a low asks finds words' next same comes (quiet h.u.world)
 
-  module _ (room : 0 < capacity) (n : ℕ) (below_end : n < 2 ^ 64 - 1) (es : List (Event T)) where
+  module _ (room : 0 < capacity) (n : ℕ) (below_end : n < 2 ^ 64 - 1) (ts : List (Turn T)) (es : List (Event T)) where
     some : (capacity == 0) ≡ false
     some = some_cells capacity room
 
@@ -178,38 +182,43 @@ module _ {T : Type 0} (code : Coding T) (law : IsCoding code) (capacity : ℕ) (
     abbrev events_of_push : List (Event T)
     events_of_push = Published 0 it ∷ Acted 0 push_name answers.PoppedNone ∷ Finished 0 push_name answers.PoppedNone ∷ []
 
-    pushed : HasRole Producer es → Here (at n n 0 0) es None → Here (at (n + 1) n 0 0) (es ++ pushed_once answers.PoppedNone it) None
+    pushed : HasRole Producer es → Here (at n n 0 0) ts es None
+        → Here (at (n + 1) n 0 0) (moved_turns 1 push_name ts) (es ++ pushed_once answers.PoppedNone it) None
     pushed has h =
         let xs = es ++ Begun 0 push_name ∷ [] in
+        let ts1 = ts ++ Begin 0 push_name ∷ [] in
+        let ts2 = ts1 ++ Next 0 ∷ [] in
+        let ts3 = ts2 ++ Next 0 ∷ [] in
+        let ts4 = ts3 ++ Next 0 ∷ [] in
         let last = not_last n below_end in
         let apart = not_full n capacity (omega arith) room in
         let a₀ =
         alone.begins code kinds.Overflow capacity size over_effects (overflow_owes code capacity) (pushes_over 0)
-        (first_push capacity) (record { 0 = 0 }) (at n n 0 0) es h
-        (role_starts code Overflow (maker es) (pushes_over 0) (PushIndex 0) (first_push capacity) (record { 0 = 0 })
+        (first_push capacity) (record { 0 = 0 }) (at n n 0 0) ts es h
+        (role_starts code Overflow (maker ts es) (pushes_over 0) (PushIndex 0) (first_push capacity) (record { 0 = 0 })
         refl (λ kept. refl) Producer (λ o p. tt) (λ roles p is. holds_it roles.producer p is) has h.u same_seat 0
-        h.between.run refl refl (sums (at n n 0 0) es h)) in
-        let a : Here (at n n 0 0) xs (Some (push_name, pushing capacity pushes.TheVariants.LoadsWrite)) =
-        subst (λ f. Here (at n n 0 0) xs (Some (push_name, f))) (first_pushing capacity some) a₀ in
+        h.between.run refl refl (sums (at n n 0 0) ts es h)) in
+        let a : Here (at n n 0 0) ts1 xs (Some (push_name, pushing capacity pushes.TheVariants.LoadsWrite)) =
+        subst (λ f. Here (at n n 0 0) ts1 xs (Some (push_name, f))) (first_pushing capacity some) a₀ in
         let b =
-        step (at n n 0 0) xs push_name (pushing capacity pushes.TheVariants.LoadsWrite)
+        step (at n n 0 0) ts1 xs push_name (pushing capacity pushes.TheVariants.LoadsWrite)
         (pushing capacity (pushes.TheVariants.LoadsRead n)) (record { word = 0; op = Load }) a (omega arith) refl
         below_end (at n n 0 0) refl (push_loads_write code capacity n last) (λ w. refl) in
         let c =
-        step (at n n 0 0) xs push_name (pushing capacity (pushes.TheVariants.LoadsRead n))
+        step (at n n 0 0) ts2 xs push_name (pushing capacity (pushes.TheVariants.LoadsRead n))
         (pushing capacity (pushes.TheVariants.StoresCell n n)) (record { word = 1; op = Load }) b (omega arith) refl
         tt (at n n 0 0) refl refl (λ w. refl) in
         let d =
-        step (at n n 0 0) xs push_name (pushing capacity (pushes.TheVariants.StoresCell n n))
+        step (at n n 0 0) ts3 xs push_name (pushing capacity (pushes.TheVariants.StoresCell n n))
         (pushing capacity (pushes.TheVariants.StoresWrite n n)) (record { word = cell; op = Store 0 }) c cell_low
         refl tt (at n n 0 0) (zero_stays n n) refl (λ w. refl) in
         let e =
-        alone.ends code kinds.Overflow capacity size over_effects (overflow_owes code capacity) (at n n 0 0) xs
+        alone.ends code kinds.Overflow capacity size over_effects (overflow_owes code capacity) (at n n 0 0) ts4 xs
         push_name (pushing capacity (pushes.TheVariants.StoresWrite n n)) d
         (record { word = 0; op = Store (after_position n) }) (omega arith) refl tt (at (n + 1) n 0 0)
         answers.PoppedNone (Published 0 it ∷ Acted 0 push_name answers.PoppedNone ∷ [])
         (ap (λ k. at k n 0 0) next_is) (push_ends code capacity n apart) (push_tells code capacity n apart d.u.world) (refl, (refl, tt)) in
-        subst (λ zs. Here (at (n + 1) n 0 0) zs None) (append_assoc es (Begun 0 push_name ∷ []) events_of_push) e
+        subst (λ zs. Here (at (n + 1) n 0 0) (moved_turns 1 push_name ts) zs None) (append_assoc es (Begun 0 push_name ∷ []) events_of_push) e
 
     -- ---- the pop of what it pushed
 
@@ -220,10 +229,10 @@ module _ {T : Type 0} (code : Coding T) (law : IsCoding code) (capacity : ℕ) (
     then = at (n + 1) n 0 0
 
     -- nobody's push waits beside it
-    none_beside : (xs : List (Event T)) (flight : Flight T) → (h : Here then xs (Some (pop_name, flight)))
+    none_beside : (us : List (Turn T)) (xs : List (Event T)) (flight : Flight T) → (h : Here then us xs (Some (pop_name, flight)))
         → (o : Option (ℕ × ℕ)) → beside_of h.u.world.words h.u.world.kept h.u.world.latest 0 ≡ o → o ≡ None
-    none_beside xs flight h None e = refl
-    none_beside xs flight h (Some push) e =
+    none_beside us xs flight h None e = refl
+    none_beside us xs flight h (Some push) e =
         let t = h.u in
         let s = sound_of code capacity Overflow t h.between.run in
         let waits =
@@ -235,49 +244,53 @@ module _ {T : Type 0} (code : Coding T) (law : IsCoding code) (capacity : ℕ) (
         (λ (other : push.0 ≢ 0). (let one : 1 ≤ push.0 = omega arith in let no = sym (h.between.further push.0 other one) ∙ waits.there in absurd (cc)))
         (cases_eq push.0 0)
 
-    wrote_then : (xs : List (Event T))
-        → (h : Here then xs (Some (pop_name, popping capacity (pops.TheVariants.MovesRead n))))
+    wrote_then : (us : List (Turn T)) (xs : List (Event T))
+        → (h : Here then us xs (Some (pop_name, popping capacity (pops.TheVariants.MovesRead n))))
         → over_effects h.u.world 0 (popping capacity (pops.TheVariants.MovesRead n)) n
         ≡ HandedOut 0 it ∷ Acted 0 pop_name (answers.PoppedIndex 0) ∷ []
-    wrote_then xs h =
+    wrote_then us xs h =
         let w = h.u.world in
         let long = (overflow_owes code capacity).size h.u h.between.run in
         let low = cell_low in
         let words : slice_index w.words cell ≡ 0 =
         sym (ap (λ ws. slice_index ws cell) h.between.words ∙ get_left w.words (0 ∷ []) cell (omega arith)) ∙ zero_there (n + 1) n in
         pop_tells code capacity n (same_number n) w words
-        (none_beside xs (popping capacity (pops.TheVariants.MovesRead n)) h (beside_of w.words w.kept w.latest 0) refl)
+        (none_beside us xs (popping capacity (pops.TheVariants.MovesRead n)) h (beside_of w.words w.kept w.latest 0) refl)
 
-    popped : HasRole Consumer es → Here then es None → Here (at (n + 1) (n + 1) 0 0) (es ++ popped_once it) None
+    popped : HasRole Consumer es → Here then ts es None → Here (at (n + 1) (n + 1) 0 0) (moved_turns 1 pop_name ts) (es ++ popped_once it) None
     popped role h =
         let xs = es ++ Begun 0 pop_name ∷ [] in
+        let ts1 = ts ++ Begin 0 pop_name ∷ [] in
+        let ts2 = ts1 ++ Next 0 ∷ [] in
+        let ts3 = ts2 ++ Next 0 ∷ [] in
+        let ts4 = ts3 ++ Next 0 ∷ [] in
         let apart = one_apart n in
         let equal = same_number n in
         let a₀ =
         alone.begins code kinds.Overflow capacity size over_effects (overflow_owes code capacity) pops_over
-        (first_pop capacity) (record { 0 = 0 }) then es h
-        (role_starts code Overflow (maker es) pops_over Pop (first_pop capacity) (record { 0 = 0 }) refl
+        (first_pop capacity) (record { 0 = 0 }) then ts es h
+        (role_starts code Overflow (maker ts es) pops_over Pop (first_pop capacity) (record { 0 = 0 }) refl
         (λ kept. refl) Consumer (λ o p. tt) (λ roles p is. holds_it roles.consumer p is) role h.u same_seat 0
-        h.between.run refl refl (sums then es h)) in
-        let a : Here then xs (Some (pop_name, popping capacity pops.TheVariants.LoadsRead)) =
-        subst (λ f. Here then xs (Some (pop_name, f))) (first_popping capacity some) a₀ in
+        h.between.run refl refl (sums then ts es h)) in
+        let a : Here then ts1 xs (Some (pop_name, popping capacity pops.TheVariants.LoadsRead)) =
+        subst (λ f. Here then ts1 xs (Some (pop_name, f))) (first_popping capacity some) a₀ in
         let b =
-        step then xs pop_name (popping capacity pops.TheVariants.LoadsRead)
+        step then ts1 xs pop_name (popping capacity pops.TheVariants.LoadsRead)
         (popping capacity (pops.TheVariants.LoadsWrite n)) (record { word = 1; op = Load }) a (omega arith) refl tt
         then refl refl (λ w. refl) in
         let c =
-        step then xs pop_name (popping capacity (pops.TheVariants.LoadsWrite n))
+        step then ts2 xs pop_name (popping capacity (pops.TheVariants.LoadsWrite n))
         (popping capacity (pops.TheVariants.LoadsCell n)) (record { word = 0; op = Load }) b (omega arith) refl tt
         then refl (pop_loads_write code capacity n (n + 1) apart) (pop_quiet code capacity n (n + 1) apart) in
         let d₀ =
-        step then xs pop_name (popping capacity (pops.TheVariants.LoadsCell n))
+        step then ts3 xs pop_name (popping capacity (pops.TheVariants.LoadsCell n))
         (flights.TheVariants.Queues (flying.TheVariants.Overflow (overflows.TheVariants.Pop (record {
           call = at_pop (first_pop capacity) (pops.TheVariants.MovesRead n);
           given = tt;
           room = record { 0 = slice_index then cell };
         })))) (record { word = cell; op = Load }) c cell_low refl tt then (set_same then cell) refl (λ w. refl) in
-        let d : Here then xs (Some (pop_name, popping capacity (pops.TheVariants.MovesRead n))) =
-        subst (λ u. Here then xs (Some (
+        let d : Here then ts4 xs (Some (pop_name, popping capacity (pops.TheVariants.MovesRead n))) =
+        subst (λ u. Here then ts4 xs (Some (
           pop_name,
           flights.TheVariants.Queues
               (flying.TheVariants.Overflow
@@ -285,12 +298,13 @@ module _ {T : Type 0} (code : Coding T) (law : IsCoding code) (capacity : ℕ) (
               (record { call = at_pop (first_pop capacity) (pops.TheVariants.MovesRead n); given = tt; room = record { 0 = u } }))),
         ))) (zero_there (n + 1) n) d₀ in
         let e =
-        alone.ends code kinds.Overflow capacity size over_effects (overflow_owes code capacity) then xs pop_name
+        alone.ends code kinds.Overflow capacity size over_effects (overflow_owes code capacity) then ts4 xs pop_name
         (popping capacity (pops.TheVariants.MovesRead n)) d
         (record { word = 1; op = Exchange n (after_position n) }) (omega arith) refl tt (at (n + 1) (n + 1) 0 0)
         (answers.PoppedIndex 0) (HandedOut 0 it ∷ Acted 0 pop_name (answers.PoppedIndex 0) ∷ [])
-        (ap (λ k. at (n + 1) k 0 0) (moved_on n (after_position n) equal ∙ next_is)) (pop_ends code capacity n equal) (wrote_then xs d) (refl, (refl, tt)) in
-        subst (λ zs. Here (at (n + 1) (n + 1) 0 0) zs None) (append_assoc es (Begun 0 pop_name ∷ []) events_of_pop) e
+        (ap (λ k. at (n + 1) k 0 0) (moved_on n (after_position n) equal ∙ next_is))
+        (pop_ends code capacity n equal) (wrote_then ts4 xs d) (refl, (refl, tt)) in
+        subst (λ zs. Here (at (n + 1) (n + 1) 0 0) (moved_turns 1 pop_name ts) zs None) (append_assoc es (Begun 0 pop_name ∷ []) events_of_pop) e
 
   -- ---- all of it
 
@@ -300,29 +314,33 @@ module _ {T : Type 0} (code : Coding T) (law : IsCoding code) (capacity : ℕ) (
   has_role : (n : ℕ) (role : Role) → HasRole role (turns n)
   has_role n role = has_it answers.PoppedNone quiet_none it n role
 
-  driven : (n : ℕ) → 0 < capacity → n < 2 ^ 64 → Here (at n n 0 0) (turns n) None
+  abbrev took : ℕ → List (Turn T)
+  took n = round_turns 1 it n
+
+  driven : (n : ℕ) → 0 < capacity → n < 2 ^ 64 → Here (at n n 0 0) (took n) (turns n) None
   driven zero room low =
       takes_both code Overflow capacity size over_effects (overflow_owes code capacity) (omega arith) quiet_roles 0 0
       (replicate (capacity + 1) 0 ++ 0 ∷ []) starts
   driven (suc n) room low =
       let h = driven n room (omega arith) in
-      let a = pushed room n (omega arith) (turns n) (has_role n Producer) h in
+      let a = pushed room n (omega arith) (took n) (turns n) (has_role n Producer) h in
       let b =
-      popped room n (omega arith) (turns n ++ pushed_once answers.PoppedNone it)
+      popped room n (omega arith) (moved_turns 1 push_name (took n)) (turns n ++ pushed_once answers.PoppedNone it)
       (after_push answers.PoppedNone quiet_none Consumer it (turns n) (has_role n Consumer)) a in
       let same : n + 1 ≡ suc n = omega arith in
-      subst (λ k. Here (at k k 0 0) (turns (suc n)) None) same
-      (subst (λ zs. Here (at (n + 1) (n + 1) 0 0) zs None)
+      subst (λ k. Here (at k k 0 0) (took (suc n)) (turns (suc n)) None) same
+      (subst (λ zs. Here (at (n + 1) (n + 1) 0 0) (took (suc n)) zs None)
       (append_assoc (turns n) (pushed_once answers.PoppedNone it) (popped_once it)) b)
 
-  opens : (n : ℕ) → 0 < capacity → n < 2 ^ 64 → IsMachine code kinds.Overflow capacity (opening (at n n 1 1) [] (maker (opened answers.PoppedNone it n)))
-  opens zero room low = alone.opens_so code kinds.Overflow capacity size over_effects (overflow_owes code capacity) (at 0 0 1 1) [] starts
+  opens : (n : ℕ) → 0 < capacity → n < 2 ^ 64
+      → IsMachine code kinds.Overflow capacity (opening (at n n 1 1) [] (maker (opened_turns 1 it n) (opened answers.PoppedNone it n)))
+  opens zero room low = alone.opens_so code kinds.Overflow capacity size over_effects (overflow_owes code capacity) (at 0 0 1 1) [] [] starts
   opens (suc n) room low =
       let k = suc n in
       alone.opens_so code kinds.Overflow capacity size over_effects (overflow_owes code capacity) (at k k 1 1)
-      (opened answers.PoppedNone it k)
+      (opened_turns 1 it k) (opened answers.PoppedNone it k)
       (gives_both code Overflow capacity size over_effects (overflow_owes code capacity) (omega arith) quiet_roles k
-      k (replicate (capacity + 1) 0 ++ 0 ∷ []) (turns k) (has_role k) (driven k room low))
+      k (replicate (capacity + 1) 0 ++ 0 ∷ []) (took k) (turns k) (has_role k) (driven k room low))
 
   -- an overflowing queue opens so, at any position
   pub over_opens : (position : ℕ) → position < 2 ^ 64 → (words : List ℕ)
@@ -337,10 +355,10 @@ module _ {T : Type 0} (code : Coding T) (law : IsCoding code) (capacity : ℕ) (
           (opening (at (position_at capacity position) (position_at capacity position) 1 1) [] (over_opened_view capacity position))
       go zero e =
           let start : position_at capacity position ≡ 0 = ap (λ c. position_at c position) (sym e) in
-          subst (λ p. IsMachine code kinds.Overflow capacity (opening (at p p 1 1) [] (maker (opened answers.PoppedNone it p))))
+          subst (λ p. IsMachine code kinds.Overflow capacity (opening (at p p 1 1) [] (maker (opened_turns 1 it p) (opened answers.PoppedNone it p))))
           (sym start)
-          (alone.opens_so code kinds.Overflow capacity size over_effects (overflow_owes code capacity) (at 0 0 1 1) [] starts)
+          (alone.opens_so code kinds.Overflow capacity size over_effects (overflow_owes code capacity) (at 0 0 1 1) [] [] starts)
       go (suc less) e =
           let start : position_at capacity position ≡ position = ap (λ c. position_at c position) (sym e) in
-          subst (λ p. IsMachine code kinds.Overflow capacity (opening (at p p 1 1) [] (maker (opened answers.PoppedNone it p))))
+          subst (λ p. IsMachine code kinds.Overflow capacity (opening (at p p 1 1) [] (maker (opened_turns 1 it p) (opened answers.PoppedNone it p))))
           (sym start) (opens position (omega arith) low)

@@ -36,7 +36,7 @@ module _ {T : Type 0} where
 
   -- what the first pass of a queue knows that opens at a position: of so many pushes and pops of this
   abbrev pub opened_by : Coding T → QueueKind → ℕ → ℕ → View T
-  opened_by code IndexQueue capacity position = opened_view (Index 0) capacity position
+  opened_by code IndexQueue capacity position = opened_view 1 (Index 0) capacity position
   opened_by code Overflow capacity position = over_opened_view capacity position
   opened_by code Queue capacity position =
-      opened_view (Value (code.value_of (replicate code.size 0))) capacity position
+      opened_view code.size (Value (code.value_of (replicate code.size 0))) capacity position

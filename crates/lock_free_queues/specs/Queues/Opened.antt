@@ -1,12 +1,15 @@
 -- The history with which a queue opens at a position: as many pushes and pops of one item by one party.
-use Rattle.std.specs.Prelude.{ℕ, zero, suc, true, Some, None, List, [], ◌∷◌, ◌++◌}
+use Rattle.std.specs.Prelude.{ℕ, ◌-◌, zero, suc, true, Some, None, List, [], ◌∷◌, ◌++◌}
 use Rattle.model.specs.declared.event.Answer.{Answer}
 use Rattle.model.specs.declared.event.Answer.TheVariants.{Truth, Done, PoppedNone}
 use Rattle.model.specs.declared.event.Event.{Event}
 use Rattle.model.specs.declared.event.Event.TheVariants.{Begun, Published, HandedOut, Acted, Finished}
 use Rattle.model.specs.declared.event.Item.{Item}
 use Rattle.model.specs.declared.event.Item.TheVariants.{Index}
+use Rattle.model.specs.declared.event.Start.{Start}
 use Rattle.model.specs.declared.event.Start.TheVariants.{Queues}
+use Rattle.model.specs.declared.turn.Turn.{Turn}
+use Rattle.model.specs.declared.turn.Turn.TheVariants.{Begin, Next}
 use Rattle.model.specs.declared.families.queues.QueueStart.TheVariants.{AcquireProducer, ReleaseProducer, AcquireConsumer, ReleaseConsumer, Pop}
 use Rattle.threaded.specs.Shares.{all_shares}
 use Rattle.history.specs.declared.view.View.{View}
@@ -47,21 +50,49 @@ module _ {T : Type 0} where
   opened answer item zero = []
   opened answer item (suc n) = rounds answer item (suc n) ++ given_roles
 
+module _ {T : Type 0} where
+  -- so many steps more of the one party
+  abbrev pub then_next : List (Turn T) → ℕ → List (Turn T)
+  then_next ts zero = ts
+  then_next ts (suc k) = then_next (ts ++ Next 0 ∷ []) k
+
+  -- a call of it, of so many steps
+  abbrev pub call_turns : List (Turn T) → Start T → ℕ → List (Turn T)
+  call_turns ts start steps = then_next (ts ++ Begin 0 start ∷ []) steps
+
+  -- a push or a pop loads two positions, goes through the words of a cell, and stores a position
+  abbrev pub moved_turns : ℕ → Start T → List (Turn T) → List (Turn T)
+  moved_turns size start ts = then_next (then_next (call_turns ts start 2) (suc (size - 1))) 1
+
+  -- the turns of the rounds, where a cell has so many words
+  abbrev pub round_turns : ℕ → Item T → ℕ → List (Turn T)
+  round_turns size item zero = call_turns (call_turns [] (Queues AcquireProducer) 1) (Queues AcquireConsumer) 1
+  round_turns size item (suc n) = moved_turns size (Queues Pop) (moved_turns size (Queues (push_of item)) (round_turns size item n))
+
+  abbrev pub given_turns : List (Turn T) → List (Turn T)
+  given_turns ts = call_turns (call_turns ts (Queues ReleaseProducer) 1) (Queues ReleaseConsumer) 1
+
+  abbrev pub opened_turns : ℕ → Item T → ℕ → List (Turn T)
+  opened_turns size item zero = []
+  opened_turns size item (suc n) = given_turns (round_turns size item (suc n))
+
 -- the position at which a queue of this capacity opens: without capacity there is no push
 abbrev pub position_at : ℕ → ℕ → ℕ
 position_at zero position = 0
 position_at (suc less) position = position
 
 module _ {T : Type 0} where
-  -- what the first pass knows, where each push answered so: it is the party, and has the whole share
-  abbrev pub opened_with : Answer T → Item T → ℕ → ℕ → View T
-  opened_with answer item capacity position =
+  -- what the first pass knows, where a cell has so many words and each push answered so: it is the party, and has the whole share
+  abbrev pub opened_with : ℕ → Answer T → Item T → ℕ → ℕ → View T
+  opened_with size answer item capacity position =
       record {
         capacity = capacity;
         party = Some 0;
         share = all_shares;
         seen = opened answer item (position_at capacity position);
         other = [];
+        turns = opened_turns size item (position_at capacity position);
+        other_turns = [];
         made = opened answer item (position_at capacity position);
         going = None;
         state = None;
@@ -70,9 +101,9 @@ module _ {T : Type 0} where
       }
 
   -- of a bounded queue
-  abbrev pub opened_view : Item T → ℕ → ℕ → View T
-  opened_view item capacity position = opened_with (Truth true) item capacity position
+  abbrev pub opened_view : ℕ → Item T → ℕ → ℕ → View T
+  opened_view size item capacity position = opened_with size (Truth true) item capacity position
 
   -- of an overflowing queue, of the number 0
   abbrev pub over_opened_view : ℕ → ℕ → View T
-  over_opened_view capacity position = opened_with PoppedNone (Index 0) capacity position
+  over_opened_view capacity position = opened_with 1 PoppedNone (Index 0) capacity position

@@ -5,7 +5,7 @@ use Rattle.steps.specs.declared.words.Words.{Ghosts}
 use Rattle.model.specs.declared.families.queues.QueueKind.{QueueKind}
 use Rattle.model.specs.Coding.{Coding, coding_of}
 use Rattle.history.specs.declared.view.View.{View}
-use Rattle.history.specs.History.{IsHistory}
+use Rattle.history.specs.History.{IsHistory, Knows}
 use Rattle.threaded.specs.Seats.{home_id}
 use Rattle.lock_free_queues.specs.Queues.Bounded.{machine_kind}
 pub use Rattle.history.specs.Passes.{Goes, MissesNothing}
@@ -124,6 +124,7 @@ module _ {E T : Type 0} {kind : kinds.Ghosts E} {words : Ghosts T} where
     pub queue : token_queue new ≡ token_queue old
     pub joined : HasJoined (token_view old) (token_view other) (token_view new)
     pub history : HasHistory (code_of old) kind.KIND (token_queue old).capacity (token_view new)
+    pub knows : Knows (code_of old) (machine_kind kind.KIND) (token_queue old).capacity (token_view new)
     pub all : MissesNothing (token_view new)
 
   abbrev pub PassJoins : Pass E T kind words → Pass E T kind words → Pass E T kind words → Type 0

@@ -88,7 +88,8 @@ module _ {T : Type 0} (code : Coding T) (key slots id : ℕ) (v : View T) where
               own = fits.own;
               made = fits.made;
             })
-            (known_on s.views r.trace.events id v at r.known),
+            (known_on s.views r.trace.events id v at r.known)
+            (record { mine = (r.one.knew id v at).mine; theirs = (r.one.knew id v at).theirs }),
         (says _, refl, refl),
       )
 

@@ -38,7 +38,7 @@ impl IndexQueue {
         capacity: usize,
         position: u64,
     ) -> Result<(IndexQueue, Pass), UniqueIndexCreationError>
-        ensures pass { IfOk result (λ r. IsPassOf r.0 r.1 × (view r.1 ≡ opened_view (Index 0) capacity position)) }
+        ensures pass { IfOk result (λ r. IsPassOf r.0 r.1 × (view r.1 ≡ opened_view 1 (Index 0) capacity position)) }
         ensures capacity { IfOk result (λ r. capacity_of r.0 ≡ capacity) }
         ensures admitted { OnOk result (capacity_refusal 0 (2 ^ 32 - 1) capacity ≡ None) }
         ensures refused { IfErr result (λ e. (capacity_refusal 0 (2 ^ 32 - 1) capacity ≡ Some e)

@@ -28,7 +28,7 @@ impl<T: Words> Ring<T> {
     /// words of what they pushed.
     fn of(alloc: Global, capacity: u32, position: u64) -> Result<(Ring<T>, Pass<T>), AllocError>
         ensures pass { IfOk result (λ r. IsPassOf r.0 r.1
-            × (view r.1 ≡ opened_view (Value (T.value_of (replicate T.WORDS 0))) capacity position)) }
+            × (view r.1 ≡ opened_view T.WORDS (Value (T.value_of (replicate T.WORDS 0))) capacity position)) }
         ensures capacity { IfOk result (λ r. capacity_of r.0 ≡ capacity) }
     {
         let start = start_at(capacity, position);
@@ -50,7 +50,7 @@ impl<T: Words> Ring<T> {
         position: u64,
     ) -> Result<(Ring<T>, Pass<T>), UniqueIndexCreationError>
         ensures pass { IfOk result (λ r. IsPassOf r.0 r.1
-            × (view r.1 ≡ opened_view (Value (T.value_of (replicate T.WORDS 0))) capacity position)) }
+            × (view r.1 ≡ opened_view T.WORDS (Value (T.value_of (replicate T.WORDS 0))) capacity position)) }
         ensures capacity { IfOk result (λ r. capacity_of r.0 ≡ capacity) }
         ensures admitted { OnOk result (capacity_refusal 0 (2 ^ 32 - 1) capacity ≡ None) }
         ensures refused { IfErr result (λ e. (capacity_refusal 0 (2 ^ 32 - 1) capacity ≡ Some e)
@@ -88,7 +88,7 @@ impl<T: Words, const CAPACITY: usize> Queue<T, CAPACITY> {
         position: u64,
     ) -> Result<(Queue<T, CAPACITY>, Pass<T>), UniqueIndexCreationError>
         ensures pass { IfOk result (λ r. IsPassOf (inner r.0) r.1
-            × (view r.1 ≡ opened_view (Value (T.value_of (replicate T.WORDS 0))) CAPACITY position)) }
+            × (view r.1 ≡ opened_view T.WORDS (Value (T.value_of (replicate T.WORDS 0))) CAPACITY position)) }
         ensures admitted { OnOk result (capacity_refusal 0 (2 ^ 32 - 1) CAPACITY ≡ None) }
         ensures refused { IfErr result (λ e. (capacity_refusal 0 (2 ^ 32 - 1) CAPACITY ≡ Some e)
             ⊎ (capacity_refusal 0 (2 ^ 32 - 1) CAPACITY ≡ None) × (e ≡ NoMemory)) }

@@ -34,7 +34,7 @@ impl<T: Words> UnrestrictedAtomic<T> {
         value: T,
         version: u64,
     ) -> Result<(UnrestrictedAtomic<T>, Pass<T>), AllocError>
-        ensures pass { IfOk result (λ r. IsPassOf r.0 r.1 × (view r.1 ≡ opened_view value version)) }
+        ensures pass { IfOk result (λ r. IsPassOf r.0 r.1 × (view r.1 ≡ opened_view value T.WORDS version)) }
     {
         let second_cell = FIRST_CELL + T::WORDS;
         let mut words = Vec::from_elem(alloc, 0u64, T::WORDS * 2 + FIRST_CELL + 1)?;
@@ -63,7 +63,7 @@ impl<T: Words> UnrestrictedAtomic<T> {
         alloc: Global,
         value: T,
     ) -> Result<(UnrestrictedAtomic<T>, Pass<T>), UniqueIndexCreationError>
-        ensures pass { IfOk result (λ r. IsPassOf r.0 r.1 × (view r.1 ≡ opened_view value 1)) }
+        ensures pass { IfOk result (λ r. IsPassOf r.0 r.1 × (view r.1 ≡ opened_view value T.WORDS 1)) }
         ensures refused { IfErr result (λ e. e ≡ NoMemory) }
     {
         UnrestrictedAtomic::new_at(alloc, value, 1)
@@ -76,7 +76,7 @@ impl<T: Words> UnrestrictedAtomic<T> {
         value: T,
         version: u64,
     ) -> Result<(UnrestrictedAtomic<T>, Pass<T>), UniqueIndexCreationError>
-        ensures pass { IfOk result (λ r. IsPassOf r.0 r.1 × (view r.1 ≡ opened_view value version)) }
+        ensures pass { IfOk result (λ r. IsPassOf r.0 r.1 × (view r.1 ≡ opened_view value T.WORDS version)) }
         ensures refused { IfErr result (λ e. e ≡ NoMemory) }
     {
         match UnrestrictedAtomic::of(alloc, value, version) {

@@ -26,7 +26,7 @@ impl<T: Words> TableRule<(), View<T>, Origin<T>> for ValueRule<T> {
 
     ghost holds = { λ origin. IsMachine (coding_of T.WORDS T.words_of T.value_of) kinds.Atomic 1 };
 
-    ghost first = { λ origin. opened_view origin.value origin.version };
+    ghost first = { λ origin. opened_view origin.value T.WORDS origin.version };
 }
 
 /// A value has no capacity: its machine has 1.

@@ -8,18 +8,18 @@ use Rattle.uses_programs.proofs.relay_readings.show.Goals as goal
 
 pub returns-clause-seen : goal.returns-clause-seen
 returns-clause-seen g c =
-    let first : view c.in-Ok.mine ≡ opened_view c.args.first 1 = first_of (search rules, grind (arith, common_steps)) in
+    let first : view c.in-Ok.mine ≡ opened_view c.args.first 3 1 = first_of (search rules, grind (arith, common_steps)) in
     let cut : HasSplit (view c.in-Ok.mine) (view c.split.new.self) (view c.in_ok-other.other) = search rules in
     let wrote : HasWritten c.args.readings.now (view c.split.new.self) (view c.in_ok-pass.pass) = search rules in
     let read : HasRead c.in_ok-further.seen.items (view c.in_ok-other.other) (view c.in_ok-further.further) = search rules in
-    all_seen c.args.first c.args.readings.now c.in_ok-further.seen.items _ _ _ _ _ _ first cut wrote read c.join.ensures.same.joined c.join.ensures.same.all
+    all_seen 3 c.args.first c.args.readings.now c.in_ok-further.seen.items _ _ _ _ _ _ first cut wrote read c.join.ensures.same.joined c.join.ensures.same.all
 
 pub returns-clause-last : goal.returns-clause-last
 returns-clause-last g c =
-    let first : view c.in-Ok.mine ≡ opened_view c.args.first 1 = first_of (search rules, grind (arith, common_steps)) in
+    let first : view c.in-Ok.mine ≡ opened_view c.args.first 3 1 = first_of (search rules, grind (arith, common_steps)) in
     let cut : HasSplit (view c.in-Ok.mine) (view c.split.new.self) (view c.in_ok-other.other) = search rules in
     let wrote : HasWritten c.args.readings.now (view c.split.new.self) (view c.in_ok-pass.pass) = search rules in
     let read : HasRead c.in_ok-further.seen.items (view c.in_ok-other.other) (view c.in_ok-further.further) = search rules in
-    last_is c.args.first c.args.readings.now c.in_ok-further.seen.items _ _ _ _ _ _ first cut wrote read
+    last_is 3 c.args.first c.args.readings.now c.in_ok-further.seen.items _ _ _ _ _ _ first cut wrote read
     c.join.ensures.same.joined c.join.ensures.same.all c.load-last.result _ c.load-last.ensures.same.goes
     c.load-last.ensures.loaded

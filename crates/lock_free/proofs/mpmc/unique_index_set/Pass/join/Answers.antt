@@ -1,6 +1,7 @@
 use Rattle.lock_free.proofs.Names.{◌≡◌, ◌<◌, ℕ, ◌++◌, rules, sym, ap, subst, ◌∙◌, arith, TableId, one_word, View, seen}
 use Rattle.lock_free.proofs.Names.{joined_view, Looks, IsAll, IsHistory, joins}
 use Rattle.model.specs.declared.turn.Kind.TheVariants as kinds
+use Rattle.history.specs.History.{Knows}
 use Rattle.threaded.specs.Seats.{table_of, key_of}
 use Rattle.threaded.proofs.Shares.{positive}
 use Rattle.lock_free.specs.Unique.Held.{IsDone}
@@ -59,10 +60,13 @@ returns-clause-same c =
         share = looks.share;
         ours = looks.mine;
         others = looks.theirs;
+        ours_ran = looks.ran.first;
+        theirs_ran = looks.theirs_ran;
         whole = λ all. looks.whole (subst IsAll looks.share all);
       };
       sound = sound _ w looks.capacity looks.history looks.parties;
       history = subst (λ n. IsHistory one_word kinds.Indices n w.seen) mine.known looks.history;
+      knows = subst (λ n. Knows one_word kinds.Indices n w) mine.known looks.ran.knows;
       all = λ whole. looks.all (subst IsAll looks.share whole);
     }
 

@@ -4,6 +4,7 @@ use Rattle.lock_free_owners.proofs.Names.{joined_view, Looks, positive, joins}
 use Rattle.steps.specs.declared.ask.Op.TheVariants.{Load}
 use Rattle.model.specs.declared.turn.Kind.TheVariants as kinds
 use Rattle.threaded.specs.Shares.{both_of}
+use Rattle.history.specs.History.{AreFirst, Knows}
 use Rattle.history.specs.Views.{LooksOnce}
 use Rattle.history.proofs.PassLooks.{owes_look}
 use Rattle.lock_free_owners.specs.Container.Settling.{HasSettled}
@@ -93,6 +94,8 @@ returns-clause-same g c =
           share = looked.share ∙ ap (λ (z : View g.row.T.Denot). both_of mine.share z.share) h.counted;
           ours = looked.mine;
           others = subst (λ (z : View g.row.T.Denot). IsBeginning z.seen new.seen) h.counted looked.theirs;
+          ours_ran = looked.ran.first;
+          theirs_ran = subst (λ (z : View g.row.T.Denot). AreFirst z.turns new.turns) h.counted looked.theirs_ran;
           whole = λ all.
               subst (λ (z : View g.row.T.Denot). (new.seen ≡ mine.seen) ⊎ (new.seen ≡ z.seen)) h.counted
               (looked.whole (subst IsAll looked.share all));
@@ -100,5 +103,6 @@ returns-clause-same g c =
       };
       keeps = λ p is. (looked.party ∙ is, looked.state);
       history = subst (λ n. IsHistory code kinds.Container n new.seen) seat.known looked.history;
+      knows = subst (λ n. Knows code kinds.Container n new) seat.known looked.ran.knows;
       all = λ whole. looked.all (subst IsAll looked.share whole);
     }

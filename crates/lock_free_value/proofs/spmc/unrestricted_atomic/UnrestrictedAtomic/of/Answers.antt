@@ -59,10 +59,10 @@ open-requires g c =
 
 pub invariant_of-token-clause-begun : goal.invariant_of-token-clause-begun
 invariant_of-token-clause-begun g c =
-    let me : c.in_ok-home.seated.seat.me.0 ≡ opened_view c.args.value c.args.version = search rules in
-    subst (λ (w : View g.row.T.Denot). 0 < length (stored w.seen)) (sym me) (opened_some c.args.value c.args.version)
+    let me : c.in_ok-home.seated.seat.me.0 ≡ opened_view c.args.value g.T.Words.WORDS c.args.version = search rules in
+    subst (λ (w : View g.row.T.Denot). 0 < length (stored w.seen)) (sym me) (opened_some c.args.value g.T.Words.WORDS c.args.version)
 
 pub invariant_of-result : goal.invariant_of-result
 invariant_of-result g c =
-    let me : c.in_ok-home.seated.seat.me.0 ≡ opened_view c.args.value c.args.version = search rules in
-    record { none = subst (λ (w : View g.row.T.Denot). LacksProducer w.made) (sym me) (opened_lacks c.args.value c.args.version) }
+    let me : c.in_ok-home.seated.seat.me.0 ≡ opened_view c.args.value g.T.Words.WORDS c.args.version = search rules in
+    record { none = subst (λ (w : View g.row.T.Denot). LacksProducer w.made) (sym me) (opened_lacks c.args.value g.T.Words.WORDS c.args.version) }

@@ -1,4 +1,4 @@
-use Rattle.lock_free.proofs.Names.{rules, ◌<◌, refl, sym, ap, subst, ◌∙◌, one_word, seen, IsHistory, arith}
+use Rattle.lock_free.proofs.Names.{rules, ◌<◌, refl, sym, ap, subst, ◌∙◌, one_word, seen, IsHistory, Continues, arith}
 use Rattle.model.specs.declared.turn.Kind.TheVariants as kinds
 use Rattle.lock_free.specs.Sets.Calls.{SetId}
 use Rattle.lock_free.specs.Counts.Contracts.{HasCounted, AnswersCount}
@@ -24,6 +24,9 @@ returns-clause-same c =
       share = search rules;
       party = search rules;
       history = subst (λ n. IsHistory one_word kinds.Counts n (seen c.drive-old.new.self).seen) c.args.pass.now.known c.drive-old.ensures.end.history;
+      ran =
+          subst (λ n. Continues one_word kinds.Counts n (seen c.args.pass.now.seated) (seen c.drive-old.new.self))
+          c.args.pass.now.known c.drive-old.ensures.end.ran;
       all = search rules;
     }
 

@@ -6,5 +6,5 @@ use Rattle.lock_free_queues.proofs.spsc.queue.make.Queue+T+CAPACITY.new.Goals as
 pub returns-clause-pass : goal.returns-clause-pass
 returns-clause-pass g c =
     subst (λ v. IfOk c.new_at.result (λ r. IsPassOf (inner r.0) r.1 × (view r.1 ≡ v)))
-    (opens_at_first (Truth true) (Value (g.T.Words.value_of (replicate g.T.Words.WORDS 0))) g.row.CAPACITY)
+    (opens_at_first g.T.Words.WORDS (Truth true) (Value (g.T.Words.value_of (replicate g.T.Words.WORDS 0))) g.row.CAPACITY)
     c.new_at.ensures.pass

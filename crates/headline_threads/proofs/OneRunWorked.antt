@@ -1,0 +1,170 @@
+-- The definitions of one run at worked runs, and what passes they refuse.
+use Rattle.std.proofs.Common.{◌≡◌, ℕ, List, [], ◌∷◌, ◌++◌, length, refl, sym, ap, ◌∙◌, arith, Option, Some, None}
+use Rattle.std.proofs.Common.{length-append, subst}
+use Rattle.std.specs.Prelude.{IfSome}
+use Rattle.model.specs.declared.event.Event.{Event}
+use Rattle.model.specs.declared.event.Start.{Start}
+use Rattle.model.specs.declared.event.Start.TheVariants.{Indices}
+use Rattle.model.specs.declared.families.Flight.{Flight}
+use Rattle.model.specs.declared.families.indices.IndexStart.TheVariants.{Acquire}
+use Rattle.model.specs.declared.turn.Kind as kinds
+use Rattle.model.specs.declared.turn.Turn.{Turn}
+use Rattle.model.specs.declared.turn.Turn.TheVariants.{Begin, Next}
+use Rattle.model.specs.Coding.{IsCoding, one_word}
+use Rattle.model.specs.Families.{ask_of, want_of}
+use Rattle.model.specs.LockFree.{steps_in}
+use Rattle.model.specs.Turns.{events_of, old_of}
+use Rattle.model.specs.World.{Trace, opening, flight_in}
+use Rattle.model.proofs.Reached.{after_turns_more}
+use Rattle.model.proofs.Runs.{begins}
+use Rattle.laws_queues.specs.Fresh.{IsFreshCall, IsFreshTurn}
+use Rattle.threaded.specs.Shares.{all_shares}
+use Rattle.history.specs.declared.view.View.{View}
+use Rattle.history.specs.History.{Continues, IsBeginning, Knows, run_of}
+use Rattle.history.specs.Passes.{Goes, MissesNothing}
+use Rattle.headline_threads.specs.Ends.{AreBelow, steps_between}
+
+-- ---- a unique index set of capacity 1, and what a pass knows that has seen all of these turns
+
+abbrev acquire : Start ℕ
+acquire = Indices Acquire
+
+abbrev after : List (Turn ℕ) → Trace ℕ
+after turns = run_of one_word kinds.TheVariants.Indices 1 turns
+
+abbrev told : List (Turn ℕ) → List (Event ℕ) → View ℕ
+told turns events =
+    record {
+      capacity = 1;
+      party = Some 0;
+      share = all_shares;
+      seen = events;
+      other = [];
+      turns = turns;
+      other_turns = [];
+      made = events;
+      going = None;
+      state = None;
+      asked = 0;
+      taken = 0;
+    }
+
+abbrev knowing : List (Turn ℕ) → View ℕ
+knowing turns = told turns (after turns).events
+
+one_word_codes : IsCoding one_word
+one_word_codes = record { some = omega arith; few = omega arith; sized = λ n. refl; given_back = λ n. refl }
+
+-- ---- two parties acquire, one after the other: the second finds no index left
+
+abbrev first : List (Turn ℕ)
+first = begins 0 acquire 4
+
+abbrev second : List (Turn ℕ)
+second = begins 1 acquire 1
+
+abbrev knew : View ℕ
+knew = knowing first
+
+abbrev knows : View ℕ
+knows = knowing (first ++ second)
+
+-- no turn of such a set is a push or a store
+abbrev IsPlain : Trace ℕ → Option (Flight ℕ) → Type 0
+IsPlain t o = IfSome o (λ f. IsFreshCall (old_of t.world.words (ask_of (want_of t.world.coding f))) f)
+
+no_push : (t : Trace ℕ) (p : ℕ) → IsPlain t (flight_in t.world p) → IsFreshTurn t (Next p)
+no_push t p plain flight is = subst (IsPlain t) is plain
+
+known : Knows one_word kinds.TheVariants.Indices 1 knows
+known =
+    record {
+      allowed = (refl, (refl, (refl, (refl, (refl, (refl, (refl, tt)))))));
+      run =
+          record {
+            reached = record { coded = one_word_codes; admitted = refl; turns = first ++ second; is = refl };
+            coded = refl;
+            of_kind = refl;
+            sized = refl;
+            fresh =
+                record {
+                  turns = first ++ second;
+                  is = refl;
+                  fresh = (
+                    λ free. tt,
+                    (
+                      λ free. no_push (after (begins 0 acquire 0)) 0 tt,
+                      (
+                        λ free. no_push (after (begins 0 acquire 1)) 0 tt,
+                        (
+                          λ free. no_push (after (begins 0 acquire 2)) 0 tt,
+                          (
+                            λ free. no_push (after (begins 0 acquire 3)) 0 tt,
+                            (λ free. tt, (λ free. no_push (after (first ++ begins 1 acquire 0)) 1 tt, tt)),
+                          ),
+                        ),
+                      ),
+                    ),
+                  );
+                };
+          };
+      is = refl;
+    }
+
+abbrev later : Continues one_word kinds.TheVariants.Indices 1 knew knows
+later = record { first = record { rest = second; is = refl }; knows = known }
+
+-- its one step is a load, which finds that no index is left
+takes_a_step : steps_between one_word kinds.TheVariants.Indices 1 knew knows later ≡ 1
+takes_a_step = refl
+
+took_four : steps_in (opening one_word kinds.TheVariants.Indices 1 0) knew.turns ≡ 4
+took_four = refl
+
+-- its events are of two parties
+below_two : AreBelow 2 knows.seen
+below_two = (omega arith, (omega arith, (omega arith, (omega arith, (omega arith, tt)))))
+
+none_above : AreBelow 1 knows.seen → ⊥
+none_above h = absurd (omega (h.1.1.1.0, arith))
+
+-- ---- what the definitions refuse
+
+-- Two runs with the same events, which differ in whose call has loaded the head. Each of both is a history, so the events alone
+-- do not say that the one run goes on to the other.
+abbrev mine : List (Turn ℕ)
+mine = Begin 0 acquire ∷ Begin 1 acquire ∷ Next 0 ∷ []
+
+abbrev others : List (Turn ℕ)
+others = Begin 0 acquire ∷ Begin 1 acquire ∷ Next 1 ∷ Next 1 ∷ []
+
+same_events : (after mine).events ≡ (after others).events
+same_events = refl
+
+another_run : Continues one_word kinds.TheVariants.Indices 1 (knowing mine) (knowing others) → ⊥
+another_run h = let e = h.first.is in cc
+
+-- all that a call says of its pass but that its run went on
+as_much : (knowing others).share ≡ (knowing mine).share
+    × IsBeginning (knowing mine).seen (knowing others).seen
+    × MissesNothing (knowing others)
+as_much = (refl, record { rest = []; is = refl }, λ all f. refl)
+
+not_gone_on : Goes one_word kinds.TheVariants.Indices 1 (knowing mine) (knowing others) → ⊥
+not_gone_on h = another_run h.ran
+
+-- a pass that has seen the events of a turn that is not among its turns
+module _ (turns : List (Turn ℕ)) (turn : Turn ℕ) (e : Event ℕ) (wrote : List (Event ℕ))
+    (writes : events_of (after turns).world turn ≡ e ∷ wrote) where
+  one_too_few : Knows one_word kinds.TheVariants.Indices 1 (told turns (after (turns ++ turn ∷ [])).events) → ⊥
+  one_too_few h =
+      let start : Trace ℕ = opening one_word kinds.TheVariants.Indices 1 0 in
+      let more : (after turns).events ++ e ∷ wrote ≡ (after turns).events =
+      ap (λ ws. (after turns).events ++ ws) (sym writes) ∙ (sym (ap (λ (t : Trace ℕ). t.events) (after_turns_more start turns turn)) ∙ h.is) in
+      let long = ap length more in
+      let one = length-append (after turns).events (e ∷ wrote) in
+      absurd (omega arith)
+
+-- so the pass of a call that has ended knows its last turn
+last_left_out : Knows one_word kinds.TheVariants.Indices 1 (told (begins 0 acquire 3) (after first).events) → ⊥
+last_left_out h = one_too_few (begins 0 acquire 3) (Next 0) _ _ refl h

@@ -1,0 +1,160 @@
+-- The one run of a table: what a turn more leaves of it, and what a seat knows of it that is put in another's place.
+use Rattle.history.proofs.Names.{◌≡◌, ◌≢◌, ⊎_elim, ℕ, Option, None, List, [], ◌∷◌, ◌++◌, set, refl, sym, ap, subst, ◌∙◌}
+use Rattle.history.proofs.Names.{append-nil, append_assoc, at_set, Kind, Turn, Coding, IsCoding, Refusal, after_turn, World, Trace}
+use Rattle.history.proofs.Names.{inl, inr, ◌⊎◌, capacity_error}
+use Rattle.atomic_table.specs.Table.{State}
+use mathlib.Core.Option.{some}
+use lib.ListN.{get_elem?}
+use Rattle.model.specs.Turns.{AreAllowedBy, after_turns}
+use Rattle.model.specs.World.{opening}
+use Rattle.model.proofs.Reached.{after_turns_more}
+use Rattle.history.specs.declared.view.View.{View}
+use Rattle.history.specs.Passes.{HasSplit, HasJoined}
+use Rattle.history.specs.Views.{first_view}
+use Rattle.history.specs.History.{IsMachine, IsRun, AreFirst, Knew, OneRun, Knows, Continues, refusal_as, run_of}
+use Rattle.history.specs.OneRun.{KnowOneRun, SeatsKnowOneRun}
+use Rattle.history.proofs.Reached.{reached_as_opening, fresh_as_opening}
+
+module _ {T : Type 0} where
+  pub first_all : (turns : List (Turn T)) → AreFirst turns turns
+  first_all turns = record { rest = []; is = sym (append-nil turns) }
+
+  pub first_none : (turns : List (Turn T)) → AreFirst [] turns
+  first_none turns = record { rest = turns; is = refl }
+
+  pub first_further : (xs ys zs : List (Turn T)) → AreFirst xs ys → AreFirst ys zs → AreFirst xs zs
+  first_further xs ys zs a b = record { rest = a.rest ++ b.rest; is = b.is ∙ (ap (λ ts. ts ++ b.rest) a.is ∙ append_assoc xs a.rest b.rest) }
+
+  pub first_more : (xs ys zs : List (Turn T)) → AreFirst xs ys → AreFirst xs (ys ++ zs)
+  first_more xs ys zs a = first_further xs ys (ys ++ zs) a (record { rest = zs; is = refl })
+
+  -- of two that are first turns of the same, the one goes on to the other
+  either_first : (xs ys xs' ys' : List (Turn T)) → xs ++ xs' ≡ ys ++ ys' → AreFirst xs ys ⊎ AreFirst ys xs
+  either_first [] ys xs' ys' e = inl (first_none ys)
+  either_first (x ∷ xs) [] xs' ys' e = inr (first_none (x ∷ xs))
+  either_first (x ∷ xs) (y ∷ ys) xs' ys' e =
+      let here : x ≡ y = cc in
+      let rest : xs ++ xs' ≡ ys ++ ys' = cc in
+      ⊎_elim (λ (a : AreFirst xs ys). inl (record { rest = a.rest; is = ap (λ z. z ∷ ys) (sym here) ∙ ap (λ zs. x ∷ zs) a.is }))
+      (λ (a : AreFirst ys xs). inr (record { rest = a.rest; is = ap (λ z. z ∷ xs) here ∙ ap (λ zs. y ∷ zs) a.is }))
+      (either_first xs ys xs' ys' rest)
+
+  pub know_one : (turns : List (Turn T)) (v w : View T) → Knew turns v → Knew turns w → KnowOneRun v w
+  know_one turns v w a b = either_first v.turns w.turns a.mine.rest b.mine.rest (sym a.mine.is ∙ b.mine.is)
+
+  pub allowed_more : (refuses : World T → Turn T → Option Refusal) (t : Trace T) (turns : List (Turn T)) (turn : Turn T)
+      → AreAllowedBy refuses t turns → refuses (after_turns t turns).world turn ≡ None → AreAllowedBy refuses t (turns ++ turn ∷ [])
+  allowed_more refuses t [] turn all free = (free, tt)
+  allowed_more refuses t (x ∷ xs) turn all free = (all.0, allowed_more refuses (after_turn t x) xs turn all.1 free)
+
+  module _ (code : Coding T) (kind : Kind) (capacity : ℕ) where
+    abbrev start : Trace T
+    start = opening code kind capacity 0
+
+    -- no turn yet
+    abbrev pub one_opens : (views : List (View T)) → ((j : ℕ) (x : View T) → get_elem? views j ≡ some x → Knew [] x) → OneRun code kind capacity views start
+    one_opens views knew = record { turns = []; allowed = tt; is = refl; knew = knew }
+
+    -- a turn more
+    abbrev pub one_more : (views : List (View T)) (u : Trace T) (turn : Turn T) → refusal_as kind u.world turn ≡ None
+        → OneRun code kind capacity views u → OneRun code kind capacity views (after_turn u turn)
+    one_more views u turn free one =
+        record {
+          turns = one.turns ++ turn ∷ [];
+          allowed =
+              allowed_more (refusal_as kind) start one.turns turn one.allowed
+              (subst (λ (t : Trace T). refusal_as kind t.world turn ≡ None) one.is free);
+          is = ap (λ (t : Trace T). after_turn t turn) one.is ∙ sym (after_turns_more start one.turns turn);
+          knew = λ j v at. (
+              let k = one.knew j v at in
+              record {
+                mine = first_more v.turns one.turns (turn ∷ []) k.mine;
+                theirs = first_more v.other_turns one.turns (turn ∷ []) k.theirs;
+              });
+        }
+
+    -- a seat knows otherwise
+    abbrev pub one_set : (views : List (View T)) (u : Trace T) (id : ℕ) (w : View T) (one : OneRun code kind capacity views u)
+        → Knew one.turns w → OneRun code kind capacity (set views id w) u
+    one_set views u id w one now =
+        record {
+          turns = one.turns;
+          allowed = one.allowed;
+          is = one.is;
+          knew =
+              λ j x found. ⊎_elim (λ (e : (j ≡ id) × (w ≡ x)). subst (λ z. Knew one.turns z) e.1 now)
+              (λ (e : (j ≢ id) × (get_elem? views j ≡ some x)). one.knew j x e.1) (at_set views id j w x found);
+        }
+
+    -- who has seen all of it
+    pub knew_all : (views : List (View T)) (u : Trace T) (w : View T) (one : OneRun code kind capacity views u)
+        → w.turns ≡ one.turns → w.other_turns ≡ [] → Knew one.turns w
+    knew_all views u w one is none =
+        record {
+          mine = subst (λ ts. AreFirst ts one.turns) (sym is) (first_all one.turns);
+          theirs = subst (λ ts. AreFirst ts one.turns) (sym none) (first_none one.turns);
+        }
+
+    pub knows_all : (views : List (View T)) (u : Trace T) (w : View T) (one : OneRun code kind capacity views u)
+        → IsRun code kind capacity u → w.turns ≡ one.turns → w.seen ≡ u.events → Knows code kind capacity w
+    knows_all views u w one run is seen =
+        record {
+          allowed = subst (λ ts. AreAllowedBy (refusal_as kind) start ts) (sym is) one.allowed;
+          run = subst (λ (t : Trace T). IsRun code kind capacity t) (one.is ∙ ap (run_of code kind capacity) (sym is)) run;
+          is = seen ∙ ap (λ (t : Trace T). t.events) (one.is ∙ ap (run_of code kind capacity) (sym is));
+        }
+
+    -- the run that it knew goes on to it
+    pub continues_all : (views : List (View T)) (u : Trace T) (id : ℕ) (v w : View T) (one : OneRun code kind capacity views u)
+        → get_elem? views id ≡ some v → IsRun code kind capacity u → w.turns ≡ one.turns → w.seen ≡ u.events → Continues code kind capacity v w
+    continues_all views u id v w one at run is seen =
+        record {
+          first = subst (λ ts. AreFirst v.turns ts) (sym is) (one.knew id v at).mine;
+          knows = knows_all views u w one run is seen;
+        }
+
+    pub continues_further : (x y z : View T) → AreFirst x.turns y.turns → Continues code kind capacity y z → Continues code kind capacity x z
+    continues_further x y z a b = record { first = first_further x.turns y.turns z.turns a b.first; knows = b.knows }
+
+    -- a pass that has the turns and the events of another knows its run
+    same_run : (old new : View T) → new.turns ≡ old.turns → new.seen ≡ old.seen → Knows code kind capacity old → Continues code kind capacity old new
+    same_run old new turns seen knows =
+        record {
+          first = subst (λ ts. AreFirst old.turns ts) (sym turns) (first_all old.turns);
+          knows =
+              record {
+                allowed = subst (λ ts. AreAllowedBy (refusal_as kind) start ts) (sym turns) knows.allowed;
+                run = subst (λ ts. IsRun code kind capacity (run_of code kind capacity ts)) (sym turns) knows.run;
+                is = seen ∙ (knows.is ∙ ap (λ ts. (run_of code kind capacity ts).events) (sym turns));
+              };
+        }
+
+    pub continues_split : (old left right : View T) → HasSplit old left right → Knows code kind capacity old
+        → Continues code kind capacity old left × Continues code kind capacity old right
+    continues_split old left right cut knows = (same_run old left cut.turns cut.seen knows, same_run old right cut.right_turns cut.right_seen knows)
+
+    pub continues_join : (mine theirs new : View T) → HasJoined mine theirs new → Knows code kind capacity new
+        → Continues code kind capacity mine new × Continues code kind capacity theirs new
+    continues_join mine theirs new joined knows =
+        (record { first = joined.ours_ran; knows = knows }, record { first = joined.theirs_ran; knows = knows })
+
+    -- ---- a table
+
+    -- the first pass knows that nothing has happened
+    pub knows_first : IsCoding code → capacity_error kind capacity ≡ None → Knows code kind capacity (first_view capacity)
+    knows_first coded admitted =
+        record {
+          allowed = tt;
+          run =
+              record {
+                reached = reached_as_opening code kind capacity 0 coded admitted;
+                coded = refl;
+                of_kind = refl;
+                sized = refl;
+                fresh = fresh_as_opening code kind capacity 0;
+              };
+          is = refl;
+        }
+
+    pub seats_know_one : (s : State (Unit {0}) (View T)) → IsMachine code kind capacity s → SeatsKnowOneRun s
+    seats_know_one s m i j v w at there = know_one m.one.turns v w (m.one.knew i v at) (m.one.knew j w there)
