@@ -39,8 +39,8 @@ granted =
     ∷ []
 
 -- every acquire answers that no index is left, though index 0 was filled at no moment of the call
-refuses_every_acquire : IsRobustSet (set (0 ∷ 7 ∷ 9 ∷ []) (Begun 0 (acquire 7) ∷ Finished 0 (acquire 7) (NoIndex OutOfIndices) ∷ [])) → ⊥
-refuses_every_acquire k =
+every_acquire_fails : IsRobustSet (set (0 ∷ 7 ∷ 9 ∷ []) (Begun 0 (acquire 7) ∷ Finished 0 (acquire 7) (NoIndex OutOfIndices) ∷ [])) → ⊥
+every_acquire_fails k =
     at_no_moment 0 (IsFilled 0) (Begun 0 (acquire 7) ∷ []) ((λ e. cc), (λ e. cc))
     ((k.answers (Begun 0 (acquire 7) ∷ []) [] (Finished 0 (acquire 7) (NoIndex OutOfIndices)) refl).1 0 (omega arith))
 

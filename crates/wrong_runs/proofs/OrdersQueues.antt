@@ -52,11 +52,11 @@ publishes_before_writing k = let e = k.conserved in cc
 abbrev pushed : List (Event ℕ)
 pushed = Begun 0 (push 7) ∷ Published 0 (Index 7) ∷ Acted 0 (push 7) (Truth true) ∷ Finished 0 (push 7) (Truth true) ∷ []
 
-refuses_every_push : QueueRuns queues.IndexQueue (queue (0 ∷ 0 ∷ 0 ∷ 0 ∷ 0 ∷ 0 ∷ []) (Begun 0 (push 7) ∷ Acted 0 (push 7) (Truth false) ∷ [])) → ⊥
-refuses_every_push k = let e = k.list.answers in cc
+every_push_is_false : QueueRuns queues.IndexQueue (queue (0 ∷ 0 ∷ 0 ∷ 0 ∷ 0 ∷ 0 ∷ []) (Begun 0 (push 7) ∷ Acted 0 (push 7) (Truth false) ∷ [])) → ⊥
+every_push_is_false k = let e = k.list.answers in cc
 
-finds_nothing_ever : QueueRuns queues.IndexQueue (queue (1 ∷ 0 ∷ 0 ∷ 0 ∷ 7 ∷ 0 ∷ []) (pushed ++ Begun 1 pop ∷ Acted 1 pop PoppedNone ∷ [])) → ⊥
-finds_nothing_ever k = let e = k.list.answers in cc
+every_pop_is_none : QueueRuns queues.IndexQueue (queue (1 ∷ 0 ∷ 0 ∷ 0 ∷ 7 ∷ 0 ∷ []) (pushed ++ Begun 1 pop ∷ Acted 1 pop PoppedNone ∷ [])) → ⊥
+every_pop_is_none k = let e = k.list.answers in cc
 
 -- a push waits until there is room: a fifth step, and nobody has changed a word
 abbrev waiting : Trace ℕ

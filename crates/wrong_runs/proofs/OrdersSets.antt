@@ -73,8 +73,8 @@ abbrev acquire : Start ℕ
 acquire = Indices Acquire
 
 -- every acquire answers that no index is left
-refuses_every_acquire : IsIndexSet (set (0 ∷ 1 ∷ 2 ∷ 0 ∷ []) (Begun 0 acquire ∷ Finished 0 acquire (NoIndex OutOfIndices) ∷ [])) → ⊥
-refuses_every_acquire k =
+every_acquire_fails : IsIndexSet (set (0 ∷ 1 ∷ 2 ∷ 0 ∷ []) (Begun 0 acquire ∷ Finished 0 acquire (NoIndex OutOfIndices) ∷ [])) → ⊥
+every_acquire_fails k =
     let e = k.answers (Begun 0 acquire ∷ []) [] (Finished 0 acquire (NoIndex OutOfIndices)) refl in absurd (omega arith)
 
 -- an acquire answers what the free list proposes, and claims no flag
