@@ -158,10 +158,10 @@ module _ {F : Type 0} (pre : F → BitState → Type 0) (step : F → BitState �
 
   -- all have been
   pub ends : (call : ResetAll) (words : List ℕ) (visit : F) → Emptying capacity call words visit
-      → (words ≡ uncounted capacity) × WasCalled step (states before) first
+      → (words ≡ uncounted capacity) × WasCalled step (states before) first visit
   ends call words visit h =
       let none : left capacity ≡ [] =
       ap (λ n. states_from capacity (drop n before)) (sym h.long) ∙ ap (states_from capacity) (drop_all before) in (
         h.words_are ∙ (ap (λ n. swept n before) (sym h.long) ∙ (swept_all before ∙ ap (λ n. replicate n 0) h.long)),
-        (visit, h.calls visit (subst (λ xs. FoldsTo (λ p x q. step p x tt q) visit xs visit) (sym none) refl)),
+        h.calls visit (subst (λ xs. FoldsTo (λ p x q. step p x tt q) visit xs visit) (sym none) refl),
       )

@@ -59,20 +59,20 @@ fn reset_next(words: &mut Vec<u64>, capacity: u32) -> Option<u64>
 }
 
 /// An emptying, over the words of a set.
-fn empty<F: FnMut(usize)>(words: &mut Vec<u64>, capacity: u32, mut visit: F)
+fn empty<F: FnMut(usize)>(words: &mut Vec<u64>, capacity: u32, visit: &mut F)
     requires fits { Represents capacity words.old.items }
-    requires takes { Takes F.pre F.step (standing (places_in capacity words.old.items)) visit }
+    requires takes { Takes F.pre F.step (standing (places_in capacity words.old.items)) visit.old }
     ensures fits { Represents capacity words.new.items }
     ensures places { places_in capacity words.new.items
         ≡ emptied (places_in capacity words.old.items) }
-    ensures calls { WasCalled F.step (standing (places_in capacity words.old.items)) visit }
+    ensures calls { WasCalled F.step (standing (places_in capacity words.old.items)) visit.old visit.new }
 {
     let mut call = ResetAll::bits(capacity);
     let mut first = 0;
     for _ in 0..elements(capacity) {
         let found = swap_next(words, &mut call);
         let end = end_of_element(first, capacity as u64);
-        visit = visit_element(visit, found, first, end);
+        visit_element(visit, found, first, end);
         first = end;
     }
 }
@@ -100,10 +100,10 @@ impl BitSet {
     }
 
     /// Calls `visit` with each place that stands, ascending, and resets all places. The start of the search stays.
-    pub fn reset_all<F: FnMut(usize)>(&mut self, visit: F)
-        requires { Takes F.pre F.step (standing self.old) visit }
+    pub fn reset_all<F: FnMut(usize)>(&mut self, visit: &mut F)
+        requires { Takes F.pre F.step (standing self.old) visit.old }
         ensures places { self.new ≡ emptied self.old }
-        ensures calls { WasCalled F.step (standing self.old) visit }
+        ensures calls { WasCalled F.step (standing self.old) visit.old visit.new }
     {
         empty(&mut self.words, self.capacity, visit);
     }

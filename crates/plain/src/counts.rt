@@ -20,7 +20,7 @@ use steps::enums::{UniqueIndexCreationError, capacity_refusal};
 /// let mut counts = CountingBitSet::new(rt.alloc(), 8)?;
 /// assert!(rt; counts.set(3) == 0 && counts.set(3) == 1);
 /// let mut last = (0, 0);
-/// counts.reset_all(|state| last = (state.bit(), state.count()));
+/// counts.reset_all(&mut |state| last = (state.bit(), state.count()));
 /// assert!(rt; last == (3, 2));
 /// ```
 #[derive(Drop)]
@@ -47,16 +47,16 @@ fn set(words: &mut Vec<u64>, place: u64) -> u64
 }
 
 /// An emptying, over the words of a set.
-fn empty<F: FnMut(BitState)>(words: &mut Vec<u64>, capacity: u32, mut visit: F)
+fn empty<F: FnMut(BitState)>(words: &mut Vec<u64>, capacity: u32, visit: &mut F)
     requires long { length words.old.items ≡ capacity }
-    requires takes { Takes F.pre F.step (states words.old.items) visit }
+    requires takes { Takes F.pre F.step (states words.old.items) visit.old }
     ensures counts { words.new.items ≡ uncounted capacity }
-    ensures calls { WasCalled F.step (states words.old.items) visit }
+    ensures calls { WasCalled F.step (states words.old.items) visit.old visit.new }
 {
     let mut call = ResetAll::counts(capacity);
     for place in 0..capacity {
         let count = swap_next(words, &mut call);
-        visit = call_counted(visit, place, count);
+        call_counted(visit, place, count);
     }
 }
 
@@ -71,10 +71,10 @@ impl CountingBitSet {
     }
 
     /// Calls `visit` with each place that has a count, ascending, and makes all counts 0.
-    pub fn reset_all<F: FnMut(BitState)>(&mut self, visit: F)
-        requires { Takes F.pre F.step (states self.old) visit }
+    pub fn reset_all<F: FnMut(BitState)>(&mut self, visit: &mut F)
+        requires { Takes F.pre F.step (states self.old) visit.old }
         ensures counts { self.new ≡ uncounted (length self.old) }
-        ensures calls { WasCalled F.step (states self.old) visit }
+        ensures calls { WasCalled F.step (states self.old) visit.old visit.new }
     {
         empty(&mut self.words, self.capacity, visit);
     }

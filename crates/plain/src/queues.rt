@@ -1,4 +1,4 @@
-//! The bounded queue of one caller, over values of any number of words.
+//! The bounded queues of one caller: of numbers of 64 bits, and of values of any number of words.
 ghost use Rattle.std.specs.Prelude.{◌≡◌, ◌-◌, ◌^◌, ◌⊎◌, length, nat_eq, IfOk, IfErr, OnOk, Some, None};
 ghost use Rattle.steps.specs.Enums.{capacity_refusal};
 ghost use Rattle.steps.specs.Objects.Lists.{Bounded, opened_at, takes_more, pushed, front, popped};
@@ -16,31 +16,42 @@ use steps::queues::ring::{CONSUMER, FIRST_CELL, PRODUCER, Pop, Push, READ, WRITE
 use steps::routine::Routine;
 use steps::words::Words;
 
+/// The items of a queue of numbers, which its `push` takes by value.
+#[derive(Clone, Copy)]
+pub struct Numbers;
+
+/// The items of a queue of values, which its `push` takes by reference.
+#[derive(Clone, Copy)]
+pub struct Values;
+
 /// A bounded queue that one caller uses, and that holds at most so many values. What goes in first comes out first.
-/// After `Queue` of the Rust crate.
+/// Two types have these calls, `IndexQueue` and `Queue`, and each its own `push`.
+#[derive(Drop)]
+pub struct List<E: Copy, T: Words> {
+    words: Vec<u64>,
+    capacity: u32,
+    of: PhantomData<(E, T)>,
+}
+
+/// A bounded queue of one caller that holds values. After `Queue` of the Rust crate.
 ///
 /// ```rust
 /// let mut queue = Queue::new(rt.alloc(), 2)?;
 /// assert!(rt; queue.push(&7u32) && queue.len() == 1);
 /// assert!(rt; queue.pop() == Some(7) && queue.pop().is_none());
 /// ```
-#[derive(Drop)]
-pub struct Queue<T: Words> {
-    words: Vec<u64>,
-    capacity: u32,
-    of: PhantomData<T>,
-}
+pub type Queue<T> = List<Values, T>;
 
-/// A bounded queue that one caller uses, and that holds numbers of 64 bits. After `IndexQueue` of the Rust crate.
+/// A bounded queue of one caller that holds numbers of 64 bits. After `IndexQueue` of the Rust crate.
 ///
 /// ```rust
 /// let mut queue = IndexQueue::new(rt.alloc(), 1)?;
-/// assert!(rt; queue.push(&3) && !queue.push(&4));
+/// assert!(rt; queue.push(3) && !queue.push(4));
 /// assert!(rt; queue.pop() == Some(3));
 /// ```
-pub type IndexQueue = Queue<u64>;
+pub type IndexQueue = List<Numbers, u64>;
 
-impl<T: Words> Model for Queue<T> {
+impl<E: Copy, T: Words> Model for List<E, T> {
     ghost Value = { Bounded T };
 
     ghost view = { λ q. list_in T.value_of T.WORDS q.capacity q.words.items };
@@ -79,6 +90,16 @@ fn len<T: Words>(words: &mut Vec<u64>, capacity: u32) -> u64
     drive(words, Len::new(capacity), &(), &mut room)
 }
 
+impl IndexQueue {
+    /// Appends the number and returns true, or returns false where there is no room, or no position.
+    pub fn push(&mut self, value: u64) -> bool
+        ensures answer { result ≡ takes_more self.old }
+        ensures list { self.new ≡ pushed self.old value }
+    {
+        push(&mut self.words, self.capacity, &value)
+    }
+}
+
 impl<T: Words> Queue<T> {
     /// Appends the value and returns true, or returns false where there is no room, or no position.
     pub fn push(&mut self, value: &T) -> bool
@@ -87,7 +108,9 @@ impl<T: Words> Queue<T> {
     {
         push(&mut self.words, self.capacity, value)
     }
+}
 
+impl<E: Copy, T: Words> List<E, T> {
     /// Takes the oldest value and returns it, or returns None if there is none.
     pub fn pop(&mut self) -> Option<T>
         ensures answer { result ≡ front self.old }
@@ -132,13 +155,13 @@ impl<T: Words> Queue<T> {
     ///
     /// Refused are, in this order, a capacity above 2^32 - 1 (`ProvidedCapacityGreaterThanMaxCapacity`) and memory
     /// (`NoMemory`).
-    pub fn new(alloc: Global, capacity: usize) -> Result<Queue<T>, UniqueIndexCreationError>
+    pub fn new(alloc: Global, capacity: usize) -> Result<List<E, T>, UniqueIndexCreationError>
         ensures list { IfOk result (λ q. q ≡ opened_at capacity 0) }
         ensures admitted { OnOk result (capacity_refusal 0 (2 ^ 32 - 1) capacity ≡ None) }
         ensures refused { IfErr result (λ e. (capacity_refusal 0 (2 ^ 32 - 1) capacity ≡ Some e)
             ⊎ (capacity_refusal 0 (2 ^ 32 - 1) capacity ≡ None) × (e ≡ NoMemory)) }
     {
-        Queue::new_at(alloc, capacity, 0)
+        List::new_at(alloc, capacity, 0)
     }
 
     /// Makes an empty list, whose first value has this position. It is refused as `new` is.
@@ -146,7 +169,7 @@ impl<T: Words> Queue<T> {
         alloc: Global,
         capacity: usize,
         position: u64,
-    ) -> Result<Queue<T>, UniqueIndexCreationError>
+    ) -> Result<List<E, T>, UniqueIndexCreationError>
         ensures list { IfOk result (λ q. q ≡ opened_at capacity position) }
         ensures admitted { OnOk result (capacity_refusal 0 (2 ^ 32 - 1) capacity ≡ None) }
         ensures refused { IfErr result (λ e. (capacity_refusal 0 (2 ^ 32 - 1) capacity ≡ Some e)
@@ -167,7 +190,7 @@ impl<T: Words> Queue<T> {
         words[READ] = position;
         words[PRODUCER] = 1;
         words[CONSUMER] = 1;
-        Ok(Queue {
+        Ok(List {
             words,
             capacity,
             of: PhantomData,
@@ -175,11 +198,11 @@ impl<T: Words> Queue<T> {
     }
 
     /// Returns the list that these words of a queue are.
-    pub fn of_words(words: Vec<u64>, capacity: u32) -> Queue<T>
+    pub fn of_words(words: Vec<u64>, capacity: u32) -> List<E, T>
         requires { Represents T.WORDS capacity words.items }
         ensures { result ≡ list_in T.value_of T.WORDS capacity words.items }
     {
-        Queue {
+        List {
             words,
             capacity,
             of: PhantomData,

@@ -105,44 +105,42 @@ fn is_locked(words: &mut Vec<u64>, capacity: u32) -> bool
     drive(words, IsLocked, &(), &mut room)
 }
 
-/// Calls the closure with the index, and hands it back.
+/// Calls the closure with the index.
 fn visit_at<F: FnMut(usize) -> CallbackProgression>(
-    mut visit: F,
+    visit: &mut F,
     index: usize,
-) -> (CallbackProgression, F)
-    requires { F.pre visit index }
-    ensures { F.step visit index result.0 result.1 }
+) -> CallbackProgression
+    requires { F.pre visit.old index }
+    ensures { F.step visit.old index result visit.new }
 {
-    let said = visit(index);
-    (said, visit)
+    visit(index)
 }
 
-/// A find, over the words of a set. Hands the closure back.
+/// A find, over the words of a set.
 fn find<F: FnMut(usize) -> CallbackProgression>(
     words: &mut Vec<u64>,
     capacity: u32,
     owner: OwnerId,
-    mut visit: F,
-) -> (usize, F)
+    visit: &mut F,
+) -> usize
     requires fits { Represents capacity words.old.items }
     requires owner { owner < 2 ^ 64 - 1 }
     requires indices { TakesIndices F.pre (λ p x a q. F.step p x a q)
-        (indices_of (owners_in words.old.items) owner) visit }
+        (indices_of (owners_in words.old.items) owner) visit.old }
     ensures words { words.new.items ≡ words.old.items }
     ensures found { HasFound (λ p x a q. F.step p x a q)
-        (indices_of (owners_in words.old.items) owner) visit result.0 result.1 }
+        (indices_of (owners_in words.old.items) owner) visit.old result visit.new }
 {
     let mut call = Find::new(capacity);
     for _ in 0..u64::MAX {
         match drive_to_stop(words, call, &owner, &mut ()) {
-            Stop::Ended(found) => return (found, visit),
+            Stop::Ended(found) => return found,
             Stop::Asked(question, asks) => {
-                let (said, next_visit) = visit_at(visit, index_in(question));
-                visit = next_visit;
+                let said = visit_at(visit, index_in(question));
                 let answer = as_answer(said);
                 match asks.take(&owner, &mut (), answer) {
                     After::GoOn(next) => call = next,
-                    After::Done(found) => return (found, visit),
+                    After::Done(found) => return found,
                 }
             }
         }
@@ -150,65 +148,57 @@ fn find<F: FnMut(usize) -> CallbackProgression>(
     unreachable!()
 }
 
-/// Asks the closure about the owner and the index, and hands it back.
+/// Asks the closure about the owner and the index.
 fn ask_about<F: FnMut(OwnerId, usize) -> bool>(
-    mut predicate: F,
+    predicate: &mut F,
     owner: OwnerId,
     index: usize,
-) -> (bool, F)
-    requires { F.pre predicate owner index }
-    ensures { F.step predicate owner index result.0 result.1 }
+) -> bool
+    requires { F.pre predicate.old owner index }
+    ensures { F.step predicate.old owner index result predicate.new }
 {
-    let yes = predicate(owner, index);
-    (yes, predicate)
+    predicate(owner, index)
 }
 
-/// Tells the closure of the owner and the index after a yes, and hands it back.
-fn tell_where<S: FnMut(OwnerId, usize)>(
-    mut recovered: S,
-    yes: bool,
-    owner: OwnerId,
-    index: usize,
-) -> S
-    requires { IsTrue yes → S.pre recovered owner index }
-    ensures told { IsTrue yes → S.step recovered owner index tt result }
-    ensures passed { IsFalse yes → result ≡ recovered }
+/// Tells the closure of the owner and the index after a yes.
+fn tell_where<S: FnMut(OwnerId, usize)>(recovered: &mut S, yes: bool, owner: OwnerId, index: usize)
+    requires { IsTrue yes → S.pre recovered.old owner index }
+    ensures told { IsTrue yes → S.step recovered.old owner index tt recovered.new }
+    ensures passed { IsFalse yes → recovered.new ≡ recovered.old }
 {
     if yes {
         recovered(owner, index);
     }
-    recovered
 }
 
-/// A recovery, over the words of a set. Hands the closures back.
+/// A recovery, over the words of a set.
 fn recover<F: FnMut(OwnerId, usize) -> bool, S: FnMut(OwnerId, usize)>(
     words: &mut Vec<u64>,
     capacity: u32,
     mode: ReleaseMode,
-    mut predicate: F,
-    mut recovered: S,
-) -> (ReleaseState, F, S)
+    predicate: &mut F,
+    recovered: &mut S,
+) -> ReleaseState
     requires fits { Represents capacity words.old.items }
     requires questions { TakesQuestions F.pre (λ p o i b q. F.step p o i b q)
-        (to_recover (owners_in words.old.items)) predicate }
+        (to_recover (owners_in words.old.items)) predicate.old }
     requires freed { TakesFreed (λ p o i b q. F.step p o i b q) S.pre
-        (λ s o i t. S.step s o i tt t) (to_recover (owners_in words.old.items)) predicate
-        recovered }
+        (λ s o i t. S.step s o i tt t) (to_recover (owners_in words.old.items)) predicate.old
+        recovered.old }
     ensures fits { Represents capacity words.new.items }
-    ensures state { result.0 ≡ state_of (owners_in words.new.items) }
+    ensures state { result ≡ state_of (owners_in words.new.items) }
     ensures calls { HasRecovered (λ p o i b q. F.step p o i b q) (λ s o i t. S.step s o i tt t)
-        mode (owners_in words.old.items) (owners_in words.new.items) predicate recovered
-        result.1 result.2 }
+        mode (owners_in words.old.items) (owners_in words.new.items) predicate.old recovered.old
+        predicate.new recovered.new }
 {
     let mut call = Recover::new(capacity);
     for _ in 0..u64::MAX {
         match drive_to_stop(words, call, &mode, &mut ()) {
-            Stop::Ended(state) => return (state, predicate, recovered),
+            Stop::Ended(state) => return state,
             Stop::Asked(question, asks) => match question {
                 Question::Owned(owner, index) => {
-                    let (yes, next_predicate) = ask_about(predicate, owner, index);
-                    predicate = next_predicate;
-                    recovered = tell_where(recovered, yes, owner, index);
+                    let yes = ask_about(predicate, owner, index);
+                    tell_where(recovered, yes, owner, index);
                     let answer = as_yes(yes);
                     match asks.take(&mode, &mut (), answer) {
                         After::GoOn(next) => call = next,
@@ -259,17 +249,16 @@ impl RobustUniqueIndexSet {
     pub fn find<F: FnMut(usize) -> CallbackProgression>(
         &mut self,
         owner: OwnerId,
-        visit: F,
+        visit: &mut F,
     ) -> usize
         requires { TakesIndices F.pre (λ p x a q. F.step p x a q) (indices_of self.old owner)
-            visit }
-        ensures found { (last : F) × HasFound (λ p x a q. F.step p x a q)
-            (indices_of self.old owner) visit result last }
+            visit.old }
+        ensures found { HasFound (λ p x a q. F.step p x a q) (indices_of self.old owner) visit.old
+            result visit.new }
         ensures map { self.new ≡ self.old }
     {
         let _ = owner.value();
-        let (found, _) = find(&mut self.words, self.capacity, owner, visit);
-        found
+        find(&mut self.words, self.capacity, owner, visit)
     }
 
     /// Asks `predicate` about each index that has an owner, ascending, and gives it back if the answer is true. Then it
@@ -279,26 +268,25 @@ impl RobustUniqueIndexSet {
     pub fn recover<F: FnMut(OwnerId, usize) -> bool, S: FnMut(OwnerId, usize)>(
         &mut self,
         mode: ReleaseMode,
-        predicate: F,
-        recover_success: S,
+        predicate: &mut F,
+        recover_success: &mut S,
     ) -> ReleaseState
         requires questions { TakesQuestions F.pre (λ p o i b q. F.step p o i b q)
-            (to_recover self.old) predicate }
+            (to_recover self.old) predicate.old }
         requires freed { TakesFreed (λ p o i b q. F.step p o i b q) S.pre
-            (λ s o i t. S.step s o i tt t) (to_recover self.old) predicate recover_success }
+            (λ s o i t. S.step s o i tt t) (to_recover self.old) predicate.old recover_success.old }
         ensures answer { result ≡ state_of self.new }
-        ensures calls { (f_last : F) × (s_last : S) × HasRecovered (λ p o i b q. F.step p o i b q)
-            (λ s o i t. S.step s o i tt t) mode self.old self.new predicate recover_success f_last
-            s_last }
+        ensures calls { HasRecovered (λ p o i b q. F.step p o i b q) (λ s o i t. S.step s o i tt t)
+            mode self.old self.new predicate.old recover_success.old predicate.new
+            recover_success.new }
     {
-        let (state, _, _) = recover(
+        recover(
             &mut self.words,
             self.capacity,
             mode,
             predicate,
             recover_success,
-        );
-        state
+        )
     }
 
     /// Returns how many indices have an owner, or 0 if the set is locked. It raises the generation.

@@ -41,43 +41,41 @@ pub fn end_of_element(first: u64, capacity: u64) -> u64
     }
 }
 
-/// Calls the closure with the place where it stood, and hands the closure back.
-fn call_standing<F: FnMut(usize)>(mut visit: F, stood: bool, place: u64) -> F
-    requires { IsTrue stood → F.pre visit place }
-    ensures called { IsTrue stood → F.step visit place tt result }
-    ensures passed { IsFalse stood → result ≡ visit }
+/// Calls the closure with the place where it stood.
+fn call_standing<F: FnMut(usize)>(visit: &mut F, stood: bool, place: u64)
+    requires { IsTrue stood → F.pre visit.old place }
+    ensures called { IsTrue stood → F.step visit.old place tt visit.new }
+    ensures passed { IsFalse stood → visit.new ≡ visit.old }
 {
     if stood {
         visit(place as usize);
     }
-    visit
 }
 
-/// Calls the closure with each place of one element whose flag was found, ascending, and hands it back. It ends at
-/// the last flag.
-pub fn visit_element<F: FnMut(usize)>(mut visit: F, found: u64, first: u64, end: u64) -> F
+/// Calls the closure with each place of one element whose flag was found, ascending. It ends at the last flag.
+pub fn visit_element<F: FnMut(usize)>(visit: &mut F, found: u64, first: u64, end: u64)
     requires order { first ≤ end }
     requires near { end ≤ first + 64 }
-    requires takes { Takes F.pre F.step (standing_in found first (end - first)) visit }
-    ensures { FoldsTo (λ p x q. F.step p x tt q) visit (standing_in found first (end - first)) result }
+    requires takes { Takes F.pre F.step (standing_in found first (end - first)) visit.old }
+    ensures { FoldsTo (λ p x q. F.step p x tt q) visit.old (standing_in found first (end - first))
+        visit.new }
 {
     let mut left = found;
     for place in first..end {
         if left == 0 {
-            return visit;
+            return;
         }
-        visit = call_standing(visit, has_flag(found, place), place);
+        call_standing(visit, has_flag(found, place), place);
         left = without_flag(left, place);
     }
-    visit
 }
 
-/// Calls the closure with a place and its count, where that is above 0, and hands the closure back.
-pub fn call_counted<F: FnMut(BitState)>(mut visit: F, place: u32, count: u64) -> F
-    requires { 0 < count → F.pre visit (record { bit = place; count = count }) }
+/// Calls the closure with a place and its count, where that is above 0.
+pub fn call_counted<F: FnMut(BitState)>(visit: &mut F, place: u32, count: u64)
+    requires { 0 < count → F.pre visit.old (record { bit = place; count = count }) }
     ensures called { 0 < count
-        → F.step visit (record { bit = place; count = count }) tt result }
-    ensures passed { count ≡ 0 → result ≡ visit }
+        → F.step visit.old (record { bit = place; count = count }) tt visit.new }
+    ensures passed { count ≡ 0 → visit.new ≡ visit.old }
 {
     if count > 0 {
         visit(BitState {
@@ -85,5 +83,4 @@ pub fn call_counted<F: FnMut(BitState)>(mut visit: F, place: u32, count: u64) ->
             count,
         });
     }
-    visit
 }

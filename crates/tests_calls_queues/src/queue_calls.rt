@@ -1,4 +1,5 @@
 //! The calls on a queue, and the queues of one caller.
+use plain::queues::List;
 use std::sync::Wait;
 use tests_calls::answer::Answer;
 use tests_calls::drawn::Draws;
@@ -130,23 +131,40 @@ pub fn alone(call: RoleCall, answer: &mut Answer) {
     }
 }
 
-fn looks<T: Numbered>(queue: &mut plain::Queue<T>, answer: &mut Answer) {
+fn looks<E: Copy, T: Numbered>(queue: &mut List<E, T>, answer: &mut Answer) {
     answer.number(queue.len() as u64);
     answer.truth(queue.is_empty());
     answer.truth(queue.is_full());
+}
+
+/// What a bounded queue of either type answers to a call that is no push.
+fn answers<E: Copy, T: Numbered>(queue: &mut List<E, T>, call: QueueCall, answer: &mut Answer) {
+    match call {
+        QueueCall::Push(_) => {}
+        QueueCall::Pop => popped(queue.pop(), answer),
+        QueueCall::Len => answer.number(queue.len() as u64),
+        QueueCall::IsEmpty => answer.truth(queue.is_empty()),
+        QueueCall::IsFull => answer.truth(queue.is_full()),
+        QueueCall::Looks => looks(queue, answer),
+        QueueCall::Capacity => answer.number(queue.capacity() as u64),
+        QueueCall::Role(_, call) => alone(call, answer),
+    }
 }
 
 impl<T: Numbered> Answers<QueueCall> for plain::Queue<T> {
     fn answer(&mut self, _rt: &impl Wait, call: QueueCall, answer: &mut Answer) {
         match call {
             QueueCall::Push(number) => answer.truth(self.push(&T::of_number(number))),
-            QueueCall::Pop => popped(self.pop(), answer),
-            QueueCall::Len => answer.number(self.len() as u64),
-            QueueCall::IsEmpty => answer.truth(self.is_empty()),
-            QueueCall::IsFull => answer.truth(self.is_full()),
-            QueueCall::Looks => looks(self, answer),
-            QueueCall::Capacity => answer.number(self.capacity() as u64),
-            QueueCall::Role(_, call) => alone(call, answer),
+            call => answers(self, call, answer),
+        }
+    }
+}
+
+impl Answers<QueueCall> for plain::IndexQueue {
+    fn answer(&mut self, _rt: &impl Wait, call: QueueCall, answer: &mut Answer) {
+        match call {
+            QueueCall::Push(number) => answer.truth(self.push(number)),
+            call => answers(self, call, answer),
         }
     }
 }

@@ -76,7 +76,7 @@ fn perhaps(place: Option<usize>, answer: &mut Answer) {
 #[tactic(auto, using(plain::proofs::Visits::takes_any))]
 fn empties(set: &mut plain::BitSet, answer: &mut Answer) {
     answer.word("done");
-    set.reset_all(|place| answer.number(place as u64));
+    set.reset_all(&mut |place| answer.number(place as u64));
 }
 
 impl Answers<BitCall> for plain::BitSet {

@@ -81,7 +81,7 @@ fn says(state: BitState, answer: &mut Answer) {
 #[tactic(auto, using(plain::proofs::Visits::takes_any))]
 fn empties(set: &mut plain::CountingBitSet, answer: &mut Answer) {
     answer.word("done");
-    set.reset_all(|state| says(state, answer));
+    set.reset_all(&mut |state| says(state, answer));
 }
 
 impl Answers<CountCall> for plain::CountingBitSet {

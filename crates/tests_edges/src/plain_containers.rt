@@ -59,16 +59,19 @@ fn a_refused_state(rt: HostRuntime) -> Result<(), Fail> {
 /// Whether a find of the owner comes to the values 1 and 4, at the first two indices.
 fn finds(container: &mut Container<Greatest>, owner: OwnerId) -> bool {
     let mut digits = 0u64;
-    let found = container.find(owner, |value, handle| {
-        digits = digits
-            .wrapping_mul(10)
-            .wrapping_add(value.number())
-            .wrapping_mul(10)
-            .wrapping_add(handle.index as u64)
-            .wrapping_mul(10)
-            .wrapping_add(handle.container);
-        CallbackProgression::Continue
-    });
+    let found = container.find(
+        owner,
+        &mut |value, handle| {
+            digits = digits
+                .wrapping_mul(10)
+                .wrapping_add(value.number())
+                .wrapping_mul(10)
+                .wrapping_add(handle.index as u64)
+                .wrapping_mul(10)
+                .wrapping_add(handle.container);
+            CallbackProgression::Continue
+        },
+    );
     found == 2 && digits == 109_419
 }
 
@@ -77,7 +80,7 @@ fn recovers(container: &mut Container<Greatest>, owner: OwnerId) -> bool {
     let mut digits = 0u64;
     let state = container.recover(
         owner,
-        |value| {
+        &mut |value| {
             digits = digits.wrapping_mul(10).wrapping_add(value.number());
             true
         },

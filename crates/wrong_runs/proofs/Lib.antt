@@ -10,6 +10,11 @@ pub mod Indices
 pub mod Loan
 pub mod Machines
 pub mod Open
+pub mod OrdersContainer
+pub mod OrdersLoan
+pub mod OrdersOwners
+pub mod OrdersQueues
+pub mod OrdersSets
 pub mod Queues
 pub mod Robust
 pub mod Value

@@ -289,9 +289,7 @@ module _ {F : Type 0} (pre : F → ℕ → Type 0) (step : F → ℕ → Unit {0
       pub still_fits : Represents capacity words
       still_fits = grind arith
 
-      pub all_called : WasCalled step (standing (places_in capacity before)) first
-      all_called = (
-        visit,
-        h.calls visit
-            (subst (λ xs. Folds visit xs visit) (sym (ap (left capacity before) at_end ∙ nothing_left capacity before)) refl),
-      )
+      pub all_called : WasCalled step (standing (places_in capacity before)) first visit
+      all_called =
+          h.calls visit
+          (subst (λ xs. Folds visit xs visit) (sym (ap (left capacity before) at_end ∙ nothing_left capacity before)) refl)

@@ -16,48 +16,46 @@ use steps::indices::enums::{ReleaseMode, ReleaseState};
 use steps::routine::Routine;
 use steps::words::Words;
 
-/// Asks the closure about the value, and hands it back.
-fn ask_about<T: Words, F: FnMut(T) -> bool>(mut predicate: F, value: T) -> (bool, F)
-    requires { F.pre predicate value }
-    ensures { F.step predicate value result.0 result.1 }
+/// Asks the closure about the value.
+fn ask_about<T: Words, F: FnMut(T) -> bool>(predicate: &mut F, value: T) -> bool
+    requires { F.pre predicate.old value }
+    ensures { F.step predicate.old value result predicate.new }
 {
-    let yes = predicate(value);
-    (yes, predicate)
+    predicate(value)
 }
 
-/// A recovery, over the words of a container. Hands the closure back.
+/// A recovery, over the words of a container.
 fn recover<T: Words, F: FnMut(T) -> bool>(
     words: &mut Vec<u64>,
     capacity: u32,
     id: u64,
     owner: OwnerId,
     mode: ReleaseMode,
-    mut predicate: F,
-) -> (ReleaseState, F)
+    predicate: &mut F,
+) -> ReleaseState
     requires holds { Holds T.value_of T.WORDS capacity id words.old.items }
     requires owner { owner < 2 ^ 64 - 1 }
     requires questions { TakesQuestions
         (MayAsk F.pre (contents_in T.value_of T.WORDS capacity id words.old.items))
         (Says (λ p x b q. F.step p x b q)
         (contents_in T.value_of T.WORDS capacity id words.old.items))
-        (to_ask (contents_in T.value_of T.WORDS capacity id words.old.items) owner) predicate }
+        (to_ask (contents_in T.value_of T.WORDS capacity id words.old.items) owner) predicate.old }
     ensures holds { Holds T.value_of T.WORDS capacity id words.new.items }
-    ensures state { result.0
+    ensures state { result
         ≡ state_of (contents_in T.value_of T.WORDS capacity id words.new.items).owners }
     ensures calls { HasRecovered (λ p x b q. F.step p x b q) owner mode
         (contents_in T.value_of T.WORDS capacity id words.old.items)
-        (contents_in T.value_of T.WORDS capacity id words.new.items) predicate result.1 }
+        (contents_in T.value_of T.WORDS capacity id words.new.items) predicate.old predicate.new }
 {
     let given = DeadOwner { owner, mode };
     let mut room = Copied::new();
     let mut call = Recover::<T, Copied>::new(capacity);
     for _ in 0..u64::MAX {
         match drive_to_stop(words, call, &given, &mut room) {
-            Stop::Ended(state) => return (state, predicate),
+            Stop::Ended(state) => return state,
             Stop::Asked(_, asks) => {
                 let value = Recover::<T, Copied>::value(&given, &room);
-                let (yes, next_predicate) = ask_about::<T, F>(predicate, value);
-                predicate = next_predicate;
+                let yes = ask_about::<T, F>(predicate, value);
                 let answer = as_yes(yes);
                 match asks.take(&given, &mut room, answer) {
                     After::GoOn(next) => call = next,
@@ -77,24 +75,23 @@ impl<T: Words> Container<T> {
     pub fn recover<F: FnMut(T) -> bool>(
         &mut self,
         owner: OwnerId,
-        predicate: F,
+        predicate: &mut F,
         mode: ReleaseMode,
     ) -> ReleaseState
         requires { TakesQuestions (MayAsk F.pre self.old) (Says (λ p x b q. F.step p x b q) self.old)
-            (to_ask self.old owner) predicate }
+            (to_ask self.old owner) predicate.old }
         ensures answer { result ≡ state_of self.new.owners }
-        ensures calls { (last : F) × HasRecovered (λ p x b q. F.step p x b q) owner mode self.old
-            self.new predicate last }
+        ensures calls { HasRecovered (λ p x b q. F.step p x b q) owner mode self.old self.new
+            predicate.old predicate.new }
     {
         let _ = owner.value();
-        let (state, _) = recover::<T, F>(
+        recover::<T, F>(
             &mut self.words,
             self.capacity,
             self.id,
             owner,
             mode,
             predicate,
-        );
-        state
+        )
     }
 }

@@ -16,27 +16,26 @@ use steps::enums::{CallbackProgression, OwnerId};
 use steps::routine::Routine;
 use steps::words::Words;
 
-/// Calls the closure with the value and its handle, and hands it back.
+/// Calls the closure with the value and its handle.
 fn visit_value<T: Words, F: FnMut(T, ContainerHandle) -> CallbackProgression>(
-    mut visit: F,
+    visit: &mut F,
     value: T,
     handle: ContainerHandle,
-) -> (CallbackProgression, F)
-    requires { F.pre visit value handle }
-    ensures { F.step visit value handle result.0 result.1 }
+) -> CallbackProgression
+    requires { F.pre visit.old value handle }
+    ensures { F.step visit.old value handle result visit.new }
 {
-    let said = visit(value, handle);
-    (said, visit)
+    visit(value, handle)
 }
 
-/// A find, over the words of a container. Hands the closure back.
+/// A find, over the words of a container.
 fn find<T: Words, F: FnMut(T, ContainerHandle) -> CallbackProgression>(
     words: &mut Vec<u64>,
     capacity: u32,
     id: u64,
     owner: OwnerId,
-    mut visit: F,
-) -> (usize, F)
+    visit: &mut F,
+) -> usize
     requires holds { Holds T.value_of T.WORDS capacity id words.old.items }
     requires owner { owner < 2 ^ 64 - 1 }
     requires visits { TakesIndices
@@ -44,19 +43,19 @@ fn find<T: Words, F: FnMut(T, ContainerHandle) -> CallbackProgression>(
         (Sees (λ p x h a q. F.step p x h a q)
         (contents_in T.value_of T.WORDS capacity id words.old.items) owner)
         (indices_of (contents_in T.value_of T.WORDS capacity id words.old.items).owners owner)
-        visit }
+        visit.old }
     ensures words { words.new.items ≡ words.old.items }
     ensures found { HasFound
         (Sees (λ p x h a q. F.step p x h a q)
         (contents_in T.value_of T.WORDS capacity id words.old.items) owner)
         (indices_of (contents_in T.value_of T.WORDS capacity id words.old.items).owners owner)
-        visit result.0 result.1 }
+        visit.old result visit.new }
 {
     let mut room = Copied::new();
     let mut call = Find::<T, Copied>::new(capacity);
     for _ in 0..u64::MAX {
         match drive_to_stop(words, call, &owner, &mut room) {
-            Stop::Ended(found) => return (found, visit),
+            Stop::Ended(found) => return found,
             Stop::Asked(question, asks) => {
                 let value = Find::<T, Copied>::value(&owner, &room);
                 let handle = ContainerHandle {
@@ -64,12 +63,11 @@ fn find<T: Words, F: FnMut(T, ContainerHandle) -> CallbackProgression>(
                     owner,
                     container: id,
                 };
-                let (said, next_visit) = visit_value::<T, F>(visit, value, handle);
-                visit = next_visit;
+                let said = visit_value::<T, F>(visit, value, handle);
                 let answer = as_answer(said);
                 match asks.take(&owner, &mut room, answer) {
                     After::GoOn(next) => call = next,
-                    After::Done(found) => return (found, visit),
+                    After::Done(found) => return found,
                 }
             }
         }
@@ -84,17 +82,16 @@ impl<T: Words> Container<T> {
     pub fn find<F: FnMut(T, ContainerHandle) -> CallbackProgression>(
         &mut self,
         owner: OwnerId,
-        visit: F,
+        visit: &mut F,
     ) -> usize
         requires { TakesIndices (MaySee F.pre self.old owner)
             (Sees (λ p x h a q. F.step p x h a q) self.old owner)
-            (indices_of self.old.owners owner) visit }
-        ensures found { (last : F) × HasFound (Sees (λ p x h a q. F.step p x h a q) self.old owner)
-            (indices_of self.old.owners owner) visit result last }
+            (indices_of self.old.owners owner) visit.old }
+        ensures found { HasFound (Sees (λ p x h a q. F.step p x h a q) self.old owner)
+            (indices_of self.old.owners owner) visit.old result visit.new }
         ensures map { self.new ≡ self.old }
     {
         let _ = owner.value();
-        let (found, _) = find::<T, F>(&mut self.words, self.capacity, self.id, owner, visit);
-        found
+        find::<T, F>(&mut self.words, self.capacity, self.id, owner, visit)
     }
 }

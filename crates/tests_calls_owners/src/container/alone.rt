@@ -160,11 +160,14 @@ impl<T: Numbered> Alone<T> {
     fn finds(&mut self, owner: OwnerId, stop: u64, answer: &mut Answer) {
         let mut number = 0u64;
         let container = self.number;
-        let came = self.container.find(owner, |value, handle| {
-            number = number.wrapping_add(1);
-            found(value, handle, owner, container, answer);
-            goes_on(number, stop)
-        });
+        let came = self.container.find(
+            owner,
+            &mut |value, handle| {
+                number = number.wrapping_add(1);
+                found(value, handle, owner, container, answer);
+                goes_on(number, stop)
+            },
+        );
         answer.word("found");
         answer.number(came as u64);
     }
@@ -175,7 +178,7 @@ impl<T: Numbered> Alone<T> {
         let mut asked = Heard::new(answer.alloc());
         let state = self.container.recover(
             owner,
-            |value| {
+            &mut |value| {
                 asked.hear(value.number());
                 answers.next(frees, owner)
             },

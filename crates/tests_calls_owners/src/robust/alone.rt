@@ -75,11 +75,14 @@ fn releases(
 fn finds(set: &mut RobustUniqueIndexSet, owner: OwnerId, stop: u64, answer: &mut Answer) {
     let mut number = 0u64;
     answer.word("at");
-    let found = set.find(owner, |index| {
-        number = number.wrapping_add(1);
-        answer.number(index as u64);
-        goes_on(number, stop)
-    });
+    let found = set.find(
+        owner,
+        &mut |index| {
+            number = number.wrapping_add(1);
+            answer.number(index as u64);
+            goes_on(number, stop)
+        },
+    );
     answer.word("found");
     answer.number(found as u64);
 }
@@ -90,11 +93,11 @@ fn recovers(set: &mut RobustUniqueIndexSet, mode: ReleaseMode, frees: Frees, ans
     let mut told = Heard::new(answer.alloc());
     let state = set.recover(
         mode,
-        |owner, index| {
+        &mut |owner, index| {
             hear(&mut asked, asks_owner(frees), owner, index);
             answers.next(frees, owner)
         },
-        |owner, index| hear(&mut told, says_owner(frees, owner), owner, index),
+        &mut |owner, index| hear(&mut told, says_owner(frees, owner), owner, index),
     );
     ended(state, answer);
     asked.say("asked", answer);

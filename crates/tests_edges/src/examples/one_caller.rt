@@ -20,7 +20,7 @@ fn counts(rt: HostRuntime) -> Result<(), Fail> {
     let mut counts = CountingBitSet::new(rt.alloc(), 8)?;
     assert!(rt; counts.set(3) == 0 && counts.set(3) == 1);
     let mut last = (0, 0);
-    counts.reset_all(|state| last = (state.bit(), state.count()));
+    counts.reset_all(&mut |state| last = (state.bit(), state.count()));
     assert!(rt; last == (3, 2));
     Ok(())
 }
@@ -71,7 +71,7 @@ fn queue_of_values(rt: HostRuntime) -> Result<(), Fail> {
 #[test]
 fn queue_of_numbers(rt: HostRuntime) -> Result<(), Fail> {
     let mut queue = IndexQueue::new(rt.alloc(), 1)?;
-    assert!(rt; queue.push(&3) && !queue.push(&4));
+    assert!(rt; queue.push(3) && !queue.push(4));
     assert!(rt; queue.pop() == Some(3));
     Ok(())
 }

@@ -3,34 +3,34 @@ use Rattle.plain.proofs.Emptied.{Emptying, callable, empties_one, ends}
 use Rattle.plain.proofs.counts.empty.Given as given
 use Rattle.plain.proofs.counts.empty.Goals as goal
 
-pub call_counted-visit-requires : goal.call_counted-visit-requires
-call_counted-visit-requires g c some =
+pub call_counted-requires : goal.call_counted-requires
+call_counted-requires g c some =
     let test = c.loop-place-test.true in
-    callable (given.F-pre g) (given.F-step g) c.args.capacity c.args.words.now.items c.args.visit c.loop-place.place
+    callable (given.F-pre g) (given.F-step g) c.args.capacity c.args.words.now.items c.args.visit.now c.loop-place.place
     (omega arith) c.loop-place.call c.loop-place.words.items c.loop-place.visit c.loop-place.invariant
     c.swap_next-count.result c.swap_next-count.ensures.answer some
 
 pub loop-place-preserved : goal.loop-place-preserved
 loop-place-preserved g c =
     let test = c.loop-place-test.true in
-    empties_one (given.F-pre g) (given.F-step g) c.args.capacity c.args.words.now.items c.args.visit
+    empties_one (given.F-pre g) (given.F-step g) c.args.capacity c.args.words.now.items c.args.visit.now
     c.loop-place.place (omega arith) c.loop-place.call c.loop-place.words.items c.loop-place.visit
     c.loop-place.invariant c.swap_next-count.result c.swap_next-count.ensures.answer
     c.swap_next-count.new.call c.swap_next-count.new.words.items c.swap_next-count.ensures.words c.swap_next-count.ensures.call
-    c.call_counted-visit.result c.call_counted-visit.ensures.called c.call_counted-visit.ensures.passed
+    c.call_counted.new.visit c.call_counted.ensures.called c.call_counted.ensures.passed
 
 pub returns-clause-counts : goal.returns-clause-counts
 returns-clause-counts g c =
     let end : c.loop-place.place ≡ c.args.capacity = let test = c.loop-place-test.false in omega arith in
-    (ends (given.F-pre g) (given.F-step g) c.args.capacity c.args.words.now.items c.args.visit c.loop-place.call c.loop-place.words.items c.loop-place.visit
-    (subst (λ n. Emptying (given.F-pre g) (given.F-step g) c.args.capacity c.args.words.now.items c.args.visit n
+    (ends (given.F-pre g) (given.F-step g) c.args.capacity c.args.words.now.items c.args.visit.now c.loop-place.call c.loop-place.words.items c.loop-place.visit
+    (subst (λ n. Emptying (given.F-pre g) (given.F-step g) c.args.capacity c.args.words.now.items c.args.visit.now n
     c.loop-place.call c.loop-place.words.items c.loop-place.visit)
     end c.loop-place.invariant)).0
 
 pub returns-clause-calls : goal.returns-clause-calls
 returns-clause-calls g c =
     let end : c.loop-place.place ≡ c.args.capacity = let test = c.loop-place-test.false in omega arith in
-    (ends (given.F-pre g) (given.F-step g) c.args.capacity c.args.words.now.items c.args.visit c.loop-place.call c.loop-place.words.items c.loop-place.visit
-    (subst (λ n. Emptying (given.F-pre g) (given.F-step g) c.args.capacity c.args.words.now.items c.args.visit n
+    (ends (given.F-pre g) (given.F-step g) c.args.capacity c.args.words.now.items c.args.visit.now c.loop-place.call c.loop-place.words.items c.loop-place.visit
+    (subst (λ n. Emptying (given.F-pre g) (given.F-step g) c.args.capacity c.args.words.now.items c.args.visit.now n
     c.loop-place.call c.loop-place.words.items c.loop-place.visit)
     end c.loop-place.invariant)).1

@@ -12,43 +12,43 @@ drive_to_stop-requires x0 x1 = grind (arith, can_go)
 
 pub returns-in-Ended-clause-words : goal.returns-in-Ended-clause-words
 returns-in-Ended-clause-words g c =
-    (ended_so (λ p x a q. given.F-step g p x a q) c.args.visit c.args.capacity c.args.owner c.args.words.now.items
+    (ended_so (λ p x a q. given.F-step g p x a q) c.args.visit.now c.args.capacity c.args.owner c.args.words.now.items
     c.loop.counter c.loop.call c.loop.visit c.loop.words.items c.in-Ended.found c.drive_to_stop.new.room
     c.drive_to_stop.new.words.items c.loop.invariant c.in-Ended.ensures.alone).1
 
 pub returns-in-Ended-clause-found : goal.returns-in-Ended-clause-found
 returns-in-Ended-clause-found g c =
-    (ended_so (λ p x a q. given.F-step g p x a q) c.args.visit c.args.capacity c.args.owner c.args.words.now.items
+    (ended_so (λ p x a q. given.F-step g p x a q) c.args.visit.now c.args.capacity c.args.owner c.args.words.now.items
     c.loop.counter c.loop.call c.loop.visit c.loop.words.items c.in-Ended.found c.drive_to_stop.new.room
     c.drive_to_stop.new.words.items c.loop.invariant c.in-Ended.ensures.alone).0
 
 pub visit_at-said-requires : goal.visit_at-said-requires
 visit_at-said-requires g c =
-    may_so (λ p x a q. given.F-step g p x a q) c.args.visit c.args.capacity c.args.owner c.args.words.now.items
+    may_so (λ p x a q. given.F-step g p x a q) c.args.visit.now c.args.capacity c.args.owner c.args.words.now.items
     c.loop.counter c.loop.call c.loop.visit c.loop.words.items c.in-Asked.question c.in-Asked.asks
     c.drive_to_stop.new.room c.drive_to_stop.new.words.items c.loop.invariant c.in-Asked.ensures.alone c.index_in.result
     c.index_in.ensures c.requires.indices
 
 pub returns-in-Done-clause-words : goal.returns-in-Done-clause-words
 returns-in-Done-clause-words g c =
-    (further_so (λ p x a q. given.F-step g p x a q) c.args.visit c.args.capacity c.args.owner c.args.words.now.items
+    (further_so (λ p x a q. given.F-step g p x a q) c.args.visit.now c.args.capacity c.args.owner c.args.words.now.items
     c.loop.counter c.loop.call c.loop.visit c.loop.words.items c.in-Asked.question c.in-Asked.asks
     c.drive_to_stop.new.room c.drive_to_stop.new.words.items c.loop.invariant c.in-Asked.ensures.alone c.index_in.result
-    c.index_in.ensures c.visit_at-said.result.0 c.visit_at-said.result.1 c.visit_at-said.ensures
+    c.index_in.ensures c.visit_at-said.result c.visit_at-said.new.visit c.visit_at-said.ensures
     c.as_answer-answer.result c.as_answer-answer.ensures _ (sym c.in-Done.is ∙ c.take.ensures.goes)).1
 
 pub returns-in-Done-clause-found : goal.returns-in-Done-clause-found
 returns-in-Done-clause-found g c =
-    (further_so (λ p x a q. given.F-step g p x a q) c.args.visit c.args.capacity c.args.owner c.args.words.now.items
+    (further_so (λ p x a q. given.F-step g p x a q) c.args.visit.now c.args.capacity c.args.owner c.args.words.now.items
     c.loop.counter c.loop.call c.loop.visit c.loop.words.items c.in-Asked.question c.in-Asked.asks
     c.drive_to_stop.new.room c.drive_to_stop.new.words.items c.loop.invariant c.in-Asked.ensures.alone c.index_in.result
-    c.index_in.ensures c.visit_at-said.result.0 c.visit_at-said.result.1 c.visit_at-said.ensures
+    c.index_in.ensures c.visit_at-said.result c.visit_at-said.new.visit c.visit_at-said.ensures
     c.as_answer-answer.result c.as_answer-answer.ensures _ (sym c.in-Done.is ∙ c.take.ensures.goes)).0
 
 pub loop-preserved : goal.loop-preserved
 loop-preserved g c =
-    further_so (λ p x a q. given.F-step g p x a q) c.args.visit c.args.capacity c.args.owner c.args.words.now.items
+    further_so (λ p x a q. given.F-step g p x a q) c.args.visit.now c.args.capacity c.args.owner c.args.words.now.items
     c.loop.counter c.loop.call c.loop.visit c.loop.words.items c.in-Asked.question c.in-Asked.asks
     c.drive_to_stop.new.room c.drive_to_stop.new.words.items c.loop.invariant c.in-Asked.ensures.alone c.index_in.result
-    c.index_in.ensures c.visit_at-said.result.0 c.visit_at-said.result.1 c.visit_at-said.ensures
+    c.index_in.ensures c.visit_at-said.result c.visit_at-said.new.visit c.visit_at-said.ensures
     c.as_answer-answer.result c.as_answer-answer.ensures _ (sym c.in-GoOn.is ∙ c.take.ensures.goes)

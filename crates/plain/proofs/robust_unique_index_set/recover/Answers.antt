@@ -18,46 +18,46 @@ returns-in-Ended-clause-state x0 x1 = grind (arith, ended_so)
 pub returns-in-Ended-clause-calls : goal.returns-in-Ended-clause-calls
 returns-in-Ended-clause-calls g c =
     (ended_so (λ p o i b q. given.F-step g p o i b q) (λ s o i t. given.S-step g s o i tt t) c.args.mode
-    c.args.predicate c.args.recovered c.args.capacity c.args.words.now.items c.loop.counter c.loop.call c.loop.predicate
+    c.args.predicate.now c.args.recovered.now c.args.capacity c.args.words.now.items c.loop.counter c.loop.call c.loop.predicate
     c.loop.recovered c.loop.words.items c.loop.invariant c.in-Ended.state c.drive_to_stop.new.room
     c.drive_to_stop.new.words.items c.in-Ended.ensures.alone).calls
 
 pub ask_about-yes-requires : goal.ask_about-yes-requires
 ask_about-yes-requires g c =
-    may_ask (λ p o i b q. given.F-step g p o i b q) (λ s o i t. given.S-step g s o i tt t) c.args.mode c.args.predicate
-    c.args.recovered c.args.capacity c.args.words.now.items c.loop.counter c.loop.call c.loop.predicate c.loop.recovered
+    may_ask (λ p o i b q. given.F-step g p o i b q) (λ s o i t. given.S-step g s o i tt t) c.args.mode c.args.predicate.now
+    c.args.recovered.now c.args.capacity c.args.words.now.items c.loop.counter c.loop.call c.loop.predicate c.loop.recovered
     c.loop.words.items c.loop.invariant c.in-Asked.question c.in-Asked.asks c.drive_to_stop.new.words.items
-    (asks_so (λ p o i b q. given.F-step g p o i b q) (λ s o i t. given.S-step g s o i tt t) c.args.mode c.args.predicate
-    c.args.recovered c.args.capacity c.args.words.now.items c.loop.counter c.loop.call c.loop.predicate c.loop.recovered
+    (asks_so (λ p o i b q. given.F-step g p o i b q) (λ s o i t. given.S-step g s o i tt t) c.args.mode c.args.predicate.now
+    c.args.recovered.now c.args.capacity c.args.words.now.items c.loop.counter c.loop.call c.loop.predicate c.loop.recovered
     c.loop.words.items c.loop.invariant c.in-Asked.question c.in-Asked.asks c.drive_to_stop.new.room
     c.drive_to_stop.new.words.items c.in-Asked.ensures.alone)
     c.in-Owned.owner c.in-Owned.index c.in-Owned.is c.requires.questions
 
-pub tell_where-recovered-requires : goal.tell_where-recovered-requires
-tell_where-recovered-requires g c agrees =
-    may_tell (λ p o i b q. given.F-step g p o i b q) (λ s o i t. given.S-step g s o i tt t) c.args.mode c.args.predicate
-    c.args.recovered c.args.capacity c.args.words.now.items c.loop.counter c.loop.call c.loop.predicate c.loop.recovered
+pub tell_where-requires : goal.tell_where-requires
+tell_where-requires g c agrees =
+    may_tell (λ p o i b q. given.F-step g p o i b q) (λ s o i t. given.S-step g s o i tt t) c.args.mode c.args.predicate.now
+    c.args.recovered.now c.args.capacity c.args.words.now.items c.loop.counter c.loop.call c.loop.predicate c.loop.recovered
     c.loop.words.items c.loop.invariant c.in-Asked.question c.in-Asked.asks c.drive_to_stop.new.words.items
-    (asks_so (λ p o i b q. given.F-step g p o i b q) (λ s o i t. given.S-step g s o i tt t) c.args.mode c.args.predicate
-    c.args.recovered c.args.capacity c.args.words.now.items c.loop.counter c.loop.call c.loop.predicate c.loop.recovered
+    (asks_so (λ p o i b q. given.F-step g p o i b q) (λ s o i t. given.S-step g s o i tt t) c.args.mode c.args.predicate.now
+    c.args.recovered.now c.args.capacity c.args.words.now.items c.loop.counter c.loop.call c.loop.predicate c.loop.recovered
     c.loop.words.items c.loop.invariant c.in-Asked.question c.in-Asked.asks c.drive_to_stop.new.room
     c.drive_to_stop.new.words.items c.in-Asked.ensures.alone)
-    c.in-Owned.owner c.in-Owned.index c.in-Owned.is c.requires.freed c.ask_about-yes.result.1 c.ask_about-yes.result.0
+    c.in-Owned.owner c.in-Owned.index c.in-Owned.is c.requires.freed c.ask_about-yes.new.predicate c.ask_about-yes.result
     c.ask_about-yes.ensures agrees
 
 pub loop-preserved : goal.loop-preserved
 loop-preserved g c =
     onward_so (λ p o i b q. given.F-step g p o i b q) (λ s o i t. given.S-step g s o i tt t) c.args.mode
-    c.args.predicate c.args.recovered c.args.capacity c.args.words.now.items c.loop.counter c.loop.call c.loop.predicate
+    c.args.predicate.now c.args.recovered.now c.args.capacity c.args.words.now.items c.loop.counter c.loop.call c.loop.predicate
     c.loop.recovered c.loop.words.items c.loop.invariant c.in-Asked.question c.in-Asked.asks
     c.drive_to_stop.new.words.items
-    (asks_so (λ p o i b q. given.F-step g p o i b q) (λ s o i t. given.S-step g s o i tt t) c.args.mode c.args.predicate
-    c.args.recovered c.args.capacity c.args.words.now.items c.loop.counter c.loop.call c.loop.predicate c.loop.recovered
+    (asks_so (λ p o i b q. given.F-step g p o i b q) (λ s o i t. given.S-step g s o i tt t) c.args.mode c.args.predicate.now
+    c.args.recovered.now c.args.capacity c.args.words.now.items c.loop.counter c.loop.call c.loop.predicate c.loop.recovered
     c.loop.words.items c.loop.invariant c.in-Asked.question c.in-Asked.asks c.drive_to_stop.new.room
     c.drive_to_stop.new.words.items c.in-Asked.ensures.alone)
-    c.in-Owned.owner c.in-Owned.index c.in-Owned.is c.ask_about-yes.result.0 c.ask_about-yes.result.1
-    c.tell_where-recovered.result c.ask_about-yes.ensures c.tell_where-recovered.ensures.told
-    c.tell_where-recovered.ensures.passed c.as_yes-answer.result c.as_yes-answer.ensures _
+    c.in-Owned.owner c.in-Owned.index c.in-Owned.is c.ask_about-yes.result c.ask_about-yes.new.predicate
+    c.tell_where.new.recovered c.ask_about-yes.ensures c.tell_where.ensures.told
+    c.tell_where.ensures.passed c.as_yes-answer.result c.as_yes-answer.ensures _
     (sym c.in-GoOn.is ∙ c.take.ensures.goes)
 
 -- it asks fewer questions than the loop has rounds
@@ -65,7 +65,7 @@ pub unreachable-requires-2 : goal.unreachable-requires-2
 unreachable-requires-2 g c =
     let few : c.loop.counter < 2 ^ 64 - 1 =
     few_rounds (λ p o i b q. given.F-step g p o i b q) (λ s o i t. given.S-step g s o i tt t) c.args.mode
-    c.args.predicate c.args.recovered c.args.capacity c.args.words.now.items c.requires.fits c.loop.counter
+    c.args.predicate.now c.args.recovered.now c.args.capacity c.args.words.now.items c.requires.fits c.loop.counter
     c.loop.call c.loop.predicate c.loop.recovered c.loop.words.items c.loop.invariant in
     let far = c.loop-test.false in
     omega (arith, few, far)

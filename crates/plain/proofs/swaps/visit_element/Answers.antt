@@ -5,29 +5,29 @@ use Rattle.plain.proofs.Places.Empties.{may_visit, visits_one, visited}
 use Rattle.plain.proofs.swaps.visit_element.Given as given
 use Rattle.plain.proofs.swaps.visit_element.Goals as goal
 
-pub call_standing-visit-requires : goal.call_standing-visit-requires
-call_standing-visit-requires g c stood =
-    may_visit (given.F-pre g) (given.F-step g) c.args.found c.args.end c.args.first c.args.visit c.loop-place.place
+pub call_standing-requires : goal.call_standing-requires
+call_standing-requires g c stood =
+    may_visit (given.F-pre g) (given.F-step g) c.args.found c.args.end c.args.first c.args.visit.now c.loop-place.place
     c.loop-place.left c.loop-place.visit (let test = c.loop-place-test.true in omega arith) c.loop-place.invariant
     c.has_flag.result c.has_flag.ensures stood
 
 pub loop-place-preserved : goal.loop-place-preserved
 loop-place-preserved g c =
-    visits_one (given.F-pre g) (given.F-step g) c.args.found c.args.end c.args.first c.args.visit c.loop-place.place
+    visits_one (given.F-pre g) (given.F-step g) c.args.found c.args.end c.args.first c.args.visit.now c.loop-place.place
     c.loop-place.left c.without_flag-left.result c.loop-place.visit
     (let test = c.loop-place-test.true in omega arith) (let near = c.requires.near in omega arith)
     (let from = c.loop-place.auto.place in omega arith) c.loop-place.invariant
-    c.has_flag.result c.has_flag.ensures c.call_standing-visit.result
-    c.call_standing-visit.ensures.called c.call_standing-visit.ensures.passed c.without_flag-left.ensures.others
+    c.has_flag.result c.has_flag.ensures c.call_standing.new.visit
+    c.call_standing.ensures.called c.call_standing.ensures.passed c.without_flag-left.ensures.others
 
 pub returns : goal.returns
 returns g c =
-    visited (given.F-pre g) (given.F-step g) c.args.found c.args.end c.args.first c.args.visit c.loop-place.place
+    visited (given.F-pre g) (given.F-step g) c.args.found c.args.end c.args.first c.args.visit.now c.loop-place.place
     c.loop-place.left c.loop-place.visit c.loop-place.invariant
     (λ q low high. let test = c.loop-place-test.false in absurd (omega arith))
 
 pub returns-then-left-eq0 : goal.returns-then-left-eq0
 returns-then-left-eq0 g c =
-    visited (given.F-pre g) (given.F-step g) c.args.found c.args.end c.args.first c.args.visit c.loop-place.place
+    visited (given.F-pre g) (given.F-step g) c.args.found c.args.end c.args.first c.args.visit.now c.loop-place.place
     c.loop-place.left c.loop-place.visit c.loop-place.invariant
     (λ q low high. ap (λ w. has_flag w q) c.if-left-eq0.true ∙ none_stands q)

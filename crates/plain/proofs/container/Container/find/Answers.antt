@@ -3,8 +3,8 @@ use Rattle.plain.proofs.Elements.Finding.{takes_at, found_at}
 use Rattle.plain.proofs.container.Container.find.Goals as goal
 use Rattle.plain.proofs.container.Container.find.Given as given
 
-pub find-found-requires-clause-visits : goal.find-found-requires-clause-visits
-find-found-requires-clause-visits x0 x1 = grind (arith, takes_at)
+pub find-requires-clause-visits : goal.find-requires-clause-visits
+find-requires-clause-visits x0 x1 = grind (arith, takes_at)
 
 pub returns-clause-found : goal.returns-clause-found
-returns-clause-found g c = (c.find-found.result.1, found_at (λ p x h a q. given.F-step g p x h a q) c.self.view_is c.find-found.ensures.found)
+returns-clause-found g c = found_at (λ p x h a q. given.F-step g p x h a q) c.self.view_is c.find.ensures.found

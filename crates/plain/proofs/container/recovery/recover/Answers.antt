@@ -21,7 +21,7 @@ pub returns-in-Ended-clause-calls : goal.returns-in-Ended-clause-calls
 returns-in-Ended-clause-calls g c =
     (ended_so g.T.Words.value_of (λ (x : Buffer 128). x.words)
     (λ x at word. record x { words = slice_set x.words at word }) (λ x at word. refl)
-    (λ p x b q. given.F-step g p x b q) c.args.predicate g.T.Words.WORDS c.args.capacity c.args.id c.args.owner
+    (λ p x b q. given.F-step g p x b q) c.args.predicate.now g.T.Words.WORDS c.args.capacity c.args.id c.args.owner
     c.args.mode c.args.words.now.items c.loop.counter c.loop.call c.loop.room c.loop.predicate c.loop.words.items
     c.loop.invariant c.in-Ended.state c.drive_to_stop.new.room c.drive_to_stop.new.words.items
     c.in-Ended.ensures.alone).calls
@@ -30,7 +30,7 @@ pub ask_about-yes-requires : goal.ask_about-yes-requires
 ask_about-yes-requires g c =
     may_so g.T.Words.value_of (λ (x : Buffer 128). x.words)
     (λ x at word. record x { words = slice_set x.words at word }) (λ x at word. refl)
-    (λ p x b q. given.F-step g p x b q) c.args.predicate g.T.Words.WORDS c.args.capacity c.args.id c.args.owner
+    (λ p x b q. given.F-step g p x b q) c.args.predicate.now g.T.Words.WORDS c.args.capacity c.args.id c.args.owner
     c.args.mode c.args.words.now.items c.loop.counter c.loop.call c.loop.room c.loop.predicate c.loop.words.items
     c.loop.invariant _ c.in-Asked.asks c.drive_to_stop.new.room c.drive_to_stop.new.words.items c.in-Asked.ensures.alone
     c.value-value.result c.value-value.ensures (given.F-pre g) c.requires.questions
@@ -39,9 +39,9 @@ pub loop-preserved : goal.loop-preserved
 loop-preserved g c =
     further_so g.T.Words.value_of (λ (x : Buffer 128). x.words)
     (λ x at word. record x { words = slice_set x.words at word }) (λ x at word. refl)
-    (λ p x b q. given.F-step g p x b q) c.args.predicate g.T.Words.WORDS c.args.capacity c.args.id c.args.owner
+    (λ p x b q. given.F-step g p x b q) c.args.predicate.now g.T.Words.WORDS c.args.capacity c.args.id c.args.owner
     c.args.mode c.args.words.now.items c.loop.counter c.loop.call c.loop.room c.loop.predicate c.loop.words.items
     c.loop.invariant _ c.in-Asked.asks c.drive_to_stop.new.room c.drive_to_stop.new.words.items c.in-Asked.ensures.alone
-    c.value-value.result c.value-value.ensures c.ask_about-yes.result.0 c.ask_about-yes.result.1 c.ask_about-yes.ensures
+    c.value-value.result c.value-value.ensures c.ask_about-yes.result c.ask_about-yes.new.predicate c.ask_about-yes.ensures
     c.as_yes-answer.result c.as_yes-answer.ensures _ (sym c.in-GoOn.is ∙ c.take.ensures.goes) c.take.new.room
     c.take.ensures.keeps

@@ -14,7 +14,7 @@ drive_to_stop-requires g c =
       stops =
           can_go g.T.Words.value_of (λ (x : Buffer 128). x.words)
           (λ x at word. record x { words = slice_set x.words at word }) (λ x at word. refl)
-          (λ p x h a q. given.F-step g p x h a q) c.args.visit g.T.Words.WORDS c.args.capacity c.args.id c.args.owner
+          (λ p x h a q. given.F-step g p x h a q) c.args.visit.now g.T.Words.WORDS c.args.capacity c.args.id c.args.owner
           c.args.words.now.items c.loop.counter c.loop.call c.loop.room c.loop.visit c.loop.words.items c.loop.invariant;
     }
 
@@ -22,7 +22,7 @@ pub returns-in-Ended-clause-words : goal.returns-in-Ended-clause-words
 returns-in-Ended-clause-words g c =
     (ended_so g.T.Words.value_of (λ (x : Buffer 128). x.words)
     (λ x at word. record x { words = slice_set x.words at word }) (λ x at word. refl)
-    (λ p x h a q. given.F-step g p x h a q) c.args.visit g.T.Words.WORDS c.args.capacity c.args.id c.args.owner
+    (λ p x h a q. given.F-step g p x h a q) c.args.visit.now g.T.Words.WORDS c.args.capacity c.args.id c.args.owner
     c.args.words.now.items c.loop.counter c.loop.call c.loop.room c.loop.visit c.loop.words.items c.loop.invariant
     c.in-Ended.found c.drive_to_stop.new.room c.drive_to_stop.new.words.items c.in-Ended.ensures.alone).1
 
@@ -30,7 +30,7 @@ pub returns-in-Ended-clause-found : goal.returns-in-Ended-clause-found
 returns-in-Ended-clause-found g c =
     (ended_so g.T.Words.value_of (λ (x : Buffer 128). x.words)
     (λ x at word. record x { words = slice_set x.words at word }) (λ x at word. refl)
-    (λ p x h a q. given.F-step g p x h a q) c.args.visit g.T.Words.WORDS c.args.capacity c.args.id c.args.owner
+    (λ p x h a q. given.F-step g p x h a q) c.args.visit.now g.T.Words.WORDS c.args.capacity c.args.id c.args.owner
     c.args.words.now.items c.loop.counter c.loop.call c.loop.room c.loop.visit c.loop.words.items c.loop.invariant
     c.in-Ended.found c.drive_to_stop.new.room c.drive_to_stop.new.words.items c.in-Ended.ensures.alone).0
 
@@ -39,7 +39,7 @@ overflow_cast-handle g c =
     let near =
     index_small g.T.Words.value_of (λ (x : Buffer 128). x.words)
     (λ x at word. record x { words = slice_set x.words at word }) (λ x at word. refl)
-    (λ p x h a q. given.F-step g p x h a q) c.args.visit g.T.Words.WORDS c.args.capacity c.args.id c.args.owner
+    (λ p x h a q. given.F-step g p x h a q) c.args.visit.now g.T.Words.WORDS c.args.capacity c.args.id c.args.owner
     c.args.words.now.items c.loop.counter c.loop.call c.loop.room c.loop.visit c.loop.words.items c.loop.invariant
     c.in-Asked.question c.in-Asked.asks c.drive_to_stop.new.room c.drive_to_stop.new.words.items
     c.in-Asked.ensures.alone in
@@ -50,7 +50,7 @@ pub visit_value-said-requires : goal.visit_value-said-requires
 visit_value-said-requires g c =
     may_so g.T.Words.value_of (λ (x : Buffer 128). x.words)
     (λ x at word. record x { words = slice_set x.words at word }) (λ x at word. refl)
-    (λ p x h a q. given.F-step g p x h a q) c.args.visit g.T.Words.WORDS c.args.capacity c.args.id c.args.owner
+    (λ p x h a q. given.F-step g p x h a q) c.args.visit.now g.T.Words.WORDS c.args.capacity c.args.id c.args.owner
     c.args.words.now.items c.loop.counter c.loop.call c.loop.room c.loop.visit c.loop.words.items c.loop.invariant
     c.in-Asked.question c.in-Asked.asks c.drive_to_stop.new.room c.drive_to_stop.new.words.items
     c.in-Asked.ensures.alone c.value-value.result c.value-value.ensures c.index_in.result c.index_in.ensures
@@ -60,31 +60,31 @@ pub returns-in-Done-clause-words : goal.returns-in-Done-clause-words
 returns-in-Done-clause-words g c =
     (further_so g.T.Words.value_of (λ (x : Buffer 128). x.words)
     (λ x at word. record x { words = slice_set x.words at word }) (λ x at word. refl)
-    (λ p x h a q. given.F-step g p x h a q) c.args.visit g.T.Words.WORDS c.args.capacity c.args.id c.args.owner
+    (λ p x h a q. given.F-step g p x h a q) c.args.visit.now g.T.Words.WORDS c.args.capacity c.args.id c.args.owner
     c.args.words.now.items c.loop.counter c.loop.call c.loop.room c.loop.visit c.loop.words.items c.loop.invariant
     c.in-Asked.question c.in-Asked.asks c.drive_to_stop.new.room c.drive_to_stop.new.words.items
     c.in-Asked.ensures.alone c.value-value.result c.value-value.ensures c.index_in.result c.index_in.ensures
-    c.visit_value-said.result.0 c.visit_value-said.result.1 c.visit_value-said.ensures c.as_answer-answer.result
+    c.visit_value-said.result c.visit_value-said.new.visit c.visit_value-said.ensures c.as_answer-answer.result
     c.as_answer-answer.ensures _ (sym c.in-Done.is ∙ c.take.ensures.goes) c.take.new.room c.take.ensures.keeps).1
 
 pub returns-in-Done-clause-found : goal.returns-in-Done-clause-found
 returns-in-Done-clause-found g c =
     (further_so g.T.Words.value_of (λ (x : Buffer 128). x.words)
     (λ x at word. record x { words = slice_set x.words at word }) (λ x at word. refl)
-    (λ p x h a q. given.F-step g p x h a q) c.args.visit g.T.Words.WORDS c.args.capacity c.args.id c.args.owner
+    (λ p x h a q. given.F-step g p x h a q) c.args.visit.now g.T.Words.WORDS c.args.capacity c.args.id c.args.owner
     c.args.words.now.items c.loop.counter c.loop.call c.loop.room c.loop.visit c.loop.words.items c.loop.invariant
     c.in-Asked.question c.in-Asked.asks c.drive_to_stop.new.room c.drive_to_stop.new.words.items
     c.in-Asked.ensures.alone c.value-value.result c.value-value.ensures c.index_in.result c.index_in.ensures
-    c.visit_value-said.result.0 c.visit_value-said.result.1 c.visit_value-said.ensures c.as_answer-answer.result
+    c.visit_value-said.result c.visit_value-said.new.visit c.visit_value-said.ensures c.as_answer-answer.result
     c.as_answer-answer.ensures _ (sym c.in-Done.is ∙ c.take.ensures.goes) c.take.new.room c.take.ensures.keeps).0
 
 pub loop-preserved : goal.loop-preserved
 loop-preserved g c =
     further_so g.T.Words.value_of (λ (x : Buffer 128). x.words)
     (λ x at word. record x { words = slice_set x.words at word }) (λ x at word. refl)
-    (λ p x h a q. given.F-step g p x h a q) c.args.visit g.T.Words.WORDS c.args.capacity c.args.id c.args.owner
+    (λ p x h a q. given.F-step g p x h a q) c.args.visit.now g.T.Words.WORDS c.args.capacity c.args.id c.args.owner
     c.args.words.now.items c.loop.counter c.loop.call c.loop.room c.loop.visit c.loop.words.items c.loop.invariant
     c.in-Asked.question c.in-Asked.asks c.drive_to_stop.new.room c.drive_to_stop.new.words.items
     c.in-Asked.ensures.alone c.value-value.result c.value-value.ensures c.index_in.result c.index_in.ensures
-    c.visit_value-said.result.0 c.visit_value-said.result.1 c.visit_value-said.ensures c.as_answer-answer.result
+    c.visit_value-said.result c.visit_value-said.new.visit c.visit_value-said.ensures c.as_answer-answer.result
     c.as_answer-answer.ensures _ (sym c.in-GoOn.is ∙ c.take.ensures.goes) c.take.new.room c.take.ensures.keeps

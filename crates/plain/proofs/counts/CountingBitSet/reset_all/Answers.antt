@@ -6,10 +6,10 @@ use Rattle.plain.proofs.counts.CountingBitSet.reset_all.Goals as goal
 
 pub empty-requires-clause-takes : goal.empty-requires-clause-takes
 empty-requires-clause-takes g c =
-    subst (λ (s : List ℕ). Takes (given.F-pre g) (given.F-step g) (states s) c.args.visit)
+    subst (λ (s : List ℕ). Takes (given.F-pre g) (given.F-step g) (states s) c.args.visit.now)
     (sym c.self.view_is) c.requires
 
 pub returns-clause-calls : goal.returns-clause-calls
 returns-clause-calls g c =
-    subst (λ (s : List ℕ). WasCalled (given.F-step g) (states s) c.args.visit) c.self.view_is
+    subst (λ (s : List ℕ). WasCalled (given.F-step g) (states s) c.args.visit.now c.empty.new.visit) c.self.view_is
     c.empty.ensures.calls

@@ -1,0 +1,117 @@
+-- Wrong bodies of the bit sets and of the unique index set: for each a run that it makes, and what refuses that.
+use Rattle.std.proofs.Common.{◌≡◌, ℕ, true, List, [], ◌∷◌, ◌++◌, refl, sym, subst, ap, arith}
+use Rattle.steps.specs.declared.indices.enums.ReleaseMode.TheVariants.{LockIfLastIndex}
+use Rattle.steps.specs.declared.indices.enums.UniqueIndexSetAcquireFailure.TheVariants.{OutOfIndices}
+use Rattle.model.specs.declared.event.Answer.TheVariants.{Done, Index, NoIndex, Truth}
+use Rattle.model.specs.declared.event.Event.{Event}
+use Rattle.model.specs.declared.event.Event.TheVariants as events
+use Rattle.model.specs.declared.event.Event.TheVariants.{Begun, Counted, Claimed, Locked, Finished}
+use Rattle.model.specs.declared.event.Start.{Start}
+use Rattle.model.specs.declared.event.Start.TheVariants.{Bits, Indices}
+use Rattle.model.specs.declared.families.bits.BitsStart.TheVariants.{Set, ResetAll}
+use Rattle.model.specs.declared.families.indices.IndexStart.TheVariants.{Acquire, Release}
+use Rattle.model.specs.Families.Bits.Promises.{IsBitSet, IsCountingSet, HasCleared, HasTaken}
+use Rattle.model.specs.Families.Indices.Promises.{IsIndexSet}
+use Rattle.model.specs.Families.Indices.Spans.{SetActs}
+use Rattle.model.specs.Moments.{SinceBegin}
+use Rattle.model.proofs.Readings.{no_more}
+use Rattle.headline.specs.Headline.{BitsRun, IndicesRun}
+use Rattle.wrong_runs.proofs.Bits.{bits, counts}
+use Rattle.wrong_runs.proofs.HeadlineSets.{two}
+use Rattle.wrong_runs.proofs.Indices.{set}
+
+-- ---- bits and counts
+
+abbrev set_1 : Start ℕ
+set_1 = Bits (Set 1)
+
+abbrev reset_all : Start ℕ
+reset_all = Bits ResetAll
+
+-- a set answers true for a bit that stands
+abbrev stands_already : List (Event ℕ)
+stands_already = Begun 0 set_1 ∷ events.Set 0 1 ∷ Finished 0 set_1 (Truth true) ∷ Begun 1 set_1 ∷ []
+
+set_again_is_true : BitsRun (bits (0 ∷ 2 ∷ []) (stands_already ++ Finished 1 set_1 (Truth true) ∷ [])) → ⊥
+set_again_is_true k = let e = k.set 1 1 stands_already ([], refl) in cc
+
+-- after one event a call has begun: what it has found and done since
+only_begin : (one : Event ℕ) (P : List (Event ℕ) → List (Event ℕ) → Type 0) → ((start : Start ℕ) → one ≡ Begun 1 start → ⊥)
+    → SinceBegin 1 P (one ∷ Begun 1 reset_all ∷ []) → P (one ∷ []) []
+only_begin one P other h = found h.before h.start h.since h.is h.holds where
+  found : (before : List (Event ℕ)) (start : Start ℕ) (since : List (Event ℕ)) → one ∷ Begun 1 reset_all ∷ [] ≡ before ++ Begun 1 start ∷ since
+      → P before since → P (one ∷ []) []
+  found [] start since is held = absurd (other start (cc))
+  found (a ∷ []) start since is held =
+      let first : one ≡ a = cc in
+      let none : [] ≡ since = cc in
+      subst (λ (xs : List (Event ℕ)). P (one ∷ []) xs) (sym none) (subst (λ (x : Event ℕ). P (x ∷ []) since) (sym first) held)
+  found (a ∷ b ∷ before) start since is held =
+      let more : [] ≡ before ++ Begun 1 start ∷ since = cc in absurd (no_more before (Begun 1 start) since more)
+
+-- a reset of all ends, and has cleared nothing
+abbrev unreset : List (Event ℕ)
+unreset = events.Set 0 1 ∷ Begun 1 reset_all ∷ []
+
+reset_all_does_nothing : IsBitSet (bits (0 ∷ 2 ∷ []) (unreset ++ Finished 1 reset_all Done ∷ [])) → ⊥
+reset_all_does_nothing k =
+    let held = k.answers unreset [] (Finished 1 reset_all Done) refl in
+    let cleared = only_begin (events.Set 0 1) (HasCleared 2) (λ start e. cc) held 1 (omega arith) refl in absurd (omega arith)
+
+-- one of a counting set takes nothing out
+abbrev untaken : List (Event ℕ)
+untaken = Counted 0 1 ∷ Begun 1 reset_all ∷ []
+
+reset_all_takes_nothing : IsCountingSet (counts (0 ∷ 1 ∷ []) (untaken ++ Finished 1 reset_all Done ∷ [])) → ⊥
+reset_all_takes_nothing k =
+    let held = k.answers untaken [] (Finished 1 reset_all Done) refl in
+    let taken = only_begin (Counted 0 1) (HasTaken 2) (λ start e. cc) held 1 (omega arith) (omega arith) in absurd (omega arith)
+
+-- ---- unique indices
+
+abbrev acquire : Start ℕ
+acquire = Indices Acquire
+
+-- every acquire answers that no index is left
+every_acquire_fails : IsIndexSet (set (0 ∷ 1 ∷ 2 ∷ 0 ∷ []) (Begun 0 acquire ∷ Finished 0 acquire (NoIndex OutOfIndices) ∷ [])) → ⊥
+every_acquire_fails k =
+    let e = k.answers (Begun 0 acquire ∷ []) [] (Finished 0 acquire (NoIndex OutOfIndices)) refl in absurd (omega arith)
+
+-- an acquire answers what the free list proposes, and claims no flag
+acquire_claims_without_flag : IndicesRun (set (0 ∷ 1 ∷ 2 ∷ 0 ∷ []) (Begun 0 acquire ∷ Finished 0 acquire (Index 0) ∷ [])) → ⊥
+acquire_claims_without_flag k =
+    let e = ap (λ (d : SetActs). d.claimed) (k.acquired 0 0 (Begun 0 acquire ∷ []) ([], refl)).0 in cc
+
+-- or it says that it claims, and the flag stays clear; so a second one claims the same
+claims_by_word_alone : IsIndexSet (set (0 ∷ 1 ∷ 2 ∷ 0 ∷ []) (Begun 0 acquire ∷ Claimed 0 0 ∷ [])) → ⊥
+claims_by_word_alone k = let e = k.flags 0 (omega arith) in cc
+
+abbrev both_claim : List (Event ℕ)
+both_claim =
+    Begun 0 acquire
+    ∷ Claimed 0 0
+    ∷ Finished 0 acquire (Index 0)
+    ∷ Begun 1 acquire
+    ∷ Claimed 1 0
+    ∷ Finished 1 acquire (Index 0)
+    ∷ []
+
+both_claim_it : IndicesRun (set (0 ∷ 1 ∷ 2 ∷ 1 ∷ []) both_claim) → ⊥
+both_claim_it k = two (1 ∷ 0 ∷ []) (k.no_two_hold both_claim [] refl 0) refl
+
+-- a claim of index 1 clears the flag of index 0, which has a holder
+abbrev neighbours : List (Event ℕ)
+neighbours = Begun 0 acquire ∷ Claimed 0 0 ∷ Finished 0 acquire (Index 0) ∷ Begun 1 acquire ∷ Claimed 1 1 ∷ []
+
+claim_clears_its_neighbours : IsIndexSet (set (0 ∷ 1 ∷ 2 ∷ 2 ∷ []) neighbours) → ⊥
+claim_clears_its_neighbours k = let e = k.flags 0 (omega arith) in cc
+
+-- A release counts down, and locks, before it clears the flag of its index.
+abbrev release : Start ℕ
+release = Indices (Release 0 LockIfLastIndex)
+
+abbrev locked_first : List (Event ℕ)
+locked_first = Begun 0 acquire ∷ Claimed 0 0 ∷ Finished 0 acquire (Index 0) ∷ Begun 0 release ∷ Locked 0 ∷ []
+
+release_counts_before_clearing : IndicesRun (set (0 ∷ 1 ∷ 2 ∷ 1 ∷ []) locked_first) → ⊥
+release_counts_before_clearing k = let none = k.none_once_locked locked_first [] refl refl 0 in cc
