@@ -24,12 +24,11 @@ use Rattle.texts.specs.declared.grammar.Setup.{Setup}
 use Rattle.texts.specs.declared.grammar.Shape.{Shape}
 use Rattle.texts.specs.declared.grammar.Shape.TheVariants as shapes
 use Rattle.texts.specs.Grammar.{◌>>=◌, kind_in, capacity_in, setup_of, command_of}
-use Rattle.texts.specs.Print.{refusal_text}
 use Rattle.texts.specs.Text.{lines, words}
-use Rattle.schedule.specs.Output.{two_words, outcome, outcome_as, has_memory, refusal_where, Outcome, State, is_short, later}
+use Rattle.schedule.specs.Output.{two_words, outcome, outcome_as, refusal_where, Outcome, State, is_short, later}
 use Rattle.schedule.specs.Output.{Printed, after_text, printed as printed_now, next_outcome, goes_on, nexts}
-use Rattle.schedule.specs.Output.{commanded, Output, stopped, ran_out, line_then, lines_from, capacity_cause, admitted}
-use Rattle.schedule.specs.Output.{shape_error, setup_error, machine_of, trace_of, opened, output_of_lines, output}
+use Rattle.schedule.specs.Output.{commanded, Output, stopped, before as behind, lines_from, capacity_cause, admitted}
+use Rattle.schedule.specs.Output.{shape_error, setup_error, machine_of, trace_of, opened, output_of_lines, output_of}
 use Rattle.headline_program.specs.Printing.{Line, Wrote, Refused, text_of, events_in, IsOfMachine}
 
 -- ---- what is printed as a world becomes another, behind these events
@@ -89,17 +88,13 @@ written w before turn e r =
 
 refused : (w : World ℕ) (before : List (Event ℕ)) (turn : Turn ℕ) (refusal : Refusal) → IsReached (machine_in w before)
     → Prints w before (outcome_as w turn (Some refusal)).text (outcome_as w turn (Some refusal)).world
-refused w before turn refusal r = by (has_memory refusal)
-  where
-    by : (had : Bool) → Prints w before (if had then refusal_text refusal else []) w
-    by false = nothing w before r
-    by true =
-        record {
-          lines = Refused refusal ∷ [];
-          is = sym (append-nil _);
-          reached = subst (λ es. IsReached (machine_in w es)) (sym (append-nil before)) r;
-          same = same_making w;
-        }
+refused w before turn refusal r =
+    record {
+      lines = Refused refusal ∷ [];
+      is = sym (append-nil _);
+      reached = subst (λ es. IsReached (machine_in w es)) (sym (append-nil before)) r;
+      same = same_making w;
+    }
 
 either : (w : World ℕ) (before : List (Event ℕ)) (turn : Turn ℕ) (short : Bool) (o : Option Refusal) → refusal_of w turn ≡ o
     → IsReached (machine_in w before)
@@ -116,14 +111,14 @@ one_turn w before turn short r = either w before turn short (refusal_of w turn) 
 -- ---- several turns
 
 abbrev chosen : Bool → Outcome → Printed → List Bool → Printed
-chosen go o more memory = if go then after_text o.text more else printed_now o memory
+chosen go o more refusals = if go then after_text o.text more else printed_now o refusals
 
-choose : (go : Bool) (w : World ℕ) (before : List (Event ℕ)) (o : Outcome) (more : Printed) (memory : List Bool)
+choose : (go : Bool) (w : World ℕ) (before : List (Event ℕ)) (o : Outcome) (more : Printed) (refusals : List Bool)
     → (first : Prints w before o.text o.world)
     → Prints o.world (before ++ flat_map events_in first.lines) more.text more.state.world
-    → Prints w before (chosen go o more memory).text (chosen go o more memory).state.world
-choose true w before o more memory first rest = after_that w o.world more.state.world before o.text more.text first rest
-choose false w before o more memory first rest = first
+    → Prints w before (chosen go o more refusals).text (chosen go o more refusals).state.world
+choose true w before o more refusals first rest = after_that w o.world more.state.world before o.text more.text first rest
+choose false w before o more refusals first rest = first
 
 several : (most party : ℕ) (s : State) (before : List (Event ℕ)) → IsReached (machine_in s.world before)
     → Prints s.world before (nexts most party s).text (nexts most party s).state.world
@@ -131,14 +126,14 @@ unfolding nexts
 several zero party s before r = nothing s.world before r
 several (suc most) party s before r =
     let o = next_outcome s (Next party) in
-    let on : State = record { world = o.world; memory = later s.memory } in
-    let first = one_turn s.world before (Next party) (is_short s.memory) r in
-    choose (goes_on party o) s.world before o (nexts most party on) (later s.memory) first
+    let on : State = record { world = o.world; refusals = later s.refusals } in
+    let first = one_turn s.world before (Next party) (is_short s.refusals) r in
+    choose (goes_on party o) s.world before o (nexts most party on) (later s.refusals) first
     (several most party on (before ++ flat_map events_in first.lines) first.reached)
 
 command : (c : Command) (s : State) (before : List (Event ℕ)) → IsReached (machine_in s.world before)
     → Prints s.world before (commanded c s).text (commanded c s).state.world
-command (Once turn) s before r = one_turn s.world before turn (is_short s.memory) r
+command (Once turn) s before r = one_turn s.world before turn (is_short s.refusals) r
 command (Times party most) s before r = several most party s before r
 
 -- ---- lines
@@ -151,14 +146,8 @@ abbrev line_as : Kind → ℕ → List (List ℕ) → State → Result Command C
 line_as kind number lines s read =
     elim read [
       | Err cause ↦ stopped number cause
-      | Ok command ↦ line_then number (commanded command s) (lines_from kind (number + 1) lines (commanded command s).state)
+      | Ok command ↦ behind (commanded command s).text (lines_from kind (number + 1) lines (commanded command s).state)
     ]
-
--- behind a line that lacked memory nothing is printed
-or_nothing : (had : Bool) (number : ℕ) (w : World ℕ) (before : List (Event ℕ)) (rest : Output) → IsReached (machine_in w before)
-    → Ends w before rest.text → Ends w before (if had then rest else ran_out number).text
-or_nothing true number w before rest r e = e
-or_nothing false number w before rest r e = record { new = w; prints = nothing w before r }
 
 choose_line : (kind : Kind) (number : ℕ) (lines : List (List ℕ)) (s : State) (before : List (Event ℕ)) (read : Result Command Cause)
     → IsReached (machine_in s.world before)
@@ -168,8 +157,7 @@ choose_line : (kind : Kind) (number : ℕ) (lines : List (List ℕ)) (s : State)
 choose_line kind number lines s before (Err cause) r rest = record { new = s.world; prints = nothing s.world before r }
 choose_line kind number lines s before (Ok c) r rest =
     let first = command c s before r in
-    let more = or_nothing (commanded c s).has_memory number (commanded c s).state.world (before ++ flat_map events_in first.lines)
-    (lines_from kind (number + 1) lines (commanded c s).state) first.reached (rest c first) in
+    let more = rest c first in
     record { new = more.new; prints = after_that s.world (commanded c s).state.world more.new before _ _ first more.prints }
 
 line_by_line : (kind : Kind) (number : ℕ) (lines : List (List ℕ)) (s : State) (before : List (Event ℕ)) → IsReached (machine_in s.world before)
@@ -238,19 +226,19 @@ unfolding machine_of
 reads first setup e = after_setup (setup_of (words first)) setup e
 
 abbrev first_as : List (List ℕ) → List Bool → Result Setup Cause → Output
-first_as rest memory read =
-    elim read [ Err cause ↦ stopped 1 cause | Ok setup ↦ lines_from (kind_in setup.shape) 2 rest (opened setup memory) ]
+first_as rest refusals read =
+    elim read [ Err cause ↦ stopped 1 cause | Ok setup ↦ lines_from (kind_in setup.shape) 2 rest (opened setup refusals) ]
 
-prints_of : (memory : List Bool) (first : List ℕ) (rest : List (List ℕ)) (setup : Setup) → machine_of (words first) ≡ Ok setup
-    → output_of_lines memory (first ∷ rest) ≡ lines_from (kind_in setup.shape) 2 rest (opened setup memory)
+prints_of : (refusals : List Bool) (first : List ℕ) (rest : List (List ℕ)) (setup : Setup) → machine_of (words first) ≡ Ok setup
+    → output_of_lines refusals (first ∷ rest) ≡ lines_from (kind_in setup.shape) 2 rest (opened setup refusals)
 unfolding output_of_lines
-prints_of memory first rest setup e = ap (first_as rest memory) e
+prints_of refusals first rest setup e = ap (first_as rest refusals) e
 
-printed : (memory : List Bool) (first : List ℕ) (rest : List (List ℕ)) (setup : Setup) → machine_of (words first) ≡ Ok setup
-    → IsOfMachine setup (output_of_lines memory (first ∷ rest)).text
-printed memory first rest setup e =
+printed : (refusals : List Bool) (first : List ℕ) (rest : List (List ℕ)) (setup : Setup) → machine_of (words first) ≡ Ok setup
+    → IsOfMachine setup (output_of_lines refusals (first ∷ rest)).text
+printed refusals first rest setup e =
     let m = reads first setup e in
-    let ends = line_by_line (kind_in setup.shape) 2 rest (opened setup memory) [] m.reached in
+    let ends = line_by_line (kind_in setup.shape) 2 rest (opened setup refusals) [] m.reached in
     record {
       trace = machine_in ends.new (flat_map events_in ends.prints.lines);
       reached = ends.prints.reached;
@@ -259,10 +247,10 @@ printed memory first rest setup e =
       parties = ends.prints.same.parties ∙ m.parties;
       lines = ends.prints.lines;
       events = refl;
-      text = ap (λ (o : Output). o.text) (prints_of memory first rest setup e) ∙ ends.prints.is;
+      text = ap (λ (o : Output). o.text) (prints_of refusals first rest setup e) ∙ ends.prints.is;
     }
 
-pub printed_input : (memory : List Bool) (input first : List ℕ) (rest : List (List ℕ)) (setup : Setup) → lines input ≡ first ∷ rest
-    → machine_of (words first) ≡ Ok setup → IsOfMachine setup (output memory input).text
-printed_input memory input first rest setup split is =
-    subst (λ (ls : List (List ℕ)). IsOfMachine setup (output_of_lines memory ls).text) (sym split) (printed memory first rest setup is)
+pub printed_input : (refusals : List Bool) (input first : List ℕ) (rest : List (List ℕ)) (setup : Setup) → lines input ≡ first ∷ rest
+    → machine_of (words first) ≡ Ok setup → IsOfMachine setup (output_of input refusals).text
+printed_input refusals input first rest setup split is =
+    subst (λ (ls : List (List ℕ)). IsOfMachine setup (output_of_lines refusals ls).text) (sym split) (printed refusals first rest setup is)

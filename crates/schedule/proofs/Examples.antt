@@ -2,7 +2,6 @@
 use Rattle.std.proofs.Common.{◌≡◌, ℕ, false, List, [], ◌∷◌, Ok, Err, refl, true, codes}
 use Rattle.std.specs.Fmt.{digits}
 use Rattle.texts.specs.declared.error.Cause.TheVariants as causes
-use Rattle.texts.specs.declared.error.ScheduleError.TheVariants as errors
 use Rattle.texts.specs.Bits.{set, any_set_call, bit_set_call, counting_bit_set_call}
 use Rattle.texts.specs.Container as container
 use Rattle.texts.specs.Indices.{mode_at, release, any_index_call, index_call}
@@ -11,14 +10,14 @@ use Rattle.texts.specs.Loan as loan
 use Rattle.texts.specs.Queues.{push_index, push_value, item_call, any_call, queue_call}
 use Rattle.texts.specs.Grammar.{number_at, setup_of, begin_of, next_of, decision_of, turn_of, death_of, command_of}
 use Rattle.texts.specs.Print.{event_text, refusal_text}
-use Rattle.schedule.specs.Output.{Output, outcome, nexts, lines_from, machine_of, output_of_lines, output, stopped}
+use Rattle.schedule.specs.Output.{Output, outcome, nexts, lines_from, machine_of, output_of_lines, output_of, stopped}
 
 abbrev printed_whole : List ℕ → Output
 printed_whole text = record { text = text; end = Ok tt }
 
 -- a push that stops before its last step, and a pop that finds nothing
-stopped_push : output [] (codes
-    "index_queue 1 2\n0 begin acquire_producer\n0 next\n1 begin acquire_consumer\n1 next\n0 begin push 5\n0 next 3\n1 begin pop\n1 next 4\n0 next\n")
+stopped_push : output_of (codes
+    "index_queue 1 2\n0 begin acquire_producer\n0 next\n1 begin acquire_consumer\n1 next\n0 begin push 5\n0 next 3\n1 begin pop\n1 next 4\n0 next\n") []
     ≡ printed_whole (codes
     "0 begun acquire_producer\n0 finished acquire_producer -> true\n1 begun acquire_consumer\n1 finished acquire_consumer -> true\n0 begun push 5\n1 begun pop\n1 acted pop -> none\n1 finished pop -> none\n0 published 5\n0 acted push 5 -> true\n0 finished push 5 -> true\n")
 unfolding output_of_lines machine_of setup_of number_at lines_from command_of turn_of begin_of queue_call any_call
@@ -26,9 +25,10 @@ unfolding output_of_lines machine_of setup_of number_at lines_from command_of tu
 stopped_push = refl
 
 -- a push of a value of two words that stops inside its cell
-stopped_in_a_cell : output []
+stopped_in_a_cell : output_of
     (codes
     "queue 1 2\n0 begin acquire_producer\n0 next\n1 begin acquire_consumer\n1 next\n0 begin push 18446744073709551618\n0 next 4\n1 begin pop\n1 next 9\n0 next\n0 begin len\n0 next 9\n")
+    []
     ≡ printed_whole (codes
     "0 begun acquire_producer\n0 finished acquire_producer -> true\n1 begun acquire_consumer\n1 finished acquire_consumer -> true\n0 begun push 18446744073709551618\n1 begun pop\n1 acted pop -> none\n1 finished pop -> none\n0 published 18446744073709551618\n0 acted push 18446744073709551618 -> true\n0 finished push 18446744073709551618 -> true\n0 begun len\n0 finished len -> 1\n")
 unfolding output_of_lines machine_of setup_of number_at lines_from command_of turn_of begin_of queue_call any_call
@@ -36,8 +36,8 @@ unfolding output_of_lines machine_of setup_of number_at lines_from command_of tu
 stopped_in_a_cell = refl
 
 -- a length between the cell and the publication of a push, and one after it
-lengths : output [] (codes
-    "index_queue 1 2\n0 begin acquire_producer\n0 next\n0 begin push 5\n0 next 3\n1 begin len\n1 next 9\n0 next\n1 begin is_full\n1 next 9\n")
+lengths : output_of (codes
+    "index_queue 1 2\n0 begin acquire_producer\n0 next\n0 begin push 5\n0 next 3\n1 begin len\n1 next 9\n0 next\n1 begin is_full\n1 next 9\n") []
     ≡ printed_whole (codes
     "0 begun acquire_producer\n0 finished acquire_producer -> true\n0 begun push 5\n1 begun len\n1 finished len -> 0\n0 published 5\n0 acted push 5 -> true\n0 finished push 5 -> true\n1 begun is_full\n1 finished is_full -> true\n")
 unfolding output_of_lines machine_of setup_of number_at lines_from command_of turn_of begin_of queue_call any_call
@@ -45,7 +45,7 @@ unfolding output_of_lines machine_of setup_of number_at lines_from command_of tu
 lengths = refl
 
 -- two flags are set, and a reset of all clears both in one turn
-two_flags : output [] (codes "bits 8 1\n0 begin set 1\n0 next 9\n0 begin set 3\n0 next 9\n0 begin reset_all\n0 next 9\n")
+two_flags : output_of (codes "bits 8 1\n0 begin set 1\n0 next 9\n0 begin set 3\n0 next 9\n0 begin reset_all\n0 next 9\n") []
     ≡ printed_whole (codes
     "0 begun set 1\n0 set 1\n0 finished set 1 -> true\n0 begun set 3\n0 set 3\n0 finished set 3 -> true\n0 begun reset_all\n0 cleared 1\n0 cleared 3\n0 finished reset_all -> done\n")
 unfolding output_of_lines machine_of setup_of number_at lines_from command_of turn_of begin_of bit_set_call
@@ -53,14 +53,14 @@ unfolding output_of_lines machine_of setup_of number_at lines_from command_of tu
 two_flags = refl
 
 -- a set that finds its element changed by a neighbour goes back
-set_goes_back : output [] (codes "bits 70 2\n0 begin set 3\n0 next\n1 begin set 40\n1 next 9\n0 next\n0 next\n")
+set_goes_back : output_of (codes "bits 70 2\n0 begin set 3\n0 next\n1 begin set 40\n1 next 9\n0 next\n0 next\n") []
     ≡ printed_whole (codes "0 begun set 3\n1 begun set 40\n1 set 40\n1 finished set 40 -> true\n0 set 3\n0 finished set 3 -> true\n")
 unfolding output_of_lines machine_of setup_of number_at lines_from command_of turn_of begin_of bit_set_call
     any_set_call set next_of nexts outcome event_text digits
 set_goes_back = refl
 
 -- a place is counted twice and taken out
-two_counts : output [] (codes "counts 2 1\n0 begin set 1\n0 next\n0 begin set 1\n0 next\n0 begin reset_all\n0 next 9\n0 begin set 2\n")
+two_counts : output_of (codes "counts 2 1\n0 begin set 1\n0 next\n0 begin set 1\n0 next\n0 begin reset_all\n0 next 9\n0 begin set 2\n") []
     ≡ printed_whole (codes
     "0 begun set 1\n0 counted 1\n0 finished set 1 -> 0\n0 begun set 1\n0 counted 1\n0 finished set 1 -> 1\n0 begun reset_all\n0 taken_out 1 2\n0 finished reset_all -> done\nrefused BadIndex\n")
 unfolding output_of_lines machine_of setup_of number_at lines_from command_of turn_of begin_of counting_bit_set_call
@@ -68,8 +68,8 @@ unfolding output_of_lines machine_of setup_of number_at lines_from command_of tu
 two_counts = refl
 
 -- a release whose exchange fails subtracts
-falls_back : output [] (codes
-    "indices 2 2\n0 begin acquire\n0 next 9\n0 begin release 0 default\n0 next 3\n1 begin acquire\n1 next 9\n0 next 2\n1 begin acquire\n1 next 9\n")
+falls_back : output_of (codes
+    "indices 2 2\n0 begin acquire\n0 next 9\n0 begin release 0 default\n0 next 3\n1 begin acquire\n1 next 9\n0 next 2\n1 begin acquire\n1 next 9\n") []
     ≡ printed_whole (codes
     "0 begun acquire\n0 claimed 0\n0 finished acquire -> 0\n0 begun release 0 default\n0 freed 0\n1 begun acquire\n1 claimed 1\n1 finished acquire -> 1\n0 finished release 0 default -> Unlocked\n1 begun acquire\n1 claimed 0\n1 finished acquire -> 0\n")
 unfolding output_of_lines machine_of setup_of number_at lines_from command_of turn_of begin_of index_call
@@ -77,9 +77,10 @@ unfolding output_of_lines machine_of setup_of number_at lines_from command_of tu
 falls_back = refl
 
 -- an acquire fills a cell that the lock has read as empty, and meets the lock
-meets_the_lock : output []
+meets_the_lock : output_of
     (codes
     "robust 1 2\n0 begin acquire 313\n0 next 9\n0 begin release 0 313 lock\n0 next 5\n1 begin acquire 7\n1 next 2\n0 next 9\n1 next 9\n1 begin find 7\n1 next\n1 yes\n")
+    []
     ≡ printed_whole (codes
     "0 begun acquire 313\n0 filled 0 313\n0 granted 0 313\n0 finished acquire 313 -> 0\n0 begun release 0 313 lock\n0 freed 0 313\n1 begun acquire 7\n1 filled 0 7\n0 locked\n0 finished release 0 313 lock -> Locked\n1 finished acquire 7 -> IsLocked\n1 begun find 7\n1 finished find 7 -> 1\n")
 unfolding output_of_lines machine_of setup_of number_at lines_from command_of turn_of begin_of decision_of
@@ -88,7 +89,7 @@ unfolding output_of_lines machine_of setup_of number_at lines_from command_of tu
 meets_the_lock = refl
 
 -- a recovery asks, is refused a yes while the owner lives, and frees once it has died
-recovers : output [] (codes "robust 1 2\n0 begin acquire 1\n0 next 9\n1 begin recover default\n1 next 9\n1 yes\ndie 1\n1 yes\n1 next 9\n")
+recovers : output_of (codes "robust 1 2\n0 begin acquire 1\n0 next 9\n1 begin recover default\n1 next 9\n1 yes\ndie 1\n1 yes\n1 next 9\n") []
     ≡ printed_whole (codes
     "0 begun acquire 1\n0 filled 0 1\n0 granted 0 1\n0 finished acquire 1 -> 0\n1 begun recover default\n1 asked 0 1\nrefused OwnerLives\ndied 1\n1 told 0 1\n1 freed 0 1\n1 finished recover default -> Unlocked\n")
 unfolding output_of_lines machine_of setup_of number_at lines_from command_of turn_of death_of begin_of decision_of
@@ -97,9 +98,10 @@ unfolding output_of_lines machine_of setup_of number_at lines_from command_of tu
 recovers = refl
 
 -- an add stops between the two words of its value, its owner dies, and the index is freed without a question
-dies_in_an_add : output []
+dies_in_an_add : output_of
     (codes
     "container 1 2\n0 begin add 18446744073709551618 1\n0 next 6\ndie 1\n1 begin recover 1 default\n1 next 20\n1 begin add 7 2\n1 next 20\n1 begin get_state\n1 next 20\n")
+    []
     ≡ printed_whole (codes
     "0 begun add 18446744073709551618 1\n0 filled 0 1\n0 granted 0 1\ndied 1\n1 begun recover 1 default\n1 shown 0\n1 freed 0 1\n1 finished recover 1 default -> Unlocked\n1 begun add 7 2\n1 filled 0 2\n1 granted 0 2\n1 placed 0 7\n1 finished add 7 2 -> 0\n1 begun get_state\n1 copied 0 7\n1 finished get_state -> 1\n")
 unfolding output_of_lines machine_of setup_of number_at lines_from command_of turn_of death_of begin_of
@@ -108,8 +110,8 @@ unfolding output_of_lines machine_of setup_of number_at lines_from command_of tu
 dies_in_an_add = refl
 
 -- a replace, and a state that is brought up to date
-replaced : output [] (codes
-    "container 1 2\n0 begin add 5 1\n0 next 9\n1 begin get_state\n1 next 20\n0 begin replace 0 6 1\n0 next 20\n1 begin update_state\n1 next 20\n")
+replaced : output_of (codes
+    "container 1 2\n0 begin add 5 1\n0 next 9\n1 begin get_state\n1 next 20\n0 begin replace 0 6 1\n0 next 20\n1 begin update_state\n1 next 20\n") []
     ≡ printed_whole (codes
     "0 begun add 5 1\n0 filled 0 1\n0 granted 0 1\n0 placed 0 5\n0 finished add 5 1 -> 0\n1 begun get_state\n1 copied 0 5\n1 finished get_state -> 1\n0 begun replace 0 6 1\n0 hidden 0\n0 placed 0 6\n0 finished replace 0 6 1 -> done\n1 begun update_state\n1 copied 0 6\n1 finished update_state -> true\n")
 unfolding output_of_lines machine_of setup_of number_at lines_from command_of turn_of begin_of
@@ -118,8 +120,9 @@ unfolding output_of_lines machine_of setup_of number_at lines_from command_of tu
 replaced = refl
 
 -- a full queue hands the oldest index back, the receiver dies with the other one, and the sender takes it back
-reclaimed : output [] (codes
+reclaimed : output_of (codes
     "loan 2 1 3\n0 begin loan\n0 next 20\n0 begin send 0\n0 next 20\n0 begin loan\n0 next 20\n0 begin send 1\n0 next 20\n1 begin receive\n1 next 20\n0 begin loan\n0 next 20\ndie 1\n0 begin reclaim\n0 next 20\n")
+    []
     ≡ printed_whole (codes
     "0 begun loan\n0 claimed 0\n0 finished loan -> 0\n0 begun send 0\n0 published 0\n0 acted send 0 -> none\n0 finished send 0 -> none\n0 begun loan\n0 claimed 1\n0 finished loan -> 1\n0 begun send 1\n0 published 1\n0 handed_out 0\n0 acted send 1 -> some 0\n0 freed 0\n0 finished send 1 -> some 0\n1 begun receive\n1 handed_out 1\n1 acted receive -> some 1\n1 finished receive -> some 1\n0 begun loan\n0 claimed 0\n0 finished loan -> 0\ndied 1\n0 begun reclaim\n0 freed 1\n0 finished reclaim -> 1\n")
 unfolding output_of_lines machine_of setup_of number_at lines_from command_of turn_of death_of begin_of
@@ -127,50 +130,59 @@ unfolding output_of_lines machine_of setup_of number_at lines_from command_of tu
 reclaimed = refl
 
 -- both numbers of a loan channel are tested, first whether one is above its greatest
-too_many_slots : output [] (codes "loan 16777215 0 1") ≡ stopped 1 causes.ProvidedCapacityGreaterThanMaxCapacity
+too_many_slots : output_of (codes "loan 16777215 0 1") [] ≡ stopped 1 causes.ProvidedCapacityGreaterThanMaxCapacity
 unfolding output_of_lines machine_of setup_of number_at
 too_many_slots = refl
 
-no_room_to_send : output [] (codes "loan 1 0 1") ≡ stopped 1 causes.ProvidedCapacityIsZero
+no_room_to_send : output_of (codes "loan 1 0 1") [] ≡ stopped 1 causes.ProvidedCapacityIsZero
 unfolding output_of_lines machine_of setup_of number_at
 no_room_to_send = refl
 
--- memory is refused to the second turn, and the run ends there
-short_turn : output (false ∷ true ∷ []) (codes "index_queue 1 1\n0 begin acquire_producer\n\n0 next\n0 next")
-    ≡ record { text = codes "0 begun acquire_producer\n"; end = Err (errors.OutOfMemory 4) }
+-- memory is refused to the second turn, and the run goes on with the next line
+short_turn : output_of (codes "index_queue 1 1\n0 begin acquire_producer\n0 next\n0 next") (false ∷ true ∷ [])
+    ≡ printed_whole (codes "0 begun acquire_producer\nrefused NoMemory\n0 finished acquire_producer -> true\n")
 unfolding output_of_lines machine_of setup_of number_at lines_from command_of turn_of begin_of queue_call any_call
     next_of outcome event_text refusal_text digits
 short_turn = refl
 
--- it is to the third of several turns, whose first two are printed
-short_of_several : output (false ∷ false ∷ false ∷ false ∷ false ∷ true ∷ []) (codes "counts 3 1\n0 begin set 1\n0 next\n0 begin reset_all\n0 next 9\n0 next")
-    ≡ record { text = codes "0 begun set 1\n0 counted 1\n0 finished set 1 -> 0\n0 begun reset_all\n0 taken_out 1 1\n"; end = Err (errors.OutOfMemory 5) }
+-- it is to the third of several turns: the first two are printed, and the line is over
+short_of_several : output_of (codes "counts 3 1\n0 begin set 1\n0 next\n0 begin reset_all\n0 next 9\n0 next\n0 next\n0 next")
+    (false ∷ false ∷ false ∷ false ∷ false ∷ true ∷ [])
+    ≡ printed_whole (codes
+    "0 begun set 1\n0 counted 1\n0 finished set 1 -> 0\n0 begun reset_all\n0 taken_out 1 1\nrefused NoMemory\n0 finished reset_all -> done\nrefused Idle\nrefused Idle\n")
 unfolding output_of_lines machine_of setup_of number_at lines_from command_of turn_of begin_of counting_bit_set_call
     any_set_call set next_of nexts outcome event_text refusal_text digits
 short_of_several = refl
 
--- a turn that is refused for another reason needs no memory
-refused_first : output (true ∷ []) (codes "index_queue 1 1\n0 next") ≡ printed_whole (codes "refused Idle\n")
-unfolding output_of_lines machine_of setup_of number_at lines_from command_of turn_of
-    next_of outcome event_text refusal_text digits
+-- a turn that is refused for another reason is not for memory, and one that lacked memory can be tried again
+refused_first : output_of (codes "index_queue 1 1\n0 next\n0 begin len\n0 begin len\n0 next 9") (true ∷ true ∷ false ∷ true ∷ [])
+    ≡ printed_whole (codes "refused Idle\nrefused NoMemory\n0 begun len\nrefused NoMemory\n")
+unfolding output_of_lines machine_of setup_of number_at lines_from command_of turn_of begin_of queue_call any_call
+    item_call push_index next_of nexts outcome event_text refusal_text digits
 refused_first = refl
 
-missing : output [] [] ≡ stopped 1 causes.MissingValue
+-- the lines behind a refused turn are read as ever
+short_and_malformed : output_of (codes "index_queue 1 1\n0 begin len\n0 begin push") (true ∷ [])
+    ≡ record { text = codes "refused NoMemory\n"; end = Err (3, causes.MissingValue) }
+unfolding output_of_lines machine_of setup_of number_at lines_from command_of turn_of begin_of queue_call any_call
+    item_call push_index outcome refusal_text
+short_and_malformed = refl
+
+missing : output_of [] [] ≡ stopped 1 causes.MissingValue
 unfolding output_of_lines machine_of setup_of
 missing = refl
 
 -- the capacity is tested after all words
-too_large : output [] (codes "index_queue 4294967296 1") ≡ stopped 1 causes.ProvidedCapacityGreaterThanMaxCapacity
+too_large : output_of (codes "index_queue 4294967296 1") [] ≡ stopped 1 causes.ProvidedCapacityGreaterThanMaxCapacity
 unfolding output_of_lines machine_of setup_of number_at
 too_large = refl
 
-extra : output [] (codes "index_queue 4294967296 1 x") ≡ stopped 1 causes.ExtraWords
+extra : output_of (codes "index_queue 4294967296 1 x") [] ≡ stopped 1 causes.ExtraWords
 unfolding output_of_lines machine_of setup_of number_at
 extra = refl
 
 -- the lines before a malformed one are printed, and empty lines are counted
-malformed : output [] (codes "index_queue 1 1\n\ndie 1\n0 begin push")
-    ≡ record { text = codes "refused WrongCall\n"; end = Err (errors.Malformed 4 causes.MissingValue) }
+malformed : output_of (codes "index_queue 1 1\n\ndie 1\n0 begin push") [] ≡ record { text = codes "refused WrongCall\n"; end = Err (4, causes.MissingValue) }
 unfolding output_of_lines machine_of setup_of number_at lines_from command_of turn_of death_of begin_of queue_call
     any_call item_call push_index outcome refusal_text
 malformed = refl

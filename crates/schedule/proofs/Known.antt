@@ -3,7 +3,7 @@ use Rattle.std.proofs.Common.{◌≡◌, ℕ, Option, Some, None, Result, Ok, Er
 use Rattle.std.specs.Io.KnownBytes.{Appends}
 use Rattle.std.proofs.KnownBytes.{Appends-nil}
 use Rattle.texts.specs.declared.error.ScheduleError.{ScheduleError}
-use Rattle.texts.specs.declared.error.ScheduleError.TheVariants.{Malformed, ReadFailed, WriteFailed, NoMemory, OutOfMemory}
+use Rattle.texts.specs.declared.error.ScheduleError.TheVariants.{Malformed, ReadFailed, WriteFailed, NoMemory}
 use Rattle.schedule.specs.Run.{IsRun}
 use Rattle.schedule.specs.Told.{TellsMore}
 use Rattle.schedule.specs.Written.{AppendsPart, Writes, IsUnread}
@@ -15,7 +15,6 @@ pub run_known : (known b a : Option (List ℕ)) (input : List ℕ) (r : Result (
     → IsRun (Some input) b a r → IsRun known b a r
 run_known known b a input (Ok u) read p = (p.0, same_input known input p.0 read p.1, p.2)
 run_known known b a input (Err (Malformed line cause)) read p = (p.0, same_input known input p.0 read p.1, p.2)
-run_known known b a input (Err (OutOfMemory line)) read p = (p.0, same_input known input p.0 read p.1, p.2)
 run_known known b a input (Err WriteFailed) read p = (p.0, same_input known input p.0 read p.1, p.2)
 run_known known b a input (Err ReadFailed) read p = p
 run_known known b a input (Err NoMemory) read p = p
@@ -25,7 +24,6 @@ run_unread known ReadFailed p = tt
 run_unread known NoMemory p = tt
 run_unread known WriteFailed p = absurd p
 run_unread known (Malformed line cause) p = absurd p
-run_unread known (OutOfMemory line) p = absurd p
 
 pub told_alone : (old new : Option (List ℕ)) (line : List ℕ) → AppendsPart old new line → TellsMore old new line
 told_alone old new line p = (new, p, [], Appends-nil new)

@@ -2,6 +2,5 @@ pub mod Examples
 pub mod Known
 pub mod Lines
 pub mod Turns
-pub mod Unrefused
 pub mod Whole
 pub mod Writing

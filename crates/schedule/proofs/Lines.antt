@@ -1,6 +1,6 @@
 -- Lines, and the text that they print.
 use Rattle.std.proofs.Common.{◌≡◌, ℕ, ◌+◌, ◌<◌, ◌==◌, Bool, true, false, Option, Result, Ok, Err, List, [], ◌∷◌, ◌++◌}
-use Rattle.std.proofs.Common.{refl, sym, ap, ◌∙◌, subst, append_assoc, append-nil, length, cond, arith}
+use Rattle.std.proofs.Common.{refl, sym, ap, ◌∙◌, subst, append_assoc, append-nil, length, arith}
 use Rattle.std.proofs.lemmas.Bool.Decides.{nat_tests}
 use Rattle.std.specs.Io.KnownBytes.{Appends}
 use Rattle.std.proofs.KnownBytes.{Appends-trans}
@@ -8,20 +8,26 @@ use Rattle.model.specs.declared.turn.Kind.{Kind}
 use Rattle.model.specs.World.{World}
 use Rattle.texts.specs.declared.error.Cause.{Cause}
 use Rattle.texts.specs.declared.error.ScheduleError.{ScheduleError}
-use Rattle.texts.specs.declared.error.ScheduleError.TheVariants.{Malformed, OutOfMemory}
+use Rattle.texts.specs.declared.error.ScheduleError.TheVariants.{Malformed}
 use Rattle.texts.specs.declared.grammar.Command.{Command}
 use Rattle.texts.specs.Text.{words}
 use Rattle.texts.specs.Grammar.{command_of}
-use Rattle.schedule.specs.Output.{State, Printed, Output, commanded, lines_from, line_then, before, ran_out}
+use Rattle.schedule.specs.Output.{State, Output, commanded, lines_from, before, stopped}
 use Rattle.schedule.specs.Run.{Prints, IsOutput}
 use Rattle.schedule.proofs.Turns.{at}
-use Rattle.schedule.proofs.Unrefused.{line_as, IsUnrefused, unrefused_lines}
 use Rattle.schedule.proofs.Writing.{part_within}
 
 -- ---- one line
 
-abbrev as_output : Result (Unit {0}) ScheduleError → List ℕ → Output
+abbrev as_output : Result (Unit {0}) (ℕ × Cause) → List ℕ → Output
 as_output end text = record { text = text; end = end }
+
+abbrev line_as : Kind → ℕ → List (List ℕ) → State → Result Command Cause → Output
+line_as kind number rest s read =
+    elim read [
+      | Err cause ↦ stopped number cause
+      | Ok command ↦ before (commanded command s).text (lines_from kind (number + 1) rest (commanded command s).state)
+    ]
 
 line_read : (kind : Kind) (number : ℕ) (line : List ℕ) (rest : List (List ℕ)) (s : State) → 0 < length line
     → lines_from kind number (line ∷ rest) s ≡ line_as kind number rest s (command_of kind (words line))
@@ -54,36 +60,35 @@ none_of (b ∷ bs) e = grind (arith, nat_tests)
 
 -- the first lines did this, and these are left
 abbrev pub Done : Kind → List (List ℕ) → ℕ → List (List ℕ) → World ℕ → World ℕ → List Bool → List ℕ → Type 0
-Done kind lines number left old now memory text =
-    (more : List Bool) → lines_from kind 2 lines (at old (memory ++ more)) ≡ before text (lines_from kind number left (at now more))
+Done kind lines number left old now refusals text =
+    (more : List Bool) → lines_from kind 2 lines (at old (refusals ++ more)) ≡ before text (lines_from kind number left (at now more))
 
 -- what a line's command did comes after them
 pub done_command : (kind : Kind) (lines left rest : List (List ℕ)) (line : List ℕ) (number : ℕ) (old w new : World ℕ) (b m a : Option (List ℕ))
-    (memory : List Bool) (text : List ℕ) (command : Command) (had : Bool) → Done kind lines number left old w memory text → Appends b m text
-    → left ≡ line ∷ rest → 0 < length line → command_of kind (words line) ≡ Ok command → had ≡ true → Prints (commanded command) w new m a (Ok had)
-    → (memory : List Bool) × (text : List ℕ) × Done kind lines (number + 1) rest old new memory text × Appends b a text
-done_command kind lines left rest line number old w new b m a memory text command had done p first some read is told =
-    let q = subst (λ h. Prints (commanded command) w new m a (Ok h)) is told in (
-      memory ++ q.0,
-      text ++ q.1,
-      (λ more.
-          ap (λ l. lines_from kind 2 lines (at old l)) (append_assoc memory q.0 more)
-          ∙ done (q.0 ++ more)
-          ∙ ap (before text)
-          (ap (λ l. lines_from kind number l (at w (q.0 ++ more))) first
-          ∙ line_read kind number line rest (at w (q.0 ++ more)) some
-          ∙ ap (line_as kind number rest (at w (q.0 ++ more))) read
-          ∙ ap (λ r. line_then number r (lines_from kind (number + 1) rest r.state)) (q.2 more))
-          ∙ before-before text q.1 (lines_from kind (number + 1) rest (at new more))),
-      Appends-trans b m a text q.1 p q.3,
-    )
+    (refusals : List Bool) (text : List ℕ) (command : Command) → Done kind lines number left old w refusals text → Appends b m text
+    → left ≡ line ∷ rest → 0 < length line → command_of kind (words line) ≡ Ok command → Prints (commanded command) w new m a (Ok tt)
+    → (refusals : List Bool) × (text : List ℕ) × Done kind lines (number + 1) rest old new refusals text × Appends b a text
+done_command kind lines left rest line number old w new b m a refusals text command done p first some read q = (
+  refusals ++ q.0,
+  text ++ q.1,
+  (λ more.
+      ap (λ l. lines_from kind 2 lines (at old l)) (append_assoc refusals q.0 more)
+      ∙ done (q.0 ++ more)
+      ∙ ap (before text)
+      (ap (λ l. lines_from kind number l (at w (q.0 ++ more))) first
+      ∙ line_read kind number line rest (at w (q.0 ++ more)) some
+      ∙ ap (line_as kind number rest (at w (q.0 ++ more))) read
+      ∙ ap (λ r. before r.text (lines_from kind (number + 1) rest r.state)) (q.2 more))
+      ∙ before-before text q.1 (lines_from kind (number + 1) rest (at new more))),
+  Appends-trans b m a text q.1 p q.3,
+)
 
 -- an empty line does nothing
 pub done_empty : (kind : Kind) (lines left rest : List (List ℕ)) (line : List ℕ) (number : ℕ) (old w : World ℕ) (b m : Option (List ℕ))
-    (memory : List Bool) (text : List ℕ) → Done kind lines number left old w memory text → Appends b m text → left ≡ line ∷ rest → length line ≡ 0
-    → (memory : List Bool) × (text : List ℕ) × Done kind lines (number + 1) rest old w memory text × Appends b m text
-done_empty kind lines left rest line number old w b m memory text done p first none = (
-  memory,
+    (refusals : List Bool) (text : List ℕ) → Done kind lines number left old w refusals text → Appends b m text → left ≡ line ∷ rest → length line ≡ 0
+    → (refusals : List Bool) × (text : List ℕ) × Done kind lines (number + 1) rest old w refusals text × Appends b m text
+done_empty kind lines left rest line number old w b m refusals text done p first none = (
+  refusals,
   text,
   (λ more. done more
       ∙ ap (before text) (ap (λ l. lines_from kind number l (at w more)) first ∙ line_empty kind number line rest (at w more) none)),
@@ -93,71 +98,43 @@ done_empty kind lines left rest line number old w b m memory text done p first n
 -- ---- the end
 
 abbrev pub output_from : Kind → List (List ℕ) → World ℕ → List Bool → Output
-output_from kind lines w memory = lines_from kind 2 lines (at w memory)
+output_from kind lines w refusals = lines_from kind 2 lines (at w refusals)
 
 -- the rest prints nothing, and ends so
-ended : (end : Result (Unit {0}) ScheduleError) (o : Output) (b a : Option (List ℕ)) (text : List ℕ) → o ≡ before text (as_output end []) → Appends b a text
+ended : (end : Result (Unit {0}) (ℕ × Cause)) (o : Output) (b a : Option (List ℕ)) (text : List ℕ) → o ≡ before text (as_output end []) → Appends b a text
     → (o.end ≡ end) × Appends b a o.text
 ended end o b a text e p = (ap (λ r. r.end) e, subst (Appends b a) (sym (ap (λ r. r.text) e ∙ append-nil text)) p)
 
--- and where no memory was refused, the list says nothing
-unrefused : (kind : Kind) (lines : List (List ℕ)) (w : World ℕ) (memory : List Bool) (end : Result (Unit {0}) ScheduleError) (b a : Option (List ℕ))
-    → IsUnrefused end → ((output_from kind lines w memory).end ≡ end) × Appends b a (output_from kind lines w memory).text
-    → ((output_from kind lines w []).end ≡ end) × Appends b a (output_from kind lines w []).text
-unrefused kind lines w memory end b a no_refusal p =
-    let same = unrefused_lines kind 2 lines (at w memory) (subst IsUnrefused (sym p.0) no_refusal) in
-    (ap (λ (o : Output). o.end) (sym same) ∙ p.0, subst (λ (o : Output). Appends b a o.text) same p.1)
-
-pub lines_ended : (kind : Kind) (lines left : List (List ℕ)) (number : ℕ) (old w : World ℕ) (b a : Option (List ℕ)) (memory : List Bool) (text : List ℕ)
-    → Done kind lines number left old w memory text → Appends b a text → left ≡ [] → IsOutput (output_from kind lines old) b a (Ok tt)
-lines_ended kind lines left number old w b a memory text done p none =
+pub lines_ended : (kind : Kind) (lines left : List (List ℕ)) (number : ℕ) (old w : World ℕ) (b a : Option (List ℕ)) (refusals : List Bool) (text : List ℕ)
+    → Done kind lines number left old w refusals text → Appends b a text → left ≡ [] → IsOutput (output_from kind lines old) b a (Ok tt)
+lines_ended kind lines left number old w b a refusals text done p none =
     let whole = done [] ∙ ap (before text) (ap (λ l. lines_from kind number l (at w [])) none ∙ lines_none kind number (at w [])) in
-    unrefused kind lines old (memory ++ []) (Ok tt) b a (λ line e. absurd (cc)) (ended (Ok tt) _ b a text whole p)
+    let end = ended (Ok tt) _ b a text whole p in
+    (refusals ++ [], end.0, end.1)
 
 pub lines_malformed : (kind : Kind) (lines left rest : List (List ℕ)) (line : List ℕ) (number : ℕ) (old w : World ℕ) (b a : Option (List ℕ))
-    (memory : List Bool) (text : List ℕ) (cause : Cause) → Done kind lines number left old w memory text → Appends b a text → left ≡ line ∷ rest
+    (refusals : List Bool) (text : List ℕ) (cause : Cause) → Done kind lines number left old w refusals text → Appends b a text → left ≡ line ∷ rest
     → 0 < length line → command_of kind (words line) ≡ Err cause → IsOutput (output_from kind lines old) b a (Err (Malformed number cause))
-lines_malformed kind lines left rest line number old w b a memory text cause done p first some read =
+lines_malformed kind lines left rest line number old w b a refusals text cause done p first some read =
     let s = at w [] in
     let whole = done [] ∙ ap (before text)
     (ap (λ l. lines_from kind number l s) first ∙ line_read kind number line rest s some ∙ ap (line_as kind number rest s) read) in
-    let end = ended (Err (Malformed number cause)) _ b a text whole p in
-    unrefused kind lines old (memory ++ []) (Err (Malformed number cause)) b a (λ line e. absurd (cc)) end
-
--- memory was refused to a turn of a line
-pub lines_ran_out : (kind : Kind) (lines left rest : List (List ℕ)) (line : List ℕ) (number : ℕ) (old w new : World ℕ) (b m a : Option (List ℕ))
-    (memory : List Bool) (text : List ℕ) (command : Command) (had : Bool) → Done kind lines number left old w memory text → Appends b m text
-    → left ≡ line ∷ rest → 0 < length line → command_of kind (words line) ≡ Ok command → had ≡ false → Prints (commanded command) w new m a (Ok had)
-    → IsOutput (output_from kind lines old) b a (Err (OutOfMemory number))
-lines_ran_out kind lines left rest line number old w new b m a memory text command had done p first some read is told =
-    let q = subst (λ h. Prints (commanded command) w new m a (Ok h)) is told in
-    let s = at w (q.0 ++ []) in
-    let whole =
-    ap (λ l. lines_from kind 2 lines (at old l)) (append_assoc memory q.0 [])
-    ∙ done (q.0 ++ [])
-    ∙ ap (before text)
-    (ap (λ l. lines_from kind number l s) first
-    ∙ line_read kind number line rest s some
-    ∙ ap (line_as kind number rest s) read
-    ∙ ap (λ (r : Printed). line_then number r (lines_from kind (number + 1) rest r.state)) (q.2 []))
-    ∙ before-before text q.1 (ran_out number) in
-    let end = ended (Err (OutOfMemory number)) _ b a (text ++ q.1) whole (Appends-trans b m a text q.1 p q.3) in
-    ((memory ++ q.0) ++ [], end.0, end.1)
+    let end = ended (Err (number, cause)) _ b a text whole p in
+    (refusals ++ [], end.0, end.1)
 
 -- a write failed
 pub lines_failed : (kind : Kind) (lines left rest : List (List ℕ)) (line : List ℕ) (number : ℕ) (old w new : World ℕ) (b m a : Option (List ℕ))
-    (memory : List Bool) (text : List ℕ) (command : Command) (e : ScheduleError) → Done kind lines number left old w memory text → Appends b m text
+    (refusals : List Bool) (text : List ℕ) (command : Command) (e : ScheduleError) → Done kind lines number left old w refusals text → Appends b m text
     → left ≡ line ∷ rest → 0 < length line → command_of kind (words line) ≡ Ok command → Prints (commanded command) w new m a (Err e)
     → IsOutput (output_from kind lines old) b a (Err e)
-lines_failed kind lines left rest line number old w new b m a memory text command e done p first some read q =
+lines_failed kind lines left rest line number old w new b m a refusals text command e done p first some read q =
     let s = at w q.1 in
-    let behind = lines_from kind (number + 1) rest (commanded command s).state in
-    let later = cond (commanded command s).has_memory behind (ran_out number) in
-    let whole : lines_from kind 2 lines (at old (memory ++ q.1)) ≡ before text (before (commanded command s).text later) =
+    let later = lines_from kind (number + 1) rest (commanded command s).state in
+    let whole : lines_from kind 2 lines (at old (refusals ++ q.1)) ≡ before text (before (commanded command s).text later) =
     done q.1 ∙ ap (before text)
     (ap (λ l. lines_from kind number l s) first ∙ line_read kind number line rest s some ∙ ap (line_as kind number rest s) read) in
     subst (λ x. IsOutput (output_from kind lines old) b a (Err x)) (sym q.0) (
-      memory ++ q.1,
+      refusals ++ q.1,
       part_within b m a text (commanded command s).text later.text _ p q.2
           (append_assoc text (commanded command s).text later.text ∙ sym (ap (λ o. o.text) whole)),
     )

@@ -20,12 +20,11 @@ use Rattle.model.proofs.Rows.{passes, row_passed}
 use Rattle.machine.specs.declared.Stopped.{Stopped}
 use Rattle.texts.specs.declared.error.ScheduleError.{ScheduleError}
 use Rattle.texts.specs.declared.error.ScheduleError.TheVariants.{WriteFailed}
-use Rattle.texts.specs.Print.{event_text, events_text}
-use Rattle.schedule.specs.Written.{AppendsPart}
-use Rattle.schedule.specs.Output.{Outcome, outcome, outcome_as, refusal_where, has_memory, refused_text, State, Printed}
-use Rattle.schedule.specs.Output.{after_text, printed, goes_on, nexts, commanded}
+use Rattle.texts.specs.Print.{event_text, events_text, refusal_text}
+use Rattle.schedule.specs.Written.{AppendsPart, Writes}
+use Rattle.schedule.specs.Output.{Outcome, outcome, outcome_as, refusal_where, State, Printed, after_text, printed, goes_on, nexts, commanded}
 use Rattle.texts.specs.declared.grammar.Command.TheVariants.{Once}
-use Rattle.schedule.specs.Run.{TellsRefusal, IsTurn, Leads, Prints}
+use Rattle.schedule.specs.Run.{IsTurn, Leads, Prints}
 use Rattle.schedule.proofs.Writing.{AppendsPart_more, part_within}
 
 -- ---- one turn
@@ -35,10 +34,10 @@ pub events_behind : {X : Type 0} (old new told : List X) → new ≡ old ++ told
 events_behind old new told e = take_rest new (length old) ∙ ap (drop (length old)) e ∙ drop_at old told (length old) refl
 
 abbrev taken_as : World ℕ → Turn ℕ → Outcome
-taken_as w turn = record { text = events_text (events_of w turn); is_taken = true; has_memory = true; world = world_after w turn }
+taken_as w turn = record { text = events_text (events_of w turn); is_taken = true; world = world_after w turn }
 
 abbrev refused_as : World ℕ → Refusal → Outcome
-refused_as w refusal = record { text = refused_text refusal; is_taken = false; has_memory = has_memory refusal; world = w }
+refused_as w refusal = record { text = refusal_text refusal; is_taken = false; world = w }
 
 outcome_taken : (w : World ℕ) (turn : Turn ℕ) → refusal_of w turn ≡ None → outcome false w turn ≡ taken_as w turn
 unfolding outcome
@@ -49,19 +48,16 @@ unfolding outcome
 outcome_refused w turn refusal (inl e) = (false, ap (λ r. outcome_as w turn (refusal_where false r)) e)
 outcome_refused w turn refusal (inr (e, same)) = (true, ap (λ r. outcome_as w turn (refusal_where true r)) e ∙ ap (refused_as w) (sym same))
 
-pub taken_written : (w new : World ℕ) (turn : Turn ℕ) (b a : Option (List ℕ)) → refusal_of w turn ≡ None → new ≡ world_after w turn
-    → Appends b a (events_text (events_of w turn)) → (short : Bool) × IsTurn (outcome short w turn) new b a (Ok true)
-taken_written w new turn b a e same p = (false, subst (λ o. IsTurn o new b a (Ok true)) (sym (outcome_taken w turn e)) (refl, same, p))
+pub taken_told : (w new : World ℕ) (turn : Turn ℕ) (b a : Option (List ℕ)) (r : Result (Unit {0}) ScheduleError) → refusal_of w turn ≡ None
+    → new ≡ world_after w turn → Writes b a r (events_text (events_of w turn)) → (short : Bool) × IsTurn (outcome short w turn) new b a r
+taken_told w new turn b a (Ok u) e same p = (false, subst (λ o. IsTurn o new b a (Ok u)) (sym (outcome_taken w turn e)) (same, p))
+taken_told w new turn b a (Err error) e same p = (false, subst (λ o. IsTurn o new b a (Err error)) (sym (outcome_taken w turn e)) p)
 
-pub taken_failed : (w new : World ℕ) (turn : Turn ℕ) (b a : Option (List ℕ)) (error : ScheduleError) → refusal_of w turn ≡ None → error ≡ WriteFailed
-    → AppendsPart b a (events_text (events_of w turn)) → (short : Bool) × IsTurn (outcome short w turn) new b a (Err error)
-taken_failed w new turn b a error e same p = (false, subst (λ o. IsTurn o new b a (Err error)) (sym (outcome_taken w turn e)) (same, p))
-
-pub refused_told : (w new : World ℕ) (turn : Turn ℕ) (b a : Option (List ℕ)) (refusal : Refusal) (r : Result Bool ScheduleError)
-    → IsRefusal w turn refusal → new ≡ w → TellsRefusal refusal b a r → (short : Bool) × IsTurn (outcome short w turn) new b a r
-refused_told w new turn b a refusal (Ok had) e same p =
+pub refused_told : (w new : World ℕ) (turn : Turn ℕ) (b a : Option (List ℕ)) (refusal : Refusal) (r : Result (Unit {0}) ScheduleError)
+    → IsRefusal w turn refusal → new ≡ w → Writes b a r (refusal_text refusal) → (short : Bool) × IsTurn (outcome short w turn) new b a r
+refused_told w new turn b a refusal (Ok u) e same p =
     let o = outcome_refused w turn refusal e in
-    (o.0, subst (λ o. IsTurn o new b a (Ok had)) (sym o.1) (p.0, same, p.1))
+    (o.0, subst (λ o. IsTurn o new b a (Ok u)) (sym o.1) (same, p))
 refused_told w new turn b a refusal (Err error) e same p =
     let o = outcome_refused w turn refusal e in
     (o.0, subst (λ o. IsTurn o new b a (Err error)) (sym o.1) p)
@@ -69,16 +65,13 @@ refused_told w new turn b a refusal (Err error) e same p =
 -- ---- several turns
 
 abbrev pub at : World ℕ → List Bool → State
-at w memory = record { world = w; memory = memory }
-
-abbrev pub as_told : State → Bool → List ℕ → Printed
-as_told s had text = record { text = text; has_memory = had; state = s }
+at w refusals = record { world = w; refusals = refusals }
 
 abbrev pub as_printed : State → List ℕ → Printed
-as_printed s text = as_told s true text
+as_printed s text = record { text = text; state = s }
 
 after_text-after_text : (s t : List ℕ) (p : Printed) → after_text s (after_text t p) ≡ after_text (s ++ t) p
-after_text-after_text s t p = ap (as_told p.state p.has_memory) (sym (append_assoc s t p.text))
+after_text-after_text s t p = ap (as_printed p.state) (sym (append_assoc s t p.text))
 
 nexts_going : (left party : ℕ) (w : World ℕ) (short : Bool) (more : List Bool) → goes_on party (outcome short w (Next party)) ≡ true
     → nexts (suc left) party (at w (short ∷ more))
@@ -198,7 +191,7 @@ stops_over zero p left now more some ending = absurd (some refl)
 stops_over (suc n) p left now more some ending = ap (λ b. cond b (nexts left p (at now more)) (as_printed (at now more) [])) ending
 
 refused_over : (p left : ℕ) (now : World ℕ) (refusal : Refusal) → IsRefusal now (Next p) refusal
-    → (short : Bool) × ((more : List Bool) → nexts (suc left) p (at now (short ∷ more)) ≡ as_told (at now more) (has_memory refusal) (refused_text refusal))
+    → (short : Bool) × ((more : List Bool) → nexts (suc left) p (at now (short ∷ more)) ≡ as_printed (at now more) (refusal_text refusal))
 refused_over p left now refusal is =
     let r = outcome_refused now (Next p) refusal is in (
       r.0,
@@ -207,7 +200,7 @@ refused_over p left now refusal is =
 
 -- all turns were taken
 pub all_taken : (most p : ℕ) (old now : World ℕ) (told : List (Event ℕ)) (b a : Option (List ℕ)) → Taken most p old now told
-    → Appends b a (events_text told) → Prints (nexts most p) old now b a (Ok true)
+    → Appends b a (events_text told) → Prints (nexts most p) old now b a (Ok tt)
 all_taken most p old now told b a taken q =
     let none : most ≡ most + 0 = omega arith in (
       replicate most false,
@@ -220,7 +213,7 @@ all_taken most p old now told b a taken q =
 
 -- the call ended before
 pub call_ended : (most n p : ℕ) (old now : World ℕ) (told : List (Event ℕ)) (b a : Option (List ℕ)) → n < most → n ≢ 0 → is_going now p ≡ false
-    → Taken n p old now told → Appends b a (events_text told) → Prints (nexts most p) old now b a (Ok true)
+    → Taken n p old now told → Appends b a (events_text told) → Prints (nexts most p) old now b a (Ok tt)
 call_ended most n p old now told b a below some ending taken q =
     let split : most ≡ n + (most - n) = omega arith in (
       replicate n false,
@@ -234,7 +227,7 @@ call_ended most n p old now told b a below some ending taken q =
 -- where the next turn was refused
 refused_leads : (most n p : ℕ) (old now : World ℕ) (told : List (Event ℕ)) (refusal : Refusal) → n < most → (n ≡ 0) ⊎ (is_going now p ≡ true)
     → Taken n p old now told → IsRefusal now (Next p) refusal
-    → (memory : List Bool) × Leads (nexts most p) old now memory (events_text told ++ refused_text refusal) (has_memory refusal)
+    → (refusals : List Bool) × Leads (nexts most p) old now refusals (events_text told ++ refusal_text refusal)
 refused_leads most n p old now told refusal below goes taken is =
     let left = most - n - 1 in
     let r = refused_over p left now refusal is in
@@ -246,20 +239,16 @@ refused_leads most n p old now told refusal below goes taken is =
           ∙ ap (after_text (events_text told)) (goes_over n p (suc left) now (r.0 ∷ more) goes ∙ r.1 more),
     )
 
-next_refused : (most n p : ℕ) (old now : World ℕ) (told : List (Event ℕ)) (refusal : Refusal) (b m a : Option (List ℕ)) (had : Bool) → n < most
+pub next_refused : (most n p : ℕ) (old now : World ℕ) (told : List (Event ℕ)) (refusal : Refusal) (b m a : Option (List ℕ)) → n < most
     → (n ≡ 0) ⊎ (is_going now p ≡ true) → Taken n p old now told → IsRefusal now (Next p) refusal
-    → Appends b m (events_text told) → TellsRefusal refusal m a (Ok had) → Prints (nexts most p) old now b a (Ok had)
-next_refused most n p old now told refusal b m a had below goes taken is q r =
-    let leads = refused_leads most n p old now told refusal below goes taken is in (
-      leads.0,
-      events_text told ++ refused_text refusal,
-      subst (Leads (nexts most p) old now leads.0 (events_text told ++ refused_text refusal)) (sym r.0) leads.1,
-      Appends-trans b m a (events_text told) (refused_text refusal) q r.1,
-    )
+    → Appends b m (events_text told) → Appends m a (refusal_text refusal) → Prints (nexts most p) old now b a (Ok tt)
+next_refused most n p old now told refusal b m a below goes taken is q r =
+    let leads = refused_leads most n p old now told refusal below goes taken is in
+    (leads.0, events_text told ++ refusal_text refusal, leads.1, Appends-trans b m a (events_text told) (refusal_text refusal) q r)
 
 -- a write failed
 pub events_failed : (most n p : ℕ) (old now : World ℕ) (told : List (Event ℕ)) (b a : Option (List ℕ)) → n ≤ most → Taken n p old now told
-    → AppendsPart b a (events_text told) → (memory : List Bool) × AppendsPart b a (nexts most p (at old memory)).text
+    → AppendsPart b a (events_text told) → (refusals : List Bool) × AppendsPart b a (nexts most p (at old refusals)).text
 events_failed most n p old now told b a within taken q =
     let split : most ≡ n + (most - n) = omega arith in (
       replicate n false ++ [],
@@ -268,22 +257,22 @@ events_failed most n p old now told b a within taken q =
           (AppendsPart_more b a (events_text told) (left_over n now p (most - n) []).text q),
     )
 
-refusal_failed : (most n p : ℕ) (old now : World ℕ) (told : List (Event ℕ)) (refusal : Refusal) (b m a : Option (List ℕ)) → n < most
+pub refusal_failed : (most n p : ℕ) (old now : World ℕ) (told : List (Event ℕ)) (refusal : Refusal) (b m a : Option (List ℕ)) → n < most
     → (n ≡ 0) ⊎ (is_going now p ≡ true) → Taken n p old now told → IsRefusal now (Next p) refusal
-    → Appends b m (events_text told) → AppendsPart m a (refused_text refusal)
-    → (memory : List Bool) × AppendsPart b a (nexts most p (at old memory)).text
+    → Appends b m (events_text told) → AppendsPart m a (refusal_text refusal)
+    → (refusals : List Bool) × AppendsPart b a (nexts most p (at old refusals)).text
 refusal_failed most n p old now told refusal b m a below goes taken is q r =
     let leads = refused_leads most n p old now told refusal below goes taken is in (
       leads.0 ++ [],
-      part_within b m a (events_text told) (refused_text refusal) [] (nexts most p (at old (leads.0 ++ []))).text q r
-          (append-nil (events_text told ++ refused_text refusal) ∙ sym (ap (λ (p : Printed). p.text) (leads.1 []))),
+      part_within b m a (events_text told) (refusal_text refusal) [] (nexts most p (at old (leads.0 ++ []))).text q r
+          (append-nil (events_text told ++ refusal_text refusal) ∙ sym (ap (λ (p : Printed). p.text) (leads.1 []))),
     )
 
 pub refused_prints : (most n p : ℕ) (old now : World ℕ) (told : List (Event ℕ)) (refusal : Refusal) (b m a : Option (List ℕ))
-    (r : Result Bool ScheduleError) → n < most → (n ≡ 0) ⊎ (is_going now p ≡ true) → Taken n p old now told → IsRefusal now (Next p) refusal
-    → Appends b m (events_text told) → TellsRefusal refusal m a r → Prints (nexts most p) old now b a r
-refused_prints most n p old now told refusal b m a (Ok had) below goes taken is q r =
-    next_refused most n p old now told refusal b m a had below goes taken is q r
+    (r : Result (Unit {0}) ScheduleError) → n < most → (n ≡ 0) ⊎ (is_going now p ≡ true) → Taken n p old now told → IsRefusal now (Next p) refusal
+    → Appends b m (events_text told) → Writes m a r (refusal_text refusal) → Prints (nexts most p) old now b a r
+refused_prints most n p old now told refusal b m a (Ok u) below goes taken is q r =
+    next_refused most n p old now told refusal b m a below goes taken is q r
 refused_prints most n p old now told refusal b m a (Err e) below goes taken is q r =
     let failed = refusal_failed most n p old now told refusal b m a below goes taken is q r.1 in
     (r.0, failed.0, failed.1)
@@ -318,13 +307,9 @@ ran_is most p t u (Err stopped) all is below allowed taken =
 
 -- ---- one turn as a command
 
-pub once_told : (turn : Turn ℕ) (old new : World ℕ) (b a : Option (List ℕ)) (short : Bool) (r : Result Bool ScheduleError)
+pub once_told : (turn : Turn ℕ) (old new : World ℕ) (b a : Option (List ℕ)) (short : Bool) (r : Result (Unit {0}) ScheduleError)
     → IsTurn (outcome short old turn) new b a r → Prints (commanded (Once turn)) old new b a r
-once_told turn old new b a short (Ok had) p =
-    let o = outcome short old turn in (
-      short ∷ [],
-      o.text,
-      (λ more. ap (λ v. as_told (at v more) o.has_memory o.text) (sym p.1) ∙ ap (λ h. as_told (at new more) h o.text) (sym p.0)),
-      p.2,
-    )
+once_told turn old new b a short (Ok u) p =
+    let o = outcome short old turn in
+    (short ∷ [], o.text, (λ more. ap (λ v. as_printed (at v more) o.text) (sym p.0)), p.1)
 once_told turn old new b a short (Err error) p = (p.0, short ∷ [], p.1)

@@ -1,6 +1,5 @@
 -- A whole text, and a whole run.
-use Rattle.std.proofs.Common.{◌≡◌, ◌⊎◌, inl, inr, ℕ, ◌≤◌, ◌==◌, Bool, Option, Result, Ok, Err, List, [], ◌∷◌, sym, ap}
-use Rattle.std.proofs.Common.{◌∙◌, subst, append-nil, length, arith, IfSome, IfErr}
+use Rattle.std.proofs.Common.{◌≡◌, ℕ, ◌≤◌, ◌==◌, Bool, Option, Result, Ok, Err, List, [], ◌∷◌, sym, ap, ◌∙◌, subst, append-nil, length, arith, IfSome, IfErr}
 use Rattle.std.specs.Io.KnownBytes.{Appends, Keeps}
 use Rattle.std.proofs.KnownBytes.{Appends-nil, Appends-kept}
 use Rattle.std.proofs.lemmas.List.Splits.{length-slice_split}
@@ -10,12 +9,12 @@ use Rattle.model.specs.World.{World}
 use Rattle.texts.specs.declared.error.Cause.{Cause}
 use Rattle.texts.specs.declared.error.Cause.TheVariants.{MissingValue}
 use Rattle.texts.specs.declared.error.ScheduleError.{ScheduleError}
-use Rattle.texts.specs.declared.error.ScheduleError.TheVariants.{Malformed, ReadFailed, WriteFailed, NoMemory, OutOfMemory}
+use Rattle.texts.specs.declared.error.ScheduleError.TheVariants.{Malformed, ReadFailed, WriteFailed, NoMemory}
 use Rattle.texts.specs.declared.grammar.Setup.{Setup}
 use Rattle.texts.specs.Grammar.{kind_in}
 use Rattle.texts.specs.Text.{lines, words}
 use Rattle.schedule.specs.Written.{AppendsPart}
-use Rattle.schedule.specs.Output.{Output, stopped, machine_of, trace_of, lines_from, opened, output_of_lines, output}
+use Rattle.schedule.specs.Output.{Output, stopped, machine_of, trace_of, lines_from, opened, output_of_lines, output_of}
 use Rattle.schedule.specs.Run.{IsOutput, IsRun}
 use Rattle.schedule.proofs.Lines.{output_from}
 
@@ -27,37 +26,35 @@ few_lines input first rest e =
 
 -- ---- the first line
 
-stops : (input : List ℕ) (b : Option (List ℕ)) (cause : Cause) → output [] input ≡ stopped 1 cause
-    → IsOutput (λ memory. output memory input) b b (Err (Malformed 1 cause))
-stops input b cause e = (ap (λ o. o.end) e, subst (Appends b b) (sym (ap (λ o. o.text) e)) (Appends-nil b))
+stops : (input : List ℕ) (b : Option (List ℕ)) (cause : Cause) → output_of input [] ≡ stopped 1 cause
+    → IsOutput (output_of input) b b (Err (Malformed 1 cause))
+stops input b cause e = ([], ap (λ o. o.end) e, subst (Appends b b) (sym (ap (λ o. o.text) e)) (Appends-nil b))
 
-pub text_missing : (input : List ℕ) (b : Option (List ℕ)) → lines input ≡ [] → IsOutput (λ memory. output memory input) b b (Err (Malformed 1 MissingValue))
+pub text_missing : (input : List ℕ) (b : Option (List ℕ)) → lines input ≡ [] → IsOutput (output_of input) b b (Err (Malformed 1 MissingValue))
 unfolding output_of_lines
 text_missing input b e = stops input b MissingValue (ap (output_of_lines []) e)
 
 abbrev first_as : List (List ℕ) → List Bool → Result Setup Cause → Output
-first_as rest memory read = elim read [ Err cause ↦ stopped 1 cause | Ok setup ↦ lines_from (kind_in setup.shape) 2 rest (opened setup memory) ]
+first_as rest refusals read = elim read [ Err cause ↦ stopped 1 cause | Ok setup ↦ lines_from (kind_in setup.shape) 2 rest (opened setup refusals) ]
 
-first_read : (input first : List ℕ) (rest : List (List ℕ)) (memory : List Bool) → lines input ≡ first ∷ rest
-    → output memory input ≡ first_as rest memory (machine_of (words first))
+first_read : (input first : List ℕ) (rest : List (List ℕ)) (refusals : List Bool) → lines input ≡ first ∷ rest
+    → output_of input refusals ≡ first_as rest refusals (machine_of (words first))
 unfolding output_of_lines
-first_read input first rest memory e = ap (output_of_lines memory) e
+first_read input first rest refusals e = ap (output_of_lines refusals) e
 
 pub text_malformed : (input first : List ℕ) (rest : List (List ℕ)) (b : Option (List ℕ)) (cause : Cause) → lines input ≡ first ∷ rest
-    → machine_of (words first) ≡ Err cause → IsOutput (λ memory. output memory input) b b (Err (Malformed 1 cause))
+    → machine_of (words first) ≡ Err cause → IsOutput (output_of input) b b (Err (Malformed 1 cause))
 text_malformed input first rest b cause e read = stops input b cause (first_read input first rest [] e ∙ ap (first_as rest []) read)
 
 -- ---- the other lines
 
 -- what is said of an output holds of one that is the same for each list
-same_output : (one other : List Bool → Output) → ((memory : List Bool) → one memory ≡ other memory)
+same_output : (one other : List Bool → Output) → ((refusals : List Bool) → one refusals ≡ other refusals)
     → (b a : Option (List ℕ)) (r : Result (Unit {0}) ScheduleError)
     → IsOutput one b a r → IsOutput other b a r
 same_output one other same b a (Ok u) p =
-    (ap (λ o. o.end) (sym (same [])) ∙ p.0, subst (λ o. Appends b a o.text) (same []) p.1)
+    (p.0, ap (λ o. o.end) (sym (same p.0)) ∙ p.1, subst (λ o. Appends b a o.text) (same p.0) p.2)
 same_output one other same b a (Err (Malformed line cause)) p =
-    (ap (λ o. o.end) (sym (same [])) ∙ p.0, subst (λ o. Appends b a o.text) (same []) p.1)
-same_output one other same b a (Err (OutOfMemory line)) p =
     (p.0, ap (λ o. o.end) (sym (same p.0)) ∙ p.1, subst (λ o. Appends b a o.text) (same p.0) p.2)
 same_output one other same b a (Err WriteFailed) p = (p.0, subst (λ o. AppendsPart b a o.text) (same p.0) p.1)
 same_output one other same b a (Err ReadFailed) p = p
@@ -65,12 +62,12 @@ same_output one other same b a (Err NoMemory) p = p
 
 pub text_lines : (input first : List ℕ) (rest : List (List ℕ)) (setup : Setup) (kind : Kind) (w : World ℕ) (b a : Option (List ℕ))
     → (r : Result (Unit {0}) ScheduleError) → lines input ≡ first ∷ rest → machine_of (words first) ≡ Ok setup → kind ≡ kind_in setup.shape
-    → w ≡ (trace_of setup).world → IsOutput (output_from kind rest w) b a r → IsOutput (λ memory. output memory input) b a r
+    → w ≡ (trace_of setup).world → IsOutput (output_from kind rest w) b a r → IsOutput (output_of input) b a r
 text_lines input first rest setup kind w b a r e read named same p =
-    same_output (output_from kind rest w) (λ memory. output memory input)
-    (λ memory. ap (λ k. output_from k rest w memory) named
-    ∙ (ap (λ v. output_from (kind_in setup.shape) rest v memory) same
-    ∙ sym (first_read input first rest memory e ∙ ap (first_as rest memory) read)))
+    same_output (output_from kind rest w) (output_of input)
+    (λ refusals. ap (λ k. output_from k rest w refusals) named
+    ∙ (ap (λ v. output_from (kind_in setup.shape) rest v refusals) same
+    ∙ sym (first_read input first rest refusals e ∙ ap (first_as rest refusals) read)))
     b a r p
 
 -- ---- what the writer kept back
@@ -79,32 +76,15 @@ kept_part : (b m a : Option (List ℕ)) (text : List ℕ) → Appends b m text �
 kept_part b m a text p q = (text, [], append-nil text, Appends-kept b m a text p q)
 
 pub flushed_end : (known b m a : Option (List ℕ)) (input : List ℕ) (r : Result (Unit {0}) ScheduleError) → IfSome known (λ bytes. bytes ≡ input)
-    → IsOutput (λ memory. output memory input) b m (Ok tt) → Keeps m a → IfErr r (λ e. e ≡ WriteFailed) → IsRun known b a r
-flushed_end known b m a input (Ok u) read p q failed = (input, read, (p.0, Appends-kept b m a _ p.1 q))
+    → IsOutput (output_of input) b m (Ok tt) → Keeps m a → IfErr r (λ e. e ≡ WriteFailed) → IsRun known b a r
+flushed_end known b m a input (Ok u) read p q failed = (input, read, (p.0, p.1, Appends-kept b m a _ p.2 q))
 flushed_end known b m a input (Err e) read p q failed =
-    subst (λ x. IsRun known b a (Err x)) (sym failed) (input, read, ([], kept_part b m a _ p.1 q))
+    subst (λ x. IsRun known b a (Err x)) (sym failed) (input, read, (p.0, kept_part b m a _ p.2 q))
 
--- behind a malformed line, and behind one to a turn of which memory was refused
-pub flushed_malformed : (known b m a : Option (List ℕ)) (input : List ℕ) (ended : ScheduleError) (line : ℕ) (cause : Cause) (e : ScheduleError)
-    → IfSome known (λ bytes. bytes ≡ input) → ended ≡ Malformed line cause → IsOutput (λ memory. output memory input) b m (Err ended)
-    → Keeps m a → (e ≡ Malformed line cause) ⊎ (e ≡ WriteFailed) → IsRun known b a (Err e)
-flushed_malformed known b m a input ended line cause e read same p q either = by either
-  where
-    text : IsOutput (λ memory. output memory input) b m (Err (Malformed line cause))
-    text = subst (λ x. IsOutput (λ memory. output memory input) b m (Err x)) same p
-
-    by : (e ≡ Malformed line cause) ⊎ (e ≡ WriteFailed) → IsRun known b a (Err e)
-    by (inl is) = subst (λ x. IsRun known b a (Err x)) (sym is) (input, read, (text.0, Appends-kept b m a _ text.1 q))
-    by (inr is) = subst (λ x. IsRun known b a (Err x)) (sym is) (input, read, ([], kept_part b m a _ text.1 q))
-
-pub flushed_short : (known b m a : Option (List ℕ)) (input : List ℕ) (ended : ScheduleError) (line : ℕ) (e : ScheduleError)
-    → IfSome known (λ bytes. bytes ≡ input) → ended ≡ OutOfMemory line → IsOutput (λ memory. output memory input) b m (Err ended)
-    → Keeps m a → (e ≡ OutOfMemory line) ⊎ (e ≡ WriteFailed) → IsRun known b a (Err e)
-flushed_short known b m a input ended line e read same p q either = by either
-  where
-    text : IsOutput (λ memory. output memory input) b m (Err (OutOfMemory line))
-    text = subst (λ x. IsOutput (λ memory. output memory input) b m (Err x)) same p
-
-    by : (e ≡ OutOfMemory line) ⊎ (e ≡ WriteFailed) → IsRun known b a (Err e)
-    by (inl is) = subst (λ x. IsRun known b a (Err x)) (sym is) (input, read, (text.0, text.1, Appends-kept b m a _ text.2 q))
-    by (inr is) = subst (λ x. IsRun known b a (Err x)) (sym is) (input, read, (text.0, kept_part b m a _ text.2 q))
+pub flush_failed : (known b m a : Option (List ℕ)) (input : List ℕ) (ended : ScheduleError) (line : ℕ) (cause : Cause) (e : ScheduleError)
+    → IfSome known (λ bytes. bytes ≡ input) → ended ≡ Malformed line cause → IsOutput (output_of input) b m (Err ended)
+    → Keeps m a → e ≡ WriteFailed → IsRun known b a (Err e)
+flush_failed known b m a input ended line cause e read same p q failed =
+    let text : IsOutput (output_of input) b m (Err (Malformed line cause)) =
+    subst (λ x. IsOutput (output_of input) b m (Err x)) same p in
+    subst (λ x. IsRun known b a (Err x)) (sym failed) (input, read, (text.0, kept_part b m a _ text.2 q))

@@ -15,8 +15,6 @@ use Rattle.model.specs.Refusals.{refusal_of, is_going}
 use Rattle.model.specs.Turns.{world_after, events_of}
 use Rattle.texts.specs.declared.error.Cause.{Cause}
 use Rattle.texts.specs.declared.error.Cause.TheVariants as causes
-use Rattle.texts.specs.declared.error.ScheduleError.{ScheduleError}
-use Rattle.texts.specs.declared.error.ScheduleError.TheVariants as errors
 use Rattle.texts.specs.declared.grammar.Command.{Command}
 use Rattle.texts.specs.declared.grammar.Command.TheVariants.{Once, Times}
 use Rattle.texts.specs.declared.grammar.Setup.{Setup}
@@ -36,12 +34,10 @@ two_words = coding_of 2 words_of_u128 value_of_u128
 abbrev pub world_of : machines.State ℕ → World ℕ
 world_of held = world_in two_words held
 
--- what a turn prints, whether it was taken, whether it had memory,
--- and the world after it
+-- what a turn prints, whether it was taken, and the world after it
 pub record Outcome : Type 0 where
   pub text : List ℕ
   pub is_taken : Bool
-  pub has_memory : Bool
   pub world : World ℕ
 
 -- why a turn is refused: for memory only where nothing else refuses it
@@ -50,31 +46,11 @@ refusal_where short (Some refusal) = Some refusal
 refusal_where true None = Some NoMemory
 refusal_where false None = None
 
--- whether a turn had memory that was refused for this
-abbrev pub has_memory : Refusal → Bool
-has_memory NoMemory = false
-has_memory refusal = true
-
--- what is printed of a refused turn: nothing where memory was refused,
--- since the run ends there
-abbrev pub refused_text : Refusal → List ℕ
-refused_text refusal = if has_memory refusal then refusal_text refusal else []
-
 abbrev pub outcome_as : World ℕ → Turn ℕ → Option Refusal → Outcome
 outcome_as w turn None =
-    record {
-      text = events_text (events_of w turn);
-      is_taken = true;
-      has_memory = true;
-      world = world_after w turn;
-    }
+    record { text = events_text (events_of w turn); is_taken = true; world = world_after w turn }
 outcome_as w turn (Some refusal) =
-    record {
-      text = refused_text refusal;
-      is_taken = false;
-      has_memory = has_memory refusal;
-      world = w;
-    }
+    record { text = refusal_text refusal; is_taken = false; world = w }
 
 -- the outcome of a turn, to which memory is refused or not
 unfoldable pub outcome : Bool → World ℕ → Turn ℕ → Outcome
@@ -86,36 +62,30 @@ outcome short w turn = outcome_as w turn (refusal_where short (refusal_of w turn
 -- refused to it. Past the list's end it is not.
 pub record State : Type 0 where
   pub world : World ℕ
-  pub memory : List Bool
+  pub refusals : List Bool
 
 abbrev pub is_short : List Bool → Bool
 is_short [] = false
-is_short (short ∷ memory) = short
+is_short (short ∷ refusals) = short
 
 abbrev pub later : List Bool → List Bool
 later [] = []
-later (short ∷ memory) = memory
+later (short ∷ refusals) = refusals
 
--- what is printed, whether no turn lacked memory, and the state then
 pub record Printed : Type 0 where
   pub text : List ℕ
-  pub has_memory : Bool
   pub state : State
 
 -- a text, and then another
 abbrev pub after_text : List ℕ → Printed → Printed
-after_text text p = record { text = text ++ p.text; has_memory = p.has_memory; state = p.state }
+after_text text p = record { text = text ++ p.text; state = p.state }
 
 abbrev pub next_outcome : State → Turn ℕ → Outcome
-next_outcome s turn = outcome (is_short s.memory) s.world turn
+next_outcome s turn = outcome (is_short s.refusals) s.world turn
 
 abbrev pub printed : Outcome → List Bool → Printed
-printed o memory =
-    record {
-      text = o.text;
-      has_memory = o.has_memory;
-      state = record { world = o.world; memory = memory };
-    }
+printed o refusals =
+    record { text = o.text; state = record { world = o.world; refusals = refusals } }
 
 -- the turn was taken, and the party's call needs no decision and is not finished
 abbrev pub goes_on : ℕ → Outcome → Bool
@@ -123,38 +93,30 @@ goes_on party o = o.is_taken && is_going o.world party
 
 -- up to so many turns of a party's call
 unfoldable pub nexts : ℕ → ℕ → State → Printed
-nexts zero party s = record { text = []; has_memory = true; state = s }
+nexts zero party s = record { text = []; state = s }
 nexts (suc most) party s =
     let o = next_outcome s (Next party) in
     if goes_on party o
-    then after_text o.text (nexts most party (record { world = o.world; memory = later s.memory }))
-    else printed o (later s.memory)
+    then after_text o.text
+    (nexts most party (record { world = o.world; refusals = later s.refusals }))
+    else printed o (later s.refusals)
 
 abbrev pub commanded : Command → State → Printed
-commanded (Once turn) s = printed (next_outcome s turn) (later s.memory)
+commanded (Once turn) s = printed (next_outcome s turn) (later s.refusals)
 commanded (Times party most) s = nexts most party s
 
 -- ---- lines
 
--- what is printed, and how the run ends: well, or at the first line that is
--- malformed or has a turn to which memory is refused
+-- what is printed, and the first malformed line with its cause, if there is one
 pub record Output : Type 0 where
   pub text : List ℕ
-  pub end : Result (Unit {0}) ScheduleError
+  pub end : Result (Unit {0}) (ℕ × Cause)
 
 abbrev pub stopped : ℕ → Cause → Output
-stopped number cause = record { text = []; end = Err (errors.Malformed number cause) }
-
-abbrev pub ran_out : ℕ → Output
-ran_out number = record { text = []; end = Err (errors.OutOfMemory number) }
+stopped number cause = record { text = []; end = Err (number, cause) }
 
 abbrev pub before : List ℕ → Output → Output
 before text o = record { text = text ++ o.text; end = o.end }
-
--- a line of this number, and what comes behind it
-abbrev pub line_then : ℕ → Printed → Output → Output
-line_then number line rest =
-    before line.text (if line.has_memory then rest else ran_out number)
 
 -- the lines from this number on; an empty line says nothing
 unfoldable pub lines_from : Kind → ℕ → List (List ℕ) → State → Output
@@ -164,7 +126,7 @@ lines_from kind number ((b ∷ bs) ∷ lines) s =
     elim (command_of kind (words (b ∷ bs))) [
       | Err cause ↦ stopped number cause
       | Ok command ↦
-          line_then number (commanded command s)
+          before (commanded command s).text
           (lines_from kind (number + 1) lines (commanded command s).state)
     ]
 
@@ -204,18 +166,18 @@ abbrev pub trace_of : Setup → Trace ℕ
 trace_of setup = trace_with setup.parties setup.shape
 
 abbrev pub opened : Setup → List Bool → State
-opened setup memory = record { world = (trace_of setup).world; memory = memory }
+opened setup refusals = record { world = (trace_of setup).world; refusals = refusals }
 
 unfoldable pub output_of_lines : List Bool → List (List ℕ) → Output
-output_of_lines memory [] = stopped 1 causes.MissingValue
-output_of_lines memory (first ∷ lines) =
+output_of_lines refusals [] = stopped 1 causes.MissingValue
+output_of_lines refusals (first ∷ lines) =
     elim (machine_of (words first)) [
       | Err cause ↦ stopped 1 cause
-      | Ok setup ↦ lines_from (kind_in setup.shape) 2 lines (opened setup memory)
+      | Ok setup ↦ lines_from (kind_in setup.shape) 2 lines (opened setup refusals)
     ]
 
--- The output for these bytes, where memory is refused to the first turn of
--- which the list says so and that nothing else refuses. With the empty list
--- it is refused to none.
-abbrev pub output : List Bool → List ℕ → Output
-output memory input = output_of_lines memory (lines input)
+-- The output for these bytes, where memory is refused to each turn of which
+-- the list says so and that nothing else refuses. With the empty list it is
+-- refused to none.
+abbrev pub output_of : List ℕ → List Bool → Output
+output_of input refusals = output_of_lines refusals (lines input)

@@ -16,7 +16,6 @@ error_exit (errors.Malformed line cause) = 2
 error_exit errors.ReadFailed = 1
 error_exit errors.WriteFailed = 1
 error_exit errors.NoMemory = 1
-error_exit (errors.OutOfMemory line) = 1
 
 -- the exit status of a run that ended so
 abbrev pub exit_of : Result (Unit {0}) ScheduleError → ℕ

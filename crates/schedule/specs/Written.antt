@@ -21,4 +21,3 @@ IsUnread errors.ReadFailed = Unit {0}
 IsUnread errors.NoMemory = Unit {0}
 IsUnread errors.WriteFailed = ⊥
 IsUnread (errors.Malformed line cause) = ⊥
-IsUnread (errors.OutOfMemory line) = ⊥

@@ -1,9 +1,8 @@
 //! Writing to the end, so that a failure leaves a beginning of the text.
-ghost use Rattle.std.specs.Prelude.{◌≡◌, ◌⊎◌, IfErr};
+ghost use Rattle.std.specs.Prelude.{◌≡◌, IfErr};
 ghost use Rattle.std.specs.Io.KnownBytes.{Keeps};
 ghost use Rattle.texts.specs.Print.{events_text, refusal_text};
 ghost use Rattle.schedule.specs.Written.{Writes};
-ghost use Rattle.schedule.specs.Run.{TellsRefusal};
 
 use machine::event::Event;
 use machine::turn::Refusal;
@@ -60,19 +59,6 @@ pub fn put_refusal<W: Write>(writer: &mut W, refusal: Refusal) -> Result<(), Sch
     put(writer, Line::of_refusal(refusal).as_bytes())
 }
 
-/// Writes the line of a refused turn and answers true. Where memory was refused it writes nothing and answers false.
-pub fn tell_refusal<W: Write>(writer: &mut W, refusal: Refusal) -> Result<bool, ScheduleError>
-    ensures { TellsRefusal refusal (W.contents writer.old) (W.contents writer.new) result }
-{
-    match refusal {
-        Refusal::NoMemory => Ok(false),
-        _ => match put_refusal(writer, refusal) {
-            Ok(()) => Ok(true),
-            Err(e) => Err(e),
-        },
-    }
-}
-
 /// Writes out what the writer kept back, or answers `WriteFailed`.
 pub fn flush<W: Write>(writer: &mut W) -> Result<(), ScheduleError>
     ensures kept { Keeps (W.contents writer.old) (W.contents writer.new) }
@@ -81,16 +67,5 @@ pub fn flush<W: Write>(writer: &mut W) -> Result<(), ScheduleError>
     match writer.flush() {
         Ok(()) => Ok(()),
         Err(_) => Err(ScheduleError::WriteFailed),
-    }
-}
-
-/// Writes out what the writer kept back, and answers this error, or that the write failed.
-pub fn flushed<W: Write>(writer: &mut W, error: ScheduleError) -> ScheduleError
-    ensures kept { Keeps (W.contents writer.old) (W.contents writer.new) }
-    ensures ended { (result ≡ error) ⊎ (result ≡ ScheduleError.WriteFailed) }
-{
-    match flush(writer) {
-        Ok(()) => error,
-        Err(e) => e,
     }
 }

@@ -1,7 +1,7 @@
 //! A whole run: the input is read, the machine is made, and the lines are done one after another.
 ghost use Rattle.std.specs.Prelude.{◌≡◌, ◌-◌, ◌^◌, ◌<◌, ◌≤◌, ℕ, Bool, Option, List, Result, IfOk, length, take, drop};
 ghost use Rattle.texts.specs.Grammar.{Gives};
-ghost use Rattle.schedule.specs.Output.{world_of, outcome, nexts, commanded, lines_from, setup_error, machine_of, trace_of, output};
+ghost use Rattle.schedule.specs.Output.{world_of, outcome, nexts, commanded, lines_from, setup_error, machine_of, trace_of, output_of};
 ghost use Rattle.schedule.specs.Told.{exit_of, message_text};
 ghost use Rattle.schedule.specs.Run.{IsTurn, Prints, IsOutput, IsRun};
 ghost use Rattle.texts.specs.Text.{words, words_left};
@@ -9,7 +9,7 @@ ghost use Rattle.schedule.specs.Written.{AppendsPart};
 ghost use Rattle.texts.specs.declared.error.ScheduleError.{ScheduleError};
 
 use crate::input::whole_input;
-use crate::output::{flush, flushed, put_events, tell_refusal};
+use crate::output::{flush, put_events, put_refusal};
 use crate::told::status;
 use machine::Machine;
 use machine::event::Event;
@@ -22,24 +22,21 @@ use texts::grammar::{Command, Setup, Shape, command_of, setup_of};
 use texts::line::Line;
 use texts::text::{Rest, lines};
 
-// Takes one turn, and prints its events, each made in the room of `line`. It answers whether the turn had memory.
+// Takes one turn, and prints its events, each made in the room of `line`, or why it was refused.
 #[inline(always)]
 fn take_turn<W: Write>(
     machine: &mut Machine<u128>,
     turn: Turn<u128>,
     line: &mut Line,
     writer: &mut W,
-) -> Result<bool, ScheduleError>
+) -> Result<(), ScheduleError>
     ensures { (short : Bool) × IsTurn (outcome short (world_of machine.old) turn)
         (world_of machine.new) (W.contents writer.old) (W.contents writer.new) result }
 {
     let before = machine.events().len();
     match machine.step(turn) {
-        Ok(()) => match put_events(writer, line, &machine.events()[before..]) {
-            Ok(()) => Ok(true),
-            Err(e) => Err(e),
-        },
-        Err(refusal) => tell_refusal(writer, refusal),
+        Ok(()) => put_events(writer, line, &machine.events()[before..]),
+        Err(refusal) => put_refusal(writer, refusal),
     }
 }
 
@@ -51,15 +48,15 @@ fn events_from(events: &[Event<u128>], from: usize) -> &[Event<u128>]
     &events[from..]
 }
 
-// Takes up to so many turns of the party's call, and prints what they wrote down once all are taken. It answers whether
-// they had memory.
+// Takes up to so many turns of the party's call, and prints what they wrote down once all are taken, and why one was
+// refused.
 fn take_nexts<W: Write>(
     machine: &mut Machine<u128>,
     party: u32,
     most: u64,
     line: &mut Line,
     writer: &mut W,
-) -> Result<bool, ScheduleError>
+) -> Result<(), ScheduleError>
     ensures { Prints (nexts most party) (world_of machine.old) (world_of machine.new)
         (W.contents writer.old) (W.contents writer.new) result }
 {
@@ -70,23 +67,23 @@ fn take_nexts<W: Write>(
         Err(e) => return Err(e),
     }
     match stopped {
-        Ok(()) => Ok(true),
+        Ok(()) => Ok(()),
         Err(stopped) => {
             if stopped.taken > 0 && !machine.is_going(party) {
-                return Ok(true);
+                return Ok(());
             }
-            tell_refusal(writer, stopped.refusal)
+            put_refusal(writer, stopped.refusal)
         }
     }
 }
 
-// Does what a line asks for. It answers whether all turns had memory.
+// Does what a line asks for.
 fn do_command<W: Write>(
     machine: &mut Machine<u128>,
     command: Command,
     line: &mut Line,
     writer: &mut W,
-) -> Result<bool, ScheduleError>
+) -> Result<(), ScheduleError>
     ensures { Prints (commanded command) (world_of machine.old) (world_of machine.new)
         (W.contents writer.old) (W.contents writer.new) result }
 {
@@ -105,8 +102,8 @@ fn do_lines<W: Write>(
 ) -> Result<(), ScheduleError>
     requires { length (words_left lines) < 2 ^ 63 }
     ensures { IsOutput
-        (λ memory. lines_from kind 2 (words_left lines.entry)
-        (record { world = world_of machine.old; memory = memory }))
+        (λ refusals. lines_from kind 2 (words_left lines.entry)
+        (record { world = world_of machine.old; refusals = refusals }))
         (W.contents writer.old) (W.contents writer.new) result }
 {
     let mut printed = Line::new();
@@ -116,8 +113,7 @@ fn do_lines<W: Write>(
         if !line.is_empty() {
             match command_of(kind, line) {
                 Ok(command) => match do_command(machine, command, &mut printed, writer) {
-                    Ok(true) => {}
-                    Ok(false) => return Err(ScheduleError::OutOfMemory(number)),
+                    Ok(()) => {}
                     Err(e) => return Err(e),
                 },
                 Err(cause) => return Err(ScheduleError::Malformed(number, cause)),
@@ -171,8 +167,7 @@ pub fn machine_of(line: &[u8]) -> Result<Setup, Cause>
 // Does the whole text.
 fn do_text<W: Write>(alloc: Global, input: &[u8], writer: &mut W) -> Result<(), ScheduleError>
     requires { length input.now < 2 ^ 63 }
-    ensures { IsOutput (λ memory. output memory input.now)
-        (W.contents writer.old) (W.contents writer.new) result }
+    ensures { IsOutput (output_of input.now) (W.contents writer.old) (W.contents writer.new) result }
 {
     let Some((first, rest)) = lines(input).first() else {
         return Err(ScheduleError::Malformed(1, Cause::MissingValue));
@@ -203,21 +198,21 @@ pub fn run_in<A: Allocator, R: Read, W: Write>(
     };
     match do_text(alloc, &input, writer) {
         Ok(()) => flush(writer),
-        Err(ScheduleError::Malformed(line, cause)) => {
-            Err(flushed(writer, ScheduleError::Malformed(line, cause)))
-        }
-        Err(ScheduleError::OutOfMemory(line)) => {
-            Err(flushed(writer, ScheduleError::OutOfMemory(line)))
-        }
+        Err(ScheduleError::Malformed(line, cause)) => match flush(writer) {
+            Ok(()) => Err(ScheduleError::Malformed(line, cause)),
+            Err(e) => Err(e),
+        },
         Err(e) => Err(e),
     }
 }
 
 /// Reads a schedule to its end, and then writes what each of its turns did, line by line.
 ///
-/// Malformed text, or a capacity that the kind does not admit, is `Malformed`, and a turn to which memory is refused
-/// `OutOfMemory`. In both cases the output of all turns before it has been written. A failed read is `ReadFailed`. Without
-/// memory for the input or the machine it is `NoMemory`. A failed write, also of what a writer kept back, is `WriteFailed`.
+/// A turn to which memory is refused changes nothing and prints `refused NoMemory`, as any other refusal prints its name,
+/// and the run goes on with the next line. Malformed text, or a capacity that the kind does not admit, is `Malformed`. The
+/// output of all earlier lines has then been written. A failed read, and refused memory for the input or the machine, are
+/// `ReadFailed` and `NoMemory`, and nothing has been written. A failed write, also of what a writer kept back, is
+/// `WriteFailed`, and a beginning of the output has been written.
 pub fn run<R: Read, W: Write>(
     alloc: Global,
     reader: &mut R,

@@ -179,7 +179,7 @@ fn failing_flushes(rt: HostRuntime) {
 /// How a run ended, what is told of it and the exit status.
 type Told = (Result<(), ScheduleError>, &'static [u8], u8);
 
-const TOLD: [Told; 7] = [
+const TOLD: [Told; 6] = [
     (Ok(()), b"", 0),
     (
         Err(ScheduleError::Malformed(u64::MAX, Cause::ProvidedCapacityIsZero)),
@@ -194,11 +194,6 @@ const TOLD: [Told; 7] = [
     (Err(ScheduleError::ReadFailed), b"read failed\n", 1),
     (Err(ScheduleError::WriteFailed), b"write failed\n", 1),
     (Err(ScheduleError::NoMemory), b"no memory\n", 1),
-    (
-        Err(ScheduleError::OutOfMemory(12)),
-        b"line 12: no memory\n",
-        1,
-    ),
 ];
 
 fn is_told(alloc: Global, ran: &Result<(), ScheduleError>, wanted: &[u8], exit: u8) -> bool {

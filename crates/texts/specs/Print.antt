@@ -59,4 +59,3 @@ error_text (errors.Malformed line cause) =
 error_text errors.ReadFailed = codes "read failed\n"
 error_text errors.WriteFailed = codes "write failed\n"
 error_text errors.NoMemory = codes "no memory\n"
-error_text (errors.OutOfMemory line) = codes "line " ++ decimal line ++ codes ": no memory\n"

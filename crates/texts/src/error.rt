@@ -45,7 +45,4 @@ pub enum ScheduleError {
     /// There is no memory for the input or the machine. Nothing was written.
     #[error("no memory")]
     NoMemory,
-    /// Memory was refused to a turn of the line of this number. What all earlier turns did was written.
-    #[error("line {0}: no memory")]
-    OutOfMemory(u64),
 }

@@ -192,11 +192,6 @@ impl Line {
             ScheduleError::ReadFailed => line.push("read failed\n"),
             ScheduleError::WriteFailed => line.push("write failed\n"),
             ScheduleError::NoMemory => line.push("no memory\n"),
-            ScheduleError::OutOfMemory(number) => {
-                line.push("line ");
-                line.push_number(u128::from(number));
-                line.push(": no memory\n");
-            }
         }
         line
     }

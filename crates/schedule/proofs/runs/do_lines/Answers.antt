@@ -1,9 +1,9 @@
 use Rattle.std.proofs.Common.{[], refl, ap, length, arith}
 use Rattle.std.proofs.KnownBytes.{Appends-nil}
 use Rattle.schedule.specs.Output.{world_of}
-use Rattle.schedule.proofs.Lines.{some_of, none_of, done_command, done_empty, lines_ended, lines_malformed, lines_ran_out, lines_failed}
+use Rattle.schedule.proofs.Lines.{some_of, none_of, done_command, done_empty, lines_ended, lines_malformed, lines_failed}
 use Rattle.schedule.proofs.runs.do_lines.Goals as goal
-use Rattle.schedule.proofs.runs.do_lines.Goals.{then-not-is_empty+in-Ok+in-Ok-true, else-not-is_empty}
+use Rattle.schedule.proofs.runs.do_lines.Goals.{then-not-is_empty+in-Ok+in-Ok-do_command, else-not-is_empty}
 
 pub loop-line-init : goal.loop-line-init
 loop-line-init g c = record { numbered = omega arith; written = ([], [], λ more. refl, Appends-nil _) }
@@ -23,13 +23,6 @@ returns-in-Err-do_command g c =
     c.in-Err-do_command.e i.2 i.3 c.in-Some.ensures
     (some_of _ c.if-not-is_empty.ensures) c.in-Ok.ensures c.in-Err-do_command.ensures
 
-pub returns-in-Ok-false : goal.returns-in-Ok-false
-returns-in-Ok-false g c =
-    let i = c.loop-line.invariant.written in
-    lines_ran_out c.args.kind _ _ _ c.in-Some.line.now c.loop-line.number (world_of c.args.machine.now)
-    (world_of c.loop-line.machine) (world_of c.do_command.new.machine) _ _ _ i.0 i.1 c.in-Ok.command c.in-Ok-false.field-0 i.2 i.3 c.in-Some.ensures
-    (some_of _ c.if-not-is_empty.ensures) c.in-Ok.ensures c.in-Ok-false.field-0-test c.in-Ok-false.ensures
-
 pub returns : goal.returns
 returns g c =
     let i = c.loop-line.invariant.written in
@@ -42,12 +35,11 @@ loop-line-preserved g c =
       numbered = omega (arith, ap length c.in-Some.ensures);
       written =
           elim c.if-not-is_empty.branch [
-            | then-not-is_empty+in-Ok+in-Ok-true w ↦
+            | then-not-is_empty+in-Ok+in-Ok-do_command w ↦
                 rw (w.machine-is, w.writer-is)
                 (done_command c.args.kind _ _ _ c.in-Some.line.now c.loop-line.number (world_of c.args.machine.now)
                 (world_of c.loop-line.machine) (world_of w.do_command.new.machine)
-                _ _ _ i.0 i.1 w.in-Ok.command w.in-Ok-true.field-0 i.2 i.3 c.in-Some.ensures (some_of _ w.if-not-is_empty.ensures)
-                w.in-Ok.ensures w.in-Ok-true.field-0-test w.in-Ok-true.ensures)
+                _ _ _ i.0 i.1 w.in-Ok.command i.2 i.3 c.in-Some.ensures (some_of _ w.if-not-is_empty.ensures) w.in-Ok.ensures w.in-Ok-do_command.ensures)
             | else-not-is_empty w ↦
                 rw (w.machine-is, w.writer-is)
                 (done_empty c.args.kind _ _ _ c.in-Some.line.now c.loop-line.number (world_of c.args.machine.now)

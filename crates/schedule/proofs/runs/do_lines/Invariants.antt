@@ -7,9 +7,9 @@ use Rattle.schedule.proofs.runs.do_lines.Given as given
 abbrev pub invariant-loop-line : given.invariant-loop-line
 invariant-loop-line g l = record {
   numbered : l.number + length (words_left l.left) < 2 ^ 64;
-  written : (memory : List Bool) × (text : List ℕ)
-      × ((more : List Bool) → lines_from l.kind 2 (words_left l.fn.lines) (record { world = world_of l.fn.machine; memory = memory ++ more })
-      ≡ before text (lines_from l.kind l.number (words_left l.left) (record { world = world_of l.machine; memory = more })))
+  written : (refusals : List Bool) × (text : List ℕ)
+      × ((more : List Bool) → lines_from l.kind 2 (words_left l.fn.lines) (record { world = world_of l.fn.machine; refusals = refusals ++ more })
+      ≡ before text (lines_from l.kind l.number (words_left l.left) (record { world = world_of l.machine; refusals = more })))
       × Appends (g.W.Write.contents l.fn.writer) (g.W.Write.contents l.writer) text;
 }
 

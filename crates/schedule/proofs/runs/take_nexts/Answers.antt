@@ -73,6 +73,6 @@ returns-else-stopped-gt0 g c =
     let behind = c.events_from.ensures ∙ events_behind c.events-before.result.now c.events.result.now ran.0
     (c.events.ensures ∙ ran.1 ∙ ap (λ l. l ++ ran.0) (sym c.events-before.ensures)) in
     refused_prints c.args.most n c.args.party (world_of c.args.machine.now) (world_of c.nexts-stopped.new.self) ran.0
-    c.in-Err-stopped.stopped.refusal _ (g.W.Write.contents c.put_events.new.writer) _ c.tell_refusal.result e.before goes ran.2 e.refused
+    c.in-Err-stopped.stopped.refusal _ (g.W.Write.contents c.put_events.new.writer) _ c.put_refusal.result e.before goes ran.2 e.refused
     (subst (λ l. Appends (g.W.Write.contents c.args.writer.now) (g.W.Write.contents c.put_events.new.writer) (events_text l)) behind c.in-Ok.ensures)
-    c.tell_refusal.ensures
+    c.put_refusal.ensures
