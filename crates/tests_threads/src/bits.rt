@@ -103,11 +103,13 @@ impl<'s, P: Places> Task for Sets<'s, P> {
     fn run(self, rt: &(impl Wait + Clock)) -> bool {
         let Sets { mut user, sums } = self;
         let places = user.number();
-        for _ in 0..ROUNDS {
+        for round in 0..ROUNDS {
             for place in 0..places {
                 user.set(rt, place, sums);
             }
-            thread::yield_now();
+            if round % 4 == 0 {
+                thread::yield_now();
+            }
         }
         true
     }
@@ -123,9 +125,11 @@ struct Takes<'s, P: Places> {
 impl<'s, P: Places> Task for Takes<'s, P> {
     fn run(self, rt: &(impl Wait + Clock)) -> bool {
         let Takes { mut user, sums } = self;
-        for _ in 0..ROUNDS {
+        for round in 0..ROUNDS {
             user.take(rt, sums);
-            thread::yield_now();
+            if round % 4 == 0 {
+                thread::yield_now();
+            }
         }
         true
     }

@@ -1,127 +1,110 @@
 //! Containers between threads: pairs come and go, and are seen, found and recovered whole; and the lock keeps all out.
 use crate::hall::Hall;
-use crate::last::BETWEEN;
-use crate::limit::{ENOUGH, Limit, SECONDS};
-use crate::owned::{self, ROUNDS};
-use crate::pairs::{Pair, PairUser};
-use crate::tasks::{Counted, Task, User, another_turns, four_run, three_run, two_run};
+use crate::last::{BETWEEN, First};
+use crate::limit::Enough;
+use crate::owned::{self, LEAST, ROUNDS};
+use crate::pairs::{CHANGED, Pair, PairUser};
+use crate::rests::Rests;
+use crate::tasks::{
+    EVERY, Ends, Looks, LooksOn, Task, User, another_turns, four_run, three_run, two_run,
+};
 use lock_free::mpmc::container::{Container, ContainerState, OwnerId};
 use std::alloc::Global;
 use std::sync::Wait;
-use std::sync::atomic::{AtomicU64, Ordering};
 use std::test::Fail;
-use std::thread;
 use std::thread::Threads;
 use std::time::Clock;
 
-/// How often a pair is added, replaced and removed, found, or added and removed.
+/// How often a pair is added, replaced and removed, or added and removed.
 const CHANGES: u64 = 1000;
-
-const FINDS: u64 = 2000;
 
 const TURNS: u64 = 10_000;
 
 /// Adds a pair, replaces it and removes it, many times.
 #[derive(Drop)]
-struct Changes<'a> {
+struct Changes<'a, 's> {
     user: PairUser<'a>,
+    rests: &'s Rests,
 }
 
-impl<'a> Task for Changes<'a> {
-    fn run(mut self, rt: &(impl Wait + Clock)) -> bool {
+impl<'a, 's> Task for Changes<'a, 's> {
+    fn run(self, rt: &(impl Wait + Clock)) -> bool {
+        let Changes { mut user, rests } = self;
         let mut well = true;
         for number in 0..CHANGES {
-            well &= self.user.change(rt, number);
-            thread::yield_now();
+            well &= user.change(rt, number, rests);
         }
         well
     }
 }
 
-/// Keeps a state up to date until two others have ended: whether each pair that it showed was whole.
-#[derive(Drop)]
-struct Looks<'a, 's> {
-    user: PairUser<'a>,
-    state: &'s mut ContainerState<Pair>,
-    ended: &'s AtomicU64,
+/// One of these users, whose end is noted.
+fn changing<'a, 's>(user: PairUser<'a>, rests: &'s Rests) -> Ends<'s, Changes<'a, 's>> {
+    let task = Changes { user, rests };
+    Ends { task, rests }
 }
 
-impl<'a, 's> Task for Looks<'a, 's> {
-    fn run(self, rt: &(impl Wait + Clock)) -> bool {
-        let Looks {
-            mut user,
-            state,
-            ended,
-        } = self;
-        let mut limit = Limit::new(rt, SECONDS);
-        for _ in 0..u64::MAX {
-            let over = ended.load(Ordering::SeqCst) == 2;
-            if !user.looks(rt, state) {
-                return false;
-            }
-            if over {
-                return true;
-            }
-            if !limit.waits(rt) {
-                return false;
-            }
-        }
-        false
+/// Keeps a state up to date.
+#[derive(Drop)]
+struct KeepsUp<'a, 's> {
+    user: PairUser<'a>,
+    state: &'s mut ContainerState<Pair>,
+}
+
+impl<'a, 's> Looks for KeepsUp<'a, 's> {
+    /// Whether it shows a pair, and whether each is whole.
+    fn look(&mut self, rt: &impl Wait) -> (bool, bool) {
+        let well = self.user.looks(rt, self.state);
+        (self.state.number() != 0, well)
     }
 }
 
-/// Finds the pairs of its owner, many times: whether each went well.
+/// Finds the pairs of its owner.
 #[derive(Drop)]
 struct Finds<'a> {
     user: PairUser<'a>,
 }
 
-impl<'a> Task for Finds<'a> {
-    fn run(mut self, _rt: &(impl Wait + Clock)) -> bool {
-        let mut well = true;
-        for _ in 0..FINDS {
-            well &= self.user.finds_whole();
-            thread::yield_now();
-        }
-        well
+impl<'a> Looks for Finds<'a> {
+    fn look(&mut self, _rt: &impl Wait) -> (bool, bool) {
+        self.user.finds_whole()
     }
 }
 
-/// Recovers its owner: whether the pairs that it asks about come to 42.
+/// Recovers its owner, and rests at each pair: whether the pairs that it asks about come to 42.
 #[derive(Drop)]
-struct Recovers<'a> {
+struct Recovers<'a, 's> {
     user: PairUser<'a>,
+    rests: &'s Rests,
 }
 
-impl<'a> Task for Recovers<'a> {
-    fn run(mut self, rt: &(impl Wait + Clock)) -> bool {
-        self.user.recovers(rt) == Some(42)
+impl<'a, 's> Task for Recovers<'a, 's> {
+    fn run(self, rt: &(impl Wait + Clock)) -> bool {
+        let Recovers { mut user, rests } = self;
+        user.recovers(rt, rests, 1) == Some(42)
     }
 }
 
-/// Whether two tasks that end go well beside one who keeps a state up to date. The state shows nothing in the end.
+/// Whether two tasks that end go well beside one who keeps a state up to date, of which each rests so often with a pair
+/// in, and the state shows one as often at least. It shows nothing in the end.
 fn seen_beside<R: Wait + Threads + Clock + Sync, T: Task + Send>(
     rt: &R,
     user: &mut PairUser<'_>,
     one: T,
     other: T,
+    rests: &Rests,
+    least: u64,
 ) -> Option<bool> {
     let mut state = user.state(rt)?;
-    let ended = AtomicU64::new(0);
-    let looks = Looks {
-        user: user.another(3)?,
-        state: &mut state,
-        ended: &ended,
+    let looks = LooksOn {
+        looker: KeepsUp {
+            user: user.another(3)?,
+            state: &mut state,
+        },
+        rests,
     };
-    let one = Counted {
-        task: one,
-        ended: &ended,
-    };
-    let other = Counted {
-        task: other,
-        ended: &ended,
-    };
-    let well = three_run(rt, one, other, looks);
+    let mut well = three_run(rt, one, other, looks);
+    well &= rests.seen() >= least && rests.crossed() >= least.wrapping_mul(2);
     Some(well && user.looks(rt, &mut state) && state.number() == 0)
 }
 
@@ -130,8 +113,10 @@ fn turns_are_seen<R: Wait + Threads + Clock + Sync>(
     rt: &R,
     user: &mut PairUser<'_>,
 ) -> Option<bool> {
-    let (one, other) = another_turns(user, 1, TURNS).zip(another_turns(user, 2, TURNS))?;
-    seen_beside(rt, user, one, other)
+    let rests = Rests::beside(3, 1);
+    let one = another_turns(user, 1, TURNS, &rests)?;
+    let other = another_turns(user, 2, TURNS, &rests)?;
+    seen_beside(rt, user, one, other, &rests, TURNS / EVERY)
 }
 
 /// The same of pairs that are replaced too.
@@ -139,8 +124,10 @@ fn changes_are_seen<R: Wait + Threads + Clock + Sync>(
     rt: &R,
     user: &mut PairUser<'_>,
 ) -> Option<bool> {
+    let rests = Rests::beside(3, 1);
     let (one, other) = user.another(1).zip(user.another(2))?;
-    seen_beside(rt, user, Changes { user: one }, Changes { user: other })
+    let (one, other) = (changing(one, &rests), changing(other, &rests));
+    seen_beside(rt, user, one, other, &rests, CHANGES / CHANGED)
 }
 
 /// What is done with a container.
@@ -159,29 +146,43 @@ enum Play<'s> {
 }
 
 /// Whether all go well: two who add, replace and remove, one who finds, and one who recovers. No index has an owner in
-/// the end. None where there are no further passes.
+/// the end, and the find came to a pair of the first at least as often as that one rested with one in. None where there are
+/// no further passes.
 fn owners_beside<R: Wait + Threads + Clock + Sync>(
     rt: &R,
     user: &mut PairUser<'_>,
 ) -> Option<bool> {
+    let rests = Rests::beside(4, 1);
     let are_added = user.add(rt, 40).is_some() & user.add(rt, 2).is_some();
-    let changing = user.another(1).zip(user.another(2));
+    let both = user.another(1).zip(user.another(2));
     let asking = user.another(1).zip(user.of(user.owner));
-    let ((one, other), (finds, recovers)) = changing.zip(asking)?;
-    let well = four_run(
-        rt,
-        Changes { user: one },
-        Changes { user: other },
-        Finds { user: finds },
-        Recovers { user: recovers },
-    );
+    let ((one, other), (finds, recovers)) = both.zip(asking)?;
+    let finds = LooksOn {
+        looker: Finds { user: finds },
+        rests: &rests,
+    };
+    let task = Recovers {
+        user: recovers,
+        rests: &rests,
+    };
+    let recovers = Ends {
+        task,
+        rests: &rests,
+    };
+    let (one, other) = (changing(one, &rests), changing(other, &rests));
+    let mut well = four_run(rt, one, other, finds, recovers);
+    well &= rests.seen() >= CHANGES / CHANGED && rests.crossed() >= CHANGES / CHANGED * 2 + 2;
     Some(are_added && well && user.number(rt) == 0)
 }
 
-/// Whether two of one owner find each pair that they add. None where there are no further passes.
+/// Whether two of one owner find each pair that they add, though each rested so often with one in until the other came to
+/// such a rest. None where there are no further passes.
 fn two_of_one<R: Wait + Threads + Clock + Sync>(rt: &R, user: &mut PairUser<'_>) -> Option<bool> {
-    let (one, other) = another_turns(user, 1, TURNS).zip(another_turns(user, 1, TURNS))?;
-    Some(two_run(rt, one, other))
+    let rests = Rests::of(2);
+    let one = another_turns(user, 1, TURNS, &rests)?;
+    let other = another_turns(user, 1, TURNS, &rests)?;
+    let well = two_run(rt, one, other);
+    Some(well & (rests.crossed() >= TURNS / EVERY))
 }
 
 /// Whether it goes well. None where there are no further passes.
@@ -262,11 +263,11 @@ fn a_length_beside_one_who_always_holds_one(rt: HostRuntime) -> Result<(), Fail>
 
 #[test]
 fn nobody_is_added_once_it_is_locked(rt: HostRuntime) -> Result<(), Fail> {
-    let enough = Limit::new(&rt, ENOUGH);
+    let enough = Enough::new(&rt);
     let mut well = true;
     for round in 0..ROUNDS {
-        if enough.has_time(&rt) {
-            well &= played_as(&rt, rt.alloc(), 64, owned::Play::OneLocks(round % 64))?;
+        if round < LEAST || enough.has_time(&rt) {
+            well &= played_as(&rt, rt.alloc(), 64, owned::Play::OneLocks(First::of(round)))?;
         }
     }
     assert!(rt; well);
@@ -275,10 +276,10 @@ fn nobody_is_added_once_it_is_locked(rt: HostRuntime) -> Result<(), Fail> {
 
 #[test]
 fn four_add_until_it_is_locked(rt: HostRuntime) -> Result<(), Fail> {
-    let enough = Limit::new(&rt, ENOUGH);
+    let enough = Enough::new(&rt);
     let mut well = true;
-    for _ in 0..ROUNDS {
-        if enough.has_time(&rt) {
+    for round in 0..ROUNDS {
+        if round < LEAST || enough.has_time(&rt) {
             let hall = Hall::new(rt.alloc(), 3)?;
             well &= played_as(&rt, rt.alloc(), 3, owned::Play::FourVisit(&hall))?;
         }

@@ -1,6 +1,7 @@
 //! Owners that die again and again, and are recovered beside others.
-use crate::limit::{ENOUGH, Limit, SECONDS};
-use crate::tasks::{Task, Turns, User, another_turns, four_run};
+use crate::limit::{Enough, Limit, TURNS};
+use crate::rests::Rests;
+use crate::tasks::{Ends, GoesOn, LooksOn, Task, User, four_run};
 use std::sync::Wait;
 use std::sync::atomic::{AtomicU64, Ordering};
 use std::thread::Threads;
@@ -9,7 +10,10 @@ use std::time::Clock;
 /// The number of the first owner that dies, and how many things each has at most.
 const FIRST: u64 = 100;
 
-const MOST: u64 = 5;
+pub const MOST: u64 = 5;
+
+/// How many owners die at least.
+const LEAST: u64 = 100;
 
 /// What is told of once nobody dies any more.
 const OVER: u64 = u64::MAX;
@@ -19,8 +23,9 @@ pub trait Mortal: User {
     /// Takes a thing for the owner of this number, which keeps it. Whether it was nobody else's; None where there was none.
     fn keeps(&mut self, rt: &impl Wait, number: u64) -> Option<bool>;
 
-    /// Recovers the owner of this number: whether so many things come back, all that it had.
-    fn buries(&mut self, rt: &impl Wait, number: u64, things: u64) -> bool;
+    /// Recovers the owner of this number, and rests inside the call, at the first thing: whether so many things come back,
+    /// all that it had.
+    fn buries(&mut self, rt: &impl Wait, number: u64, things: u64, rests: &Rests) -> bool;
 }
 
 /// Where one who has died is told of. The word is the number of the owner, times 8, and how many things it had. 0 where
@@ -32,13 +37,14 @@ struct Notice {
 
 impl Notice {
     /// Waits until what is told of is 0 or not: what it is. None at the limit.
-    fn waits(&self, rt: &impl Clock, is_none: bool, limit: &mut Limit) -> Option<u64> {
+    fn waits(&self, is_none: bool) -> Option<u64> {
+        let mut limit = Limit::new(TURNS);
         for _ in 0..u64::MAX {
             let dead = self.dead.load(Ordering::SeqCst);
             if (dead == 0) == is_none {
                 return Some(dead);
             }
-            if !limit.waits(rt) {
+            if !limit.waits() {
                 return None;
             }
         }
@@ -48,14 +54,10 @@ impl Notice {
     fn tell(&self, dead: u64) {
         self.dead.store(dead, Ordering::SeqCst);
     }
-
-    fn is_over(&self) -> bool {
-        self.dead.load(Ordering::SeqCst) == OVER
-    }
 }
 
 /// Takes things for one owner after another, each of which dies. These are so many, or as many as can be until it is
-/// enough.
+/// enough, but no fewer than the least.
 #[derive(Drop)]
 struct Dies<'s, M: Mortal> {
     user: M,
@@ -77,21 +79,20 @@ impl<'s, M: Mortal> Dies<'s, M> {
     }
 
     /// Dies: whether it was recovered, within the limit, and had nothing that was another's.
-    fn dies(&mut self, rt: &(impl Wait + Clock), number: u64, limit: &mut Limit) -> bool {
+    fn dies(&mut self, rt: &impl Wait, number: u64) -> bool {
         let (well, things) = self.keeps(rt, number);
         self.notice
             .tell(number.wrapping_mul(8).wrapping_add(things));
-        well & self.notice.waits(rt, true, limit).is_some()
+        well & self.notice.waits(true).is_some()
     }
 
     fn all_die(&mut self, rt: &(impl Wait + Clock)) -> bool {
-        let mut limit = Limit::new(rt, SECONDS);
-        let mut enough = Limit::new(rt, ENOUGH);
+        let mut enough = Enough::new(rt);
         for at in 0..self.deaths {
-            if !self.dies(rt, FIRST.wrapping_add(at), &mut limit) {
+            if !self.dies(rt, FIRST.wrapping_add(at)) {
                 return false;
             }
-            if enough.is_over(rt) {
+            if at >= LEAST && enough.is_over(rt) {
                 return true;
             }
         }
@@ -109,25 +110,25 @@ impl<'s, M: Mortal> Task for Dies<'s, M> {
 
 /// Recovers each that dies.
 #[derive(Drop)]
-struct Buries<'s, M: Mortal> {
+struct Buries<'n, 's, M: Mortal> {
     user: M,
-    notice: &'s Notice,
+    notice: &'n Notice,
+    rests: &'s Rests,
 }
 
-impl<'s, M: Mortal> Buries<'s, M> {
+impl<'n, 's, M: Mortal> Buries<'n, 's, M> {
     /// Recovers this one: whether all came back.
     fn buries(&mut self, rt: &impl Wait, dead: u64) -> bool {
-        let well = self.user.buries(rt, dead / 8, dead % 8);
+        let well = self.user.buries(rt, dead / 8, dead % 8, self.rests);
         self.notice.tell(0);
         well
     }
 }
 
-impl<'s, M: Mortal> Task for Buries<'s, M> {
+impl<'n, 's, M: Mortal> Task for Buries<'n, 's, M> {
     fn run(mut self, rt: &(impl Wait + Clock)) -> bool {
-        let mut limit = Limit::new(rt, SECONDS);
         for _ in 0..u64::MAX {
-            match self.notice.waits(rt, false, &mut limit) {
+            match self.notice.waits(false) {
                 Some(dead) => {
                     if dead == OVER {
                         return true;
@@ -143,59 +144,41 @@ impl<'s, M: Mortal> Task for Buries<'s, M> {
     }
 }
 
-/// Takes things and gives them back until nobody dies any more.
-#[derive(Drop)]
-struct Lives<'s, U: User> {
-    turns: Turns<U>,
-    notice: &'s Notice,
-}
-
-/// Whether each thing that it took was its own.
-impl<'s, U: User> Task for Lives<'s, U> {
-    fn run(mut self, rt: &(impl Wait + Clock)) -> bool {
-        let mut limit = Limit::new(rt, SECONDS);
-        let mut last = Limit::new(rt, SECONDS);
-        for at in 0..self.turns.number {
-            if self.turns.next(rt, at, &mut limit) != Some(true) {
-                return false;
-            }
-            if self.notice.is_over() {
-                return true;
-            }
-            if last.is_over(rt) {
-                return false;
-            }
-        }
-        false
-    }
-}
-
-/// Whether all goes well as so many owners die and are recovered beside two who take things and give them back.
-/// None where there are no further passes.
+/// Whether all goes well as so many owners die and are recovered beside two who take things and give them back, and
+/// each recovery contained whole turns of these. None where there are no further passes.
 pub fn deaths_beside<R: Wait + Threads + Clock + Sync, M: Mortal + Send>(
     rt: &R,
     user: &mut M,
     deaths: u64,
 ) -> Option<bool> {
+    let (first, second) = (user.another(1)?, user.another(2)?);
+    let (third, fourth) = (user.another(3)?, user.another(4)?);
     let notice = Notice {
         dead: AtomicU64::new(0),
     };
-    let one = Lives {
-        turns: another_turns(user, 1, u64::MAX)?,
-        notice: &notice,
+    let rests = Rests::beside(3, 2);
+    let one = LooksOn {
+        looker: GoesOn { user: first },
+        rests: &rests,
     };
-    let two = Lives {
-        turns: another_turns(user, 2, u64::MAX)?,
-        notice: &notice,
+    let two = LooksOn {
+        looker: GoesOn { user: second },
+        rests: &rests,
     };
     let dies = Dies {
-        user: user.another(3)?,
+        user: third,
         notice: &notice,
         deaths,
     };
-    let buries = Buries {
-        user: user.another(4)?,
+    let task = Buries {
+        user: fourth,
         notice: &notice,
+        rests: &rests,
     };
-    Some(four_run(rt, one, two, dies, buries))
+    let buries = Ends {
+        task,
+        rests: &rests,
+    };
+    let well = four_run(rt, one, two, dies, buries);
+    Some(well & (rests.crossed() >= LEAST))
 }

@@ -1,7 +1,7 @@
 //! The ends of a queue: numbers go in at one, and come out at the other in their order.
 ghost use Rattle.lock_free.specs.Queues.Rings.{IsPassOf};
 
-use crate::limit::{Limit, SECONDS};
+use crate::limit::{Limit, TURNS};
 use crate::tasks::Task;
 use lock_free::spsc::{index_queue, queue, safely_overflowing_index_queue as overflowing};
 use std::sync::Wait;
@@ -133,12 +133,13 @@ pub struct GivesAll<E: Gives> {
 
 impl<E: Gives> GivesAll<E> {
     /// Whether this number is taken, within the limit.
-    fn gives_one(&mut self, rt: &impl Clock, number: u64, limit: &mut Limit) -> bool {
+    fn gives_one(&mut self, number: u64) -> bool {
+        let mut limit = Limit::new(TURNS);
         for _ in 0..u64::MAX {
             if self.end.gives(number).is_none() {
                 return true;
             }
-            if !limit.waits(rt) {
+            if !limit.waits() {
                 return false;
             }
         }
@@ -147,10 +148,9 @@ impl<E: Gives> GivesAll<E> {
 }
 
 impl<E: Gives> Task for GivesAll<E> {
-    fn run(mut self, rt: &(impl Wait + Clock)) -> bool {
-        let mut limit = Limit::new(rt, SECONDS);
+    fn run(mut self, _rt: &(impl Wait + Clock)) -> bool {
         for number in self.from..self.to {
-            if !self.gives_one(rt, number, &mut limit) {
+            if !self.gives_one(number) {
                 return false;
             }
         }
@@ -165,13 +165,14 @@ pub struct TakesAll<E: Takes> {
     pub number: u64,
 }
 
-/// The number that comes next. None at the limit.
-pub fn next<E: Takes>(rt: &(impl Wait + Clock), end: &mut E, limit: &mut Limit) -> Option<u64> {
+/// The number that comes next. None after so many turns.
+pub fn next<E: Takes>(rt: &impl Wait, end: &mut E, most: u64) -> Option<u64> {
+    let mut limit = Limit::new(most);
     for _ in 0..u64::MAX {
         if let Some(number) = end.takes(rt) {
             return Some(number);
         }
-        if !limit.waits(rt) {
+        if !limit.waits() {
             return None;
         }
     }
@@ -180,9 +181,8 @@ pub fn next<E: Takes>(rt: &(impl Wait + Clock), end: &mut E, limit: &mut Limit) 
 
 impl<E: Takes> Task for TakesAll<E> {
     fn run(mut self, rt: &(impl Wait + Clock)) -> bool {
-        let mut limit = Limit::new(rt, SECONDS);
         for number in 0..self.number {
-            if next(rt, &mut self.end, &mut limit) != Some(number) {
+            if next(rt, &mut self.end, TURNS) != Some(number) {
                 return false;
             }
         }

@@ -1,6 +1,6 @@
 //! Four who come and go until one of them locks as it leaves last.
 use crate::holders::Holders;
-use crate::limit::{Limit, Meeting, SECONDS};
+use crate::limit::{Limit, Meeting, TURNS};
 use crate::tasks::{Task, User, four_run};
 use std::alloc::{AllocError, Global};
 use std::sync::Wait;
@@ -14,8 +14,12 @@ pub struct Hall {
     holders: Holders,
     meeting: Meeting,
     inside: AtomicU64,
+    visits: AtomicU64,
     locked: AtomicU64,
 }
+
+/// How many more come before one leaves who came while nobody was inside.
+const MORE: u64 = 4;
 
 impl Hall {
     /// For so many indices.
@@ -24,20 +28,35 @@ impl Hall {
             holders: Holders::new(alloc, number)?,
             meeting: Meeting::new(4),
             inside: AtomicU64::new(0),
+            visits: AtomicU64::new(0),
             locked: AtomicU64::new(0),
         })
     }
 
-    /// Whether nobody else has this index; for a while where nobody is inside yet, so that often somebody leaves last.
+    /// Waits until more have come, after so many. False at the limit.
+    fn waits(&self, visits: u64) -> bool {
+        let mut limit = Limit::new(TURNS);
+        for _ in 0..u64::MAX {
+            if self.visits.load(Ordering::SeqCst) > visits.wrapping_add(MORE) {
+                return true;
+            }
+            if !limit.waits() {
+                return false;
+            }
+        }
+        false
+    }
+
+    /// Whether nobody else has this index. Where nobody is inside yet it stays until more have come, so that some leave
+    /// while another is inside, and then often is the one who leaves last.
     pub fn stay(&self, index: usize) -> bool {
         let others = self.inside.fetch_add(1, Ordering::SeqCst);
-        let alone = if others == 0 {
-            self.holders.stay(index, true)
-        } else {
-            self.holders.enter(index) & self.holders.leave(index)
-        };
+        let visits = self.visits.fetch_add(1, Ordering::SeqCst);
+        let entered = self.holders.enter(index);
+        let stayed = others != 0 || self.waits(visits);
+        let left = self.holders.leave(index);
         self.inside.fetch_sub(1, Ordering::SeqCst);
-        alone
+        entered & stayed & left
     }
 
     /// Whether somebody was told that it is locked.
@@ -49,6 +68,11 @@ impl Hall {
     fn lock(&self) -> bool {
         self.locked.fetch_add(1, Ordering::SeqCst);
         self.inside.load(Ordering::SeqCst) == 0
+    }
+
+    /// How many came.
+    fn visits(&self) -> u64 {
+        self.visits.load(Ordering::SeqCst)
     }
 
     /// How many were told, as they left, that it is locked.
@@ -104,15 +128,15 @@ impl<'s, V: Visitor> Visits<'s, V> {
 
 impl<'s, V: Visitor> Task for Visits<'s, V> {
     fn run(mut self, rt: &(impl Wait + Clock)) -> bool {
-        if !self.hall.meeting.wait(rt) {
+        if !self.hall.meeting.wait(0) {
             return false;
         }
-        let mut limit = Limit::new(rt, SECONDS);
+        let mut limit = Limit::new(TURNS);
         for _ in 0..u64::MAX {
             if let Some(well) = self.visit(rt) {
                 return well;
             }
-            if !limit.waits(rt) {
+            if !limit.waits() {
                 return false;
             }
         }
@@ -137,7 +161,8 @@ fn four_visit<R: Wait + Threads + Clock + Sync, V: Visitor + Send>(
     ))
 }
 
-/// Whether four come and go until it is locked, and stays so: by at least one, and at most so many.
+/// Whether four come and go until it is locked, and stays so: by at least one, and at most so many. Some came while another
+/// was inside.
 pub fn is_locked_by_four<R: Wait + Threads + Clock + Sync, V: Visitor + Send>(
     rt: &R,
     user: &mut V,
@@ -147,5 +172,5 @@ pub fn is_locked_by_four<R: Wait + Threads + Clock + Sync, V: Visitor + Send>(
     let mut well = four_visit(rt, user, hall) == Some(true);
     well &= user.is_closed(rt);
     let locks = hall.locks();
-    well & (1 <= locks && locks <= most)
+    well & (1 <= locks && locks <= most && hall.visits() > MORE)
 }

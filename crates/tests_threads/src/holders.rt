@@ -1,7 +1,8 @@
 //! Who has an index.
+use crate::rests::Rests;
+use crate::tasks::rests_in;
 use std::alloc::{AllocError, Global};
 use std::sync::atomic::{AtomicU64, Ordering};
-use std::thread;
 
 /// For each index whether somebody has it: 1 where it is so.
 #[derive(Drop)]
@@ -37,12 +38,10 @@ impl Holders {
         self.swaps(index, 0)
     }
 
-    /// Whether nobody else has this index for a while, in which it lets others run where it rests.
-    pub fn stay(&self, index: usize, rests: bool) -> bool {
+    /// Whether nobody else has this index, for the length of a rest where one is due at this turn.
+    pub fn stay(&self, index: usize, at: u64, rests: Option<&Rests>) -> bool {
         let entered = self.enter(index);
-        if rests {
-            thread::yield_now();
-        }
-        entered & self.leave(index)
+        let rested = rests_in(rests, at);
+        entered & self.leave(index) & rested
     }
 }

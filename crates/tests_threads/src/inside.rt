@@ -1,7 +1,8 @@
-//! One who stays inside a call for long while another makes many calls on the same structure. No clause says that a call
-//! does not wait for another one; a call under a lock would. A call is drawn out by what it calls itself: its closure, or
-//! the reading or writing of a value; or by its number of steps, where it comes to each of many places. No test can keep
-//! a thread inside a call that is short and calls nothing.
+//! One who stays inside a call while another makes many calls on the same structure. No clause says that a call does not
+//! wait for another one; a call under a lock would. Where a call calls the caller's closure, one stays there until the
+//! other has made its calls. Where it reads or writes a value, that takes long, and others are let run meanwhile. Where it
+//! comes to each of many places, it is made again and again, so that nearly always one is inside. No test can keep a thread
+//! inside a call that is short and calls nothing.
 use crate::limit::Flag;
 use crate::slow::pauses;
 use crate::tasks::{Task, two_run};
@@ -17,18 +18,49 @@ mod robust;
 mod value;
 
 /// How many calls of each kind are made meanwhile.
-const CALLS: u64 = 100;
+pub const CALLS: u64 = 100;
 
-/// In how many rounds one is to have made them in time, at most. It is too late where it did not run meanwhile.
-pub const ROUNDS: u64 = 20;
+/// In how many rounds one is to have made them in time, at most, where a value that takes long draws a call out. It is too
+/// late where it did not run while that call let others run fifty times.
+pub const ROUNDS: u64 = 1000;
 
-/// For how many pauses of its processor one waits, once another has begun its call, so that it is inside.
-const SHORT: u64 = 10_000;
+/// How long one waits, once another has begun its call, so that it is inside.
+const SHORT: u64 = 1_000;
+
+/// What the two tell each other.
+#[derive(Drop)]
+pub struct Door {
+    inside: Flag,
+    done: Flag,
+    ended: Flag,
+}
+
+impl Door {
+    fn new() -> Door {
+        Door {
+            inside: Flag::new(),
+            done: Flag::new(),
+            ended: Flag::new(),
+        }
+    }
+
+    /// Tells that one is inside, or will be in a moment.
+    pub fn enters(&self) {
+        self.inside.raise();
+    }
+
+    /// Tells that one is inside, and stays until the other has made its calls. False at the limit, as where that one waits
+    /// too.
+    pub fn stays(&self) -> bool {
+        self.inside.raise();
+        self.done.wait()
+    }
+}
 
 /// One whose call is drawn out.
 pub trait Stays: Drop + Sized {
-    /// Makes the call: whether it was drawn out.
-    fn stays(&mut self, rt: &impl Wait) -> bool;
+    /// Makes the call, and tells when it is inside: whether it was drawn out.
+    fn stays(&mut self, rt: &impl Wait, door: &Door) -> bool;
 }
 
 /// One whose calls are not.
@@ -40,15 +72,14 @@ pub trait GoesOn: Drop + Sized {
 #[derive(Drop)]
 struct Inside<'s, S: Stays> {
     user: S,
-    begun: &'s Flag,
-    ended: &'s Flag,
+    door: &'s Door,
 }
 
 impl<'s, S: Stays> Task for Inside<'s, S> {
-    fn run(mut self, rt: &(impl Wait + Clock)) -> bool {
-        self.begun.raise();
-        let stayed = self.user.stays(rt);
-        self.ended.raise();
+    fn run(self, rt: &(impl Wait + Clock)) -> bool {
+        let Inside { mut user, door } = self;
+        let stayed = user.stays(rt, door);
+        door.ended.raise();
         stayed
     }
 }
@@ -56,14 +87,13 @@ impl<'s, S: Stays> Task for Inside<'s, S> {
 #[derive(Drop)]
 struct Meanwhile<'s, G: GoesOn> {
     user: G,
-    begun: &'s Flag,
-    ended: &'s Flag,
+    door: &'s Door,
 }
 
-/// Whether all calls have ended before the other one.
-impl<'s, G: GoesOn> Task for Meanwhile<'s, G> {
-    fn run(mut self, rt: &(impl Wait + Clock)) -> bool {
-        if !self.begun.wait(rt) {
+impl<'s, G: GoesOn> Meanwhile<'s, G> {
+    /// Whether all calls have ended before the other one.
+    fn makes_all(&mut self, rt: &impl Wait) -> bool {
+        if !self.door.inside.wait() {
             return false;
         }
         pauses(SHORT);
@@ -72,7 +102,15 @@ impl<'s, G: GoesOn> Task for Meanwhile<'s, G> {
                 return false;
             }
         }
-        !self.ended.is_raised()
+        !self.door.ended.is_raised()
+    }
+}
+
+impl<'s, G: GoesOn> Task for Meanwhile<'s, G> {
+    fn run(mut self, rt: &(impl Wait + Clock)) -> bool {
+        let well = self.makes_all(rt);
+        self.door.done.raise();
+        well
     }
 }
 
@@ -82,18 +120,14 @@ pub fn goes_on_beside<R: Wait + Threads + Clock + Sync, S: Stays + Send, G: Goes
     one: S,
     other: G,
 ) -> bool {
-    let (begun, ended) = (Flag::new(), Flag::new());
-    two_run(
-        rt,
-        Inside {
-            user: one,
-            begun: &begun,
-            ended: &ended,
-        },
-        Meanwhile {
-            user: other,
-            begun: &begun,
-            ended: &ended,
-        },
-    )
+    let door = Door::new();
+    let inside = Inside {
+        user: one,
+        door: &door,
+    };
+    let meanwhile = Meanwhile {
+        user: other,
+        door: &door,
+    };
+    two_run(rt, inside, meanwhile)
 }

@@ -1,8 +1,8 @@
 //! One who always holds an index, and another who counts beside it; and the last one, which locks while another wants in.
-use crate::limit::{ENOUGH, Limit, Meeting, SECONDS};
-use crate::tasks::{Counted, Task, two_run};
+use crate::limit::{Enough, Meeting};
+use crate::rests::Rests;
+use crate::tasks::{EVERY, Ends, Looks, LooksOn, Task, two_run};
 use std::sync::Wait;
-use std::sync::atomic::{AtomicU64, Ordering};
 use std::thread;
 use std::thread::Threads;
 use std::time::Clock;
@@ -10,10 +10,14 @@ use std::time::Clock;
 /// How many indices are out all the time; one who holds an index changes between that before them and that behind.
 pub const BETWEEN: usize = 62;
 
+/// How often it changes at least.
+const LEAST: u64 = 6400;
+
 /// One who holds an index.
 pub trait Holds: Drop + Sized {
-    /// Takes another index, and then gives back the one that it held: whether both went well.
-    fn changes(&mut self, rt: &impl Wait) -> bool;
+    /// Takes another index, rests with two in hand where that is due at this time, and then gives back the one that it
+    /// held: whether all went well.
+    fn changes(&mut self, rt: &impl Wait, at: u64, rests: &Rests) -> bool;
 
     /// Gives back the index that it holds, so that the last one locks: whether it is locked then. None where the index
     /// could not be given back.
@@ -31,19 +35,26 @@ pub trait Beside: Drop + Sized {
 
 /// Holds one index at every moment, and at some moments two, until it is enough.
 #[derive(Drop)]
-struct Changes<H: Holds> {
+struct Changes<'s, H: Holds> {
     holder: H,
     times: u64,
+    rests: &'s Rests,
 }
 
-impl<H: Holds> Task for Changes<H> {
-    fn run(mut self, rt: &(impl Wait + Clock)) -> bool {
-        let mut enough = Limit::new(rt, ENOUGH);
-        for _ in 0..self.times {
-            if !self.holder.changes(rt) {
+impl<'s, H: Holds> Task for Changes<'s, H> {
+    fn run(self, rt: &(impl Wait + Clock)) -> bool {
+        let Changes {
+            mut holder,
+            times,
+            rests,
+        } = self;
+        let mut enough = Enough::new(rt);
+        for at in 0..times {
+            let changed = holder.changes(rt, at, rests);
+            if !changed || !rests.rest_at(at, EVERY) {
                 return false;
             }
-            if enough.is_over(rt) {
+            if at >= LEAST && enough.is_over(rt) {
                 return true;
             }
         }
@@ -51,95 +62,118 @@ impl<H: Holds> Task for Changes<H> {
     }
 }
 
-/// Counts until the other has ended.
+/// Counts.
 #[derive(Drop)]
-struct Counts<'s, B: Beside> {
+struct Counts<B: Beside> {
     other: B,
-    ended: &'s AtomicU64,
 }
 
-impl<'s, B: Beside> Counts<'s, B> {
-    /// Whether it counts one or two more than are out all the time.
-    fn counts(&mut self, rt: &impl Wait) -> bool {
+impl<B: Beside> Looks for Counts<B> {
+    /// Whether it counts two more than are out all the time, and whether it counts one or two more.
+    fn look(&mut self, rt: &impl Wait) -> (bool, bool) {
         let number = self.other.number(rt);
-        BETWEEN < number && number <= BETWEEN + 2
+        let are_two = number == BETWEEN + 2;
+        (are_two, BETWEEN < number && number <= BETWEEN + 2)
     }
 }
 
-impl<'s, B: Beside> Task for Counts<'s, B> {
-    fn run(mut self, rt: &(impl Wait + Clock)) -> bool {
-        let mut limit = Limit::new(rt, SECONDS);
-        for _ in 0..u64::MAX {
-            if !self.counts(rt) {
-                return false;
-            }
-            if self.ended.load(Ordering::SeqCst) == 1 {
-                return true;
-            }
-            if !limit.waits(rt) {
-                return false;
-            }
-        }
-        false
-    }
-}
-
-/// Whether each count is right beside one who changes its index so often.
+/// Whether each count is right beside one who changes its index so often, and some counts are made whole while two
+/// are in hand, and others while one is.
 pub fn counted_beside<R: Wait + Threads + Clock + Sync, H: Holds + Send, B: Beside + Send>(
     rt: &R,
     holder: H,
     other: B,
     times: u64,
 ) -> bool {
-    let ended = AtomicU64::new(0);
-    let changes = Counted {
-        task: Changes { holder, times },
-        ended: &ended,
+    let rests = Rests::beside(2, 1);
+    let changes = Ends {
+        task: Changes {
+            holder,
+            times,
+            rests: &rests,
+        },
+        rests: &rests,
     };
-    let counts = Counts {
-        other,
-        ended: &ended,
+    let counts = LooksOn {
+        looker: Counts { other },
+        rests: &rests,
     };
-    two_run(rt, changes, counts)
+    let well = two_run(rt, changes, counts);
+    well & (rests.seen() >= LEAST / EVERY && rests.crossed() >= LEAST / EVERY * 2)
 }
 
-/// Gives back the last index, a while after both have come: whether that locked.
-fn locks<H: Holds>(
-    rt: &(impl Wait + Clock),
-    mut holder: H,
-    meeting: &Meeting,
-    pause: u64,
-) -> Option<bool> {
-    if !meeting.wait(rt) {
-        return None;
+/// Who comes first.
+#[derive(Clone, Copy)]
+pub enum First {
+    /// Who gives back the last index.
+    Locks,
+    /// Who wants in.
+    GetsIn,
+    /// Whoever it is: the index is given back after such a pause.
+    Either(u64),
+}
+
+impl First {
+    /// That of the so many-th round: either order is kept once in four rounds.
+    pub fn of(round: u64) -> First {
+        match round % 4 {
+            0 => First::Locks,
+            1 => First::GetsIn,
+            _ => First::Either(round / 2 % 64),
+        }
     }
-    meeting.pause(pause);
-    holder.locks(rt)
+}
+
+/// Gives back the last index, once both have come: whether that locked.
+fn locks<H: Holds>(rt: &impl Wait, mut holder: H, meeting: &Meeting, first: First) -> Option<bool> {
+    let mut is_in_time = meeting.wait(0);
+    match first {
+        First::Locks => {}
+        First::GetsIn => is_in_time &= meeting.wait(1),
+        First::Either(pause) => meeting.pause(pause),
+    }
+    let locked = holder.locks(rt);
+    if let First::Locks = first {
+        is_in_time &= meeting.wait(1);
+    }
+    if is_in_time { locked } else { None }
 }
 
 /// Wants in once both have come: whether it got an index. None where it got neither that nor the lock.
-fn gets_in<B: Beside>(rt: &(impl Wait + Clock), mut other: B, meeting: &Meeting) -> Option<bool> {
-    if !meeting.wait(rt) {
-        return None;
+fn gets_in<B: Beside>(
+    rt: &impl Wait,
+    mut other: B,
+    meeting: &Meeting,
+    first: First,
+) -> Option<bool> {
+    let mut is_in_time = meeting.wait(0);
+    if let First::Locks = first {
+        is_in_time &= meeting.wait(1);
     }
-    other.gets_in(rt)
+    let is_in = other.gets_in(rt);
+    if let First::GetsIn = first {
+        is_in_time &= meeting.wait(1);
+    }
+    if is_in_time { is_in } else { None }
 }
 
-/// Whether either the last index locks, which is given back after such a pause, or the other gets in.
+/// Whether either the last index locks or the other gets in, as who comes first decides.
 pub fn one_of_both<R: Wait + Threads + Clock + Sync, H: Holds + Send, B: Beside + Send>(
     rt: &R,
     holder: H,
     other: B,
-    pause: u64,
+    first: First,
 ) -> bool {
     let meeting = Meeting::new(2);
     let (locked, is_in) = thread::join(
         rt,
-        || locks(rt, holder, &meeting, pause),
-        || gets_in(rt, other, &meeting),
+        || locks(rt, holder, &meeting, first),
+        || gets_in(rt, other, &meeting, first),
     );
-    match (locked, is_in) {
-        (Some(locked), Some(is_in)) => locked != is_in,
+    match (locked, is_in, first) {
+        (Some(locked), Some(is_in), First::Locks) => locked && !is_in,
+        (Some(locked), Some(is_in), First::GetsIn) => is_in && !locked,
+        (Some(locked), Some(is_in), First::Either(_)) => locked != is_in,
         _ => false,
     }
 }

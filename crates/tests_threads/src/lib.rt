@@ -1,5 +1,6 @@
-//! Threads that run side by side, on what they share: each gives up, and its test fails, after half a minute. And further
-//! handles of each structure, for as many threads.
+//! Threads that run side by side, on what they share, whoever has the processor: what has to overlap does since threads rest
+//! inside of what they do, and each gives up, and its test fails, after so many turns in a row that brought nothing. And
+//! further handles of each structure, for as many threads.
 #![tactic(auto)]
 
 #[cfg(test)]
@@ -38,6 +39,8 @@ mod owners;
 mod pairs;
 #[cfg(test)]
 mod queues;
+#[cfg(test)]
+mod rests;
 #[cfg(test)]
 mod roles;
 #[cfg(test)]

@@ -1,36 +1,55 @@
-//! How long a thread waits.
+//! How long a thread waits: so many turns in a row that brought nothing, however long others had the processor meanwhile.
 use std::sync::atomic::{AtomicU64, Ordering};
 use std::thread;
 use std::time::{Clock, Instant};
 
-/// After how many seconds a thread gives up.
-pub const SECONDS: u64 = 30;
+/// After how many turns in a row that brought nothing a thread gives up. Where nobody else has its processor they take
+/// half a minute.
+pub const TURNS: u64 = 1 << 27;
 
-/// After how many seconds a thread that does the same thing many times has done enough.
-pub const ENOUGH: u64 = 2;
-
-/// When a thread began to wait, and for how long it does. One that has no clock gives up soon.
+/// How many turns in a row have brought nothing.
 #[derive(Clone, Copy)]
 pub struct Limit {
-    begun: Option<Instant>,
-    seconds: u64,
-    waits: u64,
+    turns: u64,
+    most: u64,
 }
 
 impl Limit {
-    pub fn new(rt: &impl Clock, seconds: u64) -> Limit {
-        Limit {
+    pub fn new(most: u64) -> Limit {
+        Limit { turns: 0, most }
+    }
+
+    /// Notes a turn that brought nothing, and lets another thread run: whether there are further turns.
+    pub fn waits(&mut self) -> bool {
+        self.turns = self.turns.wrapping_add(1);
+        thread::yield_now();
+        self.turns < self.most
+    }
+}
+
+/// After how many seconds a thread that has done what it must does no more.
+const ENOUGH: u64 = 2;
+
+/// When a thread began to do the same thing many times. One that has no clock does what it must, and no more.
+#[derive(Clone, Copy)]
+pub struct Enough {
+    begun: Option<Instant>,
+    looks: u64,
+}
+
+impl Enough {
+    pub fn new(rt: &impl Clock) -> Enough {
+        Enough {
             begun: Instant::now(rt).ok(),
-            seconds,
-            waits: 0,
+            looks: 0,
         }
     }
 
-    /// Whether there is time left.
+    /// Whether there is time for more.
     pub fn has_time(&self, rt: &impl Clock) -> bool {
         match self.begun {
             Some(begun) => match begun.elapsed(rt) {
-                Ok(time) => time.as_secs() < self.seconds,
+                Ok(time) => time.as_secs() < ENOUGH,
                 Err(_) => false,
             },
             None => false,
@@ -39,17 +58,8 @@ impl Limit {
 
     /// Whether the time is over, which each 64th time is looked up.
     pub fn is_over(&mut self, rt: &impl Clock) -> bool {
-        self.waits = self.waits.wrapping_add(1);
-        self.waits % 64 == 0 && !self.has_time(rt)
-    }
-
-    /// Lets another thread run, each sixteenth time: whether there is time left, which each 1024th time is looked up.
-    pub fn waits(&mut self, rt: &impl Clock) -> bool {
-        self.waits = self.waits.wrapping_add(1);
-        if self.waits % 16 == 0 {
-            thread::yield_now();
-        }
-        self.waits % 1024 != 0 || self.has_time(rt)
+        self.looks = self.looks.wrapping_add(1);
+        self.looks % 64 == 0 && !self.has_time(rt)
     }
 }
 
@@ -75,13 +85,13 @@ impl Flag {
     }
 
     /// Waits until it is raised. False at the limit.
-    pub fn wait(&self, rt: &impl Clock) -> bool {
-        let mut limit = Limit::new(rt, SECONDS);
+    pub fn wait(&self) -> bool {
+        let mut limit = Limit::new(TURNS);
         for _ in 0..u64::MAX {
             if self.is_raised() {
                 return true;
             }
-            if !limit.waits(rt) {
+            if !limit.waits() {
                 return false;
             }
         }
@@ -89,7 +99,7 @@ impl Flag {
     }
 }
 
-/// Where threads wait until so many have come.
+/// Where threads wait for one another, again and again.
 #[derive(Drop)]
 pub struct Meeting {
     number: u64,
@@ -97,6 +107,7 @@ pub struct Meeting {
 }
 
 impl Meeting {
+    /// Of so many threads.
     pub fn new(number: u64) -> Meeting {
         Meeting {
             number,
@@ -104,15 +115,16 @@ impl Meeting {
         }
     }
 
-    /// Waits until all have come. False at the limit.
-    pub fn wait(&self, rt: &impl Clock) -> bool {
+    /// Waits, at the so many-th time, until all have come that often. False at the limit.
+    pub fn wait(&self, at: u64) -> bool {
         self.come.fetch_add(1, Ordering::SeqCst);
-        let mut limit = Limit::new(rt, SECONDS);
+        let all = at.wrapping_add(1).wrapping_mul(self.number);
+        let mut limit = Limit::new(TURNS);
         for _ in 0..u64::MAX {
-            if self.come.load(Ordering::SeqCst) == self.number {
+            if self.come.load(Ordering::SeqCst) >= all {
                 return true;
             }
-            if !limit.waits(rt) {
+            if !limit.waits() {
                 return false;
             }
         }

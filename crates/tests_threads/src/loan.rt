@@ -1,5 +1,5 @@
 //! A loan channel between two threads.
-use crate::limit::{Limit, SECONDS};
+use crate::limit::{Limit, TURNS};
 use crate::tasks::{Task, two_run};
 use channel::{Channel, Receives, Sends, both};
 use lock_free::mpmc::unique_index_set_enums::UniqueIndexCreationError;
@@ -31,9 +31,10 @@ struct SendsAll<'a, 's> {
 impl<'a, 's> Task for SendsAll<'a, 's> {
     fn run(self, rt: &(impl Wait + Clock)) -> bool {
         let SendsAll { sends } = self;
-        let mut limit = Limit::new(rt, SECONDS);
+        let mut limit = Limit::new(TURNS);
         let (mut sent, mut back) = (0u64, 0u64);
         for _ in 0..u64::MAX {
+            let before = sent;
             if sent < LOANS {
                 match sends_one(rt, sends) {
                     Some(true) => return false,
@@ -46,7 +47,8 @@ impl<'a, 's> Task for SendsAll<'a, 's> {
                 if back == LOANS {
                     return true;
                 }
-            } else if !limit.waits(rt) {
+                limit = Limit::new(TURNS);
+            } else if sent == before && !limit.waits() {
                 return false;
             }
         }
@@ -74,12 +76,13 @@ impl<'a, 's> Task for SendsSome<'a, 's> {
 }
 
 /// What comes next. None at the limit.
-fn next(rt: &(impl Wait + Clock), receives: &mut Receives<'_>, limit: &mut Limit) -> Option<u64> {
+fn next(rt: &impl Wait, receives: &mut Receives<'_>) -> Option<u64> {
+    let mut limit = Limit::new(TURNS);
     for _ in 0..u64::MAX {
         if let Some(value) = receives.receive(rt) {
             return Some(value);
         }
-        if !limit.waits(rt) {
+        if !limit.waits() {
             return None;
         }
     }
@@ -87,15 +90,9 @@ fn next(rt: &(impl Wait + Clock), receives: &mut Receives<'_>, limit: &mut Limit
 }
 
 /// Receives so many, and gives each back: whether each was an index below this and was taken back.
-fn gives_back(
-    rt: &(impl Wait + Clock),
-    receives: &mut Receives<'_>,
-    number: u64,
-    below: u64,
-) -> bool {
-    let mut limit = Limit::new(rt, SECONDS);
+fn gives_back(rt: &impl Wait, receives: &mut Receives<'_>, number: u64, below: u64) -> bool {
     for _ in 0..number {
-        match next(rt, receives, &mut limit) {
+        match next(rt, receives) {
             Some(index) => {
                 if index >= below || !receives.give_back(index) {
                     return false;
@@ -127,8 +124,7 @@ struct ReceivesThree<'a> {
 
 impl<'a> Task for ReceivesThree<'a> {
     fn run(mut self, rt: &(impl Wait + Clock)) -> bool {
-        let mut limit = Limit::new(rt, SECONDS);
-        if next(rt, &mut self.receives, &mut limit).is_none() {
+        if next(rt, &mut self.receives).is_none() {
             return false;
         }
         let taken = self.receives.give_back(u64::MAX);

@@ -15,10 +15,13 @@ use std::time::Clock;
 /// How many calls each thread makes in a round.
 const CALLS: usize = 10_000;
 
-/// How many pairs of calls have to overlap, and in how many rounds at most.
+/// At which calls all three meet in the middle of their call: each one of so many.
+const MEETS: u64 = 40;
+
+/// How many pairs of calls have to overlap, and in how many rounds.
 pub const OVERLAPS: u64 = 500;
 
-pub const ROUNDS: u64 = 20;
+pub const ROUNDS: u64 = 2;
 
 /// What has come of the rounds so far, each of a new queue.
 #[derive(Clone, Copy)]
@@ -39,11 +42,6 @@ impl Rounds {
         }
     }
 
-    /// Whether a further round is needed. There are two at least.
-    pub fn go_on(&self) -> bool {
-        self.are_in_turn && (self.number < 2 || self.overlaps < OVERLAPS)
-    }
-
     fn add(&mut self, are_in_turn: bool, overlaps: u64) {
         self.number = self.number.wrapping_add(1);
         self.are_in_turn &= are_in_turn;
@@ -55,7 +53,7 @@ impl Rounds {
 #[derive(Drop)]
 struct Round {
     clock: AtomicU64,
-    /// Where all meet before the first call.
+    /// Where all meet in the middle of some of their calls, so that these overlap.
     meeting: Meeting,
     /// Whether each lets others run at some of its calls, so that fewer overlap: in the second round.
     rests: bool,
@@ -68,6 +66,14 @@ impl Round {
             meeting: Meeting::new(3),
             rests,
         }
+    }
+
+    /// Meets the others within the times that a call is written down with, where that is due: at each second time before the
+    /// call is made, and else after it. False at the limit.
+    fn meets(&self, at: usize, is_before: bool) -> bool {
+        let at = at as u64;
+        let time = at / MEETS;
+        at % MEETS != 0 || (time % 2 == 0) != is_before || self.meeting.wait(time)
     }
 
     /// Lets another thread run, at some of the calls.
@@ -93,15 +99,21 @@ impl<'s, E: Gives> Task for LogsGives<'s, E> {
             round,
             log,
         } = self;
-        let (mut well, mut number) = (round.meeting.wait(rt), 0u64);
+        let (mut well, mut number) = (true, 0u64);
         for at in 0..CALLS {
             let began = now(&round.clock);
+            if !round.meets(at, true) {
+                return false;
+            }
             let back = end.gives(number);
+            if !round.meets(at, false) {
+                return false;
+            }
             well &= log.note(&round.clock, began, back);
             if back != Some(number) {
                 number = number.wrapping_add(1);
             }
-            round.rest(at, 13);
+            round.rest(at, 41);
         }
         well
     }
@@ -122,12 +134,18 @@ impl<'s, E: Takes> Task for LogsTakes<'s, E> {
             round,
             log,
         } = self;
-        let mut well = round.meeting.wait(rt);
+        let mut well = true;
         for at in 0..CALLS {
             let began = now(&round.clock);
+            if !round.meets(at, true) {
+                return false;
+            }
             let number = end.takes(rt);
+            if !round.meets(at, false) {
+                return false;
+            }
             well &= log.note(&round.clock, began, number);
-            round.rest(at, 11);
+            round.rest(at, 37);
         }
         well
     }
@@ -148,21 +166,27 @@ impl<'s, L: Length> Task for LogsLengths<'s, L> {
             round,
             log,
         } = self;
-        let mut well = round.meeting.wait(rt);
+        let mut well = true;
         for at in 0..CALLS {
             let began = now(&round.clock);
+            if !round.meets(at, true) {
+                return false;
+            }
             let answer = length.length(rt);
+            if !round.meets(at, false) {
+                return false;
+            }
             if answer.is_some() {
                 well &= log.note(&round.clock, began, answer);
             }
-            round.rest(at, 7);
+            round.rest(at, 31);
         }
         well
     }
 }
 
-/// Logs the calls of three threads on a new queue of this capacity, who begin at once: whether they can have come one after
-/// another, and how many overlapped.
+/// Logs the calls of three threads on a new queue of this capacity, of whom some calls of each overlap some of each other:
+/// whether they can have come one after another, and how many overlapped.
 pub fn runs<R: Wait + Threads + Clock + Sync, G: Gives + Send, T: Takes + Send, L: Length + Send>(
     rt: &R,
     alloc: Global,

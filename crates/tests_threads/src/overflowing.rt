@@ -3,9 +3,10 @@ ghost use Rattle.std.specs.Prelude.{◌≡◌};
 ghost use Rattle.lock_free.specs.Queues.Rings.{queue_of, IsPassOf};
 
 use crate::ends::Nobody;
-use crate::limit::{Limit, SECONDS};
+use crate::limit::{Limit, TURNS};
 use crate::logged::{OVERLAPS, ROUNDS, Rounds, runs};
-use crate::tasks::{Task, two_run};
+use crate::rests::Rests;
+use crate::tasks::{Ends, Task, two_run};
 use lock_free::spsc::safely_overflowing_index_queue::{
     Consumer, Pass, Producer, SafelyOverflowingIndexQueue,
 };
@@ -20,20 +21,31 @@ const NUMBERS: u64 = 50_000;
 
 const MOST: u64 = 45_000;
 
-/// Pushes all numbers, and keeps those that are handed back.
+/// At which numbers one rests who pushes: each one of so many.
+const EVERY: u64 = 500;
+
+/// Pushes all numbers, keeps those that are handed back, and rests after some, while the other pops.
 #[derive(Drop)]
-struct Overflows<'a, 's> {
+struct Overflows<'a, 'b, 's> {
     producer: Producer<'a>,
-    back: &'s mut Vec<u64>,
+    back: &'b mut Vec<u64>,
+    rests: &'s Rests,
 }
 
-impl<'a, 's> Task for Overflows<'a, 's> {
+impl<'a, 'b, 's> Task for Overflows<'a, 'b, 's> {
     fn run(self, _rt: &(impl Wait + Clock)) -> bool {
-        let Overflows { mut producer, back } = self;
+        let Overflows {
+            mut producer,
+            back,
+            rests,
+        } = self;
         let mut kept = true;
         for value in 0..NUMBERS {
             if let Some(old) = producer.push(value) {
                 kept &= back.push(old).is_ok();
+            }
+            if !rests.rest_at(value, EVERY) {
+                return false;
             }
         }
         kept
@@ -42,31 +54,32 @@ impl<'a, 's> Task for Overflows<'a, 's> {
 
 /// Pops until a number of at least 45,000 comes, so that some are left, and keeps those that came.
 #[derive(Drop)]
-struct Drains<'a, 's> {
+struct Drains<'a, 'c, 's> {
     consumer: Consumer<'a>,
-    came: &'s mut Vec<u64>,
+    came: &'c mut Vec<u64>,
+    rests: &'s Rests,
 }
 
-impl<'a, 's> Drains<'a, 's> {
+impl<'a, 'c, 's> Drains<'a, 'c, 's> {
     /// The next number. None at the limit.
-    fn next(&mut self, rt: &(impl Wait + Clock), limit: &mut Limit) -> Option<u64> {
+    fn next(&mut self, rt: &impl Wait) -> Option<u64> {
+        let mut limit = Limit::new(TURNS);
         for _ in 0..u64::MAX {
-            if let Some(value) = self.consumer.pop(rt) {
+            let popped = self.consumer.pop(rt);
+            self.rests.goes_on();
+            if let Some(value) = popped {
                 return Some(value);
             }
-            if !limit.waits(rt) {
+            if !limit.waits() {
                 return None;
             }
         }
         None
     }
-}
 
-impl<'a, 's> Task for Drains<'a, 's> {
-    fn run(mut self, rt: &(impl Wait + Clock)) -> bool {
-        let mut limit = Limit::new(rt, SECONDS);
+    fn drains(&mut self, rt: &impl Wait) -> bool {
         for _ in 0..NUMBERS {
-            match self.next(rt, &mut limit) {
+            match self.next(rt) {
                 Some(value) => {
                     if self.came.push(value).is_err() {
                         return false;
@@ -79,6 +92,14 @@ impl<'a, 's> Task for Drains<'a, 's> {
             }
         }
         false
+    }
+}
+
+impl<'a, 'c, 's> Task for Drains<'a, 'c, 's> {
+    fn run(mut self, rt: &(impl Wait + Clock)) -> bool {
+        let well = self.drains(rt);
+        self.rests.ends_all();
+        well
     }
 }
 
@@ -125,9 +146,22 @@ fn beside<R: Wait + Threads + Clock + Sync>(
     came: &mut Vec<u64>,
 ) -> Option<bool> {
     let (producer, consumer) = ends?;
-    let overflows = Overflows { producer, back };
-    let drains = Drains { consumer, came };
-    Some(two_run(rt, overflows, drains))
+    let rests = Rests::beside(2, 1);
+    let task = Overflows {
+        producer,
+        back,
+        rests: &rests,
+    };
+    let overflows = Ends {
+        task,
+        rests: &rests,
+    };
+    let drains = Drains {
+        consumer,
+        came,
+        rests: &rests,
+    };
+    Some(two_run(rt, overflows, drains) & (rests.crossed() >= MOST / EVERY))
 }
 
 /// Whether what waits in the queue in the end could be kept too.
@@ -157,6 +191,8 @@ fn numbers_come_or_are_handed_back(rt: HostRuntime) -> Result<(), Fail> {
     let mut well = beside(&rt, ends, &mut back, &mut came) == Some(true);
     well &= is_left(queue, pass, &mut left);
     assert!(rt; well && are_all(back.as_slice(), came.as_slice(), left.as_slice()));
+    // One came at least in each rest.
+    assert!(rt; came.len() as u64 >= MOST / EVERY);
     Ok(())
 }
 
@@ -178,9 +214,7 @@ fn logs<R: Wait + Threads + Clock + Sync>(
 fn calls_as_if_one_after_another(rt: HostRuntime) -> Result<(), Fail> {
     let mut rounds = Rounds::new();
     for _ in 0..ROUNDS {
-        if rounds.go_on() {
-            logs(&rt, rt.alloc(), &mut rounds)?;
-        }
+        logs(&rt, rt.alloc(), &mut rounds)?;
     }
     assert!(rt; rounds.are_in_turn);
     let overlaps = rounds.overlaps;

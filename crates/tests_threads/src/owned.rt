@@ -1,7 +1,7 @@
 //! What is done with robust sets and with containers alike: owners die, one counts, one locks, four come and go.
 use crate::deaths::{Mortal, deaths_beside};
 use crate::hall::{Hall, Visitor, is_locked_by_four};
-use crate::last::{BETWEEN, Beside, Holds, counted_beside, one_of_both};
+use crate::last::{BETWEEN, Beside, First, Holds, counted_beside, one_of_both};
 use std::sync::Wait;
 use std::thread::Threads;
 use std::time::Clock;
@@ -11,7 +11,9 @@ const DEATHS: u64 = 100_000;
 
 const CHANGES: u64 = 1_000_000;
 
-/// How often one is made that is locked, at most.
+/// How often one is made that is locked, at least and at most.
+pub const LEAST: u64 = 32;
+
 pub const ROUNDS: u64 = 1000;
 
 /// A user of such a structure.
@@ -32,8 +34,8 @@ pub enum Play<'s> {
     ManyDie,
     /// One counts beside another who always holds an index.
     Counting,
-    /// One gives the last index back, after such a pause, while another wants in.
-    OneLocks(u64),
+    /// One gives the last index back while another wants in.
+    OneLocks(First),
     /// Four come and go until one locks.
     FourVisit(&'s Hall),
 }
@@ -62,11 +64,11 @@ fn counting<R: Wait + Threads + Clock + Sync, U: OwnedUser + Send>(
 fn one_locks<R: Wait + Threads + Clock + Sync, U: OwnedUser + Send>(
     rt: &R,
     user: &mut U,
-    pause: u64,
+    first: First,
 ) -> Option<bool> {
     let other = user.another(2)?;
     let holder = user.another(1)?.holding(rt)?;
-    Some(one_of_both(rt, holder, other, pause))
+    Some(one_of_both(rt, holder, other, first))
 }
 
 /// Whether it goes well. None where there are no further passes.
@@ -78,7 +80,7 @@ pub fn plays<R: Wait + Threads + Clock + Sync, U: OwnedUser + Send>(
     match play {
         Play::ManyDie => many_die(rt, user),
         Play::Counting => counting(rt, user),
-        Play::OneLocks(pause) => one_locks(rt, user, pause),
+        Play::OneLocks(first) => one_locks(rt, user, first),
         Play::FourVisit(hall) => Some(is_locked_by_four(rt, user, hall, 4)),
     }
 }

@@ -1,10 +1,11 @@
 //! Robust unique index sets: no index has two holders, those of a dead owner come back, and the lock keeps all out.
 use crate::hall::Hall;
 use crate::holders::Holders;
-use crate::last::BETWEEN;
-use crate::limit::{ENOUGH, Limit};
-use crate::owned::{self, ROUNDS};
-use crate::tasks::{Task, User, another_turns, four_turn, three_run};
+use crate::last::{BETWEEN, First};
+use crate::limit::Enough;
+use crate::owned::{self, LEAST, ROUNDS};
+use crate::rests::Rests;
+use crate::tasks::{Ends, GoesOn, LooksOn, Task, User, four_turn, three_run};
 use lock_free::mpmc::robust_unique_index_set::{OwnerId, RobustUniqueIndexSet};
 use lock_free::mpmc::unique_index_set_enums::ReleaseMode;
 use std::alloc::Global;
@@ -42,30 +43,54 @@ fn four_go<R: Wait + Threads + Clock + Sync>(
     Some(right && user.borrowed(rt) == 0 && !user.is_locked())
 }
 
-/// Recovers an owner: whether 45 indices come back.
+/// Recovers an owner, and rests at each index: whether 45 come back.
 #[derive(Drop)]
-struct Recovers<'a> {
+struct Recovers<'a, 's> {
     user: OwnerUser<'a>,
     dead: OwnerId,
+    rests: &'s Rests,
 }
 
-impl<'a> Task for Recovers<'a> {
-    fn run(mut self, rt: &(impl Wait + Clock)) -> bool {
-        let dead = self.dead;
-        self.user.recovers(rt, dead, ReleaseMode::LockIfLastIndex) == Some(45)
+impl<'a, 's> Task for Recovers<'a, 's> {
+    fn run(self, rt: &(impl Wait + Clock)) -> bool {
+        let Recovers {
+            mut user,
+            dead,
+            rests,
+        } = self;
+        user.recovers(rt, dead, ReleaseMode::LockIfLastIndex, rests, 1) == Some(45)
     }
 }
 
-/// Whether 45 of 68 indices come back as the owner is recovered. Meanwhile two others take the two that are left and
-/// give them back. None where there are no further passes.
+/// Whether 45 of 68 indices come back as the owner is recovered. Meanwhile two others take the two that are left, and those
+/// that come back, and give them back; one of them does between each of the 45 and the next. None where there are no further
+/// passes.
 fn recovers_beside<R: Wait + Threads + Clock + Sync>(
     rt: &R,
     user: &mut OwnerUser<'_>,
     dead: OwnerId,
 ) -> Option<bool> {
-    let turns = another_turns(user, 1, TURNS).zip(another_turns(user, 2, TURNS));
-    let ((first, second), user) = turns.zip(user.another(4))?;
-    Some(three_run(rt, first, second, Recovers { user, dead }))
+    let rests = Rests::beside(3, 2);
+    let ((first, second), user) = user.another(1).zip(user.another(2)).zip(user.another(4))?;
+    let first = LooksOn {
+        looker: GoesOn { user: first },
+        rests: &rests,
+    };
+    let second = LooksOn {
+        looker: GoesOn { user: second },
+        rests: &rests,
+    };
+    let recovers = Recovers {
+        user,
+        dead,
+        rests: &rests,
+    };
+    let recovers = Ends {
+        task: recovers,
+        rests: &rests,
+    };
+    let well = three_run(rt, first, second, recovers);
+    Some(well & (rests.crossed() == 45))
 }
 
 /// Whether 23 indices are left of 68 of two owners once one has died. None where there are no further passes.
@@ -150,11 +175,11 @@ fn a_count_beside_one_who_always_holds_one(rt: HostRuntime) -> Result<(), Fail> 
 
 #[test]
 fn nobody_gets_in_once_it_is_locked(rt: HostRuntime) -> Result<(), Fail> {
-    let enough = Limit::new(&rt, ENOUGH);
+    let enough = Enough::new(&rt);
     let mut well = true;
     for round in 0..ROUNDS {
-        if enough.has_time(&rt) {
-            well &= played_as(&rt, rt.alloc(), 64, owned::Play::OneLocks(round % 64))?;
+        if round < LEAST || enough.has_time(&rt) {
+            well &= played_as(&rt, rt.alloc(), 64, owned::Play::OneLocks(First::of(round)))?;
         }
     }
     assert!(rt; well);
@@ -163,10 +188,10 @@ fn nobody_gets_in_once_it_is_locked(rt: HostRuntime) -> Result<(), Fail> {
 
 #[test]
 fn four_visit_until_it_is_locked(rt: HostRuntime) -> Result<(), Fail> {
-    let enough = Limit::new(&rt, ENOUGH);
+    let enough = Enough::new(&rt);
     let mut well = true;
-    for _ in 0..ROUNDS {
-        if enough.has_time(&rt) {
+    for round in 0..ROUNDS {
+        if round < LEAST || enough.has_time(&rt) {
             let hall = Hall::new(rt.alloc(), 3)?;
             well &= played_as(&rt, rt.alloc(), 3, owned::Play::FourVisit(&hall))?;
         }

@@ -1,11 +1,12 @@
 //! Containers of pairs with equal halves: one who uses such a container, alone.
 ghost use Rattle.lock_free.specs.Container.Names.{IsPassOf};
 
-use crate::deaths::Mortal;
+use crate::deaths::{MOST, Mortal};
 use crate::hall::{Hall, Visit, Visitor};
 use crate::last::{Beside, Holds};
 use crate::owned::OwnedUser;
-use crate::tasks::User;
+use crate::rests::Rests;
+use crate::tasks::{EVERY, User, rests_in};
 use lock_free::mpmc::container::{
     CallbackProgression, Container, ContainerAddFailure, ContainerHandle, ContainerState, OwnerId,
     Pass,
@@ -15,6 +16,9 @@ use std::sync::Wait;
 
 /// A value of two numbers, which are equal.
 pub type Pair = (u64, u64);
+
+/// At which changes one rests with the pair in: each one of so many.
+pub const CHANGED: u64 = 8;
 
 /// An owner who uses a container.
 pub struct PairUser<'a> {
@@ -84,16 +88,17 @@ impl<'a> PairUser<'a> {
             .is_ok()
     }
 
-    fn changed(&mut self, rt: &impl Wait, number: u64) -> Option<bool> {
+    fn changed(&mut self, rt: &impl Wait, number: u64, rests: &Rests) -> Option<bool> {
         let handle = self.add(rt, number)?;
         let same = handle;
         let replaced = self.replace(handle, number ^ 1000);
-        Some(self.remove(rt, same) && replaced)
+        let rested = rests.rest_at(number, CHANGED);
+        Some(self.remove(rt, same) && replaced && rested)
     }
 
-    /// Adds a pair, replaces it and removes it: whether it was there.
-    pub fn change(&mut self, rt: &impl Wait, number: u64) -> bool {
-        self.changed(rt, number) == Some(true)
+    /// Adds a pair, replaces it, rests where that is due, and removes it: whether it was there.
+    pub fn change(&mut self, rt: &impl Wait, number: u64, rests: &Rests) -> bool {
+        self.changed(rt, number, rests) == Some(true)
     }
 
     /// A state of the container.
@@ -110,9 +115,9 @@ impl<'a> PairUser<'a> {
         is_whole(state)
     }
 
-    /// Whether each copy that a find of the owner hands over is whole and each handle the owner's, at most as often as it
-    /// comes to an index.
-    pub fn finds_whole(&mut self) -> bool {
+    /// Whether a find of the owner comes to an index; and whether each copy that it hands over is whole and each handle the
+    /// owner's, at most as often as it comes to an index.
+    pub fn finds_whole(&mut self) -> (bool, bool) {
         let owner = self.owner;
         let mut number = 0usize;
         let mut well = true;
@@ -125,23 +130,26 @@ impl<'a> PairUser<'a> {
             },
             &mut self.pass,
         );
-        well && number <= found && found <= 5
+        (found != 0, well && number <= found && found <= 5)
     }
 
-    /// Recovers the owner: the sum of the whole pairs that it asks about. None where it locks.
-    pub fn recovers(&mut self, rt: &impl Wait) -> Option<u64> {
-        let mut sum = 0u64;
+    /// Recovers the owner, and rests inside the call at each one of so many pairs: the sum of the whole pairs that it asks
+    /// about. None where it locks, and at the limit.
+    pub fn recovers(&mut self, rt: &impl Wait, rests: &Rests, every: u64) -> Option<u64> {
+        let (mut sum, mut asked, mut rested) = (0u64, 0u64, true);
         let state = self.container.recover(
             rt,
             self.owner,
             &mut |pair| {
+                rested &= rests.rest_at(asked, every);
+                asked = asked.wrapping_add(1);
                 sum = sum.wrapping_add(pair.0);
                 pair.0 == pair.1
             },
             ReleaseMode::Default,
             &mut self.pass,
         );
-        if state == ReleaseState::Unlocked {
+        if state == ReleaseState::Unlocked && rested {
             Some(sum)
         } else {
             None
@@ -182,9 +190,10 @@ impl<'a> User for PairUser<'a> {
     }
 
     /// Adds a pair and removes it.
-    fn turn(&mut self, rt: &impl Wait, at: u64) -> Option<bool> {
+    fn turn(&mut self, rt: &impl Wait, at: u64, rests: Option<&Rests>) -> Option<bool> {
         let handle = self.add(rt, at)?;
-        Some(self.remove(rt, handle))
+        let rested = rests_in(rests, at);
+        Some(self.remove(rt, handle) && rested)
     }
 }
 
@@ -219,12 +228,13 @@ impl<'a> Mortal for PairUser<'a> {
     }
 
     /// By the sum of its pairs.
-    fn buries(&mut self, rt: &impl Wait, number: u64, things: u64) -> bool {
+    fn buries(&mut self, rt: &impl Wait, number: u64, things: u64, rests: &Rests) -> bool {
         let Ok(dead) = OwnerId::new(number) else {
             return false;
         };
         self.owner = dead;
-        self.recovers(rt) == Some(number.wrapping_mul(things)) && !self.has_any()
+        let sum = self.recovers(rt, rests, MOST);
+        sum == Some(number.wrapping_mul(things)) && !self.has_any()
     }
 }
 
@@ -267,13 +277,14 @@ pub struct Holding<'a> {
 }
 
 impl<'a> Holds for Holding<'a> {
-    fn changes(&mut self, rt: &impl Wait) -> bool {
+    fn changes(&mut self, rt: &impl Wait, at: u64, rests: &Rests) -> bool {
         let Some(next) = self.user.add(rt, 1) else {
             return false;
         };
+        let rested = rests.rest_at(at, EVERY);
         let was_there = self.user.remove(rt, self.held);
         self.held = next;
-        was_there
+        was_there && rested
     }
 
     fn locks(&mut self, rt: &impl Wait) -> Option<bool> {

@@ -3,7 +3,7 @@ ghost use Rattle.lock_free.specs.Queues.Rings.{inner, IsPassOf};
 
 use crate::bounds::are_within;
 use crate::ends::{Gives, GivesAll, QueueLength, Takes, TakesAll, next};
-use crate::limit::{Limit, SECONDS};
+use crate::limit::TURNS;
 use crate::logged::{OVERLAPS, ROUNDS, Rounds, runs};
 use crate::tasks::{Task, two_run};
 use lock_free::spsc::index_queue::{Consumer, FixedSizeIndexQueue, IndexQueue, Pass, Producer};
@@ -52,7 +52,7 @@ fn pair_ends<'a>(
 }
 
 /// How many numbers come.
-const NUMBERS: u64 = 20_000;
+const NUMBERS: u64 = 10_000;
 
 /// Whether all numbers come in order from one thread to another.
 fn all_come<R: Wait + Threads + Clock + Sync, G: Gives + Send, T: Takes + Send>(
@@ -125,9 +125,7 @@ fn logs<R: Wait + Threads + Clock + Sync>(
 fn calls_as_if_one_after_another(rt: HostRuntime) -> Result<(), Fail> {
     let mut rounds = Rounds::new();
     for _ in 0..ROUNDS {
-        if rounds.go_on() {
-            logs(&rt, rt.alloc(), &mut rounds)?;
-        }
+        logs(&rt, rt.alloc(), &mut rounds)?;
     }
     assert!(rt; rounds.are_in_turn);
     let overlaps = rounds.overlaps;
@@ -162,17 +160,16 @@ struct Giver<G: Gives, T: Takes> {
 }
 
 impl<G: Gives, T: Takes> Giver<G, T> {
-    /// Gives its number, and waits for so many seconds: the number that comes.
-    fn gives_and_takes(&mut self, rt: &(impl Wait + Clock), seconds: u64) -> Option<u64> {
+    /// Gives its number, and waits for so many turns: the number that comes.
+    fn gives_and_takes(&mut self, rt: &impl Wait, turns: u64) -> Option<u64> {
         self.mine.gives(self.gives);
-        let mut limit = Limit::new(rt, seconds);
-        next(rt, &mut self.other, &mut limit)
+        next(rt, &mut self.other, turns)
     }
 }
 
 impl<G: Gives, T: Takes> Task for Giver<G, T> {
     fn run(mut self, rt: &(impl Wait + Clock)) -> bool {
-        self.gives_and_takes(rt, SECONDS) == Some(self.takes)
+        self.gives_and_takes(rt, TURNS) == Some(self.takes)
     }
 }
 
@@ -209,7 +206,7 @@ fn at_once<R: Wait + Threads + Clock + Sync, G: Gives + Send, T: Takes + Send>(
 
 /// What each takes, the second after the first has given up.
 fn in_turn<G: Gives, T: Takes>(
-    rt: &(impl Wait + Clock),
+    rt: &impl Wait,
     one: Option<(G, T)>,
     two: Option<(G, T)>,
 ) -> Option<(Option<u64>, Option<u64>)> {

@@ -2,7 +2,7 @@
 ghost use Rattle.lock_free.specs.Queues.Calls.{IsPassOf};
 
 use crate::ends::{Gives, GivesAll, Takes, TakesAll};
-use crate::limit::{Limit, SECONDS};
+use crate::limit::{Limit, TURNS};
 use crate::queues::ends;
 use crate::tasks::{Task, three_run};
 use lock_free::spsc::index_queue::{IndexQueue, Pass, Producer};
@@ -41,13 +41,13 @@ impl<'a> Heir<'a> {
     }
 
     /// The role, once it is free. None at the limit.
-    fn waits(&mut self, rt: &impl Clock) -> Option<Producer<'a>> {
-        let mut limit = Limit::new(rt, SECONDS);
+    fn waits(&mut self) -> Option<Producer<'a>> {
+        let mut limit = Limit::new(TURNS);
         for _ in 0..u64::MAX {
             if let Some(producer) = self.asks() {
                 return Some(producer);
             }
-            if !limit.waits(rt) {
+            if !limit.waits() {
                 return None;
             }
         }
@@ -58,7 +58,7 @@ impl<'a> Heir<'a> {
 /// Waits until the role is free, and then gives 500 to 999.
 impl<'a> Task for Heir<'a> {
     fn run(mut self, rt: &(impl Wait + Clock)) -> bool {
-        let Some(end) = self.waits(rt) else {
+        let Some(end) = self.waits() else {
             return false;
         };
         let gives = GivesAll {

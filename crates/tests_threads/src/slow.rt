@@ -1,23 +1,34 @@
-//! What takes long: some tens of milliseconds.
+//! What takes long, and lets others run meanwhile: some tens of milliseconds where nobody else has the processor.
 use lock_free::words::Words;
-use std::hint::spin_loop;
+use std::thread;
 
-/// For how many pauses of its processor one takes long.
-const LONG: u64 = 2_000_000;
+/// How often one that takes long lets others run, and how long it works before each time.
+const YIELDS: u64 = 50;
+
+const WORK: u64 = 300_000;
 
 /// The number that takes long to write, and the one that takes long to read.
 pub const SLOW_TO_WRITE: u64 = u64::MAX;
 
 pub const SLOW_TO_READ: u64 = u64::MAX - 1;
 
+/// Works for about so many nanoseconds, or for as many of some more where it is built without optimisation.
 pub fn pauses(number: u64) {
+    let mut mixed = 1u64;
     for _ in 0..number {
-        spin_loop();
+        mixed = (mixed ^ (mixed >> 7)).wrapping_mul(0x9e37_79b9_7f4a_7c15);
+    }
+    // It is never 0, but no compiler knows that, and none leaves the work out.
+    if mixed == 0 {
+        thread::yield_now();
     }
 }
 
 pub fn takes_long() {
-    pauses(LONG);
+    for _ in 0..YIELDS {
+        pauses(WORK);
+        thread::yield_now();
+    }
 }
 
 /// A number, as a value of three words.

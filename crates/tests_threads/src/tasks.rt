@@ -1,7 +1,7 @@
 //! What threads do side by side.
-use crate::limit::{Limit, SECONDS};
+use crate::limit::{Limit, TURNS};
+use crate::rests::Rests;
 use std::sync::Wait;
-use std::sync::atomic::{AtomicU64, Ordering};
 use std::thread;
 use std::thread::Threads;
 use std::time::Clock;
@@ -49,18 +49,59 @@ pub fn four_run<
     left & right
 }
 
-/// A task whose end is counted.
+/// A task of one who rests, whose end is noted.
 #[derive(Drop)]
-pub struct Counted<'a, T: Task> {
+pub struct Ends<'s, T: Task> {
     pub task: T,
-    pub ended: &'a AtomicU64,
+    pub rests: &'s Rests,
 }
 
-impl<'a, T: Task> Task for Counted<'a, T> {
+impl<'s, T: Task> Task for Ends<'s, T> {
     fn run(self, rt: &(impl Wait + Clock)) -> bool {
-        let Counted { task, ended } = self;
+        let Ends { task, rests } = self;
         let well = task.run(rt);
-        ended.fetch_add(1, Ordering::SeqCst);
+        rests.ends();
+        well
+    }
+}
+
+/// What one does again and again, without a rest, beside others who do rest.
+pub trait Looks: Drop + Sized {
+    /// Does it once: whether it saw something, and whether all was well.
+    fn look(&mut self, rt: &impl Wait) -> (bool, bool);
+}
+
+/// Looks until the others have ended: whether all was well.
+#[derive(Drop)]
+pub struct LooksOn<'s, L: Looks> {
+    pub looker: L,
+    pub rests: &'s Rests,
+}
+
+impl<'s, L: Looks> LooksOn<'s, L> {
+    fn looks(&mut self, rt: &impl Wait) -> bool {
+        for at in 0..u64::MAX {
+            let have_ended = self.rests.have_ended();
+            let (saw, well) = self.looker.look(rt);
+            if saw {
+                self.rests.sees();
+            }
+            self.rests.goes_on();
+            if have_ended || !well {
+                return well;
+            }
+            if at % 16 == 0 {
+                thread::yield_now();
+            }
+        }
+        false
+    }
+}
+
+impl<'s, L: Looks> Task for LooksOn<'s, L> {
+    fn run(mut self, rt: &(impl Wait + Clock)) -> bool {
+        let well = self.looks(rt);
+        self.rests.ends_all();
         well
     }
 }
@@ -70,38 +111,65 @@ pub trait User: Drop + Sized {
     /// Another one, of this number. None where there is no further pass.
     fn another(&mut self, number: u64) -> Option<Self>;
 
-    /// Takes something, the so many-th time, and gives it back: whether it was its own. None where there was none.
-    fn turn(&mut self, rt: &impl Wait, at: u64) -> Option<bool>;
+    /// Takes something, the so many-th time, and gives it back, after a rest where one is due: whether it was its own. None
+    /// where there was none.
+    fn turn(&mut self, rt: &impl Wait, at: u64, rests: Option<&Rests>) -> Option<bool>;
+}
+
+/// One who takes something and gives it back, without a rest.
+#[derive(Drop)]
+pub struct GoesOn<U: User> {
+    pub user: U,
+}
+
+impl<U: User> Looks for GoesOn<U> {
+    /// Whether there was something, and whether it was its own.
+    fn look(&mut self, rt: &impl Wait) -> (bool, bool) {
+        match self.user.turn(rt, 1, None) {
+            Some(own) => (true, own),
+            None => (false, true),
+        }
+    }
+}
+
+/// At which turns one rests with the thing in hand: each one of so many.
+pub const EVERY: u64 = 64;
+
+/// Rests in a turn, where one rests at all and it is due. False at the limit.
+pub fn rests_in(rests: Option<&Rests>, at: u64) -> bool {
+    match rests {
+        Some(rests) => rests.rest_at(at, EVERY),
+        None => true,
+    }
 }
 
 /// A user who takes so many things, one after another, and gives each back.
 #[derive(Drop)]
-pub struct Turns<U: User> {
+pub struct Turns<'s, U: User> {
     pub user: U,
     pub number: u64,
+    pub rests: &'s Rests,
 }
 
-impl<U: User> Turns<U> {
+impl<'s, U: User> Turns<'s, U> {
     /// Whether the thing that comes next is its own. None at the limit.
-    pub fn next(&mut self, rt: &(impl Wait + Clock), at: u64, limit: &mut Limit) -> Option<bool> {
+    pub fn next(&mut self, rt: &impl Wait, at: u64) -> Option<bool> {
+        let mut limit = Limit::new(TURNS);
         for _ in 0..u64::MAX {
-            if let Some(own) = self.user.turn(rt, at) {
+            if let Some(own) = self.user.turn(rt, at, Some(self.rests)) {
                 return Some(own);
             }
-            if !limit.waits(rt) {
+            if !limit.waits() {
                 return None;
             }
         }
         None
     }
-}
 
-/// Whether it took all of them, and each was its own.
-impl<U: User> Task for Turns<U> {
-    fn run(mut self, rt: &(impl Wait + Clock)) -> bool {
-        let mut limit = Limit::new(rt, SECONDS);
+    /// Whether it took all of them, and each was its own.
+    fn takes_all(&mut self, rt: &impl Wait) -> bool {
         for at in 0..self.number {
-            if self.next(rt, at, &mut limit) != Some(true) {
+            if self.next(rt, at) != Some(true) {
                 return false;
             }
         }
@@ -109,23 +177,44 @@ impl<U: User> Task for Turns<U> {
     }
 }
 
-/// So many turns of another user. None where there is no further pass.
-pub fn another_turns<U: User>(user: &mut U, who: u64, number: u64) -> Option<Turns<U>> {
-    let user = user.another(who)?;
-    Some(Turns { user, number })
+/// Whether it took all of them, and each was its own.
+impl<'s, U: User> Task for Turns<'s, U> {
+    fn run(mut self, rt: &(impl Wait + Clock)) -> bool {
+        let well = self.takes_all(rt);
+        self.rests.ends();
+        well
+    }
 }
 
-/// Whether four more users of these numbers, each in a thread, take so many things that are their own. None where there
-/// are no further passes.
+/// So many turns of another user. None where there is no further pass.
+pub fn another_turns<'s, U: User>(
+    user: &mut U,
+    who: u64,
+    number: u64,
+    rests: &'s Rests,
+) -> Option<Turns<'s, U>> {
+    let user = user.another(who)?;
+    Some(Turns {
+        user,
+        number,
+        rests,
+    })
+}
+
+/// Whether four more users of these numbers, each in a thread, take so many things that are their own, and each but the
+/// last rested as often as it had to with one in hand until another came to such a rest. None where there are no further
+/// passes.
 pub fn four_turn<R: Wait + Threads + Clock + Sync, U: User + Send>(
     rt: &R,
     user: &mut U,
     who: [u64; 4],
     number: u64,
 ) -> Option<bool> {
-    let first = another_turns(user, who[0], number)?;
-    let second = another_turns(user, who[1], number)?;
-    let third = another_turns(user, who[2], number)?;
-    let fourth = another_turns(user, who[3], number)?;
-    Some(four_run(rt, first, second, third, fourth))
+    let rests = Rests::of(4);
+    let first = another_turns(user, who[0], number, &rests)?;
+    let second = another_turns(user, who[1], number, &rests)?;
+    let third = another_turns(user, who[2], number, &rests)?;
+    let fourth = another_turns(user, who[3], number, &rests)?;
+    let well = four_run(rt, first, second, third, fourth);
+    Some(well & (rests.crossed() >= number / EVERY * 3))
 }

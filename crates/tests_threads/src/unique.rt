@@ -3,7 +3,8 @@ ghost use Rattle.lock_free.specs.UniqueIndexSet.{IsPassOf};
 
 use crate::hall::{Hall, Visit, Visitor, is_locked_by_four};
 use crate::holders::Holders;
-use crate::limit::{ENOUGH, Limit};
+use crate::limit::Enough;
+use crate::rests::Rests;
 use crate::tasks::{User, four_turn};
 use lock_free::mpmc::unique_index_set::{Pass, UniqueIndexSet};
 use lock_free::mpmc::unique_index_set_enums::{ReleaseState, UniqueIndexSetAcquireFailure};
@@ -32,23 +33,23 @@ impl<'a> Drop for IndexUser<'a> {
 }
 
 impl<'a> IndexUser<'a> {
-    /// Takes an index and gives it back; it rests each sixteenth time.
-    fn raw_turn(&mut self, rt: &impl Wait, at: u64) -> Option<bool> {
+    /// Takes an index and gives it back.
+    fn raw_turn(&mut self, rt: &impl Wait, at: u64, rests: Option<&Rests>) -> Option<bool> {
         let Ok(index) = self.set.acquire_raw_index(rt, &mut self.pass) else {
             return None;
         };
-        let alone = self.holders.stay(index as usize, at % 16 == 0);
+        let alone = self.holders.stay(index as usize, at, rests);
         self.set.release_raw_index(index, &mut self.pass);
         Some(alone)
     }
 
     /// The same by a pass that is split off and a held index that is dropped.
-    fn held_turn(&mut self, rt: &impl Wait) -> Option<bool> {
+    fn held_turn(&mut self, rt: &impl Wait, at: u64, rests: Option<&Rests>) -> Option<bool> {
         let pass = self.pass.split()?;
         let Ok(held) = self.set.acquire(rt, pass) else {
             return None;
         };
-        Some(self.holders.stay(held.value() as usize, true))
+        Some(self.holders.stay(held.value() as usize, at, rests))
     }
 
     fn borrowed(&mut self) -> usize {
@@ -67,11 +68,11 @@ impl<'a> User for IndexUser<'a> {
     }
 
     /// Each hundredth time it is a held index that is dropped.
-    fn turn(&mut self, rt: &impl Wait, at: u64) -> Option<bool> {
+    fn turn(&mut self, rt: &impl Wait, at: u64, rests: Option<&Rests>) -> Option<bool> {
         if at % 100 == 0 {
-            self.held_turn(rt)
+            self.held_turn(rt, at, rests)
         } else {
-            self.raw_turn(rt, at)
+            self.raw_turn(rt, at, rests)
         }
     }
 }
@@ -109,7 +110,9 @@ enum Play<'s> {
 /// How often each of four takes an index.
 const TURNS: u64 = 10_000;
 
-/// How often a set is made that is locked, at most.
+/// How often a set is made that is locked, at least and at most.
+const LEAST: u64 = 32;
+
 const ROUNDS: u64 = 1000;
 
 /// Whether it goes well. None where there are no further passes.
@@ -151,10 +154,10 @@ fn four_threads_on_three_indices(rt: HostRuntime) -> Result<(), Fail> {
 
 #[test]
 fn four_visit_until_it_is_locked(rt: HostRuntime) -> Result<(), Fail> {
-    let enough = Limit::new(&rt, ENOUGH);
+    let enough = Enough::new(&rt);
     let mut well = true;
-    for _ in 0..ROUNDS {
-        if enough.has_time(&rt) {
+    for round in 0..ROUNDS {
+        if round < LEAST || enough.has_time(&rt) {
             let hall = Hall::new(rt.alloc(), 3)?;
             well &= played(&rt, rt.alloc(), Play::FourVisit(&hall))?;
         }

@@ -1,8 +1,9 @@
 //! The single value: one thread stores, and two load.
 ghost use Rattle.lock_free.specs.Value.Calls.{IsPassOf};
 
-use crate::limit::{Limit, SECONDS};
-use crate::tasks::{Task, three_run};
+use crate::limit::{Limit, TURNS};
+use crate::rests::Rests;
+use crate::tasks::{Ends, Task, three_run};
 use lock_free::spmc::unrestricted_atomic::{Pass, Producer, UnrestrictedAtomic};
 use std::sync::Wait;
 use std::test::Fail;
@@ -15,19 +16,26 @@ type Pair = (u64, u64);
 /// The number of the last pair.
 const LAST: u64 = 200_000;
 
-/// Stores (1, 1) to the last pair.
+/// At which pairs one rests who stores: each one of so many.
+const EVERY: u64 = 1000;
+
+/// Stores (1, 1) to the last pair, and rests after some while the others load.
 #[derive(Drop)]
-struct Stores<'a> {
+struct Stores<'a, 's> {
     producer: Producer<'a, Pair>,
+    rests: &'s Rests,
 }
 
-impl<'a> Task for Stores<'a> {
+impl<'a, 's> Task for Stores<'a, 's> {
     fn run(self, _rt: &(impl Wait + Clock)) -> bool {
-        let Stores { mut producer } = self;
+        let Stores {
+            mut producer,
+            rests,
+        } = self;
         let mut stored = true;
         for number in 0..LAST {
             let number = number.wrapping_add(1);
-            stored &= producer.store((number, number));
+            stored &= producer.store((number, number)) && rests.rest_at(number, EVERY);
         }
         stored
     }
@@ -35,72 +43,96 @@ impl<'a> Task for Stores<'a> {
 
 /// Loads until it sees the last pair. It answers whether the halves of each pair are equal, and none is below the one
 /// before.
-struct Loads<'a> {
+struct Loads<'a, 's> {
     value: &'a UnrestrictedAtomic<Pair>,
     pass: Pass<Pair>,
+    rests: &'s Rests,
     ghost of: { IsPassOf value.now pass },
 }
 
-impl<'a> Drop for Loads<'a> {
+impl<'a, 's> Drop for Loads<'a, 's> {
     fn drop(self) {
         let Self {
             value: _,
             pass: _pass,
+            rests: _,
         } = self;
     }
 }
 
-impl<'a> Loads<'a> {
+impl<'a, 's> Loads<'a, 's> {
     /// The number of the pair that it sees, where its halves are equal.
     fn load(&mut self, rt: &impl Wait) -> Option<u64> {
         let (left, right) = self.value.load(rt, &mut self.pass);
         if left == right { Some(left) } else { None }
     }
-}
 
-impl<'a> Task for Loads<'a> {
-    fn run(mut self, rt: &(impl Wait + Clock)) -> bool {
-        let mut limit = Limit::new(rt, SECONDS);
-        let mut last = 0;
+    /// The number of the pair that comes after this one. None where it comes otherwise, and at the limit.
+    fn next(&mut self, rt: &impl Wait, last: u64) -> Option<u64> {
+        let mut limit = Limit::new(TURNS);
         for _ in 0..u64::MAX {
-            match self.load(rt) {
-                Some(number) => {
-                    if number < last {
-                        return false;
-                    }
-                    last = number;
-                }
-                None => return false,
+            let number = self.load(rt)?;
+            self.rests.goes_on();
+            if number != last {
+                return if number > last { Some(number) } else { None };
             }
-            if last == LAST {
+            if !limit.waits() {
+                return None;
+            }
+        }
+        None
+    }
+
+    fn loads(&mut self, rt: &impl Wait) -> bool {
+        let mut last = 0;
+        for _ in 0..LAST {
+            let Some(number) = self.next(rt, last) else {
+                return false;
+            };
+            self.rests.sees();
+            if number == LAST {
                 return true;
             }
-            if !limit.waits(rt) {
-                return false;
-            }
+            last = number;
         }
         false
     }
 }
 
+impl<'a, 's> Task for Loads<'a, 's> {
+    fn run(mut self, rt: &(impl Wait + Clock)) -> bool {
+        let well = self.loads(rt);
+        self.rests.ends_all();
+        well
+    }
+}
+
 /// One who loads, with a pass that is split off.
-fn loader<'a>(value: &'a UnrestrictedAtomic<Pair>, pass: &mut Pass<Pair>) -> Option<Loads<'a>>
+fn loader<'a, 's>(
+    value: &'a UnrestrictedAtomic<Pair>,
+    pass: &mut Pass<Pair>,
+    rests: &'s Rests,
+) -> Option<Loads<'a, 's>>
     requires { IsPassOf value.now pass.old }
     ensures { IsPassOf value.now pass.new }
 {
     let pass = pass.split()?;
-    Some(Loads { value, pass })
+    Some(Loads { value, pass, rests })
 }
 
 /// One who stores.
-fn storer<'a>(value: &'a UnrestrictedAtomic<Pair>, pass: Pass<Pair>) -> Option<Stores<'a>>
+fn storer<'a, 's>(
+    value: &'a UnrestrictedAtomic<Pair>,
+    pass: Pass<Pair>,
+    rests: &'s Rests,
+) -> Option<Stores<'a, 's>>
     requires { IsPassOf value.now pass }
 {
     let producer = value.acquire_producer(pass).ok()?;
-    Some(Stores { producer })
+    Some(Stores { producer, rests })
 }
 
-/// Whether one who stores and two who load see what they must. None where the role or a further pass is not to be had.
+/// Whether one who stores and two who load see what they must, and one of these a new pair in each rest of the first. None where the role or a further pass is not to be had.
 fn stores_and_loads<R: Wait + Threads + Clock + Sync>(
     rt: &R,
     value: &UnrestrictedAtomic<Pair>,
@@ -108,9 +140,16 @@ fn stores_and_loads<R: Wait + Threads + Clock + Sync>(
 ) -> Option<bool>
     requires { IsPassOf value.now pass }
 {
-    let loaders = loader(value, &mut pass).zip(loader(value, &mut pass));
-    let ((one, other), stores) = loaders.zip(storer(value, pass))?;
-    Some(three_run(rt, stores, one, other))
+    let rests = Rests::beside(3, 2);
+    let loaders = loader(value, &mut pass, &rests).zip(loader(value, &mut pass, &rests));
+    let ((one, other), task) = loaders.zip(storer(value, pass, &rests))?;
+    let stores = Ends {
+        task,
+        rests: &rests,
+    };
+    let well = three_run(rt, stores, one, other);
+    let least = LAST / EVERY - 1;
+    Some(well && rests.crossed() >= least && rests.seen() >= least)
 }
 
 #[test]

@@ -1,7 +1,6 @@
 //! Bit sets and counting bit sets: one stays inside a reset of all places, where it is told of one, and another sets a
 //! place and resets it.
-use crate::inside::{GoesOn, ROUNDS, Stays, goes_on_beside};
-use crate::slow::takes_long;
+use crate::inside::{Door, GoesOn, Stays, goes_on_beside};
 use lock_free::mpmc::bit_set::BitSet;
 use lock_free::mpmc::counting_bit_set::CountingBitSet;
 use lock_free::mpmc::{bit_set, counting_bit_set};
@@ -23,13 +22,13 @@ struct ResetsBits<'a> {
 }
 
 impl<'a> Stays for ResetsBits<'a> {
-    fn stays(&mut self, _rt: &impl Wait) -> bool {
-        let mut found = 0u64;
+    fn stays(&mut self, _rt: &impl Wait, door: &Door) -> bool {
+        let (mut found, mut stayed) = (0u64, true);
         self.handle.reset_all(&mut |_| {
-            takes_long();
+            stayed &= door.stays();
             found = found.wrapping_add(1);
         });
-        found == 1
+        stayed && found == 1
     }
 }
 
@@ -69,15 +68,15 @@ struct ResetsCounts<'a> {
 }
 
 impl<'a> Stays for ResetsCounts<'a> {
-    fn stays(&mut self, _rt: &impl Wait) -> bool {
-        let mut found = 0u64;
+    fn stays(&mut self, _rt: &impl Wait, door: &Door) -> bool {
+        let (mut found, mut stayed) = (0u64, true);
         self.handle.reset_all(&mut |state| {
             if state.bit() == 0 {
-                takes_long();
+                stayed &= door.stays();
                 found = found.wrapping_add(state.count());
             }
         });
-        found == 1
+        stayed && found == 1
     }
 }
 
@@ -131,16 +130,7 @@ fn counts_go_on<R: Wait + Threads + Clock + Sync>(rt: &R, alloc: Global) -> Resu
 
 #[test]
 fn beside_a_reset_of_all(rt: HostRuntime) -> Result<(), Fail> {
-    let (mut bits, mut counts) = (false, false);
-    for _ in 0..ROUNDS {
-        if !bits {
-            bits = bits_go_on(&rt, rt.alloc())?;
-        }
-        if !counts {
-            counts = counts_go_on(&rt, rt.alloc())?;
-        }
-    }
-    assert!(rt; bits, "bits");
-    assert!(rt; counts, "counts");
+    assert!(rt; bits_go_on(&rt, rt.alloc())?, "bits");
+    assert!(rt; counts_go_on(&rt, rt.alloc())?, "counts");
     Ok(())
 }

@@ -1,6 +1,6 @@
 //! Containers: one stays inside an add, a replace, a look, a find or a recovery, and another owner goes on.
-use crate::inside::{GoesOn, ROUNDS, Stays, goes_on_beside};
-use crate::slow::{SLOW_TO_READ, SLOW_TO_WRITE, Slow, takes_long};
+use crate::inside::{Door, GoesOn, ROUNDS, Stays, goes_on_beside};
+use crate::slow::{SLOW_TO_READ, SLOW_TO_WRITE, Slow};
 use lock_free::mpmc::container::{
     CallbackProgression, Container, ContainerHandle, ContainerState, Handle, OwnerId,
 };
@@ -20,6 +20,21 @@ enum Place {
     UpdateState,
     Find,
     Recover,
+}
+
+impl Place {
+    /// Whether a value draws the call out, and no closure.
+    fn is_slow(self) -> bool {
+        match self {
+            Place::Find | Place::Recover => false,
+            _ => true,
+        }
+    }
+
+    /// In how many rounds it is tried at most.
+    fn rounds(self) -> u64 {
+        if self.is_slow() { ROUNDS } else { 1 }
+    }
 }
 
 /// Makes the call.
@@ -50,37 +65,41 @@ impl<'a> Calls<'a> {
     }
 
     /// Whether the owner's one value is found.
-    fn finds(&mut self) -> bool {
+    fn finds(&mut self, door: &Door) -> bool {
         let owner = self.owner;
+        let mut stayed = true;
         let found = self.handle.find(
             owner,
             &mut |_, _| {
-                takes_long();
+                stayed &= door.stays();
                 CallbackProgression::Continue
             },
         );
-        found == 1
+        stayed && found == 1
     }
 
     /// Whether the owner's one value is recovered.
-    fn recovers(&mut self, rt: &impl Wait) -> bool {
-        let mut asked = 0u64;
+    fn recovers(&mut self, rt: &impl Wait, door: &Door) -> bool {
+        let (mut asked, mut stayed) = (0u64, true);
         self.handle.recover(
             rt,
             self.owner,
             &mut |_| {
-                takes_long();
+                stayed &= door.stays();
                 asked = asked.wrapping_add(1);
                 true
             },
             ReleaseMode::Default,
         );
-        asked == 1
+        stayed && asked == 1
     }
 }
 
 impl<'a> Stays for Calls<'a> {
-    fn stays(&mut self, rt: &impl Wait) -> bool {
+    fn stays(&mut self, rt: &impl Wait, door: &Door) -> bool {
+        if self.place.is_slow() {
+            door.enters();
+        }
         match self.place {
             Place::Add => self
                 .handle
@@ -92,8 +111,8 @@ impl<'a> Stays for Calls<'a> {
                 .is_ok(),
             Place::GetState => self.handle.get_state(rt).is_ok(),
             Place::UpdateState => self.updates(rt),
-            Place::Find => self.finds(),
-            Place::Recover => self.recovers(rt),
+            Place::Find => self.finds(door),
+            Place::Recover => self.recovers(rt, door),
         }
     }
 }
@@ -193,7 +212,7 @@ fn beside_an_add_a_look_a_find_and_a_recovery(rt: HostRuntime) -> Result<(), Fai
         (Place::Recover, "recover"),
     ] {
         let mut well = false;
-        for _ in 0..ROUNDS {
+        for _ in 0..place.rounds() {
             if !well {
                 well = goes_on(&rt, rt.alloc(), place)?;
             }

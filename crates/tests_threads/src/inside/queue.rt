@@ -1,5 +1,5 @@
 //! Queues: one stays inside a push or a pop, and another asks for the length and makes the other of the two.
-use crate::inside::{GoesOn, ROUNDS, Stays, goes_on_beside};
+use crate::inside::{Door, GoesOn, ROUNDS, Stays, goes_on_beside};
 use crate::slow::{SLOW_TO_READ, SLOW_TO_WRITE, Slow};
 use lock_free::spsc::queue::{Consumer, Handle, Producer, Queue};
 use std::alloc::Global;
@@ -15,7 +15,8 @@ struct Pushes<'a> {
 }
 
 impl<'a> Stays for Pushes<'a> {
-    fn stays(&mut self, _rt: &impl Wait) -> bool {
+    fn stays(&mut self, _rt: &impl Wait, door: &Door) -> bool {
+        door.enters();
         self.producer.push(&Slow::of(SLOW_TO_WRITE))
     }
 }
@@ -27,7 +28,8 @@ struct Pops<'a> {
 }
 
 impl<'a> Stays for Pops<'a> {
-    fn stays(&mut self, _rt: &impl Wait) -> bool {
+    fn stays(&mut self, _rt: &impl Wait, door: &Door) -> bool {
+        door.enters();
         match self.consumer.pop() {
             Some(value) => value.number == SLOW_TO_READ,
             None => false,

@@ -1,6 +1,5 @@
 //! Robust unique index sets: one stays inside a recovery or a find, and another owner goes on.
-use crate::inside::{GoesOn, ROUNDS, Stays, goes_on_beside};
-use crate::slow::takes_long;
+use crate::inside::{Door, GoesOn, Stays, goes_on_beside};
 use lock_free::mpmc::robust_unique_index_set::{
     CallbackProgression, Handle, OwnerId, RobustUniqueIndexSet,
 };
@@ -32,48 +31,49 @@ struct Visits<'a> {
 
 impl<'a> Visits<'a> {
     /// Whether the index is freed.
-    fn recovers(&mut self, rt: &impl Wait, is_asked: bool) -> bool {
+    fn recovers(&mut self, rt: &impl Wait, is_asked: bool, door: &Door) -> bool {
         let dead = self.dead;
-        let mut freed = 0u64;
+        let (mut freed, mut asked, mut told) = (0u64, true, true);
         self.handle.recover(
             rt,
             ReleaseMode::Default,
             &mut |owner, _| {
                 if owner == dead && is_asked {
-                    takes_long();
+                    asked &= door.stays();
                 }
                 owner == dead
             },
             &mut |_, _| {
                 if !is_asked {
-                    takes_long();
+                    told &= door.stays();
                 }
                 freed = freed.wrapping_add(1);
             },
         );
-        freed == 1
+        asked && told && freed == 1
     }
 
     /// Whether the index is found.
-    fn finds(&mut self) -> bool {
+    fn finds(&mut self, door: &Door) -> bool {
         let dead = self.dead;
+        let mut stayed = true;
         let found = self.handle.find(
             dead,
             &mut |_| {
-                takes_long();
+                stayed &= door.stays();
                 CallbackProgression::Continue
             },
         );
-        found == 1
+        stayed && found == 1
     }
 }
 
 impl<'a> Stays for Visits<'a> {
-    fn stays(&mut self, rt: &impl Wait) -> bool {
+    fn stays(&mut self, rt: &impl Wait, door: &Door) -> bool {
         match self.place {
-            Place::Asked => self.recovers(rt, true),
-            Place::Told => self.recovers(rt, false),
-            Place::Found => self.finds(),
+            Place::Asked => self.recovers(rt, true, door),
+            Place::Told => self.recovers(rt, false, door),
+            Place::Found => self.finds(door),
         }
     }
 }
@@ -153,13 +153,7 @@ fn beside_a_recovery_and_a_find(rt: HostRuntime) -> Result<(), Fail> {
         (Place::Told, "told"),
         (Place::Found, "found"),
     ] {
-        let mut well = false;
-        for _ in 0..ROUNDS {
-            if !well {
-                well = goes_on(&rt, rt.alloc(), place)?;
-            }
-        }
-        assert!(rt; well, "where it is {name}");
+        assert!(rt; goes_on(&rt, rt.alloc(), place)?, "where it is {name}");
     }
     Ok(())
 }

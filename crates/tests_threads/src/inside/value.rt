@@ -1,5 +1,5 @@
 //! The single value: one stays inside a load or a store, and another stores and loads, or loads.
-use crate::inside::{GoesOn, ROUNDS, Stays, goes_on_beside};
+use crate::inside::{Door, GoesOn, ROUNDS, Stays, goes_on_beside};
 use crate::slow::{SLOW_TO_READ, SLOW_TO_WRITE, Slow};
 use lock_free::spmc::unrestricted_atomic::{Handle, Producer, UnrestrictedAtomic};
 use std::alloc::Global;
@@ -15,7 +15,8 @@ struct Loads<'a> {
 }
 
 impl<'a> Stays for Loads<'a> {
-    fn stays(&mut self, rt: &impl Wait) -> bool {
+    fn stays(&mut self, rt: &impl Wait, door: &Door) -> bool {
+        door.enters();
         self.handle.load(rt).number == SLOW_TO_READ
     }
 }
@@ -33,7 +34,8 @@ struct Stores<'a> {
 }
 
 impl<'a> Stays for Stores<'a> {
-    fn stays(&mut self, _rt: &impl Wait) -> bool {
+    fn stays(&mut self, _rt: &impl Wait, door: &Door) -> bool {
+        door.enters();
         self.producer.store(Slow::of(SLOW_TO_WRITE))
     }
 }

@@ -1,12 +1,13 @@
 //! An owner who takes indices of a set and gives them back.
 ghost use Rattle.lock_free.specs.RobustUniqueIndexSet.{IsPassOf};
 
-use crate::deaths::Mortal;
+use crate::deaths::{MOST, Mortal};
 use crate::hall::{Hall, Visit, Visitor};
 use crate::holders::Holders;
 use crate::last::{Beside, Holds};
 use crate::owned::OwnedUser;
-use crate::tasks::User;
+use crate::rests::Rests;
+use crate::tasks::{EVERY, User};
 use lock_free::mpmc::robust_unique_index_set::{
     CallbackProgression, OwnerId, Pass, RobustUniqueIndexSet,
 };
@@ -100,9 +101,16 @@ impl<'a> OwnerUser<'a> {
         )
     }
 
-    /// Recovers an owner, of whose indices each is left before it is free: how many came back, or None where they did not
-    /// ascend, were another's, or the set was locked.
-    pub fn recovers(&mut self, rt: &impl Wait, dead: OwnerId, mode: ReleaseMode) -> Option<u64> {
+    /// Recovers an owner, of whose indices each is left before it is free, and rests inside the call after each one of so
+    /// many. It answers how many came back, or None where they did not ascend, were another's, or the set was locked.
+    pub fn recovers(
+        &mut self,
+        rt: &impl Wait,
+        dead: OwnerId,
+        mode: ReleaseMode,
+        rests: &Rests,
+        every: u64,
+    ) -> Option<u64> {
         let (mut number, mut next) = (0u64, 0usize);
         let (mut well, mut had) = (true, true);
         let holders = self.holders;
@@ -118,6 +126,7 @@ impl<'a> OwnerUser<'a> {
             },
             &mut |owner, index| {
                 well &= owner == dead && next <= index;
+                well &= rests.rest_at(number, every);
                 next = index.wrapping_add(1);
                 number = number.wrapping_add(1);
             },
@@ -143,10 +152,9 @@ impl<'a> User for OwnerUser<'a> {
         })
     }
 
-    /// It rests each sixteenth time.
-    fn turn(&mut self, rt: &impl Wait, at: u64) -> Option<bool> {
+    fn turn(&mut self, rt: &impl Wait, at: u64, rests: Option<&Rests>) -> Option<bool> {
         let index = self.acquire(rt)?;
-        let alone = self.holders.stay(index, at % 16 == 0);
+        let alone = self.holders.stay(index, at, rests);
         let state = self.release(rt, index, ReleaseMode::Default);
         Some(alone && state == Some(ReleaseState::Unlocked))
     }
@@ -180,11 +188,12 @@ impl<'a> Mortal for OwnerUser<'a> {
         self.keeps_one(rt)
     }
 
-    fn buries(&mut self, rt: &impl Wait, number: u64, things: u64) -> bool {
+    fn buries(&mut self, rt: &impl Wait, number: u64, things: u64, rests: &Rests) -> bool {
         let Ok(dead) = OwnerId::new(number) else {
             return false;
         };
-        self.recovers(rt, dead, ReleaseMode::Default) == Some(things) && self.finds(dead) == 0
+        let freed = self.recovers(rt, dead, ReleaseMode::Default, rests, MOST);
+        freed == Some(things) && self.finds(dead) == 0
     }
 }
 
@@ -224,13 +233,14 @@ pub struct Holding<'a> {
 }
 
 impl<'a> Holds for Holding<'a> {
-    fn changes(&mut self, rt: &impl Wait) -> bool {
+    fn changes(&mut self, rt: &impl Wait, at: u64, rests: &Rests) -> bool {
         let Some(next) = self.user.acquire(rt) else {
             return false;
         };
+        let rested = rests.rest_at(at, EVERY);
         let state = self.user.release(rt, self.held, ReleaseMode::Default);
         self.held = next;
-        state == Some(ReleaseState::Unlocked)
+        rested && state == Some(ReleaseState::Unlocked)
     }
 
     fn locks(&mut self, rt: &impl Wait) -> Option<bool> {
