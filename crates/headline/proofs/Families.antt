@@ -60,6 +60,7 @@ use Rattle.headline.proofs.Holding.{no_two_hold, none_once_locked, none_latest, 
 use Rattle.headline.proofs.Below.{ClaimsBelow, FillsBelow, HandsOutBelow, claimed_below, loaned_below, filled_below, received_below}
 use Rattle.headline.proofs.Loans.{IsWith, loaned_at}
 use Rattle.headline.proofs.Once.{at_most_once}
+use Rattle.headline.proofs.Visiting.{visits_unlocked}
 
 module _ {T : Type 0} where
   -- ---- the queues and the value
@@ -119,6 +120,7 @@ module _ {T : Type 0} where
             let w = finished_wrote bits_promise t p _ _ before kept at in ap (λ (s : Span T). sets b (wrote_in s)) w.opens ∙ w.right.1;
         reset = λ p b before at.
             let w = finished_wrote bits_promise t p _ _ before kept at in ap (λ (s : Span T). clears b (wrote_in s)) w.opens ∙ w.right.1;
+        reset_came = λ p b before at. kept.promised.answers before at.0 _ at.1;
       }
 
   counts_run : (t : Trace T) → IsKeptBy counts_promise t → CountsRun t
@@ -279,6 +281,7 @@ module _ {T : Type 0} where
         recovered = λ p index owner mode before at. (set.answers before at.0 _ at.1).1.gone index owner;
         asked_each = λ p index owner mode before at. (set.answers before at.0 _ at.1).1.asked index owner;
         locks = λ p index owner before at. locking.locks t is r before at.0 _ at.1 index owner;
+        found = λ p owner number before at. set.answers before at.0 _ at.1;
       }
 
   -- the indices of a container are held right, however its replaces overlap
@@ -311,6 +314,8 @@ module _ {T : Type 0} where
         recovered = λ p index owner mode before at. (set.answers before at.0 _ at.1).1.gone index;
         asked_each = λ p index owner mode before at. (set.answers before at.0 _ at.1).1.asked index;
         locks = λ p index owner before at. (set.answers before at.0 _ at.1).2 index;
+        visits = visits_unlocked t is r kept;
+        found = λ p owner number before at. set.answers before at.0 _ at.1;
         waits = waiting.waits t is r;
         changes = counting.counts_changes t is r;
         met = λ p before at. meeting.meets_changes t is r before at.0 _ at.1;

@@ -1,5 +1,6 @@
 pub mod Acting
 pub mod Below
+pub mod Ending
 pub mod Ends
 pub mod Families
 pub mod Holding
@@ -10,6 +11,7 @@ pub mod Progressing
 pub mod Reached
 pub mod Reaching
 pub mod Roomy
+pub mod Visiting
 pub mod WantsNothing
 pub mod Worked
 pub mod WorkedLockFree

@@ -8,7 +8,7 @@ use Rattle.steps.specs.declared.indices.enums.ReleaseMode.TheVariants.{LockIfLas
 use Rattle.steps.specs.declared.indices.enums.ReleaseState.TheVariants.{Unlocked}
 use Rattle.model.specs.declared.event.Answer.{Answer}
 use Rattle.model.specs.declared.event.Answer.TheVariants.{Done, Index, PoppedIndex, State, Truth, Number, Reset}
-use Rattle.model.specs.declared.event.Event.TheVariants.{Freed, FreedOf, Asked, Copied, Finished}
+use Rattle.model.specs.declared.event.Event.TheVariants.{Freed, FreedOf, Asked, Copied, Shown, Finished}
 use Rattle.model.specs.declared.event.Event.{Event}
 use Rattle.model.specs.declared.event.Item.TheVariants as items
 use Rattle.model.specs.declared.event.Start.{Start}
@@ -25,12 +25,16 @@ use Rattle.model.specs.declared.turn.Kind.{Kind}
 use Rattle.model.specs.declared.turn.Kind.TheVariants as kinds
 use Rattle.model.specs.declared.turn.Turn.{Turn}
 use Rattle.model.specs.declared.turn.Turn.TheVariants.{Next, Decide}
+use Rattle.model.specs.Families.Bits.Promises.{CameTo}
 use Rattle.model.specs.Families.Bits.Reading.{sets, clears, counts, takes}
 use Rattle.model.specs.Families.Container.Looks.{state_in, shows, is_looking}
+use Rattle.model.specs.Families.Container.Promises as container
 use Rattle.model.specs.Families.Container.Promises.{IsWellFormedRun}
 use Rattle.model.specs.Families.Container.Questions.{question_at}
 use Rattle.model.specs.Families.Container.Reading.{contents_of, Copies, Sees, acts_of, places}
-use Rattle.model.specs.Families.Indices.Robust.Promises.{IsWellFormed, FilledSinceFreed, StillToFree, HeldThroughout, IsIn, asked_of, owned_of}
+use Rattle.model.specs.Families.Indices.Robust.Promises as robust
+use Rattle.model.specs.Families.Indices.Robust.Promises.{IsWellFormed, IsUnlocked, FilledSinceFreed, StillToFree, HeldThroughout}
+use Rattle.model.specs.Families.Indices.Robust.Promises.{IsIn, asked_of, owned_of}
 use Rattle.model.specs.Families.Indices.Robust.Reading.{filled_of, Fills, Grants, Frees, Asks, Yes, set_acts_of, wrote_in, IsOneOf, IsLatest}
 use Rattle.model.specs.Families.Indices.Spans.{set_acts, claimed}
 use Rattle.model.specs.Families.Loan.Promises.{sent_in, given_back_in}
@@ -40,6 +44,7 @@ use Rattle.model.specs.Families.Queues.Book.{waiting_in}
 use Rattle.model.specs.Families.Queues.Objects.{overflowing_list}
 use Rattle.model.specs.Families.Queues.Reading.{published, handed_out}
 use Rattle.model.specs.Linearized.{as_list, as_value}
+use Rattle.model.specs.Moments.{HeldSometime}
 use Rattle.model.specs.Objects.{IsLegal}
 use Rattle.model.specs.Progress.{guarantee_of, IsWithin}
 use Rattle.model.specs.Promises.{IsTurn, IsKept}
@@ -51,6 +56,7 @@ use Rattle.model.specs.World.{Trace, flight_in, progress_in}
 use Rattle.laws_turns.specs.Changes.{changes_of, seen_by}
 use Rattle.laws_turns.specs.Others.{queue_in}
 use Rattle.laws_turns.specs.Questions.{waits_at, index_if, loads_cell}
+use Rattle.headline.specs.Ends.{RobustFinds, ContainerFinds, Looks}
 use Rattle.headline.specs.Holders.{holders, claims, fills, grants, loans, NoTwoHold, NoneOnceLocked, IsRelease, GivesBack}
 use Rattle.headline.specs.Moments.{Follows, call_in, ActedOnce, AtMostOnce, ActAs}
 
@@ -81,6 +87,11 @@ module _ {T : Type 0} where
     pub reset : (p b : ℕ) (before : List (Event T))
         → Follows (Finished p (Bits bits.ResetNext) (Reset b)) before t.events
         → clears b (wrote_in (span_of p before)) ≡ 1
+    -- It has come to that bit from where the reset position stood at a moment of the call. Each place that it passed was clear at
+    -- a moment of the call.
+    pub reset_came : (p b : ℕ) (before : List (Event T))
+        → Follows (Finished p (Bits bits.ResetNext) (Reset b)) before t.events
+        → CameTo p t.world.capacity b before
 
   -- What was counted at a place is what was taken out of it plus what it counts now. A set has counted its place once.
   pub record CountsRun (t : Trace T) : Type 0 where
@@ -136,8 +147,20 @@ module _ {T : Type 0} where
         → Follows (Finished p (Robust (Recover LockIfLastIndex)) (State Unlocked)) before t.events
         → IsOneOf (Frees index owner) (set_acts_of p before)
         → FilledSinceFreed p owner index before
+    -- The number that a find answers counts indices of the set up to a bound: each that its owner filled during the whole call,
+    -- and none that the owner filled at no moment of it.
+    pub found : (p owner number : ℕ) (before : List (Event T))
+        → Follows (Finished p (Robust (Find owner)) (Number number)) before t.events
+        → robust.IsFound p owner t.world.capacity number before
 
   -- ---- the container
+
+  -- The party comes to an index: it copies what stands there, is shown that nothing does, or frees the index.
+  abbrev pub IsVisit : ℕ → Event T → Type 0
+  IsVisit p (Copied q index value) = q ≡ p
+  IsVisit p (Shown q index) = q ≡ p
+  IsVisit p (FreedOf q index owner) = q ≡ p
+  IsVisit p e = ⊥
 
   -- What every run of a container keeps. A run is well-formed here if its removes are; `IsWellFormedRun` asks it of its replaces too.
   pub record ContainerRuns (t : Trace T) : Type 0 where
@@ -193,6 +216,18 @@ module _ {T : Type 0} where
         → Follows (Finished p (Container (containers.Recover owner LockIfLastIndex)) (State Unlocked)) before t.events
         → IsOneOf (Frees index owner) (set_acts_of p before)
         → FilledSinceFreed p owner index before
+    -- A recovery that comes to an index met the container unlocked at a moment of the call: one that began after the lock comes to
+    -- none.
+    pub visits : (p owner : ℕ) (mode : ReleaseMode) (e : Event T) (before : List (Event T))
+        → IsVisit p e
+        → Follows e before t.events
+        → call_in (span_of p before) ≡ Some (Container (containers.Recover owner mode))
+        → HeldSometime p IsUnlocked before
+    -- The number that a find answers counts indices of the container up to a bound: each that its owner filled during the whole
+    -- call, and none that the owner filled at no moment of it.
+    pub found : (p owner number : ℕ) (before : List (Event T))
+        → Follows (Finished p (Container (containers.Find owner)) (Number number)) before t.events
+        → container.IsFound p owner t.world.capacity number before
     -- A call waits for a decision exactly where it asks about a value.
     pub waits : (p : ℕ) → waits_at t p ≡ is_some (question_at t p)
     -- The number of changes counts the adds, removes and replaces that succeeded, and the recoveries.
@@ -320,4 +355,9 @@ module _ {T : Type 0} where
     pub answered : (old.world.kind ≡ kinds.Robust) ⊎ (old.world.kind ≡ kinds.Container)
         → (p : ℕ) (said : Bool) → turn ≡ Decide p said
         → waits_at new p ≡ false
+    -- A find of a robust set and of a container has counted right when it ends.
+    pub found : old.world.kind ≡ kinds.Robust → RobustFinds old turn new
+    pub found_there : old.world.kind ≡ kinds.Container → ContainerFinds old turn new
+    -- A look at a container has left its party a state when it ends, which shows what stood there during the look.
+    pub looked : old.world.kind ≡ kinds.Container → Looks old new
     pub is_turn : IsTurn old turn new  -- all that is promised of a turn

@@ -1,3 +1,4 @@
+pub mod Ends
 pub mod Headline
 pub mod Holders
 pub mod Moments

@@ -1,11 +1,11 @@
 -- For each field of what `headline` says of the container a run that this field refuses here.
-use Rattle.std.proofs.Common.{⊎_elim, inl, inr, ℕ, ◌==◌, true, false, List, [], ◌∷◌, ◌++◌, refl, arith}
+use Rattle.std.proofs.Common.{◌≡◌, ⊎_elim, inl, inr, ℕ, ◌==◌, true, false, List, [], ◌∷◌, ◌++◌, refl, arith}
 use Rattle.steps.specs.declared.indices.enums.ReleaseMode.{ReleaseMode}
 use Rattle.steps.specs.declared.indices.enums.ReleaseMode.TheVariants.{Default, LockIfLastIndex}
 use Rattle.steps.specs.declared.indices.enums.ReleaseState.TheVariants.{Unlocked}
-use Rattle.model.specs.declared.event.Answer.TheVariants.{Done, Index, State, Truth}
+use Rattle.model.specs.declared.event.Answer.TheVariants.{Done, Index, Number, State, Truth}
 use Rattle.model.specs.declared.event.Event.{Event}
-use Rattle.model.specs.declared.event.Event.TheVariants.{Begun, Filled, Granted, FreedOf, Copied, Shown, Finished}
+use Rattle.model.specs.declared.event.Event.TheVariants.{Begun, Filled, Granted, FreedOf, Told, Locked, Placed, Copied, Shown, Finished}
 use Rattle.model.specs.declared.event.Start.{Start}
 use Rattle.model.specs.declared.event.Start.TheVariants.{Container, Robust}
 use Rattle.model.specs.declared.families.container.ContainerStart.TheVariants.{Add, Remove, Replace, Find, Recover, GetState, UpdateState}
@@ -15,16 +15,19 @@ use Rattle.model.specs.declared.turn.Turn.{Turn}
 use Rattle.model.specs.Coding.{one_word}
 use Rattle.model.specs.Families.Container.Promises.{IsWellFormedRun, ReplacesRight}
 use Rattle.model.specs.Families.Container.Reading.{Copies, Sees, MayReplace}
-use Rattle.model.specs.Families.Indices.Robust.Promises.{FreesRight, IsFilled, StillToFree}
+use Rattle.model.specs.Families.Indices.Reading.{is_locked}
+use Rattle.model.specs.Families.Indices.Robust.Promises.{FreesRight, IsFilled, IsFilledWith, IsUnlocked, StillToFree, count_below}
 use Rattle.model.specs.Families.Indices.Robust.Reading.{Asks, Frees, Yes, set_acts_of, IsOneOf}
+use Rattle.model.specs.Moments.{HeldSometime}
 use Rattle.model.proofs.Readings.{Each-append, Each-nil, no_more}
 use Rattle.model.proofs.Runs.{begins, ran}
 use Rattle.headline.specs.Headline.{ContainerRuns}
 use Rattle.wrong_runs.specs.Wrong.{two_grants}
 use Rattle.wrong_runs.proofs.Container.{container, still, well_formed, forgotten, no_copy, copied, copied_well_formed, unplaced}
+use Rattle.wrong_runs.proofs.Counting.{none_counted, counted_below, past_bound}
 use Rattle.wrong_runs.proofs.HeadlineRobust.{over, over_well_formed, held_since, none_stays}
 use Rattle.wrong_runs.proofs.HeadlineSets.{two}
-use Rattle.wrong_runs.proofs.Machines.{at_no_moment}
+use Rattle.wrong_runs.proofs.Machines.{at_no_moment, at_none_since, Stays}
 use Rattle.wrong_runs.proofs.Robust.{well_formed as grants_well_formed}
 
 abbrev runs : List (Event ℕ) → Type 0
@@ -191,6 +194,56 @@ unlocked_empty k =
       ),
     )
     late.once
+
+-- ---- a recovery that began after the lock
+
+never_unlocked : (before : List (Event ℕ)) → Stays (λ part. is_locked part ≡ false → ⊥) (before ++ Begun 1 (recover Default) ∷ []) []
+    → HeldSometime 1 IsUnlocked (before ++ Begun 1 (recover Default) ∷ [])
+    → ⊥
+never_unlocked before locked h = at_none_since 1 (recover Default) IsUnlocked before [] locked h
+
+-- it copies a value
+abbrev placed : List (Event ℕ)
+placed = Placed 0 0 5 ∷ Locked 0 ∷ []
+
+copies_late : runs ((placed ++ Begun 1 (recover Default) ∷ []) ++ Copied 1 0 5 ∷ []) → ⊥
+copies_late k =
+    never_unlocked placed (λ e. cc) (k.visits 1 7 Default (Copied 1 0 5) (placed ++ Begun 1 (recover Default) ∷ []) refl ([], refl) refl)
+
+-- it is shown that nothing stands at an index
+sees_late : runs ((Locked 0 ∷ Begun 1 (recover Default) ∷ []) ++ Shown 1 0 ∷ []) → ⊥
+sees_late k =
+    never_unlocked (Locked 0 ∷ []) (λ e. cc) (k.visits 1 7 Default (Shown 1 0) (Locked 0 ∷ Begun 1 (recover Default) ∷ []) refl ([], refl) refl)
+
+-- it frees an index
+abbrev locked_full : List (Event ℕ)
+locked_full = Filled 0 0 7 ∷ Locked 0 ∷ []
+
+frees_late : runs ((locked_full ++ Begun 1 (recover Default) ∷ Told 1 0 7 ∷ []) ++ FreedOf 1 0 7 ∷ []) → ⊥
+frees_late k =
+    at_none_since 1 (recover Default) IsUnlocked locked_full (Told 1 0 7 ∷ []) ((λ e. cc), (λ e. cc))
+    (k.visits 1 7 Default (FreedOf 1 0 7) (locked_full ++ Begun 1 (recover Default) ∷ Told 1 0 7 ∷ []) refl ([], refl) refl)
+
+-- ---- what a find counts
+
+abbrev find : Start ℕ
+find = Container (Find 7)
+
+-- a find counts an index that nobody has filled
+finds_unfilled : runs (Begun 0 find ∷ Finished 0 find (Number 1) ∷ []) → ⊥
+finds_unfilled k =
+    let found = k.found 0 7 1 (Begun 0 find ∷ []) ([], refl) in
+    none_counted found.count.chosen found.bound 0 found.count.is
+    (λ index below one. at_no_moment 0 (IsFilledWith 7 index) (Begun 0 find ∷ []) ((λ e. cc), (λ e. cc)) (found.count.once index below one))
+
+-- it counts more indices than the container has
+abbrev three : List (Event ℕ)
+three = Filled 0 0 7 ∷ Filled 0 1 7 ∷ Filled 0 2 7 ∷ Begun 1 find ∷ []
+
+finds_past : runs (three ++ Finished 1 find (Number 3) ∷ []) → ⊥
+finds_past k =
+    let found = k.found 1 7 3 three ([], refl) in
+    past_bound found.bound (count_below found.count.chosen found.bound) found.within (counted_below found.count.chosen found.bound) found.count.is
 
 -- ---- questions and changes
 

@@ -3,18 +3,19 @@ use Rattle.std.proofs.Common.{◌≡◌, ℕ, ◌==◌, Bool, true, false, Some,
 use Rattle.steps.specs.declared.indices.enums.ReleaseMode.{ReleaseMode}
 use Rattle.steps.specs.declared.indices.enums.ReleaseMode.TheVariants.{Default, LockIfLastIndex}
 use Rattle.steps.specs.declared.indices.enums.ReleaseState.TheVariants.{Unlocked}
-use Rattle.model.specs.declared.event.Answer.TheVariants.{Index, State}
+use Rattle.model.specs.declared.event.Answer.TheVariants.{Index, Number, State}
 use Rattle.model.specs.declared.event.Event.{Event}
 use Rattle.model.specs.declared.event.Event.TheVariants.{Begun, Filled, Granted, FreedOf, Asked, Told, Locked, Finished}
 use Rattle.model.specs.declared.event.Start.{Start}
 use Rattle.model.specs.declared.event.Start.TheVariants as starts
-use Rattle.model.specs.declared.families.indices.robust.RobustStart.TheVariants.{Acquire, Release, Recover}
-use Rattle.model.specs.Families.Indices.Robust.Promises.{FreesRight, IsWellFormed, IsFilled, StillToFree, HeldThroughout}
+use Rattle.model.specs.declared.families.indices.robust.RobustStart.TheVariants.{Acquire, Find, Release, Recover}
+use Rattle.model.specs.Families.Indices.Robust.Promises.{FreesRight, IsWellFormed, IsFilled, IsFilledWith, StillToFree, HeldThroughout, count_below}
 use Rattle.model.specs.Families.Indices.Robust.Reading.{SetAct, Asks, Frees, Yes, set_acts_of, IsOneOf}
 use Rattle.model.specs.Moments.{BeginsNone}
 use Rattle.model.proofs.Readings.{Each-append, Each-nil, no_more}
 use Rattle.headline.specs.Headline.{RobustRuns}
 use Rattle.wrong_runs.specs.Wrong.{two_grants}
+use Rattle.wrong_runs.proofs.Counting.{none_counted, counted_below, past_bound}
 use Rattle.wrong_runs.proofs.HeadlineSets.{two}
 use Rattle.wrong_runs.proofs.Machines.{at_no_moment}
 use Rattle.wrong_runs.proofs.Robust.{set, well_formed}
@@ -144,3 +145,27 @@ unlocked_empty k =
       ),
     )
     late.once
+
+-- ---- what a find counts
+
+abbrev find : Start ℕ
+find = starts.Robust (Find 7)
+
+-- a find counts an index that nobody has filled
+abbrev of_nothing : List (Event ℕ)
+of_nothing = Begun 0 find ∷ []
+
+finds_unfilled : robust (of_nothing ++ Finished 0 find (Number 1) ∷ []) → ⊥
+finds_unfilled k =
+    let found = k.found 0 7 1 of_nothing ([], refl) in
+    none_counted found.count.chosen found.bound 0 found.count.is
+    (λ index below one. at_no_moment 0 (IsFilledWith 7 index) of_nothing ((λ e. cc), (λ e. cc)) (found.count.once index below one))
+
+-- it counts more indices than the set has
+abbrev three : List (Event ℕ)
+three = Filled 0 0 7 ∷ Filled 0 1 7 ∷ Filled 0 2 7 ∷ Begun 1 find ∷ []
+
+finds_past : robust (three ++ Finished 1 find (Number 3) ∷ []) → ⊥
+finds_past k =
+    let found = k.found 1 7 3 three ([], refl) in
+    past_bound found.bound (count_below found.count.chosen found.bound) found.within (counted_below found.count.chosen found.bound) found.count.is

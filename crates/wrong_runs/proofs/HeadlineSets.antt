@@ -1,18 +1,23 @@
 -- For each field of what `headline` says of bit sets, counting bit sets and the unique index set a run that this field
 -- refuses here.
-use Rattle.std.proofs.Common.{◌≡◌, ◌≤◌, ℕ, true, List, [], ◌∷◌, ◌++◌, length, refl, ap, arith}
+use Rattle.std.proofs.Common.{◌≡◌, ◌≤◌, ◌<◌, ℕ, zero, suc, true, List, [], ◌∷◌, ◌++◌, length, refl, ap, arith}
 use Rattle.steps.specs.declared.indices.enums.ReleaseMode.TheVariants.{Default}
+use Rattle.steps.specs.Bits.BitSet.{place_after, at_most}
 use Rattle.model.specs.declared.event.Answer.TheVariants.{Index, Truth, Number, Reset}
 use Rattle.model.specs.declared.event.Event.{Event}
-use Rattle.model.specs.declared.event.Event.TheVariants.{Begun, Claimed, Freed, Locked, Finished}
+use Rattle.model.specs.declared.event.Event.TheVariants as events
+use Rattle.model.specs.declared.event.Event.TheVariants.{Begun, Cleared, Claimed, Freed, Locked, Finished}
 use Rattle.model.specs.declared.event.Start.{Start}
 use Rattle.model.specs.declared.event.Start.TheVariants.{Bits, Indices}
 use Rattle.model.specs.declared.families.bits.BitsStart.TheVariants.{Set, ResetNext}
 use Rattle.model.specs.declared.families.indices.IndexStart.TheVariants.{Acquire, Release}
+use Rattle.model.specs.Families.Bits.Reading.{standing, position_of}
 use Rattle.model.specs.Families.Indices.Spans.{SetActs}
+use Rattle.model.specs.Moments.{HeldSometime}
 use Rattle.headline.specs.Headline.{BitsRun, CountsRun, IndicesRun}
 use Rattle.wrong_runs.proofs.Bits.{bits, counts}
 use Rattle.wrong_runs.proofs.Indices.{set}
+use Rattle.wrong_runs.proofs.Machines.{at_none_since}
 
 -- ---- bits and counts
 
@@ -27,6 +32,27 @@ sets_nothing k = let e = k.set 0 1 (Begun 0 (Bits (Set 1)) ∷ []) ([], refl) in
 -- a reset answers a bit, and has cleared nothing
 clears_nothing : BitsRun (bits (0 ∷ 0 ∷ []) (Begun 0 (Bits ResetNext) ∷ Finished 0 (Bits ResetNext) (Reset 1) ∷ [])) → ⊥
 clears_nothing k = let e = k.reset 0 1 (Begun 0 (Bits ResetNext) ∷ []) ([], refl) in cc
+
+-- a reset of the next one answers the second of two bits that stand, though the reset position is the first
+abbrev skipping : List (Event ℕ)
+skipping = events.Set 1 0 ∷ events.Set 1 1 ∷ Begun 0 (Bits ResetNext) ∷ Cleared 0 1 ∷ []
+
+-- the position was 0 throughout, and the bit there was never clear
+skips : (start passed : ℕ) → passed < 2 → place_after 2 start passed ≡ 1
+    → HeldSometime 0 (λ part. at_most 2 (position_of part) ≡ start) skipping
+    → ((k : ℕ) → k < passed → HeldSometime 0 (λ part. standing (place_after 2 start k) part ≡ 0) skipping)
+    → ⊥
+skips (suc start) passed within is begun clear =
+    at_none_since 0 (Bits ResetNext) (λ part. at_most 2 (position_of part) ≡ suc start) (events.Set 1 0 ∷ events.Set 1 1 ∷ []) (Cleared 0 1 ∷ [])
+    ((λ e. cc), (λ e. cc)) begun
+skips zero zero within is begun clear = absurd (cc)
+skips zero (suc zero) within is begun clear =
+    at_none_since 0 (Bits ResetNext) (λ part. standing 0 part ≡ 0) (events.Set 1 0 ∷ events.Set 1 1 ∷ []) (Cleared 0 1 ∷ [])
+    ((λ e. cc), (λ e. cc)) (clear 0 (omega arith))
+skips zero (suc (suc passed)) within is begun clear = absurd (omega arith)
+
+skips_a_bit : BitsRun (bits (0 ∷ 1 ∷ []) (skipping ++ Finished 0 (Bits ResetNext) (Reset 1) ∷ [])) → ⊥
+skips_a_bit k = let came = k.reset_came 0 1 skipping ([], refl) in skips came.start came.passed came.within came.is came.begun came.clear
 
 -- a place counts that nobody has counted
 counts_uncounted : CountsRun (counts (1 ∷ 0 ∷ []) []) → ⊥

@@ -1,7 +1,10 @@
 pub mod Bits
 pub mod Container
+pub mod Counting
 pub mod HeadlineChannel
 pub mod HeadlineContainer
+pub mod HeadlineFinds
+pub mod HeadlineLooks
 pub mod HeadlineQueues
 pub mod HeadlineRobust
 pub mod HeadlineSets

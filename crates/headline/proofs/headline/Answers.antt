@@ -15,6 +15,7 @@ use Rattle.laws_turns.specs.Questions.{waits_at}
 use Rattle.headline.specs.Headline.{Holds}
 use Rattle.machine.proofs.Laws.{laws_of}
 use Rattle.machine.proofs.LockFree.{one_ends, robust_one_ends, container_one_ends, channel_one_ends}
+use Rattle.headline.proofs.Ending.{robust_finds, container_finds, looks}
 use Rattle.headline.proofs.Ends.{ends}
 use Rattle.headline.proofs.Picking.{picked}
 use Rattle.headline.proofs.Reached.{holds}
@@ -49,6 +50,9 @@ returns-clause-turn g c t turn r e =
       asks = λ is p index owner wrote grown one. picked _ _ wrote one (asking.asks_at_once t turn is r wrote grown);
       finds = λ is p index owner next here loads. finding.finds_asking t is r turn e p owner index next here loads;
       answered = last_word t turn r e;
+      found = robust_finds t turn (after_turn t turn) is_turn;
+      found_there = container_finds t turn (after_turn t turn) is_turn;
+      looked = looks t turn (after_turn t turn) is_turn;
       is_turn = is_turn;
     }
 

@@ -1,0 +1,189 @@
+-- A recovery of a container that comes to an index began before the lock, in every run.
+use Rattle.std.proofs.Common.{◌≡◌, ℕ, Bool, true, false, Some, None, List, [], ◌∷◌, ◌++◌, if◌then◌else◌, refl, sym, subst, ◌∙◌, arith}
+use Rattle.std.proofs.lemmas.Grind.{fold-append}
+use Rattle.std.specs.List.{AllByRecursion}
+use Rattle.steps.specs.declared.indices.enums.ReleaseMode.{ReleaseMode}
+use Rattle.model.specs.declared.event.Answer.{Answer}
+use Rattle.model.specs.declared.event.Event.{Event}
+use Rattle.model.specs.declared.event.Event.TheVariants.{Begun, Copied, Shown, FreedOf, Died}
+use Rattle.model.specs.declared.event.Start.{Start}
+use Rattle.model.specs.declared.event.Start.TheVariants.{Container}
+use Rattle.model.specs.declared.families.container.ContainerStart.TheVariants.{Recover}
+use Rattle.model.specs.declared.turn.Kind.TheVariants as kinds
+use Rattle.model.specs.declared.turn.Turn.{Turn}
+use Rattle.model.specs.declared.turn.Turn.TheVariants.{Begin, Next, Decide, Die}
+use Rattle.model.specs.Families.Container.Promises as container_promises
+use Rattle.model.specs.Families.Container.Recoveries.{IsRecovery, BeganUnlocked, VisitsRight, VisitsUnlocked}
+use Rattle.model.specs.Families.Container.Spans.{may_stand}
+use Rattle.model.specs.Families.Indices.Robust.Promises.{IsUnlocked}
+use Rattle.model.specs.Moments.{HeldSometime, BeginsNone}
+use Rattle.model.specs.Promise.{Promise}
+use Rattle.model.specs.Promises.{IsKeptBy}
+use Rattle.model.specs.Promises.Families.{promise_of}
+use Rattle.model.specs.Promises.Turns.{IsEffectOf, IsAct, IsEndOf, WritesInOrder, WritesDown}
+use Rattle.model.specs.Reading.{Each, whose, is_party, Span, Never, Open, Ended, longer, ended, own_after, span_after, span_of}
+use Rattle.model.specs.Refusals.{refusal_of}
+use Rattle.model.specs.Turns.{IsReached, after_turn}
+use Rattle.model.specs.World.{Trace}
+use Rattle.model.proofs.Moments.{held_later}
+use Rattle.model.proofs.Readings.{AreRight, Each-append, Each-nil}
+use Rattle.model.proofs.Reached.{kept_by_runs, reached_more, turn_making}
+use Rattle.laws_container.proofs.Everything.{container_keeps}
+use Rattle.headline.specs.Headline.{IsVisit}
+use Rattle.headline.specs.Moments.{Follows, call_in}
+
+all_and : {A : Type 0} (P : A → Type 0) (xs ys : List A) → AllByRecursion P xs → AllByRecursion P ys → AllByRecursion P (xs ++ ys)
+all_and P [] ys all more = more
+all_and P (x ∷ xs) ys all more = (all.0, all_and P xs ys all.1 more)
+
+all_so : {A : Type 0} (P Q : A → Type 0) → ((x : A) → P x → Q x) → (xs : List A) → AllByRecursion P xs → AllByRecursion Q xs
+all_so P Q so [] all = tt
+all_so P Q so (x ∷ xs) all = (so x all.0, all_so P Q so xs all.1)
+
+module _ {T : Type 0} where
+  -- ---- events with which no call begins
+
+  abbrev BeginsNo : Event T → Type 0
+  BeginsNo (Begun p start) = ⊥
+  BeginsNo e = Unit {0}
+
+  effect_no : (turn : Turn T) (e : Event T) → IsEffectOf turn e → BeginsNo e
+  effect_no turn (Begun p start) h = h
+  effect_no turn e h = tt
+
+  act_no : (e : Event T) → IsAct e → BeginsNo e
+  act_no (Begun p start) h = h
+  act_no e h = tt
+
+  end_no : (turn : Turn T) (e : Event T) → IsEndOf turn e → BeginsNo e
+  end_no turn (Begun p start) h = h
+  end_no turn e h = tt
+
+  none_one : (p : ℕ) (e : Event T) → BeginsNo e → BeginsNone p (e ∷ [])
+  none_one p (Begun q start) h = absurd h
+  none_one p e h = tt
+
+  -- ---- what is so of the recovery before such an event is so after it
+
+  longer_less : (span : Span T) (e : Event T) → IsRecovery (longer span e) → IsRecovery span
+  longer_less Never e h = h
+  longer_less (Open (Container (Recover owner mode)) wrote) e h = tt
+  longer_less (Open (Container other) wrote) e h = absurd h
+  longer_less (Open other wrote) e h = absurd h
+  longer_less (Ended start answer wrote) e h = h
+
+  own_less : (span : Span T) (e : Event T) → BeginsNo e → IsRecovery (own_after span e) → IsRecovery span
+  own_less x0 x1 x2 x3 = grind (arith, longer_less)
+
+  after_less : (span : Span T) (e : Event T) → BeginsNo e → (b : Bool) → IsRecovery (if b then own_after span e else span) → IsRecovery span
+  after_less span e none true h = own_less span e none h
+  after_less span e none false h = h
+
+  recovery_less : (p : ℕ) (before : List (Event T)) (e : Event T) → BeginsNo e → IsRecovery (span_of p (before ++ e ∷ [])) → IsRecovery (span_of p before)
+  recovery_less p before e none h =
+      after_less (span_of p before) e none (is_party p (whose e)) (subst IsRecovery (fold-append (span_after p) Never before (e ∷ [])) h)
+
+  began_on : (p : ℕ) (before : List (Event T)) (e : Event T) → BeginsNo e → BeganUnlocked p before → BeganUnlocked p (before ++ e ∷ [])
+  began_on p before e none h recovers =
+      held_later p IsUnlocked before (e ∷ []) (none_one p e none) (h (recovery_less p before e none recovers))
+
+  visits_on : (before : List (Event T)) (x e : Event T) → BeginsNo x → VisitsRight before e → VisitsRight (before ++ x ∷ []) e
+  visits_on before x (Copied p index value) none h = began_on p before x none h
+  visits_on before x (Shown p index) none h = began_on p before x none h
+  visits_on before x (FreedOf p index owner) none h = began_on p before x none h
+  visits_on before x e none h = tt
+
+  -- ---- one turn
+
+  all_right : (es before : List (Event T)) → AllByRecursion BeginsNo es → AllByRecursion (VisitsRight before) es → AreRight VisitsRight before es
+  all_right [] before none all = tt
+  all_right (e ∷ es) before none all = (
+    all.0,
+    all_right es (before ++ e ∷ []) none.1
+        (all_so (VisitsRight before) (VisitsRight (before ++ e ∷ [])) (λ x h. visits_on before e x none.0 h) es all.1),
+  )
+
+  in_order : (promise : Promise T) (old new : Trace T) (turn : Turn T) → WritesInOrder promise old turn new.events → VisitsUnlocked old new
+      → Each VisitsRight old.events → Each VisitsRight new.events
+  in_order promise old new turn w visits h =
+      subst (Each VisitsRight) (sym w.is)
+      (Each-append VisitsRight old.events ((w.effects ++ w.acts) ++ w.ends) h
+      (all_right ((w.effects ++ w.acts) ++ w.ends) old.events
+      (all_and BeginsNo (w.effects ++ w.acts) w.ends
+      (all_and BeginsNo w.effects w.acts
+      (all_so (IsEffectOf turn) BeginsNo (effect_no turn) w.effects w.are_effects)
+      (all_so IsAct BeginsNo act_no w.acts w.are_acts))
+      (all_so (IsEndOf turn) BeginsNo (end_no turn) w.ends w.are_ends))
+      (visits ((w.effects ++ w.acts) ++ w.ends) w.is)))
+
+  one_turn : (promise : Promise T) (old new : Trace T) (turn : Turn T) → WritesDown promise old turn new → VisitsUnlocked old new
+      → Each VisitsRight old.events → Each VisitsRight new.events
+  one_turn promise old new (Begin p start) is visits h =
+      subst (Each VisitsRight) (sym is) (Each-append VisitsRight old.events (Begun p start ∷ []) h (tt, tt))
+  one_turn promise old new (Next p) w visits h = in_order promise old new (Next p) w visits h
+  one_turn promise old new (Decide p said) w visits h = in_order promise old new (Decide p said) w visits h
+  one_turn promise old new (Die owner) is visits h =
+      subst (Each VisitsRight) (sym is) (Each-append VisitsRight old.events (Died owner ∷ []) h (tt, tt))
+
+  -- ---- every run
+
+  abbrev HasVisited : Trace T → Type 0
+  HasVisited t = IsReached t × (t.world.kind ≡ kinds.Container → Each VisitsRight t.events)
+
+  turn_visits : (t : Trace T) (turn : Turn T) → t.world.kind ≡ kinds.Container → refusal_of t.world turn ≡ None → IsReached t
+      → Each VisitsRight t.events → Each VisitsRight (after_turn t turn).events
+  turn_visits t turn is free r h =
+      let turns = container_keeps.turn t turn is free r in
+      let tells : container_promises.TellsRight t turn (after_turn t turn) =
+      subst (λ kind. (promise_of {T = T} kind).tells t turn (after_turn t turn)) is turns.tells in
+      one_turn (promise_of t.world.kind) t (after_turn t turn) turn turns.events tells.visits h
+
+  run_visits : (t : Trace T) → t.world.kind ≡ kinds.Container → IsReached t → Each VisitsRight t.events
+  run_visits t is r =
+      (kept_by_runs HasVisited
+      (λ u turn free h. (
+        reached_more u turn free h.0,
+        λ same. turn_visits u turn (sym (turn_making u.world turn).kind ∙ same) free h.0 (h.1 (sym (turn_making u.world turn).kind ∙ same)),
+      ))
+      t
+      (λ queue queued. (
+        record { coded = r.coded; admitted = r.admitted; queue = queue; queued = queued; turns = []; is = refl },
+        λ same. Each-nil VisitsRight,
+      ))
+      r).1 is
+
+  -- ---- as the headline says it
+
+  -- the call that wrote it was under way
+  open_recovery : (Stands : Span T → Type 0) → (Stands Never → ⊥)
+      → ((start : Start T) (answer : Answer T) (wrote : List (Event T)) → Stands (Ended start answer wrote) → ⊥)
+      → (owner : ℕ) (mode : ReleaseMode) (span : Span T) → Stands span → call_in span ≡ Some (Container (Recover owner mode)) → IsRecovery span
+  open_recovery Stands never ended owner mode Never h call = absurd (never h)
+  open_recovery Stands never ended owner mode (Open start wrote) h call =
+      let is : start ≡ Container (Recover owner mode) = cc in
+      subst (λ (s : Start T). IsRecovery (Open s wrote)) (sym is) tt
+  open_recovery Stands never ended owner mode (Ended start answer wrote) h call = absurd (ended start answer wrote h)
+
+  pub visits_unlocked : (t : Trace T) → t.world.kind ≡ kinds.Container → IsReached t → IsKeptBy container_promises.promise t
+      → (p owner : ℕ) (mode : ReleaseMode) (e : Event T) (before : List (Event T)) → IsVisit p e → Follows e before t.events
+      → call_in (span_of p before) ≡ Some (Container (Recover owner mode))
+      → HeldSometime p IsUnlocked before
+  visits_unlocked t is r kept p owner mode (Copied q index value) before its at call =
+      let here : call_in (span_of q before) ≡ Some (Container (Recover owner mode)) = rw its call in
+      subst (λ n. HeldSometime n IsUnlocked before) its
+      (run_visits t is r before at.0 (Copied q index value) at.1
+      (open_recovery (may_stand (Copied q index value)) (λ h. h) (λ start answer wrote h. h) owner mode (span_of q before)
+      (kept.spans before at.0 (Copied q index value) at.1) here))
+  visits_unlocked t is r kept p owner mode (Shown q index) before its at call =
+      let here : call_in (span_of q before) ≡ Some (Container (Recover owner mode)) = rw its call in
+      subst (λ n. HeldSometime n IsUnlocked before) its
+      (run_visits t is r before at.0 (Shown q index) at.1
+      (open_recovery (may_stand (Shown q index)) (λ h. h) (λ start answer wrote h. h) owner mode (span_of q before)
+      (kept.spans before at.0 (Shown q index) at.1) here))
+  visits_unlocked t is r kept p owner mode (FreedOf q index of) before its at call =
+      let here : call_in (span_of q before) ≡ Some (Container (Recover owner mode)) = rw its call in
+      subst (λ n. HeldSometime n IsUnlocked before) its
+      (run_visits t is r before at.0 (FreedOf q index of) at.1
+      (open_recovery (may_stand (FreedOf q index of)) (λ h. h) (λ start answer wrote h. h) owner mode (span_of q before)
+      (kept.spans before at.0 (FreedOf q index of) at.1) here))
+  visits_unlocked t is r kept p owner mode e before its at call = absurd its

@@ -1,0 +1,164 @@
+-- For each field of what `headline` says of a look at a container that ends a turn that this field refuses here.
+use Rattle.std.proofs.Common.{◌≡◌, ℕ, ◌==◌, Bool, true, false, Some, List, [], ◌∷◌, ◌++◌, if◌then◌else◌, refl, arith}
+use Rattle.steps.specs.declared.container.state.ContainerState.{ContainerState}
+use Rattle.model.specs.declared.event.Answer.TheVariants.{Index, Number, Truth}
+use Rattle.model.specs.declared.event.Event.{Event}
+use Rattle.model.specs.declared.event.Event.TheVariants.{Begun, Filled, Granted, Placed, Finished}
+use Rattle.model.specs.declared.event.Start.{Start}
+use Rattle.model.specs.declared.event.Start.TheVariants.{Container}
+use Rattle.model.specs.declared.families.Registry.TheVariants as registries
+use Rattle.model.specs.declared.families.container.ContainerStart.TheVariants.{Add, GetState, UpdateState}
+use Rattle.model.specs.declared.party.Doing.TheVariants.{Over}
+use Rattle.model.specs.declared.party.Party.{Party}
+use Rattle.model.specs.declared.turn.Kind.TheVariants as kinds
+use Rattle.model.specs.declared.turn.Turn.TheVariants.{Next}
+use Rattle.model.specs.Families.Container.Looks.{StoodThrough, WasAlone, WasAnnounced}
+use Rattle.model.specs.Families.Container.Promises.{IsWellFormedRun, ReplacesRight}
+use Rattle.model.specs.Families.Container.Reading.{Copies, contents_of}
+use Rattle.model.specs.Families.Indices.Robust.Promises.{FreesRight}
+use Rattle.model.specs.Reading.{Each, Never}
+use Rattle.model.specs.Shape.{IsShut}
+use Rattle.model.specs.World.{Trace}
+use Rattle.model.proofs.Readings.{Each-append, Each-nil, no_more}
+use Rattle.headline.specs.Headline.{Takes}
+use Rattle.wrong_runs.proofs.Container.{still}
+use Rattle.wrong_runs.proofs.Machines.{machine, at_no_moment, throughout}
+
+abbrev look : Start ℕ
+look = Container GetState
+
+abbrev update : Start ℕ
+update = Container UpdateState
+
+abbrev add : Start ℕ
+add = Container (Add 5 7)
+
+-- a container in which party 1 has this state, if any, and has taken so many steps in its latest call
+abbrev of_party : List (ℕ × ContainerState ℕ) → List (ℕ × Party ℕ) → List (Event ℕ) → Trace ℕ
+of_party states latest events =
+    record {
+      world = record (machine kinds.Container still (registries.Container [] states) events).world { latest = latest };
+      events = events;
+    }
+
+-- a state that shows under this number the value 5 at index 0, and nothing at index 1
+abbrev state : ℕ → ContainerState ℕ
+state count =
+    record {
+      container = 0;
+      capacity = 2;
+      seen = record { change = 0; counts = 0 ∷ 0 ∷ [] };
+      shown =
+          record {
+            change = 0;
+            elements = record { count = count; value = 5 } ∷ record { count = 0; value = 0 } ∷ [];
+            copy = [];
+          };
+    }
+
+abbrev showing : ℕ → List (Event ℕ) → Trace ℕ
+showing count events = of_party ((1, state count) ∷ []) [] events
+
+-- a look leaves no state
+leaves_none : Takes (of_party [] [] (Begun 1 look ∷ [])) (Next 1) (of_party [] [] (Begun 1 look ∷ Finished 1 look (Number 0) ∷ [])) → ⊥
+leaves_none k = let e = (k.looked refl).leaves 1 GetState (Number 0) tt ([], refl) in cc
+
+-- ---- in a well-formed run
+
+well : (t : Trace ℕ) → t.world.latest ≡ [] → Each FreesRight t.events → Each ReplacesRight t.events → IsWellFormedRun t
+well t none frees replaced = record { frees = frees; replaced = replaced; replaces = λ p. rw none tt }
+
+-- an add has ended before the look began, and its value is not shown
+abbrev added : List (Event ℕ)
+added = Begun 0 add ∷ Filled 0 0 7 ∷ Granted 0 0 7 ∷ Placed 0 0 5 ∷ Finished 0 add (Index 0) ∷ []
+
+abbrev missed : List (Event ℕ)
+missed = (added ++ Begun 1 look ∷ []) ++ Finished 1 look (Number 0) ∷ []
+
+missed_well : IsWellFormedRun (showing 0 missed)
+missed_well =
+    well (showing 0 missed) refl (Each-append FreesRight [] missed (Each-nil FreesRight) (tt, (tt, (tt, (tt, (tt, (tt, (tt, tt))))))))
+    (Each-append ReplacesRight [] missed (Each-nil ReplacesRight) (tt, (tt, (tt, (tt, (tt, (tt, (tt, tt))))))))
+
+announced : WasAnnounced 1 0 missed
+announced = record { before = added; start = look; since = Finished 1 look (Number 0) ∷ []; is = refl; within = tt; holds = refl }
+
+stands : StoodThrough 1 0 5 missed
+stands = throughout 1 look (λ part. contents_of 0 part ≡ Some 5) added (Finished 1 look (Number 0) ∷ []) (refl, refl)
+
+misses : Takes (of_party [] [] (added ++ Begun 1 look ∷ [])) (Next 1) (showing 0 missed) → ⊥
+misses k = let e = (k.looked refl).stood missed_well 1 0 5 GetState (Number 0) (state 0) tt ([], refl) refl announced stands in cc
+
+-- no other call is under way, and a value that stands is not shown
+abbrev standing : List (Event ℕ)
+standing = Placed 0 0 5 ∷ []
+
+abbrev overlooked : List (Event ℕ)
+overlooked = (standing ++ Begun 1 look ∷ []) ++ Finished 1 look (Number 0) ∷ []
+
+overlooked_well : IsWellFormedRun (showing 0 overlooked)
+overlooked_well =
+    well (showing 0 overlooked) refl (Each-append FreesRight [] overlooked (Each-nil FreesRight) (tt, (tt, (tt, tt))))
+    (Each-append ReplacesRight [] overlooked (Each-nil ReplacesRight) (tt, (tt, (tt, tt))))
+
+none_began : (b : Bool) → IsShut {T = ℕ} (if b then Never else Never)
+none_began true = tt
+none_began false = tt
+
+was_alone : WasAlone 1 overlooked
+was_alone =
+    record {
+      before = standing;
+      start = look;
+      since = Finished 1 look (Number 0) ∷ [];
+      is = refl;
+      within = tt;
+      holds = ((λ q other. none_began (0 == q)), (refl, tt));
+    }
+
+overlooks : Takes (of_party [] [] (standing ++ Begun 1 look ∷ [])) (Next 1) (showing 0 overlooked) → ⊥
+overlooks k = let e = (k.looked refl).alone overlooked_well 1 0 GetState (Number 0) (state 0) tt ([], refl) refl was_alone (omega arith) in cc
+
+-- an update answers true, and its state shows what stood at no moment of it
+abbrev beside : List (Event ℕ)
+beside = Begun 0 add ∷ Begun 1 update ∷ []
+
+abbrev imagined : List (Event ℕ)
+imagined = beside ++ Finished 1 update (Truth true) ∷ []
+
+imagined_well : IsWellFormedRun (showing 1 imagined)
+imagined_well =
+    well (showing 1 imagined) refl (Each-append FreesRight [] imagined (Each-nil FreesRight) (tt, (tt, (tt, tt))))
+    (Each-append ReplacesRight [] imagined (Each-nil ReplacesRight) (tt, (tt, (tt, tt))))
+
+imagines : Takes (showing 0 beside) (Next 1) (showing 1 imagined) → ⊥
+imagines k =
+    at_no_moment 1 (λ past. Some 5 ≡ contents_of 0 past) imagined ((λ e. cc), ((λ e. cc), ((λ e. cc), (λ e. cc))))
+    ((k.looked refl).moments imagined_well 1 0 (state 1) ([], refl) refl (omega arith))
+
+-- ---- in every run
+
+-- a new state shows a value that its call has not copied
+keeps_old : Takes (showing 1 (standing ++ Begun 1 look ∷ [])) (Next 1) (showing 1 (standing ++ Begun 1 look ∷ Finished 1 look (Number 1) ∷ [])) → ⊥
+keeps_old k =
+    let one = (k.looked refl).own 1 0 5 (Number 1) (state 1) ([], refl) refl refl in no_more one.before (Copies 0 5) one.after one.is
+
+-- a look answers another number than that of the values that its state shows
+counts_wrong : Takes (of_party [] [] (Begun 1 look ∷ [])) (Next 1) (showing 0 (Begun 1 look ∷ Finished 1 look (Number 1) ∷ [])) → ⊥
+counts_wrong k = let e = (k.looked refl).number 1 1 (state 0) ([], refl) refl in cc
+
+-- an update answers false, and has taken two steps, or has changed its state
+abbrev steps_in : ℕ → List (ℕ × Party ℕ)
+steps_in steps = (1, record { start = update; steps = steps; backs = 0; doing = Over 0 }) ∷ []
+
+abbrev begun : List (Event ℕ)
+begun = Begun 1 update ∷ []
+
+abbrev ended : List (Event ℕ)
+ended = begun ++ Finished 1 update (Truth false) ∷ []
+
+false_late : Takes (showing 0 begun) (Next 1) (of_party ((1, state 0) ∷ []) (steps_in 2) ended) → ⊥
+false_late k = let e = ((k.looked refl).at_once 1 ([], refl)).0 in absurd (omega arith)
+
+false_changes : Takes (of_party [] [] begun) (Next 1) (of_party ((1, state 0) ∷ []) (steps_in 1) ended) → ⊥
+false_changes k = let e = ((k.looked refl).at_once 1 ([], refl)).1 in cc
