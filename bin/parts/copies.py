@@ -8,6 +8,8 @@ TREE = os.path.realpath(os.path.join(os.path.dirname(os.path.realpath(__file__))
 PARTS = ("src", "specs", "proofs")
 LICENCES = ("LICENSE", "LICENSE-APACHE", "LICENSE-MIT")
 CALLING = ("crates/lock_free/CALLING.md", "crates/lock_free/CALLS.md")
+# of the bus, the loan channel, the pool and the slots, with their places in a copy
+USES = {"docs/BUS.md": "docs/BUS.md", "crates/uses_bus/CALLS.md": "docs/BUS_CALLS.md"}
 # texts of schedules are read by commands, which are not copied
 NOT_FOR_CALLERS = ("docs/SCHEDULE.md",)
 MARK = "PAGLUNET"
@@ -87,14 +89,14 @@ def renamed(text, kind, names, prefix):
 def pages(goals, at):
     """Returns the pages for callers, by their paths in this tree, with their places in the folder of the crate `at`."""
     found = [*CALLING] if at.startswith("lock_free") else []
-    found += ["docs/BUS.md"] if [it for it in goals if it.startswith("uses_")] else []
+    found += [*USES] if [it for it in goals if it.startswith("uses_")] else []
     found = [it for it in found if os.path.isfile(f"{TREE}/{it}")]
     for page in found if at.startswith("lock_free") else []:
         for link in re.findall(r"\]\(([^)\s#]+)", text_of(f"{TREE}/{page}")):
             to = os.path.normpath(os.path.join(os.path.dirname(page), link))
             if re.fullmatch(r"docs/[\w-]+\.md", to) and to not in (*found, *NOT_FOR_CALLERS) and os.path.isfile(f"{TREE}/{to}"):
                 found.append(to)
-    return {it: os.path.basename(it) if it in CALLING else it for it in found}
+    return {it: os.path.basename(it) if it in CALLING else USES.get(it, it) for it in found}
 
 
 def page_text(page, places, names, prefix):

@@ -1,0 +1,3 @@
+//! The loan channel and the pool of BUS.md.
+mod channel;
+mod pool;

@@ -1,0 +1,53 @@
+//! A loan channel between two threads: what BUS.md shows.
+
+use std::sync::Wait;
+use std::test::Fail;
+use std::thread;
+use uses_loans::channel::Channel;
+use uses_loans::receiver::Receiver;
+use uses_loans::sender::Sender;
+
+/// Sends ten values, each of which is full of its number. Returns how many it sent.
+fn send(rt: &impl Wait, sender: &mut Sender<'_, Vec<u8>>) -> u8 {
+    for number in 0..10u8 {
+        sender.take_back();
+        let Ok(mut loan) = sender.loan(rt) else {
+            return number;
+        };
+        loan.value.fill(number);
+        sender.send(loan);
+    }
+    10
+}
+
+/// Reads values until the last one comes. A receiver that is slow misses the oldest.
+fn receive(rt: &impl Wait, receiver: &mut Receiver<'_, Vec<u8>>) -> Option<u8> {
+    for _ in rt.forever() {
+        if let Some(sample) = receiver.receive(rt) {
+            let first = *receiver.read(&sample)?.get().first()?;
+            receiver.give_back(sample);
+            if first == 9 {
+                return Some(first);
+            }
+        }
+    }
+    None
+}
+
+#[test]
+fn one_sends_to_one(rt: HostRuntime) -> Result<(), Fail> {
+    let (places, queue) = (4, 2);
+    let mut channel = Channel::new(rt.alloc(), places, queue)?;
+    let mut values = Vec::new(rt.alloc());
+    for _ in 0..places + 1 {
+        values.push(vec![in rt.alloc(); 0u8; 4096]?)?;
+    }
+    let (mut sender, mut receiver) = channel.ends(rt.alloc(), values).ok_or("no ends")?;
+    let (sent, received) = thread::join(
+        &rt,
+        || send(&rt, &mut sender),
+        || receive(&rt, &mut receiver),
+    );
+    assert!(rt; sent == 10 && received == Some(9));
+    Ok(())
+}
