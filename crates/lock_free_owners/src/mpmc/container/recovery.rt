@@ -1,7 +1,7 @@
-//! The call that frees the indices of an owner who is dead for good, which is the caller's concern. It asks nothing of
-//! a container that is locked at first, and ends if it meets the lock after a free. In mode `LockIfLastIndex` it locks
-//! the container if no index has an owner after a free. It always counts as a change. That it asks about values of the
-//! owner alone is tested; `laws` says when each copy is whole.
+//! Frees the indices of an owner whom the caller takes for dead. It asks nothing of a container that is locked at
+//! first, and ends if it meets the lock. In mode `LockIfLastIndex` it locks the container if no index
+//! has an owner after a free. The value that it asks about can be of another owner, who lives: if another call freed the
+//! index meanwhile, or a remove freed it and has not hidden its value yet (docs/MISTAKES.md).
 ghost use Rattle.std.specs.Prelude.{◌≡◌, ◌+◌, ◌<◌, ℕ, false, []};
 ghost use Rattle.steps.specs.Container.Recover.{first_recover};
 ghost use Rattle.steps.specs.Copied.{value_in};
@@ -254,12 +254,11 @@ fn free_all<T: Words, F: FnMut(T) -> bool>(
 }
 
 impl<T: Words> Container<T> {
-    /// Asks `predicate` about a copy of each value of a dead `owner`, and frees the index if told to. By ascending
-    /// index, if `owner` still has it; one without a value is freed unasked.
+    /// Asks `predicate` about the value at each index of `owner`, and frees the index if told to. By ascending index, if
+    /// `owner` still has it; one without a value is freed unasked. The value can be another owner's.
     ///
-    /// `Locked` if the container is locked; else `Unlocked`: it came to each index that he had through the call. Alone
-    /// at most 3 and for each index 7 + `T::WORDS` steps, in mode `LockIfLastIndex` capacity + 3 more for each. After
-    /// `recover` of the Rust crate.
+    /// `Locked` if locked; else `Unlocked`: it came to each index that he had through the call. Alone at most 3 and
+    /// for each index 7 + `T::WORDS` steps, in mode `LockIfLastIndex` capacity + 3 more for each. After the Rust crate.
     pub fn recover<F: FnMut(T) -> bool>(
         &self,
         rt: &impl Wait,

@@ -182,10 +182,10 @@ fn find_all<F: FnMut(usize) -> CallbackProgression>(
 }
 
 impl RobustUniqueIndexSet {
-    /// Calls `visit` with indices of `owner` until `visit` returns `Stop`, and returns how many it visited. They
-    /// ascend, each at most once and below the capacity. Each had the owner at a moment of the call, and each that has
-    /// him through the whole call is visited, up to a `Stop`. An index may have been given back by the time of its
-    /// visit.
+    /// Calls `visit` with indices of `owner` until it returns `Stop`, and returns how many it visited. They ascend, each
+    /// at most once and below the capacity. Each had the owner at a moment of the call, and each that has him
+    /// through the whole call is visited, up to a `Stop`. Do not release what it visits: it may be given back, or
+    /// its acquire be pending.
     ///
     /// At most capacity + 1 atomic steps. After `find` of the Rust crate.
     pub fn find<F: FnMut(usize) -> CallbackProgression>(

@@ -110,8 +110,8 @@ impl<E: Kind, T: Words> Ring<E, T> {
         pass.token.is_empty(rt)
     }
 
-    /// Returns whether as many values as the capacity waited at one moment of the call. As many atomic steps as `len`.
-    /// After `is_full` of the Rust crate.
+    /// Returns whether as many values as the capacity waited at one moment of the call. In an overflowing queue one more
+    /// can wait, and then it returns false. As many atomic steps as `len`. After `is_full` of the Rust crate.
     pub fn is_full(&self, rt: &impl Wait, pass: &mut Pass<E, T>) -> bool
         requires { IsPassOf self.now pass.old }
         ensures same { SamePass pass.old pass.new }
