@@ -1,7 +1,7 @@
 //! A publisher and three subscribers side by side: one is slow, one dies with slots in hand, and one joins late.
 ghost use Rattle.std.specs.Prelude.{◌≡◌, IfSome};
 
-use crate::bus::limit::{ENOUGH, Limit, SECONDS};
+use crate::bus::limit::{Enough, Limit};
 use crate::bus::words::{OwnNumber, Words, spares, text_of, writes_text};
 use lock_free::mpmc::container::OwnerId;
 use std::alloc::Global;
@@ -18,11 +18,17 @@ use uses_bus::numbers::Sequence;
 use uses_bus::publisher::{Loan, Publisher};
 use uses_bus::subscriber::{Sample, Seat, Subscriber};
 
-/// How many records are published, where there is time.
-const RECORDS: u64 = 100_000;
-
 /// Before which record the late one joins, and the dead one has died.
 const MIDDLE: u64 = 1_000;
+
+/// How many records are published at least, and how many where there is time.
+const LEAST: u64 = 2_000;
+
+const RECORDS: u64 = 100_000;
+
+/// After which of the least records the publisher waits until the slow one, and later the late one, has got one more: each
+/// one of so many.
+const EVERY: u64 = 16;
 
 /// How many records the one who dies keeps in hand.
 const KEPT: u64 = 3;
@@ -45,6 +51,9 @@ struct Shared {
     dead: AtomicU64,
     left: AtomicU64,
     is_over: AtomicU64,
+    /// How many records came to the slow one, and to the late one.
+    slow: AtomicU64,
+    late: AtomicU64,
 }
 
 impl Drop for Shared {
@@ -55,18 +64,20 @@ impl Drop for Shared {
             dead: _dead,
             left: _left,
             is_over: _is_over,
+            slow: _slow,
+            late: _late,
         } = self;
     }
 }
 
 /// Waits until it is so many. False at the limit.
-fn waits_for(rt: &impl Clock, told: &AtomicU64, least: u64) -> bool {
-    let mut limit = Limit::new(rt, SECONDS);
+fn waits_for(told: &AtomicU64, least: u64) -> bool {
+    let mut limit = Limit::new();
     for _ in 0..u64::MAX {
         if told.load(Ordering::SeqCst) >= least {
             return true;
         }
-        if !limit.waits(rt) {
+        if !limit.waits() {
             return false;
         }
     }
@@ -75,16 +86,16 @@ fn waits_for(rt: &impl Clock, told: &AtomicU64, least: u64) -> bool {
 
 /// A free slot, as soon as there is one. None at the limit.
 fn next_loan<'a>(
-    rt: &(impl Wait + Clock),
+    rt: &impl Wait,
     publisher: &mut Publisher<'a, Words, OwnNumber>,
 ) -> Option<Loan<'a, Words, OwnNumber>> {
-    let mut limit = Limit::new(rt, SECONDS);
+    let mut limit = Limit::new();
     for _ in 0..u64::MAX {
         if let Ok(loan) = publisher.loan(rt) {
             return Some(loan);
         }
         publisher.collect();
-        if !limit.waits(rt) {
+        if !limit.waits() {
             return None;
         }
     }
@@ -119,7 +130,7 @@ fn publishes_next<'a>(
 
 /// Publishes a record of this number, tells of it, and takes back what has been given back.
 fn publish(
-    rt: &(impl Wait + Clock),
+    rt: &impl Wait,
     publisher: &mut Publisher<'_, Words, OwnNumber>,
     notifier: &mut Notifier<'_>,
     number: u64,
@@ -136,27 +147,51 @@ fn publish(
     true
 }
 
-/// Publishes these records, or as many as it can until it is enough: how many.
-fn publish_all(
-    rt: &(impl Wait + Clock),
+/// Publishes these records, and waits at some of them until this one has got one more: whether all went well.
+fn publish_least(
+    rt: &impl Wait,
     publisher: &mut Publisher<'_, Words, OwnNumber>,
     notifier: &mut Notifier<'_>,
     first: u64,
     end: u64,
+    came: &AtomicU64,
+    shared: &Shared,
+) -> bool {
+    for number in first..end {
+        let before = came.load(Ordering::SeqCst);
+        if !publish(rt, publisher, notifier, number) {
+            return false;
+        }
+        shared
+            .published
+            .store(number.wrapping_add(1), Ordering::SeqCst);
+        if number % EVERY == 0 && !waits_for(came, before.wrapping_add(1)) {
+            return false;
+        }
+    }
+    true
+}
+
+/// Publishes records from the least on, as many as it can until it is enough: how many there are then.
+fn publish_more(
+    rt: &(impl Wait + Clock),
+    publisher: &mut Publisher<'_, Words, OwnNumber>,
+    notifier: &mut Notifier<'_>,
     shared: &Shared,
 ) -> u64 {
-    let mut enough = Limit::new(rt, ENOUGH);
-    for number in first..end {
-        if !publish(rt, publisher, notifier, number) || !enough.has_time(rt) {
+    let mut enough = Enough::new(rt);
+    for number in LEAST..RECORDS {
+        if !enough.has_time(rt) || !publish(rt, publisher, notifier, number) {
             return number;
         }
-        let next = number.wrapping_add(1);
-        shared.published.store(next, Ordering::SeqCst);
-        if number % 16 == 0 {
+        shared
+            .published
+            .store(number.wrapping_add(1), Ordering::SeqCst);
+        if number % EVERY == 0 {
             thread::yield_now();
         }
     }
-    end
+    RECORDS
 }
 
 /// What the publisher tells of a run: how many records he published, and how many slots were out. He counts those once one
@@ -176,18 +211,23 @@ fn publishes(
     dead: OwnerId,
     shared: &Shared,
 ) -> Option<Published> {
-    if !waits_for(rt, &shared.joined, 2) {
+    if !waits_for(&shared.joined, 2) {
         return None;
     }
-    publish_all(rt, publisher, notifier, 0, MIDDLE, shared);
-    if !waits_for(rt, &shared.dead, 1) || !waits_for(rt, &shared.joined, 3) {
+    if !publish_least(rt, publisher, notifier, 0, MIDDLE, &shared.slow, shared) {
+        return None;
+    }
+    if !waits_for(&shared.dead, 1) || !waits_for(&shared.joined, 3) {
         return None;
     }
     let out_at_death = publisher.borrowed();
     publisher.recover(rt, dead);
-    let number = publish_all(rt, publisher, notifier, MIDDLE, RECORDS, shared);
+    if !publish_least(rt, publisher, notifier, MIDDLE, LEAST, &shared.late, shared) {
+        return None;
+    }
+    let number = publish_more(rt, publisher, notifier, shared);
     shared.is_over.store(1, Ordering::SeqCst);
-    if !waits_for(rt, &shared.left, 2) {
+    if !waits_for(&shared.left, 2) {
         return None;
     }
     publisher.update(rt);
@@ -229,17 +269,17 @@ fn number_of(subscriber: &Subscriber<'_, Words, OwnNumber>, sample: &Sample) -> 
 
 /// Receives what comes next. None where it is over and nothing comes any more, and at the limit.
 fn next(
-    rt: &(impl Wait + Clock),
+    rt: &impl Wait,
     subscriber: &mut Subscriber<'_, Words, OwnNumber>,
     shared: &Shared,
 ) -> Option<Sample> {
-    let mut limit = Limit::new(rt, SECONDS);
+    let mut limit = Limit::new();
     for _ in 0..u64::MAX {
         let is_over = shared.is_over.load(Ordering::SeqCst) == 1;
         if let Some(sample) = subscriber.receive(rt) {
             return Some(sample);
         }
-        if is_over || !limit.waits(rt) {
+        if is_over || !limit.waits() {
             return None;
         }
     }
@@ -261,12 +301,13 @@ fn number_still(
     Some(found)
 }
 
-/// Receives records until it is over, reads each so often more, and gives it back: how many came. None where one was torn or
-/// did not come in order.
+/// Receives records until it is over, reads each so often more, and gives it back: how many came, which it also tells as they
+/// come. None where one was torn or did not come in order.
 fn receives(
-    rt: &(impl Wait + Clock),
+    rt: &impl Wait,
     subscriber: &mut Subscriber<'_, Words, OwnNumber>,
     looks: u64,
+    came: &AtomicU64,
     shared: &Shared,
 ) -> Option<u64> {
     let (mut number, mut numbers) = (0u64, Sequence::from(0));
@@ -280,25 +321,27 @@ fn receives(
             return None;
         }
         number = number.wrapping_add(1);
+        came.store(number, Ordering::SeqCst);
     }
     None
 }
 
 /// Joins once so many records have been published, receives, and leaves: how many records came.
 fn subscribes(
-    rt: &(impl Wait + Clock),
+    rt: &impl Wait,
     seat: Seat<'_, Words, OwnNumber>,
     owner: OwnerId,
     joins_at: u64,
     looks: u64,
+    came: &AtomicU64,
     shared: &Shared,
 ) -> Option<u64> {
-    if !waits_for(rt, &shared.published, joins_at) {
+    if !waits_for(&shared.published, joins_at) {
         return None;
     }
     let mut subscriber = seat.join(rt, owner).ok()?;
     shared.joined.fetch_add(1, Ordering::SeqCst);
-    let number = receives(rt, &mut subscriber, looks, shared)?;
+    let number = receives(rt, &mut subscriber, looks, came, shared)?;
     subscriber.leave(rt).ok()?;
     shared.left.fetch_add(1, Ordering::SeqCst);
     Some(number)
@@ -306,7 +349,7 @@ fn subscribes(
 
 /// Joins, and dies with so many records in hand.
 fn dies(
-    rt: &(impl Wait + Clock),
+    rt: &impl Wait,
     seat: Seat<'_, Words, OwnNumber>,
     owner: OwnerId,
     shared: &Shared,
@@ -349,12 +392,12 @@ fn run<R: Threads + Wait + Clock + Sync>(
         move || thread::join(
             rt,
             move || publishes(rt, publisher, notifier, second, shared),
-            move || subscribes(rt, slow, first, 0, LOOKS, shared),
+            move || subscribes(rt, slow, first, 0, LOOKS, &shared.slow, shared),
         ),
         move || thread::join(
             rt,
             move || dies(rt, dead, second, shared),
-            move || subscribes(rt, late, third, MIDDLE, 0, shared),
+            move || subscribes(rt, late, third, MIDDLE, 0, &shared.late, shared),
         ),
     );
     died?;
@@ -378,6 +421,8 @@ fn run_with<R: Threads + Wait + Clock + Sync>(
         dead: AtomicU64::new(0),
         left: AtomicU64::new(0),
         is_over: AtomicU64::new(0),
+        slow: AtomicU64::new(0),
+        late: AtomicU64::new(0),
     };
     let seats = (publisher.seat()?, publisher.seat()?, publisher.seat()?);
     run(rt, publisher, notifier, seats, owners, &shared)
@@ -414,13 +459,13 @@ fn run_anew<R: Threads + Wait + Clock + Sync>(
 #[test]
 fn all_slots_are_free_in_the_end(rt: HostRuntime) -> Result<(), Fail> {
     let owners = [OwnerId::new(1)?, OwnerId::new(2)?, OwnerId::new(3)?];
-    let (came, is_told) = run_anew(&rt, rt.alloc(), owners)?.ok_or("no time")?;
+    let (came, is_told) = run_anew(&rt, rt.alloc(), owners)?.ok_or("one gave up")?;
     let number = came.published.number;
     assert_eq!(rt; came.published.out, 0);
     assert!(rt; came.published.out_at_death >= KEPT as usize);
-    assert!(rt; number > MIDDLE);
-    assert!(rt; came.slow > 0 && came.slow <= number);
-    assert!(rt; came.late > 0 && came.late <= number - MIDDLE);
+    assert!(rt; number >= LEAST);
+    assert!(rt; came.slow >= MIDDLE / EVERY && came.slow <= number);
+    assert!(rt; came.late >= (LEAST - MIDDLE) / EVERY && came.late <= number - MIDDLE);
     assert!(rt; is_told);
     Ok(())
 }
