@@ -11,3 +11,4 @@ pub mod order;
 pub mod sole;
 pub mod totals;
 pub mod twice;
+pub mod wrong;
