@@ -1,7 +1,6 @@
 -- For fields of what contracts of threads say a history that this field refuses here.
-use Rattle.std.proofs.Common.{◌≡◌, ◌≤◌, ◌<◌, ◌⊎◌, ⊎_elim, ℕ, zero, suc, Bool, Some, None, List, [], ◌∷◌, ◌++◌, refl, ap, subst, ◌∙◌, append_assoc, arith}
+use Rattle.std.proofs.Common.{◌≡◌, ◌≤◌, ◌<◌, ⊎_elim, ℕ, Some, None, List, [], ◌∷◌, ◌++◌, refl, ap, subst, ◌∙◌, append_assoc, arith}
 use Rattle.std.specs.List.{FoldsTo}
-use Rattle.steps.specs.Objects.Lists.{Bounded}
 use Rattle.model.specs.declared.event.Answer.TheVariants.{State}
 use Rattle.model.specs.declared.event.Event.{Event}
 use Rattle.model.specs.declared.event.Event.TheVariants.{Begun, Published, HandedOut, FreedOf, Locked, Asked, Told, Finished}
@@ -23,7 +22,7 @@ use Rattle.lock_free.specs.Robust.Contracts.{HasRecovered}
 use Rattle.lock_free.specs.Share.{Share}
 use Rattle.lock_free.specs.Shares.{all_shares}
 use Rattle.uses_laws.specs.Wrong.{first, having_seen, took_the_second, knows_of_one, nothing_left, stays, same_party}
-use Rattle.uses_laws.specs.Wrong.{never_asked, may_be_asked, never_told, recovering, asked_of_one, freed_one}
+use Rattle.uses_laws.specs.Wrong.{never_asked, may_be_asked, never_told, asked_of_one, freed_one}
 
 -- ---- a pop of an overflowing queue
 
