@@ -7,3 +7,4 @@ pub mod Shared
 pub mod Drained
 pub mod Full
 pub mod Whole
+pub mod WrongHistories

@@ -5,3 +5,4 @@ pub mod Order
 pub mod Leases
 pub mod Sums
 pub mod Copies
+pub mod Wrong

@@ -12,3 +12,4 @@ pub mod order;
 pub mod sole;
 pub mod totals;
 pub mod twice;
+pub mod wrong;

@@ -1,0 +1,185 @@
+-- For fields of what contracts of threads say a history that this field refuses here.
+use Rattle.std.proofs.Common.{◌≡◌, ◌≤◌, ◌<◌, ⊎_elim, ℕ, Some, None, List, [], ◌∷◌, ◌++◌, refl, ap, subst, ◌∙◌, append_assoc, arith}
+use Rattle.std.specs.List.{FoldsTo}
+use Rattle.model.specs.declared.event.Answer.TheVariants.{State}
+use Rattle.model.specs.declared.event.Event.{Event}
+use Rattle.model.specs.declared.event.Event.TheVariants.{Begun, Published, HandedOut, FreedOf, Locked, Asked, Told, Finished}
+use Rattle.model.specs.declared.event.Item.{Item}
+use Rattle.model.specs.declared.event.Item.TheVariants.{Index}
+use Rattle.model.specs.declared.event.Start.TheVariants.{Robust}
+use Rattle.model.specs.declared.families.indices.robust.RobustStart.TheVariants.{Recover}
+use Rattle.model.specs.Families.Queues.Reading.{waiting}
+use Rattle.model.proofs.Readings.{no_more}
+use Rattle.history.specs.Robust.{Visit, Came, HasAsked, WasTold, HasFreed, HasLocked, visit, wrote_to, wrote_by}
+use Rattle.lock_free.specs.HistoryView.View.{View}
+use Rattle.lock_free.specs.Passes.{HasSplit}
+use Rattle.lock_free.specs.Queues.Closes.{Closes}
+use Rattle.lock_free.specs.Queues.Contracts.{HasTakenFirst}
+use Rattle.lock_free.specs.ReleaseMode.TheVariants.{Default}
+use Rattle.lock_free.specs.ReleaseState.TheVariants.{Unlocked}
+use Rattle.lock_free.specs.Robust.Callable.{asks, tells, questions_of, freed_of}
+use Rattle.lock_free.specs.Robust.Contracts.{HasRecovered}
+use Rattle.lock_free.specs.Share.{Share}
+use Rattle.lock_free.specs.Shares.{all_shares}
+use Rattle.uses_laws.specs.Wrong.{first, having_seen, took_the_second, knows_of_one, nothing_left, stays, same_party}
+use Rattle.uses_laws.specs.Wrong.{never_asked, may_be_asked, never_told, asked_of_one, freed_one}
+
+-- ---- a pop of an overflowing queue
+
+-- it has taken out the second of two
+second_out : (before after : List (Event ℕ)) (by : ℕ) (rest : List (Item ℕ))
+    → took_the_second.seen ≡ before ++ HandedOut by (Index 8) ∷ after
+    → waiting before ≡ Index 8 ∷ rest
+    → ⊥
+second_out [] after by rest is oldest = cc
+second_out (a ∷ []) after by rest is oldest = cc
+second_out (a ∷ b ∷ []) after by rest is oldest =
+    let one : a ≡ Published 0 (Index 7) = cc in
+    let two : b ≡ Published 0 (Index 8) = cc in
+    let waits = subst (λ (x : Event ℕ). waiting (Published 0 (Index 7) ∷ x ∷ []) ≡ Index 8 ∷ rest) two
+    (subst (λ (x : Event ℕ). waiting (x ∷ b ∷ []) ≡ Index 8 ∷ rest) one oldest) in
+    cc
+second_out (a ∷ b ∷ c ∷ before) after by rest is oldest =
+    let none : [] ≡ before ++ HandedOut by (Index 8) ∷ after = cc in no_more before (HandedOut by (Index 8)) after none
+
+pub takes_the_second : HasTakenFirst (Index 8) first took_the_second → ⊥
+takes_the_second k = second_out k.before k.after k.by k.rest k.is k.oldest
+
+-- it has taken out what was out before
+seen_before : (before after rest : List (Event ℕ)) (by : ℕ) → took_the_second.seen ≡ before ++ HandedOut by (Index 8) ∷ after
+    → before ≡ took_the_second.seen ++ rest
+    → ⊥
+seen_before before after rest by is since =
+    let longer : took_the_second.seen ≡ (took_the_second.seen ++ rest) ++ HandedOut by (Index 8) ∷ after =
+    subst (λ (es : List (Event ℕ)). took_the_second.seen ≡ es ++ HandedOut by (Index 8) ∷ after) since is
+    in
+    let none : [] ≡ rest ++ HandedOut by (Index 8) ∷ after = cc in
+    no_more rest (HandedOut by (Index 8)) after none
+
+takes_again : HasTakenFirst (Index 8) took_the_second took_the_second → ⊥
+takes_again k = seen_before k.before k.after k.since.rest k.by k.is k.since.is
+
+-- ---- a close
+
+-- the list is without a number that waits
+pub loses_one : Closes Index 2 knows_of_one nothing_left → ⊥
+loses_one k = ⊎_elim (λ (below : 0 < 0). absurd (omega arith)) (λ there. let e = there.1 in cc) (k.published_there 0 7 refl)
+
+-- it begins at what was taken out
+keeps_taken : Closes Index 2 took_the_second nothing_left → ⊥
+keeps_taken k = let e : 1 ≤ 0 = k.taken in absurd (omega arith)
+
+-- it has another capacity
+grows : Closes {T = ℕ} Index 3 first nothing_left → ⊥
+grows k = let e = k.same in cc
+
+-- it has a number that was never pushed, and the pass knows all
+invents : Closes {T = ℕ} Index 2 first (record nothing_left { values = 7 ∷ [] }) → ⊥
+invents k = let e = (k.whole refl).1 in cc
+
+-- ---- a split
+
+pub takes_the_party : HasSplit first stays same_party → ⊥
+takes_the_party k = let e = k.right_party in cc
+
+-- the new pass has seen more or has made something, or keeps the whole share
+abbrev new : View ℕ
+new = record stays { party = None }
+
+sees_more : HasSplit first stays (record new { seen = Locked 0 ∷ [] }) → ⊥
+sees_more k = let e = k.right_seen in cc
+
+has_made : HasSplit first stays (record new { made = Locked 0 ∷ [] }) → ⊥
+has_made k = let e = k.right_made in cc
+
+has_all : HasSplit first stays (record new { share = all_shares }) → ⊥
+has_all k = let e = ap (λ (s : Share). s.parts) k.right_share in cc
+
+-- the other one has forgotten what it saw, what it made or its party, or keeps the whole share
+forgets_seen : HasSplit (having_seen (Locked 0 ∷ [])) stays (record new { seen = Locked 0 ∷ [] }) → ⊥
+forgets_seen k = let e = k.seen in cc
+
+forgets_made : HasSplit (record first { made = Locked 0 ∷ [] }) stays new → ⊥
+forgets_made k = let e = k.made in cc
+
+forgets_party : HasSplit first new new → ⊥
+forgets_party k = let e = k.party in cc
+
+keeps_all : HasSplit first first new → ⊥
+keeps_all k = let e = k.share in cc
+
+-- ---- a recovery of a robust set
+
+-- what a recovery has written begins with a question, or it is its end
+abbrev Heads : Event ℕ → Type 0
+Heads (Asked p index owner) = Unit {0}
+Heads (Finished p start answer) = Unit {0}
+Heads e = ⊥
+
+abbrev ends : ℕ → List (Event ℕ)
+ends by = Finished by (Robust (Recover Default)) (State Unlocked) ∷ []
+
+head_came : (by index owner : ℕ) (came : Came) (more : List (Event ℕ)) (e : Event ℕ) (rest : List (Event ℕ))
+    → e ∷ rest ≡ wrote_to by index owner came ++ more
+    → Heads e
+head_came by index owner HasAsked more e rest is = let asked : Asked by index owner ≡ e = cc in subst Heads asked tt
+head_came by index owner WasTold more e rest is = let asked : Asked by index owner ≡ e = cc in subst Heads asked tt
+head_came by index owner HasFreed more e rest is = let asked : Asked by index owner ≡ e = cc in subst Heads asked tt
+head_came by index owner HasLocked more e rest is = let asked : Asked by index owner ≡ e = cc in subst Heads asked tt
+
+head_is : (by : ℕ) (visits : List Visit) (e : Event ℕ) (rest : List (Event ℕ)) → e ∷ rest ≡ wrote_by by visits ++ ends by → Heads e
+head_is by [] e rest is = let ended : Finished by (Robust (Recover Default)) (State Unlocked) ≡ e = cc in subst Heads ended tt
+head_is by (v ∷ visits) e rest is =
+    head_came by v.index v.owner v.came (wrote_by by visits ++ ends by) e rest
+    (is ∙ append_assoc (wrote_to by v.index v.owner v.came) (wrote_by by visits) (ends by))
+
+-- it has asked about an index, and its closure was never called
+none_asked : (by : ℕ) (visits : List Visit) → asked_of_one.made ≡ Begun by (Robust (Recover Default)) ∷ (wrote_by by visits ++ ends by)
+    → FoldsTo (asks never_asked) [] (questions_of visits) []
+    → ⊥
+none_asked by [] is asked = cc
+none_asked by (v ∷ visits) is asked = asked.1
+
+pub asks_nobody : HasRecovered never_asked never_told Default Unlocked [] [] [] [] first asked_of_one → ⊥
+asks_nobody k = none_asked k.by k.visits k.called.made k.visited.asked
+
+-- it has freed an index, and its other closure was never called
+one_freed : (by index owner : ℕ) (came : Came) (visits : List Visit)
+    → Asked 0 0 7 ∷ Told 0 0 7 ∷ FreedOf 0 0 7 ∷ ends 0 ≡ wrote_to by index owner came ++ (wrote_by by visits ++ ends by)
+    → FoldsTo (tells never_told) [] (freed_of (visit index owner came ∷ visits)) []
+    → ⊥
+one_freed by index owner HasAsked visits is told =
+    head_is by visits (Told 0 0 7) (FreedOf 0 0 7 ∷ ends 0) (cc)
+one_freed by index owner WasTold visits is told =
+    head_is by visits (FreedOf 0 0 7) (ends 0) (cc)
+one_freed by index owner HasFreed visits is told = told.1
+one_freed by index owner HasLocked visits is told = told.1
+
+none_told : (by : ℕ) (visits : List Visit) → freed_one.made ≡ Begun by (Robust (Recover Default)) ∷ (wrote_by by visits ++ ends by)
+    → FoldsTo (tells never_told) [] (freed_of visits) []
+    → ⊥
+none_told by [] is told = cc
+none_told by (v ∷ visits) is told =
+    let wrote : Asked 0 0 7 ∷ Told 0 0 7 ∷ FreedOf 0 0 7 ∷ ends 0 ≡ wrote_by by (v ∷ visits) ++ ends by = cc in
+    one_freed by v.index v.owner v.came visits
+    (wrote ∙ append_assoc (wrote_to by v.index v.owner v.came) (wrote_by by visits) (ends by)) told
+
+pub tells_nobody : HasRecovered may_be_asked never_told Default Unlocked [] [] [] [] first freed_one → ⊥
+tells_nobody k = none_told k.by k.visits k.called.made k.visited.told
+
+-- it has asked about an index, though it had seen the lock
+abbrev locked : View ℕ
+locked = having_seen (Locked 1 ∷ [])
+
+asks_locked : HasRecovered may_be_asked never_told Default Unlocked [] [] [] [] locked (record asked_of_one { seen = Locked 1 ∷ asked_of_one.seen }) → ⊥
+asks_locked k =
+    none_asked k.by [] (subst (λ (visits : List Visit). asked_of_one.made ≡ Begun k.by (Robust (Recover Default)) ∷ (wrote_by k.by visits ++ ends k.by))
+    (k.nothing refl) k.called.made)
+    refl
+
+-- another party than the pass's made the call
+not_mine : HasRecovered may_be_asked never_told Default Unlocked [] [] [] [] first (record asked_of_one { party = Some 1 }) → ⊥
+not_mine k =
+    let by : k.by ≡ 0 = cc in
+    let mine = k.mine in
+    cc

@@ -1,0 +1,75 @@
+-- What a pass would know of histories that contracts refuse.
+use Rattle.std.specs.Prelude.{ℕ, Bool, Some, List, [], ◌∷◌, ◌++◌}
+use Rattle.steps.specs.Objects.Lists.{Bounded}
+use Rattle.model.specs.declared.event.Event.{Event}
+use Rattle.model.specs.declared.event.Event.TheVariants.{Begun, Published, HandedOut, FreedOf, Asked, Told, Finished}
+use Rattle.model.specs.declared.event.Answer.TheVariants.{State}
+use Rattle.model.specs.declared.event.Item.TheVariants.{Index}
+use Rattle.model.specs.declared.event.Start.TheVariants.{Robust}
+use Rattle.model.specs.declared.families.indices.robust.RobustStart.TheVariants.{Recover}
+use Rattle.lock_free.specs.HistoryView.View.{View}
+use Rattle.lock_free.specs.Queues.Views.{first_view}
+use Rattle.lock_free.specs.ReleaseMode.TheVariants.{Default}
+use Rattle.lock_free.specs.ReleaseState.TheVariants.{Unlocked}
+use Rattle.lock_free.specs.Shares.{half_of, all_shares}
+
+-- the first pass of a structure of capacity 2, which has seen nothing yet
+abbrev pub first : View ℕ
+first = first_view 2
+
+-- the same, where it has seen these events
+abbrev pub having_seen : List (Event ℕ) → View ℕ
+having_seen events = record first { seen = events }
+
+-- 7 and 8 were pushed in this order, and a pop has taken out 8
+abbrev pub took_the_second : View ℕ
+took_the_second =
+    having_seen (Published 0 (Index 7) ∷ Published 0 (Index 8) ∷ HandedOut 1 (Index 8) ∷ [])
+
+-- 7 was pushed, and waits; the pass has half of the share
+abbrev pub knows_of_one : View ℕ
+knows_of_one =
+    record (having_seen (Published 0 (Index 7) ∷ [])) { share = half_of all_shares }
+
+-- an empty list from the first position on
+abbrev pub nothing_left : Bounded ℕ
+nothing_left = record { capacity = 2; first = 0; values = [] }
+
+-- ---- a split
+
+-- the pass that stays
+abbrev pub stays : View ℕ
+stays = record first { share = half_of all_shares }
+
+-- the new one, as if it were the party of the other
+abbrev pub same_party : View ℕ
+same_party = record stays { party = Some 0 }
+
+-- ---- a recovery
+
+-- a closure that was never called, and one that may have been
+abbrev pub never_asked : List ℕ → ℕ → ℕ → Bool → List ℕ → Type 0
+never_asked before owner index said after = ⊥
+
+abbrev pub may_be_asked : List ℕ → ℕ → ℕ → Bool → List ℕ → Type 0
+may_be_asked before owner index said after = Unit {0}
+
+abbrev pub never_told : List ℕ → ℕ → ℕ → List ℕ → Type 0
+never_told before owner index after = ⊥
+
+-- it has done this, and answered Unlocked
+abbrev pub recovering : List (Event ℕ) → List (Event ℕ)
+recovering did =
+    Begun 0 (Robust (Recover Default))
+    ∷ (did ++ Finished 0 (Robust (Recover Default)) (State Unlocked) ∷ [])
+
+abbrev pub recovered : List (Event ℕ) → View ℕ
+recovered did = record first { seen = recovering did; made = recovering did }
+
+-- it asked about the index 0 of the owner 7
+abbrev pub asked_of_one : View ℕ
+asked_of_one = recovered (Asked 0 0 7 ∷ [])
+
+-- it asked, was told to free that index, and has freed it
+abbrev pub freed_one : View ℕ
+freed_one = recovered (Asked 0 0 7 ∷ Told 0 0 7 ∷ FreedOf 0 0 7 ∷ [])
