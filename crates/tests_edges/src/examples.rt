@@ -1,4 +1,5 @@
-//! The worked pieces of README.md and of CALLING.md.
+//! The worked pieces of README.md, of CALLING.md and of BUS.md.
+mod bus;
 mod handles;
 mod one_caller;
 mod percent;

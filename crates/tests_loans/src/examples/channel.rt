@@ -38,16 +38,17 @@ fn receive(rt: &impl Wait, receiver: &mut Receiver<'_, Vec<u8>>) -> Option<u8> {
 fn one_sends_to_one(rt: HostRuntime) -> Result<(), Fail> {
     let (places, queue) = (4, 2);
     let mut channel = Channel::new(rt.alloc(), places, queue)?;
-    let mut values = Vec::new(rt.alloc());
+    let mut values = Vec::with_capacity(rt.alloc(), places + 1)?;
     for _ in 0..places + 1 {
         values.push(vec![in rt.alloc(); 0u8; 4096]?)?;
     }
     let (mut sender, mut receiver) = channel.ends(rt.alloc(), values).ok_or("no ends")?;
-    let (sent, received) = thread::join(
+    // (`join` calls its first closure last where no thread can be made)
+    let (received, sent) = thread::join(
         &rt,
-        || send(&rt, &mut sender),
         || receive(&rt, &mut receiver),
+        || send(&rt, &mut sender),
     );
-    assert!(rt; sent == 10 && received == Some(9));
+    assert!(rt; received == Some(9) && sent == 10);
     Ok(())
 }
