@@ -51,7 +51,7 @@ abbrev pub may : ℕ → Call → Bool
 may p (Push value) = p == 0
 may p Pop = p == 1
 
--- write position, read position, both roles taken, and one cell more than the capacity
+-- write position, read position, a word 0 for each role, since it is taken, and one cell more than the capacity
 abbrev pub overflowing_queue : ℕ → Structure Call Stage (Option ℕ)
 overflowing_queue capacity =
     record { words = 0 ∷ 0 ∷ 0 ∷ 0 ∷ replicate (capacity + 1) 0; may = may; first = first; does = does capacity }

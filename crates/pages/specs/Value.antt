@@ -39,7 +39,7 @@ abbrev pub may : ℕ → Call → Bool
 may p (StoreValue value) = p == 0
 may p LoadValue = true
 
--- the version, the role, which is taken, and two cells
+-- the version, a word 0 for the role, since it is taken, and two cells
 abbrev pub value : Structure Call Stage Answer
 value = record { words = 1 ∷ 0 ∷ 0 ∷ 0 ∷ []; may = may; first = first; does = does }
 

@@ -1,4 +1,6 @@
-//! Theorems on pages: for each structure one file of `specs`, which stands alone, says what its machine is.
+//! Theorems on pages, of three structures: `Machine.antt` of `specs` says what a run is and what linearizable means, and a file
+//! for each structure what its machine is. Both together cite the standard library alone. In fewer than 2^63 turns no position
+//! and no version comes to its last number, at which a push and a store are refused.
 #![tactic(auto)]
 
 ghost use Rattle.std.specs.Prelude.{◌≡◌, ℕ, ◌<◌, ◌^◌, List, length, map, fold};
@@ -51,7 +53,7 @@ pub fn single_value_is_the_code()
     ensures machine { ValueRunsAsTheMachine }
 {}
 
-/// What a `Machine` has taken is a run of the page: if its parties 0 and 1 acquired the roles first, and then took these
+/// What a `Machine` of an index queue has taken is a run of that page: if its parties 0 and 1 acquired the roles first, and then took these
 /// turns, its words, the invocations and the responses are those of the page's machine over the same turns. `Machine::new`
 /// and each `Machine::step` say which turns a machine has taken; one that is refused for memory is not among them. The
 /// function does nothing.
