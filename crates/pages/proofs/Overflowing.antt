@@ -30,7 +30,7 @@ use Rattle.laws_queues.proofs.Queues.Sound.{queue_keeps}
 use Rattle.pages.specs.OverflowingQueue as page
 use Rattle.pages.specs.Machine as machine
 use Rattle.pages.specs.IndexQueueBridge.{acquires, roles_told}
-use Rattle.pages.specs.OverflowingQueueBridge.{OverflowingDoesAsTheCode, OverflowingRunsAsTheMachine, acquired, answer_seen, answered, as_turn, call_seen, flight, queue_start, read_then, reading, went}
+use Rattle.pages.specs.OverflowingQueueBridge.{OverflowingDoesAsTheCode, OverflowingPopsByTable, OverflowingPushesByTable, OverflowingRunsAsTheMachine, acquired, answer_seen, answered, as_turn, call_seen, flight, queue_start, read_then, reading, went}
 use Rattle.pages.specs.Reading.{asked}
 use Rattle.pages.proofs.Seen.{IsObject, carried}
 use Rattle.pages.proofs.Simulates.{GoesRight, Sim, StepIs, Tie, all_turns, trace}
@@ -315,3 +315,9 @@ pub runs : OverflowingRunsAsTheMachine
 runs c turns more few small =
     let s = simulated c turns (some_is c more) small in
     record { events = s.events; is = ap (λ (t : Trace ℕ). t.events) s.is; history = s.told; words = ap (λ (t : Trace ℕ). t.world.words) s.is }
+
+pub by_pushes : OverflowingPushesByTable
+by_pushes c value stage old = (refl, refl)
+
+pub by_pops : OverflowingPopsByTable
+by_pops c value stage old = (refl, refl)

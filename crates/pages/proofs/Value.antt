@@ -36,7 +36,7 @@ use Rattle.steps.specs.Atomic.{cell_word}
 use Rattle.steps.specs.Queues.Ring.{word_at}
 use Rattle.pages.specs.Value as page
 use Rattle.pages.specs.Machine as machine
-use Rattle.pages.specs.ValueBridge.{ValueDoesAsTheCode, ValueRunsAsTheMachine, acquired, acquires, answer_seen, answered, as_turn, call_seen, flight, parties_of, read_then, reading, role_told, value_start, went}
+use Rattle.pages.specs.ValueBridge.{LoadsByTable, StoresByTable, ValueDoesAsTheCode, ValueRunsAsTheMachine, acquired, acquires, answer_seen, answered, as_turn, call_seen, flight, parties_of, read_then, reading, role_told, value_start, went}
 use Rattle.pages.specs.Reading.{all_seen, asked}
 use Rattle.pages.proofs.Seen.{IsObject, IsOwn, carried}
 use Rattle.pages.proofs.Simulates.{GoesRight, Sim, StepIs, Tie, all_turns, not_past, refused_later, taken, trace}
@@ -319,3 +319,9 @@ pub runs : ValueRunsAsTheMachine
 runs turns n le small =
     let s = simulated n turns le small in
     record { events = s.events; is = ap (λ (t : Trace ℕ). t.events) s.is; history = s.told; words = ap (λ (t : Trace ℕ). t.world.words) s.is }
+
+pub by_stores : StoresByTable
+by_stores value stage old = (refl, refl)
+
+pub by_loads : LoadsByTable
+by_loads word stage old = (refl, refl)

@@ -4,6 +4,8 @@ use Rattle.steps.specs.declared.ask.After.{After}
 use Rattle.steps.specs.declared.ask.After.TheVariants.{GoOn, Done}
 use Rattle.steps.specs.declared.queues.overflow.PushStage as pushes
 use Rattle.steps.specs.declared.queues.overflow.PopStage as pops
+use Rattle.steps.specs.Queues.Overflow.{pop_answer, pop_asks, pop_keeps, pop_takes, push_answer, push_asks, push_keeps, push_takes}
+use Rattle.steps.specs.Routine.{went_on}
 use Rattle.model.specs.declared.event.Answer.{Answer}
 use Rattle.model.specs.declared.event.Answer.TheVariants.{PoppedNone, PoppedIndex, Popped}
 use Rattle.model.specs.declared.event.Start.{Start}
@@ -18,7 +20,8 @@ use Rattle.model.specs.declared.turn.Turn.{Turn}
 use Rattle.model.specs.declared.turn.Turn.TheVariants.{Begin, Next}
 use Rattle.model.specs.Coding.{one_word}
 use Rattle.model.specs.Families.{ask_of}
-use Rattle.model.specs.Families.Queues.Calls.{after, want}
+use Rattle.model.specs.Families.Queues.Calls.{after, popped, want}
+use Rattle.model.specs.Step.{as_call}
 use Rattle.model.specs.Turns.{run}
 use Rattle.model.specs.World.{Trace, opening}
 use Rattle.pages.specs.OverflowingQueue as page
@@ -73,6 +76,27 @@ OverflowingDoesAsTheCode =
     (c before : ℕ) (stage : page.Stage)
     → (ask_of (want one_word (flight c before stage)) ≡ Some (asked (page.does c stage).0 (page.does c stage).1))
     × ((old : ℕ) → after one_word (flight c before stage) old ≡ went c (read_then before stage) ((page.does c stage).2 old))
+
+-- what `want` and `after` are for these calls: the tables of the crate `steps`, to which the code's functions are proved equal
+abbrev pub OverflowingPushesByTable : Type 0
+OverflowingPushesByTable =
+    (c value : ℕ) (stage : pushes.PushStage) (old : ℕ)
+    → (want one_word (pushing c value stage) ≡ push_asks c stage value)
+    × (after one_word (pushing c value stage) old
+    ≡ as_call (λ r. Overflow (overflows.TheVariants.Push r)) popped
+    (went_on (λ end given room. push_answer given room.0 end) value
+    (push_keeps (record { 0 = 0 }) stage old)
+    (push_takes (record { capacity = c; stage = stage }) stage old)))
+
+abbrev pub OverflowingPopsByTable : Type 0
+OverflowingPopsByTable =
+    (c value : ℕ) (stage : pops.PopStage) (old : ℕ)
+    → (want one_word (popping c value stage) ≡ pop_asks c stage)
+    × (after one_word (popping c value stage) old
+    ≡ as_call (λ r. Overflow (overflows.TheVariants.Pop r)) popped
+    (went_on (λ end given room. pop_answer room.0 end) tt
+    (pop_keeps (record { 0 = value }) stage old)
+    (pop_takes (record { capacity = c; stage = stage }) stage old)))
 
 -- ---- turn by turn
 

@@ -4,7 +4,8 @@ use Rattle.steps.specs.declared.ask.After.{After}
 use Rattle.steps.specs.declared.ask.After.TheVariants.{GoOn, Done}
 use Rattle.steps.specs.declared.atomic.StoreStage as stores
 use Rattle.steps.specs.declared.atomic.LoadStage as loads
-use Rattle.steps.specs.Atomic.{before_version, cell_word}
+use Rattle.steps.specs.Atomic.{before_version, cell_word, load_asks, load_keeps, load_takes, store_asks, store_takes}
+use Rattle.steps.specs.Routine.{went_on}
 use Rattle.model.specs.declared.event.Answer.{Answer}
 use Rattle.model.specs.declared.event.Answer.TheVariants as answers
 use Rattle.model.specs.declared.event.Event.{Event}
@@ -21,6 +22,8 @@ use Rattle.model.specs.declared.turn.Turn.TheVariants.{Begin, Next}
 use Rattle.model.specs.Coding.{one_word}
 use Rattle.model.specs.Families.{ask_of}
 use Rattle.model.specs.Families.Atomic.Calls.{after, want}
+use Rattle.model.specs.Families.Queues.Calls.{as_it_is, kept_at, read_in}
+use Rattle.model.specs.Step.{as_call}
 use Rattle.model.specs.Turns.{run}
 use Rattle.model.specs.World.{Trace, opening}
 use Rattle.pages.specs.Value as page
@@ -70,6 +73,25 @@ ValueDoesAsTheCode =
     (before : ℕ) (stage : page.Stage)
     → (ask_of (want one_word (flight before stage)) ≡ Some (asked (page.does stage).0 (page.does stage).1))
     × ((old : ℕ) → after one_word (flight before stage) old ≡ went (read_then before stage) ((page.does stage).2 old))
+
+-- what `want` and `after` are for these calls: the tables of the crate `steps`, to which the code's functions are proved equal
+abbrev pub StoresByTable : Type 0
+StoresByTable =
+    (value : ℕ) (stage : stores.StoreStage) (old : ℕ)
+    → (want one_word (storing value stage) ≡ store_asks one_word.words_of stage value)
+    × (after one_word (storing value stage) old
+    ≡ as_call flights.Store answers.Truth
+    (went_on as_it_is value tt (store_takes 1 (record { stage = stage; of = record {} }) stage old)))
+
+abbrev pub LoadsByTable : Type 0
+LoadsByTable =
+    (word : ℕ) (stage : loads.LoadStage) (old : ℕ)
+    → (want one_word (loading word stage) ≡ load_asks stage)
+    × (after one_word (loading word stage) old
+    ≡ as_call flights.Load answers.Loaded
+    (went_on (λ end given room. read_in one_word room) tt
+    (load_keeps kept_at (record { words = word ∷ replicate 127 0 }) stage old)
+    (load_takes 1 (record { stage = stage; of = record {} }) stage old)))
 
 -- ---- turn by turn
 

@@ -11,10 +11,10 @@ ghost use Rattle.pages.specs.IndexQueue as queue;
 ghost use Rattle.pages.specs.Machine.{Turn, opening, turned, IsLinearizable};
 ghost use Rattle.pages.specs.OverflowingQueue.{overflowing_list};
 ghost use Rattle.pages.specs.OverflowingQueue as overflowing;
-ghost use Rattle.pages.specs.OverflowingQueueBridge.{OverflowingDoesAsTheCode, OverflowingRunsAsTheMachine};
+ghost use Rattle.pages.specs.OverflowingQueueBridge.{OverflowingDoesAsTheCode, OverflowingPopsByTable, OverflowingPushesByTable, OverflowingRunsAsTheMachine};
 ghost use Rattle.pages.specs.Value.{value, register};
 ghost use Rattle.pages.specs.Value as single;
-ghost use Rattle.pages.specs.ValueBridge.{ValueDoesAsTheCode, ValueRunsAsTheMachine};
+ghost use Rattle.pages.specs.ValueBridge.{LoadsByTable, StoresByTable, ValueDoesAsTheCode, ValueRunsAsTheMachine};
 ghost use Rattle.pages.specs.IndexQueueBridge.{DoesAsTheCode, PopsByTable, PushesByTable, RunsAsTheMachine, acquired, as_turn, reading, roles_told};
 ghost use Rattle.pages.specs.Reading.{IsSame};
 
@@ -50,6 +50,8 @@ pub fn single_value()
 /// party 0 has the role.
 pub fn single_value_is_the_code()
     ensures code { ValueDoesAsTheCode }
+    ensures stores { StoresByTable }
+    ensures loads { LoadsByTable }
     ensures machine { ValueRunsAsTheMachine }
 {}
 
@@ -76,5 +78,7 @@ pub fn overflowing_queue()
 /// The page of the overflowing queue is about the code, and about machines, from where parties 0 and 1 have the roles.
 pub fn overflowing_queue_is_the_code()
     ensures code { OverflowingDoesAsTheCode }
+    ensures pushes { OverflowingPushesByTable }
+    ensures pops { OverflowingPopsByTable }
     ensures machine { OverflowingRunsAsTheMachine }
 {}

@@ -6,3 +6,9 @@ returns-clause-code c = queue.code
 
 pub returns-clause-machine : goal.returns-clause-machine
 returns-clause-machine c = queue.runs
+
+pub returns-clause-pushes : goal.returns-clause-pushes
+returns-clause-pushes c = queue.by_pushes
+
+pub returns-clause-pops : goal.returns-clause-pops
+returns-clause-pops c = queue.by_pops

@@ -6,3 +6,9 @@ returns-clause-code c = single.code
 
 pub returns-clause-machine : goal.returns-clause-machine
 returns-clause-machine c = single.runs
+
+pub returns-clause-stores : goal.returns-clause-stores
+returns-clause-stores c = single.by_stores
+
+pub returns-clause-loads : goal.returns-clause-loads
+returns-clause-loads c = single.by_loads
