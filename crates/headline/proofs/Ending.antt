@@ -28,8 +28,12 @@ module _ {T : Type 0} (old : Trace T) (turn : Turn T) (new : Trace T) (is_turn :
         all = finds.0;
         up_to = λ p owner index no here asks.
             let stopped = finds.1 p owner no here in
-            let same : stopped.index ≡ index = cc in
-            (stopped.number, stopped.ends, subst (λ n. robust_promises.IsCount p (robust_promises.IsFilledWith owner) (n + 1) stopped.number old.events) same stopped.count);
+            let same : stopped.index ≡ index = cc in (
+              stopped.number,
+              stopped.ends,
+              subst (λ n. robust_promises.IsCount p (robust_promises.IsFilledWith owner) (n + 1) stopped.number old.events)
+                  same stopped.count,
+            );
       }
 
   pub container_finds : old.world.kind ≡ kinds.Container → ContainerFinds old turn new

@@ -4,7 +4,10 @@ use Rattle.std.proofs.Common.{◌%◌, ◌*◌, ◌^◌, ◌-◌, drop, is_some,
 use Rattle.std.proofs.lemmas.Bool.Decides.{nat_tests}
 use Rattle.std.proofs.lemmas.List.{length-map, map-append}
 use Rattle.std.specs.Ordering.{is_eq, nat_cmp}
-use Rattle.model.proofs.Names.{fold, Bool, IsReached, List, None, Option, Some, Trace, [], answer_in, ap, arith, ask_of, capacity_error, cond, false, first_row, length, map, nat_lt, one_word, opening, refl, refusal_of, slice_get, step_of, subst, sym, true, ℕ, ◌++◌, ◌+◌, ◌<◌, ◌==◌, ◌∙◌, ◌∷◌, ◌≡◌}
+use Rattle.model.proofs.Names.{fold, Bool, IsReached, List, None, Option, Some, Trace, [], answer_in, ap, arith}
+use Rattle.model.proofs.Names.{ask_of, capacity_error, cond, false, first_row, length, map, nat_lt, one_word, opening}
+use Rattle.model.proofs.Names.{refl, refusal_of, slice_get, step_of, subst, sym, true, ℕ, ◌++◌, ◌+◌, ◌<◌, ◌==◌, ◌∙◌}
+use Rattle.model.proofs.Names.{◌∷◌, ◌≡◌}
 use Rattle.model.proofs.Names as model
 use Rattle.model.specs.declared.event.Answer.{Answer}
 use Rattle.model.specs.declared.event.Item.{Item}
@@ -30,7 +33,10 @@ use Rattle.laws_queues.proofs.Queues.Sound.{queue_keeps}
 use Rattle.pages.specs.OverflowingQueue as page
 use Rattle.pages.specs.Machine as machine
 use Rattle.pages.specs.IndexQueueBridge.{acquires, roles_told}
-use Rattle.pages.specs.OverflowingQueueBridge.{OverflowingDoesAsTheCode, OverflowingPopsByTable, OverflowingPushesByTable, OverflowingRunsAsTheMachine, acquired, answer_seen, answered, as_turn, call_seen, flight, queue_start, read_then, reading, went}
+use Rattle.pages.specs.OverflowingQueueBridge.{OverflowingDoesAsTheCode, OverflowingPopsByTable}
+use Rattle.pages.specs.OverflowingQueueBridge.{OverflowingPushesByTable, OverflowingRunsAsTheMachine, acquired}
+use Rattle.pages.specs.OverflowingQueueBridge.{answer_seen, answered, as_turn, call_seen, flight, queue_start}
+use Rattle.pages.specs.OverflowingQueueBridge.{read_then, reading, went}
 use Rattle.pages.specs.Reading.{asked}
 use Rattle.pages.proofs.Seen.{IsObject, carried}
 use Rattle.pages.proofs.Simulates.{GoesRight, Sim, StepIs, Tie, all_turns, trace}
@@ -126,7 +132,9 @@ goes c words beside p before stage old =
     let eff = effect_of one_word words beside (flight c before stage) old in
     record {
       room = read_then before stage;
-      after_is = ap (as_call flights.TheVariants.Queues (λ answer. answer)) (after_same c before stage old) ∙ went_same c (read_then before stage) (comes c stage old);
+      after_is =
+          ap (as_call flights.TheVariants.Queues (λ answer. answer)) (after_same c before stage old)
+          ∙ went_same c (read_then before stage) (comes c stage old);
       kept_is = ap registries.TheVariants.Queues (roles_stay p (call_at stage) outcome);
       unseen = effects_unseen reading p (queue_start (call_at stage)) eff outcome;
       own = effects_own p (queue_start (call_at stage)) eff outcome;
@@ -183,7 +191,9 @@ tie c some =
     refuses p (page.Push value) m = lacks_row (0 == p) (grind (arith, nat_tests))
     refuses p page.Pop m = lacks_row (1 == p) (grind (arith, nat_tests))
 
-    begins : (call : page.Call) → model.first_of kinds.TheVariants.Overflow c (Queues (queue_start call)) kept ≡ Some (flights.TheVariants.Queues (flight c 0 (page.first call)))
+    begins : (call : page.Call)
+        → model.first_of kinds.TheVariants.Overflow c (Queues (queue_start call)) kept
+        ≡ Some (flights.TheVariants.Queues (flight c 0 (page.first call)))
     begins (page.Push value) = rw some refl
     begins page.Pop = rw some refl
 
@@ -275,7 +285,8 @@ all_within c some [] = tt
 all_within c some (machine.Begin p call ∷ turns) = (may_below p call, all_within c some turns)
 all_within c some (machine.Next p ∷ turns) = (tt, all_within c some turns)
 
-same_turns : (c : ℕ) (some : (c == 0) ≡ false) (turns : List (machine.Turn page.Call)) → map (simulates.as_turn (tie c some) 2 roles_told) turns ≡ map as_turn turns
+same_turns : (c : ℕ) (some : (c == 0) ≡ false) (turns : List (machine.Turn page.Call))
+    → map (simulates.as_turn (tie c some) 2 roles_told) turns ≡ map as_turn turns
 unfolding tie
 same_turns c some [] = refl
 same_turns c some (machine.Begin p call ∷ turns) = ap (λ ts. as_turn (machine.Begin p call) ∷ ts) (same_turns c some turns)
@@ -294,7 +305,8 @@ simulated : (c : ℕ) (turns : List (machine.Turn page.Call)) (some : (c == 0) �
     → Sim (tie c some) 2 roles_told (world_of c turns) (0 + length turns) (run (map as_turn turns) (acquired c))
 simulated c turns some small =
     subst (λ ts. Sim (tie c some) 2 roles_told (world_of c turns) (0 + length turns) (run ts (acquired c))) (same_turns c some turns)
-    (all_turns (tie c some) 2 roles_told turns (all_within c some turns) (machine.opening (page.overflowing_queue c)) 0 (acquired c) (omega arith) (opens c some))
+    (all_turns (tie c some) 2 roles_told turns (all_within c some turns)
+    (machine.opening (page.overflowing_queue c)) 0 (acquired c) (omega arith) (opens c some))
 
 pub linearizable : (c : ℕ) (turns : List (machine.Turn page.Call)) → 0 < c → c < 2 ^ 32 → length turns < 2 ^ 63
     → machine.IsLinearizable (page.overflowing_list c) (world_of c turns).history
@@ -305,7 +317,8 @@ linearizable c turns more few small =
     let r : IsReached t = subst IsReached s.is (reached c (map as_turn turns) few) in
     let keeps = (queue_keeps {T = ℕ} queue_kinds.TheVariants.Overflow).kept t refl r in
     subst (machine.IsLinearizable (page.overflowing_list c)) s.told
-    (carried reading (as_list queue_kinds.TheVariants.Overflow c) (page.overflowing_list c) (is_list c) roles_told 4 s.events s.own (among s.events) (within s.events)
+    (carried reading (as_list queue_kinds.TheVariants.Overflow c) (page.overflowing_list c) (is_list c) roles_told 4
+    s.events s.own (among s.events) (within s.events)
     (run_linearizable t keeps))
 
 pub code : OverflowingDoesAsTheCode

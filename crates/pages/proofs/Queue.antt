@@ -4,7 +4,10 @@ use Rattle.std.proofs.Common.{◌%◌, ◌*◌, ◌^◌, ◌||◌, ◌-◌, is_s
 use Rattle.std.proofs.lemmas.Bool.Decides.{nat_tests}
 use Rattle.std.proofs.lemmas.List.{length-map, map-append}
 use Rattle.std.specs.Ordering.{is_eq, nat_cmp}
-use Rattle.model.proofs.Names.{fold, Bool, IsCoding, IsReached, List, None, Option, Some, Trace, [], answer_in, ap, arith, ask_of, bounded_list, capacity_error, cond, doing_of, false, first_row, flight_of, length, map, nat_lt, not, one_word, opening, refl, refusal_of, slice_get, step_of, subst, sym, true, ℕ, ⊎_elim, ◌++◌, ◌+◌, ◌<◌, ◌==◌, ◌∙◌, ◌∷◌, ◌≡◌}
+use Rattle.model.proofs.Names.{fold, Bool, IsCoding, IsReached, List, None, Option, Some, Trace, [], answer_in, ap}
+use Rattle.model.proofs.Names.{arith, ask_of, bounded_list, capacity_error, cond, doing_of, false, first_row}
+use Rattle.model.proofs.Names.{flight_of, length, map, nat_lt, not, one_word, opening, refl, refusal_of, slice_get}
+use Rattle.model.proofs.Names.{step_of, subst, sym, true, ℕ, ⊎_elim, ◌++◌, ◌+◌, ◌<◌, ◌==◌, ◌∙◌, ◌∷◌, ◌≡◌}
 use Rattle.model.proofs.Names as model
 use Rattle.model.specs.declared.event.Answer.{Answer}
 use Rattle.model.specs.declared.event.Item.{Item}
@@ -31,7 +34,9 @@ use Rattle.steps.specs.declared.ask.Op.TheVariants.{Load, Store}
 use Rattle.steps.specs.Queues.Ring.{cell_word, word_at}
 use Rattle.pages.specs.IndexQueue as page
 use Rattle.pages.specs.Machine as machine
-use Rattle.pages.specs.IndexQueueBridge.{DoesAsTheCode, Fits, PopsByTable, PushesByTable, RunsAsTheMachine, acquired, acquires, answer_seen, answered, as_turn, call_seen, flight, queue_start, reading, roles_told, went}
+use Rattle.pages.specs.IndexQueueBridge.{DoesAsTheCode, Fits, PopsByTable, PushesByTable, RunsAsTheMachine, acquired}
+use Rattle.pages.specs.IndexQueueBridge.{acquires, answer_seen, answered, as_turn, call_seen, flight, queue_start}
+use Rattle.pages.specs.IndexQueueBridge.{reading, roles_told, went}
 use Rattle.pages.specs.Reading.{IsSame, asked}
 use Rattle.pages.proofs.Seen.{IsObject, carried}
 use Rattle.pages.proofs.Simulates.{GoesRight, Sim, StepIs, Tie, all_turns, trace}
@@ -79,7 +84,8 @@ cell_is c position few some =
     let lt : position % c < 2 ^ 32 = omega arith in
     rw some (small_word (position % c) lt)
 
-asks_same : (c : ℕ) (stage : page.Stage) → c < 2 ^ 32 → Fits c stage → ask_of (want one_word (flight c stage)) ≡ Some (asked (page.does c stage).0 (page.does c stage).1)
+asks_same : (c : ℕ) (stage : page.Stage) → c < 2 ^ 32 → Fits c stage
+    → ask_of (want one_word (flight c stage)) ≡ Some (asked (page.does c stage).0 (page.does c stage).1)
 asks_same c (page.PushLoadsWrite value) few fits = refl
 asks_same c (page.PushLoadsRead value write) few fits = refl
 asks_same c (page.PushStoresCell value write) few fits = ap (λ k. Some (record { word = k; op = Store value })) (cell_is c write few fits)
@@ -107,7 +113,9 @@ right c (page.PushLoadsWrite value) old = go (old == 2 ^ 64 - 1)
     go false = (refl, refl)
 right c (page.PushLoadsRead value write) old = go (c == 0) refl ((write + 2 ^ 64 - old) % 2 ^ 64 == c)
   where
-    go : (a : Bool) → (c == 0) ≡ a → (d : Bool) → GoesRight call_at (fits c) (page.Push value) (cond (a || d) (machine.Done (page.Pushed false)) (machine.GoOn (page.PushStoresCell value write)))
+    go : (a : Bool) → (c == 0) ≡ a → (d : Bool)
+        → GoesRight call_at (fits c) (page.Push value)
+        (cond (a || d) (machine.Done (page.Pushed false)) (machine.GoOn (page.PushStoresCell value write)))
     go true t d = tt
     go false t true = tt
     go false t false = (refl, ap not t)
@@ -116,7 +124,8 @@ right c (page.PushStoresWrite value write) old = tt
 right c page.PopLoadsRead old = (refl, refl)
 right c (page.PopLoadsWrite read) old = go (c == 0) refl (old == read)
   where
-    go : (a : Bool) → (c == 0) ≡ a → (d : Bool) → GoesRight call_at (fits c) page.Pop (cond (a || d) (machine.Done (page.Popped None)) (machine.GoOn (page.PopLoadsCell read)))
+    go : (a : Bool) → (c == 0) ≡ a → (d : Bool)
+        → GoesRight call_at (fits c) page.Pop (cond (a || d) (machine.Done (page.Popped None)) (machine.GoOn (page.PopLoadsCell read)))
     go true t d = tt
     go false t true = tt
     go false t false = (refl, ap not t)
@@ -130,7 +139,8 @@ roles_stay p (page.Push value) outcome = refl
 roles_stay p page.Pop outcome = refl
 
 went_same : (c : ℕ) (a : (machine.After page.Stage page.Answer))
-    → as_call flights.TheVariants.Queues (λ (answer : Answer ℕ). answer) (went c a) ≡ simulates.went (λ stage. flights.TheVariants.Queues (flight c stage)) answered a
+    → as_call flights.TheVariants.Queues (λ (answer : Answer ℕ). answer) (went c a)
+    ≡ simulates.went (λ stage. flights.TheVariants.Queues (flight c stage)) answered a
 went_same c (machine.GoOn stage) = refl
 went_same c (machine.Done answer) = refl
 
@@ -202,7 +212,9 @@ tie c few =
     refuses p (page.Push value) m = lacks_row (0 == p) (grind (arith, nat_tests))
     refuses p page.Pop m = lacks_row (1 == p) (grind (arith, nat_tests))
 
-    begins : (call : page.Call) → model.first_of kinds.TheVariants.IndexQueue c (Queues (queue_start call)) kept ≡ Some (flights.TheVariants.Queues (flight c (page.first call)))
+    begins : (call : page.Call)
+        → model.first_of kinds.TheVariants.IndexQueue c (Queues (queue_start call)) kept
+        ≡ Some (flights.TheVariants.Queues (flight c (page.first call)))
     begins (page.Push value) = refl
     begins page.Pop = refl
 
@@ -229,7 +241,8 @@ pushed_answer : (capacity : ℕ) (items : List (Item ℕ)) (value : ℕ)
     → page.Pushed (nat_lt (length items) capacity) ≡ (page.listed capacity (map number items) (page.Push value)).0
 pushed_answer capacity items value = rw (length-map items number) (go (nat_lt (length items) capacity))
   where
-    go : (b : Bool) → page.Pushed b ≡ (cond {A = page.Answer × List ℕ} b (page.Pushed true, map number items ++ value ∷ []) (page.Pushed false, map number items)).0
+    go : (b : Bool) → page.Pushed b
+        ≡ (cond {A = page.Answer × List ℕ} b (page.Pushed true, map number items ++ value ∷ []) (page.Pushed false, map number items)).0
     go true = refl
     go false = refl
 
@@ -315,7 +328,8 @@ linearizable c turns few small =
     let r : IsReached t = subst IsReached s.is (reached c (map as_turn turns) few) in
     let keeps = (queue_keeps {T = ℕ} queue_kinds.TheVariants.IndexQueue).kept t refl r in
     subst (machine.IsLinearizable (page.bounded_list c)) s.told
-    (carried reading (as_list queue_kinds.TheVariants.IndexQueue c) (page.bounded_list c) (is_list c) roles_told 4 s.events s.own (among s.events) (within s.events)
+    (carried reading (as_list queue_kinds.TheVariants.IndexQueue c) (page.bounded_list c) (is_list c) roles_told 4
+    s.events s.own (among s.events) (within s.events)
     (run_linearizable t keeps))
 
 pub code : DoesAsTheCode

@@ -1,7 +1,8 @@
 -- What the pages of both queues of indices share: the roles, the effects of a step, and the two acquires before the page begins.
 use Rattle.std.specs.List.{AllByRecursion, Contains}
 use Rattle.std.proofs.Common.{drop, is_some}
-use Rattle.model.proofs.Names.{Bool, IsCoding, List, None, Option, Some, [], ap, arith, cond, doing_of, false, first_row, flight_of, map, not, one_word, refl, true, ℕ, ⊎_elim, ◌++◌, ◌∷◌, ◌≡◌}
+use Rattle.model.proofs.Names.{Bool, IsCoding, List, None, Option, Some, [], ap, arith, cond, doing_of, false}
+use Rattle.model.proofs.Names.{first_row, flight_of, map, not, one_word, refl, true, ℕ, ⊎_elim, ◌++◌, ◌∷◌, ◌≡◌}
 use Rattle.model.proofs.Names as model
 use Rattle.model.specs.declared.event.Answer.{Answer}
 use Rattle.model.specs.declared.event.Answer.TheVariants.{Truth}
@@ -41,7 +42,9 @@ lacks_row b e = rw e refl
 
 -- ---- the effects of a step
 
-pub effects_unseen : {Call Answered : Type 0} (read : Reading Call Answered) (p : ℕ) (start : QueueStart ℕ) (eff : Effect ℕ) (outcome : Option (Answer ℕ)) → all_seen read (effects_of p start eff outcome) ≡ []
+pub effects_unseen : {Call Answered : Type 0} (read : Reading Call Answered) (p : ℕ) (start : QueueStart ℕ)
+    (eff : Effect ℕ) (outcome : Option (Answer ℕ))
+    → all_seen read (effects_of p start eff outcome) ≡ []
 effects_unseen read p start Quiet outcome = refl
 effects_unseen read p start Acts None = refl
 effects_unseen read p start Acts (Some answer) = refl
@@ -54,7 +57,8 @@ effects_unseen read p start (TakesOut index) outcome = refl
 effects_unseen read p start (MakesRoom item q pushed) None = refl
 effects_unseen read p start (MakesRoom item q pushed) (Some answer) = refl
 
-pub effects_own : (p : ℕ) (start : QueueStart ℕ) (eff : Effect ℕ) (outcome : Option (Answer ℕ)) → AllByRecursion (IsOwn is_push_or_pop) (effects_of p start eff outcome)
+pub effects_own : (p : ℕ) (start : QueueStart ℕ) (eff : Effect ℕ) (outcome : Option (Answer ℕ))
+    → AllByRecursion (IsOwn is_push_or_pop) (effects_of p start eff outcome)
 effects_own p start Quiet outcome = tt
 effects_own p start Acts None = tt
 effects_own p start Acts (Some answer) = (tt, tt)

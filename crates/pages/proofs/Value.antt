@@ -3,7 +3,10 @@ use Rattle.std.specs.List.{AllByRecursion, Contains}
 use Rattle.std.proofs.Common.{◌%◌, ◌^◌, ◌-◌, is_some, mod-lt}
 use Rattle.std.proofs.lemmas.Bool.Decides.{nat_tests}
 use Rattle.std.specs.Ordering.{is_eq, nat_cmp}
-use Rattle.model.proofs.Names.{fold, Bool, IsCoding, IsReached, List, None, Option, Some, Trace, World, [], after_turn, answer_in, ap, arith, ask_of, capacity_error, cond, doing_of, false, first_row, flight_of, length, map, not, one_word, opening, party_of, refl, refusal_of, step_of, subst, sym, true, ℕ, ⊎_elim, ◌++◌, ◌+◌, ◌<◌, ◌==◌, ◌∙◌, ◌∷◌, ◌≡◌, ◌≤◌}
+use Rattle.model.proofs.Names.{fold, Bool, IsCoding, IsReached, List, None, Option, Some, Trace, World, [], after_turn}
+use Rattle.model.proofs.Names.{answer_in, ap, arith, ask_of, capacity_error, cond, doing_of, false, first_row}
+use Rattle.model.proofs.Names.{flight_of, length, map, not, one_word, opening, party_of, refl, refusal_of, step_of}
+use Rattle.model.proofs.Names.{subst, sym, true, ℕ, ⊎_elim, ◌++◌, ◌+◌, ◌<◌, ◌==◌, ◌∙◌, ◌∷◌, ◌≡◌, ◌≤◌}
 use Rattle.model.proofs.Names as model
 use Rattle.model.specs.declared.event.Answer.{Answer}
 use Rattle.model.specs.declared.event.Answer.TheVariants as answers
@@ -36,7 +39,9 @@ use Rattle.steps.specs.Atomic.{cell_word}
 use Rattle.steps.specs.Queues.Ring.{word_at}
 use Rattle.pages.specs.Value as page
 use Rattle.pages.specs.Machine as machine
-use Rattle.pages.specs.ValueBridge.{LoadsByTable, StoresByTable, ValueDoesAsTheCode, ValueRunsAsTheMachine, acquired, acquires, answer_seen, answered, as_turn, call_seen, flight, parties_of, read_then, reading, role_told, value_start, went}
+use Rattle.pages.specs.ValueBridge.{LoadsByTable, StoresByTable, ValueDoesAsTheCode, ValueRunsAsTheMachine, acquired}
+use Rattle.pages.specs.ValueBridge.{acquires, answer_seen, answered, as_turn, call_seen, flight, parties_of, read_then}
+use Rattle.pages.specs.ValueBridge.{reading, role_told, value_start, went}
 use Rattle.pages.specs.Reading.{all_seen, asked}
 use Rattle.pages.proofs.Seen.{IsObject, IsOwn, carried}
 use Rattle.pages.proofs.Simulates.{GoesRight, Sim, StepIs, Tie, all_turns, not_past, refused_later, taken, trace}
@@ -80,7 +85,8 @@ after_same before (page.LoadChecksVersion version value) old = grind arith
 right : (stage : page.Stage) (old : ℕ) → GoesRight call_at (λ stage. true) (call_at stage) (comes stage old)
 right (page.StoreLoadsVersion value) old = go (old == 2 ^ 64 - 1)
   where
-    go : (b : Bool) → GoesRight call_at (λ stage. true) (page.StoreValue value) (cond b (machine.Done (page.Stored false)) (machine.GoOn (page.StoreStoresCell value old)))
+    go : (b : Bool) → GoesRight call_at (λ stage. true) (page.StoreValue value)
+        (cond b (machine.Done (page.Stored false)) (machine.GoOn (page.StoreStoresCell value old)))
     go true = tt
     go false = (refl, refl)
 right (page.StoreStoresCell value version) old = (refl, refl)
@@ -113,7 +119,8 @@ abbrev kept : registries.Registry ℕ
 kept = registries.TheVariants.Atomic (Some 0)
 
 went_same : (before : ℕ) (a : (machine.After page.Stage page.Answer))
-    → as_call flights.TheVariants.Atomic (λ (answer : Answer ℕ). answer) (went before a) ≡ simulates.went (λ stage. flights.TheVariants.Atomic (flight before stage)) answered a
+    → as_call flights.TheVariants.Atomic (λ (answer : Answer ℕ). answer) (went before a)
+    ≡ simulates.went (λ stage. flights.TheVariants.Atomic (flight before stage)) answered a
 went_same before (machine.GoOn stage) = refl
 went_same before (machine.Done answer) = refl
 
@@ -126,7 +133,9 @@ goes words beside p before stage old =
     let outcome = answer_in (after one_word (flight before stage) old) in
     record {
       room = read_then before stage;
-      after_is = ap (as_call flights.TheVariants.Atomic (λ answer. answer)) (after_same before stage old) ∙ went_same (read_then before stage) (comes stage old);
+      after_is =
+          ap (as_call flights.TheVariants.Atomic (λ answer. answer)) (after_same before stage old)
+          ∙ went_same (read_then before stage) (comes stage old);
       kept_is = ap registries.TheVariants.Atomic (role_stays p (call_at stage) outcome);
       unseen = acted_unseen p (value_start (call_at stage)) outcome;
       own = acted_own p (value_start (call_at stage)) outcome;
@@ -186,7 +195,9 @@ tie =
     refuses p (page.StoreValue value) m = lacks_row (0 == p) (grind (arith, nat_tests))
     refuses p page.LoadValue m = absurd (cc)
 
-    begins : (call : page.Call) → model.first_of kinds.TheVariants.Atomic 1 (Atomic (value_start call)) kept ≡ Some (flights.TheVariants.Atomic (flight 0 (page.first call)))
+    begins : (call : page.Call)
+        → model.first_of kinds.TheVariants.Atomic 1 (Atomic (value_start call)) kept
+        ≡ Some (flights.TheVariants.Atomic (flight 0 (page.first call)))
     begins (page.StoreValue value) = refl
     begins page.LoadValue = refl
 
@@ -239,7 +250,9 @@ begun n = after_turn (opened n) (Begin 0 (Atomic starts.AcquireProducer))
 begins_acquire : (n : ℕ) → 0 < n → attempt (opened n) (Begin 0 (Atomic starts.AcquireProducer)) ≡ begun n
 begins_acquire n lt =
     taken (opened n) (Begin 0 (Atomic starts.AcquireProducer))
-    (ap (λ b. first_row ((false, AtEnd) ∷ (b, NoParty) ∷ (false, Busy) ∷ begin_rows {T = ℕ} kinds.TheVariants.Atomic 1 (registries.TheVariants.Atomic None) 0 (Atomic starts.AcquireProducer))) (not_past n 0 lt))
+    (ap (λ b. first_row ((false, AtEnd) ∷ (b, NoParty) ∷ (false, Busy)
+    ∷ begin_rows {T = ℕ} kinds.TheVariants.Atomic 1 (registries.TheVariants.Atomic None) 0 (Atomic starts.AcquireProducer)))
+    (not_past n 0 lt))
 
 acquires_then : (n : ℕ) → 0 < n → attempt (begun n) (Next 0) ≡ after_turn (begun n) (Next 0)
 acquires_then n lt =

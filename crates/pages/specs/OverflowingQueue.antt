@@ -1,5 +1,6 @@
 -- The overflowing queue of a capacity above 0: its words, its calls stage by stage, and the list.
-use Rattle.std.specs.Prelude.{ℕ, ◌+◌, ◌-◌, ◌%◌, ◌^◌, ◌==◌, Bool, Option, Some, None, List, [], ◌∷◌, ◌++◌, drop, if◌then◌else◌, length, nat_lt, replicate, slice_get}
+use Rattle.std.specs.Prelude.{ℕ, ◌+◌, ◌-◌, ◌%◌, ◌^◌, ◌==◌, Bool, Option, Some, None, List, [], ◌∷◌, ◌++◌, drop}
+use Rattle.std.specs.Prelude.{if◌then◌else◌, length, nat_lt, replicate, slice_get}
 use Rattle.pages.specs.Machine.{Operation, Load, Store, Exchange, After, GoOn, Done, Structure, Object}
 
 pub data Call : Type 0 where
