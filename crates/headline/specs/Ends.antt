@@ -102,8 +102,8 @@ module _ {T : Type 0} where
         × (new.events ≡ old.events ++ Finished p (Robust (robust.Find owner)) (Number number) ∷ [])
         × IsCount p (IsFilledWith owner) (index + 1) number old.events
 
-  -- What a find of a container has counted when it ends, and, in a well-formed run, copied: the value of each index that it has
-  -- counted, if one stood there during the whole call.
+  -- What a find of a container has counted when it ends, and, in a well-formed run, copied: a value of each index that it has
+  -- counted, if one stood there during the whole call. (That it is the one that stood is `copied` of `ContainerRuns`.)
   pub record ContainerFinds (old : Trace T) (turn : Turn T) (new : Trace T) : Type 0 where
     -- If no decision to stop ends it, it has counted the indices of the container.
     pub all : (p owner number : ℕ) (wrote : List (Event T))

@@ -13,9 +13,9 @@ ghost use Rattle.headline_threads.specs.Ends.{PassesEnd, PassesKeepEnding, Known
 /// ended, it took at most k + 1 times the bound and k steps (`keep`). The same holds of all that a pass knows, from the opening
 /// of the table on (`known`).
 ///
-/// A pass knows the whole run of its table right after a step of its own or a look, and as long as it has the whole share.
-/// Nothing says that a thread runs, or that it takes a step. A robust index set and a container of threads are left out: their
-/// runs are open, and no bound is proved of open runs.
+/// A pass knows the beginning of its table's run up to its own last step or look. Nothing says that a thread runs, or that it
+/// takes a step. A robust index set and a container of threads are left out: their runs are open, and no bound is proved of
+/// open runs.
 pub fn passes_keep_ending<T>()
     ensures ends { (kind : Kind) → IfSome (lock_free_bound kind) (PassesEnd T kind) }
     ensures keep { (kind : Kind) → IfSome (lock_free_bound kind) (PassesKeepEnding T kind) }
