@@ -44,7 +44,8 @@ use Rattle.pages.specs.ValueBridge.{acquires, answer_seen, answered, as_turn, ca
 use Rattle.pages.specs.ValueBridge.{reading, role_told, value_start, went}
 use Rattle.pages.specs.Reading.{all_seen, asked}
 use Rattle.pages.proofs.Seen.{IsObject, IsOwn, carried}
-use Rattle.pages.proofs.Simulates.{GoesRight, Sim, StepIs, Tie, all_turns, not_past, refused_later, taken, trace}
+use Rattle.pages.proofs.Simulates.{GoesRight, Sim, StepIs, Tie, all_turns, trace}
+use Rattle.pages.proofs.Turns.{not_past, taken}
 use Rattle.pages.proofs.Simulates as simulates
 
 -- ---- the tables are the same

@@ -1,0 +1,82 @@
+-- When a turn of the model is taken and when it is refused, and what an operation makes of the words.
+use Rattle.std.specs.List.{AllByRecursion}
+use Rattle.std.proofs.Common.{◌^◌, is_some, nat_le}
+use Rattle.std.proofs.lemmas.Bool.Decides.{nat_tests}
+use Rattle.model.proofs.Names.{Bool, List, None, Option, Some, Trace, []}
+use Rattle.model.proofs.Names.{after_turn, ap, arith, ask_of}
+use Rattle.model.proofs.Names.{cond, false, first_row}
+use Rattle.model.proofs.Names.{is_question}
+use Rattle.model.proofs.Names.{refl, refusal_of, slice_index, true}
+use Rattle.model.proofs.Names.{words_after, ℕ, ◌++◌, ◌-◌, ◌<◌, ◌∷◌, ◌≡◌}
+use Rattle.std.specs.Prelude.{slice_set}
+use Rattle.model.specs.declared.event.Event.{Event}
+use Rattle.model.specs.declared.families.Flight.{Flight}
+use Rattle.model.specs.declared.event.Start.{Start}
+use Rattle.steps.specs.declared.ask.Ask.{Ask}
+use Rattle.steps.specs.declared.ask.Want as wants
+use Rattle.model.specs.declared.turn.Refusal.{Refusal}
+use Rattle.model.specs.declared.turn.Refusal.TheVariants.{AtEnd, NoParty, Idle, Undecided}
+use Rattle.model.specs.Turns.{attempt, unless_refused}
+use Rattle.model.specs.declared.turn.Turn.{Turn}
+use Rattle.pages.specs.Machine as machine
+use Rattle.pages.specs.Reading.{asked}
+use Rattle.pages.proofs.Seen.{IsOwn}
+
+-- ---- rows
+
+pub three_rows : (a b d : Bool) (r s t : Refusal) (rows : List (Bool × Refusal)) → a ≡ false → b ≡ false → d ≡ false
+    → first_row ((a, r) ∷ (b, s) ∷ (d, t) ∷ rows) ≡ first_row rows
+three_rows a b d r s t rows ha hb hd = rw (ha, hb, hd) refl
+
+pub four_rows : (a b d e : Bool) (rows : List (Bool × Refusal)) → a ≡ false → b ≡ false → d ≡ false → e ≡ false
+    → first_row ((a, AtEnd) ∷ (b, NoParty) ∷ (d, Idle) ∷ (e, Undecided) ∷ rows) ≡ first_row rows
+four_rows a b d e rows ha hb hd he = rw (ha, hb, hd, he) refl
+
+-- rows that refuse do so whatever those before them say
+pub refused_later : (before rows : List (Bool × Refusal)) → is_some (first_row rows) ≡ true → is_some (first_row (before ++ rows)) ≡ true
+refused_later [] rows e = e
+refused_later (x ∷ before) rows e = go x.0 (refused_later before rows e)
+  where
+    go : (b : Bool) → is_some (first_row (before ++ rows)) ≡ true → is_some (cond b (Some x.1) (first_row (before ++ rows))) ≡ true
+    go true more = refl
+    go false more = more
+
+pub not_at_end : (n : ℕ) → n < 2 ^ 64 - 2 → nat_le (2 ^ 64 - 2) n ≡ false
+not_at_end n lt = grind (arith, nat_tests)
+
+pub not_past : (n p : ℕ) → p < n → nat_le n p ≡ false
+not_past n p lt = grind (arith, nat_tests)
+
+pub none_is : (o : Option (Flight ℕ)) → o ≡ None → is_some o ≡ false
+none_is None e = refl
+none_is (Some flight) e = absurd (cc)
+
+-- who asks for an operation puts no question
+pub asks_no_question : (want : wants.Want (Unit {0})) (ask : Ask) → ask_of want ≡ Some ask → is_question want ≡ false
+asks_no_question (wants.TheVariants.Ask a) ask e = refl
+asks_no_question (wants.TheVariants.Question question) ask e = absurd (cc)
+asks_no_question wants.TheVariants.Nothing ask e = refl
+
+pub words_same : (words : List ℕ) (word : ℕ) (op : machine.Operation)
+    → words_after words (Some (asked word op)) ≡ slice_set words word (machine.written op (slice_index words word))
+words_same words word machine.Load = refl
+words_same words word (machine.Store new) = refl
+words_same words word (machine.Add by) = refl
+words_same words word (machine.Exchange from to) = refl
+
+pub own_more : (is_call : Start ℕ → Bool) (es more : List (Event ℕ)) → AllByRecursion (IsOwn is_call) es
+    → AllByRecursion (IsOwn is_call) more → AllByRecursion (IsOwn is_call) (es ++ more)
+own_more is_call [] more a b = b
+own_more is_call (e ∷ es) more a b = (a.0, own_more is_call es more a.1 b)
+
+-- ---- a turn is taken, or is refused
+
+pub taken : (t : Trace ℕ) (turn : Turn ℕ) → refusal_of t.world turn ≡ None → attempt t turn ≡ after_turn t turn
+taken t turn e = ap (unless_refused t (after_turn t turn)) e
+
+pub refused : (t : Trace ℕ) (turn : Turn ℕ) → is_some (refusal_of t.world turn) ≡ true → attempt t turn ≡ t
+refused t turn e = go (refusal_of t.world turn) e
+  where
+    go : (o : Option Refusal) → is_some o ≡ true → unless_refused t (after_turn t turn) o ≡ t
+    go None h = absurd (cc)
+    go (Some refusal) h = refl
