@@ -335,7 +335,7 @@ module _ {T : Type 0} (code : Coding T) (c : ℕ) where
         dies = dies;
         decides = decides;
         most = λ words start flight at. (let may = admitted_is c admitted in most c code.size may.0 coded.some words flight);
-        falls = falls;
+        falls = λ words p kept start flight at held known wide. falls words p kept start flight at held known;
       }
 
 -- in runs of calls that do not lock

@@ -123,7 +123,7 @@ module _ {T : Type 0} (code : Coding T) (c : ℕ) where
         dies = dies;
         decides = decides;
         most = λ words start flight at. (let may = admitted_is c admitted in most c may.0 (get_or words 0 0) flight);
-        falls = falls;
+        falls = λ words start flight at wide. falls words start flight at;
       }
 
 -- in runs of calls that do not lock

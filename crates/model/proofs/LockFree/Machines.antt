@@ -43,7 +43,7 @@ module _ {T : Type 0} where
   below_parties w (Decide p said) e = past_none w.parties p (row_passed (nat_le w.parties p) NoParty _ (row_passed (is_at_end w) AtEnd _ e).1).0
   below_parties w (Die owner) e = tt
 
-  all_allowed : (t : Trace T) (turns : List (Turn T)) (n : ℕ) → t.world.parties ≡ n → AreAllowed t turns
+  pub all_allowed : (t : Trace T) (turns : List (Turn T)) (n : ℕ) → t.world.parties ≡ n → AreAllowed t turns
       → AreAllowedOn t turns × AllByRecursion (IsBelow n) turns
   all_allowed t [] n same all = (tt, tt)
   all_allowed t (turn ∷ turns) n same all =
@@ -51,7 +51,7 @@ module _ {T : Type 0} where
       let here : IsBelow n turn = subst (λ m. IsBelow m turn) same (below_parties t.world turn all.0) in
       (((passes t.world turn all.0).on, rest.0), (here, rest.1))
 
-  reached_on : (t : Trace T) → is_loan t.world.kind ≡ false → IsReached t → IsReachedOn t
+  pub reached_on : (t : Trace T) → is_loan t.world.kind ≡ false → IsReached t → IsReachedOn t
   reached_on t no_loan r =
       kept_by_runs IsReachedOn (λ u turn e h. reached_on_more u turn (passes u.world turn e).on h) t
       (λ queue queued.
