@@ -83,6 +83,9 @@ module _ {T : Type 0} where
   possible_on w (Decide p said) e = (may_decide w p said e, is_true (is_due w.coding (flight_in w p)) (must_be_due w p said e))
   possible_on w (Die owner) e = tt
 
+  pub possible : (w : World T) (turn : Turn T) → refusal_of w turn ≡ None → IsPossible w turn
+  possible w turn e = possible_on w turn (passes w turn e).on
+
   pub may_resume : (w : World T) (p : ℕ) (said : Option Bool) → call_refusal w (turn_of p said) ≡ None → MayGoOn w p
   may_resume w p None e = may_next w p e
   may_resume w p (Some said) e = may_decide w p said e

@@ -12,6 +12,7 @@ use Rattle.model.proofs.Reached.{turn_making, kept_by_runs, reached_on_more, rea
 use Rattle.model.proofs.Rows.{row_passed, passes}
 use Rattle.model.specs.LockFree.{IsLockFree, IsLockFreeOf}
 use Rattle.model.specs.LockFree.{KeepsEndingOf, HasLockFreeRuns}
+use Rattle.model.specs.Loads.{EndsLoad, EndsLoadRuns}
 use Rattle.model.proofs.LockFree.Measure.{worth}
 
 past_none : (parties p : ℕ) → nat_le parties p ≡ false → p < parties
@@ -51,7 +52,7 @@ module _ {T : Type 0} where
       let here : IsBelow n turn = subst (λ m. IsBelow m turn) same (below_parties t.world turn all.0) in
       (((passes t.world turn all.0).on, rest.0), (here, rest.1))
 
-  pub reached_on : (t : Trace T) → is_loan t.world.kind ≡ false → IsReached t → IsReachedOn t
+  reached_on : (t : Trace T) → is_loan t.world.kind ≡ false → IsReached t → IsReachedOn t
   reached_on t no_loan r =
       kept_by_runs IsReachedOn (λ u turn e h. reached_on_more u turn (passes u.world turn e).on h) t
       (λ queue queued.
@@ -64,3 +65,9 @@ module _ {T : Type 0} where
       let allowed = all_allowed t turns t.world.parties refl all in
       let none : is_loan t.world.kind ≡ false = subst (λ k. is_loan k ≡ false) (sym is) no_loan in
       free t is (reached_on t none r) t.world.parties turns allowed.0 allowed.1 many
+
+  pub loads_in_runs : (kind : Kind) → is_loan kind ≡ false → (bound : Bound) → EndsLoad T kind bound → EndsLoadRuns T kind bound
+  loads_in_runs kind no_loan bound ends t is r turns all =
+      let allowed = all_allowed t turns t.world.parties refl all in
+      let none : is_loan t.world.kind ≡ false = subst (λ k. is_loan k ≡ false) (sym is) no_loan in
+      ends t is (reached_on t none r) t.world.parties turns allowed.0 allowed.1
