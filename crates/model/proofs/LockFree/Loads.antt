@@ -65,15 +65,15 @@ module _ {T : Type 0} where
       (keeps t is r n)
 
   -- of turns of which two things are so
-  both : (P Q : Turn T → Type 0) (turns : List (Turn T)) → AllByRecursion P turns → AllByRecursion Q turns → AllByRecursion (λ turn. P turn × Q turn) turns
+  pub both : (P Q : Turn T → Type 0) (turns : List (Turn T)) → AllByRecursion P turns → AllByRecursion Q turns → AllByRecursion (λ turn. P turn × Q turn) turns
   both P Q [] ps qs = tt
   both P Q (turn ∷ turns) ps qs = ((ps.0, qs.0), both P Q turns ps.1 qs.1)
 
-  first_all : (P Q : Turn T → Type 0) (turns : List (Turn T)) → AllByRecursion (λ turn. P turn × Q turn) turns → AllByRecursion P turns
+  pub first_all : (P Q : Turn T → Type 0) (turns : List (Turn T)) → AllByRecursion (λ turn. P turn × Q turn) turns → AllByRecursion P turns
   first_all P Q [] all = tt
   first_all P Q (turn ∷ turns) all = (all.0.0, first_all P Q turns all.1)
 
-  second_all : (P Q : Turn T → Type 0) (turns : List (Turn T)) → AllByRecursion (λ turn. P turn × Q turn) turns → AllByRecursion Q turns
+  pub second_all : (P Q : Turn T → Type 0) (turns : List (Turn T)) → AllByRecursion (λ turn. P turn × Q turn) turns → AllByRecursion Q turns
   second_all P Q [] all = tt
   second_all P Q (turn ∷ turns) all = (all.0.1, second_all P Q turns all.1)
 
