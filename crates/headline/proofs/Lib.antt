@@ -5,6 +5,7 @@ pub mod Ends
 pub mod Families
 pub mod Holding
 pub mod Loans
+pub mod Nexts
 pub mod Once
 pub mod Picking
 pub mod Progressing

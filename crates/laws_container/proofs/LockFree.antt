@@ -38,7 +38,13 @@ use Rattle.model.specs.LockFree.{KeepsEndingOf, IsDefault, default_container_bou
 use Rattle.model.specs.Turns.{number_of}
 use Rattle.model.specs.World.{capacity_error}
 use Rattle.model.proofs.LockFree.Falls.{FallsIn, StepFallsBy}
-use Rattle.model.proofs.LockFree.Own.{OwnLaws, OwnAfter, KnownAfter, Lasts, keeps_ending_of}
+use Rattle.model.proofs.LockFree.Own.{OwnLaws, OwnAfter, KnownAfter, Lasts, keeps_ending_by}
+use Rattle.model.proofs.LockFree.Weighed.{KeepsEndingBy}
+use Rattle.model.proofs.Rows.{IsPossible, possible_on}
+use Rattle.model.specs.Refusals.{call_refusal}
+use Rattle.model.specs.World.{World}
+use Rattle.model.specs.declared.turn.Refusal.{Refusal}
+use Rattle.model.specs.declared.turn.Turn.{Turn}
 use Rattle.model.proofs.Parties.{found_put_same, found_put_other}
 use Rattle.laws_robust.proofs.Opening.{admitted_is}
 use Rattle.laws_container.proofs.MeasuredCalls.{RemoveStands, ReplaceStands, CallStands}
@@ -335,9 +341,15 @@ module _ {T : Type 0} (code : Coding T) (c : ℕ) where
         dies = dies;
         decides = decides;
         most = λ words start flight at. (let may = admitted_is c admitted in most c code.size may.0 coded.some words flight);
-        falls = falls;
+        falls = λ words p kept start flight at held known wide. falls words p kept start flight at held known;
       }
 
--- in runs of calls that do not lock
+-- in runs of calls that do not lock, whichever rows refuse turns
+pub container_keeps_ending_by : {T : Type 0} (refuses : World T → Turn T → Option Refusal)
+    → ((w : World T) (turn : Turn T) → refuses w turn ≡ None → IsPossible w turn)
+    → KeepsEndingBy refuses kinds.TheVariants.Container IsDefault default_container_bound
+container_keeps_ending_by {T} refuses possible =
+    keeps_ending_by (outline {T = T}) (λ code c coded admitted. laws code c coded admitted) refuses possible default_container_bound (λ code c n. refl)
+
 pub container_keeps_ending : {T : Type 0} → KeepsEndingOf T kinds.TheVariants.Container IsDefault default_container_bound
-container_keeps_ending {T} = keeps_ending_of (outline {T = T}) (λ code c coded admitted. laws code c coded admitted) default_container_bound (λ code c n. refl)
+container_keeps_ending {T} = container_keeps_ending_by {T = T} call_refusal possible_on

@@ -93,7 +93,7 @@ no_less t kind c n steps ended turns h bound few free =
     (free t h.is h.reached n turns (all_allowed t turns h.taken) (all_below n turns h.below)
     (more_steps (bound n t.world.capacity t.world.coding.size) (steps_in t turns) steps h.many (rw (h.capacity, h.size) few)))
 
-abbrev from : Kind → ℕ → ℕ → List (Turn ℕ) → Trace ℕ
+abbrev pub from : Kind → ℕ → ℕ → List (Turn ℕ) → Trace ℕ
 from kind capacity parties before = run_on before (opening one_word kind capacity parties)
 
 -- ---- two lengths of an index queue, and of a queue, whose write position has moved
@@ -136,7 +136,7 @@ queue =
 
 -- ---- a push of an overflowing queue that is full
 
-abbrev full : List (Turn ℕ)
+abbrev pub full : List (Turn ℕ)
 full =
     begins 0 (starts.TheVariants.Queues queues.TheVariants.AcquireProducer) 1
     ++ (begins 0 (starts.TheVariants.Queues (queues.TheVariants.PushIndex 7)) 4
