@@ -1,11 +1,14 @@
 -- How a party's latest call progresses, whatever its kind.
-use Rattle.std.proofs.Common.{◌≡◌, ◌≤◌, ℕ, Option, Some, None, subst}
+use Rattle.std.proofs.Common.{◌≡◌, ◌≤◌, ℕ, Option, Some, None, subst, arith}
 use Rattle.model.specs.declared.event.Start.{Start}
 use Rattle.model.specs.declared.party.Progress.{Progress}
+use Rattle.model.specs.declared.turn.Kind.{Kind}
 use Rattle.model.specs.Progress.{Guarantee, IsWithin, LatestIsWithin}
 use Rattle.model.specs.Promise.{Promise}
 use Rattle.model.specs.Promises.Bounds.{IsBounded, Progresses}
+use Rattle.model.specs.Promises.Families.{promise_of}
 use Rattle.model.specs.Reading.{Span, Never, Open, Ended}
+use Rattle.headline.specs.Bounds.{most_steps}
 use Rattle.headline.specs.Moments.{call_in}
 
 module _ {T : Type 0} where
@@ -36,6 +39,11 @@ module _ {T : Type 0} where
   is_bounded promise capacity size (Ended call answer wrote) None start g h name e = absurd h
   is_bounded promise capacity size (Ended call answer wrote) (Some x) start g h name e =
       bounds promise capacity size call start x g (cc) (cc) h.0
+
+  -- the bound that the family promises is the one of the kind
+  pub most_promised : (kind : Kind) (capacity size : ℕ) (start : Start T) (backs : ℕ)
+      → (promise_of kind).most_steps capacity size start backs ≡ most_steps kind capacity size start backs
+  most_promised x0 x1 x2 x3 x4 = grind arith
 
   keeps : (guarantee : Start T → Guarantee) (call start : Start T) (x g : Progress) → call ≡ start → x ≡ g
       → IsWithin (guarantee call) x → IsWithin (guarantee start) g

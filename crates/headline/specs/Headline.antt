@@ -47,8 +47,6 @@ use Rattle.model.specs.Linearized.{as_list, as_value}
 use Rattle.model.specs.Moments.{HeldSometime}
 use Rattle.model.specs.Objects.{IsLegal}
 use Rattle.model.specs.Progress.{guarantee_of, IsWithin}
-use Rattle.model.specs.Promises.{IsTurn, IsKept}
-use Rattle.model.specs.Promises.Families.{promise_of}
 use Rattle.model.specs.Promises.Turns.{IsParty, ask_in}
 use Rattle.model.specs.Reading.{span_of}
 use Rattle.model.specs.Turns.{words_after, one_if}
@@ -56,6 +54,7 @@ use Rattle.model.specs.World.{Trace, flight_in, progress_in}
 use Rattle.laws_turns.specs.Changes.{changes_of, seen_by}
 use Rattle.laws_turns.specs.Others.{queue_in}
 use Rattle.laws_turns.specs.Questions.{waits_at, index_if, loads_cell}
+use Rattle.headline.specs.Bounds.{most_steps}
 use Rattle.headline.specs.Ends.{RobustFinds, ContainerFinds, Looks}
 use Rattle.headline.specs.Holders.{holders, claims, fills, grants, loans, NoTwoHold, NoneOnceLocked, IsRelease, GivesBack}
 use Rattle.headline.specs.Moments.{Follows, call_in, ActedOnce, AtMostOnce, ActAs}
@@ -313,7 +312,7 @@ module _ {T : Type 0} where
         → call_in (span_of p t.events) ≡ Some start
         → progress_in t.world p ≡ Some g
         → g.steps
-        ≤ (promise_of t.world.kind).most_steps t.world.capacity t.world.coding.size start g.backs
+        ≤ most_steps t.world.kind t.world.capacity t.world.coding.size start g.backs
     -- A call that is wait-free or obstruction-free keeps within the constants of that guarantee.
     pub guaranteed : (p : ℕ) (start : Start T) (g : Progress)
         → call_in (span_of p t.events) ≡ Some start
@@ -324,7 +323,6 @@ module _ {T : Type 0} where
   pub record Holds (queue : ℕ) (t : Trace T) : Type 0 where
     pub runs : Runs t.world.kind queue t
     pub progress : MakesProgress t
-    pub kept : IsKept t  -- all that its family promises
 
   -- ---- one turn
 
@@ -360,4 +358,3 @@ module _ {T : Type 0} where
     pub found_there : old.world.kind ≡ kinds.Container → ContainerFinds old turn new
     -- A look at a container has left its party a state when it ends, which shows what stood there during the look.
     pub looked : old.world.kind ≡ kinds.Container → Looks old new
-    pub is_turn : IsTurn old turn new  -- all that is promised of a turn

@@ -1,3 +1,4 @@
+pub mod Bounds
 pub mod Ends
 pub mod Headline
 pub mod Holders

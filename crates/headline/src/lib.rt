@@ -1,7 +1,7 @@
-//! The main theorem about every machine, in one place: the statement to read first. The functions do nothing: the contract of
-//! each is a law, and what its words mean stands in `specs`.
+//! What every machine does, kind by kind and turn by turn, and lock-freedom. The functions do nothing: the contract of each is
+//! a law, and what its words mean stands in `specs`.
 //!
-//! Its last part, what calls answer that run whole, one after another, stands in the crate `headline_whole`.
+//! The main theorem, in one statement, is that of the crate `headline_whole`.
 #![tactic(auto)]
 
 ghost use Rattle.std.specs.Prelude.{◌≡◌, ℕ, List, None, IfSome};
@@ -11,6 +11,7 @@ ghost use Rattle.model.specs.Coding.{Coding, IsCoding};
 ghost use Rattle.model.specs.declared.turn.Kind.TheVariants.{Robust, Container, Loan};
 ghost use Rattle.model.specs.LockFree.{IsLockFree, IsLockFreeOf, HasLockFreeRuns, IsDefault};
 ghost use Rattle.model.specs.LockFree.{lock_free_bound, default_bound, default_container_bound};
+ghost use Rattle.model.specs.Promises.{IsKept, IsTurn};
 ghost use Rattle.model.specs.Refusals.{refusal_of};
 ghost use Rattle.model.specs.Turns.{IsReached, after_turn, run};
 ghost use Rattle.model.specs.World.{Trace, opened, capacity_error, queue_error, trace_in};
@@ -44,6 +45,14 @@ pub fn headline<T>()
     ensures lock_free_by_default { IsLockFreeOf T Robust IsDefault default_bound }
     ensures lock_free_container { IsLockFreeOf T Container IsDefault default_container_bound }
     ensures lock_free_channel { HasLockFreeRuns T Loan channel_bound }
+{}
+
+/// All that the family of a machine's kind promises of every run, and of each further turn that is not refused. What it promises
+/// stands in `model`.
+pub fn promises<T>()
+    ensures run { (t : Trace T) → IsReached t → IsKept t }
+    ensures turn { (t : Trace T) (turn : Turn T) → IsReached t → refusal_of t.world turn ≡ None
+        → IsTurn t turn (after_turn t turn) }
 {}
 
 /// Of a machine that a caller has `Holds` is true, for some capacity of a submission queue.

@@ -2,6 +2,7 @@ pub mod Agree
 pub mod AnyQueue
 pub mod BitSets
 pub mod ByKind
+pub mod Clauses
 pub mod ContainerRules
 pub mod Containers
 pub mod Courses

@@ -13,6 +13,7 @@ use Rattle.model.specs.declared.party.Doing.TheVariants.{Over}
 use Rattle.model.specs.declared.turn.Kind.TheVariants as kinds
 use Rattle.model.specs.declared.turn.Turn.TheVariants.{Begin, Next, Decide}
 use Rattle.model.specs.Coding.{one_word}
+use Rattle.model.specs.Promises.{IsKept, IsTurn}
 use Rattle.model.specs.World.{Trace}
 use Rattle.model.proofs.Runs.{begins, ran}
 use Rattle.headline.specs.Headline.{MakesProgress, Holds, Takes}
@@ -56,8 +57,8 @@ not_progressing : Holds 0 (went 0 1) → ⊥
 not_progressing k = turns_back k.progress
 
 -- a role is refused that nobody holds
-not_kept : Holds 0 (queue (0 ∷ 0 ∷ 1 ∷ 1 ∷ 0 ∷ 0 ∷ []) queues.refused) → ⊥
-not_kept k = queues.refused_role k.kept.promised
+not_kept : IsKept (queue (0 ∷ 0 ∷ 1 ∷ 1 ∷ 0 ∷ 0 ∷ []) queues.refused) → ⊥
+not_kept k = queues.refused_role k.promised
 
 -- ---- one turn
 
@@ -110,5 +111,5 @@ waits_still : Takes (finding 1) (Decide 1 true) (finding 1) → ⊥
 waits_still k = let e = k.answered (inl refl) 1 true refl in cc
 
 -- a turn is taken, and none is counted
-not_counted : Takes opened (Next 0) opened → ⊥
-not_counted k = let e = k.is_turn.later.turns in cc
+not_counted : IsTurn opened (Next 0) opened → ⊥
+not_counted k = let e = k.later.turns in cc

@@ -20,12 +20,12 @@ use Rattle.model.specs.Families.Container.Reading.{MayReplace}
 use Rattle.model.specs.Families.Container.States.{fresh}
 use Rattle.model.specs.Families.Indices.Robust.Promises.{FreesRight}
 use Rattle.model.specs.Families.Indices.Robust.Reading.{Asks}
-use Rattle.model.specs.Promises.{IsKept}
+use Rattle.model.specs.Promises.{IsKept, IsTurn}
 use Rattle.model.specs.Reading.{Span, Never, own_after}
 use Rattle.model.specs.Shape.{IsShut}
 use Rattle.model.specs.World.{Trace}
 use Rattle.model.proofs.Readings.{Each-append, Each-nil}
-use Rattle.headline.specs.Headline.{ContainerRuns, Takes}
+use Rattle.headline.specs.Headline.{ContainerRuns}
 use Rattle.wrong_runs.proofs.Container.{container, still, well_formed}
 use Rattle.wrong_runs.proofs.Machines.{machine}
 
@@ -153,7 +153,7 @@ looked_well_formed =
     }
 
 -- it answers true, and its state still shows nothing
-update_copies_nothing : Takes (with_blank looking) (Next 1) (with_blank looked) → ⊥
+update_copies_nothing : IsTurn (with_blank looking) (Next 1) (with_blank looked) → ⊥
 update_copies_nothing k =
-    let right = k.is_turn.tells.looks 1 UpdateState (Truth true) blank (record { is_look = tt; wrote = []; is = refl }) refl in
+    let right = k.tells.looks 1 UpdateState (Truth true) blank (record { is_look = tt; wrote = []; is = refl }) refl in
     let e = (right.1 looked_well_formed).0.alone alone 0 (omega arith) in cc

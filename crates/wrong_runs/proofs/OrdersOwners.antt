@@ -13,8 +13,9 @@ use Rattle.model.specs.declared.turn.Turn.{Turn}
 use Rattle.model.specs.declared.turn.Turn.TheVariants.{Next, Decide}
 use Rattle.model.specs.Families.Indices.Robust.Promises.{IsRobustSet, FreesRight, IsWellFormed, IsFilled, IsFilledWith, count_below}
 use Rattle.model.specs.Families.Indices.Robust.Reading.{Asks, Frees, set_acts_of, IsOneOf}
+use Rattle.model.specs.Promises.{IsTurn}
 use Rattle.model.proofs.Readings.{Each-append, Each-nil, no_more}
-use Rattle.headline.specs.Headline.{RobustRuns, Takes}
+use Rattle.headline.specs.Headline.{RobustRuns}
 use Rattle.wrong_runs.proofs.HeadlineRobust.{held_since, none_stays}
 use Rattle.wrong_runs.proofs.Machines.{at_no_moment}
 use Rattle.wrong_runs.proofs.Robust.{set}
@@ -118,7 +119,7 @@ none_chosen chosen none is =
 not_stopped : ◌≡◌ {A = Turn ℕ} (Next 1) (Decide 1 false) → ⊥
 not_stopped e = cc
 
-find_does_nothing : Takes (set (0 ∷ 7 ∷ 9 ∷ []) finding) (Next 1) (set (0 ∷ 7 ∷ 9 ∷ []) (finding ++ Finished 1 find (Number 0) ∷ [])) → ⊥
+find_does_nothing : IsTurn (set (0 ∷ 7 ∷ 9 ∷ []) finding) (Next 1) (set (0 ∷ 7 ∷ 9 ∷ []) (finding ++ Finished 1 find (Number 0) ∷ [])) → ⊥
 find_does_nothing k =
-    let count = k.is_turn.tells.0.0 1 7 0 refl not_stopped in
+    let count = k.tells.0.0 1 7 0 refl not_stopped in
     none_chosen count.chosen count.is (count.through 0 (omega arith) (held_since (IsFilledWith 7 0) 7 find refl))

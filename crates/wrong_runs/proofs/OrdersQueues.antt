@@ -13,6 +13,7 @@ use Rattle.model.specs.declared.party.Doing.TheVariants.{Over}
 use Rattle.model.specs.declared.turn.Kind.TheVariants as kinds
 use Rattle.model.specs.declared.turn.Turn.TheVariants.{Next}
 use Rattle.model.specs.Coding.{one_word}
+use Rattle.model.specs.Promises.{IsTurn}
 use Rattle.model.specs.World.{Trace}
 use Rattle.model.proofs.Runs.{roles, begins, ran, two_words}
 use Rattle.headline.specs.Headline.{QueueRuns, ValueRuns, MakesProgress, Takes}
@@ -32,8 +33,8 @@ whole_call_in_one_turn k = let e = k.one_word in cc
 abbrev counting : ℕ → Trace ℕ
 counting steps = ran one_word kinds.IndexQueue 2 2 (begins 1 (Queues Len) steps)
 
-whole_look_in_one_turn : Takes (counting 0) (Next 1) (counting 3) → ⊥
-whole_look_in_one_turn k = let e = k.is_turn.counts.steps in cc
+whole_look_in_one_turn : IsTurn (counting 0) (Next 1) (counting 3) → ⊥
+whole_look_in_one_turn k = let e = k.counts.steps in cc
 
 -- where 1 is to be added to the write position, it becomes 2
 abbrev with_words : List ℕ → Trace ℕ → Trace ℕ

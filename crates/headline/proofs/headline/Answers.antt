@@ -53,7 +53,6 @@ returns-clause-turn g c t turn r e =
       found = robust_finds t turn (after_turn t turn) is_turn;
       found_there = container_finds t turn (after_turn t turn) is_turn;
       looked = looks t turn (after_turn t turn) is_turn;
-      is_turn = is_turn;
     }
 
 pub returns-clause-lock_free : goal.returns-clause-lock_free

@@ -1,0 +1,15 @@
+use Rattle.std.proofs.Common.{◌≡◌, List, [], ◌∷◌, take, ap, ◌∙◌}
+use Rattle.model.specs.declared.turn.Turn.{Turn}
+use Rattle.model.specs.Turns.{after_turn, after_turns}
+use Rattle.model.specs.World.{Trace}
+use Rattle.model.proofs.Reached.{turn_making}
+use Rattle.headline_whole.proofs.run_index_set.Goals as goal
+
+keeps_kind : {T : Type 0} (turns : List (Turn T)) (old new : Trace T) → new ≡ after_turns old turns → new.world.kind ≡ old.world.kind
+keeps_kind [] old new is = ap (λ t. t.world.kind) is
+keeps_kind (turn ∷ turns) old new is = keeps_kind turns (after_turn old turn) new is ∙ (turn_making old.world turn).kind
+
+pub no_two_hold-requires : goal.no_two_hold-requires
+no_two_hold-requires g c =
+    keeps_kind {T = g.row.T.Denot} (take c.run.result c.args.turns.now) _ _ c.run.ensures.taken
+    ∙ ap (λ (t : Trace g.row.T.Denot). t.world.kind) c.in_ok-machine.ensures.ok
