@@ -3,9 +3,15 @@
 //! and no version comes to its last number, at which a push and a store are refused.
 #![tactic(auto)]
 
-ghost use Rattle.std.specs.Prelude.{◌≡◌, ℕ, ◌<◌, ◌^◌, List, length, map, fold};
+ghost use Rattle.std.specs.Prelude.{◌≡◌, ℕ, ◌<◌, ◌^◌, List, length, map, fold, slice_index};
 ghost use Rattle.model.specs.Turns.{run};
 ghost use Rattle.model.specs.World.{trace_in};
+ghost use Rattle.pages.specs.BitSet.{bit_set};
+ghost use Rattle.pages.specs.BitSet as bits;
+ghost use Rattle.pages.specs.BitSetBridge as bits_bridge;
+ghost use Rattle.pages.specs.CountingBitSet.{counting_bit_set};
+ghost use Rattle.pages.specs.CountingBitSet as counts;
+ghost use Rattle.pages.specs.CountingBitSetBridge as counts_bridge;
 ghost use Rattle.pages.specs.IndexQueue.{index_queue, bounded_list};
 ghost use Rattle.pages.specs.IndexQueue as queue;
 ghost use Rattle.pages.specs.Machine.{Turn, opening, turned, IsLinearizable};
@@ -16,6 +22,7 @@ ghost use Rattle.pages.specs.Value.{value, register};
 ghost use Rattle.pages.specs.Value as single;
 ghost use Rattle.pages.specs.ValueBridge.{LoadsByTable, StoresByTable, ValueDoesAsTheCode, ValueRunsAsTheMachine};
 ghost use Rattle.pages.specs.IndexQueueBridge.{DoesAsTheCode, PopsByTable, PushesByTable, RunsAsTheMachine, acquired, as_turn, reading, roles_told};
+ghost use Rattle.pages.specs.Places.{ActsAt};
 ghost use Rattle.pages.specs.Reading.{IsSame};
 
 use machine::Machine;
@@ -81,4 +88,38 @@ pub fn overflowing_queue_is_the_code()
     ensures pushes { OverflowingPushesByTable }
     ensures pops { OverflowingPopsByTable }
     ensures machine { OverflowingRunsAsTheMachine }
+{}
+
+/// The bit set, of any parties: the theorem of its page. At each place each call acts at one moment inside it, and whatever
+/// bit was set there was reset by one call, or stands. The function does nothing: its contract is a law.
+pub fn bit_set()
+    ensures { (capacity place : ℕ) (turns : List (Turn bits.Call)) → place < capacity
+        → ActsAt (bits.at place) (fold (turned (bit_set capacity)) (opening (bit_set capacity)) turns).history
+        (bits.now (fold (turned (bit_set capacity)) (opening (bit_set capacity)) turns).words place) }
+{}
+
+/// The page of the bit set is about the code: each stage asks for what the code's function asks for, and goes on as it does,
+/// and a reset of all hands out what the machine's events say.
+pub fn bit_set_is_the_code()
+    ensures code { bits_bridge.BitSetDoesAsTheCode }
+    ensures hands_out { bits_bridge.HandsOutAsTheMachine }
+    ensures sets { bits_bridge.SetsByTable }
+    ensures nexts { bits_bridge.NextsByTable }
+    ensures alls { bits_bridge.AllsByTable }
+{}
+
+/// The counting bit set, of any parties: the theorem of its page. At each place each call acts at one moment inside it, and
+/// whatever was counted there was taken out by one call, or is its count. In fewer than 2^63 turns no count wraps.
+pub fn counting_bit_set()
+    ensures { (capacity place : ℕ) (turns : List (Turn counts.Call)) → place < capacity → length turns < 2 ^ 63
+        → ActsAt (counts.at place) (fold (turned (counting_bit_set capacity)) (opening (counting_bit_set capacity)) turns).history
+        (slice_index (fold (turned (counting_bit_set capacity)) (opening (counting_bit_set capacity)) turns).words place) }
+{}
+
+/// The page of the counting bit set is about the code.
+pub fn counting_bit_set_is_the_code()
+    ensures code { counts_bridge.CountingDoesAsTheCode }
+    ensures hands_out { counts_bridge.HandsOutAsTheMachine }
+    ensures sets { counts_bridge.CountsByTable }
+    ensures takes { counts_bridge.TakesByTable }
 {}
