@@ -3,6 +3,9 @@ pub mod IndexQueueBridge
 pub mod Machine
 pub mod OverflowingQueue
 pub mod OverflowingQueueBridge
+pub mod Queue
+pub mod QueueBridge
 pub mod Reading
+pub mod RolesBridge
 pub mod Value
 pub mod ValueBridge
