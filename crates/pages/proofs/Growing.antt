@@ -132,4 +132,3 @@ module _ {Call Answer : Type 0} where
       (ap (λ cs. record { place = n; party = q; call = c; response = responded p m answer q (response_in q h (n + 1)) } ∷ cs)
       (calls_done h (n + 1) m p answer (omega arith)))
   calls_done (Responded q a ∷ h) n m p answer e = calls_done h (n + 1) m p answer (omega arith)
-

@@ -17,6 +17,7 @@ use Rattle.model.specs.declared.event.Start.TheVariants.{Queues}
 use Rattle.model.specs.declared.families.Flight as flights
 use Rattle.model.specs.declared.families.Registry as registries
 use Rattle.model.specs.declared.families.queues.QueueKind as queue_kinds
+use Rattle.model.specs.declared.families.queues.Roles.{Roles}
 use Rattle.model.specs.declared.families.queues.QueueStart.TheVariants.{PushIndex, Push, Pop}
 use Rattle.model.specs.declared.turn.Kind as kinds
 use Rattle.model.specs.declared.turn.Turn.{Turn}
@@ -60,7 +61,7 @@ call_at (page.PopMovesRead read value) = page.Pop
 abbrev comes : ℕ → page.Stage → ℕ → (machine.After page.Stage (Option ℕ))
 comes c stage old = (page.does c stage).2 old
 
-asks_same : (c before : ℕ) (stage : page.Stage) → ask_of (want one_word (flight c before stage)) ≡ Some (asked (page.does c stage).0 (page.does c stage).1)
+pub asks_same : (c before : ℕ) (stage : page.Stage) → ask_of (want one_word (flight c before stage)) ≡ Some (asked (page.does c stage).0 (page.does c stage).1)
 asks_same c before (page.PushLoadsWrite value) = refl
 asks_same c before (page.PushLoadsRead value write) = refl
 asks_same c before (page.PushStoresCell value write read) = refl
@@ -97,7 +98,7 @@ on_or : (b : Bool) (call : page.Call) (answer : Option ℕ) (stage : page.Stage)
 on_or true call answer stage e = (e, refl)
 on_or false call answer stage e = tt
 
-right : (c : ℕ) (stage : page.Stage) (old : ℕ) → GoesRight call_at fits (call_at stage) (comes c stage old)
+pub right : (c : ℕ) (stage : page.Stage) (old : ℕ) → GoesRight call_at fits (call_at stage) (comes c stage old)
 right c (page.PushLoadsWrite value) old = done_or (old == 2 ^ 64 - 1) (page.Push value) (Some value) (page.PushLoadsRead value old) refl
 right c (page.PushLoadsRead value write) old = (refl, refl)
 right c (page.PushStoresCell value write read) old = (refl, refl)
@@ -112,9 +113,9 @@ right c (page.PopMovesRead read value) old = done_or (old == read) page.Pop (Som
 
 -- ---- what a step does beside
 
-roles_stay : (p : ℕ) (call : page.Call) (outcome : Option (Answer ℕ)) → roles_after p (queue_start call) outcome held ≡ held
-roles_stay p (page.Push value) outcome = refl
-roles_stay p page.Pop outcome = refl
+roles_stay : (p : ℕ) (call : page.Call) (outcome : Option (Answer ℕ)) (roles : Roles) → roles_after p (queue_start call) outcome roles ≡ roles
+roles_stay p (page.Push value) outcome roles = refl
+roles_stay p page.Pop outcome roles = refl
 
 went_same : (c before : ℕ) (a : (machine.After page.Stage (Option ℕ)))
     → as_call flights.TheVariants.Queues (λ (answer : Answer ℕ). answer) (went c before a)
@@ -122,12 +123,13 @@ went_same : (c before : ℕ) (a : (machine.After page.Stage (Option ℕ)))
 went_same c before (machine.GoOn stage) = refl
 went_same c before (machine.Done answer) = refl
 
-goes : (c : ℕ) (words : List ℕ) (beside : Option (ℕ × ℕ)) (p before : ℕ) (stage : page.Stage) (old : ℕ)
-    → StepIs ℕ (page.overflowing_queue c) reading is_push_or_pop kinds.TheVariants.Overflow c kept
+pub goes : (c : ℕ) (roles : Roles) (words : List ℕ) (beside : Option (ℕ × ℕ)) (p before : ℕ) (stage : page.Stage) (old : ℕ)
+    → StepIs ℕ (page.overflowing_queue c) reading is_push_or_pop kinds.TheVariants.Overflow c (registries.TheVariants.Queues roles)
     (λ r stage. flights.TheVariants.Queues (flight c r stage)) answered
-    (step_of one_word words beside p (Queues (queue_start (call_at stage))) (flights.TheVariants.Queues (flight c before stage)) old kept)
+    (step_of one_word words beside p (Queues (queue_start (call_at stage))) (flights.TheVariants.Queues (flight c before stage)) old
+    (registries.TheVariants.Queues roles))
     (comes c stage old)
-goes c words beside p before stage old =
+goes c roles words beside p before stage old =
     let outcome = answer_in (after one_word (flight c before stage) old) in
     let eff = effect_of one_word words beside (flight c before stage) old in
     record {
@@ -135,7 +137,7 @@ goes c words beside p before stage old =
       after_is =
           ap (as_call flights.TheVariants.Queues (λ answer. answer)) (after_same c before stage old)
           ∙ went_same c (read_then before stage) (comes c stage old);
-      kept_is = ap registries.TheVariants.Queues (roles_stay p (call_at stage) outcome);
+      kept_is = ap registries.TheVariants.Queues (roles_stay p (call_at stage) outcome roles);
       unseen = effects_unseen reading p (queue_start (call_at stage)) eff outcome;
       own = effects_own p (queue_start (call_at stage)) eff outcome;
     }
@@ -145,7 +147,7 @@ goes c words beside p before stage old =
 abbrev tied : ℕ → Type 0
 tied c = Tie ℕ (page.overflowing_queue c) reading is_push_or_pop kinds.TheVariants.Overflow c kept
 
-tie : (c : ℕ) → (c == 0) ≡ false → tied c
+unfoldable pub tie : (c : ℕ) → (c == 0) ≡ false → tied c
 tie c some =
     record {
       call_at = call_at;
@@ -165,7 +167,7 @@ tie c some =
       first_fits = λ call. refl;
       asks = λ before stage fit. asks_same c before stage;
       rows = λ before stage. refl;
-      goes = goes c;
+      goes = λ words beside p r stage old fit. goes c held words beside p r stage old;
       right = λ stage old fit. right c stage old;
     }
   where
@@ -183,13 +185,13 @@ tie c some =
 
     admits : (p : ℕ) (call : page.Call) → page.may p call ≡ true
         → first_row (begin_rows kinds.TheVariants.Overflow c kept p (Queues (queue_start call))) ≡ None
-    admits p (page.Push value) m = holds_row (0 == p) (grind (arith, nat_tests))
-    admits p page.Pop m = holds_row (1 == p) (grind (arith, nat_tests))
+    admits p (page.Push value) m = holds_row 0 p m
+    admits p page.Pop m = holds_row 1 p m
 
     refuses : (p : ℕ) (call : page.Call) → page.may p call ≡ false
         → is_some (first_row (begin_rows kinds.TheVariants.Overflow c kept p (Queues (queue_start call)))) ≡ true
-    refuses p (page.Push value) m = lacks_row (0 == p) (grind (arith, nat_tests))
-    refuses p page.Pop m = lacks_row (1 == p) (grind (arith, nat_tests))
+    refuses p (page.Push value) m = lacks_row 0 p m
+    refuses p page.Pop m = lacks_row 1 p m
 
     begins : (call : page.Call)
         → model.first_of kinds.TheVariants.Overflow c (Queues (queue_start call)) kept
@@ -257,7 +259,7 @@ is_list c = record { state = map number; opens = refl; after = one_after c; answ
 admitted : (c : ℕ) → c < 2 ^ 32 → capacity_error kinds.TheVariants.Overflow c ≡ None
 admitted c few = grind (arith, nat_tests)
 
-some_is : (c : ℕ) → 0 < c → (c == 0) ≡ false
+pub some_is : (c : ℕ) → 0 < c → (c == 0) ≡ false
 some_is c lt = grind (arith, nat_tests)
 
 opens : (c : ℕ) (some : (c == 0) ≡ false) → Sim (tie c some) 2 roles_told (machine.opening (page.overflowing_queue c)) 0 (acquired c)

@@ -17,6 +17,7 @@ use Rattle.model.specs.declared.event.Start.TheVariants.{Queues}
 use Rattle.model.specs.declared.families.Flight as flights
 use Rattle.model.specs.declared.families.Registry as registries
 use Rattle.model.specs.declared.families.queues.QueueKind as queue_kinds
+use Rattle.model.specs.declared.families.queues.Roles.{Roles}
 use Rattle.model.specs.declared.families.queues.QueueStart.TheVariants.{PushIndex, Push, Pop}
 use Rattle.model.specs.declared.turn.Kind as kinds
 use Rattle.model.specs.declared.turn.Turn.{Turn}
@@ -61,7 +62,7 @@ fits c (page.PushStoresCell value write) = not (c == 0)
 fits c (page.PopLoadsCell read) = not (c == 0)
 fits c stage = true
 
-fits_so : (c : ℕ) (stage : page.Stage) → fits c stage ≡ true → Fits c stage
+pub fits_so : (c : ℕ) (stage : page.Stage) → fits c stage ≡ true → Fits c stage
 fits_so c (page.PushLoadsWrite value) e = tt
 fits_so c (page.PushLoadsRead value write) e = tt
 fits_so c (page.PushStoresCell value write) e = grind arith
@@ -84,7 +85,7 @@ cell_is c position few some =
     let lt : position % c < 2 ^ 32 = omega arith in
     rw some (small_word (position % c) lt)
 
-asks_same : (c : ℕ) (stage : page.Stage) → c < 2 ^ 32 → Fits c stage
+pub asks_same : (c : ℕ) (stage : page.Stage) → c < 2 ^ 32 → Fits c stage
     → ask_of (want one_word (flight c stage)) ≡ Some (asked (page.does c stage).0 (page.does c stage).1)
 asks_same c (page.PushLoadsWrite value) few fits = refl
 asks_same c (page.PushLoadsRead value write) few fits = refl
@@ -105,7 +106,7 @@ after_same c (page.PopLoadsWrite read) old = grind arith
 after_same c (page.PopLoadsCell read) old = refl
 after_same c (page.PopStoresRead read value) old = refl
 
-right : (c : ℕ) (stage : page.Stage) (old : ℕ) → GoesRight call_at (fits c) (call_at stage) (comes c stage old)
+pub right : (c : ℕ) (stage : page.Stage) (old : ℕ) → GoesRight call_at (fits c) (call_at stage) (comes c stage old)
 right c (page.PushLoadsWrite value) old = go (old == 2 ^ 64 - 1)
   where
     go : (b : Bool) → GoesRight call_at (fits c) (page.Push value) (cond b (machine.Done (page.Pushed false)) (machine.GoOn (page.PushLoadsRead value old)))
@@ -134,9 +135,9 @@ right c (page.PopStoresRead read value) old = tt
 
 -- ---- what a step does beside
 
-roles_stay : (p : ℕ) (call : page.Call) (outcome : Option (Answer ℕ)) → roles_after p (queue_start call) outcome held ≡ held
-roles_stay p (page.Push value) outcome = refl
-roles_stay p page.Pop outcome = refl
+roles_stay : (p : ℕ) (call : page.Call) (outcome : Option (Answer ℕ)) (roles : Roles) → roles_after p (queue_start call) outcome roles ≡ roles
+roles_stay p (page.Push value) outcome roles = refl
+roles_stay p page.Pop outcome roles = refl
 
 went_same : (c : ℕ) (a : (machine.After page.Stage page.Answer))
     → as_call flights.TheVariants.Queues (λ (answer : Answer ℕ). answer) (went c a)
@@ -144,18 +145,19 @@ went_same : (c : ℕ) (a : (machine.After page.Stage page.Answer))
 went_same c (machine.GoOn stage) = refl
 went_same c (machine.Done answer) = refl
 
-goes : (c : ℕ) (words : List ℕ) (beside : Option (ℕ × ℕ)) (p : ℕ) (stage : page.Stage) (old : ℕ)
-    → StepIs (Unit {0}) (page.index_queue c) reading is_push_or_pop kinds.TheVariants.IndexQueue c kept
+pub goes : (c : ℕ) (roles : Roles) (words : List ℕ) (beside : Option (ℕ × ℕ)) (p : ℕ) (stage : page.Stage) (old : ℕ)
+    → StepIs (Unit {0}) (page.index_queue c) reading is_push_or_pop kinds.TheVariants.IndexQueue c (registries.TheVariants.Queues roles)
     (λ r stage. flights.TheVariants.Queues (flight c stage)) answered
-    (step_of one_word words beside p (Queues (queue_start (call_at stage))) (flights.TheVariants.Queues (flight c stage)) old kept)
+    (step_of one_word words beside p (Queues (queue_start (call_at stage))) (flights.TheVariants.Queues (flight c stage)) old
+    (registries.TheVariants.Queues roles))
     (comes c stage old)
-goes c words beside p stage old =
+goes c roles words beside p stage old =
     let outcome = answer_in (after one_word (flight c stage) old) in
     let eff = effect_of one_word words beside (flight c stage) old in
     record {
       room = tt;
       after_is = ap (as_call flights.TheVariants.Queues (λ answer. answer)) (after_same c stage old) ∙ went_same c (comes c stage old);
-      kept_is = ap registries.TheVariants.Queues (roles_stay p (call_at stage) outcome);
+      kept_is = ap registries.TheVariants.Queues (roles_stay p (call_at stage) outcome roles);
       unseen = effects_unseen reading p (queue_start (call_at stage)) eff outcome;
       own = effects_own p (queue_start (call_at stage)) eff outcome;
     }
@@ -165,7 +167,7 @@ goes c words beside p stage old =
 abbrev tied : ℕ → Type 0
 tied c = Tie (Unit {0}) (page.index_queue c) reading is_push_or_pop kinds.TheVariants.IndexQueue c kept
 
-tie : (c : ℕ) → c < 2 ^ 32 → tied c
+unfoldable pub tie : (c : ℕ) → c < 2 ^ 32 → tied c
 tie c few =
     record {
       call_at = call_at;
@@ -185,7 +187,7 @@ tie c few =
       first_fits = first_fits;
       asks = λ r stage fit. asks_same c stage few (fits_so c stage fit);
       rows = λ r stage. refl;
-      goes = λ words beside p r stage old. goes c words beside p stage old;
+      goes = λ words beside p r stage old fit. goes c held words beside p stage old;
       right = λ stage old fit. right c stage old;
     }
   where
@@ -204,13 +206,13 @@ tie c few =
 
     admits : (p : ℕ) (call : page.Call) → page.may p call ≡ true
         → first_row (begin_rows kinds.TheVariants.IndexQueue c kept p (Queues (queue_start call))) ≡ None
-    admits p (page.Push value) m = holds_row (0 == p) (grind (arith, nat_tests))
-    admits p page.Pop m = holds_row (1 == p) (grind (arith, nat_tests))
+    admits p (page.Push value) m = holds_row 0 p m
+    admits p page.Pop m = holds_row 1 p m
 
     refuses : (p : ℕ) (call : page.Call) → page.may p call ≡ false
         → is_some (first_row (begin_rows kinds.TheVariants.IndexQueue c kept p (Queues (queue_start call)))) ≡ true
-    refuses p (page.Push value) m = lacks_row (0 == p) (grind (arith, nat_tests))
-    refuses p page.Pop m = lacks_row (1 == p) (grind (arith, nat_tests))
+    refuses p (page.Push value) m = lacks_row 0 p m
+    refuses p page.Pop m = lacks_row 1 p m
 
     begins : (call : page.Call)
         → model.first_of kinds.TheVariants.IndexQueue c (Queues (queue_start call)) kept

@@ -1,8 +1,9 @@
 -- What the pages of both queues of indices share: the roles, the effects of a step, and the two acquires before the page begins.
 use Rattle.std.specs.List.{AllByRecursion, Contains}
 use Rattle.std.proofs.Common.{drop, is_some}
+use Rattle.std.proofs.lemmas.Bool.Decides.{nat_tests}
 use Rattle.model.proofs.Names.{Bool, IsCoding, List, None, Option, Some, [], ap, arith, cond, doing_of, false}
-use Rattle.model.proofs.Names.{first_row, flight_of, map, not, one_word, refl, true, ℕ, ⊎_elim, ◌++◌, ◌∷◌, ◌≡◌}
+use Rattle.model.proofs.Names.{first_row, flight_of, map, not, one_word, refl, true, ℕ, ⊎_elim, ◌++◌, ◌==◌, ◌∷◌, ◌≡◌}
 use Rattle.model.proofs.Names as model
 use Rattle.model.specs.declared.event.Answer.{Answer}
 use Rattle.model.specs.declared.event.Answer.TheVariants.{Truth}
@@ -23,7 +24,7 @@ use Rattle.model.specs.Linearizable.{calls_from, calls_of}
 use Rattle.model.specs.Linearized.{is_push_or_pop}
 use Rattle.model.proofs.Linearizable.Members.{split, there}
 use Rattle.pages.specs.IndexQueueBridge.{roles_told}
-use Rattle.pages.specs.Reading.{Reading, all_seen}
+use Rattle.pages.specs.Reading.{ReadingOf, all_seen}
 use Rattle.pages.proofs.Seen.{IsOwn}
 
 -- ---- the roles
@@ -31,19 +32,20 @@ use Rattle.pages.proofs.Seen.{IsOwn}
 abbrev pub held : Roles
 held = record { producer = Some 0; consumer = Some 1 }
 
-abbrev pub kept : registries.Registry ℕ
+abbrev pub kept : {T : Type 0} → registries.Registry T
 kept = registries.TheVariants.Queues held
 
-pub holds_row : (b : Bool) → b ≡ true → first_row ((false, WrongCall) ∷ (not b, NoRole) ∷ []) ≡ None
-holds_row b e = rw e refl
+-- who is the holder has the role, and no other has
+pub holds_row : (holder p : ℕ) → (p == holder) ≡ true → first_row ((false, WrongCall) ∷ (not (holder == p), NoRole) ∷ []) ≡ None
+holds_row holder p e = let is : (holder == p) ≡ true = grind (arith, nat_tests) in rw is refl
 
-pub lacks_row : (b : Bool) → b ≡ false → is_some (first_row ((false, WrongCall) ∷ (not b, NoRole) ∷ [])) ≡ true
-lacks_row b e = rw e refl
+pub lacks_row : (holder p : ℕ) → (p == holder) ≡ false → is_some (first_row ((false, WrongCall) ∷ (not (holder == p), NoRole) ∷ [])) ≡ true
+lacks_row holder p e = let is : (holder == p) ≡ false = grind (arith, nat_tests) in rw is refl
 
 -- ---- the effects of a step
 
-pub effects_unseen : {Call Answered : Type 0} (read : Reading Call Answered) (p : ℕ) (start : QueueStart ℕ)
-    (eff : Effect ℕ) (outcome : Option (Answer ℕ))
+pub effects_unseen : {T Call Answered : Type 0} (read : ReadingOf T Call Answered) (p : ℕ) (start : QueueStart T)
+    (eff : Effect T) (outcome : Option (Answer T))
     → all_seen read (effects_of p start eff outcome) ≡ []
 effects_unseen read p start Quiet outcome = refl
 effects_unseen read p start Acts None = refl
@@ -57,7 +59,7 @@ effects_unseen read p start (TakesOut index) outcome = refl
 effects_unseen read p start (MakesRoom item q pushed) None = refl
 effects_unseen read p start (MakesRoom item q pushed) (Some answer) = refl
 
-pub effects_own : (p : ℕ) (start : QueueStart ℕ) (eff : Effect ℕ) (outcome : Option (Answer ℕ))
+pub effects_own : {T : Type 0} → (p : ℕ) (start : QueueStart T) (eff : Effect T) (outcome : Option (Answer T))
     → AllByRecursion (IsOwn is_push_or_pop) (effects_of p start eff outcome)
 effects_own p start Quiet outcome = tt
 effects_own p start Acts None = tt
@@ -83,21 +85,22 @@ number_rest (item ∷ items) = refl
 
 -- ---- behind the two acquires
 
-abbrev pub producer : model.Call ℕ
+abbrev pub producer : {T : Type 0} → model.Call T
 producer = record { place = 0; party = 0; start = Queues AcquireProducer; response = Some (record { place = 1; answer = Truth true }) }
 
-abbrev pub consumer : model.Call ℕ
+abbrev pub consumer : {T : Type 0} → model.Call T
 consumer = record { place = 2; party = 1; start = Queues AcquireConsumer; response = Some (record { place = 3; answer = Truth true }) }
 
-pub among : (es : List (Event ℕ)) (c : model.Call ℕ) → is_push_or_pop c.start ≡ true → Contains (calls_of (roles_told ++ es)) c → Contains (calls_from es 4) c
-among es c mine is =
-    ⊎_elim (λ e. let other : false ≡ is_push_or_pop c.start = ap (λ (x : model.Call ℕ). is_push_or_pop x.start) e in absurd (cc))
+pub among : {T : Type 0} → (es : List (Event T)) (c : model.Call T) → is_push_or_pop c.start ≡ true
+    → Contains (calls_of (roles_told ++ es)) c → Contains (calls_from es 4) c
+among {T} es c mine is =
+    ⊎_elim (λ e. let other : false ≡ is_push_or_pop c.start = ap (λ (x : model.Call T). is_push_or_pop x.start) e in absurd (cc))
     (λ more.
-    ⊎_elim (λ e. let other : false ≡ is_push_or_pop c.start = ap (λ (x : model.Call ℕ). is_push_or_pop x.start) e in absurd (cc)) (λ rest. rest)
+    ⊎_elim (λ e. let other : false ≡ is_push_or_pop c.start = ap (λ (x : model.Call T). is_push_or_pop x.start) e in absurd (cc)) (λ rest. rest)
     (split consumer c (calls_from es 4) more))
     (split producer c (consumer ∷ calls_from es 4) is)
 
-pub within : (es : List (Event ℕ)) (c : model.Call ℕ) → Contains (calls_from es 4) c → Contains (calls_of (roles_told ++ es)) c
+pub within : {T : Type 0} → (es : List (Event T)) (c : model.Call T) → Contains (calls_from es 4) c → Contains (calls_of (roles_told ++ es)) c
 within es c is = there producer c (consumer ∷ calls_from es 4) (there consumer c (calls_from es 4) is)
 
 -- ---- the opening
@@ -105,7 +108,7 @@ within es c is = there producer c (consumer ∷ calls_from es 4) (there consumer
 pub coded : IsCoding one_word
 coded = grind arith
 
-pub idle : (x y : Party ℕ) → flight_of (doing_of (Some x)) ≡ None → flight_of (doing_of (Some y)) ≡ None → (a b : Bool)
+pub idle : {T : Type 0} → (x y : Party T) → flight_of (doing_of (Some x)) ≡ None → flight_of (doing_of (Some y)) ≡ None → (a b : Bool)
     → flight_of (doing_of (cond a (Some x) (cond b (Some y) None))) ≡ None
 idle x y free too true b = free
 idle x y free too false true = too

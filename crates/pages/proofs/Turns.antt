@@ -47,7 +47,7 @@ not_at_end n lt = grind (arith, nat_tests)
 pub not_past : (n p : ℕ) → p < n → nat_le n p ≡ false
 not_past n p lt = grind (arith, nat_tests)
 
-pub none_is : (o : Option (Flight ℕ)) → o ≡ None → is_some o ≡ false
+pub none_is : {T : Type 0} → (o : Option (Flight T)) → o ≡ None → is_some o ≡ false
 none_is None e = refl
 none_is (Some flight) e = absurd (cc)
 
@@ -65,17 +65,17 @@ words_same words word (machine.Add by) = refl
 words_same words word (machine.Exchange from to) = refl
 words_same words word (machine.Swap new) = refl
 
-pub own_more : (is_call : Start ℕ → Bool) (es more : List (Event ℕ)) → AllByRecursion (IsOwn is_call) es
+pub own_more : {T : Type 0} → (is_call : Start T → Bool) (es more : List (Event T)) → AllByRecursion (IsOwn is_call) es
     → AllByRecursion (IsOwn is_call) more → AllByRecursion (IsOwn is_call) (es ++ more)
 own_more is_call [] more a b = b
 own_more is_call (e ∷ es) more a b = (a.0, own_more is_call es more a.1 b)
 
 -- ---- a turn is taken, or is refused
 
-pub taken : (t : Trace ℕ) (turn : Turn ℕ) → refusal_of t.world turn ≡ None → attempt t turn ≡ after_turn t turn
+pub taken : {T : Type 0} → (t : Trace T) (turn : Turn T) → refusal_of t.world turn ≡ None → attempt t turn ≡ after_turn t turn
 taken t turn e = ap (unless_refused t (after_turn t turn)) e
 
-pub refused : (t : Trace ℕ) (turn : Turn ℕ) → is_some (refusal_of t.world turn) ≡ true → attempt t turn ≡ t
+pub refused : {T : Type 0} → (t : Trace T) (turn : Turn T) → is_some (refusal_of t.world turn) ≡ true → attempt t turn ≡ t
 refused t turn e = go (refusal_of t.world turn) e
   where
     go : (o : Option Refusal) → is_some o ≡ true → unless_refused t (after_turn t turn) o ≡ t

@@ -1,7 +1,6 @@
 -- The theorem of the single value's page, from the model's.
 use Rattle.std.specs.List.{AllByRecursion, Contains}
 use Rattle.std.proofs.Common.{◌%◌, ◌^◌, ◌-◌, is_some, mod-lt}
-use Rattle.std.proofs.lemmas.Bool.Decides.{nat_tests}
 use Rattle.std.specs.Ordering.{is_eq, nat_cmp}
 use Rattle.model.proofs.Names.{fold, Bool, IsCoding, IsReached, List, None, Option, Some, Trace, World, [], after_turn}
 use Rattle.model.proofs.Names.{answer_in, ap, arith, ask_of, capacity_error, cond, doing_of, false, first_row}
@@ -19,7 +18,7 @@ use Rattle.model.specs.declared.families.atomic.AtomicStart.{AtomicStart}
 use Rattle.model.specs.declared.families.atomic.AtomicStart.TheVariants as starts
 use Rattle.model.specs.declared.party.Party.{Party}
 use Rattle.model.specs.declared.turn.Kind as kinds
-use Rattle.model.specs.declared.turn.Refusal.TheVariants.{AtEnd, Busy, Idle, NoParty, NoRole, Undecided, WrongCall}
+use Rattle.model.specs.declared.turn.Refusal.TheVariants.{AtEnd, Busy, Idle, NoParty, Undecided}
 use Rattle.model.specs.declared.turn.Turn.{Turn}
 use Rattle.model.specs.declared.turn.Turn.TheVariants.{Begin, Next}
 use Rattle.model.specs.Families.{begin_rows}
@@ -47,6 +46,7 @@ use Rattle.pages.proofs.Seen.{IsObject, IsOwn, carried}
 use Rattle.pages.proofs.Simulates.{GoesRight, Sim, StepIs, Tie, all_turns, trace}
 use Rattle.pages.proofs.Turns.{not_past, taken}
 use Rattle.pages.proofs.Simulates as simulates
+use Rattle.pages.proofs.Roles.{holds_row, lacks_row}
 
 -- ---- the tables are the same
 
@@ -67,7 +67,7 @@ cell_is k =
     let lt = mod-lt k some in
     omega arith
 
-asks_same : (before : ℕ) (stage : page.Stage) → ask_of (want one_word (flight before stage)) ≡ Some (asked (page.does stage).0 (page.does stage).1)
+pub asks_same : (before : ℕ) (stage : page.Stage) → ask_of (want one_word (flight before stage)) ≡ Some (asked (page.does stage).0 (page.does stage).1)
 asks_same before (page.StoreLoadsVersion value) = refl
 asks_same before (page.StoreStoresCell value version) = ap (λ k. Some (record { word = k; op = Store value })) (cell_is version)
 asks_same before (page.StoreAddsVersion value) = refl
@@ -83,7 +83,7 @@ after_same before page.LoadLoadsVersion old = refl
 after_same before (page.LoadLoadsCell version) old = refl
 after_same before (page.LoadChecksVersion version value) old = grind arith
 
-right : (stage : page.Stage) (old : ℕ) → GoesRight call_at (λ stage. true) (call_at stage) (comes stage old)
+pub right : (stage : page.Stage) (old : ℕ) → GoesRight call_at (λ stage. true) (call_at stage) (comes stage old)
 right (page.StoreLoadsVersion value) old = go (old == 2 ^ 64 - 1)
   where
     go : (b : Bool) → GoesRight call_at (λ stage. true) (page.StoreValue value)
@@ -102,9 +102,9 @@ right (page.LoadChecksVersion version value) old = go (old == version)
 
 -- ---- what a step does beside
 
-role_stays : (p : ℕ) (call : page.Call) (outcome : Option (Answer ℕ)) → producer_after p (value_start call) outcome (Some 0) ≡ Some 0
-role_stays p (page.StoreValue value) outcome = refl
-role_stays p page.LoadValue outcome = refl
+role_stays : (p : ℕ) (call : page.Call) (outcome : Option (Answer ℕ)) (role : Option ℕ) → producer_after p (value_start call) outcome role ≡ role
+role_stays p (page.StoreValue value) outcome role = refl
+role_stays p page.LoadValue outcome role = refl
 
 acted_unseen : (p : ℕ) (start : AtomicStart ℕ) (outcome : Option (Answer ℕ)) → all_seen reading (acted p start outcome) ≡ []
 acted_unseen p (starts.Store value) (Some (answers.Truth true)) = refl
@@ -125,32 +125,27 @@ went_same : (before : ℕ) (a : (machine.After page.Stage page.Answer))
 went_same before (machine.GoOn stage) = refl
 went_same before (machine.Done answer) = refl
 
-goes : (words : List ℕ) (beside : Option (ℕ × ℕ)) (p before : ℕ) (stage : page.Stage) (old : ℕ)
-    → StepIs ℕ page.value reading is_store_or_load kinds.TheVariants.Atomic 1 kept
+pub goes : (role : Option ℕ) (words : List ℕ) (beside : Option (ℕ × ℕ)) (p before : ℕ) (stage : page.Stage) (old : ℕ)
+    → StepIs ℕ page.value reading is_store_or_load kinds.TheVariants.Atomic 1 (registries.TheVariants.Atomic role)
     (λ r stage. flights.TheVariants.Atomic (flight r stage)) answered
-    (step_of one_word words beside p (Atomic (value_start (call_at stage))) (flights.TheVariants.Atomic (flight before stage)) old kept)
+    (step_of one_word words beside p (Atomic (value_start (call_at stage))) (flights.TheVariants.Atomic (flight before stage)) old
+    (registries.TheVariants.Atomic role))
     (comes stage old)
-goes words beside p before stage old =
+goes role words beside p before stage old =
     let outcome = answer_in (after one_word (flight before stage) old) in
     record {
       room = read_then before stage;
       after_is =
           ap (as_call flights.TheVariants.Atomic (λ answer. answer)) (after_same before stage old)
           ∙ went_same (read_then before stage) (comes stage old);
-      kept_is = ap registries.TheVariants.Atomic (role_stays p (call_at stage) outcome);
+      kept_is = ap registries.TheVariants.Atomic (role_stays p (call_at stage) outcome role);
       unseen = acted_unseen p (value_start (call_at stage)) outcome;
       own = acted_own p (value_start (call_at stage)) outcome;
     }
 
 -- ---- who may begin
 
-holds_row : (b : Bool) → b ≡ true → first_row ((false, WrongCall) ∷ (not b, NoRole) ∷ []) ≡ None
-holds_row b e = rw e refl
-
-lacks_row : (b : Bool) → b ≡ false → is_some (first_row ((false, WrongCall) ∷ (not b, NoRole) ∷ [])) ≡ true
-lacks_row b e = rw e refl
-
-tie : Tie ℕ page.value reading is_store_or_load kinds.TheVariants.Atomic 1 kept
+unfoldable pub tie : Tie ℕ page.value reading is_store_or_load kinds.TheVariants.Atomic 1 kept
 tie =
     record {
       call_at = call_at;
@@ -170,7 +165,7 @@ tie =
       first_fits = λ call. refl;
       asks = λ before stage fit. asks_same before stage;
       rows = λ before stage. refl;
-      goes = goes;
+      goes = λ words beside p r stage old fit. goes (Some 0) words beside p r stage old;
       right = λ stage old fit. right stage old;
     }
   where
@@ -188,12 +183,12 @@ tie =
 
     admits : (p : ℕ) (call : page.Call) → page.may p call ≡ true
         → first_row (begin_rows kinds.TheVariants.Atomic 1 kept p (Atomic (value_start call))) ≡ None
-    admits p (page.StoreValue value) m = holds_row (0 == p) (grind (arith, nat_tests))
+    admits p (page.StoreValue value) m = holds_row 0 p m
     admits p page.LoadValue m = refl
 
     refuses : (p : ℕ) (call : page.Call) → page.may p call ≡ false
         → is_some (first_row (begin_rows kinds.TheVariants.Atomic 1 kept p (Atomic (value_start call)))) ≡ true
-    refuses p (page.StoreValue value) m = lacks_row (0 == p) (grind (arith, nat_tests))
+    refuses p (page.StoreValue value) m = lacks_row 0 p m
     refuses p page.LoadValue m = absurd (cc)
 
     begins : (call : page.Call)

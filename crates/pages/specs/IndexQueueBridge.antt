@@ -25,9 +25,11 @@ use Rattle.model.specs.declared.turn.Turn.TheVariants.{Begin, Next}
 use Rattle.model.specs.Coding.{one_word}
 use Rattle.model.specs.Families.{ask_of}
 use Rattle.model.specs.Families.Queues.Calls.{after, as_it_is, popped, want, words_of_index}
+use Rattle.model.specs.Linearized.{is_push_or_pop}
 use Rattle.model.specs.Step.{as_call}
 use Rattle.model.specs.Turns.{run}
 use Rattle.model.specs.World.{Trace, opening}
+use Rattle.pages.specs.RolesBridge.{Naming}
 use Rattle.pages.specs.IndexQueue as page
 use Rattle.pages.specs.Machine as machine
 use Rattle.pages.specs.Reading.{IsSame, Reading, asked}
@@ -119,14 +121,14 @@ as_turn (machine.Begin p call) = Begin p (Queues (queue_start call))
 as_turn (machine.Next p) = Next p
 
 -- parties 0 and 1 acquire the roles
-abbrev pub acquires : List (Turn ℕ)
+abbrev pub acquires : {T : Type 0} → List (Turn T)
 acquires = Begin 0 (Queues starts.AcquireProducer) ∷ Next 0 ∷ Begin 1 (Queues starts.AcquireConsumer) ∷ Next 1 ∷ []
 
 -- the model's machine once they have
 abbrev pub acquired : ℕ → Trace ℕ
 acquired c = run acquires (opening one_word kinds.TheVariants.IndexQueue c 2)
 
-abbrev pub roles_told : List (Event ℕ)
+abbrev pub roles_told : {T : Type 0} → List (Event T)
 roles_told =
     Begun 0 (Queues starts.AcquireProducer)
     ∷ Finished 0 (Queues starts.AcquireProducer) (Truth true)
@@ -138,3 +140,13 @@ abbrev pub RunsAsTheMachine : Type 0
 RunsAsTheMachine =
     (c : ℕ) (turns : List (machine.Turn page.Call)) → c < 2 ^ 32 → length turns < 2 ^ 63
     → IsSame reading roles_told (run (map as_turn turns) (acquired c)) (fold (machine.turned (page.index_queue c)) (machine.opening (page.index_queue c)) turns)
+
+-- ---- where roles change hands
+
+-- whoever holds a role is its party of the page
+abbrev pub number : ℕ → page.Call → ℕ
+number p (page.Push value) = 0
+number p page.Pop = 1
+
+abbrev pub by_role : Naming ℕ page.Call page.Answer
+by_role = record { reading = reading; is_call = is_push_or_pop; number = number }

@@ -8,6 +8,9 @@ pub mod Machine
 pub mod OverflowingQueue
 pub mod OverflowingQueueBridge
 pub mod Places
+pub mod Queue
+pub mod QueueBridge
 pub mod Reading
+pub mod RolesBridge
 pub mod Value
 pub mod ValueBridge

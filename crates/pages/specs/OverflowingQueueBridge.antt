@@ -21,9 +21,11 @@ use Rattle.model.specs.declared.turn.Turn.TheVariants.{Begin, Next}
 use Rattle.model.specs.Coding.{one_word}
 use Rattle.model.specs.Families.{ask_of}
 use Rattle.model.specs.Families.Queues.Calls.{after, popped, want}
+use Rattle.model.specs.Linearized.{is_push_or_pop}
 use Rattle.model.specs.Step.{as_call}
 use Rattle.model.specs.Turns.{run}
 use Rattle.model.specs.World.{Trace, opening}
+use Rattle.pages.specs.RolesBridge.{Naming}
 use Rattle.pages.specs.OverflowingQueue as page
 use Rattle.pages.specs.Machine as machine
 use Rattle.pages.specs.Reading.{IsSame, Reading, asked}
@@ -128,3 +130,13 @@ OverflowingRunsAsTheMachine =
     (c : ℕ) (turns : List (machine.Turn page.Call)) → 0 < c → c < 2 ^ 32 → length turns < 2 ^ 63
     → IsSame reading roles_told (run (map as_turn turns) (acquired c))
     (fold (machine.turned (page.overflowing_queue c)) (machine.opening (page.overflowing_queue c)) turns)
+
+-- ---- where roles change hands
+
+-- whoever holds a role is its party of the page
+abbrev pub number : ℕ → page.Call → ℕ
+number p (page.Push value) = 0
+number p page.Pop = 1
+
+abbrev pub by_role : Naming ℕ page.Call (Option ℕ)
+by_role = record { reading = reading; is_call = is_push_or_pop; number = number }

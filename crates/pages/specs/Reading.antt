@@ -22,23 +22,27 @@ abbrev pub asked : ℕ → machine.Operation → Ask
 asked word op = record { word = word; op = operation op }
 
 -- a call and an answer of the model, as the page names them
-pub record Reading (Call Answer : Type 0) : Type 0 where
-  pub call : Start ℕ → Call
-  pub answer : answers.Answer ℕ → Answer
+pub record ReadingOf (T Call Answer : Type 0) : Type 0 where
+  pub call : Start T → Call
+  pub answer : answers.Answer T → Answer
 
-module _ {Call Answer : Type 0} (read : Reading Call Answer) where
-  abbrev pub seen : Event ℕ → List (machine.Event Call Answer)
+-- of a machine whose values are numbers
+abbrev pub Reading : Type 0 → Type 0 → Type 0
+Reading Call Answer = ReadingOf ℕ Call Answer
+
+module _ {T Call Answer : Type 0} (read : ReadingOf T Call Answer) where
+  abbrev pub seen : Event T → List (machine.Event Call Answer)
   seen (Begun p start) = machine.Invoked p (read.call start) ∷ []
   seen (Finished p start answer) = machine.Responded p (read.answer answer) ∷ []
   seen e = []
 
   -- invocations and responses, without effects and acts
-  abbrev pub all_seen : List (Event ℕ) → List (machine.Event Call Answer)
+  abbrev pub all_seen : List (Event T) → List (machine.Event Call Answer)
   all_seen es = flat_map seen es
 
   -- the words are the same, and behind these first events those of the page, but for effects and acts
-  pub record IsSame {Stage : Type 0} (first : List (Event ℕ)) (t : Trace ℕ) (w : machine.World Call Stage Answer) : Type 0 where
-    pub events : List (Event ℕ)
+  pub record IsSame {Stage : Type 0} (first : List (Event T)) (t : Trace T) (w : machine.World Call Stage Answer) : Type 0 where
+    pub events : List (Event T)
     pub is : t.events ≡ first ++ events
     pub history : all_seen events ≡ w.history
     pub words : t.world.words ≡ w.words

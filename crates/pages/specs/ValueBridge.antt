@@ -23,9 +23,11 @@ use Rattle.model.specs.Coding.{one_word}
 use Rattle.model.specs.Families.{ask_of}
 use Rattle.model.specs.Families.Atomic.Calls.{after, want}
 use Rattle.model.specs.Families.Queues.Calls.{as_it_is, kept_at, read_in}
+use Rattle.model.specs.Linearized.{is_store_or_load}
 use Rattle.model.specs.Step.{as_call}
 use Rattle.model.specs.Turns.{run}
 use Rattle.model.specs.World.{Trace, opening}
+use Rattle.pages.specs.RolesBridge.{Naming}
 use Rattle.pages.specs.Value as page
 use Rattle.pages.specs.Machine as machine
 use Rattle.pages.specs.Reading.{IsSame, Reading, asked}
@@ -135,3 +137,13 @@ ValueRunsAsTheMachine =
     (turns : List (machine.Turn page.Call)) (parties : ℕ) → parties_of turns ≤ parties → length turns < 2 ^ 63
     → IsSame reading role_told (run (map as_turn turns) (acquired parties))
     (fold (machine.turned page.value) (machine.opening page.value) turns)
+
+-- ---- where the role changes hands
+
+-- whoever holds the role is party 0 of the page as he stores, and each has a number of his own as he loads
+abbrev pub number : ℕ → page.Call → ℕ
+number p (page.StoreValue value) = 0
+number p page.LoadValue = p + 1
+
+abbrev pub by_role : Naming ℕ page.Call page.Answer
+by_role = record { reading = reading; is_call = is_store_or_load; number = number }

@@ -12,16 +12,26 @@ ghost use Rattle.pages.specs.BitSetBridge as bits_bridge;
 ghost use Rattle.pages.specs.CountingBitSet.{counting_bit_set};
 ghost use Rattle.pages.specs.CountingBitSet as counts;
 ghost use Rattle.pages.specs.CountingBitSetBridge as counts_bridge;
+ghost use Rattle.model.specs.declared.turn.Kind.TheVariants.{Atomic, IndexQueue, Overflow, Queue};
+ghost use Rattle.model.specs.Coding.{one_word};
+ghost use Rattle.model.specs.World as model;
+ghost use Rattle.pages.specs.RolesBridge.{RunsByRole};
 ghost use Rattle.pages.specs.IndexQueue.{index_queue, bounded_list};
 ghost use Rattle.pages.specs.IndexQueue as queue;
 ghost use Rattle.pages.specs.Machine.{Turn, opening, turned, IsLinearizable};
 ghost use Rattle.pages.specs.OverflowingQueue.{overflowing_list};
 ghost use Rattle.pages.specs.OverflowingQueue as overflowing;
+ghost use Rattle.pages.specs.OverflowingQueueBridge as overflowing_bridge;
 ghost use Rattle.pages.specs.OverflowingQueueBridge.{OverflowingDoesAsTheCode, OverflowingPopsByTable, OverflowingPushesByTable, OverflowingRunsAsTheMachine};
+ghost use Rattle.pages.specs.Queue.{Written};
+ghost use Rattle.pages.specs.Queue as values;
+ghost use Rattle.pages.specs.QueueBridge as values_bridge;
+ghost use Rattle.pages.specs.QueueBridge.{QueueDoesAsTheCode, QueuePopsByTable, QueuePushesByTable, QueueRunsAsTheMachine};
 ghost use Rattle.pages.specs.Value.{value, register};
 ghost use Rattle.pages.specs.Value as single;
+ghost use Rattle.pages.specs.ValueBridge as single_bridge;
 ghost use Rattle.pages.specs.ValueBridge.{LoadsByTable, StoresByTable, ValueDoesAsTheCode, ValueRunsAsTheMachine};
-ghost use Rattle.pages.specs.IndexQueueBridge.{DoesAsTheCode, PopsByTable, PushesByTable, RunsAsTheMachine, acquired, as_turn, reading, roles_told};
+ghost use Rattle.pages.specs.IndexQueueBridge.{DoesAsTheCode, PopsByTable, PushesByTable, RunsAsTheMachine, acquired, as_turn, reading, roles_told, by_role};
 ghost use Rattle.pages.specs.Places.{ActsAt};
 ghost use Rattle.pages.specs.Reading.{IsSame};
 
@@ -122,4 +132,35 @@ pub fn counting_bit_set_is_the_code()
     ensures hands_out { counts_bridge.HandsOutAsTheMachine }
     ensures sets { counts_bridge.CountsByTable }
     ensures takes { counts_bridge.TakesByTable }
+{}
+
+/// The queue of values of any type that is written in 1 to 128 words, with one producer and one consumer: the theorem of its
+/// page. The function does nothing: its contract is a law.
+pub fn queue_of_values<T>()
+    ensures { (how : Written T) (capacity : ℕ) (turns : List (Turn (values.Call T))) → capacity < 2 ^ 32 → length turns < 2 ^ 63
+        → IsLinearizable (values.bounded_list capacity)
+        (fold (turned (values.queue how capacity)) (opening (values.queue how capacity)) turns).history }
+{}
+
+/// The page of the queue of values is about the code, and about machines, from where parties 0 and 1 have the roles.
+pub fn queue_of_values_is_the_code<T>()
+    ensures code { QueueDoesAsTheCode T }
+    ensures pushes { QueuePushesByTable T }
+    ensures pops { QueuePopsByTable T }
+    ensures machine { QueueRunsAsTheMachine T }
+{}
+
+/// Roles change hands: on the model's machine, with neither a bound of parties nor one of turns, parties acquire the roles and
+/// give them back, and ask for lengths. Whatever turns they take, the invocations and responses of pushes and pops, or of stores
+/// and loads, are the history of the page's machine over those of these turns, where whoever makes a push is called party 0,
+/// whoever makes a pop party 1, who stores party 0, and who loads by his own number and 1. The function does nothing.
+pub fn roles_change_hands<T>()
+    ensures index { (capacity : ℕ) → capacity < 2 ^ 32
+        → RunsByRole by_role (index_queue capacity) (model.opening one_word IndexQueue capacity 0) }
+    ensures overflowing { (capacity : ℕ) → 0 < capacity
+        → RunsByRole overflowing_bridge.by_role (overflowing.overflowing_queue capacity) (model.opening one_word Overflow capacity 0) }
+    ensures value { RunsByRole single_bridge.by_role value (model.opening one_word Atomic 1 0) }
+    ensures values { (how : Written T) (capacity : ℕ) → capacity < 2 ^ 32
+        → RunsByRole (values_bridge.by_role how) (values.queue how capacity)
+        (model.opening (values_bridge.code_of how) Queue capacity 0) }
 {}

@@ -1,0 +1,380 @@
+-- What the queues share where their roles change hands: the words of the roles, and the calls that a page has not.
+use Rattle.std.proofs.Common.{◌⊎◌, inl, inr, option_map, suc, zero}
+use Rattle.std.proofs.lemmas.Bool.Decides.{nat_tests}
+use Rattle.std.specs.Prelude.{slice_set}
+use Rattle.model.proofs.Names.{Bool, Coding, List, None, Option, Some, [], ap, arith, ask_of, false, first_row, is_question, not, old_of}
+use Rattle.model.proofs.Names.{refl, step_of, subst, sym, true, want_of, words_after, ℕ, ◌+◌, ◌==◌, ◌∷◌, ◌≡◌}
+use Rattle.model.specs.declared.event.Answer.{Answer}
+use Rattle.model.specs.declared.event.Start.{Start}
+use Rattle.model.specs.declared.event.Start.TheVariants.{Queues}
+use Rattle.model.specs.declared.families.Flight.{Flight}
+use Rattle.model.specs.declared.families.Flight as flights
+use Rattle.model.specs.declared.families.Registry as registries
+use Rattle.model.specs.declared.families.queues.QueueKind.{QueueKind}
+use Rattle.model.specs.declared.families.queues.QueueStart.{QueueStart}
+use Rattle.model.specs.declared.families.queues.QueueStart.TheVariants.{AcquireProducer, ReleaseProducer, AcquireConsumer, ReleaseConsumer}
+use Rattle.model.specs.declared.families.queues.QueueStart.TheVariants.{IsEmpty, IsFull, Len, Pop, Push, PushIndex}
+use Rattle.model.specs.declared.families.queues.Roles.{Roles}
+use Rattle.model.specs.declared.families.queues.calls.LengthOf.{LengthOf}
+use Rattle.model.specs.declared.families.queues.calls.QueueFlight.TheVariants.{Length}
+use Rattle.model.specs.declared.turn.Refusal.TheVariants.{NoRole}
+use Rattle.model.specs.Families.Queues.Calls.{acquire_of, as_it_is, consumer_word, first, producer_word, release_of}
+use Rattle.model.specs.Families.Queues.Opening.{call_rows, holds}
+use Rattle.model.specs.Linearized.{is_push_or_pop}
+use Rattle.model.specs.Step.{Step, as_call}
+use Rattle.steps.specs.declared.ask.After as afters
+use Rattle.steps.specs.declared.queues.lengths.Len as lengths
+use Rattle.steps.specs.declared.queues.lengths.LenStage.{LenStage}
+use Rattle.steps.specs.declared.queues.lengths.LenStage.TheVariants.{LoadsWrite, LoadsRead, LoadsWriteAgain, LoadsReadAgain}
+use Rattle.steps.specs.declared.routine.Running.{Running}
+use Rattle.steps.specs.Queues.Lengths.{len_asks}
+use Rattle.steps.specs.Routine.{went_on}
+use Rattle.pages.proofs.Hands.{Leaves, OtherStep, not_two}
+
+-- ---- the words of the roles
+
+-- a role's word
+abbrev pub free : Option ℕ → ℕ
+free None = 1
+free (Some p) = 0
+
+-- the words where both roles are taken
+abbrev pub blank : List ℕ → List ℕ
+blank (write ∷ read ∷ producer ∷ consumer ∷ cells) = write ∷ read ∷ 0 ∷ 0 ∷ cells
+blank words = words
+
+pub record Tells (roles : Roles) (words : List ℕ) : Type 0 where
+  pub write : ℕ
+  pub read : ℕ
+  pub cells : List ℕ
+  pub is : words ≡ write ∷ read ∷ free roles.producer ∷ free roles.consumer ∷ cells
+
+-- party 0 of a page is the producer, party 1 the consumer
+abbrev pub who : Roles → ℕ → Option ℕ
+who roles zero = roles.producer
+who roles (suc zero) = roles.consumer
+who roles (suc (suc n)) = None
+
+pub holder_is : (o : Option ℕ) (p : ℕ) → first_row ((not (holds o p), NoRole) ∷ []) ≡ None → o ≡ Some p
+holder_is None p e = absurd (cc)
+holder_is (Some q) p e = go (q == p) refl e
+  where
+    go : (b : Bool) → (q == p) ≡ b → first_row ((not b, NoRole) ∷ []) ≡ None → Some q ≡ Some p
+    go true t e = let same : q ≡ p = grind (arith, nat_tests) in ap Some same
+    go false t e = absurd (cc)
+
+-- a step at another word leaves those of the roles
+module _ (roles : Roles) (words : List ℕ) (t : Tells roles words) where
+  abbrev LeavesAt : ℕ → Type 0
+  LeavesAt word = Leaves blank (Tells roles) words word
+
+  pub at_write : LeavesAt 0
+  at_write =
+      subst (λ ws. Leaves blank (Tells roles) ws 0) (sym t.is)
+      (record {
+        old = refl;
+        new = λ value. refl;
+        tells = λ value u. record { write = value; read = t.read; cells = t.cells; is = refl };
+      })
+
+  pub at_read : LeavesAt 1
+  at_read =
+      subst (λ ws. Leaves blank (Tells roles) ws 1) (sym t.is)
+      (record {
+        old = refl;
+        new = λ value. refl;
+        tells = λ value u. record { write = t.write; read = value; cells = t.cells; is = refl };
+      })
+
+  pub at_cell : (n : ℕ) → LeavesAt (4 + n)
+  at_cell n =
+      let far : suc (suc (suc (suc n))) ≡ 4 + n = omega arith in
+      subst LeavesAt far
+      (subst (λ ws. Leaves blank (Tells roles) ws (suc (suc (suc (suc n))))) (sym t.is)
+      (record {
+        old = refl;
+        new = λ value. refl;
+        tells = λ value u. record { write = t.write; read = t.read; cells = slice_set t.cells n value; is = refl };
+      }))
+
+-- ---- the calls that a page of a queue has not
+
+module _ {T : Type 0} where
+  pub record IsLength (flight : Flight T) : Type 0 where
+    pub which : LengthOf
+    pub run : Running lengths.Len (Unit {0}) (Unit {0})
+    pub is : flight ≡ flights.TheVariants.Queues (Length which run)
+
+  abbrev pub OtherOf : Roles → ℕ → QueueStart T → Flight T → Type 0
+  OtherOf roles p AcquireProducer flight = flight ≡ flights.TheVariants.Queues (acquire_of producer_word)
+  OtherOf roles p ReleaseProducer flight = (flight ≡ flights.TheVariants.Queues (release_of producer_word)) × (roles.producer ≡ Some p)
+  OtherOf roles p AcquireConsumer flight = flight ≡ flights.TheVariants.Queues (acquire_of consumer_word)
+  OtherOf roles p ReleaseConsumer flight = (flight ≡ flights.TheVariants.Queues (release_of consumer_word)) × (roles.consumer ≡ Some p)
+  OtherOf roles p Len flight = IsLength flight
+  OtherOf roles p IsEmpty flight = IsLength flight
+  OtherOf roles p IsFull flight = IsLength flight
+  OtherOf roles p start flight = ⊥
+
+  abbrev pub Other : Roles → ℕ → Start T → Flight T → Type 0
+  Other roles p (Queues start) flight = OtherOf roles p start flight
+  Other roles p start flight = ⊥
+
+  pub the_flight : {x y : Flight T} → Some x ≡ Some y → y ≡ x
+  the_flight e = cc
+
+  pub other_begins : (kind : QueueKind) (capacity : ℕ) (roles : Roles) (p : ℕ) (start : QueueStart T) (flight : Flight T)
+      → is_push_or_pop (Queues start) ≡ false → option_map flights.TheVariants.Queues (first kind capacity start) ≡ Some flight
+      → first_row (call_rows roles p start) ≡ None → Other roles p (Queues start) flight
+  other_begins kind capacity roles p AcquireProducer flight other named rows = the_flight named
+  other_begins kind capacity roles p ReleaseProducer flight other named rows = (the_flight named, holder_is roles.producer p rows)
+  other_begins kind capacity roles p AcquireConsumer flight other named rows = the_flight named
+  other_begins kind capacity roles p ReleaseConsumer flight other named rows = (the_flight named, holder_is roles.consumer p rows)
+  other_begins kind capacity roles p Len flight other named rows = record { which = _; run = _; is = the_flight named }
+  other_begins kind capacity roles p IsEmpty flight other named rows = record { which = _; run = _; is = the_flight named }
+  other_begins kind capacity roles p IsFull flight other named rows = record { which = _; run = _; is = the_flight named }
+  other_begins kind capacity roles p start flight other named rows = absurd (cc)
+
+  pub not_own : (roles : Roles) (p : ℕ) (start : Start T) (flight : Flight T) → Other roles p start flight → is_push_or_pop start ≡ false
+  not_own roles p (Queues AcquireProducer) flight h = refl
+  not_own roles p (Queues ReleaseProducer) flight h = refl
+  not_own roles p (Queues AcquireConsumer) flight h = refl
+  not_own roles p (Queues ReleaseConsumer) flight h = refl
+  not_own roles p (Queues Len) flight h = refl
+  not_own roles p (Queues IsEmpty) flight h = refl
+  not_own roles p (Queues IsFull) flight h = refl
+  not_own roles p (Queues (PushIndex value)) flight h = absurd h
+  not_own roles p (Queues (Push value)) flight h = absurd h
+  not_own roles p (Queues Pop) flight h = absurd h
+  not_own roles p other flight h = absurd h
+
+  module _ (code : Coding T) where
+    length_asks : (stage : LenStage) (which : LengthOf) (run : Running lengths.Len (Unit {0}) (Unit {0})) → run.call.stage ≡ stage
+        → is_question (want_of code (flights.TheVariants.Queues (Length which run))) ≡ false
+    length_asks stage which run e = go run.call.stage
+      where
+        go : (stage : LenStage) → is_question (len_asks stage) ≡ false
+        go LoadsWrite = refl
+        go (LoadsRead write) = refl
+        go (LoadsWriteAgain write read) = refl
+        go (LoadsReadAgain write read) = refl
+
+    no_question : (flight : Flight T) → IsLength flight → is_question (want_of code flight) ≡ false
+    no_question flight h = subst (λ f. is_question (want_of code f) ≡ false) (sym h.is) (length_asks h.run.call.stage h.which h.run refl)
+
+    pub asks_nothing : (roles : Roles) (p : ℕ) (start : Start T) (flight : Flight T) → Other roles p start flight → is_question (want_of code flight) ≡ false
+    asks_nothing roles p (Queues AcquireProducer) flight h = subst (λ f. is_question (want_of code f) ≡ false) (sym h) refl
+    asks_nothing roles p (Queues ReleaseProducer) flight h = subst (λ f. is_question (want_of code f) ≡ false) (sym h.0) refl
+    asks_nothing roles p (Queues AcquireConsumer) flight h = subst (λ f. is_question (want_of code f) ≡ false) (sym h) refl
+    asks_nothing roles p (Queues ReleaseConsumer) flight h = subst (λ f. is_question (want_of code f) ≡ false) (sym h.0) refl
+    asks_nothing roles p (Queues Len) flight h = no_question flight h
+    asks_nothing roles p (Queues IsEmpty) flight h = no_question flight h
+    asks_nothing roles p (Queues IsFull) flight h = no_question flight h
+    asks_nothing roles p (Queues (PushIndex value)) flight h = absurd h
+    asks_nothing roles p (Queues (Push value)) flight h = absurd h
+    asks_nothing roles p (Queues Pop) flight h = absurd h
+    asks_nothing roles p other flight h = absurd h
+
+    -- ---- their steps
+
+    abbrev StepOf : Roles → ℕ → Start T → Flight T → List ℕ → Option (ℕ × ℕ) → Type 0
+    StepOf roles p start flight words beside =
+        OtherStep code registries.TheVariants.Queues who blank Tells Other roles p start flight words
+        (step_of code words beside p start flight (old_of words (ask_of (want_of code flight))) (registries.TheVariants.Queues roles))
+
+    others_stay : (k next : Roles) (q : ℕ) → (k.producer ≡ Some q → next.producer ≡ Some q) → (k.consumer ≡ Some q → next.consumer ≡ Some q)
+        → (start : Start T) (flight : Flight T) → Other k q start flight → Other next q start flight
+    others_stay k next q produces consumes (Queues AcquireProducer) flight h = h
+    others_stay k next q produces consumes (Queues ReleaseProducer) flight h = (h.0, produces h.1)
+    others_stay k next q produces consumes (Queues AcquireConsumer) flight h = h
+    others_stay k next q produces consumes (Queues ReleaseConsumer) flight h = (h.0, consumes h.1)
+    others_stay k next q produces consumes (Queues Len) flight h = h
+    others_stay k next q produces consumes (Queues IsEmpty) flight h = h
+    others_stay k next q produces consumes (Queues IsFull) flight h = h
+    others_stay k next q produces consumes (Queues (PushIndex value)) flight h = absurd h
+    others_stay k next q produces consumes (Queues (Push value)) flight h = absurd h
+    others_stay k next q produces consumes (Queues Pop) flight h = absurd h
+    others_stay k next q produces consumes other flight h = absurd h
+
+    no_one : {A : Type 0} {q : ℕ} → None ≡ Some q → A
+    no_one e = absurd (cc)
+
+    abbrev on : Flight T → afters.After (Flight T) (Answer T)
+    on flight = afters.TheVariants.GoOn flight
+
+    ended : {A : Type 0} {answer : Answer T} {then : Flight T} → afters.TheVariants.Done answer ≡ afters.TheVariants.GoOn then → A
+    ended e = absurd (cc)
+
+    module _ (p write read : ℕ) (cells : List ℕ) (beside : Option (ℕ × ℕ)) where
+      abbrev words_of : Option ℕ → Option ℕ → List ℕ
+      words_of producer consumer = write ∷ read ∷ free producer ∷ free consumer ∷ cells
+
+      abbrev told : (roles : Roles) → Tells roles (words_of roles.producer roles.consumer)
+      told roles = record { write = write; read = read; cells = cells; is = refl }
+
+      abbrev both : Option ℕ → Option ℕ → Roles
+      both producer consumer = record { producer = producer; consumer = consumer }
+
+      acquires_producer : (pr co : Option ℕ)
+          → StepOf (both pr co) p (Queues AcquireProducer) (flights.TheVariants.Queues (acquire_of producer_word)) (words_of pr co) beside
+      acquires_producer None co =
+          record {
+            next = both (Some p) co;
+            kept_is = refl;
+            silent = refl;
+            blank_is = refl;
+            tells = told (both (Some p) co);
+            stays = λ then e. ended e;
+            who_is = who_is;
+            others = λ q start flight ne h. others_stay (both None co) (both (Some p) co) q (λ e. no_one e) (λ e. e) start flight h;
+          }
+        where
+          who_is : (n : ℕ) → (who (both (Some p) co) n ≡ who (both None co) n) ⊎ ((who (both None co) n ≡ None) ⊎ (who (both None co) n ≡ Some p))
+          who_is zero = inr (inl refl)
+          who_is (suc zero) = inl refl
+          who_is (suc (suc n)) = inl refl
+      acquires_producer (Some r) co =
+          record {
+            next = both (Some r) co;
+            kept_is = refl;
+            silent = refl;
+            blank_is = refl;
+            tells = told (both (Some r) co);
+            stays = λ then e. ended e;
+            who_is = λ n. inl refl;
+            others = λ q start flight ne h. h;
+          }
+
+      acquires_consumer : (pr co : Option ℕ)
+          → StepOf (both pr co) p (Queues AcquireConsumer) (flights.TheVariants.Queues (acquire_of consumer_word)) (words_of pr co) beside
+      acquires_consumer pr None =
+          record {
+            next = both pr (Some p);
+            kept_is = refl;
+            silent = refl;
+            blank_is = refl;
+            tells = told (both pr (Some p));
+            stays = λ then e. ended e;
+            who_is = who_is;
+            others = λ q start flight ne h. others_stay (both pr None) (both pr (Some p)) q (λ e. e) (λ e. no_one e) start flight h;
+          }
+        where
+          who_is : (n : ℕ) → (who (both pr (Some p)) n ≡ who (both pr None) n) ⊎ ((who (both pr None) n ≡ None) ⊎ (who (both pr None) n ≡ Some p))
+          who_is zero = inl refl
+          who_is (suc zero) = inr (inl refl)
+          who_is (suc (suc n)) = inl refl
+      acquires_consumer pr (Some r) =
+          record {
+            next = both pr (Some r);
+            kept_is = refl;
+            silent = refl;
+            blank_is = refl;
+            tells = told (both pr (Some r));
+            stays = λ then e. ended e;
+            who_is = λ n. inl refl;
+            others = λ q start flight ne h. h;
+          }
+
+      releases_producer : (pr co : Option ℕ) → pr ≡ Some p
+          → StepOf (both pr co) p (Queues ReleaseProducer) (flights.TheVariants.Queues (release_of producer_word)) (words_of pr co) beside
+      releases_producer pr co holder =
+          record {
+            next = both None co;
+            kept_is = refl;
+            silent = refl;
+            blank_is = refl;
+            tells = told (both None co);
+            stays = λ then e. ended e;
+            who_is = who_is;
+            others = λ q start flight ne h. others_stay (both pr co) (both None co) q (λ e. not_two holder e ne) (λ e. e) start flight h;
+          }
+        where
+          who_is : (n : ℕ) → (who (both None co) n ≡ who (both pr co) n) ⊎ ((who (both pr co) n ≡ None) ⊎ (who (both pr co) n ≡ Some p))
+          who_is zero = inr (inr holder)
+          who_is (suc zero) = inl refl
+          who_is (suc (suc n)) = inl refl
+
+      releases_consumer : (pr co : Option ℕ) → co ≡ Some p
+          → StepOf (both pr co) p (Queues ReleaseConsumer) (flights.TheVariants.Queues (release_of consumer_word)) (words_of pr co) beside
+      releases_consumer pr co holder =
+          record {
+            next = both pr None;
+            kept_is = refl;
+            silent = refl;
+            blank_is = refl;
+            tells = told (both pr None);
+            stays = λ then e. ended e;
+            who_is = who_is;
+            others = λ q start flight ne h. others_stay (both pr co) (both pr None) q (λ e. e) (λ e. not_two holder e ne) start flight h;
+          }
+        where
+          who_is : (n : ℕ) → (who (both pr None) n ≡ who (both pr co) n) ⊎ ((who (both pr co) n ≡ None) ⊎ (who (both pr co) n ≡ Some p))
+          who_is zero = inl refl
+          who_is (suc zero) = inr (inr holder)
+          who_is (suc (suc n)) = inl refl
+
+      loads_alone : (pr co : Option ℕ) (stage : LenStage) → words_after (words_of pr co) (ask_of (len_asks stage)) ≡ words_of pr co
+      loads_alone pr co LoadsWrite = refl
+      loads_alone pr co (LoadsRead at) = refl
+      loads_alone pr co (LoadsWriteAgain at other) = refl
+      loads_alone pr co (LoadsReadAgain at other) = refl
+
+      goes_on_so : (which : LengthOf) (answer : ℕ → Answer T) (comes : afters.After lengths.Len ℕ) (then : Flight T)
+          → as_call flights.TheVariants.Queues (λ a. a) (as_call (λ r. Length which r) answer (went_on as_it_is tt tt comes)) ≡ afters.TheVariants.GoOn then
+          → IsLength then
+      goes_on_so which answer (afters.TheVariants.GoOn call) then e =
+          record { which = which; run = record { call = call; given = tt; room = tt }; is = the_next e }
+        where
+          the_next : {x y : Flight T} → on x ≡ on y → y ≡ x
+          the_next e = cc
+      goes_on_so which answer (afters.TheVariants.Done number) then e = ended e
+
+      module _ (start : Start T) (which : LengthOf) (run : Running lengths.Len (Unit {0}) (Unit {0})) (pr co : Option ℕ) where
+        abbrev length_step : Step (Flight T) (registries.Registry T) T
+        length_step =
+            step_of code (words_of pr co) beside p start (flights.TheVariants.Queues (Length which run))
+            (old_of (words_of pr co) (ask_of (want_of code (flights.TheVariants.Queues (Length which run))))) (registries.TheVariants.Queues (both pr co))
+
+        loads : length_step.kept ≡ registries.TheVariants.Queues (both pr co) → length_step.wrote ≡ []
+            → ((then : Flight T) → length_step.after ≡ afters.TheVariants.GoOn then → Other (both pr co) p start then)
+            → StepOf (both pr co) p start (flights.TheVariants.Queues (Length which run)) (words_of pr co) beside
+        loads kept_is silent stays =
+            record {
+              next = both pr co;
+              kept_is = kept_is;
+              silent = silent;
+              blank_is = ap blank (loads_alone pr co run.call.stage);
+              tells = subst (Tells (both pr co)) (sym (loads_alone pr co run.call.stage)) (told (both pr co));
+              stays = stays;
+              who_is = λ n. inl refl;
+              others = λ q start flight ne h. h;
+            }
+
+      by_start : (pr co : Option ℕ) (start : QueueStart T) (flight : Flight T) → Other (both pr co) p (Queues start) flight
+          → StepOf (both pr co) p (Queues start) flight (words_of pr co) beside
+      by_start pr co AcquireProducer flight h =
+          subst (λ f. StepOf (both pr co) p (Queues AcquireProducer) f (words_of pr co) beside) (sym h) (acquires_producer pr co)
+      by_start pr co ReleaseProducer flight h =
+          subst (λ f. StepOf (both pr co) p (Queues ReleaseProducer) f (words_of pr co) beside) (sym h.0) (releases_producer pr co h.1)
+      by_start pr co AcquireConsumer flight h =
+          subst (λ f. StepOf (both pr co) p (Queues AcquireConsumer) f (words_of pr co) beside) (sym h) (acquires_consumer pr co)
+      by_start pr co ReleaseConsumer flight h =
+          subst (λ f. StepOf (both pr co) p (Queues ReleaseConsumer) f (words_of pr co) beside) (sym h.0) (releases_consumer pr co h.1)
+      by_start pr co Len flight h =
+          subst (λ f. StepOf (both pr co) p (Queues Len) f (words_of pr co) beside) (sym h.is)
+          (loads (Queues Len) h.which h.run pr co refl refl (λ then e. goes_on_so h.which _ _ then e))
+      by_start pr co IsEmpty flight h =
+          subst (λ f. StepOf (both pr co) p (Queues IsEmpty) f (words_of pr co) beside) (sym h.is)
+          (loads (Queues IsEmpty) h.which h.run pr co refl refl (λ then e. goes_on_so h.which _ _ then e))
+      by_start pr co IsFull flight h =
+          subst (λ f. StepOf (both pr co) p (Queues IsFull) f (words_of pr co) beside) (sym h.is)
+          (loads (Queues IsFull) h.which h.run pr co refl refl (λ then e. goes_on_so h.which _ _ then e))
+      by_start pr co (PushIndex value) flight h = absurd h
+      by_start pr co (Push value) flight h = absurd h
+      by_start pr co Pop flight h = absurd h
+
+    pub goes_other : (roles : Roles) (words : List ℕ) (beside : Option (ℕ × ℕ)) (p : ℕ) (start : Start T) (flight : Flight T)
+        → Other roles p start flight → Tells roles words → StepOf roles p start flight words beside
+    goes_other roles words beside p (Queues start) flight h t =
+        subst (λ ws. StepOf roles p (Queues start) flight ws beside) (sym t.is)
+        (by_start p t.write t.read t.cells beside roles.producer roles.consumer start flight h)
+    goes_other roles words beside p other flight h t = absurd h

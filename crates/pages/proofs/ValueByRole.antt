@@ -1,0 +1,242 @@
+-- The single value of the model, on which the role changes hands, runs the page.
+use Rattle.std.proofs.Common.{◌⊎◌, inl, inr, subst, suc, zero}
+use Rattle.std.specs.Prelude.{slice_set}
+use Rattle.model.proofs.Names.{List, None, Option, Some, [], arith, ask_of, false, first_of, first_row, is_question, kept_after_begin, old_of}
+use Rattle.model.proofs.Names.{one_word, opening, refl, step_of, sym, true, want_of, ℕ, ◌+◌, ◌∷◌, ◌≡◌}
+use Rattle.model.specs.declared.event.Answer.{Answer}
+use Rattle.model.specs.declared.event.Start.{Start}
+use Rattle.model.specs.declared.event.Start.TheVariants.{Atomic, Container, Loan}
+use Rattle.model.specs.declared.families.Flight.{Flight}
+use Rattle.model.specs.declared.families.Flight as flights
+use Rattle.model.specs.declared.families.Registry as registries
+use Rattle.model.specs.declared.families.atomic.AtomicStart.TheVariants.{AcquireProducer, Load, ReleaseProducer, Store}
+use Rattle.model.specs.declared.turn.Kind as kinds
+use Rattle.model.specs.Families.{begin_of}
+use Rattle.model.specs.Families.Atomic.Calls as calls
+use Rattle.model.specs.Linearized.{is_store_or_load}
+use Rattle.steps.specs.declared.ask.After as afters
+use Rattle.pages.specs.RolesBridge.{RunsByRole}
+use Rattle.pages.specs.Machine as machine
+use Rattle.pages.specs.Value as page
+use Rattle.pages.specs.ValueBridge.{by_role}
+use Rattle.pages.proofs.ByRole as hands
+use Rattle.pages.proofs.Hands.{Hands, Leaves, OtherStep, OwnBegin, Sim, not_two}
+use Rattle.pages.proofs.QueueHands.{free, holder_is, the_flight}
+use Rattle.pages.proofs.Value.{goes, tie}
+
+-- ---- the word of the role
+
+-- the words where the role is taken
+abbrev blank : List ℕ → List ℕ
+blank (version ∷ role ∷ cells) = version ∷ 0 ∷ cells
+blank words = words
+
+record Tells (role : Option ℕ) (words : List ℕ) : Type 0 where
+  version : ℕ
+  cells : List ℕ
+  is : words ≡ version ∷ free role ∷ cells
+
+-- party 0 of the page stores, and the others load
+abbrev who : Option ℕ → ℕ → Option ℕ
+who role zero = role
+who role (suc n) = Some n
+
+-- ---- the calls on the role
+
+abbrev acquires : Flight ℕ
+acquires = flights.TheVariants.Atomic (calls.first AcquireProducer)
+
+abbrev releases : Flight ℕ
+releases = flights.TheVariants.Atomic (calls.first ReleaseProducer)
+
+abbrev Other : Option ℕ → ℕ → Start ℕ → Flight ℕ → Type 0
+Other role p (Atomic AcquireProducer) flight = flight ≡ acquires
+Other role p (Atomic ReleaseProducer) flight = (flight ≡ releases) × (role ≡ Some p)
+Other role p start flight = ⊥
+
+abbrev StepOf : Option ℕ → ℕ → Start ℕ → Flight ℕ → List ℕ → Option (ℕ × ℕ) → Type 0
+StepOf role p start flight words beside =
+    OtherStep one_word registries.TheVariants.Atomic who blank Tells Other role p start flight words
+    (step_of one_word words beside p start flight (old_of words (ask_of (want_of one_word flight))) (registries.TheVariants.Atomic role))
+
+others_stay : (k next : Option ℕ) (q : ℕ) → (k ≡ Some q → next ≡ Some q)
+    → (start : Start ℕ) (flight : Flight ℕ) → Other k q start flight → Other next q start flight
+others_stay k next q holds (Atomic AcquireProducer) flight h = h
+others_stay k next q holds (Atomic ReleaseProducer) flight h = (h.0, holds h.1)
+others_stay k next q holds (Atomic (Store value)) flight h = absurd h
+others_stay k next q holds (Atomic Load) flight h = absurd h
+others_stay k next q holds other flight h = absurd h
+
+no_one : {A : Type 0} {q : ℕ} → None ≡ Some q → A
+no_one e = absurd (cc)
+
+ended : {A : Type 0} {answer : Answer ℕ} {then : Flight ℕ} → afters.TheVariants.Done answer ≡ afters.TheVariants.GoOn then → A
+ended e = absurd (cc)
+
+module _ (p version : ℕ) (cells : List ℕ) (beside : Option (ℕ × ℕ)) where
+  acquire : (role : Option ℕ) → StepOf role p (Atomic AcquireProducer) acquires (version ∷ free role ∷ cells) beside
+  acquire None =
+      record {
+        next = Some p;
+        kept_is = refl;
+        silent = refl;
+        blank_is = refl;
+        tells = record { version = version; cells = cells; is = refl };
+        stays = λ then e. ended e;
+        who_is = who_is;
+        others = λ q start flight ne h. others_stay None (Some p) q (λ e. no_one e) start flight h;
+      }
+    where
+      who_is : (n : ℕ) → (who (Some p) n ≡ who None n) ⊎ ((who None n ≡ None) ⊎ (who None n ≡ Some p))
+      who_is zero = inr (inl refl)
+      who_is (suc n) = inl refl
+  acquire (Some r) =
+      record {
+        next = Some r;
+        kept_is = refl;
+        silent = refl;
+        blank_is = refl;
+        tells = record { version = version; cells = cells; is = refl };
+        stays = λ then e. ended e;
+        who_is = λ n. inl refl;
+        others = λ q start flight ne h. h;
+      }
+
+  release : (role : Option ℕ) → role ≡ Some p → StepOf role p (Atomic ReleaseProducer) releases (version ∷ free role ∷ cells) beside
+  release role holder =
+      record {
+        next = None;
+        kept_is = refl;
+        silent = refl;
+        blank_is = refl;
+        tells = record { version = version; cells = cells; is = refl };
+        stays = λ then e. ended e;
+        who_is = who_is;
+        others = λ q start flight ne h. others_stay role None q (λ e. not_two holder e ne) start flight h;
+      }
+    where
+      who_is : (n : ℕ) → (who None n ≡ who role n) ⊎ ((who role n ≡ None) ⊎ (who role n ≡ Some p))
+      who_is zero = inr (inr holder)
+      who_is (suc n) = inl refl
+
+goes_other : (role : Option ℕ) (words : List ℕ) (beside : Option (ℕ × ℕ)) (p : ℕ) (start : Start ℕ) (flight : Flight ℕ)
+    → Other role p start flight → Tells role words → StepOf role p start flight words beside
+goes_other role words beside p (Atomic AcquireProducer) flight h t =
+    subst (λ ws. StepOf role p (Atomic AcquireProducer) flight ws beside) (sym t.is)
+    (subst (λ f. StepOf role p (Atomic AcquireProducer) f (t.version ∷ free role ∷ t.cells) beside) (sym h) (acquire p t.version t.cells beside role))
+goes_other role words beside p (Atomic ReleaseProducer) flight h t =
+    subst (λ ws. StepOf role p (Atomic ReleaseProducer) flight ws beside) (sym t.is)
+    (subst (λ f. StepOf role p (Atomic ReleaseProducer) f (t.version ∷ free role ∷ t.cells) beside) (sym h.0) (release p t.version t.cells beside role h.1))
+goes_other role words beside p (Atomic (Store value)) flight h t = absurd h
+goes_other role words beside p (Atomic Load) flight h t = absurd h
+goes_other role words beside p other flight h t = absurd h
+
+not_own : (role : Option ℕ) (p : ℕ) (start : Start ℕ) (flight : Flight ℕ) → Other role p start flight → is_store_or_load start ≡ false
+not_own role p (Atomic AcquireProducer) flight h = refl
+not_own role p (Atomic ReleaseProducer) flight h = refl
+not_own role p (Atomic (Store value)) flight h = absurd h
+not_own role p (Atomic Load) flight h = absurd h
+not_own role p other flight h = absurd h
+
+asks_nothing : (role : Option ℕ) (p : ℕ) (start : Start ℕ) (flight : Flight ℕ) → Other role p start flight → is_question (want_of one_word flight) ≡ false
+asks_nothing role p (Atomic AcquireProducer) flight h = subst (λ f. is_question (want_of one_word f) ≡ false) (sym h) refl
+asks_nothing role p (Atomic ReleaseProducer) flight h = subst (λ f. is_question (want_of one_word f) ≡ false) (sym h.0) refl
+asks_nothing role p (Atomic (Store value)) flight h = absurd h
+asks_nothing role p (Atomic Load) flight h = absurd h
+asks_nothing role p other flight h = absurd h
+
+-- ---- the calls of the page
+
+own : (k : Option ℕ) (p : ℕ) (start : Start ℕ) (flight : Flight ℕ) → is_store_or_load start ≡ true
+    → first_of kinds.TheVariants.Atomic 1 start (registries.TheVariants.Atomic k) ≡ Some flight
+    → first_row ((begin_of kinds.TheVariants.Atomic 1 start).rows (registries.TheVariants.Atomic k) p) ≡ None
+    → OwnBegin by_role tie (who k) p start flight
+unfolding tie
+own k p (Atomic (Store value)) flight mine named rows =
+    record { call = page.StoreValue value; start_is = refl; flight_is = the_flight named; who_is = holder_is k p rows; may = refl }
+own k p (Atomic Load) flight mine named rows =
+    let next : suc p ≡ p + 1 = omega arith in
+    record { call = page.LoadValue; start_is = refl; flight_is = the_flight named; who_is = subst (λ n. who k n ≡ Some p) next refl; may = refl }
+own k p other flight mine named rows = absurd (cc)
+
+other : (k : Option ℕ) (p : ℕ) (start : Start ℕ) (flight : Flight ℕ) → is_store_or_load start ≡ false
+    → first_of kinds.TheVariants.Atomic 1 start (registries.TheVariants.Atomic k) ≡ Some flight
+    → first_row ((begin_of kinds.TheVariants.Atomic 1 start).rows (registries.TheVariants.Atomic k) p) ≡ None
+    → Other k p start flight
+other k p (Atomic AcquireProducer) flight mine named rows = the_flight named
+other k p (Atomic ReleaseProducer) flight mine named rows = (the_flight named, holder_is k p rows)
+other k p (Atomic (Store value)) flight mine named rows = absurd (cc)
+other k p (Atomic Load) flight mine named rows = absurd (cc)
+other k p start flight mine named rows = absurd (cc)
+
+keeps : (k : Option ℕ) (p : ℕ) (start : Start ℕ) (flight : Flight ℕ)
+    → first_of kinds.TheVariants.Atomic 1 start (registries.TheVariants.Atomic k) ≡ Some flight
+    → kept_after_begin one_word 1 start p (registries.TheVariants.Atomic k) ≡ registries.TheVariants.Atomic k
+keeps k p (Container start) flight named = absurd (cc)
+keeps k p (Loan start) flight named = absurd (cc)
+keeps k p start flight named = refl
+
+module _ (role : Option ℕ) (words : List ℕ) (t : Tells role words) where
+  at_version : Leaves blank (Tells role) words 0
+  at_version =
+      subst (λ ws. Leaves blank (Tells role) ws 0) (sym t.is)
+      (record { old = refl; new = λ value. refl; tells = λ value u. record { version = value; cells = t.cells; is = refl } })
+
+  at_cell : (n : ℕ) → Leaves blank (Tells role) words (2 + n)
+  at_cell n =
+      let far : suc (suc n) ≡ 2 + n = omega arith in
+      subst (Leaves blank (Tells role) words) far
+      (subst (λ ws. Leaves blank (Tells role) ws (suc (suc n))) (sym t.is)
+      (record { old = refl; new = λ value. refl; tells = λ value u. record { version = t.version; cells = slice_set t.cells n value; is = refl } }))
+
+leaves : (k : Option ℕ) (words : List ℕ) (stage : page.Stage) → Tells k words → Leaves blank (Tells k) words (page.does stage).0
+leaves k words (page.StoreLoadsVersion value) t = at_version k words t
+leaves k words (page.StoreStoresCell value version) t = at_cell k words t _
+leaves k words (page.StoreAddsVersion value) t = at_version k words t
+leaves k words page.LoadLoadsVersion t = at_version k words t
+leaves k words (page.LoadLoadsCell version) t = at_cell k words t _
+leaves k words (page.LoadChecksVersion version value) t = at_version k words t
+
+handed : Hands by_role tie (Option ℕ)
+unfolding tie
+handed =
+    record {
+      registry = registries.TheVariants.Atomic;
+      who = who;
+      blank = blank;
+      Tells = Tells;
+      Other = Other;
+      own = own;
+      other = other;
+      keeps = keeps;
+      goes = λ k words beside p r stage old fit. goes k words beside p r stage old;
+      leaves = λ k words stage fit t. leaves k words stage t;
+      not_own = not_own;
+      goes_other = λ k words beside p start flight h t. goes_other k words beside p start flight h t;
+      asks_nothing = asks_nothing;
+      no_owners = λ k. refl;
+    }
+
+opens : Sim by_role tie handed (machine.opening page.value) (opening one_word kinds.TheVariants.Atomic 1 0)
+unfolding handed
+opens =
+    record {
+      k = None;
+      words = 1 ∷ 1 ∷ 0 ∷ 0 ∷ [];
+      latest = [];
+      changes = 0;
+      turns = 0;
+      events = [];
+      is = refl;
+      inv =
+          record {
+            blanked = refl;
+            tells = record { version = 1; cells = 0 ∷ 0 ∷ []; is = refl };
+            told_is = refl;
+            stands = λ p. tt;
+            held = λ n stage e. absurd (cc);
+          };
+    }
+
+pub runs_by_role : RunsByRole by_role page.value (opening one_word kinds.TheVariants.Atomic 1 0)
+runs_by_role = hands.by_role by_role tie handed (opening one_word kinds.TheVariants.Atomic 1 0) opens
