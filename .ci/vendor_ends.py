@@ -1,4 +1,4 @@
-"""That a run of `bin/vendor` which ends at any moment loses neither what a user has nor an earlier copy, for `.ci/vendor`."""
+"""For `.ci/vendor`: a run of `bin/vendor` that ends at any moment loses neither what a user has nor an earlier copy."""
 import os
 import shutil
 import signal
@@ -24,7 +24,7 @@ def an_end_at_any_moment(room, command):
     def killed(folder, count, names):
         return run(command, folder, "mpmc", before=lambda: stops_after(count, signal.SIGKILL, names))[0]
 
-    # each rename, since these put it in place, and some of what comes before and after
+    # each rename, since renames put a copy in place, and some of the calls before and after
     undone = 0
     for names, step in ((("rename",), 1), (("mkdir", "rmdir", "unlink"), 9)):
         for count in range(0, 10000, step):
@@ -37,7 +37,7 @@ def an_end_at_any_moment(room, command):
             check(status == -signal.SIGKILL, f"{names[0]} {count}: {status}")
             check({it: earlier[it] for it in ("crates/own/src/lib.rt", "crates/steps/out/kept")}.items() <= files(folder).items(), f"{count}: lost")
             if count % 4 == 3:
-                # a run that is refused, by a crate of the user's, repairs as well
+                # a run that is refused because of a crate of the user's repairs as well
                 write(f"{folder}/crates/uses_slots/src/lib.rt", "mine")
                 status, _, errors = run(command, folder, "slots")
                 undone += errors.startswith("bin/vendor: an earlier run was killed while it moved files; what it had moved was put back\n")
