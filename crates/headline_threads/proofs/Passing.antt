@@ -23,6 +23,7 @@ use Rattle.model.proofs.Reached.{reached_on_opening}
 use Rattle.model.proofs.Rows.{row_passed}
 use Rattle.machine.proofs.LockFree.{keep_ending}
 use Rattle.history.specs.declared.view.View.{View}
+use Rattle.history.proofs.KnownRuns.{known_run}
 use Rattle.history.specs.History.{IsReachedAs, Knows, Continues, call_in, refusal_as, run_of}
 use Rattle.history.proofs.Calls.{begin_other, next_other, decision_other, no_flight}
 use Rattle.headline_threads.specs.Ends.{AreBelow, steps_between, PassesEnd, PassesKeepEnding, KnownKeepsEnding}
@@ -133,6 +134,7 @@ module _ {T : Type 0} where
     keeps : (old new : View T) → Knows code kind capacity old → (later : Continues code kind capacity old new) → (n : ℕ) → AreBelow n new.seen
         → AreWithinEnds (bound n capacity code.size) (steps_between code kind capacity old new later) (ends old.seen) (ends new.seen)
     keeps old new knows later n below =
+        let run = known_run knows in
         let rest = later.first.rest in
         let is : new.turns ≡ old.turns ++ rest = later.first.is in
         let seen : new.seen ≡ (so_far (old.turns ++ rest)).events = later.knows.is ∙ ap (λ ts. (so_far ts).events) is in
@@ -140,19 +142,14 @@ module _ {T : Type 0} where
         subst (λ (es : List (Event T)). AreWithinEnds (bound n capacity code.size) (steps_in (so_far old.turns) rest) (ends old.seen) (ends es)) (sym seen)
         (subst (λ (es : List (Event T)). AreWithinEnds (bound n capacity code.size) (steps_in (so_far old.turns) rest) (ends es)
         (ends (so_far (old.turns ++ rest)).events)) (sym knows.is)
-        (from old.turns rest (on (so_far old.turns) knows.run.reached) knows.run.of_kind knows.run.sized knows.run.coded allowed n
+        (from old.turns rest (on (so_far old.turns) run.reached) run.of_kind run.sized run.coded allowed n
         (subst (AreBelow n) seen below)))
 
     known : (v : View T) → Knows code kind capacity v → (n : ℕ) → AreBelow n v.seen
         → AreWithinEnds (bound n capacity code.size) (steps_in start v.turns) 0 (ends v.seen)
     known v knows n below =
-        let reached : IsReachedOn (so_far v.turns) = on (so_far v.turns) knows.run.reached in
-        let coded : IsCoding code = subst (λ (c : Coding T). IsCoding c) knows.run.coded reached.coded in
-        let of_kind : capacity_error kind (so_far v.turns).world.capacity ≡ None =
-        subst (λ k. capacity_error k (so_far v.turns).world.capacity ≡ None) knows.run.of_kind reached.admitted in
-        let admitted : capacity_error kind capacity ≡ None = subst (λ c. capacity_error kind c ≡ None) knows.run.sized of_kind in
         subst (λ (es : List (Event T)). AreWithinEnds (bound n capacity code.size) (steps_in start v.turns) 0 (ends es)) (sym knows.is)
-        (from [] v.turns (reached_on_opening code kind capacity 0 coded admitted) refl refl refl (free start v.turns knows.allowed) n
+        (from [] v.turns (reached_on_opening code kind capacity 0 knows.coded knows.admitted) refl refl refl (free start v.turns knows.allowed) n
         (subst (AreBelow n) knows.is below))
 
   module _ (kind : Kind) (bound : Bound) (ending : KeepsEnding T kind bound) (on : (t : Trace T) → IsReachedAs kind t → IsReachedOn t)

@@ -64,8 +64,7 @@ pub struct Held<E: Kind, T: Words, Q: TableRule<(), View<T>, Origin>> {
     ghost idle: { seated.seat.me.0.going ≡ None },
     ghost alone: { seated.seat.me.0.other ≡ [] },
     ghost some: { (0 < seated.seat.me.0.share.part) × (0 < seated.seat.me.0.share.parts) },
-    ghost knows: { Knows (coding_of T.WORDS T.words_of T.value_of) (machine_kind E.KIND) capacity seated.seat.me.0 }
-        by { knows_prop (Coded-set T.code) (coding_of T.WORDS T.words_of T.value_of) (machine_kind E.KIND) capacity seated.seat.me.0 },
+    ghost knows: { Knows (coding_of T.WORDS T.words_of T.value_of) (machine_kind E.KIND) capacity seated.seat.me.0 } by { knows_prop (Coded-set T.code) (coding_of T.WORDS T.words_of T.value_of) (machine_kind E.KIND) capacity seated.seat.me.0 },
 }
 
 pub type Token<E, T> = Held<E, T, RingRule<E, T>>;

@@ -61,8 +61,7 @@ pub struct Held<T: Words, Q: TableRule<(), View<T>, Origin<T>>> {
     ghost alone: { seated.seat.me.0.other ≡ [] },
     ghost some: { (0 < seated.seat.me.0.share.part) × (0 < seated.seat.me.0.share.parts) },
     ghost begun: { 0 < length (stored seated.seat.me.0.seen) },
-    ghost knows: { Knows (coding_of T.WORDS T.words_of T.value_of) kinds.Atomic 1 seated.seat.me.0 }
-        by { knows_prop (Coded-set T.code) (coding_of T.WORDS T.words_of T.value_of) kinds.Atomic 1 seated.seat.me.0 },
+    ghost knows: { Knows (coding_of T.WORDS T.words_of T.value_of) kinds.Atomic 1 seated.seat.me.0 } by { knows_prop (Coded-set T.code) (coding_of T.WORDS T.words_of T.value_of) kinds.Atomic 1 seated.seat.me.0 },
 }
 
 impl<T: Words, Q: TableRule<(), View<T>, Origin<T>>> Drop for Held<T, Q> {
