@@ -79,35 +79,22 @@ no_push t p plain flight is = subst (IsPlain t) is plain
 known : Knows one_word kinds.TheVariants.Indices 1 knows
 known =
     record {
+      coded = one_word_codes;
+      admitted = refl;
       allowed = (refl, (refl, (refl, (refl, (refl, (refl, (refl, tt)))))));
-      run =
-          record {
-            reached = record { coded = one_word_codes; admitted = refl; turns = first ++ second; is = refl };
-            coded = refl;
-            of_kind = refl;
-            sized = refl;
-            fresh =
-                record {
-                  turns = first ++ second;
-                  is = refl;
-                  fresh = (
-                    λ free. tt,
-                    (
-                      λ free. no_push (after (begins 0 acquire 0)) 0 tt,
-                      (
-                        λ free. no_push (after (begins 0 acquire 1)) 0 tt,
-                        (
-                          λ free. no_push (after (begins 0 acquire 2)) 0 tt,
-                          (
-                            λ free. no_push (after (begins 0 acquire 3)) 0 tt,
-                            (λ free. tt, (λ free. no_push (after (first ++ begins 1 acquire 0)) 1 tt, tt)),
-                          ),
-                        ),
-                      ),
-                    ),
-                  );
-                };
-          };
+      fresh = (
+        tt,
+        (
+          no_push (after (begins 0 acquire 0)) 0 tt,
+          (
+            no_push (after (begins 0 acquire 1)) 0 tt,
+            (
+              no_push (after (begins 0 acquire 2)) 0 tt,
+              (no_push (after (begins 0 acquire 3)) 0 tt, (tt, (no_push (after (first ++ begins 1 acquire 0)) 1 tt, tt))),
+            ),
+          ),
+        ),
+      );
       is = refl;
     }
 
@@ -150,8 +137,8 @@ as_much : (knowing others).share ≡ (knowing mine).share
     × MissesNothing (knowing others)
 as_much = (refl, record { rest = []; is = refl }, λ all f. refl)
 
-not_gone_on : Goes one_word kinds.TheVariants.Indices 1 (knowing mine) (knowing others) → ⊥
-not_gone_on h = another_run h.ran
+not_gone_on : Goes (knowing mine) (knowing others) → ⊥
+not_gone_on h = let e = h.first.is in cc
 
 -- a pass that has seen the events of a turn that is not among its turns
 module _ (turns : List (Turn ℕ)) (turn : Turn ℕ) (e : Event ℕ) (wrote : List (Event ℕ))

@@ -12,18 +12,18 @@ use Rattle.steps.specs.declared.ask.After.TheVariants.{Done}
 use Rattle.steps.specs.declared.ask.Want.TheVariants as wants
 use Rattle.model.specs.World as worlds
 use Rattle.history.specs.declared.view.View.{View}
-use Rattle.history.specs.History.{IsMachine, OneRun, Knew, call_in}
+use Rattle.history.specs.History.{IsMachine, OneRun, Knew, Knows, call_in}
 use Rattle.steps.specs.declared.container.state.ContainerState.{ContainerState}
 use Rattle.history.specs.Known.{owned, events_by}
 use Rattle.history.specs.Stages.{Calling, Starts, rows_as}
 use Rattle.history.specs.Views.{first_view}
 use Rattle.history.proofs.Reached.{reached_as_opening, fresh_as_opening, next_as}
-use Rattle.history.proofs.OneRun.{first_none, one_opens, one_more}
+use Rattle.history.proofs.OneRun.{first_none, one_opens, one_more, knows_all}
 use Rattle.history.proofs.Calls.{call_then, stateless_none}
 use Rattle.history.proofs.Known.{by_mine, AreOf}
 use Rattle.history.proofs.AllSeen.{known_alone}
 use Rattle.history.proofs.Steps.{settle_with}
-use Rattle.history.proofs.Turns.{KeptLaws, MachineLaws, kept_laws, Between, begun, begun_at, begins_free, goes_free, gone, goes_to, told, own_told}
+use Rattle.history.proofs.Turns.{KeptLaws, MachineLaws, kept_laws, Between, begun, begun_at, begins_free, goes_free, gone, goes_to, fresh_now, told, own_told}
 
 -- each party is its own seat
 abbrev pub same_seat : ℕ → ℕ
@@ -137,7 +137,7 @@ module _ {T : Type 0} (code : Coding T) (kind : Kind) (capacity size : ℕ)
         one =
             one_more code kind capacity (first_view capacity ∷ []) h.u (Begin 0 call.start)
             (begins_free code kind capacity size effects there_laws same_seat (alone words) 0 0 es h.u h.between call.start
-            (call.flight c m) h.there s.first may) h.one;
+            (call.flight c m) h.there s.first may) tt h.one;
         turns = ap (λ xs. xs ++ Begin 0 call.start ∷ []) h.turns;
         events = ap (λ xs. xs ++ Begun 0 call.start ∷ []) h.events;
         there =
@@ -191,7 +191,9 @@ module _ {T : Type 0} (code : Coding T) (kind : Kind) (capacity size : ℕ)
                 one_more code kind capacity (first_view capacity ∷ []) h.u (Next 0)
                 (next_as kind h.u.world 0
                 (goes_free code kind capacity size effects there_laws same_seat (alone words) 0 0 es h.u h.between start
-                flight (Some a) low h.there asks finds)) h.one;
+                flight (Some a) low h.there asks finds))
+                (fresh_now code kind capacity size effects there_laws same_seat (alone words) 0 0 es h.u h.between start
+                flight (Some a) low h.there asks finds) h.one;
             turns = ap (λ xs. xs ++ Next 0 ∷ []) h.turns;
             events = ap (λ xs. xs ++ events_of h.u.world (Next 0)) h.events ∙ ap (λ zs. es ++ zs) tells;
             there = goes_to code kind capacity size effects there_laws same_seat (alone words) 0 0 es h.u h.between start flight (Some a) low h.there asks finds
@@ -218,6 +220,11 @@ module _ {T : Type 0} (code : Coding T) (kind : Kind) (capacity size : ℕ)
         subst (λ o. Here words' (ts ++ Next 0 ∷ []) (es ++ last) o) (ap (call_then start) is)
         (subst (λ zs. Here words' (ts ++ Next 0 ∷ []) (es ++ zs) (call_then start comes)) all
         (subst (λ ws. Here ws (ts ++ Next 0 ∷ []) (es ++ wrote own wrote_own only) (call_then start comes)) same (took own wrote_own only)))
+
+  -- what the pass knows then is the run of these turns
+  pub knows_so : (words : List ℕ) (ts : List (Turn T)) (es : List (Event T)) → Here words ts es None → Knows code kind capacity (maker ts es)
+  knows_so words ts es h =
+      knows_all code kind capacity (first_view capacity ∷ []) h.u (maker ts es) h.one h.between.run (sym h.turns) (sym h.events)
 
   -- ---- a table opens so
 

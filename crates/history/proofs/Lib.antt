@@ -8,6 +8,7 @@ pub mod Calls
 pub mod StillFits
 pub mod OneRun
 pub mod Turns
+pub mod KnownRuns
 pub mod Steps
 pub mod Passes
 pub mod PassLooks

@@ -11,9 +11,10 @@ use Rattle.model.proofs.Reached.{after_turns_more}
 use Rattle.history.specs.declared.view.View.{View}
 use Rattle.history.specs.Passes.{HasSplit, HasJoined}
 use Rattle.history.specs.Views.{first_view}
-use Rattle.history.specs.History.{IsMachine, IsRun, AreFirst, Knew, OneRun, Knows, Continues, refusal_as, run_of}
+use Rattle.history.specs.History.{IsMachine, IsRun, IsReachedAs, AreFirst, AreFresh, Knew, OneRun, Knows, Continues, refusal_as, run_of}
 use Rattle.history.specs.OneRun.{KnowOneRun, SeatsKnowOneRun}
-use Rattle.history.proofs.Reached.{reached_as_opening, fresh_as_opening}
+use Rattle.laws_queues.specs.Fresh.{IsFreshTurn}
+use Rattle.model.specs.declared.turn.Kind.TheVariants as kinds
 
 module _ {T : Type 0} where
   pub first_all : (turns : List (Turn T)) → AreFirst turns turns
@@ -47,23 +48,35 @@ module _ {T : Type 0} where
   allowed_more refuses t [] turn all free = (free, tt)
   allowed_more refuses t (x ∷ xs) turn all free = (all.0, allowed_more refuses (after_turn t x) xs turn all.1 free)
 
+  pub fresh_turns_more : (t : Trace T) (turns : List (Turn T)) (turn : Turn T)
+      → AreFresh t turns → IsFreshTurn (after_turns t turns) turn → AreFresh t (turns ++ turn ∷ [])
+  fresh_turns_more t [] turn all fresh = (fresh, tt)
+  fresh_turns_more t (x ∷ xs) turn all fresh = (all.0, fresh_turns_more (after_turn t x) xs turn all.1 fresh)
+
+  -- its coding gives values back, and its capacity is admitted
+  pub admits : (kind : Kind) (t : Trace T) → IsReachedAs kind t → IsCoding t.world.coding × (capacity_error t.world.kind t.world.capacity ≡ None)
+  admits kinds.Robust t reached = (reached.coded, reached.admitted)
+  admits kinds.Container t reached = (reached.coded, reached.admitted)
+  admits kind t reached = (reached.coded, reached.admitted)
+
   module _ (code : Coding T) (kind : Kind) (capacity : ℕ) where
     abbrev start : Trace T
     start = opening code kind capacity 0
 
     -- no turn yet
     abbrev pub one_opens : (views : List (View T)) → ((j : ℕ) (x : View T) → get_elem? views j ≡ some x → Knew [] x) → OneRun code kind capacity views start
-    one_opens views knew = record { turns = []; allowed = tt; is = refl; knew = knew }
+    one_opens views knew = record { turns = []; allowed = tt; fresh = tt; is = refl; knew = knew }
 
     -- a turn more
-    abbrev pub one_more : (views : List (View T)) (u : Trace T) (turn : Turn T) → refusal_as kind u.world turn ≡ None
+    abbrev pub one_more : (views : List (View T)) (u : Trace T) (turn : Turn T) → refusal_as kind u.world turn ≡ None → IsFreshTurn u turn
         → OneRun code kind capacity views u → OneRun code kind capacity views (after_turn u turn)
-    one_more views u turn free one =
+    one_more views u turn free fresh one =
         record {
           turns = one.turns ++ turn ∷ [];
           allowed =
               allowed_more (refusal_as kind) start one.turns turn one.allowed
               (subst (λ (t : Trace T). refusal_as kind t.world turn ≡ None) one.is free);
+          fresh = fresh_turns_more start one.turns turn one.fresh (subst (λ (t : Trace T). IsFreshTurn t turn) one.is fresh);
           is = ap (λ (t : Trace T). after_turn t turn) one.is ∙ sym (after_turns_more start one.turns turn);
           knew = λ j v at. (
               let k = one.knew j v at in
@@ -80,6 +93,7 @@ module _ {T : Type 0} where
         record {
           turns = one.turns;
           allowed = one.allowed;
+          fresh = one.fresh;
           is = one.is;
           knew =
               λ j x found. ⊎_elim (λ (e : (j ≡ id) × (w ≡ x)). subst (λ z. Knew one.turns z) e.1 now)
@@ -98,9 +112,14 @@ module _ {T : Type 0} where
     pub knows_all : (views : List (View T)) (u : Trace T) (w : View T) (one : OneRun code kind capacity views u)
         → IsRun code kind capacity u → w.turns ≡ one.turns → w.seen ≡ u.events → Knows code kind capacity w
     knows_all views u w one run is seen =
+        let may = admits kind u run.reached in
         record {
+          coded = subst IsCoding run.coded may.0;
+          admitted =
+              subst (λ k. capacity_error k capacity ≡ None) run.of_kind
+              (subst (λ n. capacity_error u.world.kind n ≡ None) run.sized may.1);
           allowed = subst (λ ts. AreAllowedBy (refusal_as kind) start ts) (sym is) one.allowed;
-          run = subst (λ (t : Trace T). IsRun code kind capacity t) (one.is ∙ ap (run_of code kind capacity) (sym is)) run;
+          fresh = subst (λ ts. AreFresh start ts) (sym is) one.fresh;
           is = seen ∙ ap (λ (t : Trace T). t.events) (one.is ∙ ap (run_of code kind capacity) (sym is));
         }
 
@@ -123,8 +142,10 @@ module _ {T : Type 0} where
           first = subst (λ ts. AreFirst old.turns ts) (sym turns) (first_all old.turns);
           knows =
               record {
+                coded = knows.coded;
+                admitted = knows.admitted;
                 allowed = subst (λ ts. AreAllowedBy (refusal_as kind) start ts) (sym turns) knows.allowed;
-                run = subst (λ ts. IsRun code kind capacity (run_of code kind capacity ts)) (sym turns) knows.run;
+                fresh = subst (λ ts. AreFresh start ts) (sym turns) knows.fresh;
                 is = seen ∙ (knows.is ∙ ap (λ ts. (run_of code kind capacity ts).events) (sym turns));
               };
         }
@@ -143,18 +164,7 @@ module _ {T : Type 0} where
     -- the first pass knows that nothing has happened
     pub knows_first : IsCoding code → capacity_error kind capacity ≡ None → Knows code kind capacity (first_view capacity)
     knows_first coded admitted =
-        record {
-          allowed = tt;
-          run =
-              record {
-                reached = reached_as_opening code kind capacity 0 coded admitted;
-                coded = refl;
-                of_kind = refl;
-                sized = refl;
-                fresh = fresh_as_opening code kind capacity 0;
-              };
-          is = refl;
-        }
+        record { coded = coded; admitted = admitted; allowed = tt; fresh = tt; is = refl }
 
     pub seats_know_one : (s : State (Unit {0}) (View T)) → IsMachine code kind capacity s → SeatsKnowOneRun s
     seats_know_one s m i j v w at there = know_one m.one.turns v w (m.one.knew i v at) (m.one.knew j w there)

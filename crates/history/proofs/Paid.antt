@@ -1,5 +1,6 @@
 -- What a call takes, from the guarantee of its kind in the model.
 use Rattle.history.proofs.Names.{◌≡◌, ◌⊎◌, inl, inr, ⊎_elim, ℕ, ◌+◌, ◌-◌, ◌*◌, ◌≤◌, Option, Some, None, refl, sym, ap, subst, ◌∙◌, arith}
+use Rattle.history.proofs.KnownRuns.{known_run}
 use Rattle.history.proofs.Names.{Start, Kind, Party, Doing, Going, Over, Coding, party_of, Trace, span_of}
 use Rattle.model.specs.declared.party.Progress.{Progress}
 use Rattle.model.specs.Parties.{progress_after, others_of, is_over}
@@ -163,7 +164,7 @@ module _ {T C M E : Type 0} (code : Coding T) (kind : Kind) (call : Calling T C 
       (let now = latest ends in
       takes_by idle ends now (guarantee_of kind base.capacity code.size call.start) one
       (subst (λ start. IsWithin (guarantee_of kind base.capacity code.size start) (progress_of known.world.changes now.x)) now.named
-      (pays known ends.ran.knows.run ends.party now.x now.found)))
+      (pays known (known_run ends.ran.knows) ends.party now.x now.found)))
 
   -- a look is one operation
   pub left_takes : (most : ℕ) → 1 ≤ most → LeftOut code kind call base e m w → TakesAtMost most base w

@@ -85,6 +85,7 @@ module _ {T : Type 0} (code : Coding T) (kind : Kind) (capacity : ℕ) where
           record {
             turns = m.one.turns;
             allowed = m.one.allowed;
+            fresh = m.one.fresh;
             is = m.one.is;
             knew =
                 λ j x found. ⊎_elim (λ (e : get_elem? (set s.views id (left_view v)) j ≡ some x). cut.knew j x e)

@@ -160,7 +160,7 @@ module _ {T : Type 0} where
         → (f : Event T → ℕ) → sum_by f u.events ≡ sum_by f (v.made ++ gained)
     made_between x0 x1 x2 x3 x4 x5 x6 x7 x8 x9 x10 = grind (arith, owned_whole, sum_by-append)
 
-    run_more : (t : Trace T) (turn : Turn T) → refusal_as kind t.world turn ≡ None → IsFreshTurn t turn → IsRun code kind capacity t
+    pub run_more : (t : Trace T) (turn : Turn T) → refusal_as kind t.world turn ≡ None → IsFreshTurn t turn → IsRun code kind capacity t
         → IsRun code kind capacity (after_turn t turn)
     run_more x0 x1 x2 x3 x4 = grind (arith, turn_making, reached_as_more, fresh_as_more)
 
@@ -210,7 +210,7 @@ module _ {T : Type 0} where
                 let two = sum_by-append (λ e. of_none (whose e)) u.events es in
                 omega arith);
             spent = b.spent;
-            one = one_more code kind capacity s.views u turn free b.one;
+            one = one_more code kind capacity s.views u turn free fresh_turn b.one;
           }
         where
           none_of : (es : List (Event T)) → ((q : ℕ) → q ≢ p → IsLate kind (call_in u.world q) (events_by q es))
@@ -332,7 +332,7 @@ module _ {T : Type 0} where
             go None below e = grind (arith, writes_one_word)
             go (Some a) below e = grind (arith, length, get_left, after_turn, written, writes_one_word, set_left)
 
-        fresh_now : IsFreshTurn u (Next p)
+        pub fresh_now : IsFreshTurn u (Next p)
         fresh_now x0 x1 = grind (arith, here, found_old)
 
         pub gone : Between owner (record { words = words_after s.words ask; homes = s.homes; views = s.views }) id p

@@ -18,7 +18,7 @@ use Rattle.model.specs.declared.turn.Kind.TheVariants as kinds
 use Rattle.laws_value.proofs.Core as core
 use Rattle.laws_value.proofs.Stores.{asked_place}
 use Rattle.history.specs.declared.view.View.{View}
-use Rattle.history.specs.History.{IsMachine}
+use Rattle.history.specs.History.{IsMachine, Knows}
 use Rattle.history.specs.Known.{owned}
 use Rattle.history.specs.Value.{takes_producer, gives_producer, HasProducer, acquires_producer, releases_producer, stores_value}
 use Rattle.history.specs.ValueOpened.{first_stores, stored_once, stored_times, opened, store_turns, stored_turns, opened_turns, opened_view, opened_cells}
@@ -298,3 +298,10 @@ module _ {T : Type 0} (code : Coding T) (law : IsCoding code) (value : T) where
       subst (λ zs. IsMachine code kinds.Atomic 1 (opening zs [] (opened_view value code.size version))) (sym same)
       (alone.opens_so code kinds.Atomic 1 (2 + code.size * 2) effects laws
       (words_at (n + 1) 1 (opened_cells code value n)) (opened_turns value code.size n) (opened value n) (given n (few version low)))
+
+  -- and its first pass knows the run that led there
+  pub value_knows : (version : ℕ) → version < 2 ^ 64 → Knows code kinds.Atomic 1 (opened_view value code.size version)
+  value_knows version low =
+      let n = first_stores version in
+      alone.knows_so code kinds.Atomic 1 (2 + code.size * 2) effects laws
+      (words_at (n + 1) 1 (opened_cells code value n)) (opened_turns value code.size n) (opened value n) (given n (few version low))

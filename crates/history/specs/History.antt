@@ -21,13 +21,13 @@ use Rattle.model.specs.declared.turn.Kind as kinds
 use Rattle.model.specs.declared.turn.Refusal.{Refusal}
 use Rattle.model.specs.declared.turn.Turn.{Turn}
 use Rattle.model.specs.declared.turn.Turn.TheVariants.{Next}
-use Rattle.model.specs.Coding.{Coding}
+use Rattle.model.specs.Coding.{Coding, IsCoding}
 use Rattle.model.specs.Families.Container.Looks.{state_in}
 use Rattle.model.specs.Parties.{party_of}
 use Rattle.model.specs.Refusals.{call_refusal}
 use Rattle.model.specs.Turns.{IsReachedOn, AreAllowedBy, after_turn, after_turns, events_of}
-use Rattle.model.specs.World.{World, Trace, opening}
-use Rattle.laws_queues.specs.Fresh.{IsFreshRun}
+use Rattle.model.specs.World.{World, Trace, opening, capacity_error}
+use Rattle.laws_queues.specs.Fresh.{IsFreshRun, IsFreshTurn}
 use Rattle.laws_robust.specs.Open.{IsReachedOpen, open_refusal}
 use Rattle.threaded.specs.Shares.{IsAll}
 use Rattle.history.specs.Known.{Known, events_by, by_party, owned}
@@ -144,6 +144,11 @@ module _ {T : Type 0} where
   abbrev pub run_of : Coding T → Kind → ℕ → List (Turn T) → Trace T
   run_of code kind capacity turns = after_turns (opening code kind capacity 0) turns
 
+  -- of these turns, from here on, no push finds the last position, and no store the last version
+  abbrev pub AreFresh : Trace T → List (Turn T) → Type 0
+  AreFresh t [] = Unit {0}
+  AreFresh t (turn ∷ turns) = IsFreshTurn t turn × AreFresh (after_turn t turn) turns
+
   -- these turns are the first of those
   pub record AreFirst (first turns : List (Turn T)) : Type 0 where
     pub rest : List (Turn T)
@@ -159,6 +164,7 @@ module _ {T : Type 0} where
   pub record OneRun (code : Coding T) (kind : Kind) (capacity : ℕ) (views : List (View T)) (t : Trace T) : Type 0 where
     pub turns : List (Turn T)
     pub allowed : AreAllowedBy (refusal_as kind) (opening code kind capacity 0) turns
+    pub fresh : AreFresh (opening code kind capacity 0) turns
     pub is : t ≡ run_of code kind capacity turns
     pub knew : (j : ℕ) (v : View T) → get_elem? views j ≡ some v → Knew turns v
 
@@ -192,10 +198,13 @@ module _ {T : Type 0} where
     pub run : IsRun code kind capacity trace
     pub is : events ≡ trace.events
 
-  -- what the pass has seen are the events of its turns, a run of a machine of this kind and capacity
+  -- What the pass has seen are the events of its turns. None of them is refused, so they make a run of a machine of this
+  -- kind and capacity.
   pub record Knows (code : Coding T) (kind : Kind) (capacity : ℕ) (v : View T) : Type 0 where
+    pub coded : IsCoding code
+    pub admitted : capacity_error kind capacity ≡ None
     pub allowed : AreAllowedBy (refusal_as kind) (opening code kind capacity 0) v.turns
-    pub run : IsRun code kind capacity (run_of code kind capacity v.turns)
+    pub fresh : AreFresh (opening code kind capacity 0) v.turns
     pub is : v.seen ≡ (run_of code kind capacity v.turns).events
 
   -- the run that it knew goes on to the one that it knows

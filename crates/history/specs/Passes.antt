@@ -1,24 +1,21 @@
 -- What a call, a split and a join leave of what passes know, and what the whole share says.
 use Rattle.std.specs.Prelude.{◌≡◌, ◌⊎◌, ◌++◌, ℕ, None, [], sum_by}
 use Rattle.model.specs.declared.event.Event.{Event}
-use Rattle.model.specs.declared.turn.Kind.{Kind}
-use Rattle.model.specs.Coding.{Coding}
 use Rattle.threaded.specs.Shares.{half_of, both_of, IsAll}
 use Rattle.history.specs.declared.view.View.{View}
-use Rattle.history.specs.History.{IsBeginning, IsHistory, AreFirst, Continues}
+use Rattle.history.specs.History.{IsBeginning, AreFirst}
 
 module _ {T : Type 0} where
   -- with the whole share, the history is what it made: every measure of the events says so
   abbrev pub MissesNothing : View T → Type 0
   MissesNothing v = IsAll v.share → (f : Event T → ℕ) → sum_by f v.seen ≡ sum_by f v.made
 
-  -- the share as it was, and a history of this kind that goes on from what was seen, whole for who has the whole share
-  pub record Goes (code : Coding T) (kind : Kind) (capacity : ℕ) (old new : View T) : Type 0 where
+  -- The share as it was, and a history and a run that go on from those that were known. That they are a run of the
+  -- machine of its kind is a law of each pass. Who has the whole share misses nothing.
+  pub record Goes (old new : View T) : Type 0 where
     pub share : new.share ≡ old.share
     pub since : IsBeginning old.seen new.seen
-    pub history : IsHistory code kind capacity new.seen
-    -- turns, none refused, lead from the run that it knew to the run that it knows
-    pub ran : Continues code kind capacity old new
+    pub first : AreFirst old.turns new.turns
     pub all : MissesNothing new
 
   -- a new pass has seen the same, made nothing and is no party yet; the share is halved

@@ -58,7 +58,8 @@ pub fn calls_are_in_order<T>()
 /// One run of the model is the whole life of a table. From call to call the run that a pass knew goes on to the one that it
 /// knows: turns, none refused, lead from the one to the other (`calls`). So it is over splits and joins: a pass that is split
 /// off knows the run of the other, and what two passes knew are beginnings of what the joined one knows. The first pass of a
-/// table knows the run in which nothing has happened (`first`). Of any two seats of a table, at any moment, the run that the
+/// table that opens empty knows the run in which nothing has happened (`first`). A value, or a queue at a later position,
+/// opens with a run that led there, which its first pass knows. Of any two seats of a table, at any moment, the run that the
 /// one knows goes on to the run that the other knows (`tables`). The lemmas are in `proofs/OneRun.antt`.
 pub fn runs_go_on<T>()
     ensures calls { (code : Coding T) (kind : Kind) (capacity : ℕ) (a b c : View T) → Continues code kind capacity a b

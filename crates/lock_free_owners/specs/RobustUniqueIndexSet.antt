@@ -11,7 +11,7 @@ use Rattle.threaded.specs.Seats.{home_id}
 use Rattle.threaded.specs.Sets.{SetId}
 use Rattle.threaded.specs.declared.share.Share.{Share}
 use Rattle.history.specs.declared.view.View.{View}
-use Rattle.history.specs.History.{IsHistory, Knows}
+use Rattle.history.specs.History.{IsHistory}
 use Rattle.history.specs.Passes as passes
 use Rattle.lock_free_owners.specs.declared.mpmc.robust_unique_index_set.RobustUniqueIndexSet.{RobustUniqueIndexSet}
 use Rattle.lock_free_owners.specs.declared.mpmc.robust_unique_index_set.StaticRobustUniqueIndexSet.{StaticRobustUniqueIndexSet}
@@ -58,14 +58,12 @@ MissesNothing p = passes.MissesNothing (view p)
 -- what each call leaves of a pass, and what the pass knows from then on
 pub record SamePass (old new : Pass) : Type 0 where
   pub set : set_of new ≡ set_of old
-  pub goes : passes.Goes one_word kinds.Robust (set_of old).capacity (view old) (view new)
+  pub goes : passes.Goes (view old) (view new)
 
 -- what a join leaves of a pass, which has what both had
 pub record PassJoins (old other new : Pass) : Type 0 where
   pub set : set_of new ≡ set_of old
   pub joined : passes.HasJoined (view old) (view other) (view new)
-  pub history : HasHistory new
-  pub knows : Knows one_word kinds.Robust (set_of new).capacity (view new)
   pub all : MissesNothing new
 
 -- a capacity from 1 to 2^32 - 1 is admitted

@@ -10,7 +10,6 @@ ghost use Rattle.model.specs.declared.event.Item.{Item};
 ghost use Rattle.model.specs.declared.event.Item.TheVariants.{Index};
 ghost use Rattle.model.specs.declared.families.queues.QueueKind.{QueueKind};
 ghost use Rattle.model.specs.declared.families.queues.calls.LengthOf.{LengthOf};
-ghost use Rattle.model.specs.declared.turn.Kind.{Kind};
 ghost use Rattle.model.specs.declared.turn.Kind.TheVariants as kinds;
 ghost use Rattle.model.specs.Coding.{Coding, one_word};
 ghost use Rattle.model.specs.Families.Queues.Reading.{published, handed_out, waiting};
@@ -134,7 +133,7 @@ pub fn refusals_are_right<T>()
 pub fn emptied_is_all<T>()
     ensures { (code : Coding T) (kind : QueueKind) (capacity : ℕ) (old new : View T) → IsAll old.share
         → MissesNothing old
-        → Goes code (machine_kind kind) capacity old new
+        → Goes old new → IsHistory code (machine_kind kind) capacity new.seen
         → HasPopped None old new → (published new.seen ≡ published old.seen)
         × (handed_out new.seen ≡ published new.seen) }
 {}
@@ -168,19 +167,19 @@ pub fn whole_is_counted<T>()
 /// given back, or where a push is refused. The lemmas are `sent_none` and those beside it in `proofs/Queues/Sent.antt`.
 pub fn pushes_are_sent<T, V>()
     ensures acquired { (named : V
-        → Item T) (code : Coding T) (kind : Kind) (capacity : ℕ) (role : Role) (old new : View T)
-        → Goes code kind capacity old new → HasAcquired role true old new → HasSent named [] old new }
+        → Item T) (role : Role) (old new : View T)
+        → Goes old new → HasAcquired role true old new → HasSent named [] old new }
     ensures pushed { (named : V
-        → Item T) (code : Coding T) (kind : Kind) (capacity : ℕ) (values : List V) (value : V) (old was new : View T)
-        → HasSent named values old was → Goes code kind capacity was new → PushDone (named value) was new
+        → Item T) (values : List V) (value : V) (old was new : View T)
+        → HasSent named values old was → Goes was new → PushDone (named value) was new
         → HasSent named (values ++ value ∷ []) old new }
     ensures refused { (named : V
-        → Item T) (code : Coding T) (kind : Kind) (capacity room : ℕ) (values : List V) (item : Item T)
-        (old was new : View T) → HasSent named values old was → Goes code kind capacity was new
+        → Item T) (room : ℕ) (values : List V) (item : Item T)
+        (old was new : View T) → HasSent named values old was → Goes was new
         → PushRefused room item was new → HasSent named values old new }
     ensures released { (named : V
-        → Item T) (code : Coding T) (kind : Kind) (capacity : ℕ) (role : Role) (values : List V) (old was new : View T)
-        → HasSent named values old was → Goes code kind capacity was new → HasReleased role was new
+        → Item T) (role : Role) (values : List V) (old was new : View T)
+        → HasSent named values old was → Goes was new → HasReleased role was new
         → published new.seen ≡ published was.seen → HasSent named values old new }
 {}
 
@@ -188,19 +187,19 @@ pub fn pushes_are_sent<T, V>()
 /// given back, or where a pop finds none. The lemmas are `received_none` and those beside it there.
 pub fn pops_are_received<T, V>()
     ensures acquired { (named : V
-        → Item T) (code : Coding T) (kind : Kind) (capacity : ℕ) (role : Role) (old new : View T)
-        → Goes code kind capacity old new → HasAcquired role true old new → HasReceived named [] old new }
+        → Item T) (role : Role) (old new : View T)
+        → Goes old new → HasAcquired role true old new → HasReceived named [] old new }
     ensures popped { (named : V
-        → Item T) (code : Coding T) (kind : Kind) (capacity : ℕ) (values : List V) (value : V) (old was new : View T)
-        → HasReceived named values old was → Goes code kind capacity was new → PopDone (named value) was new
+        → Item T) (values : List V) (value : V) (old was new : View T)
+        → HasReceived named values old was → Goes was new → PopDone (named value) was new
         → HasReceived named (values ++ value ∷ []) old new }
     ensures none { (named : V
-        → Item T) (code : Coding T) (kind : Kind) (capacity : ℕ) (values : List V) (old was new : View T)
-        → HasReceived named values old was → Goes code kind capacity was new → PopEmpty was new
+        → Item T) (values : List V) (old was new : View T)
+        → HasReceived named values old was → Goes was new → PopEmpty was new
         → HasReceived named values old new }
     ensures released { (named : V
-        → Item T) (code : Coding T) (kind : Kind) (capacity : ℕ) (role : Role) (values : List V) (old was new : View T)
-        → HasReceived named values old was → Goes code kind capacity was new → HasReleased role was new
+        → Item T) (role : Role) (values : List V) (old was new : View T)
+        → HasReceived named values old was → Goes was new → HasReleased role was new
         → handed_out new.seen ≡ handed_out was.seen → HasReceived named values old new }
 {}
 
@@ -247,18 +246,18 @@ pub fn closes_lose_nothing<T, V>()
 /// `still_passed`, `one_passed` and `all_passed` there.
 pub fn passed_goes_on<T, V>()
     ensures acquired { (named : V
-        → Item T) (code : Coding T) (kind : Kind) (capacity : ℕ) (role : Role) (sent received : List V)
+        → Item T) (role : Role) (sent received : List V)
         (old new : View T)
-        → HasPassed named sent received old → Goes code kind capacity old new → HasAcquired role true old new
+        → HasPassed named sent received old → Goes old new → HasAcquired role true old new
         → HasPassed named sent received new }
     ensures popped { (named : V
-        → Item T) (code : Coding T) (kind : Kind) (capacity : ℕ) (value : V) (sent received : List V) (old new : View T)
-        → HasPassed named sent received old → Goes code kind capacity old new → PopDone (named value) old new
+        → Item T) (value : V) (sent received : List V) (old new : View T)
+        → HasPassed named sent received old → Goes old new → PopDone (named value) old new
         → HasPassed named sent (received ++ value ∷ []) new }
     ensures none { (named : V
         → Item T) (code : Coding T) (kind : QueueKind) (capacity : ℕ) (sent received : List V) (old new : View T)
-        → TellsApart named → HasPassed named sent received old → Goes code (machine_kind kind) capacity old new
-        → HasPopped None old new → received ≡ sent }
+        → TellsApart named → HasPassed named sent received old → Goes old new
+        → IsHistory code (machine_kind kind) capacity new.seen → HasPopped None old new → received ≡ sent }
 {}
 
 /// A push succeeds where its pass had seen fewer values wait than the capacity. With the whole share it succeeds where
@@ -287,11 +286,11 @@ pub fn pops_succeed<T, V>()
 /// back, once, and both lists stand in the order of the pushes. The lemma is `overflowed` of
 /// `proofs/Queues/Merging.antt`, and those on single calls stand in `proofs/Queues/TakenOut.antt`.
 pub fn overflowing_merges()
-    ensures { (room capacity : ℕ) (role : Role) (all back came popped : List ℕ)
+    ensures { (capacity : ℕ) (role : Role) (all back came popped : List ℕ)
         (first left right mine theirs joined taking last : View ℕ)
         → length all < 2 ^ 64 - 1 → first ≡ first_view capacity → HasSplit first left right
         → HasPushedUpTo all back left mine
         → HasTaken came right theirs → HasJoined mine theirs joined → MissesNothing joined
-        → Goes one_word kinds.Overflow room joined taking → HasAcquired role true joined taking
+        → Goes joined taking → HasAcquired role true joined taking
         → HasDrained came popped taking last → Merges popped back all }
 {}

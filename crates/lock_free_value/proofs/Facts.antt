@@ -18,7 +18,8 @@ use Rattle.model.specs.declared.families.atomic.AtomicStart.TheVariants.{Acquire
 use Rattle.model.specs.declared.turn.Kind.TheVariants as kinds
 use Rattle.model.specs.Families.Atomic.Reading.{holder_of}
 use Rattle.model.specs.Reading.{Each}
-use Rattle.history.specs.History.{Called, Continues}
+use Rattle.history.specs.History.{Called, Knows}
+use Rattle.history.specs.Passes.{Goes}
 use Rattle.history.specs.Stages.{Calling, opened, Ends, Over}
 use Rattle.history.specs.Steps.{TakesAtMost}
 use Rattle.model.specs.Progress.{guarantee_of}
@@ -30,7 +31,7 @@ use Rattle.history.proofs.ValueHolders.{history_by_producers, one_holder, value_
 use Rattle.history.proofs.ValueLaws.{load_tells, last_is, version_is_count}
 use Rattle.history.proofs.Paid.{AllowsOne, TakesBy, takes, left_takes}
 use Rattle.history.proofs.Values.{value_goes_on, value_pays, producer_by}
-use Rattle.lock_free_value.specs.Calls.{GoesOn, WasAtEnd}
+use Rattle.lock_free_value.specs.Calls.{WasAtEnd}
 use Rattle.lock_free_value.specs.Roles.{Moved}
 use Rattle.lock_free_value.specs.ValueContracts.{HasAcquired, HasReleased, HasStored, HasLoaded}
 
@@ -53,7 +54,8 @@ module _ {T : Type 0} (code : Coding T) (base w : View T) (idle : base.going ≡
   -- ---- what every call leaves
 
   pub record Leaves : Type 0 where
-    pub goes : GoesOn code base w
+    pub goes : Goes base w
+    pub knows : Knows code kinds.Atomic 1 w
     pub sized : w.capacity ≡ 1
     pub quiet : w.going ≡ None
     pub alone : w.other ≡ []
@@ -75,10 +77,10 @@ module _ {T : Type 0} (code : Coding T) (base w : View T) (idle : base.going ≡
               record {
                 share = looked.share;
                 since = looked.mine;
-                history = subst (λ n. IsHistory code kinds.Atomic n w.seen) one looked.history;
-                ran = subst (λ n. Continues code kinds.Atomic n base w) one looked.ran;
+                first = looked.ran.first;
                 all = λ whole. looked.all (subst IsAll looked.share whole);
               };
+          knows = subst (λ n. Knows code kinds.Atomic n w) one looked.ran.knows;
           sized = looked.capacity ∙ one;
           quiet = looked.going ∙ idle;
           alone = looked.other;

@@ -7,7 +7,7 @@ use Rattle.model.specs.declared.turn.Kind.TheVariants as kinds
 use Rattle.model.specs.Coding.{Coding, coding_of}
 use Rattle.threaded.specs.Seats.{home_id}
 use Rattle.history.specs.declared.view.View.{View}
-use Rattle.history.specs.History.{IsHistory, Knows}
+use Rattle.history.specs.History.{IsHistory}
 pub use Rattle.history.specs.Passes.{MissesNothing}
 use Rattle.history.specs.Passes.{Goes, HasJoined}
 use Rattle.lock_free_value.specs.declared.spmc.unrestricted_atomic.UnrestrictedAtomic.{UnrestrictedAtomic}
@@ -23,10 +23,6 @@ value_id a = home_id a.home
 -- it has seen a history of a value
 abbrev pub HasHistory : {T : Type 0} → Coding T → View T → Type 0
 HasHistory code v = IsHistory code kinds.Atomic 1 v.seen
-
--- what each call leaves
-abbrev pub GoesOn : {T : Type 0} → Coding T → View T → View T → Type 0
-GoesOn code old new = Goes code kinds.Atomic 1 old new
 
 -- a store that was refused: the version is the last. It is no call of the history.
 pub record WasAtEnd {T : Type 0} (old new : View T) : Type 0 where
@@ -65,7 +61,7 @@ module _ {T : Type 0} {words : Ghosts T} where
   -- what each call leaves of a seat: it is of the same value
   pub record IsSame (old new : Held T (ValueRule T) words) : Type 0 where
     pub table : table_of new ≡ table_of old
-    pub goes : GoesOn (code_of old) (seen old) (seen new)
+    pub goes : Goes (seen old) (seen new)
 
   -- the same of a pass and of the producer, by their seats
   abbrev pub SamePass : Pass T words → Pass T words → Type 0
@@ -85,8 +81,6 @@ module _ {T : Type 0} {words : Ghosts T} where
   pub record Joins (old other new : Held T (ValueRule T) words) : Type 0 where
     pub table : table_of new ≡ table_of old
     pub joined : HasJoined (seen old) (seen other) (seen new)
-    pub history : HasHistory (code_of old) (seen new)
-    pub knows : Knows (code_of old) kinds.Atomic 1 (seen new)
     pub all : MissesNothing (seen new)
 
   abbrev pub PassJoins : Pass T words → Pass T words → Pass T words → Type 0

@@ -9,7 +9,7 @@ use Rattle.lock_free_owners.proofs.Names.{opened, called}
 use Rattle.model.specs.declared.turn.Kind.TheVariants as kinds
 use Rattle.lock_free_owners.specs.Container.Contracts.{Answered}
 use Rattle.lock_free_owners.proofs.ContainerSet.Sound.{sound_history}
-use Rattle.history.specs.History.{AreFirst, Continues}
+use Rattle.history.specs.History.{AreFirst, Continues, Knows}
 use Rattle.history.proofs.OneRun.{first_all, continues_further}
 use Rattle.history.proofs.Locks.{not_locked}
 use Rattle.lock_free_owners.proofs.RobustSet.Events.{covers}
@@ -79,13 +79,16 @@ module _ {T : Type 0} (code : Coding T) (base from : View T) (settled : SettledF
       pub history_of : IsHistory code kinds.Container base.capacity w.seen
       history_of = subst (λ n. IsHistory code kinds.Container n w.seen) capacity_from ends.history
 
-      pub ended_goes : Goes code kinds.Container base.capacity base w
+      -- and that of the run that it knows
+      pub ended_knows : Knows code kinds.Container base.capacity w
+      ended_knows = (ran_base w ends.ran).knows
+
+      pub ended_goes : Goes base w
       ended_goes =
           record {
             share = ends.share ∙ share_from;
             since = since_base ends.party call.start ends.wrote (Finished ends.party call.start (call.answer e m) ∷ []) w ends.since;
-            history = history_of;
-            ran = ran_base w ends.ran;
+            first = (ran_base w ends.ran).first;
             all = λ whole. ends.all (subst IsAll ends.share whole);
           }
 
@@ -120,13 +123,15 @@ module _ {T : Type 0} (code : Coding T) (base from : View T) (settled : SettledF
     -- ---- it is under way
 
     module _ (c : C) (m : M) (under : IsUnderWay code kinds.Container call from w c m) where
-      pub under_goes : Goes code kinds.Container base.capacity base w
+      pub under_knows : Knows code kinds.Container base.capacity w
+      under_knows = (ran_base w under.ran).knows
+
+      pub under_goes : Goes base w
       under_goes =
           record {
             share = under.share ∙ share_from;
             since = since_base under.party call.start under.wrote [] w under.since;
-            history = subst (λ n. IsHistory code kinds.Container n w.seen) capacity_from under.history;
-            ran = ran_base w under.ran;
+            first = (ran_base w under.ran).first;
             all = λ whole. under.all (subst IsAll under.share whole);
           }
 

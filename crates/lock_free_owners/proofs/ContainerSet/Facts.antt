@@ -45,7 +45,7 @@ module _ {T : Type 0} (code : Coding T) where
     pub capacity_of : w.capacity ≡ base.capacity
     capacity_of = ends.over.capacity ∙ capacity_from code base from ends.settled
 
-    pub goes : Goes code kinds.Container base.capacity base w
+    pub goes : Goes base w
     goes = ended_goes code base from ends.settled call w e tt ends.over
 
     module _ (leaves : LeavesState call) (by_same : (was : Option ℕ) (p : ℕ) → call.by was p → IfSome was (λ q. q ≡ p)) where

@@ -14,13 +14,14 @@ use Rattle.model.specs.declared.families.container.calls.LookOf.{LookOf}
 use Rattle.model.specs.declared.turn.Kind.TheVariants as kinds
 use Rattle.model.specs.Families.Container.States.{settled}
 use Rattle.threaded.specs.Driver.{Next, Told}
+use Rattle.history.specs.History.{Knows}
 use Rattle.history.proofs.StateRests.{state_rests_keep, state_rests_idle, state_rests_rested}
 use Rattle.lock_free_owners.specs.Container.Bare.{Still, LookStands, LookEnds}
 use Rattle.lock_free_owners.specs.Container.Idle.{IsIdle}
 use Rattle.lock_free_owners.specs.Container.LookTurns.{IsOnHistory, LookAt, LookOver, IsPast, LookOnAt, LookOnOver}
 use Rattle.lock_free_owners.specs.Container.Names.{unnumbered}
 use Rattle.lock_free_owners.specs.Container.Contracts.{Answered, HasMade}
-use Rattle.lock_free_owners.proofs.ContainerSet.Began.{capacity_from, idle_from, share_from, ended_answered, ended_goes, ended_called}
+use Rattle.lock_free_owners.proofs.ContainerSet.Began.{capacity_from, idle_from, share_from, ended_answered, ended_goes, ended_knows, ended_called}
 use Rattle.lock_free_owners.proofs.ContainerSet.Idle.{rests, idle_none}
 use Rattle.lock_free_owners.proofs.ContainerSet.SameStates.{Decided}
 use Rattle.lock_free_owners.proofs.Rules.Container.LookRuns.{state_rule}
@@ -153,7 +154,7 @@ module _ {T : Type 0} (code : Coding T) (which : LookOf) (from w : View T) (seen
   pub look_idle : w.going ≡ None
   look_idle = ends.over.0.idle
 
-  pub look_goes : Goes code kinds.Container from.capacity from w
+  pub look_goes : Goes from w
   look_goes = ended_goes code from ends.from ends.settled (looking code which from.capacity seen) w changed m ends.over.0
 
   pub look_answered : Answered code (look_start which) (looked which (state_of_look from.capacity seen m) changed) from w
@@ -207,3 +208,20 @@ module _ {T : Type 0} (code : Coding T) (which : LookOf) (from : View T) (shown 
     (changed : Bool) (m : Showing T) (w : View T) where
   pub left_so : Decided (IsOnHistory code which from shown seen) → IsIdle from → from.other ≡ [] → LookOver code which from shown seen changed m w → Left from w
   left_so x0 x1 x2 x3 = grind (arith, idle_none, share_from, capacity_from)
+
+  -- and what it knows is a run still
+  pub knows_so : Decided (IsOnHistory code which from shown seen) → Knows code kinds.Container from.capacity from
+      → LookOver code which from shown seen changed m w → Knows code kinds.Container from.capacity w
+  knows_so (inl on) knows over =
+      let ends = over.0 on in
+      ended_knows code from ends.from ends.settled (looking code which from.capacity seen) w changed m ends.over.0
+  knows_so (inr beside) knows over =
+      let counted = over.1 beside in
+      subst (λ (z : View T). Knows code kinds.Container from.capacity z) (sym counted)
+      (record {
+        coded = knows.coded;
+        admitted = knows.admitted;
+        allowed = knows.allowed;
+        fresh = knows.fresh;
+        is = knows.is;
+      })

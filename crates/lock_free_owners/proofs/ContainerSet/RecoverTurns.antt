@@ -200,7 +200,7 @@ module _ {T : Type 0} (code : Coding T) (law : IsCoding code) (given : DeadOwner
   -- ---- where it has ended
 
   module _ (base w : View T) (e : ReleaseState) (m : Visiting T) (ends : RecoverEnds code given base e m w) where
-    pub recovered_goes : Goes code kinds.Container base.capacity base w
+    pub recovered_goes : Goes base w
     recovered_goes = ended_goes code base ends.from ends.settled (recovering code given) w e m ends.over
 
     -- it has written just what it did

@@ -26,7 +26,7 @@ use Rattle.lock_free_owners.specs.Robust.Steps.{SetTakes, ReleaseTakes, RecoverT
 use Rattle.lock_free_owners.proofs.RobustSet.Asking.{visits_none}
 use Rattle.lock_free_owners.proofs.RobustSet.Sound.{sound_history}
 use Rattle.history.proofs.Known.{begins_further}
-use Rattle.history.proofs.OneRun.{continues_further}
+use Rattle.history.proofs.OneRun.{first_further}
 use Rattle.history.proofs.Locks.{lock_stays, not_locked}
 use Rattle.lock_free_owners.proofs.RobustSet.Events.{find_own}
 
@@ -80,7 +80,7 @@ last_of {start} {answer} {old} {new} a = record { rest = Finished a.by (Robust s
 
 -- what any call leaves of what a pass knows
 module _ {C M E : Type 0} (call : Calling ℕ C M E) where
-  pub goes : (base w : View ℕ) (e : E) (m : M) → Ends one_word kinds.Robust call base e m w → Goes one_word kinds.Robust base.capacity base w
+  pub goes : (base w : View ℕ) (e : E) (m : M) → Ends one_word kinds.Robust call base e m w → Goes base w
   goes x0 x1 x2 x3 x4 = grind (arith, opened, append_assoc)
 
 module _ (base w : View ℕ) (m : Unit {0}) (idle : base.going ≡ None) where
@@ -242,19 +242,18 @@ recovered_lock base w idle mode states.Unlocked visits ends =
 
 -- ---- find
 
-pub looks_goes : (capacity : ℕ) (base w : View ℕ) → Looks one_word kinds.Robust capacity base w → Goes one_word kinds.Robust capacity base w
+pub looks_goes : (capacity : ℕ) (base w : View ℕ) → Looks one_word kinds.Robust capacity base w → Goes base w
 looks_goes x0 x1 x2 x3 = grind arith
 
 -- looks behind a call of the pass
-pub looks_after : (capacity : ℕ) (base v w : View ℕ) → Goes one_word kinds.Robust capacity base v → Looks one_word kinds.Robust capacity v w
-    → Goes one_word kinds.Robust capacity base w
+pub looks_after : (capacity : ℕ) (base v w : View ℕ) → Goes base v → Looks one_word kinds.Robust capacity v w
+    → Goes base w
 looks_after capacity base v w first looks =
     let next = looks_goes capacity v w looks in
     record {
       share = next.share ∙ first.share;
       since = begins_further _ _ _ first.since next.since;
-      history = next.history;
-      ran = continues_further one_word kinds.Robust capacity base v w first.ran.first next.ran;
+      first = first_further base.turns v.turns w.turns first.first next.first;
       all = next.all;
     }
 

@@ -14,6 +14,7 @@ use Rattle.threaded.specs.Driver.{Next}
 use Rattle.history.specs.declared.view.View.{View}
 use Rattle.history.specs.ContainerFind.{find_copies, finds_values}
 use Rattle.history.specs.ContainerLooks.{KeepsState}
+use Rattle.history.specs.History.{Knows}
 use Rattle.history.specs.Passes.{Goes}
 use Rattle.history.specs.Settled.{AtRested, EndsRested, EndsAsked}
 use Rattle.history.specs.Stages.{Calling, AtAsked, Ends}
@@ -132,5 +133,6 @@ module _ {T : Type 0} (code : Coding T) where
     pub capacity : new.capacity ≡ old.capacity
     pub share : new.share ≡ old.share
     pub alone : new.other ≡ []
-    pub goes : Goes code kinds.Container old.capacity old new
+    pub goes : Goes old new
+    pub knows : Knows code kinds.Container old.capacity new
     pub keeps : KeepsState old new

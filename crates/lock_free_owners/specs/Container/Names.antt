@@ -13,7 +13,7 @@ use Rattle.threaded.specs.Seats.{home_id}
 use Rattle.threaded.specs.Sets.{SetId}
 use Rattle.threaded.specs.declared.share.Share.{Share}
 use Rattle.history.specs.declared.view.View.{View}
-use Rattle.history.specs.History.{IsHistory, Knows}
+use Rattle.history.specs.History.{IsHistory}
 use Rattle.history.specs.Passes as passes
 use Rattle.history.specs.ContainerLooks.{KeepsState}
 use Rattle.lock_free_owners.specs.Container.Contracts.{HasJoined}
@@ -103,15 +103,13 @@ module _ {T : Type 0} {words : Ghosts T} where
   pub record SamePass (old new : Pass T words) : Type 0 where
     pub container : container_of new ≡ container_of old
     pub idle : (view new).going ≡ None
-    pub goes : passes.Goes (code_of old) kinds.Container (container_of old).capacity (view old) (view new)
+    pub goes : passes.Goes (view old) (view new)
 
   -- what a join leaves of a pass, which has what both had, and keeps its own state
   pub record PassJoins (old other new : Pass T words) : Type 0 where
     pub container : container_of new ≡ container_of old
     pub joined : HasJoined (code_of old) (view old) (view other) (view new)
     pub keeps : KeepsState (view old) (view new)
-    pub history : HasHistory new
-    pub knows : Knows (code_of new) kinds.Container (container_of new).capacity (view new)
     pub all : MissesNothing new
 
 module _ {T : Type 0} {CAPACITY : ℕ} where

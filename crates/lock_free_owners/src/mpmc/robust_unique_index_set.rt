@@ -5,7 +5,12 @@
 //! counted, at most so many *alone*, and so many more for each change by others of any word of the set while the call
 //! is under way.
 ghost use Rattle.std.specs.Prelude.{◌≡◌, ◌<◌, ◌+◌, [], None};
+ghost use Rattle.std.specs.Coded.{Coded-set, coded_ℕ};
+ghost use Rattle.model.specs.declared.turn.Kind.TheVariants as kinds;
+ghost use Rattle.model.specs.Coding.{one_word};
 ghost use Rattle.threaded.specs.Seats.{key_of};
+ghost use Rattle.history.specs.History.{Knows};
+ghost use Rattle.history.proofs.KnownRuns.{knows_prop};
 ghost use Rattle.lock_free_owners.specs.Robust.Turns.{size};
 
 use self::rule::{RobustRule, Seat};
@@ -81,6 +86,7 @@ pub struct Pass {
     ghost idle: { seated.seat.me.0.going ≡ None },
     ghost alone: { seated.seat.me.0.other ≡ [] },
     ghost some: { (0 < seated.seat.me.0.share.part) × (0 < seated.seat.me.0.share.parts) },
+    ghost knows: { Knows one_word kinds.Robust capacity seated.seat.me.0 } by { knows_prop (Coded-set coded_ℕ) one_word kinds.Robust capacity seated.seat.me.0 },
 }
 
 impl Drop for Pass {

@@ -13,6 +13,7 @@ use Rattle.lock_free_queues.proofs.Names.{length_start, counts_waiting, takes_ro
 use Rattle.lock_free_queues.proofs.Names.{opened, Ends, Over, first_view, Looks, called, queue_goes_on, role_by}
 use Rattle.lock_free_queues.proofs.Names.{IsAll, Item, Value, Kind, Coding, producer_of, machine_kind, Ring}
 use Rattle.lock_free_queues.proofs.Names.{of_indices, of_values, kind_of, Goes}
+use Rattle.history.specs.History.{Knows}
 use Rattle.model.specs.declared.event.Answer.TheVariants.{Done}
 use Rattle.model.specs.declared.families.queues.calls.LengthOf.TheVariants as measures
 use Rattle.model.specs.Families.Queues.Promises.{IsQueue}
@@ -326,20 +327,30 @@ module _ {T : Type 0} (code : Coding T) (kind : Kind) where
     later_than : (p : ℕ) (wrote last : List (Event T)) → Since p call.start wrote last base w → IsBeginning base.seen w.seen
     later_than x0 x1 x2 x3 = grind (arith, opened, append_assoc)
 
-    pub goes_on : (e : E) (m : M) → Ends code kind call base e m w → Goes code kind base.capacity base w
+    pub goes_on : (e : E) (m : M) → Ends code kind call base e m w → Goes base w
     goes_on e m ends =
         record {
           share = ends.share;
           since = later_than ends.party ends.wrote (Finished ends.party call.start (call.answer e m) ∷ []) ends.since;
-          history = ends.history;
-          ran = ends.ran;
+          first = ends.ran.first;
           all = λ whole. ends.all (subst IsAll ends.share whole);
         }
 
-  pub looked_on : (base w : View T) → Looks code kind base.capacity base w → Goes code kind base.capacity base w
-  looked_on x0 x1 x2 = grind arith
+  pub looked_on : (base w : View T) → Looks code kind base.capacity base w → Goes base w
+  looked_on base w looks =
+      record { share = looks.share; since = looks.mine; first = looks.ran.first; all = λ whole. looks.all (subst IsAll looks.share whole) }
 
-  pub goes_over : {C M E : Type 0} (call : Calling T C M E) (base w : View T) (e : E) (m : M)
-      → Over code kind call base e m w → Goes code kind base.capacity base w
-  goes_over call base w e m (inl ends) = goes_on call base w e m ends
-  goes_over call base w e m (inr left) = looked_on base w left.looked
+  module _ {C M E : Type 0} (call : Calling T C M E) (base w : View T) (e : E) (m : M) where
+    pub goes_over : Over code kind call base e m w → Goes base w
+    goes_over (inl ends) = goes_on call base w e m ends
+    goes_over (inr left) = looked_on base w left.looked
+
+    -- and what it has seen then is a history
+    pub seen_over : Over code kind call base e m w → IsHistory code kind base.capacity w.seen
+    seen_over (inl ends) = ends.history
+    seen_over (inr left) = left.looked.history
+
+    -- of the run that it knows
+    pub knows_over : Over code kind call base e m w → Knows code kind base.capacity w
+    knows_over (inl ends) = ends.ran.knows
+    knows_over (inr left) = left.looked.ran.knows

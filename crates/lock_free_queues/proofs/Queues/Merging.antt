@@ -9,7 +9,7 @@ use Rattle.threaded.specs.declared.share.Share.{Share}
 use Rattle.threaded.specs.Shares.{all_shares, half_of, both_of}
 use Rattle.lock_free_queues.specs.Queues.Merges.{Merges, StandIn, by_pop, by_push, taken, HasPushedAll, HasPushedUpTo}
 use Rattle.lock_free_queues.specs.Queues.Merges.{HasTaken, HasDrained}
-use Rattle.lock_free_queues.specs.Queues.Overflowing.{GoesOn}
+use Rattle.lock_free_queues.specs.Queues.Overflowing.{Goes}
 use Rattle.lock_free_queues.specs.Queues.Sums.{puts, gets}
 use Rattle.lock_free_queues.specs.Queues.Contracts.{HasAcquired, HasSplit, HasJoined}
 use Rattle.history.proofs.Known.{begins_further}
@@ -84,10 +84,10 @@ numbers_merge xs ys (z ∷ zs) (inr h) =
 
 -- ---- both joined, and what waited is popped
 
-module _ (d n : ℕ) (role : Role) (all back came new : List ℕ) (v left right a b z k u : View ℕ)
+module _ (n : ℕ) (role : Role) (all back came new : List ℕ) (v left right a b z k u : View ℕ)
     (fits : length all < 2 ^ 64 - 1) (opens : v ≡ first_view n) (cut : HasSplit v left right)
     (s : HasPushedUpTo all back left a) (r : HasTaken came right b) (h : HasJoined a b z) (none : MissesNothing z)
-    (goes : GoesOn d z k) (acquired : HasAcquired role true z k) (drain : HasDrained came new k u) where
+    (goes : Goes z k) (acquired : HasAcquired role true z k) (drain : HasDrained came new k u) where
   whole : IsAll k.share
   whole =
       let start : v.share ≡ all_shares = ap (λ (t : View ℕ). t.share) opens in

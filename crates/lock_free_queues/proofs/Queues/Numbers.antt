@@ -2,13 +2,14 @@
 use Rattle.lock_free_queues.proofs.Names.{◌≡◌, ℕ, ◌*◌, ◌^◌, ◌<◌, min, List, [], ◌∷◌, ◌++◌, replicate, sym, ap, ◌∙◌}
 use Rattle.lock_free_queues.proofs.Names.{arith, opening, QueueKind, IndexQueue, Overflow, Queue, one_word}
 use Rattle.lock_free_queues.proofs.Names.{of_indices, of_values, IsMachine}
+use Rattle.history.specs.History.{Knows}
 use Rattle.lock_free_queues.specs.Queues.Bounded.{machine_kind}
 use Rattle.lock_free_queues.specs.Queues.Kinds.{words_in_cells, opened_by}
 use Rattle.lock_free_queues.specs.Queues.Opened.{position_at}
 use Rattle.lock_free_queues.proofs.Queues.Filled.{filled, zeros_stay}
 use Rattle.lock_free_queues.proofs.Queues.Indices.{is_coding}
-use Rattle.lock_free_queues.proofs.Queues.Opened.{queue_opens}
-use Rattle.lock_free_queues.proofs.Queues.OverOpened.{over_opens}
+use Rattle.lock_free_queues.proofs.Queues.Opened.{queue_opens, queue_knows}
+use Rattle.lock_free_queues.proofs.Queues.OverOpened.{over_opens, over_knows}
 
 module _ (capacity : ℕ) (small : capacity < 2 ^ 32) (position : ℕ) (fits : position < 2 ^ 64) where
   abbrev words_with : List ℕ → List ℕ
@@ -25,6 +26,12 @@ module _ (capacity : ℕ) (small : capacity < 2 ^ 32) (position : ℕ) (fits : p
   opens Queue words same =
       let one : 1 * capacity ≡ capacity = omega arith in
       queue_opens one_word is_coding of_values 0 capacity small position fits words (zeros words (same ∙ ap (λ n. words_with (replicate n 0)) one))
+
+  -- and its first pass knows the run that led there
+  pub numbers_know : (kd : QueueKind) → Knows one_word (machine_kind kd) capacity (opened_by one_word kd capacity position)
+  numbers_know IndexQueue = queue_knows one_word is_coding of_indices 0 capacity small position fits
+  numbers_know Overflow = over_knows one_word is_coding capacity small position fits
+  numbers_know Queue = queue_knows one_word is_coding of_values 0 capacity small position fits
 
   pub numbers_open : (kd : QueueKind) (cells start : ℕ) (words : List ℕ) → words_in_cells 1 kd capacity ≡ cells
       → start ≡ position_at capacity position → words ≡ start ∷ start ∷ 1 ∷ 1 ∷ (replicate cells 0 ++ 0 ∷ [])

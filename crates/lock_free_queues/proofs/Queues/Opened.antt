@@ -22,6 +22,7 @@ use Rattle.steps.specs.declared.queues.ring.PushStage as pushes
 use Rattle.laws_queues.proofs.Queues.Core as core
 use Rattle.laws_queues.proofs.Queues.Stages.{asked_place}
 use Rattle.history.proofs.Alone as alone
+use Rattle.history.specs.History.{Knows}
 use Rattle.history.proofs.ValueOpened.{mix, mix_step}
 use Rattle.lock_free_queues.specs.Queues.Contracts.{push_of, popped_item}
 use Rattle.model.specs.declared.turn.Turn.{Turn}
@@ -424,44 +425,50 @@ module _ {T : Type 0} (code : Coding T) (law : IsCoding code) (r : Ring) (v : Va
       (subst (λ m. Here (words_at n n 0 0 (filled ws size capacity (size * m))) (took n) (rounds (Truth true) it n) None) all h)))
       (cases_lt n capacity)
 
-  opens_at : (n : ℕ) → 0 < capacity → n < 2 ^ 64
-      → IsMachine code kind capacity
-      (opening (words_at n n 1 1 (cells_at n)) [] (maker (opened_turns size it n) (opened (Truth true) it n)))
-  opens_at zero room low =
+  rests_at : (n : ℕ) → 0 < capacity → n < 2 ^ 64 → Here (words_at n n 1 1 (cells_at n)) (opened_turns size it n) (opened (Truth true) it n) None
+  rests_at zero room low =
       let nothing = none_used size capacity in
-      subst (λ m. IsMachine code kind capacity (opening (words_at 0 0 1 1 (filled ws size capacity m)) [] (maker [] []))) (sym nothing)
-      (alone.opens_so code kind capacity (4 + size * capacity) effects owes (words_at 0 0 1 1 (replicate (size * capacity) 0)) [] [] starts)
-  opens_at (suc n) room low =
+      subst (λ m. Here (words_at 0 0 1 1 (filled ws size capacity m)) [] [] None) (sym nothing) starts
+  rests_at (suc n) room low =
       let k = suc n in
-      alone.opens_so code kind capacity (4 + size * capacity) effects owes (words_at k k 1 1 (cells_at k)) (opened_turns size it k) (opened (Truth true) it k)
-      (gives_both code (kind_of r) capacity (4 + size * capacity) effects owes (omega arith) quiet_roles k k
-      (cells_at k ++ 0 ∷ []) (took k) (rounds (Truth true) it k) (has_it (Truth true) quiet_true it k) (driven k room low))
+      gives_both code (kind_of r) capacity (4 + size * capacity) effects owes (omega arith) quiet_roles k k
+      (cells_at k ++ 0 ∷ []) (took k) (rounds (Truth true) it k) (has_it (Truth true) quiet_true it k) (driven k room low)
+
+  rests : (position : ℕ) → position < 2 ^ 64
+      → Here (words_at (position_at capacity position) (position_at capacity position) 1 1 (cells_at position))
+      (opened_turns size it (position_at capacity position)) (opened (Truth true) it (position_at capacity position)) None
+  rests position low = go capacity refl
+    where
+      go : (c : ℕ) → c ≡ capacity
+          → Here (words_at (position_at capacity position) (position_at capacity position) 1 1 (cells_at position))
+          (opened_turns size it (position_at capacity position)) (opened (Truth true) it (position_at capacity position)) None
+      go zero e =
+          let without : min position capacity ≡ 0 = omega arith in
+          let nothing : size * min position capacity ≡ 0 = ap (λ m. size * m) without ∙ omega arith in
+          let start : position_at capacity position ≡ 0 = ap (λ c. position_at c position) (sym e) in
+          subst (λ p. Here (words_at p p 1 1 (cells_at position)) (opened_turns size it p) (opened (Truth true) it p) None) (sym start)
+          (subst (λ m. Here (words_at 0 0 1 1 (filled ws size capacity m)) [] [] None) (sym nothing) starts)
+      go (suc less) e =
+          let start : position_at capacity position ≡ position = ap (λ c. position_at c position) (sym e) in
+          subst (λ p. Here (words_at p p 1 1 (cells_at position)) (opened_turns size it p) (opened (Truth true) it p) None) (sym start)
+          (rests_at position (omega arith) low)
 
   -- a queue opens so, at any position
   pub queue_opens : (position : ℕ) → position < 2 ^ 64 → (words : List ℕ)
       → words ≡ position_at capacity position ∷ position_at capacity position ∷ 1 ∷ 1 ∷ (cells_at position ++ 0 ∷ [])
       → IsMachine code kind capacity (opening words [] (opened_view size it capacity position))
   queue_opens position low words same =
-      subst (λ ys. IsMachine code kind capacity (opening ys [] (opened_view size it capacity position))) (sym same) (go capacity refl)
-    where
-      go : (c : ℕ) → c ≡ capacity
-          → IsMachine code kind capacity
-          (opening (words_at (position_at capacity position) (position_at capacity position) 1 1 (cells_at position)) []
-          (opened_view size it capacity position))
-      go zero e =
-          let without : min position capacity ≡ 0 = omega arith in
-          let nothing : size * min position capacity ≡ 0 = ap (λ m. size * m) without ∙ omega arith in
-          let start : position_at capacity position ≡ 0 = ap (λ c. position_at c position) (sym e) in
-          subst (λ p. IsMachine code kind capacity
-          (opening (words_at p p 1 1 (cells_at position)) [] (maker (opened_turns size it p) (opened (Truth true) it p))))
-          (sym start)
-          (subst (λ m. IsMachine code kind capacity (opening (words_at 0 0 1 1 (filled ws size capacity m)) [] (maker [] []))) (sym nothing)
-          (alone.opens_so code kind capacity (4 + size * capacity) effects owes (words_at 0 0 1 1 (replicate (size * capacity) 0)) [] [] starts))
-      go (suc less) e =
-          let start : position_at capacity position ≡ position = ap (λ c. position_at c position) (sym e) in
-          subst
-          (λ p. IsMachine code kind capacity (opening (words_at p p 1 1 (cells_at position)) [] (maker (opened_turns size it p) (opened (Truth true) it p))))
-          (sym start) (opens_at position (omega arith) low)
+      let p = position_at capacity position in
+      subst (λ ys. IsMachine code kind capacity (opening ys [] (opened_view size it capacity position))) (sym same)
+      (alone.opens_so code kind capacity (4 + size * capacity) effects owes (words_at p p 1 1 (cells_at position))
+      (opened_turns size it p) (opened (Truth true) it p) (rests position low))
+
+  -- and its first pass knows the run that led there
+  pub queue_knows : (position : ℕ) → position < 2 ^ 64 → Knows code kind capacity (opened_view size it capacity position)
+  queue_knows position low =
+      let p = position_at capacity position in
+      alone.knows_so code kind capacity (4 + size * capacity) effects owes (words_at p p 1 1 (cells_at position))
+      (opened_turns size it p) (opened (Truth true) it p) (rests position low)
 
 -- at position 0 nothing was done
 pub opens_at_first : {T : Type 0} (words : ℕ) (answer : Answer T) (x : Item T) (capacity : ℕ) → opened_with words answer x capacity 0 ≡ first_view capacity

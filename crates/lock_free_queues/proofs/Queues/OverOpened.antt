@@ -22,6 +22,7 @@ use Rattle.model.specs.declared.families.queues.calls.QueueFlight as flying
 use Rattle.model.specs.declared.turn.Kind.TheVariants as kinds
 use Rattle.laws_queues.proofs.Queues.Core as core
 use Rattle.history.proofs.Alone as alone
+use Rattle.history.specs.History.{Knows}
 use Rattle.model.specs.declared.turn.Turn.{Turn}
 use Rattle.model.specs.declared.turn.Turn.TheVariants.{Begin, Next}
 use Rattle.lock_free_queues.specs.Queues.Opened.{pushed_once, popped_once, rounds, opened, position_at}
@@ -332,33 +333,42 @@ module _ {T : Type 0} (code : Coding T) (law : IsCoding code) (capacity : ℕ) (
       (subst (λ zs. Here (at (n + 1) (n + 1) 0 0) (took (suc n)) zs None)
       (append_assoc (turns n) (pushed_once answers.PoppedNone it) (popped_once it)) b)
 
-  opens : (n : ℕ) → 0 < capacity → n < 2 ^ 64
-      → IsMachine code kinds.Overflow capacity (opening (at n n 1 1) [] (maker (opened_turns 1 it n) (opened answers.PoppedNone it n)))
-  opens zero room low = alone.opens_so code kinds.Overflow capacity size over_effects (overflow_owes code capacity) (at 0 0 1 1) [] [] starts
-  opens (suc n) room low =
+  rests_at : (n : ℕ) → 0 < capacity → n < 2 ^ 64 → Here (at n n 1 1) (opened_turns 1 it n) (opened answers.PoppedNone it n) None
+  rests_at zero room low = starts
+  rests_at (suc n) room low =
       let k = suc n in
-      alone.opens_so code kinds.Overflow capacity size over_effects (overflow_owes code capacity) (at k k 1 1)
-      (opened_turns 1 it k) (opened answers.PoppedNone it k)
-      (gives_both code Overflow capacity size over_effects (overflow_owes code capacity) (omega arith) quiet_roles k
-      k (replicate (capacity + 1) 0 ++ 0 ∷ []) (took k) (turns k) (has_role k) (driven k room low))
+      gives_both code Overflow capacity size over_effects (overflow_owes code capacity) (omega arith) quiet_roles k
+      k (replicate (capacity + 1) 0 ++ 0 ∷ []) (took k) (turns k) (has_role k) (driven k room low)
+
+  rests : (position : ℕ) → position < 2 ^ 64
+      → Here (at (position_at capacity position) (position_at capacity position) 1 1)
+      (opened_turns 1 it (position_at capacity position)) (opened answers.PoppedNone it (position_at capacity position)) None
+  rests position low = go capacity refl
+    where
+      go : (c : ℕ) → c ≡ capacity
+          → Here (at (position_at capacity position) (position_at capacity position) 1 1)
+          (opened_turns 1 it (position_at capacity position)) (opened answers.PoppedNone it (position_at capacity position)) None
+      go zero e =
+          let start : position_at capacity position ≡ 0 = ap (λ c. position_at c position) (sym e) in
+          subst (λ p. Here (at p p 1 1) (opened_turns 1 it p) (opened answers.PoppedNone it p) None) (sym start) starts
+      go (suc less) e =
+          let start : position_at capacity position ≡ position = ap (λ c. position_at c position) (sym e) in
+          subst (λ p. Here (at p p 1 1) (opened_turns 1 it p) (opened answers.PoppedNone it p) None) (sym start)
+          (rests_at position (omega arith) low)
 
   -- an overflowing queue opens so, at any position
   pub over_opens : (position : ℕ) → position < 2 ^ 64 → (words : List ℕ)
       → words ≡ at (position_at capacity position) (position_at capacity position) 1 1
       → IsMachine code kinds.Overflow capacity (opening words [] (over_opened_view capacity position))
   over_opens position low words same =
-      subst (λ ys. IsMachine code kinds.Overflow capacity (opening ys [] (over_opened_view capacity position)))
-      (sym same) (go capacity refl)
-    where
-      go : (c : ℕ) → c ≡ capacity
-          → IsMachine code kinds.Overflow capacity
-          (opening (at (position_at capacity position) (position_at capacity position) 1 1) [] (over_opened_view capacity position))
-      go zero e =
-          let start : position_at capacity position ≡ 0 = ap (λ c. position_at c position) (sym e) in
-          subst (λ p. IsMachine code kinds.Overflow capacity (opening (at p p 1 1) [] (maker (opened_turns 1 it p) (opened answers.PoppedNone it p))))
-          (sym start)
-          (alone.opens_so code kinds.Overflow capacity size over_effects (overflow_owes code capacity) (at 0 0 1 1) [] [] starts)
-      go (suc less) e =
-          let start : position_at capacity position ≡ position = ap (λ c. position_at c position) (sym e) in
-          subst (λ p. IsMachine code kinds.Overflow capacity (opening (at p p 1 1) [] (maker (opened_turns 1 it p) (opened answers.PoppedNone it p))))
-          (sym start) (opens position (omega arith) low)
+      let p = position_at capacity position in
+      subst (λ ys. IsMachine code kinds.Overflow capacity (opening ys [] (over_opened_view capacity position))) (sym same)
+      (alone.opens_so code kinds.Overflow capacity size over_effects (overflow_owes code capacity) (at p p 1 1)
+      (opened_turns 1 it p) (opened answers.PoppedNone it p) (rests position low))
+
+  -- and its first pass knows the run that led there
+  pub over_knows : (position : ℕ) → position < 2 ^ 64 → Knows code kinds.Overflow capacity (over_opened_view capacity position)
+  over_knows position low =
+      let p = position_at capacity position in
+      alone.knows_so code kinds.Overflow capacity size over_effects (overflow_owes code capacity) (at p p 1 1)
+      (opened_turns 1 it p) (opened answers.PoppedNone it p) (rests position low)

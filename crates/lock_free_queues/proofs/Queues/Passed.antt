@@ -2,7 +2,7 @@
 use Rattle.lock_free_queues.proofs.Names.{◌≡◌, inl, inr, ℕ, ◌+◌, ◌-◌, ◌^◌, ◌<◌, ◌≤◌, Bool, true, false, Some, None}
 use Rattle.lock_free_queues.proofs.Names.{Option, List, [], ◌∷◌, ◌++◌, length, map, take, refl, sym, ap, subst, ◌∙◌, arith}
 use Rattle.lock_free_queues.proofs.Names.{append-nil, sum_by, sum_by-append, length-drop, Role, Event, Item, Index, Value}
-use Rattle.lock_free_queues.proofs.Names.{Kind, QueueKind, Coding, publishes, hands_out, published}
+use Rattle.lock_free_queues.proofs.Names.{QueueKind, Coding, publishes, hands_out, published}
 use Rattle.lock_free_queues.proofs.Names.{handed_out, waiting, View, IsBeginning, IsHistory, Goes, MissesNothing, IsAll}
 use Rattle.lock_free_queues.proofs.Names.{machine_kind, first_view, IfNone, IfSome}
 use Rattle.std.proofs.Common.{length-append, true≢false}
@@ -129,48 +129,49 @@ module _ {T V : Type 0} {named : V → Item T} {sent received : List V} {v : Vie
 
 -- ---- calls of who has the whole share
 
-module _ {T V : Type 0} {named : V → Item T} {sent received : List V} {v w : View T} (code : Coding T) where
+module _ {T V : Type 0} {named : V → Item T} {sent received : List V} {v w : View T} where
   -- taking a role changes nothing
-  pub still_passed : (kind : Kind) (capacity : ℕ) {role : Role} → HasPassed named sent received v → Goes code kind capacity v w
+  pub still_passed : {role : Role} → HasPassed named sent received v → Goes v w
       → HasAcquired role true v w → HasPassed named sent received w
-  still_passed kind capacity k goes h =
+  still_passed k goes h =
       record {
         whole = subst IsAll (sym goes.share) k.whole;
         all = goes.all;
-        published_these = nothing_more publishes code kind capacity v w _ k.whole k.all goes h.called.made refl ∙ k.published_these;
-        taken_these = nothing_more hands_out code kind capacity v w _ k.whole k.all goes h.called.made refl ∙ k.taken_these;
+        published_these = nothing_more publishes v w _ k.whole k.all goes h.called.made refl ∙ k.published_these;
+        taken_these = nothing_more hands_out v w _ k.whole k.all goes h.called.made refl ∙ k.taken_these;
       }
 
   -- a pop takes out one more
-  pub one_passed : (kind : Kind) (capacity : ℕ) (value : V) → HasPassed named sent received v → Goes code kind capacity v w
+  pub one_passed : (value : V) → HasPassed named sent received v → Goes v w
       → PopDone (named value) v w → HasPassed named sent (received ++ value ∷ []) w
-  one_passed kind capacity value k goes h =
+  one_passed value k goes h =
       record {
         whole = subst IsAll (sym goes.share) k.whole;
         all = goes.all;
-        published_these = nothing_more publishes code kind capacity v w _ k.whole k.all goes h.0.called.made refl ∙ k.published_these;
+        published_these = nothing_more publishes v w _ k.whole k.all goes h.0.called.made refl ∙ k.published_these;
         taken_these = h.1.list ∙ (ap (λ ys. ys ++ named value ∷ []) k.taken_these ∙ sym (map-append named received (value ∷ [])));
       }
 
   -- and where it finds none, all came
-  pub all_passed : (kind : QueueKind) (capacity : ℕ) → TellsApart named → HasPassed named sent received v → Goes code (machine_kind kind) capacity v w
-      → HasPopped None v w → received ≡ sent
-  all_passed kind capacity tells k goes h =
-      let it = all_taken code kind capacity v w k.whole k.all goes h in
-      let still = nothing_more hands_out code (machine_kind kind) capacity v w _ k.whole k.all goes h.called.made refl in
+  pub all_passed : (code : Coding T) (kind : QueueKind) (capacity : ℕ) → TellsApart named → HasPassed named sent received v → Goes v w
+      → IsHistory code (machine_kind kind) capacity w.seen → HasPopped None v w → received ≡ sent
+  all_passed code kind capacity tells k goes history h =
+      let it = all_taken code kind capacity v w k.whole k.all goes history h in
+      let still = nothing_more hands_out v w _ k.whole k.all goes h.called.made refl in
       same_values named tells received sent (sym k.taken_these ∙ (sym still ∙ (it.1 ∙ (it.0 ∙ k.published_these))))
 
 -- by what the pop answered: it finds none just where all came
 pub emptied_is_all : {T V : Type 0} {named : V → Item T} {sent received : List V} {v w : View T} (code : Coding T) (kind : QueueKind) (capacity : ℕ)
-    → TellsApart named → HasPassed named sent received v → Goes code (machine_kind kind) capacity v w → (answer : Option V) (none : Bool)
+    → TellsApart named → HasPassed named sent received v → Goes v w
+    → IsHistory code (machine_kind kind) capacity w.seen → (answer : Option V) (none : Bool)
     → IfSome answer (λ x. PopDone (named x) v w) → IfNone answer (PopEmpty v w) → is_some answer ≡ not none
     → (none ≡ true) ↔ (received ≡ sent)
-emptied_is_all code kind capacity tells k goes None true popped empty is = (λ t. all_passed code kind capacity tells k goes empty.0, λ e. refl)
-emptied_is_all code kind capacity tells k goes None false popped empty is = absurd (true≢false (sym is))
-emptied_is_all code kind capacity tells k goes (Some x) true popped empty is = absurd (true≢false is)
-emptied_is_all {T} {V} {named} {sent} {received} {v} {w} code kind capacity tells k goes (Some x) false popped empty is =
-    let more : HasPassed named sent (received ++ x ∷ []) w = one_passed code (machine_kind kind) capacity x k goes popped in
-    let whole = ap length (book code kind capacity goes.history more) in
+emptied_is_all code kind capacity tells k goes history None true popped empty is = (λ t. all_passed code kind capacity tells k goes history empty.0, λ e. refl)
+emptied_is_all code kind capacity tells k goes history None false popped empty is = absurd (true≢false (sym is))
+emptied_is_all code kind capacity tells k goes history (Some x) true popped empty is = absurd (true≢false is)
+emptied_is_all {T} {V} {named} {sent} {received} {v} {w} code kind capacity tells k goes history (Some x) false popped empty is =
+    let more : HasPassed named sent (received ++ x ∷ []) w = one_passed x k goes popped in
+    let whole = ap length (book code kind capacity history more) in
     let one = length-append (map named (received ++ x ∷ [])) (waiting w.seen) in
     let two = length_named named (received ++ x ∷ []) in
     let three = length_named named sent in

@@ -17,7 +17,7 @@ use Rattle.lock_free_queues.specs.declared.spsc.ring.Consumer.{Consumer}
 use Rattle.lock_free_queues.specs.Queues.Bounded.{IsBounded}
 use Rattle.lock_free_queues.specs.Queues.Closes.{Closes}
 use Rattle.lock_free_queues.specs.Queues.Relays.{Sending, Receiving, Sent, Received, IsRelayed}
-use Rattle.lock_free_queues.specs.Queues.Rings.{view, producer_view, consumer_view, HasHistory}
+use Rattle.lock_free_queues.specs.Queues.Rings.{view, consumer_queue, producer_view, consumer_view, HasHistory}
 use Rattle.lock_free_queues.specs.Queues.Rings.{SameProducer, SameConsumer, ToProducer, ToConsumer, FromProducer, FromConsumer}
 use Rattle.lock_free_queues.specs.Queues.Sent.{HasSent, HasReceived, HasPassed, TellsApart}
 use Rattle.lock_free_queues.specs.Queues.Contracts.{PushDone, PushRefused, PopDone, PopEmpty}
@@ -198,23 +198,23 @@ module _ {E T V : Type 0} {kind : kinds.Ghosts E} {words : Ghosts T} {named : V 
 
 -- ---- both joined, and one pop more
 
-pub views_relayed : {T V : Type 0} (named : V → Item T) (code : Coding T) (queue : QueueKind) (n room most : ℕ) (role : Role)
+pub views_relayed : {T V : Type 0} (named : V → Item T) (code : Coding T) (queue : QueueKind) (n most : ℕ) (role : Role)
     (first left right mine theirs joined taking last : View T) (sent received : List V) (answer : Option V) (emptied : Bool)
     → TellsApart named → IsBounded queue → first ≡ first_view n → HasSplit first left right → HasSent named sent left mine
     → HasReceived named received right theirs → HasJoined mine theirs joined → MissesNothing joined
-    → IsHistory code (machine_kind queue) n joined.seen → Goes code (machine_kind queue) room joined taking → HasAcquired role true joined taking
-    → Goes code (machine_kind queue) most taking last
+    → IsHistory code (machine_kind queue) n joined.seen → Goes joined taking → HasAcquired role true joined taking
+    → Goes taking last → IsHistory code (machine_kind queue) most last.seen
     → IfSome answer (λ x. PopDone (named x) taking last) → IfNone answer (PopEmpty taking last)
     → is_some answer ≡ not emptied → IsRelayed n sent received emptied
-views_relayed named code queue n room most role first left right mine theirs joined taking last sent received answer emptied
-    tells bounded opens cut s r h none history goes acquired pops popped empty is =
+views_relayed named code queue n most role first left right mine theirs joined taking last sent received answer emptied
+    tells bounded opens cut s r h none history goes acquired pops now popped empty is =
     let whole : HasPassed named sent received joined =
     passed {named = named} {n = n} {first = first} {left = left} {right = right} {a = mine} {b = theirs} {z = joined} opens cut s r h none in
     let taken : HasPassed named sent received taking =
-    still_passed {named = named} {v = joined} {w = taking} code (machine_kind queue) room {role = role} whole goes acquired in
+    still_passed {named = named} {v = joined} {w = taking} {role = role} whole goes acquired in
     record {
       beginning = in_order {v = joined} code queue n tells history whole;
-      all = emptied_is_all {v = taking} {w = last} code queue most tells taken pops answer emptied popped empty is;
+      all = emptied_is_all {v = taking} {w = last} code queue most tells taken pops now answer emptied popped empty is;
       few = few_left {v = joined} code queue n bounded history whole;
     }
 
@@ -226,15 +226,16 @@ module _ {E T V : Type 0} {kind : kinds.Ghosts E} {words : Ghosts T} {named : V 
       → HasJoined (view mine) (view theirs) (view joined) → MissesNothing (view joined)
       → HasHistory (coding_of words.WORDS words.words_of words.value_of) kind.KIND capacity (view joined) → capacity ≡ n
       → ToConsumer joined taking → HasAcquired role true (view joined) (consumer_view taking) → SameConsumer taking last
+      → HasHistory (coding_of words.WORDS words.words_of words.value_of) kind.KIND (consumer_queue last).capacity (consumer_view last)
       → IfSome answer (λ x. PopDone (named x) (consumer_view taking) (consumer_view last))
       → IfNone answer (PopEmpty (consumer_view taking) (consumer_view last)) → is_some answer ≡ not emptied
       → IsRelayed n sent received emptied
   relayed first left right mine theirs joined taking last {capacity} {sent} {received} answer {emptied} {role}
-      n tells bounded opens cut s r h none history sized to acquired same popped empty is =
+      n tells bounded opens cut s r h none history sized to acquired same now popped empty is =
       let code : Coding T = coding_of words.WORDS words.words_of words.value_of in
-      views_relayed named code kind.KIND n _ _ role (view first) (view left) (view right) (view mine) (view theirs) (view joined)
+      views_relayed named code kind.KIND n (consumer_queue last).capacity role (view first) (view left) (view right) (view mine) (view theirs) (view joined)
       (consumer_view taking) (consumer_view last) sent received answer emptied tells bounded opens cut s.sent r.received h none
-      (subst (λ m. HasHistory code kind.KIND m (view joined)) sized history) to.goes acquired same.goes
+      (subst (λ m. HasHistory code kind.KIND m (view joined)) sized history) to.goes acquired same.goes now
       popped empty is
 
 module _ {E T V : Type 0} {kind : kinds.Ghosts E} {words : Ghosts T} {named : V → Item T} where

@@ -2,7 +2,7 @@
 use Rattle.lock_free_queues.proofs.Names.{◌≡◌, inl, inr, ℕ, ◌+◌, ◌<◌, ◌≤◌, true, List, []}
 use Rattle.lock_free_queues.proofs.Names.{◌∷◌, ◌++◌, length, map, get_or, take, refl, sym, ap, subst, ◌∙◌, arith}
 use Rattle.lock_free_queues.proofs.Names.{append-nil, append_assoc, flat_map, flat_map-append, Role, Event, Item}
-use Rattle.lock_free_queues.proofs.Names.{Kind, Coding, publishes, hands_out, published, handed_out, View, IsBeginning, Goes}
+use Rattle.lock_free_queues.proofs.Names.{publishes, hands_out, published, handed_out, View, IsBeginning, Goes}
 use Rattle.std.proofs.Common.{length-append}
 use Rattle.std.proofs.lemmas.List.{take_all, take_more}
 use mathlib.Core.List.{map-append}
@@ -87,12 +87,12 @@ none_published : {T : Type 0} (capacity : ℕ) (item : Item T) (was new : View T
 none_published capacity item was new (inl h) = h.1.list
 none_published capacity item was new (inr h) = h.list
 
-module _ {T V : Type 0} {code : Coding T} {kind : Kind} {capacity : ℕ} {named : V → Item T} where
-  pub sent_none : {role : Role} {old new : View T} → Goes code kind capacity old new → HasAcquired role true old new → HasSent named [] old new
+module _ {T V : Type 0} {named : V → Item T} where
+  pub sent_none : {role : Role} {old new : View T} → Goes old new → HasAcquired role true old new → HasSent named [] old new
   sent_none {role} {old} {new} goes h = appended_none publishes named old new goes.since goes.share (done_acquired old new role true h)
 
   pub sent_one : {old was new : View T} (values : List V) (value : V) → HasSent named values old was
-      → Goes code kind capacity was new → PushDone (named value) was new → HasSent named (values ++ value ∷ []) old new
+      → Goes was new → PushDone (named value) was new → HasSent named (values ++ value ∷ []) old new
   sent_one {old} {was} {new} values value k goes h =
       subst (λ n. HasAppended publishes named (values ++ value ∷ []) n 0 old new) (sym (length-append values (value ∷ [])))
       (appended_more publishes named values (length values) 0 old was new k goes.share value 1 0
@@ -100,7 +100,7 @@ module _ {T V : Type 0} {code : Coding T} {kind : Kind} {capacity : ℕ} {named 
 
   -- the next one of a list
   pub sent_next : {old was new : View T} (all : List V) (n : ℕ) (default : V) → HasSent named (take n all) old was
-      → n < length all → Goes code kind capacity was new → PushDone (named (get_or all n default)) was new
+      → n < length all → Goes was new → PushDone (named (get_or all n default)) was new
       → HasSent named (take (n + 1) all) old new
   sent_next {old} {was} {new} all n default k below goes h =
       subst (λ xs. HasSent named xs old new) (sym (take_more all n default below))
@@ -108,32 +108,32 @@ module _ {T V : Type 0} {code : Coding T} {kind : Kind} {capacity : ℕ} {named 
 
   -- a push that was refused
   pub sent_refused : {old was new : View T} {values : List V} {room : ℕ} {item : Item T} → HasSent named values old was
-      → Goes code kind capacity was new → PushRefused room item was new → HasSent named values old new
+      → Goes was new → PushRefused room item was new → HasSent named values old new
   sent_refused {old} {was} {new} {values} {room} {item} k goes h =
       appended_same publishes named values (length values) 0 old was new k goes.share (done_refused was new item room h)
       (none_published room item was new h)
 
   -- the role is given back
-  pub sent_done : {role : Role} {old was new : View T} {values : List V} → HasSent named values old was → Goes code kind capacity was new
+  pub sent_done : {role : Role} {old was new : View T} {values : List V} → HasSent named values old was → Goes was new
       → HasReleased role was new → published new.seen ≡ published was.seen → HasSent named values old new
   sent_done {role} {old} {was} {new} {values} k goes h is =
       appended_same publishes named values (length values) 0 old was new k goes.share (done_released was new role h) is
 
   pub sent_all : {role : Role} {old was new : View T} (all : List V) (n : ℕ) → HasSent named (take n all) old was → length all ≤ n
-      → Goes code kind capacity was new → HasReleased role was new → published new.seen ≡ published was.seen → HasSent named all old new
+      → Goes was new → HasReleased role was new → published new.seen ≡ published was.seen → HasSent named all old new
   sent_all {role} {old} {was} {new} all n k past goes h is =
       subst (λ xs. HasSent named xs old new) (take_all n all past)
       (sent_done {role = role} {old = old} {was = was} {new = new} {values = take n all} k goes h is)
 
   -- ---- who pops
 
-  pub received_none : {role : Role} {old new : View T} {values : List V} → values ≡ [] → Goes code kind capacity old new
+  pub received_none : {role : Role} {old new : View T} {values : List V} → values ≡ [] → Goes old new
       → HasAcquired role true old new → HasReceived named values old new
   received_none {role} {old} {new} is goes h =
       subst (λ xs. HasReceived named xs old new) (sym is)
       (appended_none hands_out named old new goes.since goes.share (done_acquired old new role true h))
 
-  pub received_one : {old was new : View T} (values : List V) (value : V) → HasReceived named values old was → Goes code kind capacity was new
+  pub received_one : {old was new : View T} (values : List V) (value : V) → HasReceived named values old was → Goes was new
       → PopDone (named value) was new → HasReceived named (values ++ value ∷ []) old new
   received_one {old} {was} {new} values value k goes h =
       subst (λ n. HasAppended hands_out named (values ++ value ∷ []) 0 n old new) (sym (length-append values (value ∷ [])))
@@ -141,19 +141,19 @@ module _ {T V : Type 0} {code : Coding T} {kind : Kind} {capacity : ℕ} {named 
 
   -- a list that has it at its end
   pub received_next : {old was new : View T} (values more : List V) (value : V) → HasReceived named values old was
-      → Goes code kind capacity was new → PopDone (named value) was new
+      → Goes was new → PopDone (named value) was new
       → more ≡ values ++ value ∷ [] → HasReceived named more old new
   received_next {old} {was} {new} values more value k goes h is =
       subst (λ xs. HasReceived named xs old new) (sym is)
       (received_one {old = old} {was = was} {new = new} values value k goes h)
 
   -- a pop that found none
-  pub received_still : {old was new : View T} {values : List V} → HasReceived named values old was → Goes code kind capacity was new
+  pub received_still : {old was new : View T} {values : List V} → HasReceived named values old was → Goes was new
       → PopEmpty was new → HasReceived named values old new
   received_still {old} {was} {new} {values} k goes h =
       appended_same hands_out named values 0 (length values) old was new k goes.share (done_none was new h.0) h.1.list
 
-  pub received_done : {role : Role} {old was new : View T} {values : List V} → HasReceived named values old was → Goes code kind capacity was new
+  pub received_done : {role : Role} {old was new : View T} {values : List V} → HasReceived named values old was → Goes was new
       → HasReleased role was new → handed_out new.seen ≡ handed_out was.seen → HasReceived named values old new
   received_done {role} {old} {was} {new} {values} k goes h is =
       appended_same hands_out named values 0 (length values) old was new k goes.share (done_released was new role h) is

@@ -5,13 +5,13 @@ use Rattle.std.proofs.Common.{arith, append-nil, append_assoc, length-append, su
 use Rattle.std.specs.Prelude.{Some, None}
 use Rattle.std.proofs.lemmas.List.{take_all, take_more}
 use mathlib.Core.List.{map-append}
-use Rattle.lock_free_queues.proofs.Names.{sum_by-append, one_word, Event, Published, HandedOut, Acted, Finished, events_by}
+use Rattle.lock_free_queues.proofs.Names.{IsHistory, machine_kind, sum_by-append, one_word, Event, Published, HandedOut, Acted, Finished, events_by}
 use Rattle.lock_free_queues.proofs.Names.{View, IsBeginning, IsAll, Item, Index, Role, Queues, PushIndex, Pop, PoppedIndex}
 use Rattle.lock_free_queues.proofs.Names.{publishes, published, by_more}
 use Rattle.model.specs.declared.families.queues.QueueKind as kinds
 use Rattle.lock_free_queues.specs.Queues.Merges.{StandIn, by_pop, by_push, taken, TookOut, HasPushedAll, HasPushedUpTo}
 use Rattle.lock_free_queues.specs.Queues.Merges.{HasTaken, HasDrained}
-use Rattle.lock_free_queues.specs.Queues.Overflowing.{GoesOn, HasOverflowed, PushAdded, PushHandedBack, TookNone}
+use Rattle.lock_free_queues.specs.Queues.Overflowing.{Goes, HasOverflowed, PushAdded, PushHandedBack, TookNone}
 use Rattle.lock_free_queues.specs.Queues.Sent.{HasAppended}
 use Rattle.lock_free_queues.specs.Queues.Sums.{puts, HasDone}
 use Rattle.lock_free_queues.specs.Queues.Contracts.{HasPublished, HasPopped, HasAcquired, HasReleased}
@@ -146,8 +146,8 @@ pop_wrote xs x v w u k h =
     let at = first_wrote p (Queues Pop) (PoppedIndex x) (HandedOut p (Index x)) (Acted p (Queues Pop) (PoppedIndex x) ∷ []) w u h.called in
     took_more by_pop pop_lasts xs x p v w u at.before at.after k at.since at.is (ap by_pop at.mine)
 
-pub takes_none : (c : ℕ) (role : Role) (v w : View ℕ) → GoesOn c v w → HasAcquired role true v w → HasTaken [] v w
-takes_none c role v w goes h =
+pub takes_none : (role : Role) (v w : View ℕ) → Goes v w → HasAcquired role true v w → HasTaken [] v w
+takes_none role v w goes h =
     record {
       since = goes.since;
       popped = took_none by_pop pop_lasts v w goes.since;
@@ -156,8 +156,8 @@ takes_none c role v w goes h =
       all = λ none. goes.all;
     }
 
-pub takes_one : (c : ℕ) (xs : List ℕ) (x : ℕ) (v w u : View ℕ) → HasTaken xs v w → GoesOn c w u → HasPopped (Some (Index x)) w u → HasTaken (xs ++ x ∷ []) v u
-takes_one c xs x v w u k goes h =
+pub takes_one : (xs : List ℕ) (x : ℕ) (v w u : View ℕ) → HasTaken xs v w → Goes w u → HasPopped (Some (Index x)) w u → HasTaken (xs ++ x ∷ []) v u
+takes_one xs x v w u k goes h =
     record {
       since = begins_further _ _ _ k.since goes.since;
       popped = pop_wrote xs x v w u k.popped h;
@@ -173,8 +173,8 @@ same_done a b v w u x y =
       gets_more = (let p = x.gets_more in let q = y.gets_more in omega arith);
     }
 
-takes_same : (c : ℕ) (xs : List ℕ) (v w u : View ℕ) → HasTaken xs v w → GoesOn c w u → HasDone 0 0 w u → HasTaken xs v u
-takes_same c xs v w u k goes done =
+takes_same : (xs : List ℕ) (v w u : View ℕ) → HasTaken xs v w → Goes w u → HasDone 0 0 w u → HasTaken xs v u
+takes_same xs v w u k goes done =
     record {
       since = begins_further _ _ _ k.since goes.since;
       popped = took_same by_pop pop_lasts xs v w u k.popped goes.since;
@@ -183,11 +183,11 @@ takes_same c xs v w u k goes done =
       all = λ none. goes.all;
     }
 
-pub takes_nothing : (c : ℕ) (xs : List ℕ) (v w u : View ℕ) → HasTaken xs v w → GoesOn c w u → HasPopped None w u → HasTaken xs v u
-takes_nothing c xs v w u k goes h = takes_same c xs v w u k goes (done_none w u h)
+pub takes_nothing : (xs : List ℕ) (v w u : View ℕ) → HasTaken xs v w → Goes w u → HasPopped None w u → HasTaken xs v u
+takes_nothing xs v w u k goes h = takes_same xs v w u k goes (done_none w u h)
 
-pub takes_all : (c : ℕ) (xs : List ℕ) (role : Role) (v w u : View ℕ) → HasTaken xs v w → GoesOn c w u → HasReleased role w u → HasTaken xs v u
-takes_all c xs role v w u k goes h = takes_same c xs v w u k goes (done_released w u role h)
+pub takes_all : (xs : List ℕ) (role : Role) (v w u : View ℕ) → HasTaken xs v w → Goes w u → HasReleased role w u → HasTaken xs v u
+takes_all xs role v w u k goes h = takes_same xs v w u k goes (done_released w u role h)
 
 pub takes_here : (v : View ℕ) → HasTaken [] v v
 takes_here v =
@@ -200,13 +200,13 @@ takes_here v =
     }
 
 pub drained : (c : ℕ) (old new more : List ℕ) (v w u : View ℕ) → new ≡ old ++ more → HasTaken more v w
-    → GoesOn c w u → HasPopped None w u → HasDrained old new v u
-drained c old new more v w u is k goes h =
+    → Goes w u → IsHistory one_word (machine_kind kinds.TheVariants.Overflow) c u.seen → HasPopped None w u → HasDrained old new v u
+drained c old new more v w u is k goes history h =
     record {
       more = more;
       numbers = is;
-      popped = takes_nothing c more v w u k goes h;
-      emptied = λ whole none. (let it = all_taken one_word kinds.TheVariants.Overflow c w u (subst IsAll (sym k.share) whole) (k.all none) goes h in it.1);
+      popped = takes_nothing more v w u k goes h;
+      emptied = λ whole none. (let it = all_taken one_word kinds.TheVariants.Overflow c w u (subst IsAll (sym k.share) whole) (k.all none) goes history h in it.1);
     }
 
 -- ---- pushes
@@ -245,8 +245,8 @@ counted_as : (xs : List ℕ) (put got put' got' : ℕ) (v w : View ℕ) → put 
     → HasAppended publishes Index xs put got v w → HasAppended publishes Index xs put' got' v w
 counted_as xs put got put' got' v w p q k = subst (λ (t : ℕ × ℕ). HasAppended publishes Index xs t.0 t.1 v w) (λ i. (p i, q i)) k
 
-pub pushed_none : (c : ℕ) (all : List ℕ) (role : Role) (v w : View ℕ) → GoesOn c v w → HasAcquired role true v w → HasPushedUpTo (take 0 all) [] v w
-pushed_none c all role v w goes h =
+pub pushed_none : (all : List ℕ) (role : Role) (v w : View ℕ) → Goes v w → HasAcquired role true v w → HasPushedUpTo (take 0 all) [] v w
+pushed_none all role v w goes h =
     let done = done_acquired v w role true h in
     record {
       few = (let p = done.puts_more in omega arith);
@@ -254,7 +254,7 @@ pushed_none c all role v w goes h =
       all = λ under. record { added = appended_none publishes Index v w goes.since goes.share done; returned = took_none by_push push_lasts v w goes.since };
     }
 
-module _ (c : ℕ) (some : 0 < c) (xs back : List ℕ) (x : ℕ) (v w u : View ℕ) (k : HasPushedUpTo xs back v w) (goes : GoesOn c w u) where
+module _ (c : ℕ) (some : 0 < c) (xs back : List ℕ) (x : ℕ) (v w u : View ℕ) (k : HasPushedUpTo xs back v w) (goes : Goes w u) where
   long : length (xs ++ x ∷ []) ≡ length xs + 1
   long = length-append xs (x ∷ [])
 
@@ -311,7 +311,7 @@ module _ (c : ℕ) (some : 0 < c) (xs back : List ℕ) (x : ℕ) (v w u : View �
   returns_one y (inr h) = took_none_there (back ++ y ∷ []) h.1
 
 module _ (c : ℕ) (some : 0 < c) (all : List ℕ) (n x : ℕ) (back : List ℕ) (v w u : View ℕ) (lt : n < length all)
-    (is : x ≡ get_or all n 0) (k : HasPushedUpTo (take n all) back v w) (goes : GoesOn c w u) where
+    (is : x ≡ get_or all n 0) (k : HasPushedUpTo (take n all) back v w) (goes : Goes w u) where
   longer : take n all ++ x ∷ [] ≡ take (n + 1) all
   longer = ap (λ z. take n all ++ z ∷ []) is ∙ sym (take_more all n 0 lt)
 
@@ -323,10 +323,10 @@ module _ (c : ℕ) (some : 0 < c) (all : List ℕ) (n x : ℕ) (back : List ℕ)
       subst (λ xs. HasPushedUpTo xs (back ++ y ∷ []) v u) longer
       (returns_one c some (take n all) back x v w u k goes y p)
 
-pub pushed_all : (c : ℕ) (all : List ℕ) (n : ℕ) (back : List ℕ) (role : Role) (v w u : View ℕ) → length all ≤ n
-    → HasPushedUpTo (take n all) back v w → GoesOn c w u → HasReleased role w u → published u.seen ≡ published w.seen
+pub pushed_all : (all : List ℕ) (n : ℕ) (back : List ℕ) (role : Role) (v w u : View ℕ) → length all ≤ n
+    → HasPushedUpTo (take n all) back v w → Goes w u → HasReleased role w u → published u.seen ≡ published w.seen
     → HasPushedUpTo all back v u
-pushed_all c all n back role v w u past k goes h is =
+pushed_all all n back role v w u past k goes h is =
     let done = done_released w u role h in
     subst (λ xs. HasPushedUpTo xs back v u) (take_all n all past)
     (record {

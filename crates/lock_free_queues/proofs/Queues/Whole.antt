@@ -3,7 +3,7 @@ use Rattle.lock_free_queues.proofs.Names.{◌≡◌, ℕ, ◌+◌, List, [], ◌
 use Rattle.lock_free_queues.proofs.Names.{append-nil, sum_by, arith, flat_map-append, sum_by-append, flat_map}
 use Rattle.lock_free_queues.proofs.Names.{PoppedNone, Event, Begun, Acted, Finished, Item, Queues, QueueKind, Pop}
 use Rattle.lock_free_queues.proofs.Names.{publishes, hands_out, published, handed_out, IsAll, View, IsBeginning}
-use Rattle.lock_free_queues.proofs.Names.{sum_first, Kind, Coding, machine_kind, Goes, MissesNothing}
+use Rattle.lock_free_queues.proofs.Names.{sum_first, Coding, machine_kind, IsHistory, Goes, MissesNothing}
 use Rattle.std.proofs.Common.{length-append}
 use Rattle.lock_free_queues.specs.Queues.Contracts.{HasPopped, FoundNone}
 use Rattle.lock_free_queues.proofs.Queues.Facts.{found_none, listed_always}
@@ -21,8 +21,8 @@ module _ {T : Type 0} (m : Event T → List (Item T)) where
   counted (e ∷ es) = (let first = sum_first counts e es in let rest = counted es in let both = length-append (m e) (flat_map m es) in omega arith)
 
   -- who has the whole share has seen no more than it made
-  module _ (code : Coding T) (kind : Kind) (capacity : ℕ) (old new : View T) (es : List (Event T))
-      (all : IsAll old.share) (before : MissesNothing old) (goes : Goes code kind capacity old new)
+  module _ (old new : View T) (es : List (Event T))
+      (all : IsAll old.share) (before : MissesNothing old) (goes : Goes old new)
       (made : new.made ≡ old.made ++ es) where
     as_many : length (flat_map m new.seen) ≡ length (flat_map m old.seen) + length (flat_map m es)
     as_many =
@@ -40,18 +40,18 @@ module _ {T : Type 0} (m : Event T → List (Item T)) where
 
 -- where a pop finds nothing, all that was published was taken
 pub all_taken : {T : Type 0} (code : Coding T) (kd : QueueKind) (capacity : ℕ) (old new : View T) → IsAll old.share
-    → MissesNothing old → Goes code (machine_kind kd) capacity old new → HasPopped None old new
+    → MissesNothing old → Goes old new → IsHistory code (machine_kind kd) capacity new.seen → HasPopped None old new
     → (published new.seen ≡ published old.seen) × (handed_out new.seen ≡ published new.seen)
-all_taken {T} code kd capacity old new all before goes popping =
+all_taken {T} code kd capacity old new all before goes history popping =
     let p = popping.by in
     let es : List (Event T) = Begun p (Queues Pop) ∷ Acted p (Queues Pop) PoppedNone ∷ Finished p (Queues Pop) PoppedNone ∷ [] in
     let out : published new.seen ≡ published old.seen =
-    nothing_more publishes code (machine_kind kd) capacity old new es all before goes popping.called.made refl in
+    nothing_more publishes old new es all before goes popping.called.made refl in
     let took : handed_out new.seen ≡ handed_out old.seen =
-    nothing_more hands_out code (machine_kind kd) capacity old new es all before goes popping.called.made refl in
-    let empty : FoundNone old new = found_none code kd capacity old new goes.history popping in
+    nothing_more hands_out old new es all before goes popping.called.made refl in
+    let empty : FoundNone old new = found_none code kd capacity old new history popping in
     let after : List (Event T) = Acted empty.by (Queues Pop) PoppedNone ∷ empty.after in
-    let book = (listed_always code capacity new.seen kd goes.history empty.before after empty.is).book in
+    let book = (listed_always code capacity new.seen kd history empty.before after empty.is).book in
     let same : published empty.before ≡ published old.seen = between publishes empty.before after old new empty.since empty.is out in
     let taken : handed_out empty.before ≡ handed_out old.seen = between hands_out empty.before after old new empty.since empty.is took in
     let rest : published empty.before ≡ handed_out empty.before =

@@ -12,7 +12,3 @@ pub use Rattle.lock_free_queues.specs.Queues.Rings.{SamePass, SameProducer, Same
 -- it has seen a history of a queue of this capacity
 abbrev pub HasHistory : ℕ → View ℕ → Type 0
 HasHistory capacity v = IsHistory one_word kinds.IndexQueue capacity v.seen
-
--- what each call leaves
-abbrev pub GoesOn : ℕ → View ℕ → View ℕ → Type 0
-GoesOn capacity old new = Goes one_word kinds.IndexQueue capacity old new

@@ -22,10 +22,6 @@ pub use Rattle.lock_free_queues.specs.Queues.Rings.{IsSameByCapacity, SameProduc
 abbrev pub HasHistory : ℕ → View ℕ → Type 0
 HasHistory capacity v = IsHistory one_word kinds.Overflow capacity v.seen
 
--- what each call leaves
-abbrev pub GoesOn : ℕ → View ℕ → View ℕ → Type 0
-GoesOn capacity old new = Goes one_word kinds.Overflow capacity old new
-
 module _ {T : Type 0} where
   -- what a push writes: it publishes its number, and where there was no room it takes out the oldest
   abbrev pub over_push_events : ℕ → ℕ → Option ℕ → List (Event T)

@@ -5,7 +5,7 @@ use Rattle.steps.specs.declared.words.Words.{Ghosts}
 use Rattle.model.specs.declared.families.queues.QueueKind.{QueueKind}
 use Rattle.model.specs.Coding.{Coding, coding_of}
 use Rattle.history.specs.declared.view.View.{View}
-use Rattle.history.specs.History.{IsHistory, Knows}
+use Rattle.history.specs.History.{IsHistory}
 use Rattle.threaded.specs.Seats.{home_id}
 use Rattle.lock_free_queues.specs.Queues.Bounded.{machine_kind}
 pub use Rattle.history.specs.Passes.{Goes, MissesNothing}
@@ -28,10 +28,6 @@ module _ {T : Type 0} where
   -- it has seen a history of a queue of this kind and capacity
   abbrev pub HasHistory : Coding T → QueueKind → ℕ → View T → Type 0
   HasHistory code kind capacity v = IsHistory code (machine_kind kind) capacity v.seen
-
-  -- what each call leaves
-  abbrev pub GoesOn : Coding T → QueueKind → ℕ → View T → View T → Type 0
-  GoesOn code kind capacity old new = Goes code (machine_kind kind) capacity old new
 
 module _ {E T : Type 0} where
   abbrev pub queue_id : Ring E T → QueueId
@@ -80,7 +76,7 @@ module _ {E T : Type 0} {kind : kinds.Ghosts E} {words : Ghosts T} where
   -- what each call leaves of a seat: it is of the same queue, and its view goes on
   pub record IsSameQueue (old new : Held E T (RingRule E T) kind words) : Type 0 where
     pub queue : token_queue new ≡ token_queue old
-    pub goes : GoesOn (code_of old) kind.KIND (token_queue old).capacity (token_view old) (token_view new)
+    pub goes : Goes (token_view old) (token_view new)
 
   -- the same of a pass and of a guard, by their seats
   abbrev pub SamePass : Pass E T kind words → Pass E T kind words → Type 0
@@ -95,8 +91,7 @@ module _ {E T : Type 0} {kind : kinds.Ghosts E} {words : Ghosts T} where
   -- the same of a call that takes no step where its queue has no capacity: nothing changes there
   pub record IsSameByCapacity (old new : Held E T (RingRule E T) kind words) : Type 0 where
     pub queue : token_queue new ≡ token_queue old
-    pub goes : 0 < (token_queue old).capacity
-        → GoesOn (code_of old) kind.KIND (token_queue old).capacity (token_view old) (token_view new)
+    pub goes : 0 < (token_queue old).capacity → Goes (token_view old) (token_view new)
     pub none : (token_queue old).capacity ≡ 0 → token_view new ≡ token_view old
 
   -- the same of a guard, by its seat
@@ -124,7 +119,6 @@ module _ {E T : Type 0} {kind : kinds.Ghosts E} {words : Ghosts T} where
     pub queue : token_queue new ≡ token_queue old
     pub joined : HasJoined (token_view old) (token_view other) (token_view new)
     pub history : HasHistory (code_of old) kind.KIND (token_queue old).capacity (token_view new)
-    pub knows : Knows (code_of old) (machine_kind kind.KIND) (token_queue old).capacity (token_view new)
     pub all : MissesNothing (token_view new)
 
   abbrev pub PassJoins : Pass E T kind words → Pass E T kind words → Pass E T kind words → Type 0

@@ -12,7 +12,3 @@ pub use Rattle.lock_free_queues.specs.Queues.Rings.{SamePass, SameProducer, Same
 -- it has seen a history of a queue of this capacity
 abbrev pub HasHistory : {T : Type 0} → Coding T → ℕ → View T → Type 0
 HasHistory code capacity v = IsHistory code kinds.Queue capacity v.seen
-
--- what each call leaves
-abbrev pub GoesOn : {T : Type 0} → Coding T → ℕ → View T → View T → Type 0
-GoesOn code capacity old new = Goes code kinds.Queue capacity old new

@@ -19,13 +19,13 @@ ghost use Rattle.lock_free_queues.specs.Queues.Contracts.{HasAcquired, HasSplit,
 /// one pop more was made. All of it came just where that pop found nothing, and no more is left than the queue has room
 /// for. The lemma is `views_relayed` of `proofs/Queues/Relays.antt`.
 pub fn halves_relay<T, V>()
-    ensures { (named : V → Item T) (code : Coding T) (queue : QueueKind) (n room most : ℕ) (role : Role)
+    ensures { (named : V → Item T) (code : Coding T) (queue : QueueKind) (n most : ℕ) (role : Role)
         (first left right mine theirs joined taking last : View T) (sent received : List V) (answer : Option V) (emptied : Bool)
         → TellsApart named → IsBounded queue → first ≡ first_view n → HasSplit first left right
         → HasSent named sent left mine → HasReceived named received right theirs → HasJoined mine theirs joined
         → MissesNothing joined → IsHistory code (machine_kind queue) n joined.seen
-        → Goes code (machine_kind queue) room joined taking → HasAcquired role true joined taking
-        → Goes code (machine_kind queue) most taking last → IfSome answer (λ x. PopDone (named x) taking last)
+        → Goes joined taking → HasAcquired role true joined taking
+        → Goes taking last → IsHistory code (machine_kind queue) most last.seen → IfSome answer (λ x. PopDone (named x) taking last)
         → IfNone answer (PopEmpty taking last) → is_some answer ≡ not emptied
         → IsRelayed n sent received emptied }
 {}

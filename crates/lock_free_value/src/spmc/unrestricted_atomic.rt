@@ -3,8 +3,13 @@
 //! How many atomic steps a call takes is what its clause `steps` says: the operations on words that its pass has
 //! counted. Each that it performs is counted, by the driver. What is proved of threads is what the contracts say.
 ghost use Rattle.std.specs.Prelude.{◌≡◌, ◌<◌, ◌+◌, ◌*◌, [], None, length};
+ghost use Rattle.std.specs.Coded.{Coded-set};
 ghost use Rattle.laws_value.specs.Stored.{stored};
+ghost use Rattle.model.specs.declared.turn.Kind.TheVariants as kinds;
+ghost use Rattle.model.specs.Coding.{coding_of};
+ghost use Rattle.history.specs.History.{Knows};
 ghost use Rattle.history.specs.Value.{HasProducer};
+ghost use Rattle.history.proofs.KnownRuns.{knows_prop};
 ghost use Rattle.lock_free_value.specs.Roles.{LacksProducer};
 
 use self::rule::{Origin, ValueRule};
@@ -56,6 +61,7 @@ pub struct Held<T: Words, Q: TableRule<(), View<T>, Origin<T>>> {
     ghost alone: { seated.seat.me.0.other ≡ [] },
     ghost some: { (0 < seated.seat.me.0.share.part) × (0 < seated.seat.me.0.share.parts) },
     ghost begun: { 0 < length (stored seated.seat.me.0.seen) },
+    ghost knows: { Knows (coding_of T.WORDS T.words_of T.value_of) kinds.Atomic 1 seated.seat.me.0 } by { knows_prop (Coded-set T.code) (coding_of T.WORDS T.words_of T.value_of) kinds.Atomic 1 seated.seat.me.0 },
 }
 
 impl<T: Words, Q: TableRule<(), View<T>, Origin<T>>> Drop for Held<T, Q> {

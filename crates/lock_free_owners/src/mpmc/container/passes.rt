@@ -1,9 +1,11 @@
 //! How passes are made of one another.
 ghost use Rattle.std.specs.Prelude.{◌≡◌, None, IfSome, IfNone};
 ghost use Rattle.history.specs.ContainerLooks.{KeepsState};
+ghost use Rattle.model.specs.declared.turn.Kind.TheVariants as kinds;
+ghost use Rattle.history.specs.History.{Knows};
 ghost use Rattle.history.specs.Passes.{HasSplit};
 ghost use Rattle.history.specs.Steps.{TakesAtMost, JoinsWithin};
-ghost use Rattle.lock_free_owners.specs.Container.Names.{view, container_of, PassJoins};
+ghost use Rattle.lock_free_owners.specs.Container.Names.{code_of, view, container_of, HasHistory, PassJoins};
 
 use super::Pass;
 use super::drives::{Glance, Settle};
@@ -12,6 +14,15 @@ use history::plays::{Both, Cut};
 use steps::words::Words;
 
 impl<T: Words> Pass<T> {
+    /// What the pass has seen are the events of the turns that it knows, which make a run of the machine: a history of a
+    /// container of its capacity. It does nothing. This project's own.
+    pub fn history(&self)
+        ensures run { Knows (code_of self.now) kinds.Container (container_of self.now).capacity (view self.now) }
+        ensures history { HasHistory self.now }
+    {
+        let _ = &self.token;
+    }
+
     /// Makes a new pass of the same container, which has seen the same and made nothing. This one keeps all that it
     /// made, and the state that it has; each has half of the share. At most one step. None, and nothing changes, where
     /// no further pass can be counted (no clause says when). This project's own.

@@ -271,8 +271,7 @@ impl<T: Words> Container<T> {
         requires visits { TakesVisits F.pre (λ p x h a q. F.step p x h a q)
             (IsHandleFor self.now owner) visit.old }
         ensures container { container_of pass.new ≡ container_of pass.old }
-        ensures goes { Goes (code_of pass.old) kinds.Container (container_of pass.old).capacity
-            (view pass.old) (view pass.new) }
+        ensures goes { Goes (view pass.old) (view pass.new) }
         ensures keeps { KeepsState (view pass.old) (view pass.new) }
         ensures found { (visits : List (Visit T)) × (bound : ℕ)
             × HasSearched (code_of pass.old) (capacity_of self.now) owner result bound visits

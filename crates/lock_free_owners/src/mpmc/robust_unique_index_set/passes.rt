@@ -1,14 +1,26 @@
 //! How passes are made of one another.
 ghost use Rattle.std.specs.Prelude.{◌≡◌, IfSome, IfNone};
+ghost use Rattle.model.specs.declared.turn.Kind.TheVariants as kinds;
+ghost use Rattle.model.specs.Coding.{one_word};
+ghost use Rattle.history.specs.History.{Knows};
 ghost use Rattle.history.specs.Passes.{HasSplit};
 ghost use Rattle.history.specs.Steps.{TakesAtMost, JoinsWithin};
-ghost use Rattle.lock_free_owners.specs.RobustUniqueIndexSet.{set_of, view, PassJoins};
+ghost use Rattle.lock_free_owners.specs.RobustUniqueIndexSet.{set_of, view, HasHistory, PassJoins};
 
 use super::Pass;
 use super::drives::Look;
 use history::plays::{Both, Cut};
 
 impl Pass {
+    /// What the pass has seen are the events of the turns that it knows, which make a run of the machine: a history of a
+    /// set of its capacity. It does nothing. This project's own.
+    pub fn history(&self)
+        ensures run { Knows one_word kinds.Robust (set_of self.now).capacity (view self.now) }
+        ensures history { HasHistory self.now }
+    {
+        let _ = &self.seated;
+    }
+
     /// Makes a new pass of the same set, which has seen the same and made nothing. This one keeps all that it made, and
     /// each has half of the share. None, and nothing changes, where no further pass can be counted (no clause says
     /// when). At most one step. This project's own.

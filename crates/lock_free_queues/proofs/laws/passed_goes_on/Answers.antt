@@ -2,13 +2,13 @@ use Rattle.lock_free_queues.proofs.Queues.Passed.{still_passed, one_passed, all_
 use Rattle.lock_free_queues.proofs.laws.passed_goes_on.Goals as goal
 
 pub returns-clause-acquired : goal.returns-clause-acquired
-returns-clause-acquired g c named code kind capacity role sent received old new k goes h =
-    still_passed code kind capacity {role = role} k goes h
+returns-clause-acquired g c named role sent received old new k goes h =
+    still_passed {role = role} k goes h
 
 pub returns-clause-popped : goal.returns-clause-popped
-returns-clause-popped g c named code kind capacity value sent received old new k goes h =
-    one_passed code kind capacity value k goes h
+returns-clause-popped g c named value sent received old new k goes h =
+    one_passed value k goes h
 
 pub returns-clause-none : goal.returns-clause-none
-returns-clause-none g c named code kind capacity sent received old new tells k goes h =
-    all_passed code kind capacity tells k goes h
+returns-clause-none g c named code kind capacity sent received old new tells k goes history h =
+    all_passed code kind capacity tells k goes history h

@@ -3,18 +3,18 @@ use Rattle.lock_free_queues.proofs.Queues.Sent.{received_none, received_one, rec
 use Rattle.lock_free_queues.proofs.laws.pops_are_received.Goals as goal
 
 pub returns-clause-acquired : goal.returns-clause-acquired
-returns-clause-acquired g c named code kind capacity role old new goes h =
-    received_none {code = code} {kind = kind} {capacity = capacity} {named = named} {role = role} {old = old} {new = new} {values = []} refl goes h
+returns-clause-acquired g c named role old new goes h =
+    received_none {named = named} {role = role} {old = old} {new = new} {values = []} refl goes h
 
 pub returns-clause-popped : goal.returns-clause-popped
-returns-clause-popped g c named code kind capacity values value old was new got goes h =
-    received_one {code = code} {kind = kind} {capacity = capacity} {named = named} {old = old} {was = was} {new = new} values value got goes h
+returns-clause-popped g c named values value old was new got goes h =
+    received_one {named = named} {old = old} {was = was} {new = new} values value got goes h
 
 pub returns-clause-none : goal.returns-clause-none
-returns-clause-none g c named code kind capacity values old was new got goes h =
-    received_still {code = code} {kind = kind} {capacity = capacity} {named = named} {old = old} {was = was} {new = new} {values = values} got goes h
+returns-clause-none g c named values old was new got goes h =
+    received_still {named = named} {old = old} {was = was} {new = new} {values = values} got goes h
 
 pub returns-clause-released : goal.returns-clause-released
-returns-clause-released g c named code kind capacity role values old was new got goes h is =
-    received_done {code = code} {kind = kind} {capacity = capacity} {named = named} {role = role} {old = old}
+returns-clause-released g c named role values old was new got goes h is =
+    received_done {named = named} {role = role} {old = old}
     {was = was} {new = new} {values = values} got goes h is

@@ -2,19 +2,19 @@ use Rattle.lock_free_queues.proofs.Queues.Sent.{sent_none, sent_one, sent_refuse
 use Rattle.lock_free_queues.proofs.laws.pushes_are_sent.Goals as goal
 
 pub returns-clause-acquired : goal.returns-clause-acquired
-returns-clause-acquired g c named code kind capacity role old new goes h =
-    sent_none {code = code} {kind = kind} {capacity = capacity} {named = named} {role = role} {old = old} {new = new} goes h
+returns-clause-acquired g c named role old new goes h =
+    sent_none {named = named} {role = role} {old = old} {new = new} goes h
 
 pub returns-clause-pushed : goal.returns-clause-pushed
-returns-clause-pushed g c named code kind capacity values value old was new sent goes h =
-    sent_one {code = code} {kind = kind} {capacity = capacity} {named = named} {old = old} {was = was} {new = new} values value sent goes h
+returns-clause-pushed g c named values value old was new sent goes h =
+    sent_one {named = named} {old = old} {was = was} {new = new} values value sent goes h
 
 pub returns-clause-refused : goal.returns-clause-refused
-returns-clause-refused g c named code kind capacity room values item old was new sent goes h =
-    sent_refused {code = code} {kind = kind} {capacity = capacity} {named = named} {old = old} {was = was}
+returns-clause-refused g c named room values item old was new sent goes h =
+    sent_refused {named = named} {old = old} {was = was}
     {new = new} {values = values} {room = room} {item = item} sent goes h
 
 pub returns-clause-released : goal.returns-clause-released
-returns-clause-released g c named code kind capacity role values old was new sent goes h is =
-    sent_done {code = code} {kind = kind} {capacity = capacity} {named = named} {role = role} {old = old}
+returns-clause-released g c named role values old was new sent goes h is =
+    sent_done {named = named} {role = role} {old = old}
     {was = was} {new = new} {values = values} sent goes h is

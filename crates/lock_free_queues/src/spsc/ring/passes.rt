@@ -1,6 +1,9 @@
 //! How passes are made of one another.
 ghost use Rattle.std.specs.Prelude.{◌≡◌, IfSome, IfNone};
+ghost use Rattle.history.specs.History.{Knows};
 ghost use Rattle.history.specs.Steps.{TakesAtMost, JoinsWithin};
+ghost use Rattle.lock_free_queues.specs.Queues.Bounded.{machine_kind};
+ghost use Rattle.lock_free_queues.specs.Queues.Rings.{HasHistory, code_of};
 ghost use Rattle.lock_free_queues.specs.Queues.Rings.{token_queue, token_view, queue_of, view, producer_queue};
 ghost use Rattle.lock_free_queues.specs.Queues.Rings.{producer_view, consumer_queue, consumer_view};
 ghost use Rattle.lock_free_queues.specs.Queues.Rings.{IsSameQueue, SamePass, Joins, PassJoins, ProducerJoins, ConsumerJoins};
@@ -58,6 +61,15 @@ impl<E: Kind, T: Words> Held<E, T, RingRule<E, T>> {
 }
 
 impl<E: Kind, T: Words> Pass<E, T> {
+    /// What the pass has seen are the events of the turns that it knows, which make a run of the machine: a history of a
+    /// queue of its kind and capacity. It does nothing. This project's own.
+    pub fn history(&self)
+        ensures run { Knows (code_of self.now.token) (machine_kind E.KIND) (queue_of self.now).capacity (view self.now) }
+        ensures history { HasHistory (code_of self.now.token) E.KIND (queue_of self.now).capacity (view self.now) }
+    {
+        let _ = &self.token;
+    }
+
     /// Makes a new pass of the same queue, which has seen the same and made nothing. Each has half of this one's share
     /// of the right to know the whole. None, and nothing changes, where no further pass can be counted (no clause says
     /// when). At most one step. This project's own.
@@ -95,6 +107,14 @@ impl<E: Kind, T: Words> Pass<E, T> {
 }
 
 impl<'a, E: Kind, T: Words> Producer<'a, E, T> {
+    /// The same of the guard's pass. It does nothing. This project's own.
+    pub fn history(&self)
+        ensures run { Knows (code_of self.now.token) (machine_kind E.KIND) (producer_queue self.now).capacity (producer_view self.now) }
+        ensures history { HasHistory (code_of self.now.token) E.KIND (producer_queue self.now).capacity (producer_view self.now) }
+    {
+        let _ = &self.token;
+    }
+
     /// Takes in a pass of the queue, as a pass does. At most two steps. This project's own.
     pub fn join(&mut self, other: Pass<E, T>)
         requires { queue_of other ≡ producer_queue self.old }
@@ -107,6 +127,14 @@ impl<'a, E: Kind, T: Words> Producer<'a, E, T> {
 }
 
 impl<'a, E: Kind, T: Words> Consumer<'a, E, T> {
+    /// The same of the guard's pass. It does nothing. This project's own.
+    pub fn history(&self)
+        ensures run { Knows (code_of self.now.token) (machine_kind E.KIND) (consumer_queue self.now).capacity (consumer_view self.now) }
+        ensures history { HasHistory (code_of self.now.token) E.KIND (consumer_queue self.now).capacity (consumer_view self.now) }
+    {
+        let _ = &self.token;
+    }
+
     /// Takes in a pass of the queue, as a pass does. At most two steps. This project's own.
     pub fn join(&mut self, other: Pass<E, T>)
         requires { queue_of other ≡ consumer_queue self.old }

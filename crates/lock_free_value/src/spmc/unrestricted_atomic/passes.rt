@@ -1,8 +1,10 @@
 //! How passes are made of one another, and a look.
 ghost use Rattle.std.specs.Prelude.{◌≡◌, IfSome, IfNone};
-ghost use Rattle.history.specs.History.{IsBeginning};
+ghost use Rattle.model.specs.declared.turn.Kind.TheVariants as kinds;
+ghost use Rattle.history.specs.History.{IsBeginning, Knows};
 ghost use Rattle.history.specs.Steps.{TakesAtMost, JoinsWithin};
 ghost use Rattle.lock_free_value.specs.Calls.{seen, table_of, view, value_of_pass, producer_view, value_of_producer};
+ghost use Rattle.lock_free_value.specs.Calls.{HasHistory, code_of};
 ghost use Rattle.lock_free_value.specs.Calls.{IsSame, SamePass, Joins, PassJoins, ProducerJoins};
 ghost use Rattle.lock_free_value.specs.ValueContracts.{HasSplit};
 
@@ -50,6 +52,15 @@ impl<T: Words> Held<T, ValueRule<T>> {
 }
 
 impl<T: Words> Pass<T> {
+    /// What the pass has seen are the events of the turns that it knows, which make a run of the machine: a history of a
+    /// value. It does nothing. This project's own.
+    pub fn history(&self)
+        ensures run { Knows (code_of self.now.token) kinds.Atomic 1 (view self.now) }
+        ensures history { HasHistory (code_of self.now.token) (view self.now) }
+    {
+        let _ = &self.token;
+    }
+
     /// Makes a new pass of the same value, which has seen the same and made nothing. This one keeps what it made, and
     /// each has half of this one's share. None, and nothing changes, where no further pass can be counted (no clause
     /// says when). At most one step. This project's own.
@@ -86,6 +97,14 @@ impl<T: Words> Pass<T> {
 }
 
 impl<'a, T: Words> Producer<'a, T> {
+    /// The same of the guard's pass. It does nothing. This project's own.
+    pub fn history(&self)
+        ensures run { Knows (code_of self.now.token) kinds.Atomic 1 (producer_view self.now) }
+        ensures history { HasHistory (code_of self.now.token) (producer_view self.now) }
+    {
+        let _ = &self.token;
+    }
+
     /// Takes in what a pass of the value made, and its share. At most two steps. This project's own.
     pub fn join(&mut self, other: Pass<T>)
         requires { value_of_pass other ≡ value_of_producer self.old }

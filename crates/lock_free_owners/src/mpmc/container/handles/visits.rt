@@ -32,8 +32,7 @@ impl<'a, T: Words> Handle<'a, T> {
         requires { TakesVisits F.pre (λ p x h a q. F.step p x h a q)
             (IsHandleFor (container_in self.old) owner) visit.old }
         ensures container { container_in self.new ≡ container_in self.old }
-        ensures goes { Goes (code_of (pass_in self.old)) kinds.Container (capacity_of (container_in self.old))
-            (knows self.old) (knows self.new) }
+        ensures goes { Goes (knows self.old) (knows self.new) }
         ensures keeps { KeepsState (knows self.old) (knows self.new) }
         ensures found { (visits : List (Visit T)) × (bound : ℕ)
             × HasSearched (code_of (pass_in self.old)) (capacity_of (container_in self.old)) owner result

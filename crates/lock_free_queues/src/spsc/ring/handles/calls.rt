@@ -4,10 +4,11 @@ ghost use Rattle.steps.specs.declared.queues.roles.Role.TheVariants as roles;
 ghost use Rattle.model.specs.declared.event.Answer.TheVariants.{Number, Truth};
 ghost use Rattle.model.specs.declared.families.queues.calls.LengthOf.TheVariants as measures;
 ghost use Rattle.model.specs.Coding.{coding_of};
+ghost use Rattle.history.specs.History.{Knows};
 ghost use Rattle.history.specs.Steps.{TakesAtMost, TakesAlone};
 ghost use Rattle.lock_free_queues.specs.Queues.Bounded.{machine_kind};
 ghost use Rattle.lock_free_queues.specs.Queues.Kinds.{most_waiting};
-ghost use Rattle.lock_free_queues.specs.Queues.Rings.{capacity_of, queue_of, producer_view, consumer_view, IsPassOf, ToProducer, ToConsumer};
+ghost use Rattle.lock_free_queues.specs.Queues.Rings.{HasHistory, capacity_of, code_of, queue_of, producer_view, consumer_view, IsPassOf, ToProducer, ToConsumer};
 ghost use Rattle.lock_free_queues.specs.Queues.Contracts.{HasAcquired, HasMeasured, HasSplit, HasLooked};
 ghost use Rattle.lock_free_queues.specs.Queues.Handles.{ring_in, pass_in, knows, SameHandle};
 
@@ -35,6 +36,14 @@ impl<'a, E: Kind, T: Words> Handle<'a, E, T> {
     {
         let Handle { ring: _, pass } = self;
         pass
+    }
+
+    /// What the handle's pass has seen is a history, as `history` of the pass says. It does nothing.
+    pub fn history(&self)
+        ensures run { Knows (code_of (pass_in self.now).token) (machine_kind E.KIND) (queue_of (pass_in self.now)).capacity (knows self.now) }
+        ensures history { HasHistory (code_of (pass_in self.now).token) E.KIND (queue_of (pass_in self.now)).capacity (knows self.now) }
+    {
+        self.pass.history();
     }
 
     /// Makes a further handle of the queue, with a pass that it gets by `Pass::split`.

@@ -2,8 +2,9 @@
 ghost use Rattle.std.specs.Prelude.{◌≡◌, ◌+◌, true, false, IfSome, IfNone, IfOk, IfErr};
 ghost use Rattle.model.specs.Coding.{coding_of};
 ghost use Rattle.model.specs.declared.turn.Kind.TheVariants as kinds;
+ghost use Rattle.history.specs.History.{Knows};
 ghost use Rattle.history.specs.Steps.{TakesAtMost, TakesAlone};
-ghost use Rattle.lock_free_value.specs.Calls.{IsPassOf, value_of_pass, producer_view, ToProducer};
+ghost use Rattle.lock_free_value.specs.Calls.{HasHistory, IsPassOf, code_of, value_of_pass, producer_view, ToProducer};
 ghost use Rattle.lock_free_value.specs.ValueContracts.{HasAcquired, HasLoaded, HasSplit};
 ghost use Rattle.lock_free_value.specs.Handles.{value_in, pass_in, knows, SameHandle};
 
@@ -30,6 +31,14 @@ impl<'a, T: Words> Handle<'a, T> {
     {
         let Handle { value: _, pass } = self;
         pass
+    }
+
+    /// What the handle's pass has seen is a history, as `history` of the pass says. It does nothing.
+    pub fn history(&self)
+        ensures run { Knows (code_of (pass_in self.now).token) kinds.Atomic 1 (knows self.now) }
+        ensures history { HasHistory (code_of (pass_in self.now).token) (knows self.now) }
+    {
+        self.pass.history();
     }
 
     /// Makes a further handle of the value, with a pass that it gets by `Pass::split`.

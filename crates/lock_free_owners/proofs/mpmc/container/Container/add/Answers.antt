@@ -1,7 +1,6 @@
 use Rattle.lock_free_owners.proofs.Names.{◌≡◌, ◌<◌, Ok, Err, rules, refl, sym, ap, subst, ◌∙◌, true≢false, first_add}
-use Rattle.lock_free_owners.proofs.Names.{Owned, Coding, IsCoding, coding_of, seen, SetId, adds_value, Goes}
+use Rattle.lock_free_owners.proofs.Names.{Owned, Coding, IsCoding, coding_of, seen, SetId, adds_value}
 use Rattle.steps.specs.declared.container.enums.ContainerAddFailure.TheVariants as failures
-use Rattle.model.specs.declared.turn.Kind.TheVariants as kinds
 use Rattle.lock_free_owners.specs.Container.Turns.{BeginsAdd, AddAt, AddEnds}
 use Rattle.lock_free_owners.proofs.ContainerSet.Begins.{add_keeps, add_begins}
 use Rattle.lock_free_owners.proofs.ContainerSet.Facts.{goes, has_added, filled_so, granted_so, within_so, open_so, refused_so, shut}
@@ -38,8 +37,7 @@ returns-in-Ok-clause-same g c =
     record {
       container = search rules;
       idle = c.drive_on-end.ensures.end.over.idle;
-      goes = subst (λ n. Goes code kinds.Container n v w) c.args.pass.now.token.known
-          (goes code (BeginsAdd given) (adds_value g.T.Words.WORDS given) v w c.drive_on-end.result c.drive_on-end.ensures.end);
+      goes = (goes code (BeginsAdd given) (adds_value g.T.Words.WORDS given) v w c.drive_on-end.result c.drive_on-end.ensures.end);
     }
 
 pub returns-in-Err-clause-same : goal.returns-in-Err-clause-same
@@ -51,8 +49,7 @@ returns-in-Err-clause-same g c =
     record {
       container = search rules;
       idle = c.drive_on-end.ensures.end.over.idle;
-      goes = subst (λ n. Goes code kinds.Container n v w) c.args.pass.now.token.known
-          (goes code (BeginsAdd given) (adds_value g.T.Words.WORDS given) v w c.drive_on-end.result c.drive_on-end.ensures.end);
+      goes = (goes code (BeginsAdd given) (adds_value g.T.Words.WORDS given) v w c.drive_on-end.result c.drive_on-end.ensures.end);
     }
 
 pub returns-in-Ok-clause-added : goal.returns-in-Ok-clause-added

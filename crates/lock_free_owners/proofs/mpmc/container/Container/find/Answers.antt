@@ -1,7 +1,6 @@
 use Rattle.lock_free_owners.proofs.Names.{◌<◌, [], rules, sym, ap, subst, Coding, IsCoding, coding_of, fresh_cell}
-use Rattle.lock_free_owners.proofs.Names.{seen, SetId, Goes}
+use Rattle.lock_free_owners.proofs.Names.{seen, SetId}
 use Rattle.steps.specs.Container.Find.{first_find}
-use Rattle.model.specs.declared.turn.Kind.TheVariants as kinds
 use Rattle.lock_free_owners.specs.Container.Callable.{TakesVisits, HasFound}
 use Rattle.lock_free_owners.specs.Container.FindContract.{HasSearched}
 use Rattle.lock_free_owners.specs.Container.FindTurns.{FindAt}
@@ -31,7 +30,6 @@ find_all-requires-clause-visits g c =
 pub returns-clause-goes : goal.returns-clause-goes
 returns-clause-goes g c =
     let code : Coding g.row.T.Denot = coding_of g.T.Words.WORDS g.T.Words.words_of g.T.Words.value_of in
-    subst (λ n. Goes code kinds.Container n (seen c.args.pass.now.token.seated) (seen c.find_all.new.seat)) c.args.pass.now.token.known
     c.find_all.ensures.searched.left.goes
 
 pub returns-clause-found : goal.returns-clause-found

@@ -1,8 +1,7 @@
 use Rattle.lock_free_owners.proofs.Names.{◌≡◌, ℕ, rules, sym, ap, subst, ◌∙◌, first_look, no_numbers, shows_nothing}
 use Rattle.lock_free_owners.proofs.Names.{shown_number, Coding, IsCoding, coding_of, Number, GetState, seen, SetId}
-use Rattle.lock_free_owners.proofs.Names.{HasCopied, HasLookedAll, Goes}
+use Rattle.lock_free_owners.proofs.Names.{HasCopied, HasLookedAll}
 use Rattle.model.specs.declared.families.container.ContainerStart.TheVariants as starts
-use Rattle.model.specs.declared.turn.Kind.TheVariants as kinds
 use Rattle.lock_free_owners.specs.Container.LookTurns.{IsOnHistory, LookAt}
 use Rattle.lock_free_owners.proofs.ContainerSet.Looks.{look_begins, look_idle, look_goes, look_made, made_as, some_copied, latest_so}
 use Rattle.lock_free_owners.specs.Container.Steps.{LookTakes}
@@ -37,8 +36,7 @@ returns-clause-same g c =
     record {
       container = search rules;
       idle = look_idle code GetState v w state.seen c.bring_up.result c.bring_up.new.state.shown ends;
-      goes = subst (λ n. Goes code kinds.Container n v w) mine.known
-          (look_goes code GetState v w state.seen c.bring_up.result c.bring_up.new.state.shown ends);
+      goes = (look_goes code GetState v w state.seen c.bring_up.result c.bring_up.new.state.shown ends);
     }
 
 pub returns-clause-got : goal.returns-clause-got

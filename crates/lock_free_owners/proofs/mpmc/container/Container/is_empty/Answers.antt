@@ -1,6 +1,5 @@
-use Rattle.lock_free_owners.proofs.Names.{rules, subst, first_borrowed, Coding, coding_of, seen, counts_values, Goes}
+use Rattle.lock_free_owners.proofs.Names.{rules, subst, first_borrowed, Coding, coding_of, seen, counts_values}
 use Rattle.model.specs.declared.families.container.calls.CountOf.TheVariants as counts
-use Rattle.model.specs.declared.turn.Kind.TheVariants as kinds
 use Rattle.lock_free_owners.specs.Container.Turns.{BeginsCount, CountAt}
 use Rattle.lock_free_owners.proofs.ContainerSet.Begins.{count_begins}
 use Rattle.lock_free_owners.proofs.ContainerSet.Facts.{goes, tested, tested_answered, tested_none}
@@ -25,8 +24,7 @@ returns-clause-same g c =
     record {
       container = search rules;
       idle = c.count_all.ensures.ends.over.idle;
-      goes = subst (λ n. Goes code kinds.Container n v w) c.args.pass.now.token.known
-          (goes code BeginsCount (counts_values counts.IsEmpty) v w c.count_all.result c.count_all.ensures.ends);
+      goes = (goes code BeginsCount (counts_values counts.IsEmpty) v w c.count_all.result c.count_all.ensures.ends);
     }
 
 pub returns-clause-tested : goal.returns-clause-tested

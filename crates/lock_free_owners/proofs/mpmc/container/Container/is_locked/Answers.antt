@@ -1,5 +1,4 @@
-use Rattle.lock_free_owners.proofs.Names.{rules, subst, Coding, coding_of, seen, sees_lock, Goes}
-use Rattle.model.specs.declared.turn.Kind.TheVariants as kinds
+use Rattle.lock_free_owners.proofs.Names.{rules, Coding, coding_of, seen, sees_lock}
 use Rattle.lock_free_owners.specs.Container.Turns.{BeginsLock}
 use Rattle.lock_free_owners.proofs.ContainerSet.Begins.{lock_keeps, lock_begins}
 use Rattle.lock_free_owners.proofs.ContainerSet.Facts.{goes, looked, looked_answered, looked_lock}
@@ -23,7 +22,7 @@ returns-clause-same g c =
     record {
       container = search rules;
       idle = c.drive.ensures.end.over.idle;
-      goes = subst (λ n. Goes code kinds.Container n v w) c.args.pass.now.token.known (goes code BeginsLock sees_lock v w c.drive.result c.drive.ensures.end);
+      goes = (goes code BeginsLock sees_lock v w c.drive.result c.drive.ensures.end);
     }
 
 pub returns-clause-looked : goal.returns-clause-looked

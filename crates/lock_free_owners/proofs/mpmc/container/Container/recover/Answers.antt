@@ -1,7 +1,6 @@
 use Rattle.lock_free_owners.proofs.Names.{[], rules, sym, ap, subst, DeadOwner, Coding, IsCoding, coding_of}
-use Rattle.lock_free_owners.proofs.Names.{fresh_cell, seen, SetId, Goes}
+use Rattle.lock_free_owners.proofs.Names.{fresh_cell, seen, SetId}
 use Rattle.steps.specs.Container.Recover.{first_recover}
-use Rattle.model.specs.declared.turn.Kind.TheVariants as kinds
 use Rattle.lock_free_owners.specs.Container.Questions.{TakesValues}
 use Rattle.lock_free_owners.specs.Container.RecoverContract.{HasRecovered}
 use Rattle.lock_free_owners.specs.Container.RecoverTurns.{RecoverAt}
@@ -41,8 +40,7 @@ returns-clause-same g c =
     record {
       container = search rules;
       idle = ends.1.over.idle;
-      goes = subst (λ n. Goes code kinds.Container n v w) c.args.pass.now.token.known
-          (recovered_goes code law dead v w c.free_all.result ends.0 ends.1);
+      goes = (recovered_goes code law dead v w c.free_all.result ends.0 ends.1);
     }
 
 pub returns-clause-recovered : goal.returns-clause-recovered

@@ -1,6 +1,5 @@
 use Rattle.lock_free_owners.proofs.Names.{◌<◌, rules, sym, ap, subst, ◌∙◌, arith, first_remove, GiveBack, Coding}
-use Rattle.lock_free_owners.proofs.Names.{coding_of, seen, SetId, removes_value, Goes}
-use Rattle.model.specs.declared.turn.Kind.TheVariants as kinds
+use Rattle.lock_free_owners.proofs.Names.{coding_of, seen, SetId, removes_value}
 use Rattle.lock_free_owners.specs.Container.Turns.{BeginsRemove, RemoveAt}
 use Rattle.lock_free_owners.proofs.ContainerSet.Begins.{remove_keeps, remove_begins}
 use Rattle.lock_free_owners.proofs.ContainerSet.Facts.{goes, has_removed, removed_answered, freed, released}
@@ -35,8 +34,7 @@ returns-clause-same g c own =
     record {
       container = search rules;
       idle = c.drive_on.ensures.end.over.idle;
-      goes = subst (λ n. Goes code kinds.Container n v w) c.args.pass.now.token.known
-          (goes code (BeginsRemove given) (removes_value given) v w c.drive_on.result c.drive_on.ensures.end);
+      goes = (goes code (BeginsRemove given) (removes_value given) v w c.drive_on.result c.drive_on.ensures.end);
     }
 
 pub returns-clause-removed : goal.returns-clause-removed

@@ -1,6 +1,5 @@
 use Rattle.lock_free_owners.proofs.Names.{◌<◌, rules, sym, ap, subst, ◌∙◌, arith, first_replace, Replacement, Coding}
-use Rattle.lock_free_owners.proofs.Names.{IsCoding, coding_of, seen, SetId, replaces_value, Goes}
-use Rattle.model.specs.declared.turn.Kind.TheVariants as kinds
+use Rattle.lock_free_owners.proofs.Names.{IsCoding, coding_of, seen, SetId, replaces_value}
 use Rattle.lock_free_owners.specs.Container.Turns.{BeginsReplace, ReplaceAt}
 use Rattle.lock_free_owners.proofs.ContainerSet.Begins.{replace_keeps, replace_begins}
 use Rattle.lock_free_owners.proofs.ContainerSet.Facts.{goes, has_replaced, replaced_answered}
@@ -38,8 +37,7 @@ returns-clause-same g c own =
     record {
       container = search rules;
       idle = c.drive.ensures.end.over.idle;
-      goes = subst (λ n. Goes code kinds.Container n v w) c.args.pass.now.token.known
-          (goes code (BeginsReplace given) (replaces_value g.T.Words.WORDS given) v w c.drive.result c.drive.ensures.end);
+      goes = (goes code (BeginsReplace given) (replaces_value g.T.Words.WORDS given) v w c.drive.result c.drive.ensures.end);
     }
 
 pub returns-clause-replaced : goal.returns-clause-replaced

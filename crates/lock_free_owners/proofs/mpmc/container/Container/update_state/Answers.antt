@@ -1,9 +1,11 @@
 use Rattle.lock_free_owners.proofs.Names.{◌<◌, ℕ, rules, sym, ap, subst, ◌∙◌, first_look, Coding, IsCoding, coding_of}
-use Rattle.lock_free_owners.proofs.Names.{UpdateState, seen, SetId, Goes}
+use Rattle.lock_free_owners.proofs.Names.{UpdateState, seen, SetId, looking}
 use Rattle.model.specs.declared.turn.Kind.TheVariants as kinds
 use Rattle.threaded.specs.declared.share.Share.{Share}
+use Rattle.history.specs.History.{Knows}
 use Rattle.lock_free_owners.specs.Container.LookTurns.{LookAt}
-use Rattle.lock_free_owners.proofs.ContainerSet.Looks.{look_answered, look_begins, look_idle, look_goes, look_made, latest_so, on_history, of_history, left_so}
+use Rattle.lock_free_owners.proofs.ContainerSet.Looks.{look_answered, look_begins, look_idle, look_goes, look_made, latest_so, on_history, of_history, left_so, knows_so}
+use Rattle.lock_free_owners.proofs.ContainerSet.Began.{history_of}
 use Rattle.lock_free_owners.proofs.ContainerSet.Meeting.{has_met}
 use Rattle.lock_free_owners.proofs.ContainerSet.SameStates.{decide}
 use Rattle.lock_free_owners.specs.Container.Steps.{LookTakes}
@@ -76,6 +78,19 @@ invariant_of-pass-clause-some g c =
     in
     subst (λ (z : Share). (0 < z.part) × (0 < z.parts)) (sym left.share) mine.some
 
+pub invariant_of-pass-clause-knows : goal.invariant_of-pass-clause-knows
+invariant_of-pass-clause-knows g c =
+    let met = g.met.T.Words in
+    let code : Coding g.row.T.Denot = coding_of g.T.Words.WORDS g.T.Words.words_of g.T.Words.value_of in
+    let law : IsCoding code = record { some = met.some; few = met.few; sized = met.sized; given_back = met.given_back } in
+    let mine = c.args.pass.now.token in
+    let v = seen mine.seated in
+    let state = c.args.state.now in
+    subst (λ n. Knows code kinds.Container n (seen c.bring_up.new.seat)) mine.known
+    (knows_so code UpdateState v state.shown state.seen c.bring_up.result c.bring_up.new.state.shown (seen c.bring_up.new.seat)
+    (decide code law v v.capacity state.seen state.shown)
+    (subst (λ n. Knows code kinds.Container n v) (sym mine.known) mine.knows) c.bring_up.ensures.over)
+
 pub returns-clause-same : goal.returns-clause-same
 returns-clause-same g c latest =
     let code : Coding g.row.T.Denot = coding_of g.T.Words.WORDS g.T.Words.words_of g.T.Words.value_of in
@@ -88,8 +103,7 @@ returns-clause-same g c latest =
     record {
       container = search rules;
       idle = look_idle code UpdateState v w state.seen c.bring_up.result c.bring_up.new.state.shown ends;
-      goes = subst (λ n. Goes code kinds.Container n v w) mine.known
-          (look_goes code UpdateState v w state.seen c.bring_up.result c.bring_up.new.state.shown ends);
+      goes = look_goes code UpdateState v w state.seen c.bring_up.result c.bring_up.new.state.shown ends;
     }
 
 pub returns-clause-updated : goal.returns-clause-updated
@@ -141,7 +155,7 @@ returns-clause-met g c latest =
     let size = mine.known ∙ ap (λ (z : SetId). z.capacity) c.requires.pass in
     let ends = c.bring_up.ensures.over.0 (on_history code v state (c.requires.state.1 ∙ sym size) latest) in
     has_met code c.bring_up.result v w (look_answered code UpdateState v w state.seen c.bring_up.result c.bring_up.new.state.shown ends)
-    (look_goes code UpdateState v w state.seen c.bring_up.result c.bring_up.new.state.shown ends).history
+    (history_of code v ends.from ends.settled (looking code UpdateState v.capacity state.seen) w c.bring_up.result c.bring_up.new.state.shown ends.over.0)
 
 pub returns-clause-steps : goal.returns-clause-steps
 returns-clause-steps g c latest =

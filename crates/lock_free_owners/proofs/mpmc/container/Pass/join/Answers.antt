@@ -1,5 +1,5 @@
 use Rattle.lock_free_owners.proofs.Names.{◌≡◌, ◌<◌, ◌⊎◌, ◌++◌, ℕ, List, [], rules, sym, ap, subst, ◌∙◌, arith, TableId, OwesAsk}
-use Rattle.lock_free_owners.proofs.Names.{Coding, coding_of, View, IsAll, IsBeginning, IsMachine, IsHistory, seen, table_of, key_of}
+use Rattle.lock_free_owners.proofs.Names.{Coding, coding_of, View, IsAll, IsBeginning, IsMachine, seen, table_of, key_of}
 use Rattle.lock_free_owners.proofs.Names.{joined_view, Looks, positive, joins}
 use Rattle.steps.specs.declared.ask.Op.TheVariants.{Load}
 use Rattle.model.specs.declared.turn.Kind.TheVariants as kinds
@@ -102,7 +102,14 @@ returns-clause-same g c =
         };
       };
       keeps = λ p is. (looked.party ∙ is, looked.state);
-      history = subst (λ n. IsHistory code kinds.Container n new.seen) seat.known looked.history;
-      knows = subst (λ n. Knows code kinds.Container n new) seat.known looked.ran.knows;
       all = λ whole. looked.all (subst IsAll looked.share whole);
     }
+
+pub invariant_of-self-clause-knows : goal.invariant_of-self-clause-knows
+invariant_of-self-clause-knows g c =
+    let code : Coding g.row.T.Denot = coding_of g.T.Words.WORDS g.T.Words.words_of g.T.Words.value_of in
+    let seat = c.args.self.now.token in
+    let new = c.look-2.new.self.seat.me.0 in
+    let looked =
+    on_joined code seat.seated.seat.me.0 c.look.new.self.seat.me.0 c.join.new.self.seat.me.0 new c.join.ensures.joined c.look-2.ensures.told in
+    subst (λ n. Knows code kinds.Container n new) seat.known looked.ran.knows

@@ -1,7 +1,6 @@
-use Rattle.lock_free_owners.proofs.Names.{◌≤◌, rules, ap, subst, ◌∙◌, first_borrowed, one_word, seen, SetId, Goes}
+use Rattle.lock_free_owners.proofs.Names.{◌≤◌, rules, ap, subst, ◌∙◌, first_borrowed, one_word, seen, SetId}
 use Rattle.lock_free_owners.proofs.Names.{◌+◌}
 use Rattle.lock_free_owners.proofs.Names.{counts_owned, count_first}
-use Rattle.model.specs.declared.turn.Kind.TheVariants as kinds
 use Rattle.lock_free_owners.specs.Robust.Turns.{CountAt}
 use Rattle.lock_free_owners.specs.Robust.Steps.{SetTakes}
 use Rattle.lock_free_owners.proofs.RobustSet.Facts.{goes, counted, counted_answered, counted_most, counted_none, count_takes}
@@ -19,7 +18,7 @@ returns-clause-same g c =
     let w = seen c.count_all.new.seat in
     record {
       set = search rules;
-      goes = subst (λ n. Goes one_word kinds.Robust n v w) c.args.pass.now.known (goes counts_owned v w c.count_all.result tt c.count_all.ensures.ends);
+      goes = (goes counts_owned v w c.count_all.result tt c.count_all.ensures.ends);
     }
 
 pub returns-clause-counted : goal.returns-clause-counted

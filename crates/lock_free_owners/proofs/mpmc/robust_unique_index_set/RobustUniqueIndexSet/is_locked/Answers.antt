@@ -1,5 +1,4 @@
-use Rattle.lock_free_owners.proofs.Names.{rules, subst, one_word, seen, Goes, looks_owned, look_keeps, look_first}
-use Rattle.model.specs.declared.turn.Kind.TheVariants as kinds
+use Rattle.lock_free_owners.proofs.Names.{rules, one_word, seen, looks_owned, look_keeps, look_first}
 use Rattle.lock_free_owners.proofs.RobustSet.Facts.{goes, looked, looked_answered, looked_lock, look_takes}
 use Rattle.lock_free_owners.proofs.mpmc.robust_unique_index_set.RobustUniqueIndexSet.is_locked.Goals as goal
 
@@ -17,7 +16,7 @@ returns-clause-same c =
     let w = seen c.drive.new.self in
     record {
       set = search rules;
-      goes = subst (λ n. Goes one_word kinds.Robust n v w) c.args.pass.now.known (goes looks_owned v w c.drive.result tt c.drive.ensures.end);
+      goes = (goes looks_owned v w c.drive.result tt c.drive.ensures.end);
     }
 
 pub returns-clause-looked : goal.returns-clause-looked

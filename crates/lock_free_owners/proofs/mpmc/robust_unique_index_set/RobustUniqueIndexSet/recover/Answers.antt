@@ -1,8 +1,7 @@
-use Rattle.lock_free_owners.proofs.Names.{[], rules, sym, ap, subst, one_word, seen, SetId, Goes, recovers_owned}
+use Rattle.lock_free_owners.proofs.Names.{[], rules, sym, ap, subst, one_word, seen, SetId, recovers_owned}
 use Rattle.lock_free_owners.proofs.Names.{◌∙◌}
 use Rattle.lock_free_owners.proofs.Names.{recover_first}
 use Rattle.steps.specs.Indices.Robust.Recover.{first_recover}
-use Rattle.model.specs.declared.turn.Kind.TheVariants as kinds
 use Rattle.lock_free_owners.specs.Robust.Turns.{RecoverAt}
 use Rattle.lock_free_owners.specs.Robust.Steps.{RecoverTakes}
 use Rattle.lock_free_owners.proofs.RobustSet.Facts.{goes, recovered, recovered_answered, recovered_lock, recover_takes}
@@ -28,8 +27,7 @@ returns-clause-same g c =
     let w = seen c.recover_all.new.seat in
     record {
       set = search rules;
-      goes = subst (λ n. Goes one_word kinds.Robust n v w) c.args.pass.now.known
-          (goes (recovers_owned c.args.mode) v w c.recover_all.result c.recover_all.ensures.ends.0 c.recover_all.ensures.ends.1);
+      goes = (goes (recovers_owned c.args.mode) v w c.recover_all.result c.recover_all.ensures.ends.0 c.recover_all.ensures.ends.1);
     }
 
 pub returns-clause-recovered : goal.returns-clause-recovered

@@ -1,5 +1,5 @@
 use Rattle.lock_free_owners.proofs.Names.{◌<◌, rules, sym, ap, subst, ◌∙◌, first_release, GiveBack, one_word, seen}
-use Rattle.lock_free_owners.proofs.Names.{SetId, Goes, gives_owned, At, release_keeps, release_first}
+use Rattle.lock_free_owners.proofs.Names.{SetId, gives_owned, At, release_keeps, release_first}
 use Rattle.model.specs.declared.turn.Kind.TheVariants as kinds
 use Rattle.lock_free_owners.specs.Robust.Steps.{ReleaseTakes}
 use Rattle.lock_free_owners.proofs.RobustSet.Facts.{goes, given, given_of, given_answered, freed, released, release_takes}
@@ -24,7 +24,7 @@ returns-clause-same g c =
     let w = seen c.drive_on.new.self in
     record {
       set = search rules;
-      goes = subst (λ n. Goes one_word kinds.Robust n v w) c.args.pass.now.known (goes (gives_owned _) v w c.drive_on.result tt c.drive_on.ensures.end);
+      goes = (goes (gives_owned _) v w c.drive_on.result tt c.drive_on.ensures.end);
     }
 
 pub returns-clause-given : goal.returns-clause-given

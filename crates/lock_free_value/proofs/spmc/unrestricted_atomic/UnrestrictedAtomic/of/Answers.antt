@@ -1,7 +1,9 @@
 use Rattle.std.proofs.Common.{rules, ◌≡◌, ◌<◌, ◌+◌, ◌*◌, length, replicate, slice_set, refl, sym, ap, subst, ◌∙◌, arith}
 use Rattle.lock_free_value.proofs.Names.{Coding, IsCoding, coding_of, stored, View}
 use Rattle.history.specs.ValueOpened.{first_stores, opened_view}
-use Rattle.history.proofs.ValueOpened.{value_opens}
+use Rattle.history.specs.History.{Knows}
+use Rattle.history.proofs.ValueOpened.{value_opens, value_knows}
+use Rattle.model.specs.declared.turn.Kind.TheVariants as kinds
 use Rattle.lock_free_value.specs.Roles.{LacksProducer}
 use Rattle.lock_free_value.proofs.Opens.{filling, first_is, begins, turns, ends, opened_some, opened_lacks}
 use Rattle.lock_free_value.proofs.spmc.unrestricted_atomic.UnrestrictedAtomic.of.Goals as goal
@@ -61,6 +63,15 @@ pub invariant_of-token-clause-begun : goal.invariant_of-token-clause-begun
 invariant_of-token-clause-begun g c =
     let me : c.in_ok-home.seated.seat.me.0 ≡ opened_view c.args.value g.T.Words.WORDS c.args.version = search rules in
     subst (λ (w : View g.row.T.Denot). 0 < length (stored w.seen)) (sym me) (opened_some c.args.value g.T.Words.WORDS c.args.version)
+
+pub invariant_of-token-clause-knows : goal.invariant_of-token-clause-knows
+invariant_of-token-clause-knows g c =
+    let met = g.met.T.Words in
+    let code : Coding g.row.T.Denot = coding_of g.T.Words.WORDS g.T.Words.words_of g.T.Words.value_of in
+    let law : IsCoding code = record { some = met.some; few = met.few; sized = met.sized; given_back = met.given_back } in
+    let me : c.in_ok-home.seated.seat.me.0 ≡ opened_view c.args.value g.T.Words.WORDS c.args.version = search rules in
+    subst (λ (w : View g.row.T.Denot). Knows code kinds.Atomic 1 w) (sym me)
+    (value_knows code law c.args.value c.args.version c.ranges.version.fits)
 
 pub invariant_of-result : goal.invariant_of-result
 invariant_of-result g c =

@@ -1,5 +1,5 @@
 use Rattle.lock_free_queues.proofs.Names.{rules, ◌≡◌, ◌<◌, ◌^◌, ◌⊎◌, false, sym, ap, subst, ◌∙◌, one_word, Index}
-use Rattle.lock_free_queues.proofs.Names.{seen, of_indices, At, Goes, pushes_index, push_keeps, push_first}
+use Rattle.lock_free_queues.proofs.Names.{seen, of_indices, At, pushes_index, push_keeps, push_first}
 use Rattle.steps.specs.Queues.Ring.{first_push}
 use Rattle.model.specs.declared.turn.Kind.TheVariants as kinds
 use Rattle.lock_free_queues.proofs.Queues.Facts.{goes_over}
@@ -57,8 +57,7 @@ returns-clause-same c =
     record {
       queue = search rules;
       goes =
-          subst (λ n. Goes one_word kinds.IndexQueue n v w) mine.known
-          (goes_over one_word kinds.IndexQueue (pushes_index c.args.value) v w c.drive-end.result tt c.drive-end.ensures.end);
+          goes_over one_word kinds.IndexQueue (pushes_index c.args.value) v w c.drive-end.result tt c.drive-end.ensures.end;
     }
 
 pub returns-clause-steps : goal.returns-clause-steps

@@ -1,6 +1,6 @@
 use Rattle.lock_free_queues.proofs.Names.{rules, ◌≡◌, ◌<◌, ◌^◌, ◌⊎◌, false, sym, ap, subst, ◌∙◌, Coding, IsCoding}
 use Rattle.lock_free_queues.proofs.Names.{coding_of, Value, of_values, At, pushes_value, value_push_keeps}
-use Rattle.lock_free_queues.proofs.Names.{value_push_first, Goes}
+use Rattle.lock_free_queues.proofs.Names.{value_push_first}
 use Rattle.steps.specs.Queues.Ring.{first_push}
 use Rattle.model.specs.declared.turn.Kind.TheVariants as kinds
 use Rattle.lock_free_queues.specs.Queues.Values.{token_view}
@@ -70,8 +70,7 @@ returns-clause-same g c =
     record {
       queue = search rules;
       goes =
-          subst (λ n. Goes code kinds.Queue n v w) mine.known
-          (goes_over code kinds.Queue (pushes_value code c.args.value.now) v w c.drive-end.result tt c.drive-end.ensures.end);
+          goes_over code kinds.Queue (pushes_value code c.args.value.now) v w c.drive-end.result tt c.drive-end.ensures.end;
     }
 
 pub returns-clause-steps : goal.returns-clause-steps

@@ -3,7 +3,7 @@ use Rattle.lock_free_queues.proofs.Names.{replicate, refl, ap, ◌∙◌, arith,
 use Rattle.lock_free_queues.proofs.Names.{coding_of, of_values}
 use Rattle.lock_free_queues.specs.Queues.Opened.{position_at}
 use Rattle.lock_free_queues.proofs.Queues.Filled.{filled, fills_more}
-use Rattle.lock_free_queues.proofs.Queues.Opened.{queue_opens}
+use Rattle.lock_free_queues.proofs.Queues.Opened.{queue_opens, queue_knows}
 use Rattle.lock_free_queues.proofs.spsc.queue.make.Ring+T.of.Goals as goal
 
 pub loop-at-init : goal.loop-at-init
@@ -64,3 +64,11 @@ of_words-requires-clause-opens g c =
     queue_opens code law of_values value capacity c.ranges.capacity.fits c.args.position c.ranges.position.fits c.loop-at.words.items
     (inv.words ∙ (ap (λ x. start ∷ start ∷ 1 ∷ 1 ∷ (filled (code.words_of x) code.size capacity c.loop-at.at ++ 0 ∷ [])) inv.value
     ∙ ap (λ n. start ∷ start ∷ 1 ∷ 1 ∷ (filled (code.words_of value) code.size capacity n ++ 0 ∷ [])) done))
+
+pub of_words-requires-clause-knows : goal.of_words-requires-clause-knows
+of_words-requires-clause-knows g c =
+    let met = g.met.T.Words in
+    let code : Coding g.row.T.Denot = coding_of g.T.Words.WORDS g.T.Words.words_of g.T.Words.value_of in
+    let law : IsCoding code = record { some = met.some; few = met.few; sized = met.sized; given_back = met.given_back } in
+    queue_knows code law of_values (code.value_of (replicate code.size 0)) c.args.capacity c.ranges.capacity.fits c.args.position
+    c.ranges.position.fits

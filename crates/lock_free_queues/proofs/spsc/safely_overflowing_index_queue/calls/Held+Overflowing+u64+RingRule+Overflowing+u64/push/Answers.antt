@@ -1,12 +1,12 @@
 use Rattle.lock_free_queues.proofs.Names.{rules, ◌≡◌, ◌<◌, ◌^◌, ◌⊎◌, IfSome, IfNone, sym, ap, subst, ◌∙◌}
-use Rattle.lock_free_queues.proofs.Names.{push_answer, one_word, At, Goes}
+use Rattle.lock_free_queues.proofs.Names.{push_answer, one_word, At}
 use Rattle.steps.specs.Queues.Overflow.{first_push}
 use Rattle.model.specs.declared.turn.Kind.TheVariants as kinds
 use Rattle.history.specs.Overflow.{pushes_over}
 use Rattle.history.proofs.OverflowCalls.{over_push_first, over_push_keeps}
 use Rattle.lock_free_queues.specs.Queues.Overflowing.{token_view, PushAdded, PushReplaced}
 use Rattle.lock_free_queues.specs.Queues.Contracts.{WasAtEnd}
-use Rattle.lock_free_queues.proofs.Queues.Facts.{goes_over}
+use Rattle.lock_free_queues.proofs.Queues.Facts.{goes_over, seen_over}
 use Rattle.lock_free_queues.proofs.Queues.OverEnded.{over_pushed, over_none, over_some}
 use Rattle.lock_free_queues.proofs.Queues.Paid.{over_push_takes}
 use Rattle.lock_free_queues.proofs.spsc.safely_overflowing_index_queue.calls.Held+Overflowing+u64+RingRule+Overflowing+u64.push.Goals as goal
@@ -31,9 +31,8 @@ returns-clause-same c =
     record {
       queue = search rules;
       goes =
-          subst (λ n. Goes one_word kinds.Overflow n v w) mine.known
-          (goes_over one_word kinds.Overflow (pushes_over c.args.value) v w c.drive-end.result c.drive-end.new.room
-          c.drive-end.ensures.end);
+          goes_over one_word kinds.Overflow (pushes_over c.args.value) v w c.drive-end.result c.drive-end.new.room
+          c.drive-end.ensures.end;
     }
 
 pub returns-clause-added : goal.returns-clause-added
@@ -43,9 +42,9 @@ returns-clause-added c =
     let x = token_view mine in
     let w = c.drive-end.new.self.seat.me.0 in
     let o = push_answer v c.drive-end.new.room.0 c.drive-end.result in
-    let goes = goes_over one_word kinds.Overflow (pushes_over v) x w c.drive-end.result c.drive-end.new.room c.drive-end.ensures.end in
+    let history = seen_over one_word kinds.Overflow (pushes_over v) x w c.drive-end.result c.drive-end.new.room c.drive-end.ensures.end in
     subst (λ z. IfNone z (PushAdded v x w)) (sym c.answer.ensures)
-    (over_none one_word x w mine.idle v goes.history o
+    (over_none one_word x w mine.idle v history o
     (over_pushed one_word x w mine.idle v mine.alone mine.some.0 c.requires.role c.drive-end.result
     c.drive-end.new.room c.drive-end.ensures.end))
 
@@ -56,9 +55,9 @@ returns-clause-handed_back c =
     let x = token_view mine in
     let w = c.drive-end.new.self.seat.me.0 in
     let o = push_answer v c.drive-end.new.room.0 c.drive-end.result in
-    let goes = goes_over one_word kinds.Overflow (pushes_over v) x w c.drive-end.result c.drive-end.new.room c.drive-end.ensures.end in
+    let history = seen_over one_word kinds.Overflow (pushes_over v) x w c.drive-end.result c.drive-end.new.room c.drive-end.ensures.end in
     subst (λ z. IfSome z (λ y. PushReplaced v y x w ⊎ (y ≡ v) × WasAtEnd x w)) (sym c.answer.ensures)
-    (over_some one_word x w mine.idle v goes.history o
+    (over_some one_word x w mine.idle v history o
     (over_pushed one_word x w mine.idle v mine.alone mine.some.0 c.requires.role c.drive-end.result
     c.drive-end.new.room c.drive-end.ensures.end))
 
