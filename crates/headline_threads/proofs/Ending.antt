@@ -26,13 +26,13 @@ of_any : {T : Type 0} (kind : Kind) (bound : Bound) → KeepsEnding T kind bound
 of_any kind bound keeps t is r before n turns allowed below such = keeps t is r n turns allowed below
 
 runs_of : (T : Type 0) (kind : Kind) → IfSome (lock_free_bound kind) (Any T kind)
-runs_of T IndexQueue = record { possible = possible_on; made = λ t r. (r.coded, r.admitted); keeps = of_any IndexQueue _ (keep_ending T IndexQueue) }
-runs_of T Overflow = record { possible = possible_on; made = λ t r. (r.coded, r.admitted); keeps = of_any Overflow _ (keep_ending T Overflow) }
-runs_of T Queue = record { possible = possible_on; made = λ t r. (r.coded, r.admitted); keeps = of_any Queue _ (keep_ending T Queue) }
-runs_of T Atomic = record { possible = possible_on; made = λ t r. (r.coded, r.admitted); keeps = of_any Atomic _ (keep_ending T Atomic) }
-runs_of T Bits = record { possible = possible_on; made = λ t r. (r.coded, r.admitted); keeps = of_any Bits _ (keep_ending T Bits) }
-runs_of T Counts = record { possible = possible_on; made = λ t r. (r.coded, r.admitted); keeps = of_any Counts _ (keep_ending T Counts) }
-runs_of T Indices = record { possible = possible_on; made = λ t r. (r.coded, r.admitted); keeps = of_any Indices _ (keep_ending T Indices) }
+runs_of T IndexQueue = record { possible = possible_on; keeps = of_any IndexQueue _ (keep_ending T IndexQueue) }
+runs_of T Overflow = record { possible = possible_on; keeps = of_any Overflow _ (keep_ending T Overflow) }
+runs_of T Queue = record { possible = possible_on; keeps = of_any Queue _ (keep_ending T Queue) }
+runs_of T Atomic = record { possible = possible_on; keeps = of_any Atomic _ (keep_ending T Atomic) }
+runs_of T Bits = record { possible = possible_on; keeps = of_any Bits _ (keep_ending T Bits) }
+runs_of T Counts = record { possible = possible_on; keeps = of_any Counts _ (keep_ending T Counts) }
+runs_of T Indices = record { possible = possible_on; keeps = of_any Indices _ (keep_ending T Indices) }
 runs_of T Robust = tt
 runs_of T Container = tt
 runs_of T Loan = tt
@@ -40,15 +40,13 @@ runs_of T Loan = tt
 -- ---- those whose runs are open
 
 robust_default : (T : Type 0) → Runs {T = T} Robust IsDefault default_bound
-robust_default T =
-    record { possible = possible_open; made = λ t r. (r.coded, r.admitted); keeps = default_keeps_ending_by {T = T} open_refusal possible_open }
+robust_default T = record { possible = possible_open; keeps = default_keeps_ending_by {T = T} open_refusal possible_open }
 
 robust_room : (T : Type 0) → Any T Robust room_bound
-robust_room T = record { possible = possible_open; made = λ t r. (r.coded, r.admitted); keeps = room_keeps_ending {T = T} open_refusal possible_open }
+robust_room T = record { possible = possible_open; keeps = room_keeps_ending {T = T} open_refusal possible_open }
 
 container_default : (T : Type 0) → Runs {T = T} Container IsDefault default_container_bound
-container_default T =
-    record { possible = possible_open; made = λ t r. (r.coded, r.admitted); keeps = container_keeps_ending_by {T = T} open_refusal possible_open }
+container_default T = record { possible = possible_open; keeps = container_keeps_ending_by {T = T} open_refusal possible_open }
 
 -- ---- what follows
 

@@ -21,7 +21,7 @@ use Rattle.model.proofs.LockFree.Weighed.{KeepsEndingBy}
 use Rattle.model.proofs.Reached.{turn_making, SameMaking}
 use Rattle.model.proofs.Rows.{IsPossible}
 use Rattle.history.specs.declared.view.View.{View}
-use Rattle.history.specs.History.{IsReachedAs, Knows, Continues, refusal_as, run_of}
+use Rattle.history.specs.History.{Knows, Continues, refusal_as, run_of}
 use Rattle.headline_threads.specs.Ends.{AreBelow, BeginSuch, steps_between}
 use Rattle.headline_threads.proofs.Passing.{all_after, all_before, turns_after, all_such, allowed_after, allowed_before, all_below, runs_so}
 
@@ -34,7 +34,6 @@ more_ends bound steps before after far within = ⊎_elim (λ less. less) none (c
 -- what is known of the runs of a kind in which no call begins but such ones
 pub record Runs {T : Type 0} (kind : Kind) (Such : Start T → Type 0) (bound : Bound) : Type 0 where
   pub possible : (w : World T) (turn : Turn T) → refusal_as kind w turn ≡ None → IsPossible w turn
-  pub made : (t : Trace T) → IsReachedAs kind t → IsCoding t.world.coding × (capacity_error t.world.kind t.world.capacity ≡ None)
   pub keeps : KeepsEndingBy (refusal_as kind) kind Such bound
 
 module _ {T : Type 0} where
@@ -155,17 +154,9 @@ module _ {T : Type 0} where
       seen : new.seen ≡ (so_far (old.turns ++ later.first.rest)).events
       seen = later.knows.is ∙ ap (λ ts. (so_far ts).events) later.first.is
 
-      is_coding : IsCoding code
-      is_coding = subst (λ (c : Coding T). IsCoding c) knows.run.coded (R.made (so_far old.turns) knows.run.reached).0
-
-      admitted : capacity_error kind capacity ≡ None
-      admitted =
-          subst (λ c. capacity_error kind c ≡ None) knows.run.sized
-          (subst (λ k. capacity_error k (so_far old.turns).world.capacity ≡ None) knows.run.of_kind (R.made (so_far old.turns) knows.run.reached).1)
-
       there : Later old.turns later.first.rest n
       there =
-          later_on old.turns later.first.rest n is_coding admitted
+          later_on old.turns later.first.rest n knows.coded knows.admitted
           (subst (AreAllowedBy (refusal_as kind) start) later.first.is later.knows.allowed)
           (subst (AreBelow n) seen below) (subst (BeginSuch Such) seen such)
 
@@ -197,10 +188,7 @@ module _ {T : Type 0} where
     module _ (v : View T) (knows : Knows code kind capacity v) (n : ℕ) (below : AreBelow n v.seen) (such : BeginSuch Such v.seen) where
       all_there : Later [] v.turns n
       all_there =
-          later_on [] v.turns n
-          (subst (λ (c : Coding T). IsCoding c) knows.run.coded (R.made (so_far v.turns) knows.run.reached).0)
-          (subst (λ c. capacity_error kind c ≡ None) knows.run.sized
-          (subst (λ k. capacity_error k (so_far v.turns).world.capacity ≡ None) knows.run.of_kind (R.made (so_far v.turns) knows.run.reached).1))
+          later_on [] v.turns n knows.coded knows.admitted
           knows.allowed (subst (AreBelow n) knows.is below) (subst (BeginSuch Such) knows.is such)
 
       pub known : AreWithinEnds (most n) (steps_in start v.turns) 0 (ends v.seen)
