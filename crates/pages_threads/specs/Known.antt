@@ -1,0 +1,98 @@
+-- What a pass knows is a run of a page's machine.
+use Rattle.std.specs.Prelude.{◌≡◌, ℕ, ◌<◌, ◌^◌, Option, List, ◌++◌, fold, length}
+use Rattle.model.specs.declared.turn.Kind.{Kind}
+use Rattle.model.specs.declared.turn.Kind.TheVariants.{Atomic, IndexQueue, Overflow, Queue}
+use Rattle.model.specs.Coding.{Coding, one_word}
+use Rattle.model.specs.World as model
+use Rattle.history.specs.declared.view.View.{View}
+use Rattle.history.specs.History.{Continues, Knows}
+use Rattle.pages.specs.IndexQueue as index
+use Rattle.pages.specs.IndexQueueBridge as index_bridge
+use Rattle.pages.specs.Machine.{IsLinearizable, Object, Structure, Turn, World, opening, turned}
+use Rattle.pages.specs.OverflowingQueue as overflowing
+use Rattle.pages.specs.OverflowingQueueBridge as overflowing_bridge
+use Rattle.pages.specs.Queue as values
+use Rattle.pages.specs.QueueBridge as values_bridge
+use Rattle.pages.specs.RolesBridge.{Naming, all_told, turns_taken}
+use Rattle.pages.specs.Value as single
+use Rattle.pages.specs.ValueBridge as single_bridge
+
+-- a page, and the tables of threads that run it
+pub record Paged (T Call Stage Answer : Type 0) : Type 0 where
+  pub structure : Structure Call Stage Answer
+  pub by : Naming T Call Answer
+  pub code : Coding T
+  pub kind : Kind
+  pub capacity : ℕ
+
+module _ {T Call Stage Answer : Type 0} (page : Paged T Call Stage Answer) where
+  -- the turns of the page among those that the pass knows of
+  abbrev pub turns_of : View T → List (Turn Call)
+  turns_of v = turns_taken page.by (model.opening page.code page.kind page.capacity 0) v.turns
+
+  abbrev pub world_of : List (Turn Call) → World Call Stage Answer
+  world_of turns = fold (turned page.structure) (opening page.structure) turns
+
+  -- what the pass has seen, invocations and responses alone, is the history of the page's machine over these turns
+  abbrev pub RunsThePage : View T → Type 0
+  RunsThePage v = all_told page.by v.seen ≡ (world_of (turns_of v)).history
+
+  -- the page's run that it knew goes on to the one that it knows
+  pub record RunsOn (old new : View T) : Type 0 where
+    pub more : List (Turn Call)
+    pub is : turns_of new ≡ turns_of old ++ more
+    pub runs : RunsThePage new
+
+  pub record PassesRun : Type 0 where
+    pub known : (v : View T) → Knows page.code page.kind page.capacity v → RunsThePage v
+    pub later : (old new : View T) → Continues page.code page.kind page.capacity old new → RunsOn old new
+
+  -- what a pass has seen in fewer turns than positions are is linearizable, by the page's definition
+  abbrev pub PassesAreLinearizable : {State : Type 0} → Object Call Answer State → Type 0
+  PassesAreLinearizable object =
+      (v : View T) → Knows page.code page.kind page.capacity v → length (turns_of v) < 2 ^ 63
+      → IsLinearizable object (all_told page.by v.seen)
+
+-- ---- the structures that have pages
+
+abbrev pub index_page : ℕ → Paged ℕ index.Call index.Stage index.Answer
+index_page capacity =
+    record {
+      structure = index.index_queue capacity;
+      by = index_bridge.by_role;
+      code = one_word;
+      kind = IndexQueue;
+      capacity = capacity;
+    }
+
+abbrev pub overflowing_page : ℕ → Paged ℕ overflowing.Call overflowing.Stage (Option ℕ)
+overflowing_page capacity =
+    record {
+      structure = overflowing.overflowing_queue capacity;
+      by = overflowing_bridge.by_role;
+      code = one_word;
+      kind = Overflow;
+      capacity = capacity;
+    }
+
+-- of a value of one word
+abbrev pub value_page : Paged ℕ single.Call single.Stage single.Answer
+value_page =
+    record {
+      structure = single.value;
+      by = single_bridge.by_role;
+      code = one_word;
+      kind = Atomic;
+      capacity = 1;
+    }
+
+module _ {T : Type 0} (how : values.Written T) where
+  abbrev pub queue_page : ℕ → Paged T (values.Call T) (values.Stage T) (values.Answer T)
+  queue_page capacity =
+      record {
+        structure = values.queue how capacity;
+        by = values_bridge.by_role how;
+        code = values_bridge.code_of how;
+        kind = Queue;
+        capacity = capacity;
+      }
