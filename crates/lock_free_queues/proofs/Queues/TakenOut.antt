@@ -206,7 +206,10 @@ drained c old new more v w u is k goes history h =
       more = more;
       numbers = is;
       popped = takes_nothing more v w u k goes h;
-      emptied = λ whole none. (let it = all_taken one_word kinds.TheVariants.Overflow c w u (subst IsAll (sym k.share) whole) (k.all none) goes history h in it.1);
+      emptied =
+          λ whole none.
+          (let it = all_taken one_word kinds.TheVariants.Overflow c w u (subst IsAll (sym k.share) whole) (k.all none) goes history h in
+          it.1);
     }
 
 -- ---- pushes

@@ -8,7 +8,8 @@ ghost use Rattle.history.specs.History.{Knows};
 ghost use Rattle.history.specs.Steps.{TakesAtMost, TakesAlone};
 ghost use Rattle.lock_free_queues.specs.Queues.Bounded.{machine_kind};
 ghost use Rattle.lock_free_queues.specs.Queues.Kinds.{most_waiting};
-ghost use Rattle.lock_free_queues.specs.Queues.Rings.{HasHistory, capacity_of, code_of, queue_of, producer_view, consumer_view, IsPassOf, ToProducer, ToConsumer};
+ghost use Rattle.lock_free_queues.specs.Queues.Rings.{HasHistory, capacity_of, code_of, queue_of, producer_view};
+ghost use Rattle.lock_free_queues.specs.Queues.Rings.{consumer_view, IsPassOf, ToProducer, ToConsumer};
 ghost use Rattle.lock_free_queues.specs.Queues.Contracts.{HasAcquired, HasMeasured, HasSplit, HasLooked};
 ghost use Rattle.lock_free_queues.specs.Queues.Handles.{ring_in, pass_in, knows, SameHandle};
 
