@@ -10,7 +10,8 @@ ghost use Rattle.headline_threads.specs.Ends.{PassesEnd, PassesKeepEnding, Known
 ghost use Rattle.headline_threads.specs.Ends.{PassesEndLoad, KnownEndsLoad, KnownEndsLoadOf, PassesRest};
 
 /// Of the kinds that have a bound in `lock_free_bound`, where the calls that a pass has seen are of parties with numbers below
-/// n. What a pass knew and what it knows later are one run of the table (`Continues`, which each call, split and join gives).
+/// n. What a pass knew and what it knows later are one run of the table (`Continues`: each call, split and join says that the
+/// turns that were known come first, and `history` of the pass that it knows a run).
 /// If the table took more steps in between than the bound says for n parties, a call has ended (`ends`). If k calls have
 /// ended, it took at most k + 1 times the bound and k steps (`keep`). The same holds of all that a pass knows, from the opening
 /// of the table on (`known`).

@@ -9,6 +9,7 @@ use Rattle.model.specs.World.{Trace}
 use Rattle.history.specs.History.{started, steps_of, run_of}
 use Rattle.history.specs.Stages.{StepsOnly, taken_by}
 use Rattle.history.specs.Steps.{TakesAtMost}
+use Rattle.history.proofs.KnownRuns.{known_run}
 use Rattle.history.proofs.Indices.{index_pays}
 use Rattle.history.proofs.Paid.{AllowsOne, Pays, TakesBy, takes, progress_of}
 use Rattle.history.proofs.Sets.{bits_pays, counts_pays}
@@ -56,7 +57,7 @@ module _ (kind : Kind) {C M E : Type 0} (call : Calling ℕ C M E) (base w : Vie
           let within : IsWithin (WaitFree 0) (progress_of known.world.changes x) =
           subst (λ g. IsWithin g (progress_of known.world.changes x))
           (ap (guarantee_of kind base.capacity one_word.size) same ∙ none)
-          (pays known ends.ran.knows.run ends.party x is) in
+          (pays known (known_run ends.ran.knows) ends.party x is) in
           omega arith
 
   one_look : TakesAtMost 1 base w

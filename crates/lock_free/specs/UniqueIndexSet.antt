@@ -11,7 +11,7 @@ use Rattle.threaded.specs.declared.share.Share.{Share}
 use Rattle.threaded.specs.Seats.{home_id}
 pub use Rattle.threaded.specs.Sets.{SetId}
 use Rattle.history.specs.declared.view.View.{View}
-use Rattle.history.specs.History.{IsHistory, Knows, Continues}
+use Rattle.history.specs.History.{IsHistory, AreFirst}
 use Rattle.history.specs.Passes as passes
 use Rattle.lock_free.specs.Unique.Held.{IsSound}
 use Rattle.lock_free.specs.declared.mpmc.unique_index_set.UniqueIndexSet.{UniqueIndexSet}
@@ -62,8 +62,7 @@ pub record SamePass (old new : Pass) : Type 0 where
   pub set : set_of new ≡ set_of old
   pub share : share new ≡ share old
   pub sound : IsSound (view new)
-  pub history : HasHistory new
-  pub ran : Continues one_word kinds.Indices (set_of new).capacity (view old) (view new)
+  pub first : AreFirst (view old).turns (view new).turns
   pub all : MissesNothing new
 
 -- what a join leaves of a pass, which has what both had
@@ -71,8 +70,6 @@ pub record PassJoins (old other new : Pass) : Type 0 where
   pub set : set_of new ≡ set_of old
   pub joined : passes.HasJoined (view old) (view other) (view new)
   pub sound : IsSound (view new)
-  pub history : HasHistory new
-  pub knows : Knows one_word kinds.Indices (set_of new).capacity (view new)
   pub all : MissesNothing new
 
 -- a held index, with the pass that it owns

@@ -29,5 +29,6 @@ pub fn set_both(
     histories_act::<u64>();
     let one = set.set(rt, first, pass);
     let two = set.set(rt, second, pass);
+    pass.history();
     (one, two)
 }

@@ -36,5 +36,6 @@ pub fn add_both(
     containers::calls_that_lock_are_apart::<u64>();
     let one = container.add(rt, first, owner, pass);
     let two = container.add(rt, second, owner, pass);
+    pass.history();
     (one, two)
 }

@@ -1,7 +1,7 @@
 //! Who has joined all other threads and takes all counts out has all that was counted.
 
 ghost use Rattle.std.specs.Prelude.{◌≡◌, ◌<◌, ◌^◌, ℕ};
-ghost use Rattle.lock_free.specs.Counts.Calls.{capacity_of, IsPassOf, HasHistory, MissesNothing, made, share};
+ghost use Rattle.lock_free.specs.Counts.Calls.{capacity_of, IsPassOf, MissesNothing, made, share};
 ghost use Rattle.lock_free.specs.Shares.{IsAll};
 ghost use Rattle.lock_free.specs.Sums.{counts, takes};
 
@@ -12,7 +12,6 @@ use lock_free::mpmc::counting_bit_set::{CountingBitSet, Pass};
 pub fn drain(set: &CountingBitSet, pass: &mut Pass)
     requires pass { IsPassOf set.now pass.old }
     requires whole { IsAll (share pass.old) }
-    requires history { HasHistory pass.old }
     requires all { MissesNothing pass.old }
     ensures { (place : ℕ) → place < capacity_of set.now → counts place (made pass.old) < 2 ^ 64
         → takes place (made pass.new) ≡ counts place (made pass.new) }
@@ -20,4 +19,5 @@ pub fn drain(set: &CountingBitSet, pass: &mut Pass)
     counts_are_conserved::<u64>();
     counts_are_taken_whole::<u64>();
     set.reset_all(&mut |_state| {}, pass);
+    pass.history();
 }

@@ -15,4 +15,5 @@ pub fn join_both(pass: &mut Pass, other: Pass)
 {
     passes_keep_ending::<u64>();
     pass.join(other);
+    pass.history();
 }

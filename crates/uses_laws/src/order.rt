@@ -20,5 +20,7 @@ pub fn push_both(producer: &mut Producer<'_>, first: u64, second: u64) -> bool
     if !producer.push(first) {
         return false;
     }
-    producer.push(second)
+    let taken = producer.push(second);
+    producer.history();
+    taken
 }

@@ -22,4 +22,5 @@ pub fn take_in(set: &UniqueIndexSet, mine: &mut Pass, other: Pass)
 {
     indices_are_conserved::<u64>();
     mine.join(other);
+    mine.history();
 }

@@ -2,7 +2,7 @@
 //! has joined all others.
 
 ghost use Rattle.std.specs.Prelude.{◌≡◌, ◌<◌, ◌^◌};
-ghost use Rattle.lock_free.specs.Counts.Calls.{capacity_of, IsPassOf, HasHistory, MissesNothing, made, share};
+ghost use Rattle.lock_free.specs.Counts.Calls.{capacity_of, IsPassOf, MissesNothing, made, share};
 ghost use Rattle.lock_free.specs.Shares.{IsAll};
 ghost use Rattle.lock_free.specs.Sums.{counts, takes};
 
@@ -15,13 +15,13 @@ pub fn total(set: &CountingBitSet, place: usize, taken: u64, pass: &mut Pass) ->
     requires pass { IsPassOf set.now pass.old }
     requires place { place < capacity_of set.now }
     requires whole { IsAll (share pass.old) }
-    requires history { HasHistory pass.old }
     requires all { MissesNothing pass.old }
     requires out { taken ≡ takes place (made pass.old) }
     requires few { counts place (made pass.old) < 2 ^ 64 }
     ensures { result ≡ counts place (made pass.old) }
 {
     counts_are_conserved::<u64>();
+    pass.history();
     let left = set.set(place, pass);
     taken + left
 }

@@ -1,7 +1,7 @@
 //! A bit that a caller sets twice was cleared in between, by whomever.
 
 ghost use Rattle.std.specs.Prelude.{◌≡◌, ◌<◌, IsTrue};
-ghost use Rattle.lock_free.specs.Bits.Calls.{capacity_of, IsPassOf, HasHistory, history};
+ghost use Rattle.lock_free.specs.Bits.Calls.{capacity_of, IsPassOf, history};
 ghost use Rattle.lock_free.specs.Sums.{clears};
 
 use lock_free::laws::bits::bits_are_conserved;
@@ -12,12 +12,14 @@ use std::sync::Wait;
 pub fn set_twice(rt: &impl Wait, set: &BitSet, place: usize, pass: &mut Pass) -> bool
     requires pass { IsPassOf set.now pass.old }
     requires place { place < capacity_of set.now }
-    requires history { HasHistory pass.old }
     ensures { IsTrue result → clears place (history pass.old) < clears place (history pass.new) }
 {
     bits_are_conserved::<u64>();
+    pass.history();
     if !set.set(rt, place, pass) {
         return false;
     }
-    set.set(rt, place, pass)
+    let again = set.set(rt, place, pass);
+    pass.history();
+    again
 }

@@ -5,12 +5,12 @@ use Rattle.uses_programs.proofs.Names.{All, take_more, flat_map-append, All-push
 use Rattle.uses_programs.proofs.Names.{IsBeginning, Share, half_of, both_of, IsAll, all_shares, opened_view}
 use Rattle.std.specs.List.{Contains}
 use Rattle.std.proofs.lemmas.List.{take_all, get_or_append_left, get_or_push}
-use Rattle.lock_free.specs.Value.Calls.{GoesOn, MissesNothing}
+use Rattle.lock_free.specs.Passes.{Goes}
+use Rattle.lock_free.specs.Value.Calls.{MissesNothing}
 use Rattle.lock_free.specs.Value.Reading.{IsLast}
 use Rattle.lock_free.specs.Value.Stored.{stores, stored}
 use Rattle.lock_free.specs.Value.Contracts.{HasAcquired, HasReleased, HasStored, HasLoaded, HasSplit, HasJoined}
 use Rattle.lock_free.proofs.ValueVersions.{count_is, newest}
-use Rattle.lock_free.specs.Coding.{Coding}
 use Rattle.uses_programs.specs.Readings.{last_of, stores_in, HasWritten, HasRead}
 
 none_left : {A : Type 0} (xs : List A) → length xs ≡ 0 → xs ≡ []
@@ -41,7 +41,7 @@ module _ {T : Type 0} where
 
   -- ---- the writer
 
-  pub written_none : {code : Coding T} (all : List T) (v w : View T) → GoesOn code v w → HasAcquired true v w → HasWritten (take 0 all) v w
+  pub written_none : (all : List T) (v w : View T) → Goes v w → HasAcquired true v w → HasWritten (take 0 all) v w
   written_none all v w goes h =
       record {
         others = stored goes.since.rest;
@@ -50,7 +50,7 @@ module _ {T : Type 0} where
         share = goes.share;
       }
 
-  written_more : {code : Coding T} (xs : List T) (x : T) (v w u : View T) → HasWritten xs v w → GoesOn code w u
+  written_more : (xs : List T) (x : T) (v w u : View T) → HasWritten xs v w → Goes w u
       → HasStored x w u → HasWritten (xs ++ x ∷ []) v u
   written_more xs x v w u k goes h =
       record {
@@ -60,15 +60,15 @@ module _ {T : Type 0} where
         share = goes.share ∙ k.share;
       }
 
-  pub writes : {code : Coding T} (all : List T) (n : ℕ) (x d : T) (v w u : View T) → n < length all
-      → x ≡ get_or all n d → HasWritten (take n all) v w → GoesOn code w u → HasStored x w u
+  pub writes : (all : List T) (n : ℕ) (x d : T) (v w u : View T) → n < length all
+      → x ≡ get_or all n d → HasWritten (take n all) v w → Goes w u → HasStored x w u
       → HasWritten (take (n + 1) all) v u
   writes all n x d v w u lt is k goes h =
       subst (λ xs. HasWritten xs v u) (ap (λ z. take n all ++ z ∷ []) is ∙ sym (take_more all n d lt))
       (written_more (take n all) x v w u k goes h)
 
-  pub written_all : {code : Coding T} (all : List T) (n : ℕ) (v w u : View T) → length all ≤ n
-      → HasWritten (take n all) v w → GoesOn code w u → HasReleased w u → HasWritten all v u
+  pub written_all : (all : List T) (n : ℕ) (v w u : View T) → length all ≤ n
+      → HasWritten (take n all) v w → Goes w u → HasReleased w u → HasWritten all v u
   written_all all n v w u past k goes h =
       record {
         others = k.others;
@@ -100,7 +100,7 @@ module _ {T : Type 0} where
       still_there (last.others ++ x ∷ []) (stored h.after) (stored u.seen) whole x
       (length last.others, (let long = length-append last.others (x ∷ []) in omega arith), get_or_push last.others x x (length last.others) refl)
 
-  pub read_more : {code : Coding T} (xs : List T) (x : T) (v w u : View T) → HasRead xs v w → GoesOn code w u → HasLoaded x w u → HasRead (xs ++ x ∷ []) v u
+  pub read_more : (xs : List T) (x : T) (v w u : View T) → HasRead xs v w → Goes w u → HasLoaded x w u → HasRead (xs ++ x ∷ []) v u
   read_more xs x v w u k goes h =
       record {
         since =
@@ -155,7 +155,7 @@ module _ {T : Type 0} where
         subst (λ ys. All (Contains ys) seen) all_stored
         (all_there (stored b.seen) (stored h.others.rest) (stored z.seen) seen (stored_on b.seen z.seen h.others) r.all)
 
-    pub last_is : {code : Coding T} (y : T) (u : View T) → GoesOn code z u → HasLoaded y z u → y ≡ last_of first all
+    pub last_is : (y : T) (u : View T) → Goes z u → HasLoaded y z u → y ≡ last_of first all
     last_is y u goes load =
         let it = newest y z u load whole (subst IsAll (sym goes.share) whole) none goes.all in
         let is : first ∷ all ≡ it.others ++ y ∷ [] = sym all_stored ∙ it.is in

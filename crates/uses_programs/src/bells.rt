@@ -65,7 +65,10 @@ fn hear_rest(rt: &impl Wait, alloc: Global, set: &BitSet, mut pass: Pass) -> Opt
     for _ in rt.forever() {
         match set.reset_next(rt, &mut pass) {
             Some(bell) => heard.push(bell).ok()?,
-            None => return Some(heard),
+            None => {
+                pass.history();
+                return Some(heard);
+            }
         }
     }
     unreachable!()

@@ -144,6 +144,7 @@ pub fn lend_and_recover<R: Threads + Wait + Sync>(
     let (mut pass, mut indices) = one?;
     let (further, those) = two?;
     pass.join(further);
+    pass.history();
     owner_laws::histories_are_sound();
     let end = outlive(rt, &pool, &mut pass, owner, &indices, dying, another);
     let first = indices.len();

@@ -117,10 +117,12 @@ pub fn relay<R: Threads + Wait + Sync>(
         numbers: came,
     } = received?;
     pass.join(other);
+    pass.history();
     let Ok(mut consumer) = shared.acquire_consumer(pass) else {
         return Err(RelayError::Taken);
     };
     let emptied = consumer.pop().is_none();
+    consumer.history();
     Ok(Relayed {
         numbers: came,
         emptied,

@@ -124,6 +124,7 @@ pub fn count_bells<R: Threads + Sync>(
     );
     let mut pass = rung?;
     pass.join(taken);
+    pass.history();
     let left = read_counts(alloc, shared, &mut pass)?;
     Some(Counted { pass, left })
 }

@@ -1,19 +1,18 @@
 -- What the calls of a sender do to its set, and to the two queues, one after another.
 use Rattle.lock_free.proofs.Names.{◌≡◌, ℕ, zero, suc, ◌+◌, ◌≤◌, Bool, true, false, true≢false, cond, if◌then◌else◌}
 use Rattle.lock_free.proofs.Names.{List, [], ◌∷◌, ◌++◌, length, Option, Some, None, refl, sym, ap, subst, ◌∙◌, arith}
-use Rattle.lock_free.proofs.Names.{append_assoc, append-nil, range_with_len, one_word, Kind, Start, Answer, Event, Begun}
-use Rattle.lock_free.proofs.Names.{Finished, View, Called, IsBeginning, IsHistory, ReleaseState, Unlocked, claims, frees}
+use Rattle.lock_free.proofs.Names.{append_assoc, append-nil, range_with_len, one_word, Start, Answer, Event, Begun}
+use Rattle.lock_free.proofs.Names.{Finished, View, Called, IsBeginning, ReleaseState, Unlocked, claims, frees}
 use Rattle.std.proofs.Common.{sum_by}
 use Rattle.std.specs.Prelude.{not, is_some, IfNone}
 use Rattle.std.specs.Option.{option_map}
 use Rattle.std.specs.List.{filter}
 use Rattle.std.proofs.lemmas.List.Elements.{filter-append}
-use Rattle.model.specs.Coding.{Coding}
 use Rattle.model.specs.declared.event.Item.TheVariants.{Index}
 use Rattle.model.specs.declared.turn.Kind.TheVariants as kinds
 use Rattle.history.specs.Passes.{Goes}
-use Rattle.history.specs.History.{AreFirst, Continues}
-use Rattle.history.proofs.OneRun.{first_all, first_further, continues_further}
+use Rattle.history.specs.History.{AreFirst, Knows}
+use Rattle.history.proofs.OneRun.{first_all, first_further}
 use Rattle.history.proofs.Known.{begins_further, itself}
 use Rattle.lock_free_queues.specs.Queues.Contracts.{HasPopped, WasEmpty, FoundNone}
 use Rattle.lock_free.specs.declared.mpmc.unique_index_set.Pass.{Pass}
@@ -21,7 +20,7 @@ use Rattle.lock_free.specs.declared.spsc.loan.places.Place.{Place}
 use Rattle.lock_free.specs.UniqueIndexSet.{SetId, view, set_of, SamePass}
 use Rattle.lock_free.specs.Unique.Contracts.{HasGiven}
 use Rattle.lock_free.specs.Loan.Places.{is_sent, place_at}
-use Rattle.lock_free.specs.Loan.Contracts.{InTurn, SetGoesOn, HasFreed, HasPoppedOne, HasEmptied, sent_back}
+use Rattle.lock_free.specs.Loan.Contracts.{InTurn, HasFreed, HasPoppedOne, HasEmptied, sent_back}
 use Rattle.lock_free.specs.Unique.Held.{times}
 use Rattle.lock_free.proofs.Unique.Holding.{given_moves, times_both, times_one}
 use Rattle.lock_free.proofs.Bits.Cleared.{range_more}
@@ -43,18 +42,12 @@ begins_before p start answer wrote old new called =
       is = called.is ∙ append_assoc old.seen called.others (Begun p start ∷ (called.during ++ Finished p start answer ∷ []));
     }
 
-pub set_goes : (old new : Pass) → (view old).capacity ≡ (set_of old).capacity → SamePass old new
-    → IsBeginning (view old).seen (view new).seen → SetGoesOn (view old) (view new)
-set_goes old new known goes since =
+pub set_goes : (old new : Pass) → SamePass old new → IsBeginning (view old).seen (view new).seen → Goes (view old) (view new)
+set_goes old new goes since =
     record {
       share = goes.share;
       since = since;
-      history =
-          subst (λ n. IsHistory one_word kinds.Indices n (view new).seen)
-          (ap (λ (z : SetId). z.capacity) goes.set ∙ sym known) goes.history;
-      ran =
-          subst (λ n. Continues one_word kinds.Indices n (view old) (view new))
-          (ap (λ (z : SetId). z.capacity) goes.set ∙ sym known) goes.ran;
+      first = goes.first;
       all = goes.all;
     }
 
@@ -63,7 +56,9 @@ pub has_freed : (old new : Pass) (index : ℕ) (state : ReleaseState) → (view 
 has_freed old new index state known goes unlocked given =
     record {
       given = subst (λ s. HasGiven index s (view old) (view new)) unlocked given;
-      goes = set_goes old new known goes (begins_before _ _ _ _ (view old) (view new) given.called);
+      goes = set_goes old new goes (begins_before _ _ _ _ (view old) (view new) given.called);
+      knows =
+          subst (λ n. Knows one_word kinds.Indices n (view new)) (ap (λ (z : SetId). z.capacity) goes.set ∙ sym known) new.knows;
     }
 
 -- what is freed in turn is claimed no more, and freed as often as it stands in the list
@@ -137,22 +132,20 @@ module _ (ps : List Place) (i : ℕ) where
 pub record Popping (old now : View ℕ) : Type 0 where
   pub share : now.share ≡ old.share
   pub since : IsBeginning old.seen now.seen
-  pub ran : AreFirst old.turns now.turns
+  pub first : AreFirst old.turns now.turns
   pub numbers : List ℕ
   pub popped : InTurn HasPoppedOne numbers old now
 
 pub pops_none : (v : View ℕ) → Popping v v
-pops_none v = record { share = refl; since = itself v.seen; ran = first_all v.turns; numbers = []; popped = refl }
+pops_none v = record { share = refl; since = itself v.seen; first = first_all v.turns; numbers = []; popped = refl }
 
-module _ (code : Coding ℕ) (kind : Kind) (capacity : ℕ) (old now new : View ℕ) (before : Popping old now)
-    (goes : Goes code kind capacity now new) where
-  pub still_goes : Goes code kind capacity old new
+module _ (old now new : View ℕ) (before : Popping old now) (goes : Goes now new) where
+  pub still_goes : Goes old new
   still_goes =
       record {
         share = goes.share ∙ before.share;
         since = begins_further old.seen now.seen new.seen before.since goes.since;
-        history = goes.history;
-        ran = continues_further code kind capacity old now new before.ran goes.ran;
+        first = first_further old.turns now.turns new.turns before.first goes.first;
         all = goes.all;
       }
 
@@ -163,7 +156,7 @@ module _ (code : Coding ℕ) (kind : Kind) (capacity : ℕ) (old now new : View 
       record {
         share = goes.share ∙ before.share;
         since = begins_further old.seen now.seen new.seen before.since goes.since;
-        ran = first_further old.turns now.turns new.turns before.ran goes.ran.first;
+        first = first_further old.turns now.turns new.turns before.first goes.first;
         numbers = before.numbers ++ x ∷ [];
         popped = in_turn_more HasPoppedOne before.numbers x old now new before.popped popped;
       }

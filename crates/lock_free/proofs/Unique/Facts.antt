@@ -21,15 +21,15 @@ use Rattle.model.specs.Promises.Spans.{Stands}
 use Rattle.laws_indices.proofs.Sound.{kept_on, reached_on_sound}
 use Rattle.model.specs.Families.Indices.Reading.{holder_of, is_locked}
 use Rattle.model.specs.Reading.{Span, Never, Open, Ended, span_of}
-use Rattle.history.specs.History.{Continues}
 use Rattle.history.specs.Indices.{claimed_by}
+use Rattle.history.specs.History.{Continues, Knows}
 use Rattle.history.proofs.Indices.{is_index_set}
 use Rattle.history.proofs.Locks.{not_locked}
 use Rattle.history.proofs.OneHolder.{first_wrote}
 use Rattle.lock_free.specs.Unique.Held.{HoldsNothing, IsSound}
 use Rattle.lock_free.proofs.Ends.{has_made}
 use Rattle.lock_free.proofs.Unique.Machine.{holds_right, none_held, held_within}
-use Rattle.lock_free.specs.UniqueIndexSet.{SetId, set_of, view, history, SamePass}
+use Rattle.lock_free.specs.UniqueIndexSet.{set_of, view, SamePass}
 use Rattle.lock_free.specs.declared.mpmc.unique_index_set.Pass.{Pass}
 use Rattle.lock_free.specs.Unique.Contracts.{HasTaken, HasGiven, HasGivenOrLocked, HasCounted, HasLooked, WasFree, Answered}
 
@@ -228,6 +228,11 @@ apart v other w i looks mine theirs =
     ap (sum_by (frees i)) looks.made ∙ sum_by-append (frees i) v.made other.made in
     absurd (omega arith)
 
+-- a pass that a call has left knows a run
+pub knows_still : {size : ℕ} {base w : View ℕ} → base.capacity ≡ size → Continues one_word kinds.Indices base.capacity base w
+    → Knows one_word kinds.Indices size w
+knows_still {w = w} known ran = subst (λ n. Knows one_word kinds.Indices n w) known ran.knows
+
 -- what a call leaves of a pass
 pub same_pass : {C M E : Type 0} {call : Calling ℕ C M E} {old new : Pass} {e : E} {m : M} → set_of new ≡ set_of old
     → Ends one_word kinds.Indices call (view old) e m (view new) → SamePass old new
@@ -236,9 +241,6 @@ same_pass {old = old} {new = new} set ends =
       set = set;
       share = ends.share;
       sound = sound (view old).capacity (view new) ends.capacity ends.history ends.parties;
-      history =
-          subst (λ n. IsHistory one_word kinds.Indices n (history new)) (old.known ∙ sym (ap (λ (z : SetId). z.capacity) set)) ends.history;
-      ran =
-          subst (λ n. Continues one_word kinds.Indices n (view old) (view new)) (old.known ∙ sym (ap (λ (z : SetId). z.capacity) set)) ends.ran;
+      first = ends.ran.first;
       all = λ whole. ends.all (subst IsAll ends.share whole);
     }

@@ -9,6 +9,7 @@ use Rattle.model.specs.declared.party.Progress.{Progress}
 use Rattle.model.specs.Coding.{Coding}
 use Rattle.model.specs.Parties.{party_of, progress_after, others_of}
 use Rattle.model.specs.Reading.{whose, is_party}
+use Rattle.history.proofs.KnownRuns.{known_run}
 use Rattle.history.specs.Passes.{MissesNothing, HasJoined}
 use Rattle.history.specs.History.{run_of}
 use Rattle.history.specs.Steps.{TakesAtMost, TakesAlone}
@@ -113,7 +114,7 @@ module _ {T : Type 0} where
       t = run_of code kind capacity new.turns
 
       counted : IsCounted t
-      counted = counted_as kind t takes.ran.knows.run.reached
+      counted = counted_as kind t (known_run takes.ran.knows).reached
 
       -- no call is under way
       none_going : (q : ℕ) → is_going (party_of q t.world.latest) ≡ 0

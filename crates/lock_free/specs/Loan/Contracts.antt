@@ -6,6 +6,7 @@ use Rattle.model.specs.declared.event.Item.TheVariants.{Index}
 use Rattle.model.specs.declared.turn.Kind.TheVariants as kinds
 use Rattle.model.specs.Coding.{one_word}
 use Rattle.history.specs.declared.view.View.{View}
+use Rattle.history.specs.History.{Knows}
 use Rattle.history.specs.Passes.{Goes}
 use Rattle.lock_free_queues.specs.Queues.Contracts.{HasPopped, FoundNone}
 use Rattle.lock_free.specs.Unique.Contracts.{HasGiven}
@@ -19,14 +20,12 @@ InTurn Does (x ∷ xs) old new = (between : View ℕ) × Does x old between × I
 
 -- ---- the set
 
--- the history of the set goes on
-abbrev pub SetGoesOn : View ℕ → View ℕ → Type 0
-SetGoesOn old new = Goes one_word kinds.Indices old.capacity old new
-
--- the index was given back in mode Default, which never locks the set
+-- The index was given back in mode Default, which never locks the set. What the pass knew then is told here, since nobody
+-- else sees the pass between two of them.
 pub record HasFreed (index : ℕ) (old new : View ℕ) : Type 0 where
   pub given : HasGiven index Unlocked old new
-  pub goes : SetGoesOn old new
+  pub goes : Goes old new
+  pub knows : Knows one_word kinds.Indices old.capacity new
 
 -- the indices that are sent, in ascending order
 abbrev pub all_sent : List Place → List ℕ

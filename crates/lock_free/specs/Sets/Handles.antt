@@ -1,5 +1,6 @@
 -- A handle of a set: the set, and the pass that its calls are made with.
 use Rattle.std.specs.Prelude.{ℕ}
+use Rattle.steps.specs.contracts.words.U64Words.TheImpl.{ghosts}
 use Rattle.history.specs.declared.view.View.{View}
 use Rattle.lock_free.specs.declared.mpmc.sets.rule.Kind.{Ghosts}
 use Rattle.lock_free.specs.declared.mpmc.sets.rule.SetRule.{SetRule}
@@ -12,7 +13,7 @@ module _ {E : Type 0} {kind : Ghosts E} where
   abbrev pub set_in : Handle E kind → Set E
   set_in h = h.set.now
 
-  abbrev pub pass_in : Handle E kind → Held E ℕ (SetRule E) kind
+  abbrev pub pass_in : Handle E kind → Held E ℕ (SetRule E) kind ghosts
   pass_in h = h.pass
 
   -- all that its pass knows

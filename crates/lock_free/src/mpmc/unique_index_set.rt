@@ -4,8 +4,13 @@
 //! How many atomic steps a call takes is what its clause `steps` says: the operations on words that its pass has
 //! counted, each by the driver. What is proved of threads is what the contracts say.
 ghost use Rattle.std.specs.Prelude.{◌≡◌, ◌<◌, ◌+◌, [], None};
+ghost use Rattle.std.specs.Coded.{Coded-set, coded_ℕ};
+ghost use Rattle.model.specs.declared.turn.Kind.TheVariants as kinds;
+ghost use Rattle.model.specs.Coding.{one_word};
 ghost use Rattle.threaded.specs.Seats.{key_of, home_id};
 ghost use Rattle.history.specs.Held.{Holds};
+ghost use Rattle.history.specs.History.{Knows};
+ghost use Rattle.history.proofs.KnownRuns.{knows_prop};
 ghost use Rattle.lock_free.specs.Unique.Held.{size, IsSound, IsDone};
 
 use self::rule::IndicesRule;
@@ -73,6 +78,7 @@ pub struct Pass {
     ghost idle: { seated.seat.me.0.going ≡ None },
     ghost alone: { seated.seat.me.0.other ≡ [] },
     ghost some: { (0 < seated.seat.me.0.share.part) × (0 < seated.seat.me.0.share.parts) },
+    ghost knows: { Knows one_word kinds.Indices capacity seated.seat.me.0 } by { knows_prop (Coded-set coded_ℕ) one_word kinds.Indices capacity seated.seat.me.0 },
     ghost sound: { IsSound seated.seat.me.0 },
     ghost done: { IsDone seated.seat.me.0.made },
 }

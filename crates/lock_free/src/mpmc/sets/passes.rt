@@ -1,7 +1,10 @@
 //! How passes are made of one another.
 ghost use Rattle.std.specs.Prelude.{◌≡◌, IfSome, IfNone};
+ghost use Rattle.model.specs.Coding.{one_word};
+ghost use Rattle.history.specs.History.{Knows};
 ghost use Rattle.history.specs.Passes.{HasSplit};
-ghost use Rattle.lock_free.specs.Sets.Calls.{set_of, view, PassJoins};
+ghost use Rattle.lock_free.specs.Sets.Kinds.{machine_kind};
+ghost use Rattle.lock_free.specs.Sets.Calls.{set_of, view, HasHistory, PassJoins};
 ghost use Rattle.history.specs.Steps.{TakesAtMost, JoinsWithin};
 
 use super::drives::Look;
@@ -11,6 +14,15 @@ use history::plays::{Both, Cut};
 use std::marker::PhantomData;
 
 impl<E: Kind> Held<E, u64, SetRule<E>> {
+    /// What the pass has seen are the events of the turns that it knows, which make a run of the machine: a history of a
+    /// set of its kind and capacity. It does nothing. This project's own.
+    pub fn history(&self)
+        ensures run { Knows one_word (machine_kind E.KIND) (set_of self.now).capacity (view self.now) }
+        ensures history { HasHistory self.now }
+    {
+        let _ = &self.seated;
+    }
+
     /// Makes a new pass of the same set, which has seen the same and made nothing. None, and nothing changes, where no
     /// further pass can be counted (no clause says when). At most one step. This project's own.
     pub fn split(&mut self) -> Option<Pass<E>>

@@ -1,14 +1,25 @@
 //! The calls on an index that is held.
 ghost use Rattle.std.specs.Prelude.{◌≡◌, ◌<◌, ℕ};
 ghost use Rattle.steps.specs.declared.indices.enums.ReleaseState.TheVariants.{Unlocked};
+ghost use Rattle.model.specs.declared.turn.Kind.TheVariants as kinds;
+ghost use Rattle.model.specs.Coding.{one_word};
 ghost use Rattle.history.specs.Held.{Holds};
+ghost use Rattle.history.specs.History.{Knows};
 ghost use Rattle.lock_free.specs.Unique.Contracts.{HasGiven};
-ghost use Rattle.lock_free.specs.UniqueIndexSet.{view, set_of, made, SamePass, PassJoins, value_of, index_pass, index_view, index_set};
+ghost use Rattle.lock_free.specs.UniqueIndexSet.{view, set_of, made, HasHistory, SamePass, PassJoins, value_of, index_pass, index_view, index_set};
 ghost use Rattle.history.specs.Steps.{TakesAtMost, JoinsWithin};
 
 use super::{Pass, UniqueIndex};
 
 impl<'a> UniqueIndex<'a> {
+    /// What the pass that it owns has seen is a history, as `history` of the pass says. It does nothing.
+    pub fn history(&self)
+        ensures run { Knows one_word kinds.Indices (index_set self.now).capacity (index_view self.now) }
+        ensures history { HasHistory (index_pass self.now) }
+    {
+        self.pass.history();
+    }
+
     /// Returns the index, which is below the capacity. After `value` of the Rust crate.
     pub fn value(&self) -> u32
         ensures value { result ≡ value_of self.now }

@@ -2,8 +2,11 @@
 ghost use Rattle.std.specs.Prelude.{◌≡◌, ℕ, IfSome, IfNone};
 ghost use Rattle.lock_free.specs.Unique.Held.{HoldsNothing};
 ghost use Rattle.history.specs.Held.{Holds};
+ghost use Rattle.model.specs.declared.turn.Kind.TheVariants as kinds;
+ghost use Rattle.model.specs.Coding.{one_word};
+ghost use Rattle.history.specs.History.{Knows};
 ghost use Rattle.history.specs.Passes.{HasSplit};
-ghost use Rattle.lock_free.specs.UniqueIndexSet.{set_of, view, made, PassJoins};
+ghost use Rattle.lock_free.specs.UniqueIndexSet.{set_of, view, made, HasHistory, PassJoins};
 ghost use Rattle.history.specs.Steps.{TakesAtMost, JoinsWithin};
 
 use super::Pass;
@@ -11,6 +14,15 @@ use super::drives::Look;
 use history::plays::{Both, Cut};
 
 impl Pass {
+    /// What the pass has seen are the events of the turns that it knows, which make a run of the machine: a history of a
+    /// set of its capacity. It does nothing. This project's own.
+    pub fn history(&self)
+        ensures run { Knows one_word kinds.Indices (set_of self.now).capacity (view self.now) }
+        ensures history { HasHistory self.now }
+    {
+        let _ = &self.seated;
+    }
+
     /// Makes a new pass of the same set, which has seen the same and holds nothing. This one keeps all that it holds,
     /// and each has half of the share. None, and nothing changes, where no further pass can be counted (no clause says
     /// when). At most one step. This project's own.

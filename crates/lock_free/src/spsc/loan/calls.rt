@@ -8,6 +8,8 @@ ghost use Rattle.lock_free.specs.Unique.Contracts.{HasAcquired, WasRefused, HasG
 ghost use Rattle.model.specs.declared.event.Item.TheVariants.{Index};
 ghost use Rattle.model.specs.declared.turn.Kind.TheVariants as kinds;
 ghost use Rattle.model.specs.Coding.{one_word};
+ghost use Rattle.history.specs.History.{IsHistory, Knows};
+ghost use Rattle.history.specs.Passes.{Goes};
 ghost use Rattle.history.specs.Steps.{TakesAtMost, TakesAlone};
 ghost use Rattle.lock_free_queues.specs.Queues.Calls as returns;
 ghost use Rattle.lock_free_queues.specs.Queues.Overflowing as sends;
@@ -18,7 +20,7 @@ ghost use Rattle.lock_free.specs.Loan.Places.{is_out, is_sent, place_at, returne
 ghost use Rattle.lock_free.specs.Loan.Sender.{places_of, pass_view, share_of, submission_view, completion_view};
 ghost use Rattle.lock_free.specs.Loan.Sender.{submission_of, completion_of, KeepsQueues, set_of_sender, IsSame};
 ghost use Rattle.lock_free.specs.Loan.Sender.{IsSenderOf, IsLoaned};
-ghost use Rattle.lock_free.specs.Loan.Contracts.{InTurn, SetGoesOn, HasFreed, HasEmptied, all_sent, sent_back};
+ghost use Rattle.lock_free.specs.Loan.Contracts.{InTurn, HasFreed, HasEmptied, all_sent, sent_back};
 
 use super::places::Place;
 use super::{LoanError, LoanSender};
@@ -45,8 +47,7 @@ fn empty_submission(rt: &impl Wait, receiver: &mut overflow::Consumer<'_>)
 /// The same of what was given back.
 fn empty_completion(rt: &impl Wait, consumer: &mut index_queue::Consumer<'_>)
     ensures queue { returns.consumer_queue consumer.new ≡ returns.consumer_queue consumer.old }
-    ensures goes { returns.GoesOn (returns.consumer_queue consumer.old).capacity
-        (returns.consumer_view consumer.old) (returns.consumer_view consumer.new) }
+    ensures goes { Goes (returns.consumer_view consumer.old) (returns.consumer_view consumer.new) }
     ensures emptied { HasEmptied (returns.consumer_view consumer.old) (returns.consumer_view consumer.new) }
 {
     for _ in rt.forever() {
@@ -96,6 +97,21 @@ impl<'a> LoanSender<'a> {
         }
     }
 
+    /// What its pass and its guards have seen are histories of the set and of both queues, as `history` of each says. It
+    /// does nothing.
+    pub fn history(&self)
+        ensures set { Knows one_word kinds.Indices (set_of_sender self.now).capacity (pass_view self.now) }
+        ensures submission { Knows one_word kinds.Overflow (submission_of self.now).capacity (submission_view self.now) }
+        ensures completion { Knows one_word kinds.IndexQueue (completion_of self.now).capacity (completion_view self.now) }
+        ensures seen { IsHistory one_word kinds.Indices (set_of_sender self.now).capacity (pass_view self.now).seen }
+        ensures sent { sends.HasHistory (submission_of self.now).capacity (submission_view self.now) }
+        ensures returned { returns.HasHistory (completion_of self.now).capacity (completion_view self.now) }
+    {
+        self.pass.history();
+        self.submission.history();
+        self.completion.history();
+    }
+
     /// Takes an index that was Free: it is Loaned. Refused as `acquire_raw_index` of the set: `OutOfIndices` or
     /// `IsLocked`, and the table stays. Four atomic steps where nobody else steps in between and no release has fallen
     /// back to a subtraction; else it may try again for as long as others step.
@@ -107,7 +123,7 @@ impl<'a> LoanSender<'a> {
             (λ i. HasAcquired i (pass_view self.old) (pass_view self.new)) }
         ensures refused { IfErr result (λ e. (places_of self.new ≡ places_of self.old)
             × WasRefused e (pass_view self.old) (pass_view self.new)) }
-        ensures goes { SetGoesOn (pass_view self.old) (pass_view self.new) }
+        ensures goes { Goes (pass_view self.old) (pass_view self.new) }
         ensures queues { KeepsQueues self.old self.new }
         ensures same { IsSame self.old self.new }
         ensures share { share_of self.new ≡ share_of self.old }
@@ -135,7 +151,7 @@ impl<'a> LoanSender<'a> {
         requires { IsLoaned index self.old }
         ensures places { places_of self.new ≡ slice_set (places_of self.old) index Free }
         ensures given { HasGiven index Unlocked (pass_view self.old) (pass_view self.new) }
-        ensures goes { SetGoesOn (pass_view self.old) (pass_view self.new) }
+        ensures goes { Goes (pass_view self.old) (pass_view self.new) }
         ensures queues { KeepsQueues self.old self.new }
         ensures same { IsSame self.old self.new }
         ensures share { share_of self.new ≡ share_of self.old }
@@ -200,7 +216,7 @@ impl<'a> LoanSender<'a> {
         ensures freed { IfSome result (λ y. InTurn HasFreed (sent_back y (slice_set (places_of self.old) index Sent))
             (pass_view self.old) (pass_view self.new)) }
         ensures goes { 0 < (submission_of self.old).capacity
-            → sends.GoesOn (submission_of self.old).capacity (submission_view self.old) (submission_view self.new) }
+            → Goes (submission_view self.old) (submission_view self.new) }
         ensures added { IfNone result (PushAdded index (submission_view self.old) (submission_view self.new)) }
         ensures handed_back { IfSome result (λ y. PushHandedBack (submission_of self.old).capacity index y
             (submission_view self.old) (submission_view self.new)) }
@@ -223,8 +239,7 @@ impl<'a> LoanSender<'a> {
     pub fn take_back(&mut self) -> Option<u64>
         ensures back { IfSome result
             (λ y. places_of self.new ≡ returned y (places_of self.old)) }
-        ensures goes { returns.GoesOn (completion_of self.old).capacity
-            (completion_view self.old) (completion_view self.new) }
+        ensures goes { Goes (completion_view self.old) (completion_view self.new) }
         ensures popped { IfSome result
             (λ y. PopDone (Index y) (completion_view self.old) (completion_view self.new)) }
         ensures freed { IfSome result (λ y. InTurn HasFreed (sent_back y (places_of self.old))
@@ -255,8 +270,7 @@ impl<'a> LoanSender<'a> {
         ensures places { places_of self.new ≡ map reclaimed (places_of self.old) }
         ensures number { result ≡ count_by is_sent (places_of self.old) }
         ensures freed { InTurn HasFreed (all_sent (places_of self.old)) (pass_view self.old) (pass_view self.new) }
-        ensures goes { returns.GoesOn (completion_of self.old).capacity
-            (completion_view self.old) (completion_view self.new) }
+        ensures goes { Goes (completion_view self.old) (completion_view self.new) }
         ensures emptied { HasEmptied (completion_view self.old) (completion_view self.new) }
         ensures submission { submission_view self.new ≡ submission_view self.old }
         ensures same { IsSame self.old self.new }

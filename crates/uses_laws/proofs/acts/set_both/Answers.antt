@@ -37,7 +37,7 @@ returns g c =
     ap (λ (z : SetId). z.capacity) (c.set-two.ensures.same.set ∙ (c.set-one.ensures.same.set ∙ c.requires.pass)) in
     let acts : ActsByPlace kinds.Bits (capacity_of c.args.set.now) new.seen =
     subst (λ n. ActsByPlace kinds.Bits n new.seen) size
-    (c.histories_act.ensures one_word kinds.Bits (set_of pass).capacity (history pass) tt c.set-two.ensures.same.history) in
+    (c.histories_act.ensures one_word kinds.Bits (set_of pass).capacity (history pass) tt c.history.ensures.history) in
     record {
       acts = acts;
       by = one.by;

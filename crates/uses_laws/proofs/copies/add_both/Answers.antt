@@ -22,4 +22,4 @@ returns g c =
     whole_after laws (code_of between) (container_of between).capacity (view old) (view between) (view new) c.requires.calm
     (record { value = c.args.first; owner = c.args.owner }) (record { value = c.args.second; owner = c.args.owner })
     (placed c.add-one.result) (placed c.add-two.result) c.requires.idle c.add-one.ensures.same.idle
-    c.add-one.ensures.added c.add-two.ensures.added (c.add-two.ensures.same.goes.all still) c.add-two.ensures.same.goes.history
+    c.add-one.ensures.added c.add-two.ensures.added (c.add-two.ensures.same.goes.all still) c.history.ensures.history

@@ -13,6 +13,6 @@ returns c n below =
     let steps : ℕ = steps_in (opening one_word IndexQueue capacity 0) new.turns in
     let five : stretch n 0 5 ≡ 5 * n = omega arith in
     let within : AreWithinEnds (stretch n 0 5) steps 0 (ends new.seen) =
-    c.passes_keep_ending.ensures.known IndexQueue one_word capacity new c.join.ensures.same.knows n below in
+    c.passes_keep_ending.ensures.known IndexQueue one_word capacity new c.history.ensures.run n below in
     let few : AreWithinEnds (5 * n) steps 0 (ends new.seen) = subst (λ b. AreWithinEnds b steps 0 (ends new.seen)) five within in
     omega (few, arith)

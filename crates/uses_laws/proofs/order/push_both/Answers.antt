@@ -18,12 +18,12 @@ returns c both =
     let start = c.args.producer.now in
     let old = producer_view start in
     let between = producer_view c.push.new.self in
-    let new = producer_view c.push-2.new.self in
+    let new = producer_view c.push-taken.new.self in
     let one : HasPushed (Index first) true old between = (c.push.ensures.pushed c.if-not-push.false).0 in
-    let two : HasPushed (Index second) true between new = (c.push-2.ensures.pushed both).0 in
+    let two : HasPushed (Index second) true between new = (c.push-taken.ensures.pushed both).0 in
     let x =
     c.calls_stand.ensures one.by (Queues (PushIndex first)) (Truth true) (push_events one.by (Index first) true) old between one.called tt
-    new.seen c.push-2.ensures.same.goes.since in
+    new.seen c.push-taken.ensures.same.goes.since in
     let y =
     c.calls_stand.ensures two.by (Queues (PushIndex second)) (Truth true) (push_events two.by (Index second) true) between new two.called tt
     new.seen (record { rest = []; is = sym (append-nil new.seen) }) in
@@ -32,6 +32,6 @@ returns c both =
     old between between new new.seen x y (record { rest = []; is = sym (append-nil between.seen) }) in
     let size : (producer_queue c.push.new.self).capacity ≡ (producer_queue start).capacity =
     ap (λ (z : QueueId). z.capacity) c.push.ensures.same.queue in
-    let history : HasHistory (producer_queue start).capacity new = subst (λ n. HasHistory n new) size c.push-2.ensures.same.goes.history in
+    let history : HasHistory (producer_queue start).capacity new = subst (λ n. HasHistory n new) size c.history.ensures.history in
     let order = c.histories_are_linearizable.ensures one_word IndexQueue (producer_queue start).capacity new history in
     pushed_in_order (producer_queue start).capacity first second one.by two.by old between new new.seen order x y before

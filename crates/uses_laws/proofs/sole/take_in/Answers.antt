@@ -16,8 +16,8 @@ returns-clause-few c is js one two =
     subst (λ n. length is + length js ≤ n) size
     (few_held (set_of new).capacity (history new) (made new) mine theirs (λ i. is_some (holder_of i (history new))) c.join.ensures.same.joined.made
     (c.join.ensures.same.all whole)
-    (c.indices_are_conserved.ensures.conserved one_word (set_of new).capacity (history new) c.join.ensures.same.history)
-    (c.indices_are_conserved.ensures.within one_word (set_of new).capacity (history new) c.join.ensures.same.history) is js one two)
+    (c.indices_are_conserved.ensures.conserved one_word (set_of new).capacity (history new) c.history.ensures.history)
+    (c.indices_are_conserved.ensures.within one_word (set_of new).capacity (history new) c.history.ensures.history) is js one two)
 
 pub returns-clause-sole : goal.returns-clause-sole
 returns-clause-sole c is one long =
@@ -28,6 +28,6 @@ returns-clause-sole c is one long =
     let size : (set_of new).capacity ≡ capacity_of c.args.set.now = ap (λ (z : SetId). z.capacity) (c.join.ensures.same.set ∙ c.requires.mine) in
     none_else (set_of new).capacity (history new) (made new) mine theirs (λ i. is_some (holder_of i (history new))) c.join.ensures.same.joined.made
     (c.join.ensures.same.all whole)
-    (c.indices_are_conserved.ensures.conserved one_word (set_of new).capacity (history new) c.join.ensures.same.history)
-    (c.indices_are_conserved.ensures.within one_word (set_of new).capacity (history new) c.join.ensures.same.history)
+    (c.indices_are_conserved.ensures.conserved one_word (set_of new).capacity (history new) c.history.ensures.history)
+    (c.indices_are_conserved.ensures.within one_word (set_of new).capacity (history new) c.history.ensures.history)
     c.requires.sound.least is one (long ∙ sym size)

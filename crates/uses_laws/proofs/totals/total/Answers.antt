@@ -11,7 +11,7 @@ overflow_add-result c =
     let new = c.set-left.new.pass in
     let place = c.args.place in
     let whole : IsAll (share new) = subst IsAll (sym c.set-left.ensures.same.share) c.requires.whole in
-    let so = c.counts_are_conserved.ensures.conserved one_word (set_of old).capacity (history old) c.requires.history place in
+    let so = c.counts_are_conserved.ensures.conserved one_word (set_of old).capacity (history old) c.history.ensures.history place in
     let sum =
     all_counted (view old) (view new) place c.set-left.result (c.requires.all c.requires.whole) (c.set-left.ensures.same.all whole)
     c.set-left.ensures.counted c.set-left.ensures.answers so c.requires.few in
@@ -25,7 +25,7 @@ returns c =
     let new = c.set-left.new.pass in
     let place = c.args.place in
     let whole : IsAll (share new) = subst IsAll (sym c.set-left.ensures.same.share) c.requires.whole in
-    let so = c.counts_are_conserved.ensures.conserved one_word (set_of old).capacity (history old) c.requires.history place in
+    let so = c.counts_are_conserved.ensures.conserved one_word (set_of old).capacity (history old) c.history.ensures.history place in
     let sum =
     all_counted (view old) (view new) place c.set-left.result (c.requires.all c.requires.whole) (c.set-left.ensures.same.all whole)
     c.set-left.ensures.counted c.set-left.ensures.answers so c.requires.few in

@@ -10,12 +10,12 @@ returns g c both =
     let place = c.args.place in
     let old = c.args.pass.now in
     let between = c.set.new.pass in
-    let new = c.set-2.new.pass in
+    let new = c.set-again.new.pass in
     let one : HasSet place true (view old) (view between) =
     subst (λ b. HasSet place b (view old) (view between)) c.if-not-set.false c.set.ensures.added in
     let two : HasSet place true (view between) (view new) =
-    subst (λ b. HasSet place b (view between) (view new)) both c.set-2.ensures.added in
+    subst (λ b. HasSet place b (view between) (view new)) both c.set-again.ensures.added in
     cleared_since place (view old) (view between) (view new) one two
-    (c.bits_are_conserved.ensures.conserved one_word (set_of old).capacity (history old) c.requires.history place)
-    (c.bits_are_conserved.ensures.conserved one_word (set_of new).capacity (history new) c.set-2.ensures.same.history place)
-    (c.bits_are_conserved.ensures.once one_word (set_of new).capacity (history new) c.set-2.ensures.same.history place)
+    (c.bits_are_conserved.ensures.conserved one_word (set_of old).capacity (history old) c.history.ensures.history place)
+    (c.bits_are_conserved.ensures.conserved one_word (set_of new).capacity (history new) c.history-2.ensures.history place)
+    (c.bits_are_conserved.ensures.once one_word (set_of new).capacity (history new) c.history-2.ensures.history place)

@@ -34,7 +34,7 @@ returns-in-None-reset_next g c bell =
     let whole : IsAll (share old) = subst IsAll (sym c.loop.invariant.same_share) c.requires.1 in
     let same = ap (λ (z : SetId). z.capacity) (c.reset_next.ensures.same.set ∙ (c.loop.invariant.same_set ∙ c.requires.0)) in
     let none =
-    none_left (view old) (view new) (set_of new).capacity c.reset_next.ensures.same.history
+    none_left (view old) (view new) (set_of new).capacity c.history.ensures.history
     (c.loop.invariant.misses whole)
     (c.reset_next.ensures.same.all (subst IsAll (sym c.reset_next.ensures.same.share) whole))
     c.in-None-reset_next.ensures.cleared

@@ -19,7 +19,7 @@ returns-clause-apart g c =
     let theirs : HasLeased q.those.items (made q.further) = search rules in
     let all : c.extend_from_slice.new.self.items ≡ p.indices.items ++ q.those.items = search rules in
     let both = leased_both p.indices.items q.those.items (made p.pass) (made q.further) mine theirs in
-    let sound = c.histories_are_sound.ensures (set_of pass).capacity (history pass) c.join.ensures.same.history in
+    let sound = c.histories_are_sound.ensures (set_of pass).capacity (history pass) c.history.ensures.history in
     let leased = subst (HasLeased (p.indices.items ++ q.those.items)) (sym c.join.ensures.same.joined.made) both in
     leased_apart (set_of pass).capacity c.extend_from_slice.new.self.items (history pass) (made pass) sound (c.join.ensures.same.all whole)
     (subst (λ xs. HasLeased xs (made pass)) (sym all) leased)

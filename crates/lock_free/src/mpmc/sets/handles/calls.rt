@@ -1,7 +1,10 @@
 //! The calls by a handle: those of its set.
 ghost use Rattle.std.specs.Prelude.{◌≡◌, IfSome, IfNone};
-ghost use Rattle.lock_free.specs.Sets.Calls.{capacity_of, IsPassOf};
+ghost use Rattle.lock_free.specs.Sets.Calls.{capacity_of, set_of, HasHistory, IsPassOf};
+ghost use Rattle.model.specs.Coding.{one_word};
+ghost use Rattle.history.specs.History.{Knows};
 ghost use Rattle.history.specs.Passes.{HasSplit};
+ghost use Rattle.lock_free.specs.Sets.Kinds.{machine_kind};
 ghost use Rattle.lock_free.specs.Sets.Handles.{set_in, pass_in, knows};
 ghost use Rattle.history.specs.Steps.{TakesAtMost};
 
@@ -27,6 +30,14 @@ impl<'a, E: Kind> Handle<'a, E> {
     {
         let Handle { set: _, pass } = self;
         pass
+    }
+
+    /// What the handle's pass has seen is a history, as `history` of the pass says. It does nothing.
+    pub fn history(&self)
+        ensures run { Knows one_word (machine_kind E.KIND) (set_of (pass_in self.now)).capacity (knows self.now) }
+        ensures history { HasHistory (pass_in self.now) }
+    {
+        self.pass.history();
     }
 
     /// Makes a further handle of the set, with a pass that it gets by `Pass::split`.

@@ -6,7 +6,8 @@ ghost use Rattle.model.specs.declared.families.indices.IndexStart.TheVariants as
 ghost use Rattle.model.specs.Families.Indices.Reading.{is_locked};
 ghost use Rattle.lock_free.specs.Unique.Held.{HeldBy, HoldsNothing, HoldsAll};
 ghost use Rattle.lock_free.specs.Unique.Contracts.{HasAcquired, WasRefused, HasCounted, HasLooked, Answered};
-ghost use Rattle.lock_free.specs.UniqueIndexSet.{capacity_of, IsPassOf, history, made, value_of, index_pass, index_view, SamePass};
+ghost use Rattle.lock_free.specs.UniqueIndexSet.{capacity_of, set_of, IsPassOf, HasHistory, history, made, value_of, index_pass, index_view, SamePass};
+ghost use Rattle.history.specs.History.{Knows};
 ghost use Rattle.history.specs.Passes.{HasSplit};
 ghost use Rattle.lock_free.specs.Unique.Handles.{set_in, pass_in, knows};
 ghost use Rattle.model.specs.declared.turn.Kind.TheVariants as kinds;
@@ -36,6 +37,14 @@ impl<'a> Handle<'a> {
     {
         let Handle { set: _, pass } = self;
         pass
+    }
+
+    /// What the handle's pass has seen is a history, as `history` of the pass says. It does nothing.
+    pub fn history(&self)
+        ensures run { Knows one_word kinds.Indices (set_of (pass_in self.now)).capacity (knows self.now) }
+        ensures history { HasHistory (pass_in self.now) }
+    {
+        self.pass.history();
     }
 
     /// Makes a further handle of the set, with a pass that it gets by `Pass::split`.

@@ -10,8 +10,10 @@ ghost use Rattle.lock_free_owners.specs.Robust.Contracts.{WasFilled, WasGranted,
 ghost use Rattle.lock_free_owners.specs.Container.Steps.{TakesFew, ContainerTakes, RemoveTakes};
 ghost use Rattle.lock_free_owners.specs.Container.Contracts.{placed, HasAdded, HasRemoved, HasReplaced, HasCounted};
 ghost use Rattle.lock_free_owners.specs.Container.Contracts.{HasTested, HasLooked, Answered, WasNotAdded};
-ghost use Rattle.lock_free_owners.specs.Container.Names.{history, code_of, capacity_of, IsPassOf, IsHandleFor, IsOwn, SamePass};
+ghost use Rattle.lock_free_owners.specs.Container.Names.{history, code_of, capacity_of, container_of, HasHistory, IsPassOf, IsHandleFor, IsOwn, SamePass};
+ghost use Rattle.model.specs.declared.turn.Kind.TheVariants as kinds;
 ghost use Rattle.history.specs.ContainerLooks.{KeepsState};
+ghost use Rattle.history.specs.History.{Knows};
 ghost use Rattle.history.specs.Passes.{HasSplit};
 ghost use Rattle.history.specs.Steps.{TakesAtMost};
 ghost use Rattle.lock_free_owners.specs.Container.Handles.{container_in, pass_in, knows};
@@ -45,6 +47,14 @@ impl<'a, T: Words> Handle<'a, T> {
     {
         let Handle { container: _, pass } = self;
         pass
+    }
+
+    /// What the handle's pass has seen is a history, as `history` of the pass says. It does nothing.
+    pub fn history(&self)
+        ensures run { Knows (code_of (pass_in self.now)) kinds.Container (container_of (pass_in self.now)).capacity (knows self.now) }
+        ensures history { HasHistory (pass_in self.now) }
+    {
+        self.pass.history();
     }
 
     /// Makes a further handle of the container, with a pass that it gets by `Pass::split`.

@@ -5,12 +5,15 @@ ghost use Rattle.model.specs.declared.event.Answer.TheVariants.{Number, Truth};
 ghost use Rattle.model.specs.declared.families.indices.robust.RobustStart.TheVariants as starts;
 ghost use Rattle.model.specs.Families.Indices.Reading.{is_locked};
 ghost use Rattle.model.specs.Families.Indices.Robust.Calls.{release_answer};
+ghost use Rattle.model.specs.declared.turn.Kind.TheVariants as kinds;
+ghost use Rattle.model.specs.Coding.{one_word};
+ghost use Rattle.history.specs.History.{Knows};
 ghost use Rattle.history.specs.Passes.{HasSplit};
 ghost use Rattle.history.specs.Steps.{TakesAtMost};
 ghost use Rattle.lock_free_owners.specs.Robust.Steps.{SetTakes, ReleaseTakes};
 ghost use Rattle.lock_free_owners.specs.Robust.Contracts.{HasTaken, HasGiven, HasCounted, HasLooked, WasFilled, WasGranted};
 ghost use Rattle.lock_free_owners.specs.Robust.Contracts.{WasFreed, WasRefused, Answered, HasReleased, FoundLock};
-ghost use Rattle.lock_free_owners.specs.RobustUniqueIndexSet.{capacity_of, IsPassOf, SamePass, history};
+ghost use Rattle.lock_free_owners.specs.RobustUniqueIndexSet.{capacity_of, set_of, IsPassOf, HasHistory, SamePass, history};
 ghost use Rattle.lock_free_owners.specs.Robust.Handles.{set_in, pass_in, knows};
 
 use super::Handle;
@@ -38,6 +41,14 @@ impl<'a> Handle<'a> {
     {
         let Handle { set: _, pass } = self;
         pass
+    }
+
+    /// What the handle's pass has seen is a history, as `history` of the pass says. It does nothing.
+    pub fn history(&self)
+        ensures run { Knows one_word kinds.Robust (set_of (pass_in self.now)).capacity (knows self.now) }
+        ensures history { HasHistory (pass_in self.now) }
+    {
+        self.pass.history();
     }
 
     /// Makes a further handle of the set, with a pass that it gets by `Pass::split`.

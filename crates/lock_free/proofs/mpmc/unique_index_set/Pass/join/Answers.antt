@@ -1,5 +1,5 @@
 use Rattle.lock_free.proofs.Names.{◌≡◌, ◌<◌, ℕ, ◌++◌, rules, sym, ap, subst, ◌∙◌, arith, TableId, one_word, View, seen}
-use Rattle.lock_free.proofs.Names.{joined_view, Looks, IsAll, IsHistory, joins}
+use Rattle.lock_free.proofs.Names.{joined_view, Looks, IsAll, joins}
 use Rattle.model.specs.declared.turn.Kind.TheVariants as kinds
 use Rattle.history.specs.History.{Knows}
 use Rattle.threaded.specs.Seats.{table_of, key_of}
@@ -65,8 +65,6 @@ returns-clause-same c =
         whole = λ all. looks.whole (subst IsAll looks.share all);
       };
       sound = sound _ w looks.capacity looks.history looks.parties;
-      history = subst (λ n. IsHistory one_word kinds.Indices n w.seen) mine.known looks.history;
-      knows = subst (λ n. Knows one_word kinds.Indices n w) mine.known looks.ran.knows;
       all = λ whole. looks.all (subst IsAll looks.share whole);
     }
 
@@ -77,3 +75,14 @@ invariant_of-self-clause-done c =
     let is : c.join.new.self.seat.me.0 ≡ joined_view v other = c.join.ensures.joined in
     let made : c.look.new.self.seat.me.0.made ≡ v.made ++ other.made = c.look.ensures.told.0.made ∙ ap (λ (z : View ℕ). z.made) is in
     subst IsDone (sym made) (joined_done v.made other.made c.args.self.now.done c.args.other.done)
+
+pub invariant_of-self-clause-knows : goal.invariant_of-self-clause-knows
+invariant_of-self-clause-knows c =
+    let mine = c.args.self.now in
+    let v = mine.seated.seat.me.0 in
+    let other = c.args.other.seated.seat.me.0 in
+    let w = c.look.new.self.seat.me.0 in
+    let is : c.join.new.self.seat.me.0 ≡ joined_view v other = c.join.ensures.joined in
+    let looks : Looks one_word kinds.Indices (joined_view v other).capacity (joined_view v other) w =
+    subst (λ (z : View ℕ). Looks one_word kinds.Indices z.capacity z w) is c.look.ensures.told.0 in
+    subst (λ n. Knows one_word kinds.Indices n w) mine.known looks.ran.knows

@@ -1,6 +1,7 @@
 use Rattle.lock_free.proofs.Names.{ℕ, Option, Some, None, IfSome, refl, sym, subst, one_word, View, splits}
 use Rattle.std.specs.Prelude.{IfNone}
 use Rattle.model.specs.declared.turn.Kind.TheVariants as kinds
+use Rattle.history.specs.History.{Knows}
 use Rattle.history.specs.Views.{left_view}
 use Rattle.lock_free.specs.Unique.Held.{IsSound, IsDone}
 use Rattle.lock_free.proofs.Unique.Facts.{sound_same}
@@ -25,3 +26,12 @@ invariant_of-self-clause-done c =
     by_result c.split.result c.split.ensures.cut c.split.ensures.none
     (λ t h. subst (λ (z : View ℕ). IsDone z.made) (sym h.2) c.args.self.now.done)
     (λ same. subst (λ (z : View ℕ). IsDone z.made) (sym same) c.args.self.now.done)
+
+pub invariant_of-self-clause-knows : goal.invariant_of-self-clause-knows
+invariant_of-self-clause-knows c =
+    let size = c.args.self.now.capacity in
+    let k = c.args.self.now.knows in
+    by_result c.split.result c.split.ensures.cut c.split.ensures.none
+    (λ t h. subst (λ (z : View ℕ). Knows one_word kinds.Indices size z) (sym h.2)
+    (record { coded = k.coded; admitted = k.admitted; allowed = k.allowed; fresh = k.fresh; is = k.is }))
+    (λ same. subst (λ (z : View ℕ). Knows one_word kinds.Indices size z) (sym same) k)

@@ -3,7 +3,7 @@ use Rattle.steps.specs.Indices.Unique.{first_acquire}
 use Rattle.model.specs.declared.turn.Kind.TheVariants as kinds
 use Rattle.history.proofs.IndexCalls.{acquire_keeps, acquire_first}
 use Rattle.lock_free.specs.UniqueIndexSet.{SetId}
-use Rattle.lock_free.proofs.Unique.Facts.{taken, sound, same_pass}
+use Rattle.lock_free.proofs.Unique.Facts.{taken, sound, same_pass, knows_still}
 use Rattle.lock_free.proofs.Unique.Whole.{taken_done, acquired_if, refused_if, within_if}
 use Rattle.lock_free.proofs.Steps.{indices_take}
 use Rattle.lock_free.proofs.mpmc.unique_index_set.UniqueIndexSet.acquire_raw_index.Goals as goal
@@ -54,3 +54,6 @@ returns-clause-steps g c =
     let mine = c.args.pass.now in
     indices_take takes_index (seen mine.seated) (seen c.drive_on.new.self) c.drive_on.result tt mine.idle _
     (mine.known ∙ ap (λ (z : SetId). z.capacity) c.requires) (omega arith) c.drive_on.ensures.end
+
+pub invariant_of-pass-clause-knows : goal.invariant_of-pass-clause-knows
+invariant_of-pass-clause-knows g c = knows_still c.args.pass.now.known c.drive_on.ensures.end.ran

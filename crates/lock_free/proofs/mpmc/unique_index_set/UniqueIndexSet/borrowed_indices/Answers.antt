@@ -1,7 +1,7 @@
 use Rattle.lock_free.proofs.Names.{rules, ◌≤◌, ap, subst, ◌∙◌, one_word, seen, arith, counts_out}
 use Rattle.history.proofs.IndexCalls.{count_keeps, count_first}
 use Rattle.lock_free.specs.UniqueIndexSet.{SetId}
-use Rattle.lock_free.proofs.Unique.Facts.{counted, sound, counted_answered, counted_most, same_pass}
+use Rattle.lock_free.proofs.Unique.Facts.{counted, sound, counted_answered, counted_most, same_pass, knows_still}
 use Rattle.lock_free.proofs.Unique.Whole.{counted_done, counted_least, counted_whole}
 use Rattle.lock_free.proofs.Steps.{indices_take}
 use Rattle.lock_free.proofs.mpmc.unique_index_set.UniqueIndexSet.borrowed_indices.Goals as goal
@@ -53,3 +53,6 @@ returns-clause-steps c =
     let mine = c.args.pass.now in
     indices_take counts_out (seen mine.seated) (seen c.drive.new.self) c.drive.result tt mine.idle _
     (mine.known ∙ ap (λ (z : SetId). z.capacity) c.requires) (omega arith) c.drive.ensures.end
+
+pub invariant_of-pass-clause-knows : goal.invariant_of-pass-clause-knows
+invariant_of-pass-clause-knows c = knows_still c.args.pass.now.known c.drive.ensures.end.ran

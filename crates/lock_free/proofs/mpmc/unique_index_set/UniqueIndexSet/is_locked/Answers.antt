@@ -1,7 +1,7 @@
 use Rattle.lock_free.proofs.Names.{rules, one_word, seen, ap, ◌∙◌, arith, looks_locked}
 use Rattle.history.proofs.IndexCalls.{look_keeps, look_first}
 use Rattle.lock_free.specs.UniqueIndexSet.{SetId}
-use Rattle.lock_free.proofs.Unique.Facts.{looked, sound, looked_answered, same_pass}
+use Rattle.lock_free.proofs.Unique.Facts.{looked, sound, looked_answered, same_pass, knows_still}
 use Rattle.lock_free.proofs.Unique.Whole.{looked_done, looked_nothing, looked_unlocked}
 use Rattle.lock_free.proofs.Steps.{indices_take}
 use Rattle.lock_free.proofs.mpmc.unique_index_set.UniqueIndexSet.is_locked.Goals as goal
@@ -46,3 +46,6 @@ returns-clause-steps c =
     let mine = c.args.pass.now in
     indices_take looks_locked (seen mine.seated) (seen c.drive.new.self) c.drive.result tt mine.idle _
     (mine.known ∙ ap (λ (z : SetId). z.capacity) c.requires) (omega arith) c.drive.ensures.end
+
+pub invariant_of-pass-clause-knows : goal.invariant_of-pass-clause-knows
+invariant_of-pass-clause-knows c = knows_still c.args.pass.now.known c.drive.ensures.end.ran

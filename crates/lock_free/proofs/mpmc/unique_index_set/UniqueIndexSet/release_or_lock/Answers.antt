@@ -2,7 +2,7 @@ use Rattle.lock_free.proofs.Names.{rules, sym, ap, subst, ◌∙◌, first_relea
 use Rattle.model.specs.declared.turn.Kind.TheVariants as kinds
 use Rattle.history.proofs.IndexCalls.{lock_keeps, lock_first}
 use Rattle.lock_free.specs.UniqueIndexSet.{SetId}
-use Rattle.lock_free.proofs.Unique.Facts.{given_or_locked, sound, locked_answered, same_pass}
+use Rattle.lock_free.proofs.Unique.Facts.{given_or_locked, sound, locked_answered, same_pass, knows_still}
 use Rattle.lock_free.proofs.Unique.Whole.{locked_done, locked_nothing, locked_whole}
 use Rattle.lock_free.proofs.Steps.{indices_take}
 use Rattle.lock_free.proofs.mpmc.unique_index_set.UniqueIndexSet.release_or_lock.Goals as goal
@@ -61,3 +61,6 @@ returns-clause-steps g c =
     let mine = c.args.pass.now in
     indices_take (gives_or_locks c.args.index) (seen mine.seated) (seen c.drive_on.new.self) c.drive_on.result tt mine.idle _
     (mine.known ∙ ap (λ (z : SetId). z.capacity) c.requires.pass) (omega arith) c.drive_on.ensures.end
+
+pub invariant_of-pass-clause-knows : goal.invariant_of-pass-clause-knows
+invariant_of-pass-clause-knows g c = knows_still c.args.pass.now.known c.drive_on.ensures.end.ran

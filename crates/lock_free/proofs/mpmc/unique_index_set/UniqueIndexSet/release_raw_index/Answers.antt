@@ -2,7 +2,7 @@ use Rattle.lock_free.proofs.Names.{rules, sym, ap, subst, ◌∙◌, first_relea
 use Rattle.model.specs.declared.turn.Kind.TheVariants as kinds
 use Rattle.history.proofs.IndexCalls.{release_keeps, release_first}
 use Rattle.lock_free.specs.UniqueIndexSet.{SetId}
-use Rattle.lock_free.proofs.Unique.Facts.{given, sound, unlocked, same_pass}
+use Rattle.lock_free.proofs.Unique.Facts.{given, sound, unlocked, same_pass, knows_still}
 use Rattle.lock_free.proofs.Unique.Whole.{given_done}
 use Rattle.lock_free.proofs.Steps.{indices_take}
 use Rattle.lock_free.proofs.mpmc.unique_index_set.UniqueIndexSet.release_raw_index.Goals as goal
@@ -46,3 +46,6 @@ returns-clause-steps c =
     let mine = c.args.pass.now in
     indices_take (gives_index c.args.index) (seen mine.seated) (seen c.drive.new.self) c.drive.result tt mine.idle _
     (mine.known ∙ ap (λ (z : SetId). z.capacity) c.requires.pass) (omega arith) c.drive.ensures.end
+
+pub invariant_of-pass-clause-knows : goal.invariant_of-pass-clause-knows
+invariant_of-pass-clause-knows c = knows_still c.args.pass.now.known c.drive.ensures.end.ran

@@ -19,5 +19,5 @@ invariant_of-self-clause-book c =
 pub returns-clause-goes : goal.returns-clause-goes
 returns-clause-goes c =
     let released = c.release_raw_index in
-    set_goes c.args.self.now.pass released.new.pass c.args.self.now.pass.known released.ensures.same
+    set_goes c.args.self.now.pass released.new.pass released.ensures.same
     (begins_before _ _ _ _ (view c.args.self.now.pass) (view released.new.pass) released.ensures.given.called)

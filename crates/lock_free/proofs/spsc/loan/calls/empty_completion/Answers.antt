@@ -1,6 +1,5 @@
-use Rattle.lock_free.proofs.Names.{rules, ap, refl, subst, one_word}
-use Rattle.model.specs.declared.turn.Kind.TheVariants as kinds
-use Rattle.lock_free_queues.specs.Queues.Calls.{QueueId, GoesOn, consumer_view}
+use Rattle.lock_free.proofs.Names.{rules, refl}
+use Rattle.lock_free_queues.specs.Queues.Calls.{consumer_view}
 use Rattle.model.specs.declared.event.Item.TheVariants.{Index}
 use Rattle.lock_free_queues.proofs.Queues.Ends.{has_popped, was_empty}
 use Rattle.lock_free.proofs.Loan.Contracts.{pops_none, pops_on, still_goes, is_emptied, none_waited}
@@ -13,17 +12,15 @@ pub loop-preserved : goal.loop-preserved
 loop-preserved g c = record {
   queue = search rules;
   popping =
-      pops_on one_word kinds.IndexQueue _ (consumer_view c.args.consumer.now) (consumer_view c.loop.consumer)
+      pops_on (consumer_view c.args.consumer.now) (consumer_view c.loop.consumer)
       (consumer_view c.pop.new.self) c.loop.invariant.popping c.pop.ensures.same.goes c.pop.result c.is_none.result
       c.is_none.ensures c.if-is_none.false (has_popped Index _ _ c.pop.result c.pop.ensures.popped c.pop.ensures.empty);
 }
 
 pub returns-then-is_none-clause-goes : goal.returns-then-is_none-clause-goes
 returns-then-is_none-clause-goes g c =
-    subst (λ n. GoesOn n (consumer_view c.args.consumer.now) (consumer_view c.pop.new.self))
-    (ap (λ (q : QueueId). q.capacity) c.loop.invariant.queue)
-    (still_goes one_word kinds.IndexQueue _ (consumer_view c.args.consumer.now) (consumer_view c.loop.consumer)
-    (consumer_view c.pop.new.self) c.loop.invariant.popping c.pop.ensures.same.goes)
+    still_goes (consumer_view c.args.consumer.now) (consumer_view c.loop.consumer)
+    (consumer_view c.pop.new.self) c.loop.invariant.popping c.pop.ensures.same.goes
 
 pub returns-then-is_none-clause-emptied : goal.returns-then-is_none-clause-emptied
 returns-then-is_none-clause-emptied g c =

@@ -1,6 +1,5 @@
-use Rattle.lock_free.proofs.Names.{ap, refl, subst, sym, ◌∙◌, ◌<◌, one_word}
-use Rattle.model.specs.declared.turn.Kind.TheVariants as kinds
-use Rattle.lock_free_queues.specs.Queues.Overflowing.{QueueId, GoesOn, consumer_queue, consumer_view}
+use Rattle.lock_free.proofs.Names.{ap, refl, subst, sym, ◌∙◌, ◌<◌}
+use Rattle.lock_free_queues.specs.Queues.Overflowing.{QueueId, consumer_queue, consumer_view}
 use Rattle.model.specs.declared.event.Item.TheVariants.{Index}
 use Rattle.lock_free_queues.proofs.Queues.Ends.{oldest_popped, has_found_none}
 use Rattle.lock_free.proofs.Loan.Contracts.{pops_none, pops_on, still_goes, is_emptied}
@@ -19,7 +18,7 @@ loop-preserved g c =
     record {
       queue = c.pop.ensures.same.queue ∙ c.loop.invariant.queue;
       popping = λ wide. (let some : 0 < (consumer_queue c.loop.receiver).capacity = subst (λ n. 0 < n) (sym room) wide in
-          pops_on one_word kinds.Overflow _ (consumer_view c.args.receiver.now) (consumer_view c.loop.receiver)
+          pops_on (consumer_view c.args.receiver.now) (consumer_view c.loop.receiver)
           (consumer_view c.pop.new.self) (c.loop.invariant.popping wide) (c.pop.ensures.same.goes some) c.pop.result c.is_none.result
           c.is_none.ensures c.if-is_none.false (oldest_popped Index _ _ c.pop.result c.pop.ensures.popped (c.pop.ensures.empty some)));
       none = λ none. c.pop.ensures.same.none (room ∙ none) ∙ c.loop.invariant.none none;
@@ -31,8 +30,7 @@ returns-then-is_none-clause-same g c =
     record {
       queue = c.pop.ensures.same.queue ∙ c.loop.invariant.queue;
       goes = λ wide. (let some : 0 < (consumer_queue c.loop.receiver).capacity = subst (λ n. 0 < n) (sym room) wide in
-          subst (λ n. GoesOn n (consumer_view c.args.receiver.now) (consumer_view c.pop.new.self)) room
-          (still_goes one_word kinds.Overflow _ (consumer_view c.args.receiver.now) (consumer_view c.loop.receiver)
+          (still_goes (consumer_view c.args.receiver.now) (consumer_view c.loop.receiver)
           (consumer_view c.pop.new.self) (c.loop.invariant.popping wide) (c.pop.ensures.same.goes some)));
       none = λ none. c.pop.ensures.same.none (room ∙ none) ∙ c.loop.invariant.none none;
     }

@@ -1,4 +1,4 @@
-use Rattle.lock_free.proofs.Names.{rules, ◌<◌, refl, sym, ap, subst, ◌∙◌, one_word, seen, IsHistory, Continues, At, arith}
+use Rattle.lock_free.proofs.Names.{rules, ◌<◌, refl, sym, ap, subst, ◌∙◌, one_word, seen, At, arith}
 use Rattle.model.specs.declared.turn.Kind.TheVariants as kinds
 use Rattle.lock_free.specs.Bits.Stages.{sets_place}
 use Rattle.lock_free.specs.Sets.Calls.{SetId}
@@ -24,10 +24,7 @@ returns-clause-same g c =
       set = search rules;
       share = search rules;
       party = search rules;
-      history = subst (λ n. IsHistory one_word kinds.Bits n (seen c.drive_on-end.new.self).seen) c.args.pass.now.known c.drive_on-end.ensures.end.history;
-      ran =
-          subst (λ n. Continues one_word kinds.Bits n (seen c.args.pass.now.seated) (seen c.drive_on-end.new.self))
-          c.args.pass.now.known c.drive_on-end.ensures.end.ran;
+      first = c.drive_on-end.ensures.end.ran.first;
       all = search rules;
     }
 

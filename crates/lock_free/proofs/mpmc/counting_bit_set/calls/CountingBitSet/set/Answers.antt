@@ -1,5 +1,4 @@
-use Rattle.lock_free.proofs.Names.{rules, ◌<◌, refl, sym, ap, subst, ◌∙◌, one_word, seen, IsHistory, Continues, arith}
-use Rattle.model.specs.declared.turn.Kind.TheVariants as kinds
+use Rattle.lock_free.proofs.Names.{rules, ◌<◌, refl, sym, ap, subst, ◌∙◌, seen, arith}
 use Rattle.lock_free.specs.Sets.Calls.{SetId}
 use Rattle.lock_free.specs.Counts.Contracts.{HasCounted, AnswersCount}
 use Rattle.lock_free.proofs.Counts.Counting.{count_keeps, count_first, counted, answers}
@@ -23,10 +22,7 @@ returns-clause-same c =
       set = search rules;
       share = search rules;
       party = search rules;
-      history = subst (λ n. IsHistory one_word kinds.Counts n (seen c.drive-old.new.self).seen) c.args.pass.now.known c.drive-old.ensures.end.history;
-      ran =
-          subst (λ n. Continues one_word kinds.Counts n (seen c.args.pass.now.seated) (seen c.drive-old.new.self))
-          c.args.pass.now.known c.drive-old.ensures.end.ran;
+      first = c.drive-old.ensures.end.ran.first;
       all = search rules;
     }
 
