@@ -97,8 +97,7 @@ impl<'a> LoanSender<'a> {
         }
     }
 
-    /// What its pass and its guards know are histories, as `history` of each says. They are histories of the set and of
-    /// both queues. It does nothing.
+    /// What its pass and its guards have seen are histories, as `history` of each says. It does nothing.
     pub fn history(&self)
         ensures set { Knows one_word kinds.Indices (set_of_sender self.now).capacity (pass_view self.now) }
         ensures submission { Knows one_word kinds.Overflow (submission_of self.now).capacity (submission_view self.now) }

@@ -14,8 +14,8 @@ use history::plays::{Both, Cut};
 use steps::words::Words;
 
 impl<T: Words> Pass<T> {
-    /// What the pass has seen are the events of the turns that it knows. These make a run of the machine, so it is a history
-    /// of a container of its capacity. It does nothing. This project's own.
+    /// What the pass has seen is the history of a run of the machine, whose turns it knows. It does nothing. This
+    /// project's own.
     pub fn history(&self)
         ensures run { Knows (code_of self.now) kinds.Container (container_of self.now).capacity (view self.now) }
         ensures history { HasHistory self.now }

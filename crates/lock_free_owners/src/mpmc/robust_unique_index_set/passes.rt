@@ -12,8 +12,8 @@ use super::drives::Look;
 use history::plays::{Both, Cut};
 
 impl Pass {
-    /// What the pass has seen are the events of the turns that it knows. These make a run of the machine, so it is a history
-    /// of a set of its capacity. It does nothing. This project's own.
+    /// What the pass has seen is the history of a run of the machine, whose turns it knows. It does nothing. This
+    /// project's own.
     pub fn history(&self)
         ensures run { Knows one_word kinds.Robust (set_of self.now).capacity (view self.now) }
         ensures history { HasHistory self.now }

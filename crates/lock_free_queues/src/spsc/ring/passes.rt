@@ -61,8 +61,8 @@ impl<E: Kind, T: Words> Held<E, T, RingRule<E, T>> {
 }
 
 impl<E: Kind, T: Words> Pass<E, T> {
-    /// What the pass has seen are the events of the turns that it knows. These make a run of the machine, so it is a history
-    /// of a queue of its kind and capacity. It does nothing. This project's own.
+    /// What the pass has seen is the history of a run of the machine, whose turns it knows. It does nothing. This
+    /// project's own.
     pub fn history(&self)
         ensures run { Knows (code_of self.now.token) (machine_kind E.KIND) (queue_of self.now).capacity (view self.now) }
         ensures history { HasHistory (code_of self.now.token) E.KIND (queue_of self.now).capacity (view self.now) }

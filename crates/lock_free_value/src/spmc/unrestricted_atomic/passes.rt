@@ -52,8 +52,8 @@ impl<T: Words> Held<T, ValueRule<T>> {
 }
 
 impl<T: Words> Pass<T> {
-    /// What the pass has seen are the events of the turns that it knows. These make a run of the machine, so it is a history
-    /// of a value. It does nothing. This project's own.
+    /// What the pass has seen is the history of a run of the machine, whose turns it knows. It does nothing. This
+    /// project's own.
     pub fn history(&self)
         ensures run { Knows (code_of self.now.token) kinds.Atomic 1 (view self.now) }
         ensures history { HasHistory (code_of self.now.token) (view self.now) }

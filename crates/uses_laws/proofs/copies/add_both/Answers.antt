@@ -19,7 +19,7 @@ returns g c =
       apart = c.calls_that_lock_are_apart.ensures;
     }
     in
-    whole_after laws (code_of between) (container_of between).capacity (view old) (view between) (view new) c.requires.calm
+    whole_after laws (code_of between) (container_of new).capacity (view old) (view between) (view new) c.requires.calm
     (record { value = c.args.first; owner = c.args.owner }) (record { value = c.args.second; owner = c.args.owner })
     (placed c.add-one.result) (placed c.add-two.result) c.requires.idle c.add-one.ensures.same.idle
     c.add-one.ensures.added c.add-two.ensures.added (c.add-two.ensures.same.goes.all still) c.history.ensures.history

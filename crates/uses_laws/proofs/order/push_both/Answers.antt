@@ -1,4 +1,4 @@
-use Rattle.std.proofs.Common.{◌≡◌, ℕ, true, [], sym, ap, subst, append-nil}
+use Rattle.std.proofs.Common.{◌≡◌, ℕ, true, [], sym, ap, subst, ◌∙◌, append-nil}
 use Rattle.model.specs.declared.event.Answer.TheVariants.{Truth}
 use Rattle.model.specs.declared.event.Start.TheVariants.{Queues}
 use Rattle.model.specs.declared.families.queues.QueueKind.TheVariants.{IndexQueue}
@@ -30,8 +30,8 @@ returns c both =
     let before =
     c.calls_are_in_order.ensures one.by two.by (Queues (PushIndex first)) (Queues (PushIndex second)) (Truth true) (Truth true)
     old between between new new.seen x y (record { rest = []; is = sym (append-nil between.seen) }) in
-    let size : (producer_queue c.push.new.self).capacity ≡ (producer_queue start).capacity =
-    ap (λ (z : QueueId). z.capacity) c.push.ensures.same.queue in
+    let size : (producer_queue c.push-taken.new.self).capacity ≡ (producer_queue start).capacity =
+    ap (λ (z : QueueId). z.capacity) (c.push-taken.ensures.same.queue ∙ c.push.ensures.same.queue) in
     let history : HasHistory (producer_queue start).capacity new = subst (λ n. HasHistory n new) size c.history.ensures.history in
     let order = c.histories_are_linearizable.ensures one_word IndexQueue (producer_queue start).capacity new history in
     pushed_in_order (producer_queue start).capacity first second one.by two.by old between new new.seen order x y before
