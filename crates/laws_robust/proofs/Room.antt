@@ -61,7 +61,7 @@ low_is : (k : ℕ) → k ≤ locked → nat_lt locked k ≡ false
 low_is k e = grind (arith, nat_tests)
 
 -- a raise leaves less
-rises : (k : ℕ) → (k == locked) ≡ false → room (one_more k) + 1 ≤ room k
+pub rises : (k : ℕ) → (k == locked) ≡ false → room (one_more k) + 1 ≤ room k
 rises k other = go (nat_lt locked k) refl
   where
     next_low : one_more k ≤ locked
@@ -77,7 +77,7 @@ rises k other = go (nat_lt locked k) refl
         rw (low, t) (omega arith)
 
 -- and a lock leaves none
-shuts : (k : ℕ) → (k == locked) ≡ false → room locked + 1 ≤ room k
+pub shuts : (k : ℕ) → (k == locked) ≡ false → room locked + 1 ≤ room k
 shuts k other = go (nat_lt locked k) refl
   where
     go : (t : Bool) → nat_lt locked k ≡ t → room locked + 1 ≤ room k
@@ -88,7 +88,7 @@ shuts k other = go (nat_lt locked k) refl
         let less : k < locked = omega (arith, ne) in
         rw t (omega arith)
 
-up : (a b k : ℕ) → a + 1 ≤ b → a * k + k ≤ b * k
+pub up : (a b k : ℕ) → a + 1 ≤ b → a * k + k ≤ b * k
 up a b k le = let paid = worth (a + 1) b k le in omega arith
 
 module _ (c : ℕ) where
@@ -161,10 +161,10 @@ module _ (c n new : ℕ) where
   abbrev pub Less : ℕ → ℕ → ℕ → Type 0
   Less steps was next = ((new ≡ n) × (next + steps ≤ was)) ⊎ (room new + 1 ≤ room n)
 
-  abbrev StaysOrMoves : Type 0
+  abbrev pub StaysOrMoves : Type 0
   StaysOrMoves = (new ≡ n) ⊎ (room new + 1 ≤ room n)
 
-  less_by : (steps was next : ℕ) → next + steps ≤ was → StaysOrMoves → Less steps was next
+  pub less_by : (steps was next : ℕ) → next + steps ≤ was → StaysOrMoves → Less steps was next
   less_by steps was next le (inl same) = inl (same, le)
   less_by steps was next le (inr moved) = inr moved
 
@@ -173,11 +173,11 @@ module _ (c n new : ℕ) where
 
   -- ---- the parts
 
-  abbrev RaiseTo : raises.Raise → After raises.Raise ReleaseState → Type 0
+  abbrev pub RaiseTo : raises.Raise → After raises.Raise ReleaseState → Type 0
   RaiseTo raise (GoOn next) = (new ≡ n) × (raise_left n next + 1 ≤ raise_left n raise)
   RaiseTo raise (Done state) = StaysOrMoves
 
-  raise_to : (raise : raises.Raise) → RaiseAt raise → new ≡ raise_then raise n → RaiseTo raise (raise_after raise n)
+  pub raise_to : (raise : raises.Raise) → RaiseAt raise → new ≡ raise_then raise n → RaiseTo raise (raise_after raise n)
   raise_to raises.TheVariants.LoadsCounter at is = go (n == locked) refl (n == greatest) refl
     where
       go : (t : Bool) → (n == locked) ≡ t → (u : Bool) → (n == greatest) ≡ u → RaiseTo raises.TheVariants.LoadsCounter (raise_sees n)
@@ -230,7 +230,7 @@ module _ (c n new : ℕ) where
           rw s (inr moved)
       go false s = let same : new ≡ n = rw s at is in rw s (same, rw s (omega arith))
 
-  abbrev LockTo : locks.Lock → After locks.Lock ReleaseState → Type 0
+  abbrev pub LockTo : locks.Lock → After locks.Lock ReleaseState → Type 0
   LockTo lock (GoOn next) = Less 1 (lock_left c n lock) (lock_left c n next)
   LockTo lock (Done state) = StaysOrMoves
 
@@ -249,7 +249,7 @@ module _ (c n new : ℕ) where
       go true z false g (inl h) = let both : false ≡ true = sym g ∙ h.1 in absurd (cc)
       go true z false g (inr h) = rw (z, g) (inr h)
 
-  lock_to : (lock : locks.Lock) (cell : ℕ) → LockAt lock → new ≡ lock_then lock n → LockTo lock (lock_after c lock (lock_old lock n cell))
+  pub lock_to : (lock : locks.Lock) (cell : ℕ) → LockAt lock → new ≡ lock_then lock n → LockTo lock (lock_after c lock (lock_old lock n cell))
   lock_to (locks.TheVariants.Counts count) cell at is = counted_to count (count_after c count (count_old count n cell)) (count_to count cell at is)
   lock_to (locks.TheVariants.ExchangesCounter k) cell at is = go (n == k) refl (n == locked) refl
     where

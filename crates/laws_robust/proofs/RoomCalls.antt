@@ -74,17 +74,17 @@ full : (c : ℕ) → 1 ≤ c → (c - 1) * (c - 1 + 7) + 2 * (c - 1) + 8 ≡ c *
 full c some = let e : c - 1 + 1 ≡ c = omega arith in subst (λ m. (c - 1) * (c - 1 + 7) + 2 * (c - 1) + 8 ≡ m * (m + 7)) e (square (c - 1))
 
 module _ (c now : ℕ) where
-  raise_most : (raise : raises.Raise) → raise_left now raise ≤ 1
+  pub raise_most : (raise : raises.Raise) → raise_left now raise ≤ 1
   raise_most raises.TheVariants.LoadsCounter = omega arith
   raise_most (raises.TheVariants.ExchangesCounter k) = one_of _ 0 1 1 (omega arith) (omega arith)
 
-  count_most : (count : counts.Count) → count_left c now count ≤ 2 * (c - 1) + 4
+  pub count_most : (count : counts.Count) → count_left c now count ≤ 2 * (c - 1) + 4
   count_most counts.TheVariants.LoadsCounter = omega arith
   count_most (counts.TheVariants.LoadsCell k index filled) =
       one_of (now == k) (c - (index + 1) + 1) (c - (index + 1) + (c - 1) + 4) (2 * (c - 1) + 4) (omega arith) (omega arith)
   count_most (counts.TheVariants.ExchangesCounter k filled) = one_of _ 0 (c - 1 + 3) (2 * (c - 1) + 4) (omega arith) (omega arith)
 
-  lock_most : (lock : locks.Lock) → lock_left c now lock ≤ 2 * (c - 1) + 4
+  pub lock_most : (lock : locks.Lock) → lock_left c now lock ≤ 2 * (c - 1) + 4
   lock_most (locks.TheVariants.Counts count) = count_most count
   lock_most (locks.TheVariants.ExchangesCounter k) = one_of _ 0 (c - 1 + 3) (2 * (c - 1) + 4) (omega arith) (omega arith)
 
@@ -95,7 +95,7 @@ module _ (c now : ℕ) where
   acquire_most (acquires.TheVariants.ChecksCounter k) = one_of _ 0 (c - 1 + 3) (2 * (c - 1) + 4) (omega arith) (omega arith)
   acquire_most (acquires.TheVariants.Raises index raise) = let most = raise_most raise in omega arith
 
-  release_most : (stage : releases.ReleaseStage) → release_left c now stage ≤ 2 * (c - 1) + 8
+  pub release_most : (stage : releases.ReleaseStage) → release_left c now stage ≤ 2 * (c - 1) + 8
   release_most releases.TheVariants.EmptiesCell = omega arith
   release_most (releases.TheVariants.Raises raise) = let most = raise_most raise in omega arith
   release_most (releases.TheVariants.Locks lock) = let most = lock_most lock in omega arith
@@ -178,13 +178,13 @@ module _ (T : Type 0) (c n new : ℕ) where
   call_to (calls.TheVariants.IsLocked run) cell at is = tt
 
 -- numbers
-pays_move : (a b each next other : ℕ) → a + 1 ≤ b → next + 1 ≤ each → a * each + next + 1 ≤ b * each + other
+pub pays_move : (a b each next other : ℕ) → a + 1 ≤ b → next + 1 ≤ each → a * each + next + 1 ≤ b * each + other
 pays_move a b each next other le small = let paid = worth (a + 1) b each le in omega arith
 
 keep : (x a s steps b : ℕ) → a + steps ≤ b → s ≤ steps → x + a + s ≤ x + b
 keep x a s steps b le low = omega arith
 
-top_most : (r top each o : ℕ) → r ≤ top → o ≤ each → r * each + o ≤ (top + 1) * each
+pub top_most : (r top each o : ℕ) → r ≤ top → o ≤ each → r * each + o ≤ (top + 1) * each
 top_most r top each o le low = let paid = worth r top each le in omega arith
 
 -- ---- the measure

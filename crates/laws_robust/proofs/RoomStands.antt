@@ -1,11 +1,11 @@
 -- Where each call of a robust index set may stand, so that the measure of the room speaks of it: a counter that it keeps is not
 -- that of the lock.
-use Rattle.std.proofs.Common.{◌≡◌, ℕ, ◌≤◌, ◌==◌, Bool, true, false, refl, arith}
+use Rattle.std.proofs.Common.{◌≡◌, ℕ, ◌≤◌, ◌==◌, inl, inr, Bool, true, false, refl, sym, ◌∙◌, arith}
 use Rattle.steps.specs.Indices.Robust.Acquire.{Acquired, acquire_raised, acquire_takes}
 use Rattle.steps.specs.Indices.Robust.Find.{find_takes}
 use Rattle.steps.specs.Indices.Robust.Looks.{borrowed_counted}
 use Rattle.steps.specs.Indices.Robust.Recover.{recover_comes_to, recover_raised, recover_locked, recover_takes}
-use Rattle.steps.specs.Indices.Robust.Parts.{greatest, raise_after, count_after, lock_counted, lock_after}
+use Rattle.steps.specs.Indices.Robust.Parts.{greatest, locked, one_more, raise_after, count_after, lock_counted, lock_after}
 use Rattle.steps.specs.Indices.Robust.Release.{Released, release_raised, release_locked, release_takes}
 use Rattle.steps.specs.declared.ask.After.{After}
 use Rattle.steps.specs.declared.ask.After.TheVariants.{GoOn, Done}
@@ -30,9 +30,10 @@ use Rattle.model.specs.declared.families.indices.robust.calls.RobustFlight as ca
 use Rattle.model.specs.Families.{ask_of}
 use Rattle.model.specs.Families.Indices.Robust.Calls.{want}
 use Rattle.model.specs.Turns.{step_count}
+use Rattle.laws_robust.proofs.Counter.{tested, raise_then, count_then, lock_then, acquire_then, release_then}
 use Rattle.laws_robust.proofs.Measured.{acquire_left, find_left, count_left}
 use Rattle.laws_robust.proofs.Room.{release_left, recover_left, RaiseAt, CountAt, LockAt, AcquireAt, ReleaseAt, RecoverAt}
-use Rattle.laws_robust.proofs.Room.{recover_steps, find_steps}
+use Rattle.laws_robust.proofs.Room.{recover_steps, find_steps, rises, shuts, StaysOrMoves}
 
 -- ---- how many steps a call takes at most before its last one, while the counter stays
 
@@ -62,6 +63,56 @@ steps_one x0 = grind arith
 
 pub steps_are : (flight : RobustFlight) → step_count (ask_of (want flight)) ≤ robust_steps flight
 steps_are x0 = grind arith
+
+-- ---- the counter stays at a step, or has less room
+
+module _ (c n new : ℕ) where
+  pub raise_moves : (raise : raises.Raise) → RaiseAt raise → new ≡ raise_then raise n → StaysOrMoves c n new
+  raise_moves raises.TheVariants.LoadsCounter at is = inl is
+  raise_moves (raises.TheVariants.ExchangesCounter k) at is = go (n == k) refl
+    where
+      go : (s : Bool) → (n == k) ≡ s → StaysOrMoves c n new
+      go true s =
+          let same = tested n k s in
+          let next : new ≡ one_more k = rw s at is in
+          inr (rw (next, same) (rises k at))
+      go false s = let same : new ≡ n = rw s at is in inl same
+
+  pub count_moves : (count : counts.Count) → CountAt count → new ≡ count_then count n → StaysOrMoves c n new
+  count_moves counts.TheVariants.LoadsCounter at is = inl is
+  count_moves (counts.TheVariants.LoadsCell k index filled) at is = inl is
+  count_moves (counts.TheVariants.ExchangesCounter k filled) at is = raise_moves (raises.TheVariants.ExchangesCounter k) at is
+
+  pub lock_moves : (lock : locks.Lock) → LockAt lock → new ≡ lock_then lock n → StaysOrMoves c n new
+  lock_moves (locks.TheVariants.Counts count) at is = count_moves count at is
+  lock_moves (locks.TheVariants.ExchangesCounter k) at is = go (n == k) refl (n == locked) refl
+    where
+      go : (s : Bool) → (n == k) ≡ s → (t : Bool) → (n == locked) ≡ t → StaysOrMoves c n new
+      go true s true t =
+          let shut : new ≡ locked = rw s at is in
+          inl (shut ∙ sym (tested n locked t))
+      go true s false t =
+          let shut : new ≡ locked = rw s at is in
+          inr (rw shut (shuts n t))
+      go false s t e = let same : new ≡ n = rw s at is in inl same
+
+  pub acquire_moves : (stage : acquires.AcquireStage) → AcquireAt stage → new ≡ acquire_then stage n → StaysOrMoves c n new
+  acquire_moves acquires.TheVariants.LoadsCounter at is = inl is
+  acquire_moves (acquires.TheVariants.FillsCell k index) at is = inl is
+  acquire_moves (acquires.TheVariants.ChecksCounter k) at is = go (n == k) refl
+    where
+      go : (s : Bool) → (n == k) ≡ s → StaysOrMoves c n new
+      go true s =
+          let same = tested n k s in
+          let next : new ≡ k = rw s at is in
+          inl (next ∙ sym same)
+      go false s = let same : new ≡ n = rw s at is in inl same
+  acquire_moves (acquires.TheVariants.Raises index raise) at is = raise_moves raise at is
+
+  pub release_moves : (stage : releases.ReleaseStage) → ReleaseAt stage → new ≡ release_then stage n → StaysOrMoves c n new
+  release_moves releases.TheVariants.EmptiesCell at is = inl is
+  release_moves (releases.TheVariants.Raises raise) at is = raise_moves raise at is
+  release_moves (releases.TheVariants.Locks lock) at is = lock_moves lock at is
 
 -- ---- no counter that a call keeps becomes that of the lock
 

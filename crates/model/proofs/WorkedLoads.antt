@@ -1,5 +1,5 @@
 -- Loads at small sizes, and the calls that are under way in a small machine.
-use Rattle.std.proofs.Common.{◌≡◌, ℕ, Option, Some, None, List, [], ◌∷◌, ◌++◌, refl}
+use Rattle.std.proofs.Common.{◌≡◌, ◌<◌, ◌≤◌, ℕ, ◌+◌, ◌*◌, ◌^◌, Option, Some, None, List, [], ◌∷◌, ◌++◌, refl, arith}
 use Rattle.model.specs.declared.event.Start as starts
 use Rattle.model.specs.declared.families.queues.QueueStart as queues
 use Rattle.model.specs.declared.turn.Kind.TheVariants.{IndexQueue, Overflow, Queue, Atomic, Bits, Counts, Indices}
@@ -10,9 +10,8 @@ use Rattle.model.specs.LockFree.{Bound, lock_free_bound, default_bound, default_
 use Rattle.model.specs.Turns.{run_on, after_turns}
 use Rattle.model.specs.World.{Trace, opening}
 use Rattle.model.proofs.Runs.{nexts, begins}
-use Rattle.model.proofs.WorkedLockFree.{from, full}
-use Rattle.std.proofs.Common.{◌*◌, ◌+◌, ◌^◌}
-use Rattle.model.specs.Loads.{begins_in, pending, load}
+use Rattle.model.proofs.WorkedLockFree.{from, full, one_word_codes, all_allowed, all_below}
+use Rattle.model.specs.Loads.{EndsLoad, begins_in, pending, load}
 use Rattle.model.specs.Fair.{own_steps}
 
 abbrev at : Option Bound → ℕ → ℕ → ℕ → ℕ → Option ℕ
@@ -67,6 +66,14 @@ own_four = (refl, refl)
 
 push_met : (steps_in (from Overflow 1 1 full) (nexts 0 6) ≡ 6) × (at (lock_free_bound Overflow) 1 1 1 1 ≡ Some 6)
 push_met = (refl, refl)
+
+-- so no bound below 5 will do there
+no_less : (bound : Bound) → bound 1 1 1 < 5 → EndsLoad ℕ Overflow bound → ⊥
+no_less bound few loads =
+    let most : 6 ≤ 1 * (bound 1 1 1 + 1) =
+    loads (from Overflow 1 1 full) refl (record { coded = one_word_codes; admitted = refl; turns = full; is = refl }) 1 (nexts 0 6)
+    (all_allowed (from Overflow 1 1 full) (nexts 0 6) refl) (all_below 1 (nexts 0 6) refl) in
+    absurd (omega arith)
 
 push_ends : pending 1 (after_turns (from Overflow 1 1 full) (nexts 0 6)).world ≡ 0
 push_ends = refl
