@@ -50,26 +50,21 @@ module _ {T : Type 0} (how : Written T) (capacity : ℕ) where
 
   -- a value goes into its cell, and comes out of it, word by word
   abbrev pub stores : T → ℕ → ℕ → Stage T
-  stores value write word =
-      if nat_lt word how.size then PushStoresCell value write word else PushStoresWrite value write
+  stores value write word = if nat_lt word how.size then PushStoresCell value write word else PushStoresWrite value write
 
   abbrev pub loads : ℕ → List ℕ → Stage T
   loads read loaded = if nat_lt (length loaded) how.size then PopLoadsCell read loaded else PopStoresRead read loaded
 
   abbrev pub does : Stage T → ℕ × Operation × (ℕ → After (Stage T) (Answer T))
-  does (PushLoadsWrite value) =
-      (0, Load, λ old. if old == 2 ^ 64 - 1 then Done (Pushed false) else GoOn (PushLoadsRead value old))
-  does (PushLoadsRead value write) =
-      (1, Load, λ old. if is_full write old then Done (Pushed false) else GoOn (stores value write 0))
+  does (PushLoadsWrite value) = (0, Load, λ old. if old == 2 ^ 64 - 1 then Done (Pushed false) else GoOn (PushLoadsRead value old))
+  does (PushLoadsRead value write) = (1, Load, λ old. if is_full write old then Done (Pushed false) else GoOn (stores value write 0))
   does (PushStoresCell value write word) =
       (at write word, Store (slice_index (how.words_of value) word), λ old. GoOn (stores value write (word + 1)))
   does (PushStoresWrite value write) = (0, Store ((write + 1) % 2 ^ 64), λ old. Done (Pushed true))
   does PopLoadsRead = (1, Load, λ old. GoOn (PopLoadsWrite old))
-  does (PopLoadsWrite read) =
-      (0, Load, λ old. if capacity == 0 || old == read then Done (Popped None) else GoOn (loads read []))
+  does (PopLoadsWrite read) = (0, Load, λ old. if capacity == 0 || old == read then Done (Popped None) else GoOn (loads read []))
   does (PopLoadsCell read loaded) = (at read (length loaded), Load, λ old. GoOn (loads read (loaded ++ old ∷ [])))
-  does (PopStoresRead read loaded) =
-      (1, Store ((read + 1) % 2 ^ 64), λ old. Done (Popped (Some (how.value_of loaded))))
+  does (PopStoresRead read loaded) = (1, Store ((read + 1) % 2 ^ 64), λ old. Done (Popped (Some (how.value_of loaded))))
 
   -- write position, read position, a word 0 for each role, since it is taken, and the cells
   abbrev pub queue : Structure (Call T) (Stage T) (Answer T)
@@ -77,9 +72,7 @@ module _ {T : Type 0} (how : Written T) (capacity : ℕ) where
 
 abbrev pub listed : {T : Type 0} → ℕ → List T → Call T → Answer T × List T
 listed capacity items (Push value) =
-    if nat_lt (length items) capacity
-    then (Pushed true, items ++ value ∷ [])
-    else (Pushed false, items)
+    if nat_lt (length items) capacity then (Pushed true, items ++ value ∷ []) else (Pushed false, items)
 listed capacity items Pop = (Popped (slice_get items 0), drop 1 items)
 
 abbrev pub bounded_list : {T : Type 0} → ℕ → Object (Call T) (Answer T) (List T)

@@ -2,6 +2,7 @@
 pub mod Acts
 pub mod Ending
 pub mod Order
+pub mod Page
 pub mod Leases
 pub mod Sums
 pub mod Copies

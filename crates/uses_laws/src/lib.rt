@@ -9,6 +9,7 @@ pub mod drain;
 pub mod ending;
 pub mod leases;
 pub mod order;
+pub mod page;
 pub mod sole;
 pub mod totals;
 pub mod twice;

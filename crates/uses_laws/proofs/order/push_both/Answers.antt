@@ -1,10 +1,9 @@
-use Rattle.std.proofs.Common.{◌≡◌, ℕ, true, [], sym, ap, subst, ◌∙◌, append-nil}
+use Rattle.std.proofs.Common.{◌≡◌, true, [], sym, ap, subst, ◌∙◌, append-nil}
 use Rattle.model.specs.declared.event.Answer.TheVariants.{Truth}
 use Rattle.model.specs.declared.event.Start.TheVariants.{Queues}
 use Rattle.model.specs.declared.families.queues.QueueKind.TheVariants.{IndexQueue}
 use Rattle.model.specs.declared.families.queues.QueueStart.TheVariants.{PushIndex}
 use Rattle.lock_free.specs.Coding.{one_word}
-use Rattle.lock_free.specs.HistoryView.View.{View}
 use Rattle.lock_free.specs.Queues.Calls.{QueueId, producer_queue, producer_view, HasHistory}
 use Rattle.lock_free.specs.Queues.Item.TheVariants.{Index}
 use Rattle.lock_free.specs.Queues.Contracts.{HasPushed, push_events}
