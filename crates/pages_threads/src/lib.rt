@@ -16,8 +16,9 @@ use pages::{index_queue, overflowing_queue, queue_of_values, roles_change_hands,
 /// What a pass of real threads has seen of pushes and pops, or of stores and loads, invocations and responses alone and
 /// whoever made them, is the history of the page's machine over a list of turns (`known`): those of the table's one run that
 /// the pass knows of. What it sees later is the history over a list that begins with them (`later`), from call to call, and
-/// over splits and joins, since each of these leaves the pass with `Continues`. A push is by party 0 of the page, whoever
-/// holds the producer's role then, and a pop by party 1. A store is by party 0, and a load by the thread's own number and 1.
+/// over splits and joins: each of these leaves the turns that the pass knew as the first of those that it knows (`AreFirst`),
+/// and a pass's method `history` hands out `Knows`. A push is by party 0 of the page, whoever holds the producer's role then,
+/// and a pop by party 1. A store is by party 0, and a load by the thread's own number and 1.
 pub fn passes_run_the_pages<T>()
     ensures index { (capacity : ℕ) → PassesRun (index_page capacity) }
     ensures overflowing { (capacity : ℕ) → 0 < capacity → PassesRun (overflowing_page capacity) }

@@ -1,23 +1,22 @@
 use Rattle.model.specs.declared.families.queues.QueueKind.TheVariants.{IndexQueue, Overflow, Queue}
-use Rattle.model.specs.Coding.{one_word}
+use Rattle.laws_queues.proofs.Queues.Sound.{admitted_fits}
 use Rattle.pages.specs.IndexQueue.{bounded_list}
 use Rattle.pages.specs.OverflowingQueue.{overflowing_list}
 use Rattle.pages.specs.Queue as values
-use Rattle.pages.specs.QueueBridge.{code_of}
 use Rattle.pages.specs.Value.{register}
 use Rattle.pages_threads.specs.Known.{index_page, overflowing_page, queue_page, value_page}
-use Rattle.pages_threads.proofs.Passing.{linear, small_known}
+use Rattle.pages_threads.proofs.Passing.{linear}
 use Rattle.pages_threads.proofs.passes_are_linearizable.Goals as goal
 
 pub returns-clause-index : goal.returns-clause-index
 returns-clause-index g c capacity =
     linear (index_page capacity) (bounded_list capacity) (c.passes_run_the_pages.ensures.index capacity)
-    (λ v knows turns few. c.index_queue.ensures capacity turns (small_known IndexQueue one_word capacity v knows) few)
+    (λ v knows turns few. c.index_queue.ensures capacity turns (admitted_fits IndexQueue capacity knows.admitted) few)
 
 pub returns-clause-overflowing : goal.returns-clause-overflowing
 returns-clause-overflowing g c capacity more =
     linear (overflowing_page capacity) (overflowing_list capacity) (c.passes_run_the_pages.ensures.overflowing capacity more)
-    (λ v knows turns few. c.overflowing_queue.ensures capacity turns more (small_known Overflow one_word capacity v knows) few)
+    (λ v knows turns few. c.overflowing_queue.ensures capacity turns more (admitted_fits Overflow capacity knows.admitted) few)
 
 pub returns-clause-value : goal.returns-clause-value
 returns-clause-value g c =
@@ -26,4 +25,4 @@ returns-clause-value g c =
 pub returns-clause-values : goal.returns-clause-values
 returns-clause-values g c how capacity =
     linear (queue_page how capacity) (values.bounded_list capacity) (c.passes_run_the_pages.ensures.values how capacity)
-    (λ v knows turns few. c.queue_of_values.ensures how capacity turns (small_known Queue (code_of how) capacity v knows) few)
+    (λ v knows turns few. c.queue_of_values.ensures how capacity turns (admitted_fits Queue capacity knows.admitted) few)
