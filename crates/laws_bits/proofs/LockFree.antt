@@ -355,7 +355,7 @@ module _ {T : Type 0} where
           dies = dies;
           decides = λ words start flight said at due. (let none = bits_ask start flight at in absurd (cc));
           most = bits_most c;
-          falls = λ words start flight at. bits_fall c code words c start flight at;
+          falls = λ words start flight at wide. bits_fall c code words c start flight at;
         }
 
     counts_begin : (start : Start T) (kept : Registry T) (flight : Flight T) → Kept kept → first_of Counts c start kept ≡ Some flight
@@ -381,7 +381,7 @@ module _ {T : Type 0} where
           dies = dies;
           decides = λ words start flight said at due. (let none = counts_ask start flight at in absurd (cc));
           most = λ words start flight at. (counts_most c start flight at, omega arith);
-          falls = λ words start flight at. counts_fall c code words c start flight at;
+          falls = λ words start flight at wide. counts_fall c code words c start flight at;
         }
 
   pub bits_keep_ending : KeepsEnding T Bits (λ n capacity size. stretch n (max 1 (elements capacity - 1)) (capacity + 2))

@@ -38,7 +38,13 @@ use Rattle.model.specs.LockFree.{KeepsEndingOf, IsDefault, default_container_bou
 use Rattle.model.specs.Turns.{number_of}
 use Rattle.model.specs.World.{capacity_error}
 use Rattle.model.proofs.LockFree.Falls.{FallsIn, StepFallsBy}
-use Rattle.model.proofs.LockFree.Own.{OwnLaws, OwnAfter, KnownAfter, Lasts, keeps_ending_of}
+use Rattle.model.proofs.LockFree.Own.{OwnLaws, OwnAfter, KnownAfter, Lasts, keeps_ending_by}
+use Rattle.model.proofs.LockFree.Weighed.{KeepsEndingBy}
+use Rattle.model.proofs.Rows.{IsPossible, possible_on}
+use Rattle.model.specs.Refusals.{call_refusal}
+use Rattle.model.specs.World.{World}
+use Rattle.model.specs.declared.turn.Refusal.{Refusal}
+use Rattle.model.specs.declared.turn.Turn.{Turn}
 use Rattle.model.proofs.Parties.{found_put_same, found_put_other}
 use Rattle.laws_robust.proofs.Opening.{admitted_is}
 use Rattle.laws_container.proofs.MeasuredCalls.{RemoveStands, ReplaceStands, CallStands}
@@ -52,7 +58,7 @@ use Rattle.laws_container.proofs.Standing.{add_at, remove_at, replace_at, find_a
 -- ---- where a call goes on, it stands there
 
 module _ {T : Type 0} (code : Coding T) (c : ℕ) where
-  abbrev StandsAfter : After (ContainerFlight T) (Answer T) → Type 0
+  abbrev pub StandsAfter : After (ContainerFlight T) (Answer T) → Type 0
   StandsAfter (GoOn flight) = CallStands c flight
   StandsAfter (Done answer) = Unit {0}
 
@@ -81,7 +87,7 @@ module _ {T : Type 0} (code : Coding T) (c : ℕ) where
   first_stands container_starts.TheVariants.IsEmpty such = refl
   first_stands container_starts.TheVariants.IsLocked such = tt
 
-  call_goes : (state : Option (ContainerState T)) (flight : ContainerFlight T) (old : ℕ) → CallStands c flight → StandsAfter (after code state flight old)
+  pub call_goes : (state : Option (ContainerState T)) (flight : ContainerFlight T) (old : ℕ) → CallStands c flight → StandsAfter (after code state flight old)
   call_goes x0 x1 x2 x3 = grind (arith, nat_tests)
 
   -- ---- a party that looks has a state
@@ -113,7 +119,7 @@ module _ {T : Type 0} (code : Coding T) (c : ℕ) where
   looks_has p q call old states None found has = has
   looks_has p q call old states (Some state) found has = set_has p q _ state states found has
 
-  steps_has : (p q : ℕ) (flight : ContainerFlight T) (old : ℕ) (states : List (ℕ × ContainerState T)) → has_state q states
+  pub steps_has : (p q : ℕ) (flight : ContainerFlight T) (old : ℕ) (states : List (ℕ × ContainerState T)) → has_state q states
       → has_state q (states_after code p flight old states)
   steps_has p q (calls.TheVariants.Look which call) old states has = looks_has p q call old states (state_of p states) refl has
   steps_has p q flight old states has = has
@@ -136,10 +142,10 @@ module _ {T : Type 0} (code : Coding T) (c : ℕ) where
       go true t = t
       go false t = ap is_some (found_put_same p (fresh code c) states)
 
-  abbrev in_states : List ℕ → List (ℕ × ContainerState T) → Registry T
+  abbrev pub in_states : List ℕ → List (ℕ × ContainerState T) → Registry T
   in_states dead states = registries.TheVariants.Container dead states
 
-  lasts_by : (dead later : List ℕ) (states then : List (ℕ × ContainerState T)) → ((q : ℕ) → has_state q states → has_state q then)
+  pub lasts_by : (dead later : List ℕ) (states then : List (ℕ × ContainerState T)) → ((q : ℕ) → has_state q states → has_state q then)
       → Lasts outline (in_states dead states) (in_states later then)
   lasts_by dead later states then more q (flights.TheVariants.Container (calls.TheVariants.Look which call)) known = more q known
   lasts_by dead later states then more q flight known = tt
@@ -151,14 +157,14 @@ module _ {T : Type 0} (code : Coding T) (c : ℕ) where
   first_known p dead states start = tt
 
   -- a call stays of its kind
-  call_known : (p : ℕ) (dead : List ℕ) (states : List (ℕ × ContainerState T)) (o : Option (ContainerState T)) (flight : ContainerFlight T) (old : ℕ)
+  pub call_known : (p : ℕ) (dead : List ℕ) (states : List (ℕ × ContainerState T)) (o : Option (ContainerState T)) (flight : ContainerFlight T) (old : ℕ)
       → Known p (in_states dead states) (flights.TheVariants.Container flight)
       → KnownAfter outline p (in_states dead states) (any_call code c [] (after code o flight old))
   call_known x0 x1 x2 x3 x4 x5 x6 = grind arith
 
   -- ---- each step of a call falls
 
-  call_falls : (words : List ℕ) (p : ℕ) (dead : List ℕ) (states : List (ℕ × ContainerState T)) (flight : ContainerFlight T) → CallStands c flight
+  pub call_falls : (words : List ℕ) (p : ℕ) (dead : List ℕ) (states : List (ℕ × ContainerState T)) (flight : ContainerFlight T) → CallStands c flight
       → Known p (in_states dead states) (flights.TheVariants.Container flight) → ShownBy code c words (state_of p states) flight
   call_falls words p dead states (calls.TheVariants.Add run) at known =
       subst (λ n. ShownBy code c words (state_of p states) (add_at n run.given.value run.given.owner run.call.stage)) (sym at.0)
@@ -196,7 +202,7 @@ module _ {T : Type 0} (code : Coding T) (c : ℕ) where
 
   -- ---- a decision
 
-  abbrev Decided : List ℕ → Option (ContainerState T) → ContainerFlight T → Type 0
+  abbrev pub Decided : List ℕ → Option (ContainerState T) → ContainerFlight T → Type 0
   Decided words state flight =
       (said : Bool) → is_question (want code flight) ≡ true
       → FallsIn (M code c words) words words 0 (flights.TheVariants.Container flight) (any_call code c words (after code state flight (number_of said)))
@@ -234,15 +240,15 @@ module _ {T : Type 0} (code : Coding T) (c : ℕ) where
   recover_decides words owner room (recovers.TheVariants.AddsChange end) said due = absurd (cc)
 
   -- a find or a recovery, which alone ask
-  abbrev may_ask : ContainerFlight T → Bool
+  abbrev pub may_ask : ContainerFlight T → Bool
   may_ask (calls.TheVariants.Find run) = true
   may_ask (calls.TheVariants.Recover run) = true
   may_ask flight = false
 
-  never_asks : (flight : ContainerFlight T) → is_question (want code flight) ≡ true → may_ask flight ≡ true
+  pub never_asks : (flight : ContainerFlight T) → is_question (want code flight) ≡ true → may_ask flight ≡ true
   never_asks x0 x1 = grind arith
 
-  call_decides : (words : List ℕ) (state : Option (ContainerState T)) (flight : ContainerFlight T) → CallStands c flight → Decided words state flight
+  pub call_decides : (words : List ℕ) (state : Option (ContainerState T)) (flight : ContainerFlight T) → CallStands c flight → Decided words state flight
   call_decides words state (calls.TheVariants.Find run) at said due =
       subst (λ n. Decided words state (find_at n run.given run.room run.call.stage)) (sym at)
       (λ s d. find_decides words run.given run.room run.call.stage s d) said due
@@ -303,7 +309,7 @@ module _ {T : Type 0} (code : Coding T) (c : ℕ) where
   is_first (starts.Container start) kept flight e = (start, refl, grind arith)
   is_first start kept flight e = absurd (grind arith)
 
-  knows : (start : Start T) (kept : Registry T) (flight : Flight T) (p : ℕ) → Kept kept
+  pub knows : (start : Start T) (kept : Registry T) (flight : Flight T) (p : ℕ) → Kept kept
       → first_of kinds.TheVariants.Container c start kept ≡ Some flight
       → Known p (kept_after_begin code c start p kept) flight × Lasts outline kept (kept_after_begin code c start p kept)
   knows start (registries.TheVariants.Container dead states) flight p held e =
@@ -319,7 +325,7 @@ module _ {T : Type 0} (code : Coding T) (c : ℕ) where
       first_call begun = first c begun
   knows start kept flight p held e = absurd held
 
-  dies : (kept : Registry T) (owner : ℕ) → Kept kept → Kept (kept_after_death kept owner) × Lasts outline kept (kept_after_death kept owner)
+  pub dies : (kept : Registry T) (owner : ℕ) → Kept kept → Kept (kept_after_death kept owner) × Lasts outline kept (kept_after_death kept owner)
   dies (registries.TheVariants.Container dead states) owner held = (tt, lasts_by dead (dead_with owner dead) states states (λ q has. has))
   dies kept owner held = absurd held
 
@@ -335,9 +341,15 @@ module _ {T : Type 0} (code : Coding T) (c : ℕ) where
         dies = dies;
         decides = decides;
         most = λ words start flight at. (let may = admitted_is c admitted in most c code.size may.0 coded.some words flight);
-        falls = falls;
+        falls = λ words p kept start flight at held known wide. falls words p kept start flight at held known;
       }
 
--- in runs of calls that do not lock
+-- in runs of calls that do not lock, whichever rows refuse turns
+pub container_keeps_ending_by : {T : Type 0} (refuses : World T → Turn T → Option Refusal)
+    → ((w : World T) (turn : Turn T) → refuses w turn ≡ None → IsPossible w turn)
+    → KeepsEndingBy refuses kinds.TheVariants.Container IsDefault default_container_bound
+container_keeps_ending_by {T} refuses possible =
+    keeps_ending_by (outline {T = T}) (λ code c coded admitted. laws code c coded admitted) refuses possible default_container_bound (λ code c n. refl)
+
 pub container_keeps_ending : {T : Type 0} → KeepsEndingOf T kinds.TheVariants.Container IsDefault default_container_bound
-container_keeps_ending {T} = keeps_ending_of (outline {T = T}) (λ code c coded admitted. laws code c coded admitted) default_container_bound (λ code c n. refl)
+container_keeps_ending {T} = container_keeps_ending_by {T = T} call_refusal possible_on

@@ -428,7 +428,7 @@ module _ {T : Type 0} (kd : QueueKind) where
         dies = dies code c;
         decides = λ words start flight said at due. (let none = asks code c start flight at in absurd (cc));
         most = most code c coded.some;
-        falls = falls code c coded.few (admitted_fits kd c admitted);
+        falls = λ words start flight at wide. falls code c coded.few (admitted_fits kd c admitted) words start flight at;
       }
 
   pub queue_keeps_ending : KeepsEnding T (machine_kind kd) (λ n capacity size. stretch n (changes_of kd) (alone_of size kd))

@@ -15,13 +15,18 @@ use Rattle.model.specs.declared.families.Registry.{Registry}
 use Rattle.model.specs.declared.families.indices.robust.calls.RobustFlight.{RobustFlight}
 use Rattle.model.specs.declared.families.indices.robust.calls.RobustFlight as calls
 use Rattle.model.specs.declared.turn.Kind as kinds
+use Rattle.model.specs.declared.turn.Refusal.{Refusal}
+use Rattle.model.specs.declared.turn.Turn.{Turn}
 use Rattle.model.specs.Coding.{Coding}
 use Rattle.model.specs.Families.{first_of, want_of, after_of, goes_of, step_of, is_question, kept_after_begin, kept_after_death}
 use Rattle.model.specs.LockFree.{KeepsEndingOf, IsDefault, default_bound}
+use Rattle.model.specs.Refusals.{call_refusal}
 use Rattle.model.specs.Turns.{number_of}
-use Rattle.model.specs.World.{capacity_error}
+use Rattle.model.specs.World.{World, capacity_error}
 use Rattle.model.proofs.LockFree.Falls.{FallsIn, StepFalls}
-use Rattle.model.proofs.LockFree.Own.{TableLaws, by_table, OwnAfter, keeps_ending_of}
+use Rattle.model.proofs.LockFree.Own.{TableLaws, by_table, OwnAfter, keeps_ending_by}
+use Rattle.model.proofs.LockFree.Weighed.{KeepsEndingBy}
+use Rattle.model.proofs.Rows.{IsPossible, possible_on}
 use Rattle.laws_robust.proofs.Opening.{admitted_is}
 use Rattle.laws_robust.proofs.Measured.{raise_left, acquire_left, find_left, recover_left, count_left, release_left, recover_pays, left_at, pays, measure}
 use Rattle.laws_robust.proofs.Measured.{At, Kept, outline, call_falls, call_decides}
@@ -123,11 +128,16 @@ module _ {T : Type 0} (code : Coding T) (c : ℕ) where
         dies = dies;
         decides = decides;
         most = λ words start flight at. (let may = admitted_is c admitted in most c may.0 (get_or words 0 0) flight);
-        falls = falls;
+        falls = λ words start flight at wide. falls words start flight at;
       }
 
--- in runs of calls that do not lock
-pub default_keeps_ending : {T : Type 0} → KeepsEndingOf T kinds.TheVariants.Robust IsDefault default_bound
-default_keeps_ending {T} =
-    keeps_ending_of (outline {T = T}) (λ code c coded admitted. by_table outline code c (laws code c admitted))
+-- in runs of calls that do not lock, whichever rows refuse turns
+pub default_keeps_ending_by : {T : Type 0} (refuses : World T → Turn T → Option Refusal)
+    → ((w : World T) (turn : Turn T) → refuses w turn ≡ None → IsPossible w turn)
+    → KeepsEndingBy refuses kinds.TheVariants.Robust IsDefault default_bound
+default_keeps_ending_by {T} refuses possible =
+    keeps_ending_by (outline {T = T}) (λ code c coded admitted. by_table outline code c (laws code c admitted)) refuses possible
     default_bound (λ code c n. refl)
+
+pub default_keeps_ending : {T : Type 0} → KeepsEndingOf T kinds.TheVariants.Robust IsDefault default_bound
+default_keeps_ending {T} = default_keeps_ending_by {T = T} call_refusal possible_on

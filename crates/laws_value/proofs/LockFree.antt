@@ -238,7 +238,7 @@ module _ {T : Type 0} where
         dies = dies;
         decides = λ words start flight said at due. (let none = asks code c start flight at in absurd (cc));
         most = λ words start flight at. (most code.size coded.some words flight, omega arith);
-        falls = falls code coded.few c;
+        falls = λ words start flight at wide. falls code coded.few c words start flight at;
       }
 
   pub value_keeps_ending : KeepsEnding T kinds.TheVariants.Atomic (λ n capacity size. stretch n 0 (2 * size + 1))

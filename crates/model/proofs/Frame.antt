@@ -7,7 +7,7 @@ use Rattle.model.proofs.Names.{after_turn, ap, append-nil, arith, ask_of, ask_of
 use Rattle.model.proofs.Names.{change_of, doing_of, events_of_answer, events_of_decision, events_of_next}
 use Rattle.model.proofs.Names.{events_of_step, false, first_of, first_row, flight_in, flight_of, fold, going_rows}
 use Rattle.model.proofs.Names.{has_owners, is_due, is_loan, is_none, is_question, kept_after_begin, kept_after_death}
-use Rattle.model.proofs.Names.{not, number_of, old_of, opened, opening, own_after, party_after, party_at_begin}
+use Rattle.model.proofs.Names.{number_of, old_of, opened, opening, own_after, party_after, party_at_begin}
 use Rattle.model.proofs.Names.{party_of, progress_after, queue_error, refl, span_of, step_count, step_in, subst, sym}
 use Rattle.model.proofs.Names.{true, want_of, words_after, ℕ, ⊎_elim, ◌++◌, ◌+◌, ◌-◌, ◌<◌, ◌^◌, ◌∙◌, ◌∷◌, ◌≡◌, ◌≢◌, ◌≤◌}
 use Rattle.model.specs.Parties.{put}
@@ -15,11 +15,8 @@ use Rattle.model.proofs.Openings.{opened_others}
 use Rattle.model.proofs.Parties.{party_put_same, party_put_other}
 use Rattle.model.proofs.Reached.{kept_by_runs, kept_by_runs_on}
 use Rattle.model.proofs.Readings.{AreRight, Each-append, AreOwn, AllFollow, span_of-own, span_of-other, span_of-death, spans_right}
+pub use Rattle.model.proofs.Rows.{is_true}
 use Rattle.model.proofs.Rows.{may_begin, may_die, must_be_due, next_passes, decision_passes, passes, MayBegin, MayDie}
-
-pub is_true : (b : Bool) → not b ≡ false → b ≡ true
-is_true true e = refl
-is_true false e = absurd (cc)
 
 -- what a family gives
 pub record Family (T : Type 0) : Type 1 where

@@ -28,6 +28,7 @@ pub mod WorkedBits
 pub mod WorkedContainer
 pub mod WorkedIndices
 pub mod WorkedLinearizable
+pub mod WorkedLoads
 pub mod WorkedLockFree
 pub mod WorkedLoan
 pub mod WorkedProgress

@@ -1,6 +1,9 @@
--- From a measure of each call under way to lock-freedom.
+-- From a measure of each call under way to lock-freedom, and from it to finite loads that end.
+pub mod Counted
+pub mod Fairly
 pub mod Falls
 pub mod Framed
+pub mod Loads
 pub mod Machines
 pub mod Measure
 pub mod Own
@@ -8,3 +11,4 @@ pub mod Stays
 pub mod Sums
 pub mod Walks
 pub mod Weighed
+pub mod Writes

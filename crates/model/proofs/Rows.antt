@@ -13,6 +13,10 @@ pub row_passed : (b : Bool) (r : Refusal) (rest : Option Refusal) → cond b (So
 row_passed true r rest e = absurd (cc)
 row_passed false r rest e = (refl, e)
 
+pub is_true : (b : Bool) → not b ≡ false → b ≡ true
+is_true true e = refl
+is_true false e = absurd (cc)
+
 pub not_none : {A : Type 0} → (o : Option A) → is_none o ≡ false → (x : A) × (o ≡ Some x)
 not_none None e = absurd (cc)
 not_none (Some x) e = (x, refl)
@@ -57,12 +61,34 @@ module _ {T : Type 0} where
   pub may_decide : (w : World T) (p : ℕ) (said : Bool) → call_refusal w (Decide p said) ≡ None → MayGoOn w p
   may_decide x0 x1 x2 x3 = grind (arith, row_passed, not_none)
 
+  pub must_be_due : (w : World T) (p : ℕ) (said : Bool) → call_refusal w (Decide p said) ≡ None → not (is_due w.coding (flight_in w p)) ≡ false
+  must_be_due x0 x1 x2 x3 = grind (arith, row_passed, is_none)
+
+  -- ---- what a turn has that is taken, whichever rows refuse others
+
+  -- a begin is of a call that there is, by a party that has none under way
+  pub record MayStart (w : World T) (p : ℕ) (start : Start T) : Type 0 where
+    pub free : flight_in w p ≡ None
+    pub call : is_none (first_of w.kind w.capacity start w.kept) ≡ false
+
+  abbrev pub IsPossible : World T → Turn T → Type 0
+  IsPossible w (Begin p start) = MayStart w p start
+  IsPossible w (Next p) = MayGoOn w p
+  IsPossible w (Decide p said) = MayGoOn w p × (is_due w.coding (flight_in w p) ≡ true)
+  IsPossible w (Die owner) = Unit {0}
+
+  pub possible_on : (w : World T) (turn : Turn T) → call_refusal w turn ≡ None → IsPossible w turn
+  possible_on w (Begin p start) e = let may = may_begin w p start e in record { free = may.free; call = may.call }
+  possible_on w (Next p) e = may_next w p e
+  possible_on w (Decide p said) e = (may_decide w p said e, is_true (is_due w.coding (flight_in w p)) (must_be_due w p said e))
+  possible_on w (Die owner) e = tt
+
+  pub possible : (w : World T) (turn : Turn T) → refusal_of w turn ≡ None → IsPossible w turn
+  possible w turn e = possible_on w turn (passes w turn e).on
+
   pub may_resume : (w : World T) (p : ℕ) (said : Option Bool) → call_refusal w (turn_of p said) ≡ None → MayGoOn w p
   may_resume w p None e = may_next w p e
   may_resume w p (Some said) e = may_decide w p said e
-
-  pub must_be_due : (w : World T) (p : ℕ) (said : Bool) → call_refusal w (Decide p said) ≡ None → not (is_due w.coding (flight_in w p)) ≡ false
-  must_be_due x0 x1 x2 x3 = grind (arith, row_passed, is_none)
 
   -- the family's rows of a call that goes on
   pub next_passes : (w : World T) (p : ℕ) → call_refusal w (Next p) ≡ None → first_row (going_rows w.coding w.kept (flight_in w p) None) ≡ None

@@ -14,7 +14,7 @@ use Rattle.model.specs.LockFree.{IsLockFree}
 use Rattle.model.proofs.Runs.{nexts, begins}
 use Rattle.model.proofs.WorkedProgress.{both_count, round}
 
-one_word_codes : IsCoding one_word
+pub one_word_codes : IsCoding one_word
 one_word_codes = record { some = omega arith; few = omega arith; sized = λ n. refl; given_back = λ n. refl }
 
 -- ---- none of the turns is refused, and each is of a party below n
@@ -45,7 +45,7 @@ both : (a b : Bool) → (a && b) ≡ true → (a ≡ true) × (b ≡ true)
 both true b e = (refl, e)
 both false b e = absurd (cc)
 
-all_allowed : (t : Trace ℕ) (turns : List (Turn ℕ)) → are_taken t turns ≡ true → AreAllowedOn t turns
+pub all_allowed : (t : Trace ℕ) (turns : List (Turn ℕ)) → are_taken t turns ≡ true → AreAllowedOn t turns
 all_allowed t [] e = tt
 all_allowed t (turn ∷ turns) e =
     let here = both (may (call_refusal t.world turn)) (are_taken (after_turn t turn) turns) e in
@@ -60,7 +60,7 @@ one_below n (Next p) e = low p n e
 one_below n (Decide p said) e = low p n e
 one_below n (Die owner) e = tt
 
-all_below : (n : ℕ) (turns : List (Turn ℕ)) → are_below n turns ≡ true → AllByRecursion (IsBelow n) turns
+pub all_below : (n : ℕ) (turns : List (Turn ℕ)) → are_below n turns ≡ true → AllByRecursion (IsBelow n) turns
 all_below n [] e = tt
 all_below n (turn ∷ turns) e =
     let here = both (is_below n turn) (are_below n turns) e in
@@ -93,7 +93,7 @@ no_less t kind c n steps ended turns h bound few free =
     (free t h.is h.reached n turns (all_allowed t turns h.taken) (all_below n turns h.below)
     (more_steps (bound n t.world.capacity t.world.coding.size) (steps_in t turns) steps h.many (rw (h.capacity, h.size) few)))
 
-abbrev from : Kind → ℕ → ℕ → List (Turn ℕ) → Trace ℕ
+abbrev pub from : Kind → ℕ → ℕ → List (Turn ℕ) → Trace ℕ
 from kind capacity parties before = run_on before (opening one_word kind capacity parties)
 
 -- ---- two lengths of an index queue, and of a queue, whose write position has moved
@@ -136,7 +136,7 @@ queue =
 
 -- ---- a push of an overflowing queue that is full
 
-abbrev full : List (Turn ℕ)
+abbrev pub full : List (Turn ℕ)
 full =
     begins 0 (starts.TheVariants.Queues queues.TheVariants.AcquireProducer) 1
     ++ (begins 0 (starts.TheVariants.Queues (queues.TheVariants.PushIndex 7)) 4

@@ -1,7 +1,9 @@
 pub mod Coding
+pub mod Fair
 pub mod Families
 pub mod Linearizable
 pub mod Linearized
+pub mod Loads
 pub mod LockFree
 pub mod Moments
 pub mod Objects

@@ -1,5 +1,5 @@
 -- Lock-freedom, of lists of turns: where so many parties take turns, after so many steps one of their calls has ended.
-use Rattle.std.specs.Prelude.{◌≡◌, ◌<◌, ◌≤◌, ℕ, ◌+◌, ◌-◌, ◌*◌, max, Option, Some, None, List, [], ◌∷◌}
+use Rattle.std.specs.Prelude.{◌≡◌, ◌<◌, ◌≤◌, ℕ, ◌+◌, ◌-◌, ◌*◌, ◌^◌, max, Option, Some, None, List, [], ◌∷◌}
 use Rattle.std.specs.List.{AllByRecursion, sum_by}
 use Rattle.steps.specs.Bits.Words.{elements}
 use Rattle.steps.specs.declared.indices.enums.ReleaseMode.TheVariants.{LockIfLastIndex}
@@ -125,6 +125,12 @@ lock_free_bound kind = None
 -- of a robust index set in which no call may lock
 abbrev pub default_bound : Bound
 default_bound n capacity size = stretch n capacity (4 * capacity + 1)
+
+-- Of a robust index set in all its runs: for each number that its counter can still take, and once more, what a call takes
+-- at most while the counter stays. As a number of steps it says little. It says that no calls make each other begin again
+-- for ever.
+abbrev pub room_bound : Bound
+room_bound n capacity size = stretch n 0 ((2 ^ 64 + 1) * (capacity * (capacity + 7) + 1))
 
 -- of a container in which no call may lock
 abbrev pub default_container_bound : Bound

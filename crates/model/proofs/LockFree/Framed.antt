@@ -9,6 +9,7 @@ use Rattle.model.proofs.LockFree.Measure.{Measure, Owed, Leaves, Harmless, Falls
 use Rattle.model.proofs.LockFree.Stays.{under_way}
 use Rattle.model.proofs.LockFree.Walks.{calls_end}
 use Rattle.model.proofs.Reached.{turn_making, reached_on_more}
+use Rattle.model.proofs.Rows.{possible_on}
 
 module _ {T : Type 0} (kind : Kind) (F : Coding T → ℕ → Family T) (M : ℕ → Measure T) where
   abbrev SoundThere : Trace T → Type 0
@@ -44,7 +45,7 @@ module _ {T : Type 0} (kind : Kind) (F : Coding T → ℕ → Family T) (M : ℕ
     there_sound : (c : ℕ) (t : Trace T) → IsThere c t → SoundThere t
     there_sound c t h = L.sound t h.is h.reached
 
-    owed : (c n : ℕ) → Owed (M c) (IsThere c) (IsBelow n)
+    owed : (c n : ℕ) → Owed (M c) call_refusal (IsThere c) (IsBelow n)
     owed c n =
         record {
           keeps = λ t turn e may h.
@@ -73,5 +74,5 @@ module _ {T : Type 0} (kind : Kind) (F : Coding T → ℕ → Family T) (M : ℕ
         let c = t.world.capacity in
         subst (λ b. AreWithinEnds b (steps_in t turns) (ends t.events) (ends (after_turns t turns).events))
         (sym (same c n t.world.coding.size))
-        (calls_end (M c) (IsThere c) (IsBelow n) (owed c n) n (λ turn may. may) t
+        (calls_end call_refusal possible_on (M c) (IsThere c) (IsBelow n) (owed c n) n (λ turn may. may) t
         (record { is = is; capacity = refl; reached = r }) turns allowed below)

@@ -12,6 +12,7 @@ use Rattle.model.proofs.Reached.{turn_making, kept_by_runs, reached_on_more, rea
 use Rattle.model.proofs.Rows.{row_passed, passes}
 use Rattle.model.specs.LockFree.{IsLockFree, IsLockFreeOf}
 use Rattle.model.specs.LockFree.{KeepsEndingOf, HasLockFreeRuns}
+use Rattle.model.specs.Loads.{EndsLoad, EndsLoadRuns}
 use Rattle.model.proofs.LockFree.Measure.{worth}
 
 past_none : (parties p : ℕ) → nat_le parties p ≡ false → p < parties
@@ -43,7 +44,7 @@ module _ {T : Type 0} where
   below_parties w (Decide p said) e = past_none w.parties p (row_passed (nat_le w.parties p) NoParty _ (row_passed (is_at_end w) AtEnd _ e).1).0
   below_parties w (Die owner) e = tt
 
-  all_allowed : (t : Trace T) (turns : List (Turn T)) (n : ℕ) → t.world.parties ≡ n → AreAllowed t turns
+  pub all_allowed : (t : Trace T) (turns : List (Turn T)) (n : ℕ) → t.world.parties ≡ n → AreAllowed t turns
       → AreAllowedOn t turns × AllByRecursion (IsBelow n) turns
   all_allowed t [] n same all = (tt, tt)
   all_allowed t (turn ∷ turns) n same all =
@@ -64,3 +65,9 @@ module _ {T : Type 0} where
       let allowed = all_allowed t turns t.world.parties refl all in
       let none : is_loan t.world.kind ≡ false = subst (λ k. is_loan k ≡ false) (sym is) no_loan in
       free t is (reached_on t none r) t.world.parties turns allowed.0 allowed.1 many
+
+  pub loads_in_runs : (kind : Kind) → is_loan kind ≡ false → (bound : Bound) → EndsLoad T kind bound → EndsLoadRuns T kind bound
+  loads_in_runs kind no_loan bound ends t is r turns all =
+      let allowed = all_allowed t turns t.world.parties refl all in
+      let none : is_loan t.world.kind ≡ false = subst (λ k. is_loan k ≡ false) (sym is) no_loan in
+      ends t is (reached_on t none r) t.world.parties turns allowed.0 allowed.1

@@ -1,7 +1,7 @@
 -- From a measure of each call to a bound of the steps between two ends.
 use Rattle.model.proofs.Names.{After, Answer, Ask, Begin, Bool, Die, Flight, GoOn, Going, List, None, Option}
-use Rattle.model.proofs.Names.{Party, Registry, Some, Start, Step, Trace, Turn, World, after_step, after_turn}
-use Rattle.model.proofs.Names.{answer_in, ap, arith, ask_of, call_refusal, cases_eq, change_of, doing_after, doing_of}
+use Rattle.model.proofs.Names.{Party, Refusal, Registry, Some, Start, Step, Trace, Turn, World, after_step, after_turn}
+use Rattle.model.proofs.Names.{answer_in, ap, arith, ask_of, cases_eq, change_of, doing_after, doing_of}
 use Rattle.model.proofs.Names.{ending_of, ends, events_of_step, flight_in, flight_of, is_question, kept_after_begin}
 use Rattle.model.proofs.Names.{kept_after_death, number_of, old_of, party_after, party_of, refl, step_count, step_in}
 use Rattle.model.proofs.Names.{stretch, true, want_of, words_after, ℕ, ⊎_elim, ◌*◌, ◌+◌, ◌-◌}
@@ -59,14 +59,14 @@ module _ {T : Type 0} (M : Measure T) where
   abbrev pub asked : World T → Flight T → Option Ask
   asked w flight = ask_of (want_of w.coding flight)
 
-  -- what a family owes of the machines of which it speaks, and of the turns that may be taken
-  pub record Owed (P : Trace T → Type 0) (May : Turn T → Type 0) : Type 0 where
-    pub keeps : (t : Trace T) (turn : Turn T) → call_refusal t.world turn ≡ None → May turn → P t → P (after_turn t turn)
+  -- what a family owes of the machines of which it speaks, and of the turns that may be taken and are not refused
+  pub record Owed (refuses : World T → Turn T → Option Refusal) (P : Trace T → Type 0) (May : Turn T → Type 0) : Type 0 where
+    pub keeps : (t : Trace T) (turn : Turn T) → refuses t.world turn ≡ None → May turn → P t → P (after_turn t turn)
     pub most : (t : Trace T) → P t → (p : ℕ) (flight : Flight T) → flight_in t.world p ≡ Some flight
         → (M.left t.world.words t.world.kept flight ≤ M.alone) × (M.pays flight ≤ M.changes)
-    pub begins : (t : Trace T) → P t → (p : ℕ) (start : Start T) → call_refusal t.world (Begin p start) ≡ None → May (Begin p start)
+    pub begins : (t : Trace T) → P t → (p : ℕ) (start : Start T) → refuses t.world (Begin p start) ≡ None → May (Begin p start)
         → Harmless t.world p t.world.words (kept_after_begin t.world.coding t.world.capacity start p t.world.kept)
-    pub dies : (t : Trace T) → P t → (owner : ℕ) → call_refusal t.world (Die owner) ≡ None → May (Die owner)
+    pub dies : (t : Trace T) → P t → (owner : ℕ) → refuses t.world (Die owner) ≡ None → May (Die owner)
         → (q : ℕ) (other : Flight T) → flight_in t.world q ≡ Some other
         → Leaves t.world t.world.words (kept_after_death t.world.kept owner) other
     pub step : (t : Trace T) → P t → (p : ℕ) (x : Party T) (flight : Flight T) (since : ℕ)

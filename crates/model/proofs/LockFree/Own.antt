@@ -1,25 +1,28 @@
 -- What holds of the machines of a family of which nothing has to be known but where each call under way may stand: every turn
 -- keeps it, and from a measure of those calls it follows that calls keep ending.
 use Rattle.model.proofs.Names.{After, AllByRecursion, Answer, AreWithinEnds, Ask, Begin, Bool, Bound, Coding, Decide}
-use Rattle.model.proofs.Names.{Die, Doing, Flight, GoOn, Going, IsBelow, IsCoding, IsReachedOn, KeepsEnding, Kind, List}
+use Rattle.model.proofs.Names.{Die, Doing, Flight, GoOn, Going, IsBelow, IsCoding, KeepsEnding, Kind, List}
 use Rattle.model.proofs.Names.{Next, None, Option, Over, Party, Refusal, Registry, Some, Start, Trace, Turn, World, []}
 use Rattle.model.proofs.Names.{after_answer, after_begin, after_decision, after_next, after_of, after_turn, after_turns}
 use Rattle.model.proofs.Names.{arith, ask_of, ask_of_doing, beside_of, call_refusal, capacity_error, cases_eq}
 use Rattle.model.proofs.Names.{change_of, doing_after, ends, first_of, flight_in, goes_of, is_question}
-use Rattle.model.proofs.Names.{kept_after_begin, kept_after_death, number_of, old_of, opening, opening_of, party_after}
-use Rattle.model.proofs.Names.{party_at_begin, party_of, refl, run_on, step_count, step_in, step_of, steps_in, stretch}
+use Rattle.model.proofs.Names.{kept_after_begin, kept_after_death, length, number_of, old_of, opening, opening_of, party_after}
+use Rattle.model.proofs.Names.{party_at_begin, party_of, refl, step_count, step_in, step_of, steps_in, stretch}
 use Rattle.model.proofs.Names.{subst, sym, true, unless_refused, want_of, words_after, world_after, ℕ, ⊎_elim, ◌+◌, ◌∙◌}
 use Rattle.model.proofs.Names.{◌∷◌, ◌≡◌, ◌≢◌, ◌≤◌}
 use Rattle.steps.specs.declared.ask.After.TheVariants.{Done}
-use Rattle.model.specs.LockFree.{KeepsEndingOf, BeginsSuch}
+use Rattle.model.specs.LockFree.{BeginsSuch}
 use Rattle.model.specs.Parties.{put}
-use Rattle.model.specs.Turns.{attempt_on}
+use Rattle.model.specs.Turns.{attempt_by, run_by, IsReachedBy}
+use Rattle.model.proofs.Counts.{as_long}
 use Rattle.model.proofs.LockFree.Falls.{falls_by, FallsIn, StepFalls, StepFallsBy}
 use Rattle.model.proofs.LockFree.Measure.{Measure, WordMeasure, of_words, Owed, FallsBy}
 use Rattle.model.proofs.LockFree.Stays.{under_way}
 use Rattle.model.proofs.LockFree.Walks.{calls_end}
+use Rattle.model.proofs.LockFree.Weighed.{KeepsEndingBy}
 use Rattle.model.proofs.Parties.{party_put_same, party_put_other}
 use Rattle.model.proofs.Reached.{turn_making}
+use Rattle.model.proofs.Rows.{IsPossible, possible_on}
 
 -- what is said of a family, for each coding and each capacity
 pub record Outline (T : Type 0) : Type 1 where
@@ -42,6 +45,10 @@ module _ {T : Type 0} (K : Outline T) where
   -- what is known by the one is known by the other
   abbrev pub Lasts : Registry T → Registry T → Type 0
   Lasts was now = (p : ℕ) (flight : Flight T) → K.Known p was flight → K.Known p now flight
+
+  -- the words are as many as at the opening
+  abbrev pub IsWide : Coding T → ℕ → List ℕ → Type 0
+  IsWide code c words = length words ≡ length ((opening_of K.kind).words code.size c)
 
   -- what it owes, where values are written so and this capacity is admitted
   pub record OwnLaws (code : Coding T) (c : ℕ) : Type 0 where
@@ -66,7 +73,8 @@ module _ {T : Type 0} (K : Outline T) where
     pub most : (words : List ℕ) (start : Start T) (flight : Flight T) → K.At code c start flight
         → ((K.measure code c).left words flight ≤ (K.measure code c).alone) × ((K.measure code c).pays flight ≤ (K.measure code c).changes)
     pub falls : (words : List ℕ) (p : ℕ) (kept : Registry T) (start : Start T) (flight : Flight T)
-        → K.At code c start flight → K.Kept kept → K.Known p kept flight → StepFallsBy (K.measure code c) code words p kept flight
+        → K.At code c start flight → K.Kept kept → K.Known p kept flight → IsWide code c words
+        → StepFallsBy (K.measure code c) code words p kept flight
 
   -- the same of a family whose tables see nothing of what is kept
   pub record TableLaws (code : Coding T) (c : ℕ) : Type 0 where
@@ -86,7 +94,7 @@ module _ {T : Type 0} (K : Outline T) where
         → is_question (want_of code flight) ≡ true → FallsIn (K.measure code c) words words 0 flight (after_of code flight (number_of said))
     pub most : (words : List ℕ) (start : Start T) (flight : Flight T) → K.At code c start flight
         → ((K.measure code c).left words flight ≤ (K.measure code c).alone) × ((K.measure code c).pays flight ≤ (K.measure code c).changes)
-    pub falls : (words : List ℕ) (start : Start T) (flight : Flight T) → K.At code c start flight
+    pub falls : (words : List ℕ) (start : Start T) (flight : Flight T) → K.At code c start flight → IsWide code c words
         → StepFalls (K.measure code c) code words flight
 
   pub by_table : (code : Coding T) (c : ℕ) → TableLaws code c → OwnLaws code c
@@ -108,10 +116,10 @@ module _ {T : Type 0} (K : Outline T) where
             subst (FallsIn (K.measure code c) words words 0 flight) (sym (L.told [] None p start flight (number_of said) kept at held).1)
             (L.decides words start flight said at due);
         most = L.most;
-        falls = λ words p kept start flight at held known.
+        falls = λ words p kept start flight at held known wide.
             (let ask = ask_of (want_of code flight) in
             subst (FallsIn (K.measure code c) words (words_after words ask) (step_count ask) flight)
-            (sym (L.told [] None p start flight (old_of words ask) kept at held).1) (L.falls words start flight at));
+            (sym (L.told [] None p start flight (old_of words ask) kept at held).1) (L.falls words start flight at wide));
       }
     where
       lasts : (was now : Registry T) → Lasts was now
@@ -135,6 +143,7 @@ module _ {T : Type 0} (K : Outline T) where
       pub coded : IsCoding w.coding
       pub admitted : capacity_error K.kind w.capacity ≡ None
       pub kept : K.Kept w.kept
+      pub wide : IsWide w.coding w.capacity w.words
       pub calls : (p : ℕ) → OwnParty w w.kept p (party_of p w.latest)
 
     laws_of : (w : World T) → IsOwn w → OwnLaws w.coding w.capacity
@@ -185,6 +194,7 @@ module _ {T : Type 0} (K : Outline T) where
           coded = h.coded;
           admitted = h.admitted;
           kept = stays.0;
+          wide = as_long w.words ask ∙ h.wide;
           calls =
               put_own w s.kept p (party_after x since w.changes (step_count ask) (change_of w.words ask) s) w.latest stays.1
               (doing_own w s.kept p x.start (w.changes + change_of w.words ask) (since + change_of w.words ask) s.after stays.1
@@ -217,6 +227,7 @@ module _ {T : Type 0} (K : Outline T) where
           coded = h.coded;
           admitted = h.admitted;
           kept = own.1 p;
+          wide = h.wide;
           calls =
               put_own w (kept_after_begin w.coding w.capacity start p w.kept) p (party_at_begin start flight w.changes) w.latest knows.1
               (own.0, knows.0) h.calls;
@@ -234,31 +245,19 @@ module _ {T : Type 0} (K : Outline T) where
           coded = h.coded;
           admitted = h.admitted;
           kept = dies.0;
+          wide = h.wide;
           calls = λ p. party_lasts w w.kept (kept_after_death w.kept owner) dies.1 p (party_of p w.latest) (h.calls p);
         }
 
     opens : (code : Coding T) (c parties : ℕ) → IsCoding code → capacity_error K.kind c ≡ None → IsOwn (opening code K.kind c parties).world
     opens code c parties coded admitted =
         let L = laws code c coded admitted in
-        record { kind = refl; coded = coded; admitted = admitted; kept = L.opens; calls = λ p. tt }
+        record { kind = refl; coded = coded; admitted = admitted; kept = L.opens; wide = refl; calls = λ p. tt }
 
     attempt_keeps : (t : Trace T) (turn : Turn T) → BeginsSuch K.Such turn → IsOwn t.world → (o : Option Refusal)
         → IsOwn (unless_refused t (after_turn t turn) o).world
     attempt_keeps t turn such h None = turn_keeps t.world turn such h
     attempt_keeps t turn such h (Some refusal) = h
-
-    run_keeps : (turns : List (Turn T)) (t : Trace T) → AllByRecursion (BeginsSuch K.Such) turns → IsOwn t.world → IsOwn (run_on turns t).world
-    run_keeps [] t such h = h
-    run_keeps (turn ∷ turns) t such h =
-        run_keeps turns (attempt_on t turn) such.1 (attempt_keeps t turn such.0 h (call_refusal t.world turn))
-
-    reached_own : (t : Trace T) → t.world.kind ≡ K.kind → (r : IsReachedOn t) → AllByRecursion (BeginsSuch K.Such) r.turns → IsOwn t.world
-    reached_own t is r such =
-        let w = t.world in
-        subst (λ (u : Trace T). IsOwn u.world) (sym r.is)
-        (run_keeps r.turns (opening w.coding w.kind w.capacity w.parties) such
-        (subst (λ kind. IsOwn (opening w.coding kind w.capacity w.parties).world) (sym is)
-        (opens w.coding w.capacity w.parties r.coded (subst (λ kind. capacity_error kind w.capacity ≡ None) is r.admitted))))
 
     -- ---- each call under way
 
@@ -292,7 +291,7 @@ module _ {T : Type 0} (K : Outline T) where
         let old = old_of w.words ask in
         let told = L.told w.words (beside_of w.words w.kept w.latest p) p x.start flight old w.kept at h.kept in
         falls_by (measure_of w) w p (words_after w.words ask) (step_in w p x flight old).kept (step_count ask) flight
-        (goes_of w.coding p flight old w.kept) (L.falls w.words p w.kept x.start flight at h.kept known) next (sym told ∙ e)
+        (goes_of w.coding p flight old w.kept) (L.falls w.words p w.kept x.start flight at h.kept known h.wide) next (sym told ∙ e)
 
     decision_falls : (w : World T) → IsOwn w → (p : ℕ) (x : Party T) (flight : Flight T) (said : Bool) → K.At w.coding w.capacity x.start flight
         → is_question (want_of w.coding flight) ≡ true → FallsBy (of_words (measure_of w)) w p x flight None (number_of said)
@@ -313,44 +312,60 @@ module _ {T : Type 0} (K : Outline T) where
     abbrev IsAt : Coding T → ℕ → Trace T → Type 0
     IsAt code c t = IsOwn t.world × (t.world.coding ≡ code) × (t.world.capacity ≡ c)
 
-    owed : (code : Coding T) (c n : ℕ) → Owed (measured_in code c) (IsAt code c) (May n)
-    owed code c n =
-        record {
-          keeps = λ t turn e may h.
-              (turn_keeps t.world turn may.1 h.0, (turn_making t.world turn).coding ∙ h.1, (turn_making t.world turn).capacity ∙ h.2);
-          most = λ t h p flight e.
-              (let L = laws_of t.world h.0 in
-              let there = stands t.world h.0 p flight e in
-              subst (λ z. ((K.measure z c).left t.world.words flight ≤ (K.measure z c).alone) × ((K.measure z c).pays flight ≤ (K.measure z c).changes)) h.1
-              (subst
-              (λ n. ((K.measure t.world.coding n).left t.world.words flight ≤ (K.measure t.world.coding n).alone)
-              × ((K.measure t.world.coding n).pays flight ≤ (K.measure t.world.coding n).changes)) h.2
-              (L.most t.world.words there.start flight there.at)));
-          begins = λ t h p start e may q ne other is. omega arith;
-          dies = λ t h owner e may q other is. omega arith;
-          step = λ t h p x flight since found doing.
-              (let ask = ask_of (want_of t.world.coding flight) in
-              let there = call_there t.world h.0 p x flight since found doing in
-              subst (λ z. FallsBy (measured_in z c) t.world p x flight ask (old_of t.world.words ask)) h.1
-              (subst (λ n. FallsBy (measured_in t.world.coding n) t.world p x flight ask (old_of t.world.words ask)) h.2
-              (table_falls t.world h.0 p x flight there.0 there.1)));
-          decision = λ t h p x flight since said found doing asks.
-              subst (λ z. FallsBy (measured_in z c) t.world p x flight None (number_of said)) h.1
-              (subst (λ n. FallsBy (measured_in t.world.coding n) t.world p x flight None (number_of said)) h.2
-              (decision_falls t.world h.0 p x flight said (call_there t.world h.0 p x flight since found doing).0 asks));
-        }
-
     -- the bound that the measure gives
     abbrev pub measured : Coding T → ℕ → ℕ → ℕ
     measured code c n = stretch n (K.measure code c).changes (K.measure code c).alone
 
-    pub keeps_ending_of : (bound : Bound) → ((code : Coding T) (c n : ℕ) → bound n c code.size ≡ measured code c n)
-        → KeepsEndingOf T K.kind K.Such bound
-    keeps_ending_of bound same t is r such_before n turns allowed below such =
-        let w = t.world in
-        subst (λ b. AreWithinEnds b (steps_in t turns) (ends t.events) (ends (after_turns t turns).events)) (sym (same w.coding w.capacity n))
-        (calls_end (measured_in w.coding w.capacity) (IsAt w.coding w.capacity) (May n) (owed w.coding w.capacity n) n
-        (λ turn may. may.0) t (reached_own t is r such_before, refl, refl) turns allowed (both_may n turns below such))
+    -- ---- every run of turns that are not refused
+
+    module _ (refuses : World T → Turn T → Option Refusal) (possible : (w : World T) (turn : Turn T) → refuses w turn ≡ None → IsPossible w turn) where
+      run_keeps : (turns : List (Turn T)) (t : Trace T) → AllByRecursion (BeginsSuch K.Such) turns → IsOwn t.world → IsOwn (run_by refuses turns t).world
+      run_keeps [] t such h = h
+      run_keeps (turn ∷ turns) t such h =
+          run_keeps turns (attempt_by refuses t turn) such.1 (attempt_keeps t turn such.0 h (refuses t.world turn))
+
+      reached_own : (t : Trace T) → t.world.kind ≡ K.kind → (r : IsReachedBy refuses t) → AllByRecursion (BeginsSuch K.Such) r.turns → IsOwn t.world
+      reached_own t is r such =
+          let w = t.world in
+          subst (λ (u : Trace T). IsOwn u.world) (sym r.is)
+          (run_keeps r.turns (opening w.coding w.kind w.capacity w.parties) such
+          (subst (λ kind. IsOwn (opening w.coding kind w.capacity w.parties).world) (sym is)
+          (opens w.coding w.capacity w.parties r.coded (subst (λ kind. capacity_error kind w.capacity ≡ None) is r.admitted))))
+
+      owed : (code : Coding T) (c n : ℕ) → Owed (measured_in code c) refuses (IsAt code c) (May n)
+      owed code c n =
+          record {
+            keeps = λ t turn e may h.
+                (turn_keeps t.world turn may.1 h.0, (turn_making t.world turn).coding ∙ h.1, (turn_making t.world turn).capacity ∙ h.2);
+            most = λ t h p flight e.
+                (let L = laws_of t.world h.0 in
+                let there = stands t.world h.0 p flight e in
+                subst (λ z. ((K.measure z c).left t.world.words flight ≤ (K.measure z c).alone) × ((K.measure z c).pays flight ≤ (K.measure z c).changes)) h.1
+                (subst
+                (λ n. ((K.measure t.world.coding n).left t.world.words flight ≤ (K.measure t.world.coding n).alone)
+                × ((K.measure t.world.coding n).pays flight ≤ (K.measure t.world.coding n).changes)) h.2
+                (L.most t.world.words there.start flight there.at)));
+            begins = λ t h p start e may q ne other is. omega arith;
+            dies = λ t h owner e may q other is. omega arith;
+            step = λ t h p x flight since found doing.
+                (let ask = ask_of (want_of t.world.coding flight) in
+                let there = call_there t.world h.0 p x flight since found doing in
+                subst (λ z. FallsBy (measured_in z c) t.world p x flight ask (old_of t.world.words ask)) h.1
+                (subst (λ n. FallsBy (measured_in t.world.coding n) t.world p x flight ask (old_of t.world.words ask)) h.2
+                (table_falls t.world h.0 p x flight there.0 there.1)));
+            decision = λ t h p x flight since said found doing asks.
+                subst (λ z. FallsBy (measured_in z c) t.world p x flight None (number_of said)) h.1
+                (subst (λ n. FallsBy (measured_in t.world.coding n) t.world p x flight None (number_of said)) h.2
+                (decision_falls t.world h.0 p x flight said (call_there t.world h.0 p x flight since found doing).0 asks));
+          }
+
+      pub keeps_ending_by : (bound : Bound) → ((code : Coding T) (c n : ℕ) → bound n c code.size ≡ measured code c n)
+          → KeepsEndingBy refuses K.kind K.Such bound
+      keeps_ending_by bound same t is r such_before n turns allowed below such =
+          let w = t.world in
+          subst (λ b. AreWithinEnds b (steps_in t turns) (ends t.events) (ends (after_turns t turns).events)) (sym (same w.coding w.capacity n))
+          (calls_end refuses possible (measured_in w.coding w.capacity) (IsAt w.coding w.capacity) (May n) (owed w.coding w.capacity n) n
+          (λ turn may. may.0) t (reached_own t is r such_before, refl, refl) turns allowed (both_may n turns below such))
 
     -- where any call may begin
     all_such : ((start : Start T) → K.Such start) → (turns : List (Turn T)) → AllByRecursion (BeginsSuch K.Such) turns
@@ -366,4 +381,4 @@ module _ {T : Type 0} (K : Outline T) where
     pub keeps_ending : ((start : Start T) → K.Such start) → (bound : Bound) → ((code : Coding T) (c n : ℕ) → bound n c code.size ≡ measured code c n)
         → KeepsEnding T K.kind bound
     keeps_ending any bound same t is r n turns allowed below =
-        keeps_ending_of bound same t is r (all_such any r.turns) n turns allowed below (all_such any turns)
+        keeps_ending_by call_refusal possible_on bound same t is r (all_such any r.turns) n turns allowed below (all_such any turns)

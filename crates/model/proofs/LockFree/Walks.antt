@@ -1,15 +1,14 @@
 -- Every turn, and every list of turns.
-use Rattle.model.proofs.Names.{AllByRecursion, AreAllowedOn, AreWithinEnds, Begin, Bool, Decide, Die, Doing, Flight}
-use Rattle.model.proofs.Names.{Going, IsBelow, List, Next, None, Option, Over, Party, Some, Start, Trace, Turn, World}
+use Rattle.model.proofs.Names.{AllByRecursion, AreWithinEnds, Begin, Bool, Decide, Die, Doing, Flight}
+use Rattle.model.proofs.Names.{Going, IsBelow, List, Next, None, Option, Over, Party, Refusal, Some, Start, Trace, Turn, World}
 use Rattle.model.proofs.Names.{after_answer, after_begin, after_decision, after_next, after_turn, after_turns, ap}
-use Rattle.model.proofs.Names.{arith, ask_of, ask_of_doing, ask_of_flight, call_refusal, cases_eq, doing_of, ends}
+use Rattle.model.proofs.Names.{arith, ask_of, ask_of_doing, ask_of_flight, cases_eq, doing_of, ends}
 use Rattle.model.proofs.Names.{events_of, events_of_answer, events_of_decision, events_of_next, false, first_of}
 use Rattle.model.proofs.Names.{flight_in, flight_of, is_due, is_none, kept_after_begin, kept_after_death, number_of}
 use Rattle.model.proofs.Names.{old_of, party_of, refl, step_count, steps_in, true, want_of, world_after, ℕ, ⊎_elim}
 use Rattle.model.proofs.Names.{◌+◌, ◌<◌, ◌∙◌, ◌≡◌, ◌≢◌, ◌≤◌}
-use Rattle.model.specs.Turns.{after_death}
-use Rattle.model.proofs.Frame.{is_true}
-use Rattle.model.proofs.Rows.{may_begin, may_next, may_decide, must_be_due}
+use Rattle.model.specs.Turns.{after_death, AreAllowedBy}
+use Rattle.model.proofs.Rows.{IsPossible, MayStart, MayGoOn}
 use Rattle.model.specs.LockFree.{steps_of}
 use Rattle.model.proofs.LockFree.Measure.{Measure, Harmless, Owed, left_of, pays_of, left_at, pays_at, weight, bound}
 use Rattle.model.proofs.LockFree.Measure.{IsWithin, Shows, at_most, by_left, resumes}
@@ -17,7 +16,8 @@ use Rattle.model.proofs.LockFree.Weighed.{Weighs, runs_end}
 use Rattle.model.proofs.LockFree.Stays.{begun}
 use Rattle.model.proofs.LockFree.Sums.{sum_le}
 
-module _ {T : Type 0} (M : Measure T) (P : Trace T → Type 0) (May : Turn T → Type 0) (O : Owed M P May) where
+module _ {T : Type 0} (refuses : World T → Turn T → Option Refusal) (possible : (w : World T) (turn : Turn T) → refuses w turn ≡ None → IsPossible w turn)
+    (M : Measure T) (P : Trace T → Type 0) (May : Turn T → Type 0) (O : Owed M refuses P May) where
   left_within : (t : Trace T) → P t → (q : ℕ) (o : Option (Flight T)) → flight_in t.world q ≡ o
       → left_of M t.world.words t.world.kept o ≤ M.alone
   left_within t h q None e = omega arith
@@ -109,7 +109,7 @@ module _ {T : Type 0} (M : Measure T) (P : Trace T → Type 0) (May : Turn T →
             (O.decision t h p x now since said found e (rw here at due)) there
 
     -- an owner dies
-    dead : (t : Trace T) → P t → (owner : ℕ) → call_refusal t.world (Die owner) ≡ None → May (Die owner)
+    dead : (t : Trace T) → P t → (owner : ℕ) → refuses t.world (Die owner) ≡ None → May (Die owner)
         → weight M n (after_death t.world owner) ≤ weight M n t.world
     dead t h owner e may =
         let less = sum_le n (left_at M (after_death t.world owner)) (left_at M t.world) (λ q. one q (flight_in t.world q) refl) in
@@ -120,26 +120,25 @@ module _ {T : Type 0} (M : Measure T) (P : Trace T → Type 0) (May : Turn T →
         one q None is = omega arith
         one q (Some other) is = O.dies t h owner e may q other is
 
-    turn_shows : (t : Trace T) → P t → (turn : Turn T) → call_refusal t.world turn ≡ None → May turn → IsBelow n turn
+    turn_shows : (t : Trace T) → P t → (turn : Turn T) → refuses t.world turn ≡ None → May turn → IsBelow n turn
         → IsWithin M n (world_after t.world turn) → Shown t turn
     turn_shows t h (Begin p start) e such below there =
-        let may = may_begin t.world p start e in
+        let may : MayStart t.world p start = possible t.world (Begin p start) e in
         let shows =
         begins t.world p start below (first_of t.world.kind t.world.capacity start t.world.kept) may.call may.free
         (O.begins t h p start e such) there in
         omega arith
     turn_shows t h (Next p) e such below there =
-        let may = may_next t.world p e in
+        let may : MayGoOn t.world p = possible t.world (Next p) e in
         nexts t h p below may.flight may.is there (party_of p t.world.latest) refl there
     turn_shows t h (Decide p said) e such below there =
-        let may = may_decide t.world p said e in
-        decides t h p said below may.flight may.is (is_true (is_due t.world.coding (flight_in t.world p)) (must_be_due t.world p said e))
-        (party_of p t.world.latest) refl there
+        let may : MayGoOn t.world p × (is_due t.world.coding (flight_in t.world p) ≡ true) = possible t.world (Decide p said) e in
+        decides t h p said below may.0.flight may.0.is may.1 (party_of p t.world.latest) refl there
     turn_shows t h (Die owner) e such below there = let less = dead t h owner e such in omega arith
 
     -- ---- a list of turns
 
-    weighs : Weighs call_refusal May P (weight M n) (bound M n)
+    weighs : Weighs refuses May P (weight M n) (bound M n)
     weighs =
         record {
           keeps = O.keeps;
@@ -148,6 +147,6 @@ module _ {T : Type 0} (M : Measure T) (P : Trace T → Type 0) (May : Turn T →
         }
 
     -- where k calls more have ended, at most k + 1 times the bound and k steps were taken
-    pub calls_end : (t : Trace T) → P t → (turns : List (Turn T)) → AreAllowedOn t turns → AllByRecursion May turns
+    pub calls_end : (t : Trace T) → P t → (turns : List (Turn T)) → AreAllowedBy refuses t turns → AllByRecursion May turns
         → AreWithinEnds (bound M n) (steps_in t turns) (ends t.events) (ends (after_turns t turns).events)
-    calls_end = runs_end call_refusal May P weighs
+    calls_end = runs_end refuses May P weighs

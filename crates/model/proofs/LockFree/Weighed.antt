@@ -1,9 +1,10 @@
 -- From a weight of machines, which each turn that ends no call lowers by its steps, to a bound of the steps between ends.
-use Rattle.model.proofs.Names.{AllByRecursion, AreWithinEnds, Event, List, None, Option, Refusal, Trace, Turn, World, []}
+use Rattle.model.proofs.Names.{AllByRecursion, AreWithinEnds, Bound, Event, IsBelow, Kind, List, None, Option, Refusal}
+use Rattle.model.proofs.Names.{Start, Trace, Turn, World, []}
 use Rattle.model.proofs.Names.{after_turn, after_turns, arith, ends, events_of, steps_in, sum_by-append, world_after, ℕ}
 use Rattle.model.proofs.Names.{◌*◌, ◌++◌, ◌+◌, ◌∷◌, ◌≡◌, ◌≤◌}
-use Rattle.model.specs.LockFree.{end_of, steps_of}
-use Rattle.model.specs.Turns.{AreAllowedBy}
+use Rattle.model.specs.LockFree.{BeginsSuch, end_of, steps_of}
+use Rattle.model.specs.Turns.{AreAllowedBy, IsReachedBy}
 
 one_turn_more : (s steps old new last before ended after each : ℕ) → s + new ≤ old + ended * each
     → steps + last + (before + ended) * each ≤ new + after * each
@@ -43,3 +44,11 @@ module _ {T : Type 0} (refuses : World T → Turn T → Option Refusal) (May : T
         let all = walks t h turns allowed may in
         let most = W.most t h in
         omega arith
+
+-- calls keep ending in runs of turns that these rows do not refuse, and in which no call begins but such ones
+abbrev pub KeepsEndingBy : {T : Type 0} (refuses : World T → Turn T → Option Refusal) → Kind → (Start T → Type 0) → Bound → Type 0
+KeepsEndingBy {T} refuses kind Such bound =
+    (t : Trace T) → t.world.kind ≡ kind → (r : IsReachedBy refuses t) → AllByRecursion (BeginsSuch Such) r.turns
+    → (n : ℕ) (turns : List (Turn T))
+    → AreAllowedBy refuses t turns → AllByRecursion (IsBelow n) turns → AllByRecursion (BeginsSuch Such) turns
+    → AreWithinEnds (bound n t.world.capacity t.world.coding.size) (steps_in t turns) (ends t.events) (ends (after_turns t turns).events)

@@ -1,0 +1,216 @@
+-- Calls end that have begun: with each turn those under way and those that have ended are as many as before, and one more
+-- where a call begins. And a step is of one that is under way.
+use Rattle.model.proofs.Names.{After, AllByRecursion, Ask, GoOn, IsBelow, List}
+use Rattle.model.proofs.Names.{None, Option, Refusal, Some, Trace, World, [], after_answer, after_begin, after_decision, after_next}
+use Rattle.model.proofs.Names.{after_step, after_turn, after_turns, answer_in, ap, arith, Bool, ask_of_doing, cases_eq}
+use Rattle.model.proofs.Names.{change_of, doing_after, doing_of, ending_of, ends}
+use Rattle.model.proofs.Names.{events_of, events_of_answer, events_of_decision, events_of_next, events_of_step, false}
+use Rattle.model.proofs.Names.{first_of, flight_in, flight_of, is_none, is_some, number_of, old_of, one_if}
+use Rattle.model.proofs.Names.{beside_of, party_of, refl, step_in, suc, sym, world_after, zero, ℕ, ⊎_elim, ◌+◌, ◌<◌, ◌∙◌, ◌∷◌, ◌≡◌, ◌≢◌, ◌≤◌}
+use Rattle.steps.specs.declared.ask.After.TheVariants.{Done}
+use Rattle.model.specs.declared.event.Answer.{Answer}
+use Rattle.model.specs.declared.event.Start.{Start}
+use Rattle.model.specs.declared.families.Flight.{Flight}
+use Rattle.model.specs.declared.party.Doing.{Doing}
+use Rattle.model.specs.declared.party.Doing.TheVariants.{Going, Over}
+use Rattle.model.specs.declared.party.Party.{Party}
+use Rattle.model.specs.declared.turn.Turn.{Turn}
+use Rattle.model.specs.declared.turn.Turn.TheVariants.{Begin, Decide, Die, Next}
+use Rattle.model.specs.Step.{Step}
+use Rattle.model.specs.declared.families.Registry.{Registry}
+use Rattle.model.proofs.Parties.{party_put_same}
+use Rattle.model.proofs.Rows.{IsPossible}
+use Rattle.model.proofs.LockFree.Stays.{begun as begun_stays, answered}
+use Rattle.model.proofs.LockFree.Weighed.{ended_more}
+use Rattle.model.specs.LockFree.{steps_of}
+use Rattle.model.specs.Loads.{begin_in, begins_in, begun_of, begun, pending}
+use Rattle.model.specs.Promises.Turns.{ask_in}
+use Rattle.model.specs.Turns.{AreAllowedBy}
+use Rattle.std.proofs.lemmas.List.Sums.{sum_by-append}
+use Rattle.model.proofs.Counts.{steps_small}
+use Rattle.model.proofs.LockFree.Writes.{writes_no_end, writes_no_begin}
+
+module _ {T : Type 0} where
+  abbrev under : World T → ℕ → ℕ
+  under w p = one_if (is_some (flight_in w p))
+
+  same_pending : (n : ℕ) (old new : World T) → ((q : ℕ) → q < n → flight_in new q ≡ flight_in old q) → pending n new ≡ pending n old
+  same_pending zero old new same = refl
+  same_pending (suc n) old new same =
+      let rest = same_pending n old new (λ q less. same q (omega (arith, less))) in
+      let last = same n (omega arith) in
+      rw (rest, last) refl
+
+  -- where one party's call alone moves
+  moves : (n : ℕ) (old new : World T) (p : ℕ) → p < n → ((q : ℕ) → q ≢ p → flight_in new q ≡ flight_in old q)
+      → pending n new + under old p ≡ pending n old + under new p
+  moves zero old new p below others = absurd (omega arith)
+  moves (suc n) old new p below others = ⊎_elim last (λ ne. before ne (moves n old new p)) (cases_eq p n)
+    where
+      last : p ≡ n → pending (suc n) new + under old p ≡ pending (suc n) old + under new p
+      last e =
+          let rest = same_pending n old new (λ q less. others q (λ same. absurd (omega (arith, less, same, e)))) in
+          rw (rest, e) (omega arith)
+
+      before : p ≢ n
+          → (p < n → ((q : ℕ) → q ≢ p → flight_in new q ≡ flight_in old q) → pending n new + under old p ≡ pending n old + under new p)
+          → pending (suc n) new + under old p ≡ pending (suc n) old + under new p
+      before ne more =
+          let rest = more (omega (arith, ne)) others in
+          let last = others n (λ same. ne (sym same)) in
+          rw last (omega arith)
+
+  abbrev Counts : ℕ → World T → World T → ℕ → ℕ → Type 0
+  Counts n old new ended begins = pending n new + ended ≡ pending n old + begins
+
+  begins : (n : ℕ) (w : World T) (p : ℕ) (start : Start T) → p < n → (o : Option (Flight T)) → is_none o ≡ false → flight_in w p ≡ None
+      → Counts n w (after_begin w p start o) 0 1
+  begins n w p start below None e free = absurd (cc)
+  begins n w p start below (Some flight) e free =
+      let moved = moves n w (after_begin w p start (Some flight)) p below (λ q ne. begun_stays w p start (Some flight) q ne) in
+      let here : flight_in (after_begin w p start (Some flight)) p ≡ Some flight = ap (λ o. flight_of (doing_of o)) (party_put_same p _ w.latest) in
+      let one : under (after_begin w p start (Some flight)) p ≡ 1 = rw here refl in
+      let none : under w p ≡ 0 = rw free refl in
+      omega arith
+
+  -- a call goes on or ends
+  goes : (n : ℕ) (w : World T) (p : ℕ) (x : Party T) (ask : Option Ask) (answer : ℕ) (doing : Doing T) (flight : Flight T) → p < n
+      → flight_in w p ≡ Some flight → party_of p w.latest ≡ Some x → x.doing ≡ doing
+      → Counts n w (after_answer w p x ask answer doing) (ends (events_of_answer w p x answer doing)) 0
+  goes n w p x ask answer (Over others) flight below is found e =
+      let none : flight_in w p ≡ None = ap (λ o. flight_of (doing_of o)) found ∙ ap (λ d. flight_of (Some d)) e in
+      absurd (cc)
+  goes n w p x ask answer (Going now since) flight below is found e = by_after s.after refl
+    where
+      s : Step (Flight T) (Registry T) T
+      s = step_in w p x now answer
+
+      new : World T
+      new = after_step w p x since ask s
+
+      moved : pending n new + under w p ≡ pending n w + under new p
+      moved = moves n w new p below (λ q ne. answered w p x ask answer (Going now since) q ne)
+
+      one : under w p ≡ 1
+      one = rw is refl
+
+      here : (a : After (Flight T) (Answer T)) → s.after ≡ a
+          → flight_in new p ≡ flight_of (Some (doing_after (w.changes + change_of w.words ask) (since + change_of w.words ask) a))
+      here a e =
+          ap (λ o. flight_of (doing_of o)) (party_put_same p _ w.latest)
+          ∙ ap (λ a. flight_of (Some (doing_after (w.changes + change_of w.words ask) (since + change_of w.words ask) a))) e
+
+      ended : ends (events_of_step p x.start s) ≡ ends (ending_of p x.start (answer_in s.after))
+      ended =
+          let none = writes_no_end T w.coding w.words (beside_of w.words w.kept w.latest p) p x.start now answer w.kept in
+          let more = ended_more s.wrote (ending_of p x.start (answer_in s.after)) in
+          omega arith
+
+      by_after : (a : After (Flight T) (Answer T)) → s.after ≡ a → Counts n w new (ends (events_of_step p x.start s)) 0
+      by_after (GoOn next) e =
+          let there : under new p ≡ 1 = rw (here (GoOn next) e) refl in
+          let none : ends (ending_of p x.start (answer_in s.after)) ≡ 0 = rw e refl in
+          let all = ended in
+          let move = moved in
+          let was = one in
+          omega arith
+      by_after (Done result) e =
+          let there : under new p ≡ 0 = rw (here (Done result) e) refl in
+          let end : ends (ending_of p x.start (answer_in s.after)) ≡ 1 = rw e refl in
+          let all = ended in
+          let move = moved in
+          let was = one in
+          omega arith
+
+  nexts : (n : ℕ) (w : World T) (p : ℕ) → p < n → (flight : Flight T) → flight_in w p ≡ Some flight → (o : Option (Party T)) → party_of p w.latest ≡ o
+      → Counts n w (after_next w p o) (ends (events_of_next w p o)) 0
+  nexts n w p below flight is None found = let none : flight_in w p ≡ None = ap (λ o. flight_of (doing_of o)) found in absurd (cc)
+  nexts n w p below flight is (Some x) found =
+      goes n w p x (ask_of_doing w.coding x.doing) (old_of w.words (ask_of_doing w.coding x.doing)) x.doing flight below is found refl
+
+  decides : (n : ℕ) (w : World T) (p : ℕ) (said : Bool) → p < n → (flight : Flight T) → flight_in w p ≡ Some flight
+      → (o : Option (Party T)) → party_of p w.latest ≡ o
+      → Counts n w (after_decision w p said o) (ends (events_of_decision w p said o)) 0
+  decides n w p said below flight is None found = let none : flight_in w p ≡ None = ap (λ o. flight_of (doing_of o)) found in absurd (cc)
+  decides n w p said below flight is (Some x) found = goes n w p x None (number_of said) x.doing flight below is found refl
+
+  pub turn_counts : (n : ℕ) (w : World T) (turn : Turn T) → IsPossible w turn → IsBelow n turn
+      → Counts n w (world_after w turn) (ends (events_of w turn)) (begin_in turn)
+  turn_counts n w (Begin p start) may below = begins n w p start below (first_of w.kind w.capacity start w.kept) may.call may.free
+  turn_counts n w (Next p) may below = nexts n w p below may.flight may.is (party_of p w.latest) refl
+  turn_counts n w (Decide p said) may below = decides n w p said below may.0.flight may.0.is (party_of p w.latest) refl
+  turn_counts n w (Die owner) may below = let same = same_pending n w (world_after w (Die owner)) (λ q less. refl) in omega arith
+
+  -- ---- a list of turns
+
+  module _ (refuses : World T → Turn T → Option Refusal) (possible : (w : World T) (turn : Turn T) → refuses w turn ≡ None → IsPossible w turn) where
+    pub counted : (n : ℕ) (t : Trace T) (turns : List (Turn T)) → AreAllowedBy refuses t turns → AllByRecursion (IsBelow n) turns
+        → pending n (after_turns t turns).world + ends (after_turns t turns).events ≡ pending n t.world + ends t.events + begins_in turns
+    counted n t [] allowed below = omega arith
+    counted n t (turn ∷ turns) allowed below =
+        let here = turn_counts n t.world turn (possible t.world turn allowed.0) below.0 in
+        let more = ended_more t.events (events_of t.world turn) in
+        let rest = counted n (after_turn t turn) turns allowed.1 below.1 in
+        let all : pending n (after_turns (after_turn t turn) turns).world + ends (after_turns (after_turn t turn) turns).events
+        ≡ pending n (world_after t.world turn) + (ends t.events + ends (events_of t.world turn)) + begins_in turns = rw more at rest in
+        omega arith
+
+  -- each turn that begins a call writes so
+  answer_begins : (w : World T) (p : ℕ) (x : Party T) (answer : ℕ) (doing : Doing T) → begun (events_of_answer w p x answer doing) ≡ 0
+  answer_begins w p x answer (Over others) = refl
+  answer_begins w p x answer (Going now since) =
+      let s = step_in w p x now answer in
+      let none = writes_no_begin T w.coding w.words (beside_of w.words w.kept w.latest p) p x.start now answer w.kept in
+      let more = sum_by-append begun_of s.wrote (ending_of p x.start (answer_in s.after)) in
+      let end = ending_begins p x.start (answer_in s.after) in
+      omega arith
+    where
+      ending_begins : (p : ℕ) (start : Start T) (o : Option (Answer T)) → begun (ending_of p start o) ≡ 0
+      ending_begins p start None = refl
+      ending_begins p start (Some answer) = refl
+
+  next_begins : (w : World T) (p : ℕ) (o : Option (Party T)) → begun (events_of_next w p o) ≡ 0
+  next_begins w p None = refl
+  next_begins w p (Some x) = answer_begins w p x (old_of w.words (ask_of_doing w.coding x.doing)) x.doing
+
+  decision_begins : (w : World T) (p : ℕ) (said : Bool) (o : Option (Party T)) → begun (events_of_decision w p said o) ≡ 0
+  decision_begins w p said None = refl
+  decision_begins w p said (Some x) = answer_begins w p x (number_of said) x.doing
+
+  turn_begins : (w : World T) (turn : Turn T) → begun (events_of w turn) ≡ begin_in turn
+  turn_begins w (Begin p start) = refl
+  turn_begins w (Next p) = next_begins w p (party_of p w.latest)
+  turn_begins w (Decide p said) = decision_begins w p said (party_of p w.latest)
+  turn_begins w (Die owner) = refl
+
+  pub begins_are : (t : Trace T) (turns : List (Turn T)) → begun (after_turns t turns).events ≡ begun t.events + begins_in turns
+  begins_are t [] = omega arith
+  begins_are t (turn ∷ turns) =
+      let here = turn_begins t.world turn in
+      let more = sum_by-append begun_of t.events (events_of t.world turn) in
+      let rest = begins_are (after_turn t turn) turns in
+      omega arith
+
+  -- ---- a step
+
+  one_pending : (n : ℕ) (w : World T) (p : ℕ) (flight : Flight T) → p < n → flight_in w p ≡ Some flight → 1 ≤ pending n w
+  one_pending zero w p flight below is = absurd (omega arith)
+  one_pending (suc n) w p flight below is = ⊎_elim last (λ ne. before ne (one_pending n w p flight)) (cases_eq p n)
+    where
+      last : p ≡ n → 1 ≤ pending (suc n) w
+      last e =
+          let here : under w p ≡ 1 = rw is refl in
+          let one : under w n ≡ 1 = rw e at here in
+          omega arith
+
+      before : p ≢ n → (p < n → flight_in w p ≡ Some flight → 1 ≤ pending n w) → 1 ≤ pending (suc n) w
+      before ne more = let rest = more (omega (arith, ne)) is in omega arith
+
+  pub steps_pending : (n : ℕ) (w : World T) (turn : Turn T) → IsPossible w turn → IsBelow n turn → steps_of w turn ≤ pending n w
+  steps_pending n w (Begin p start) may below = omega arith
+  steps_pending n w (Next p) may below =
+      let small = steps_small (ask_in w (Next p)) in
+      let some = one_pending n w p may.flight below may.is in
+      omega arith
+  steps_pending n w (Decide p said) may below = omega arith
+  steps_pending n w (Die owner) may below = omega arith

@@ -1,0 +1,85 @@
+-- From calls that keep ending to finite loads that end: each call pays for the steps up to its own end, and while a step is
+-- taken one is left that has not ended.
+use Rattle.model.proofs.Names.{AllByRecursion, AreWithinEnds, Bound, IsBelow, KeepsEnding, Kind, List, None, Option}
+use Rattle.model.proofs.Names.{Refusal, Start, Trace, Turn, World, [], after_turn, after_turns, arith, call_refusal}
+use Rattle.model.proofs.Names.{ends, events_of, steps_in, zero, suc, ℕ, ◌*◌, ◌+◌, ◌∷◌, ◌≡◌, ◌≤◌}
+use Rattle.model.specs.LockFree.{BeginsSuch, KeepsEndingOf, steps_of}
+use Rattle.model.specs.Loads.{begin_in, begins_in, pending, load, EndsLoad, EndsLoadOf}
+use Rattle.model.specs.Promises.Turns.{ask_in}
+use Rattle.model.specs.Turns.{AreAllowedBy}
+use Rattle.model.proofs.Counts.{steps_small}
+use Rattle.model.proofs.LockFree.Counted.{turn_counts, steps_pending}
+use Rattle.model.proofs.LockFree.Measure.{worth}
+use Rattle.model.proofs.LockFree.Weighed.{ended_more}
+use Rattle.model.proofs.Rows.{IsPossible, possible_on}
+
+-- a step more, where one of the calls has not ended
+one_step : (bound before calls ended pending steps step : ℕ) → step ≤ 1 → step ≤ pending → pending + ended ≡ before + calls
+    → steps + before * (bound + 1) ≤ bound + ended * (bound + 1) → steps ≤ calls * (bound + 1) → steps + step ≤ calls * (bound + 1)
+one_step bound before calls ended pending steps zero one under count within paid = omega arith
+one_step bound before calls ended pending steps (suc step) one under count within paid =
+    let most = worth (ended + 1) (before + calls) (bound + 1) (omega arith) in omega arith
+
+more_calls : (calls begins each : ℕ) → calls * each ≤ (calls + begins) * each
+more_calls calls begins each = worth calls (calls + begins) each (omega arith)
+
+module _ {T : Type 0} (refuses : World T → Turn T → Option Refusal) (possible : (w : World T) (turn : Turn T) → refuses w turn ≡ None → IsPossible w turn)
+    (n : ℕ) (May : Turn T → Type 0) (below : (turn : Turn T) → May turn → IsBelow n turn) where
+  -- whatever turns are taken from here, after so many steps
+  abbrev Within : ℕ → ℕ → Trace T → ℕ → Type 0
+  Within bound before t steps =
+      (turns : List (Turn T)) → AreAllowedBy refuses t turns → AllByRecursion May turns
+      → AreWithinEnds bound (steps + steps_in t turns) before (ends (after_turns t turns).events)
+
+  calls_pay : (bound before calls steps : ℕ) (t : Trace T) (turns : List (Turn T)) → AreAllowedBy refuses t turns → AllByRecursion May turns
+      → Within bound before t steps → pending n t.world + ends t.events ≡ before + calls → steps ≤ calls * (bound + 1)
+      → steps + steps_in t turns ≤ (calls + begins_in turns) * (bound + 1)
+  calls_pay bound before calls steps t [] allowed may within count paid = let most = more_calls calls 0 (bound + 1) in omega arith
+  calls_pay bound before calls steps t (turn ∷ turns) allowed may within count paid =
+      let step = steps_of t.world turn in
+      let counts = turn_counts n t.world turn (possible t.world turn allowed.0) (below turn may.0) in
+      let more = ended_more t.events (events_of t.world turn) in
+      let now = within [] tt tt in
+      let one = steps_small (ask_in t.world turn) in
+      let under = steps_pending n t.world turn (possible t.world turn allowed.0) (below turn may.0) in
+      let here = one_step bound before calls (ends t.events) (pending n t.world) steps step one under count (omega arith) paid in
+      let up = more_calls calls (begin_in turn) (bound + 1) in
+      let rest =
+      calls_pay bound before (calls + begin_in turn) (steps + step) (after_turn t turn) turns allowed.1 may.1
+      (λ after all are. (let h = within (turn ∷ after) (allowed.0, all) (may.0, are) in omega arith)) (omega arith) (omega arith) in
+      omega arith
+
+  pub load_within : (bound : ℕ) (t : Trace T) (turns : List (Turn T)) → AreAllowedBy refuses t turns → AllByRecursion May turns
+      → ((turns : List (Turn T)) → AreAllowedBy refuses t turns → AllByRecursion May turns
+      → AreWithinEnds bound (steps_in t turns) (ends t.events) (ends (after_turns t turns).events))
+      → steps_in t turns ≤ load bound (pending n t.world + begins_in turns)
+  load_within bound t turns allowed may keeps =
+      let all = calls_pay bound (ends t.events) (pending n t.world) 0 t turns allowed may
+      (λ turns allowed may. (let h = keeps turns allowed may in omega arith)) (omega arith) (omega arith) in
+      omega arith
+
+module _ {T : Type 0} where
+  pub loads_end : (kind : Kind) (bound : Bound) → KeepsEnding T kind bound → EndsLoad T kind bound
+  loads_end kind bound keeps t is r n turns allowed below =
+      load_within call_refusal possible_on n (IsBelow n) (λ turn may. may) (bound n t.world.capacity t.world.coding.size) t turns allowed below
+      (keeps t is r n)
+
+  -- of turns of which two things are so
+  pub both : (P Q : Turn T → Type 0) (turns : List (Turn T)) → AllByRecursion P turns → AllByRecursion Q turns → AllByRecursion (λ turn. P turn × Q turn) turns
+  both P Q [] ps qs = tt
+  both P Q (turn ∷ turns) ps qs = ((ps.0, qs.0), both P Q turns ps.1 qs.1)
+
+  pub first_all : (P Q : Turn T → Type 0) (turns : List (Turn T)) → AllByRecursion (λ turn. P turn × Q turn) turns → AllByRecursion P turns
+  first_all P Q [] all = tt
+  first_all P Q (turn ∷ turns) all = (all.0.0, first_all P Q turns all.1)
+
+  pub second_all : (P Q : Turn T → Type 0) (turns : List (Turn T)) → AllByRecursion (λ turn. P turn × Q turn) turns → AllByRecursion Q turns
+  second_all P Q [] all = tt
+  second_all P Q (turn ∷ turns) all = (all.0.1, second_all P Q turns all.1)
+
+  pub loads_end_of : (kind : Kind) (Such : Start T → Type 0) (bound : Bound) → KeepsEndingOf T kind Such bound → EndsLoadOf T kind Such bound
+  loads_end_of kind Such bound keeps t is r before n turns allowed below such =
+      load_within call_refusal possible_on n (λ turn. IsBelow n turn × BeginsSuch Such turn) (λ turn may. may.0)
+      (bound n t.world.capacity t.world.coding.size) t turns allowed (both (IsBelow n) (BeginsSuch Such) turns below such)
+      (λ turns allowed may.
+      keeps t is r before n turns allowed (first_all (IsBelow n) (BeginsSuch Such) turns may) (second_all (IsBelow n) (BeginsSuch Such) turns may))

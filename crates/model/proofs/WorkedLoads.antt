@@ -1,0 +1,84 @@
+-- Loads at small sizes, and the calls that are under way in a small machine.
+use Rattle.std.proofs.Common.{◌≡◌, ◌<◌, ◌≤◌, ℕ, ◌+◌, ◌*◌, ◌^◌, Option, Some, None, List, [], ◌∷◌, ◌++◌, refl, arith}
+use Rattle.model.specs.declared.event.Start as starts
+use Rattle.model.specs.declared.families.queues.QueueStart as queues
+use Rattle.model.specs.declared.turn.Kind.TheVariants.{IndexQueue, Overflow, Queue, Atomic, Bits, Counts, Indices}
+use Rattle.model.specs.declared.turn.Turn.{Turn}
+use Rattle.model.specs.declared.turn.Turn.TheVariants.{Begin}
+use Rattle.model.specs.Coding.{one_word}
+use Rattle.model.specs.LockFree.{Bound, lock_free_bound, default_bound, default_container_bound, room_bound, ends, steps_in}
+use Rattle.model.specs.Turns.{run_on, after_turns}
+use Rattle.model.specs.World.{Trace, opening}
+use Rattle.model.proofs.Runs.{nexts, begins}
+use Rattle.model.proofs.WorkedLockFree.{from, full, one_word_codes, all_allowed, all_below}
+use Rattle.model.specs.Loads.{EndsLoad, begins_in, pending, load}
+use Rattle.model.specs.Fair.{own_steps}
+
+abbrev at : Option Bound → ℕ → ℕ → ℕ → ℕ → Option ℕ
+at None n capacity size calls = None
+at (Some bound) n capacity size calls = Some (load (bound n capacity size) calls)
+
+-- of two parties that have a call each, and begin no other
+two_calls : (at (lock_free_bound IndexQueue) 2 8 1 2 ≡ Some 22) × ((at (lock_free_bound Overflow) 2 8 1 2 ≡ Some 62)
+    × ((at (lock_free_bound Queue) 2 8 4 2 ≡ Some 26) × ((at (lock_free_bound Atomic) 2 1 1 2 ≡ Some 14)
+    × ((at (lock_free_bound Bits) 2 64 1 2 ≡ Some 530) × ((at (lock_free_bound Counts) 2 8 1 2 ≡ Some 30)
+    × (at (lock_free_bound Indices) 2 8 1 2 ≡ Some 98))))))
+two_calls = (refl, (refl, (refl, (refl, (refl, (refl, refl))))))
+
+-- and of a thousand calls beside
+thousand : at (lock_free_bound IndexQueue) 2 8 1 1002 ≡ Some 11022
+thousand = refl
+
+-- of a robust set and a container in which no call may lock
+owners : (load (default_bound 2 8 1) 2 ≡ 1190) × (load (default_container_bound 2 8 1) 2 ≡ 2378)
+owners = (refl, refl)
+
+-- two parties have a push and a length under way, and both end in eight steps, where the load is 22
+abbrev started : Trace ℕ
+started =
+    run_on (begins 0 (starts.TheVariants.Queues queues.TheVariants.AcquireProducer) 1
+    ++ (Begin 0 (starts.TheVariants.Queues (queues.TheVariants.PushIndex 7))
+    ∷ Begin 1 (starts.TheVariants.Queues queues.TheVariants.Len) ∷ [])) (opening one_word IndexQueue 1 2)
+
+abbrev both : List (Turn ℕ)
+both = nexts 0 4 ++ nexts 1 4
+
+pending_before : pending 2 started.world ≡ 2
+pending_before = refl
+
+pending_after : pending 2 (after_turns started both).world ≡ 0
+pending_after = refl
+
+none_begins : begins_in both ≡ 0
+none_begins = refl
+
+steps_taken : steps_in started both ≡ 8
+steps_taken = refl
+
+both_end : (ends started.events ≡ 1) × (ends (after_turns started both).events ≡ 3)
+both_end = (refl, refl)
+
+-- each in four of its own
+own_four : (own_steps 0 started both ≡ 4) × (own_steps 1 started both ≡ 4)
+own_four = (refl, refl)
+
+-- ---- a load that is met: the push of one party on a full overflowing queue takes six steps
+
+push_met : (steps_in (from Overflow 1 1 full) (nexts 0 6) ≡ 6) × (at (lock_free_bound Overflow) 1 1 1 1 ≡ Some 6)
+push_met = (refl, refl)
+
+push_ends : pending 1 (after_turns (from Overflow 1 1 full) (nexts 0 6)).world ≡ 0
+push_ends = refl
+
+-- so no bound below 5 will do there
+no_less : (bound : Bound) → bound 1 1 1 < 5 → EndsLoad ℕ Overflow bound → ⊥
+no_less bound few loads =
+    let most : 6 ≤ 1 * (bound 1 1 1 + 1) =
+    loads (from Overflow 1 1 full) refl (record { coded = one_word_codes; admitted = refl; turns = full; is = refl }) 1 (nexts 0 6)
+    (all_allowed (from Overflow 1 1 full) (nexts 0 6) refl) (all_below 1 (nexts 0 6) refl) in
+    absurd (omega arith)
+
+-- Of a robust set in all its runs, with one party and one index, and with two of each. For two of each no bound below
+-- 92233720368547758030 holds.
+robust_room : (room_bound 1 1 1 ≡ 9 * (2 ^ 64 + 1)) × (room_bound 2 2 1 ≡ 700976274800962961446)
+robust_room = (refl, refl)

@@ -1,0 +1,67 @@
+-- A finite load ends: where so many calls begin, so many steps are taken at most.
+use Rattle.std.specs.Prelude.{◌≡◌, ◌≤◌, ℕ, zero, suc, ◌+◌, ◌*◌, is_some, List, [], ◌∷◌}
+use Rattle.std.specs.List.{AllByRecursion, sum_by}
+use Rattle.model.specs.declared.event.Event.{Event}
+use Rattle.model.specs.declared.event.Event.TheVariants.{Begun}
+use Rattle.model.specs.declared.event.Start.{Start}
+use Rattle.model.specs.declared.turn.Kind.{Kind}
+use Rattle.model.specs.declared.turn.Turn.{Turn}
+use Rattle.model.specs.declared.turn.Turn.TheVariants.{Begin}
+use Rattle.model.specs.LockFree.{Bound, BeginsSuch, IsBelow, steps_in}
+use Rattle.model.specs.Turns.{one_if, AreAllowed, AreAllowedOn, IsReached, IsReachedOn}
+use Rattle.model.specs.World.{World, Trace, flight_in}
+
+module _ {T : Type 0} where
+  -- 1 for a turn that begins a call
+  abbrev pub begin_in : Turn T → ℕ
+  begin_in (Begin p start) = 1
+  begin_in turn = 0
+
+  -- how many calls the turns begin
+  abbrev pub begins_in : List (Turn T) → ℕ
+  begins_in [] = 0
+  begins_in (turn ∷ turns) = begin_in turn + begins_in turns
+
+  -- a call that begins writes one
+  abbrev pub begun_of : Event T → ℕ
+  begun_of (Begun p start) = 1
+  begun_of e = 0
+
+  -- how many calls have begun
+  abbrev pub begun : List (Event T) → ℕ
+  begun events = sum_by begun_of events
+
+  -- how many of the parties below n have a call under way
+  abbrev pub pending : ℕ → World T → ℕ
+  pending zero w = 0
+  pending (suc n) w = pending n w + one_if (is_some (flight_in w n))
+
+-- The steps that so many calls take at most: before each end at most the bound, and the one that ends it.
+abbrev pub load : ℕ → ℕ → ℕ
+load bound calls = calls * (bound + 1)
+
+-- Wherever turns have led, and whatever turns n parties take from there: all their steps together are at most the load of
+-- the calls that were under way and of those that begin.
+abbrev pub EndsLoad : Type 0 → Kind → Bound → Type 0
+EndsLoad T kind bound =
+    (t : Trace T) → t.world.kind ≡ kind → IsReachedOn t → (n : ℕ) (turns : List (Turn T))
+    → AreAllowedOn t turns → AllByRecursion (IsBelow n) turns
+    → steps_in t turns
+    ≤ load (bound n t.world.capacity t.world.coding.size) (pending n t.world + begins_in turns)
+
+-- The same of runs in which no call begins but such ones.
+abbrev pub EndsLoadOf : (T : Type 0) → Kind → (Start T → Type 0) → Bound → Type 0
+EndsLoadOf T kind Such bound =
+    (t : Trace T) → t.world.kind ≡ kind → (r : IsReachedOn t) → AllByRecursion (BeginsSuch Such) r.turns
+    → (n : ℕ) (turns : List (Turn T))
+    → AreAllowedOn t turns → AllByRecursion (IsBelow n) turns → AllByRecursion (BeginsSuch Such) turns
+    → steps_in t turns
+    ≤ load (bound n t.world.capacity t.world.coding.size) (pending n t.world + begins_in turns)
+
+-- And of machines as they run.
+abbrev pub EndsLoadRuns : Type 0 → Kind → Bound → Type 0
+EndsLoadRuns T kind bound =
+    (t : Trace T) → t.world.kind ≡ kind → IsReached t → (turns : List (Turn T)) → AreAllowed t turns
+    → steps_in t turns
+    ≤ load (bound t.world.parties t.world.capacity t.world.coding.size)
+    (pending t.world.parties t.world + begins_in turns)
