@@ -14,6 +14,7 @@ pub mod Bounds
 pub mod Contents
 pub mod Copies
 pub mod Core
+pub mod Counter
 pub mod Counts
 pub mod Deaths
 pub mod Effects
@@ -65,6 +66,10 @@ pub mod ReplaceSteps
 pub mod ReplaceFound
 pub mod Replacers
 pub mod Replaces
+pub mod RoomCalls
+pub mod RoomFalls
+pub mod RoomLockFree
+pub mod RoomStands
 pub mod SetStays
 pub mod SetSteps
 pub mod Sets

@@ -1,3 +1,4 @@
 pub mod Gone
+pub mod LockFree
 pub mod Open
 pub mod Tells

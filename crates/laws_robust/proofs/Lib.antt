@@ -2,6 +2,7 @@ pub mod Acquires
 pub mod Alive
 pub mod Begins
 pub mod Core
+pub mod Counter
 pub mod Counting
 pub mod Deaths
 mod Names
@@ -32,6 +33,9 @@ pub mod Recovers
 pub mod RecoverFrees
 pub mod Releases
 pub mod Rights
+pub mod Room
+pub mod RoomCalls
+pub mod RoomStands
 pub mod Sound
 pub mod Stages
 pub mod Standing

@@ -6,10 +6,16 @@ use Rattle.laws_robust.proofs.Names.{AnswersRight, party_of, Each, is_due, call_
 use Rattle.laws_robust.proofs.Names.{Trace, flight_in, row_passed}
 use Rattle.model.specs.declared.families.container.ContainerStart.TheVariants.{Recover}
 use Rattle.model.specs.declared.families.Flight as flights
+use Rattle.model.specs.declared.event.Start.{Start}
 use Rattle.model.specs.declared.turn.Kind as kinds
+use Rattle.model.specs.declared.turn.Refusal.TheVariants.{Busy, WrongCall}
+use Rattle.model.specs.Families.{first_of}
+use Rattle.model.specs.World.{World}
+use Rattle.std.proofs.Common.{is_some}
 use Rattle.model.specs.declared.families.Registry as registries
 use Rattle.model.proofs.FamilyLaws.{opening_there}
 use Rattle.model.proofs.Frame as frame
+use Rattle.model.proofs.Rows.{MayStart, MayGoOn, IsPossible, possible_on, not_none, not_some}
 use Rattle.model.proofs.Scenes.{decides_from, stands_there}
 use Rattle.model.proofs.Reached.{kept_by, reached_by_more}
 use Rattle.laws_robust.specs.Gone.{Word, IsHonest}
@@ -19,6 +25,27 @@ use Rattle.laws_robust.proofs.Gone.{answers_right}
 use Rattle.laws_robust.proofs.Invariant.{outline, family_by}
 use Rattle.laws_robust.proofs.Living.{steps_leave}
 use Rattle.laws_robust.proofs.Sound.{May, laws_by, all_turns, decides, MayDecideIn}
+
+-- ---- what a turn has that an open run takes
+
+module _ {T : Type 0} where
+  starts_open : (w : World T) (p : ℕ) (start : Start T) → open_refusal w (Begin p start) ≡ None → MayStart w p start
+  starts_open w p (Container (Recover owner mode)) e =
+      let start : Start T = Container (Recover owner mode) in
+      let free = row_passed (is_some (flight_in w p)) Busy _ e in
+      let call = row_passed (is_none (first_of w.kind w.capacity start w.kept)) WrongCall None free.1 in
+      record { free = not_some (flight_in w p) free.0; call = call.0 }
+  starts_open w p start e = possible_on w (Begin p start) e
+
+  pub possible_open : (w : World T) (turn : Turn T) → open_refusal w turn ≡ None → IsPossible w turn
+  possible_open w (Begin p start) e = starts_open w p start e
+  possible_open w (Next p) e = possible_on w (Next p) e
+  possible_open w (Decide p said) e =
+      let some = row_passed (is_none (flight_in w p)) Idle _ e in
+      let due = row_passed (not (is_due w.coding (flight_in w p))) Undecided None some.1 in
+      let flies = not_none (flight_in w p) some.0 in
+      (record { flight = flies.0; is = flies.1 }, frame.is_true (is_due w.coding (flight_in w p)) due.0)
+  possible_open w (Die owner) e = absurd (cc)
 
 module _ {T : Type 0} (code : Coding T) (c : ℕ) where
   abbrev Sound : Trace T → Type 0
@@ -31,6 +58,9 @@ module _ {T : Type 0} (code : Coding T) (c : ℕ) where
       → MayDecideIn Word code c t s p x since found flight said
   may_decide t s p x since found (flights.TheVariants.Robust flight) said = tt
   may_decide t s p x since found flight said = tt
+
+  may_decide_open : (w : World T) (p : ℕ) (said : Bool) → open_refusal w (Decide p said) ≡ None → is_due w.coding (flight_in w p) ≡ true
+  may_decide_open w p said e = let may : MayGoOn w p × (is_due w.coding (flight_in w p) ≡ true) = possible_open w (Decide p said) e in may.1
 
   -- ---- any turn
 
@@ -48,10 +78,7 @@ module _ {T : Type 0} (code : Coding T) (c : ℕ) where
   open_turn_sound t (Next p) e s = goes_by_rows t (Next p) e s
   open_turn_sound t (Die owner) e s = absurd (cc)
   open_turn_sound t (Decide p said) e s =
-      let b = row_passed (is_none (flight_in t.world p)) Idle _ e in
-      let d = row_passed (not (is_due t.world.coding (flight_in t.world p))) Undecided None b.1 in
-      let due : is_due code (flight_in t.world p) ≡ true = subst (λ y. is_due y (flight_in t.world p) ≡ true) s.coding
-      (frame.is_true (is_due t.world.coding (flight_in t.world p)) d.0) in
+      let due : is_due code (flight_in t.world p) ≡ true = subst (λ y. is_due y (flight_in t.world p) ≡ true) s.coding (may_decide_open t.world p said e) in
       let F = family_by Word code c in
       frame.decision_sound F t p said s (λ x flight since u.
       decides_from F t s p x since said s.state.words (registries.TheVariants.Owners s.state.dead) flight s.fit.words s.fit.kept

@@ -19,7 +19,8 @@ use Rattle.laws_turns.specs.Changes.{Seen, seen_after, seen_by, CountsChanges, M
 use Rattle.laws_turns.proofs.Counting.{counts_changes}
 use Rattle.laws_turns.proofs.SeenKnows.{Within, Grows, CallSees, FlightSees, seen_number, one_more, within_later, begun_grows, IsNoLook}
 use Rattle.laws_turns.proofs.SeenTurns.{Extra, now_kept, same_kept, other_known, known_by, after_it, next_kept, decision_kept}
-use Rattle.laws_turns.proofs.Taken.{MayStart, IsTaken, taken_by}
+use Rattle.laws_turns.proofs.Taken.{IsTaken, taken_by}
+use Rattle.model.proofs.Rows.{MayStart}
 use Rattle.model.specs.Families.Container.Opening.{states_at_begin}
 
 module _ {T : Type 0} (terms : Terms) (t : Trace T) (s : frame.Sound (family_by terms t.world.coding t.world.capacity) t)

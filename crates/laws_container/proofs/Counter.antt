@@ -1,0 +1,204 @@
+-- What an operation of a call of a container makes of the counter of its set, which is the first word, and what it finds, as
+-- in `Counter` of `laws_robust`.
+use Rattle.std.proofs.Common.{◌≡◌, ℕ, ◌<◌, true, Some, List, length, get_or, refl, arith}
+use Rattle.steps.specs.Container.Add.{add_asks}
+use Rattle.steps.specs.Container.Find.{find_asks}
+use Rattle.steps.specs.Container.Layout.{change_word, count_word, element_word}
+use Rattle.steps.specs.Container.Look.{look_asks}
+use Rattle.steps.specs.Container.Recover.{recover_asks}
+use Rattle.steps.specs.Container.Remove.{remove_asks}
+use Rattle.steps.specs.Container.Replace.{replace_asks}
+use Rattle.steps.specs.Indices.Robust.Parts.{cell_word, empty, one_more}
+use Rattle.steps.specs.declared.ask.Op.{Op}
+use Rattle.steps.specs.declared.ask.Op.TheVariants.{Load, Store, Add as AddBy, Exchange}
+use Rattle.steps.specs.declared.container.add.AddStage as adds
+use Rattle.steps.specs.declared.container.add.Owned.{Owned}
+use Rattle.steps.specs.declared.container.find.FindStage as finds
+use Rattle.steps.specs.declared.container.look.LookStage as looks
+use Rattle.steps.specs.declared.container.recover.RecoverStage as recovers
+use Rattle.steps.specs.declared.container.remove.RemoveStage as removes
+use Rattle.steps.specs.declared.container.replace.ReplaceStage as replaces
+use Rattle.steps.specs.declared.container.replace.Replacement.{Replacement}
+use Rattle.steps.specs.declared.indices.robust.release.GiveBack.{GiveBack}
+use Rattle.model.specs.declared.families.container.calls.ContainerFlight.{ContainerFlight}
+use Rattle.model.specs.declared.families.container.calls.ContainerFlight.TheVariants.{Add, Remove, Replace, Find, Recover, Look, Count, IsLocked}
+use Rattle.model.specs.Coding.{Coding}
+use Rattle.model.specs.Families.{ask_of, is_question}
+use Rattle.model.specs.Families.Container.Calls.{want}
+use Rattle.model.specs.Turns.{old_of, words_after}
+use Rattle.laws_robust.proofs.Counter.{count_old}
+use Rattle.laws_robust.proofs.Counter.{counter_of, count_finds, lock_finds, acquire_finds, release_finds, raise_finds}
+use Rattle.laws_robust.proofs.Counter.{first_then, other_then, count_leaves, lock_leaves, acquire_leaves, release_leaves, raise_leaves}
+use Rattle.laws_robust.proofs.Counter.{raise_then, lock_then, lock_old, count_then, acquire_then, acquire_old, release_then, release_old}
+
+abbrev pub add_then : adds.AddStage → ℕ → ℕ
+add_then (adds.TheVariants.Acquires stage) n = acquire_then stage n
+add_then stage n = n
+
+abbrev pub add_old : adds.AddStage → ℕ → ℕ → ℕ
+add_old (adds.TheVariants.Acquires stage) n cell = acquire_old stage n cell
+add_old stage n cell = cell
+
+abbrev pub remove_then : removes.RemoveStage → ℕ → ℕ
+remove_then (removes.TheVariants.Releases count stage) n = release_then stage n
+remove_then stage n = n
+
+abbrev pub remove_old : removes.RemoveStage → ℕ → ℕ → ℕ
+remove_old (removes.TheVariants.Releases count stage) n cell = release_old stage n cell
+remove_old stage n cell = cell
+
+abbrev pub recover_then : recovers.RecoverStage → ℕ → ℕ
+recover_then (recovers.TheVariants.Raises index raise) n = raise_then raise n
+recover_then (recovers.TheVariants.Locks index lock) n = lock_then lock n
+recover_then stage n = n
+
+abbrev pub recover_old : recovers.RecoverStage → ℕ → ℕ → ℕ
+recover_old (recovers.TheVariants.Raises index raise) n cell = n
+recover_old (recovers.TheVariants.Locks index lock) n cell = lock_old lock n cell
+recover_old stage n cell = cell
+
+module _ {T : Type 0} where
+  abbrev pub container_then : ContainerFlight T → ℕ → ℕ
+  container_then (Add run) n = add_then run.call.stage n
+  container_then (Remove run) n = remove_then run.call.stage n
+  container_then (Recover run) n = recover_then run.call.stage n
+  container_then (Count which run) n = count_then run.call.count n
+  container_then flight n = n
+
+  abbrev pub container_old : ContainerFlight T → ℕ → ℕ → ℕ
+  container_old (Add run) n cell = add_old run.call.stage n cell
+  container_old (Remove run) n cell = remove_old run.call.stage n cell
+  container_old (Recover run) n cell = recover_old run.call.stage n cell
+  container_old (Count which run) n cell = count_old run.call.count n cell
+  container_old flight n cell = cell
+
+module _ {T : Type 0} (code : Coding T) (words : List ℕ) where
+  pub container_finds : (flight : ContainerFlight T)
+      → old_of words (ask_of (want code flight)) ≡ container_old flight (counter_of words) (old_of words (ask_of (want code flight)))
+  container_finds (Add run) = add_finds run.call.stage
+    where
+      add_finds : (stage : adds.AddStage)
+          → old_of words (ask_of (add_asks code.words_of code.size run.call.capacity stage run.given))
+          ≡ add_old stage (counter_of words) (old_of words (ask_of (add_asks code.words_of code.size run.call.capacity stage run.given)))
+      add_finds (adds.TheVariants.Acquires stage) = acquire_finds words stage run.given.owner
+      add_finds (adds.TheVariants.LoadsCount index) = refl
+      add_finds (adds.TheVariants.Hides index count) = refl
+      add_finds (adds.TheVariants.Stores index at) = refl
+      add_finds (adds.TheVariants.AddsCount index) = refl
+      add_finds (adds.TheVariants.AddsChange index) = refl
+  container_finds (Remove run) = remove_finds run.call.stage
+    where
+      remove_finds : (stage : removes.RemoveStage)
+          → old_of words (ask_of (remove_asks run.call.capacity stage run.given))
+          ≡ remove_old stage (counter_of words) (old_of words (ask_of (remove_asks run.call.capacity stage run.given)))
+      remove_finds removes.TheVariants.Refuses = refl
+      remove_finds removes.TheVariants.LoadsCount = refl
+      remove_finds (removes.TheVariants.Releases count stage) = release_finds words stage run.given
+      remove_finds (removes.TheVariants.Hides count state) = refl
+      remove_finds (removes.TheVariants.AddsChange state) = refl
+  container_finds (Replace run) = refl
+  container_finds (Find run) = refl
+  container_finds (Recover run) = recover_finds run.call.stage
+    where
+      recover_finds : (stage : recovers.RecoverStage)
+          → old_of words (ask_of (recover_asks code.size run.call.capacity stage run.given.owner))
+          ≡ recover_old stage (counter_of words) (old_of words (ask_of (recover_asks code.size run.call.capacity stage run.given.owner)))
+      recover_finds recovers.TheVariants.LoadsCounter = refl
+      recover_finds (recovers.TheVariants.LoadsCell index) = refl
+      recover_finds (recovers.TheVariants.LoadsCount index) = refl
+      recover_finds (recovers.TheVariants.LoadsWord index count at) = refl
+      recover_finds (recovers.TheVariants.ChecksCount index count) = refl
+      recover_finds (recovers.TheVariants.Asks index count) = refl
+      recover_finds (recovers.TheVariants.EmptiesCell index count) = refl
+      recover_finds (recovers.TheVariants.Hides index count) = refl
+      recover_finds (recovers.TheVariants.Raises index raise) = raise_finds words raise
+      recover_finds (recovers.TheVariants.Locks index lock) = lock_finds words lock
+      recover_finds recovers.TheVariants.LoadsCounterAgain = refl
+      recover_finds (recovers.TheVariants.AddsChange state) = refl
+  container_finds (Look which call) = refl
+  container_finds (Count which run) = count_finds words run.call.count
+  container_finds (IsLocked run) = refl
+
+  module _ (some : 0 < length words) (c : ℕ) where
+    -- neither the counts of elements nor their words are the counter
+    change_leaves : counter_of (words_after words (Some (record { word = change_word c; op = AddBy 1 }))) ≡ counter_of words
+    change_leaves = other_then words some (change_word c) (AddBy 1) (omega arith)
+
+    count_leaves_it : (index : ℕ) (op : Op) → counter_of (words_after words (Some (record { word = count_word c index; op = op }))) ≡ counter_of words
+    count_leaves_it index op = other_then words some (count_word c index) op (omega arith)
+
+    element_leaves : (size index at : ℕ) (op : Op)
+        → counter_of (words_after words (Some (record { word = element_word c size index at; op = op }))) ≡ counter_of words
+    element_leaves size index at op = other_then words some (element_word c size index at) op (omega arith)
+
+    add_leaves : (stage : adds.AddStage) (given : Owned T)
+        → counter_of (words_after words (ask_of (add_asks code.words_of code.size c stage given))) ≡ add_then stage (counter_of words)
+    add_leaves (adds.TheVariants.Acquires stage) given = acquire_leaves words some stage given.owner
+    add_leaves (adds.TheVariants.LoadsCount index) given = count_leaves_it index Load
+    add_leaves (adds.TheVariants.Hides index count) given = count_leaves_it index (Exchange count (one_more count))
+    add_leaves (adds.TheVariants.Stores index at) given = element_leaves code.size index at (Store (get_or (code.words_of given.value) at 0))
+    add_leaves (adds.TheVariants.AddsCount index) given = count_leaves_it index (AddBy 1)
+    add_leaves (adds.TheVariants.AddsChange index) given = change_leaves
+
+    remove_leaves : (stage : removes.RemoveStage) (given : GiveBack)
+        → counter_of (words_after words (ask_of (remove_asks c stage given))) ≡ remove_then stage (counter_of words)
+    remove_leaves removes.TheVariants.Refuses given = refl
+    remove_leaves removes.TheVariants.LoadsCount given = count_leaves_it given.index Load
+    remove_leaves (removes.TheVariants.Releases count stage) given = release_leaves words some stage given
+    remove_leaves (removes.TheVariants.Hides count state) given = count_leaves_it given.index (Exchange count (one_more count))
+    remove_leaves (removes.TheVariants.AddsChange state) given = change_leaves
+
+    replace_leaves : (stage : replaces.ReplaceStage) (given : Replacement T)
+        → counter_of (words_after words (ask_of (replace_asks code.words_of code.size c stage given))) ≡ counter_of words
+    replace_leaves replaces.TheVariants.Refuses given = refl
+    replace_leaves replaces.TheVariants.LoadsCell given = other_then words some (cell_word given.index) Load (omega arith)
+    replace_leaves replaces.TheVariants.LoadsCount given = count_leaves_it given.index Load
+    replace_leaves (replaces.TheVariants.Hides count) given = count_leaves_it given.index (Exchange count (one_more count))
+    replace_leaves (replaces.TheVariants.Stores at) given = element_leaves code.size given.index at (Store (get_or (code.words_of given.value) at 0))
+    replace_leaves replaces.TheVariants.AddsCount given = count_leaves_it given.index (AddBy 1)
+    replace_leaves replaces.TheVariants.AddsChange given = change_leaves
+
+    find_leaves : (stage : finds.FindStage) → counter_of (words_after words (ask_of (find_asks code.size c stage))) ≡ counter_of words
+    find_leaves (finds.TheVariants.LoadsCell index found) = other_then words some (cell_word index) Load (omega arith)
+    find_leaves (finds.TheVariants.LoadsCount index found) = count_leaves_it index Load
+    find_leaves (finds.TheVariants.LoadsWord index found count at) = element_leaves code.size index at Load
+    find_leaves (finds.TheVariants.ChecksCount index found count) = count_leaves_it index (Exchange count count)
+    find_leaves (finds.TheVariants.Asks index found) = refl
+
+    recover_leaves : (stage : recovers.RecoverStage) (owner : ℕ)
+        → counter_of (words_after words (ask_of (recover_asks code.size c stage owner))) ≡ recover_then stage (counter_of words)
+    recover_leaves recovers.TheVariants.LoadsCounter owner = first_then words some Load
+    recover_leaves (recovers.TheVariants.LoadsCell index) owner = other_then words some (cell_word index) Load (omega arith)
+    recover_leaves (recovers.TheVariants.LoadsCount index) owner = count_leaves_it index Load
+    recover_leaves (recovers.TheVariants.LoadsWord index count at) owner = element_leaves code.size index at Load
+    recover_leaves (recovers.TheVariants.ChecksCount index count) owner = count_leaves_it index (Exchange count count)
+    recover_leaves (recovers.TheVariants.Asks index count) owner = refl
+    recover_leaves (recovers.TheVariants.EmptiesCell index count) owner = other_then words some (cell_word index) (Exchange owner empty) (omega arith)
+    recover_leaves (recovers.TheVariants.Hides index count) owner = count_leaves_it index (Exchange count (one_more count))
+    recover_leaves (recovers.TheVariants.Raises index raise) owner = raise_leaves words some raise
+    recover_leaves (recovers.TheVariants.Locks index lock) owner = lock_leaves words some lock
+    recover_leaves recovers.TheVariants.LoadsCounterAgain owner = first_then words some Load
+    recover_leaves (recovers.TheVariants.AddsChange state) owner = change_leaves
+
+    look_leaves : (stage : looks.LookStage) → counter_of (words_after words (ask_of (look_asks code.size c stage))) ≡ counter_of words
+    look_leaves looks.TheVariants.LoadsChange = other_then words some (change_word c) Load (omega arith)
+    look_leaves (looks.TheVariants.LoadsCount index) = count_leaves_it index Load
+    look_leaves (looks.TheVariants.LoadsWord index count at) = element_leaves code.size index at Load
+    look_leaves (looks.TheVariants.ChecksCount index count) = count_leaves_it index (Exchange count count)
+
+  pub container_leaves : 0 < length words → (flight : ContainerFlight T)
+      → counter_of (words_after words (ask_of (want code flight))) ≡ container_then flight (counter_of words)
+  container_leaves some (Add run) = add_leaves some run.call.capacity run.call.stage run.given
+  container_leaves some (Remove run) = remove_leaves some run.call.capacity run.call.stage run.given
+  container_leaves some (Replace run) = replace_leaves some run.call.capacity run.call.stage run.given
+  container_leaves some (Find run) = find_leaves some run.call.capacity run.call.stage
+  container_leaves some (Recover run) = recover_leaves some run.call.capacity run.call.stage run.given.owner
+  container_leaves some (Look which call) = look_leaves some call.capacity call.stage
+  container_leaves some (Count which run) = count_leaves words some run.call.count
+  container_leaves some (IsLocked run) = first_then words some Load
+
+module _ {T : Type 0} (code : Coding T) where
+  -- a question leaves the counter, and is handed the decision
+  pub container_asks : (flight : ContainerFlight T) (n cell : ℕ) → is_question (want code flight) ≡ true
+      → (n ≡ container_then flight n) × (cell ≡ container_old flight n cell)
+  container_asks flight n cell due = grind arith

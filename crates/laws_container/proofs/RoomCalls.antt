@@ -1,0 +1,233 @@
+-- A measure of every call of a container, by the room that the counter of its set has left: beside it a call that may not lock
+-- has the steps of its own measure, and one that may lock, a remove or a recovery, those up to the next move of the counter.
+use Rattle.std.proofs.Common.{◌≡◌, ℕ, ◌+◌, ◌-◌, ◌*◌, ◌^◌, ◌<◌, ◌≤◌, inl, inr, max, false, List, get_or, set, arith}
+use Rattle.std.proofs.Common.{get_or-set_other, subst, sym}
+use Rattle.steps.specs.Container.Layout.{count_word, is_even}
+use Rattle.steps.specs.Indices.Robust.Parts.{count_want, lock_want, raise_want, cell_word}
+use Rattle.steps.specs.declared.ask.After.{After}
+use Rattle.steps.specs.declared.ask.After.TheVariants.{GoOn, Done}
+use Rattle.steps.specs.declared.container.add.AddStage as adds
+use Rattle.steps.specs.declared.container.look.LookStage as looks
+use Rattle.steps.specs.declared.container.recover.RecoverStage as recovers
+use Rattle.steps.specs.declared.container.remove.RemoveStage as removes
+use Rattle.steps.specs.declared.indices.robust.parts.Count as counts
+use Rattle.steps.specs.declared.indices.robust.parts.Lock as locks
+use Rattle.steps.specs.declared.indices.robust.parts.Raise as raises
+use Rattle.model.specs.declared.event.Answer.{Answer}
+use Rattle.model.specs.declared.event.Start.{Start}
+use Rattle.model.specs.declared.event.Start.TheVariants as starts
+use Rattle.model.specs.declared.families.Flight.{Flight}
+use Rattle.model.specs.declared.families.Flight as flights
+use Rattle.model.specs.declared.families.container.calls.ContainerFlight.{ContainerFlight}
+use Rattle.model.specs.declared.families.container.calls.ContainerFlight as calls
+use Rattle.model.specs.declared.families.container.calls.LookOf as look_of
+use Rattle.model.specs.declared.turn.Kind as kinds
+use Rattle.model.specs.Coding.{Coding}
+use Rattle.model.specs.Families.{ask_of}
+use Rattle.model.specs.Step.{as_call}
+use Rattle.model.specs.Turns.{words_after}
+use Rattle.model.proofs.LockFree.Falls.{load_leaves, LeavesAll, FallsIn}
+use Rattle.model.proofs.LockFree.Measure.{WordMeasure}
+use Rattle.model.proofs.LockFree.Own.{Outline}
+use Rattle.laws_robust.proofs.Measured.{raise_left}
+use Rattle.laws_robust.proofs.RoomCalls.{pays_move}
+use Rattle.laws_robust.proofs.Room.{room, lock_left, release_left, Less, RaiseAt, CountAt, LockAt, AcquireAt, ReleaseAt}
+use Rattle.laws_container.proofs.MeasuredCalls.{again_at, behind, call_left, call_pays, measure, leaves, CallStands, Kept, Known}
+use Rattle.laws_container.proofs.Standing.{look_at}
+
+-- ---- how many steps a call takes at most before its last one, while the counter stays and no element is placed
+
+module _ (size c : ℕ) where
+  -- a recovery at one index: a copy, the cell, a raise and a lock
+  abbrev pub each : ℕ
+  each = size - 1 + 8 + (c - 1 + 3)
+
+  abbrev pub remove_own : ℕ → removes.RemoveStage → ℕ
+  remove_own now removes.TheVariants.Refuses = 0
+  remove_own now removes.TheVariants.LoadsCount = c - 1 + 8
+  remove_own now (removes.TheVariants.Releases count stage) = release_left c now stage + 2
+  remove_own now (removes.TheVariants.Hides count state) = 1
+  remove_own now (removes.TheVariants.AddsChange state) = 0
+
+  abbrev pub recover_own : List ℕ → recovers.RecoverStage → ℕ
+  recover_own words recovers.TheVariants.LoadsCounter = behind size c each 0 + (each + 2)
+  recover_own words (recovers.TheVariants.LoadsCell index) = behind size c each index + (each + 1)
+  recover_own words (recovers.TheVariants.LoadsCount index) = behind size c each index + each
+  recover_own words (recovers.TheVariants.LoadsWord index count at) =
+      behind size c each index + (size - (at + 1) + 7 + (c - 1 + 3) + again_at size c words index count)
+  recover_own words (recovers.TheVariants.ChecksCount index count) = behind size c each index + (6 + (c - 1 + 3) + again_at size c words index count)
+  recover_own words (recovers.TheVariants.Asks index count) = behind size c each index + (5 + (c - 1 + 3))
+  recover_own words (recovers.TheVariants.EmptiesCell index count) = behind size c each index + (5 + (c - 1 + 3))
+  recover_own words (recovers.TheVariants.Hides index count) = behind size c each index + (4 + (c - 1 + 3))
+  recover_own words (recovers.TheVariants.Raises index raise) = behind size c each index + (2 + (c - 1 + 3) + raise_left (get_or words 0 0) raise)
+  recover_own words (recovers.TheVariants.Locks index lock) = behind size c each index + (2 + lock_left c (get_or words 0 0) lock)
+  recover_own words recovers.TheVariants.LoadsCounterAgain = 1
+  recover_own words (recovers.TheVariants.AddsChange state) = 0
+
+  abbrev pub call_own : {T : Type 0} → List ℕ → ContainerFlight T → ℕ
+  call_own words (calls.TheVariants.Remove run) = remove_own (get_or words 0 0) run.call.stage
+  call_own words (calls.TheVariants.Recover run) = recover_own words run.call.stage
+  call_own words flight = call_left size c words flight
+
+  -- no call has more
+  abbrev pub owns : ℕ
+  owns = c * (c + size + 10) + max 2 size
+
+-- how many elements it places at most; an add may raise the counter too
+abbrev pub call_places : {T : Type 0} → ℕ → ContainerFlight T → ℕ
+call_places c (calls.TheVariants.Remove run) = 0
+call_places c (calls.TheVariants.Recover run) = 0
+call_places c flight = call_pays c flight
+
+-- ---- where a call may stand: a counter that it keeps is not that of the lock
+
+abbrev pub AddAt : adds.AddStage → Type 0
+AddAt (adds.TheVariants.Acquires stage) = AcquireAt stage
+AddAt stage = Unit {0}
+
+abbrev pub RemoveAt : removes.RemoveStage → Type 0
+RemoveAt (removes.TheVariants.Releases count stage) = ReleaseAt stage
+RemoveAt (removes.TheVariants.Hides count state) = is_even count ≡ false
+RemoveAt stage = Unit {0}
+
+abbrev pub RecoverAt : ℕ → recovers.RecoverStage → Type 0
+RecoverAt c (recovers.TheVariants.LoadsCell index) = index < c
+RecoverAt c (recovers.TheVariants.LoadsCount index) = index < c
+RecoverAt c (recovers.TheVariants.LoadsWord index count at) = index < c
+RecoverAt c (recovers.TheVariants.ChecksCount index count) = index < c
+RecoverAt c (recovers.TheVariants.Asks index count) = index < c
+RecoverAt c (recovers.TheVariants.EmptiesCell index count) = index < c
+RecoverAt c (recovers.TheVariants.Hides index count) = is_even count ≡ false
+RecoverAt c (recovers.TheVariants.Raises index raise) = RaiseAt raise
+RecoverAt c (recovers.TheVariants.Locks index lock) = LockAt lock
+RecoverAt c stage = Unit {0}
+
+abbrev pub CallAt : {T : Type 0} → ℕ → ContainerFlight T → Type 0
+CallAt c (calls.TheVariants.Add run) = CallStands c (calls.TheVariants.Add run) × AddAt run.call.stage
+CallAt c (calls.TheVariants.Remove run) = (run.call.capacity ≡ c) × (run.given.index ≤ c) × RemoveAt run.call.stage
+CallAt c (calls.TheVariants.Recover run) = (run.call.capacity ≡ c) × RecoverAt c run.call.stage
+CallAt c (calls.TheVariants.Count which run) = (run.call.capacity ≡ c) × CountAt run.call.count
+CallAt c flight = CallStands c flight
+
+module _ {T : Type 0} where
+  abbrev pub own_at : ℕ → ℕ → List ℕ → Flight T → ℕ
+  own_at size c words (flights.TheVariants.Container flight) = call_own size c words flight
+  own_at size c words flight = 0
+
+  abbrev pub room_left : ℕ → ℕ → List ℕ → Flight T → ℕ
+  room_left size c words flight = room (get_or words 0 0) * (owns size c + 1) + own_at size c words flight
+
+  abbrev pub places : ℕ → Flight T → ℕ
+  places c (flights.TheVariants.Container flight) = call_places c flight
+  places c flight = 0
+
+  abbrev pub room_measure : ℕ → ℕ → WordMeasure T
+  room_measure size c =
+      record { left = room_left size c; pays = places c; alone = (2 ^ 64 + 1) * (owns size c + 1); changes = 2 }
+
+  abbrev pub AtAny : Coding T → ℕ → Start T → Flight T → Type 0
+  AtAny code c (starts.Container start) (flights.TheVariants.Container flight) = CallAt c flight
+  AtAny code c start flight = ⊥
+
+  abbrev pub room_outline : Outline T
+  room_outline =
+      record {
+        kind = kinds.TheVariants.Container;
+        Such = λ start. Unit {0};
+        Kept = Kept;
+        At = AtAny;
+        Known = Known;
+        measure = λ code c. room_measure code.size c;
+      }
+
+-- ---- what costs nobody a step, where the counter stays
+
+module _ {T : Type 0} (size c : ℕ) (old new : List ℕ) (same : get_or new 0 0 ≡ get_or old 0 0) where
+  module _ (none : LeavesAll (measure {T = T} size c) old new) where
+    fewer : (index count : ℕ) → again_at size c new index count ≤ again_at size c old index count
+    fewer index count =
+        let here = none (flights.TheVariants.Container (look_at look_of.TheVariants.GetState c (looks.TheVariants.ChecksCount index count))) in
+        omega arith
+
+    recover_fewer : (stage : recovers.RecoverStage) → recover_own size c new stage ≤ recover_own size c old stage
+    recover_fewer (recovers.TheVariants.LoadsWord index count at) = let here = fewer index count in omega arith
+    recover_fewer (recovers.TheVariants.ChecksCount index count) = let here = fewer index count in omega arith
+    recover_fewer (recovers.TheVariants.Raises index raise) = rw same (omega arith)
+    recover_fewer (recovers.TheVariants.Locks index lock) = rw same (omega arith)
+    recover_fewer stage = omega arith
+
+    own_fewer : (flight : ContainerFlight T) → call_own size c new flight ≤ call_own size c old flight
+    own_fewer (calls.TheVariants.Remove run) = rw same (omega arith)
+    own_fewer (calls.TheVariants.Recover run) = recover_fewer run.call.stage
+    own_fewer (calls.TheVariants.Add run) = none (flights.TheVariants.Container (calls.TheVariants.Add run))
+    own_fewer (calls.TheVariants.Replace run) = none (flights.TheVariants.Container (calls.TheVariants.Replace run))
+    own_fewer (calls.TheVariants.Find run) = none (flights.TheVariants.Container (calls.TheVariants.Find run))
+    own_fewer (calls.TheVariants.Look which call) = none (flights.TheVariants.Container (calls.TheVariants.Look which call))
+    own_fewer (calls.TheVariants.Count which run) = none (flights.TheVariants.Container (calls.TheVariants.Count which run))
+    own_fewer (calls.TheVariants.IsLocked run) = none (flights.TheVariants.Container (calls.TheVariants.IsLocked run))
+
+    pub room_leaves : LeavesAll (room_measure {T = T} size c) old new
+    room_leaves (flights.TheVariants.Container flight) = let here = own_fewer flight in rw same (omega arith)
+    room_leaves flight = rw same (omega arith)
+
+module _ {T : Type 0} (size c : ℕ) (words : List ℕ) where
+  -- an operation on the counter
+  counter_leaves : (value : ℕ) → get_or (set words 0 value) 0 0 ≡ get_or words 0 0 → LeavesAll (measure {T = T} size c) words (set words 0 value)
+  counter_leaves value same = leaves size c words (set words 0 value) same fewer
+    where
+      fewer : (index count : ℕ) → again_at size c (set words 0 value) index count ≤ again_at size c words index count
+      fewer index count =
+          let stays = get_or-set_other words 0 (count_word c index) value 0 (λ e. absurd (omega arith)) in
+          rw stays (omega arith)
+
+  pub load_none : (word : ℕ) → LeavesAll (measure {T = T} size c) words (set words word (get_or words word 0))
+  load_none word other =
+      subst (λ ws. (measure {T = T} size c).left ws other ≤ (measure {T = T} size c).left words other)
+      (sym (load_leaves words word)) (omega arith)
+
+  pub raise_none : (raise : raises.Raise) → get_or (words_after words (ask_of (raise_want raise))) 0 0 ≡ get_or words 0 0
+      → LeavesAll (measure {T = T} size c) words (words_after words (ask_of (raise_want raise)))
+  raise_none raises.TheVariants.LoadsCounter same = load_none 0
+  raise_none (raises.TheVariants.ExchangesCounter k) same = counter_leaves _ same
+
+  pub count_none : (count : counts.Count) → get_or (words_after words (ask_of (count_want count))) 0 0 ≡ get_or words 0 0
+      → LeavesAll (measure {T = T} size c) words (words_after words (ask_of (count_want count)))
+  count_none counts.TheVariants.LoadsCounter same = load_none 0
+  count_none (counts.TheVariants.LoadsCell k index filled) same = load_none (cell_word index)
+  count_none (counts.TheVariants.ExchangesCounter k filled) same = counter_leaves _ same
+
+  pub lock_none : (lock : locks.Lock) → get_or (words_after words (ask_of (lock_want lock))) 0 0 ≡ get_or words 0 0
+      → LeavesAll (measure {T = T} size c) words (words_after words (ask_of (lock_want lock)))
+  lock_none (locks.TheVariants.Counts count) same = count_none count same
+  lock_none (locks.TheVariants.ExchangesCounter k) same = counter_leaves _ same
+
+-- ---- from steps of its own and moves of the counter to the measure
+
+module _ {T : Type 0} (size c : ℕ) (old new : List ℕ) where
+  -- the counter stays and so many steps are paid, or it has moved; and it places no more
+  abbrev pub CallTo : ℕ → ContainerFlight T → After (ContainerFlight T) (Answer T) → Type 0
+  CallTo steps was (GoOn next) =
+      Less c (get_or old 0 0) (get_or new 0 0) steps (call_own size c old was) (call_own size c old next)
+      × (call_places c next ≤ call_places c was)
+  CallTo steps was (Done answer) = Unit {0}
+
+  module _ (most : (words : List ℕ) (flight : Flight T) → own_at size c words flight ≤ owns size c) where
+    pub moves : room (get_or new 0 0) + 1 ≤ room (get_or old 0 0) → (other next : Flight T) → room_left size c new next + 1 ≤ room_left size c old other
+    moves less other next =
+        let small = most new next in
+        pays_move (room (get_or new 0 0)) (room (get_or old 0 0)) (owns size c + 1) (own_at size c new next) (own_at size c old other) less (omega arith)
+
+    pub moved_by : room (get_or new 0 0) + 1 ≤ room (get_or old 0 0) → LeavesAll (room_measure {T = T} size c) old new
+    moved_by less other = let more = moves less other other in omega arith
+
+    pub to_falls : (steps s : ℕ) (was : ContainerFlight T) (a : After (ContainerFlight T) (Answer T)) → s ≤ steps → steps ≤ 1
+        → (get_or new 0 0 ≡ get_or old 0 0 → LeavesAll (measure {T = T} size c) old new) → CallTo steps was a
+        → FallsIn (room_measure size c) old new s (flights.TheVariants.Container was) (as_call flights.TheVariants.Container (λ answer. answer) a)
+    to_falls steps s was (GoOn next) low one none (inl h, pays) =
+        let all = room_leaves size c old new h.0 (none h.0) in
+        let here = all (flights.TheVariants.Container next) in
+        inr (omega (arith, here, h, low), inl (all, pays))
+    to_falls steps s was (GoOn next) low one none (inr h, pays) =
+        let less = moves h (flights.TheVariants.Container was) (flights.TheVariants.Container next) in
+        inr (omega (arith, less, low, one), inl (moved_by h, pays))
+    to_falls steps s was (Done answer) low one none h = tt

@@ -1,0 +1,318 @@
+-- Each step of each call of a container, whatever the mode, takes one of its own or leaves the counter less room.
+use Rattle.std.proofs.Common.{◌≡◌, ℕ, ◌+◌, ◌-◌, ◌<◌, ◌≤◌, ◌==◌, inl, inr, nat_lt, Bool, cond, true, false, Option}
+use Rattle.std.proofs.Common.{None, Ok, Err, List, length, get_or, set, refl, sym, subst, ◌∙◌, arith}
+use Rattle.std.proofs.lemmas.Bool.Decides.{nat_tests}
+use Rattle.steps.specs.Container.Layout.{count_word, is_even}
+use Rattle.steps.specs.Container.Recover.{recover_comes_to, recover_raised, recover_locked, recover_sees}
+use Rattle.steps.specs.Container.Remove.{inner_release, remove_released}
+use Rattle.steps.specs.Indices.Robust.Parts.{cell_word, locked, lock_after, lock_want, raise_after}
+use Rattle.steps.specs.Indices.Robust.Release.{Released, release_asks, release_takes}
+use Rattle.steps.specs.Routine.{went_on}
+use Rattle.steps.specs.declared.ask.After.{After}
+use Rattle.steps.specs.declared.ask.After.TheVariants.{GoOn, Done}
+use Rattle.steps.specs.declared.container.recover.Recover as recovering
+use Rattle.steps.specs.declared.container.recover.RecoverStage as recovers
+use Rattle.steps.specs.declared.container.remove.RemoveStage as removes
+use Rattle.steps.specs.declared.container.state.ContainerState.{ContainerState}
+use Rattle.steps.specs.declared.copied.Buffer as buffers
+use Rattle.steps.specs.declared.indices.enums.ReleaseMode.{ReleaseMode}
+use Rattle.steps.specs.declared.indices.enums.ReleaseMode.TheVariants.{Default, LockIfLastIndex}
+use Rattle.steps.specs.declared.indices.enums.ReleaseState.{ReleaseState}
+use Rattle.steps.specs.declared.indices.enums.ReleaseState as states
+use Rattle.steps.specs.declared.indices.robust.parts.Lock as locks
+use Rattle.steps.specs.declared.indices.robust.parts.Raise as raises
+use Rattle.steps.specs.declared.indices.robust.release.GiveBack.{GiveBack}
+use Rattle.steps.specs.declared.indices.robust.release.Release as releasing
+use Rattle.steps.specs.declared.indices.robust.release.ReleaseStage as releases
+use Rattle.model.specs.declared.event.Answer.{Answer}
+use Rattle.model.specs.declared.event.Answer as answers
+use Rattle.model.specs.declared.families.container.calls.ContainerFlight.{ContainerFlight}
+use Rattle.model.specs.declared.families.container.calls.ContainerFlight as calls
+use Rattle.model.specs.Coding.{Coding}
+use Rattle.model.specs.Families.{ask_of}
+use Rattle.model.specs.Families.Container.Calls.{want, after, removed}
+use Rattle.model.specs.Families.Queues.Calls.{as_it_is}
+use Rattle.model.specs.Step.{as_call}
+use Rattle.model.specs.Turns.{old_of, words_after}
+use Rattle.model.proofs.LockFree.Falls.{same_is, LeavesAll}
+use Rattle.laws_robust.proofs.Counter.{release_old, lock_old, raise_finds, lock_finds, release_finds}
+use Rattle.laws_robust.proofs.Room.{release_left, StaysOrMoves, RaiseTo, raise_to, LockTo, lock_to, ReleaseTo, release_to}
+use Rattle.laws_robust.proofs.RoomStands.{release_moves}
+use Rattle.laws_container.proofs.Counter.{container_leaves, recover_then}
+use Rattle.laws_container.proofs.MeasuredCalls.{measure, behind, apart_leaves, cell_leaves, hide_leaves}
+use Rattle.laws_container.proofs.MeasuredFalls.{behind_next, check_leaves}
+use Rattle.laws_container.proofs.RoomCalls.{each, recover_own, RemoveAt, RecoverAt, CallTo, load_none, raise_none, lock_none}
+use Rattle.laws_container.proofs.Standing.{remove_at, recover_at}
+
+-- the steps of a turn of a recovery: a question takes none
+abbrev pub recover_steps : recovers.RecoverStage → ℕ
+recover_steps (recovers.TheVariants.Asks index count) = 0
+recover_steps stage = 1
+
+module _ {T : Type 0} (code : Coding T) (c : ℕ) (words : List ℕ) where
+  abbrev pub then_words : ContainerFlight T → List ℕ
+  then_words flight = words_after words (ask_of (want code flight))
+
+  -- what a step of it owes, and what it leaves the others where the counter stays
+  abbrev pub Owes : Option (ContainerState T) → ℕ → ContainerFlight T → Type 0
+  Owes state steps flight =
+      CallTo code.size c words (then_words flight) steps flight (after code state flight (old_of words (ask_of (want code flight))))
+      × (get_or (then_words flight) 0 0 ≡ get_or words 0 0 → LeavesAll (measure {T = T} code.size c) words (then_words flight))
+
+  abbrev n : ℕ
+  n = get_or words 0 0
+
+  abbrev stands_at : ℕ → ℕ
+  stands_at index = get_or words (count_word c index) 0
+
+  -- ---- a remove
+
+  module _ (mode : ReleaseMode) (index owner : ℕ) (within : index ≤ c) where
+    abbrev remove : removes.RemoveStage → ContainerFlight T
+    remove stage = remove_at c index owner mode stage
+
+    abbrev given : GiveBack
+    given = record { index = index; owner = owner; mode = mode }
+
+    released : (n' was count : ℕ) (a : After releasing.Release Released) → ReleaseTo c n n' was a → StaysOrMoves c n n'
+        → (new : List ℕ) → get_or new 0 0 ≡ n' → (stage : releases.ReleaseStage) → release_left c n stage ≡ was
+        → CallTo code.size c words new 1 (remove (removes.TheVariants.Releases count stage))
+        (as_call calls.TheVariants.Remove removed
+        (went_on as_it_is given tt
+        (remove_released (record { capacity = c; stage = removes.TheVariants.Releases count stage }) count a)))
+    released n' was count (GoOn next) (inl h) moved new is stage e = (inl (is ∙ h.0, (let le = h.1 in omega arith)), omega arith)
+    released n' was count (GoOn next) (inr h) moved new is stage e = (inr (rw is h), omega arith)
+    released n' was count (Done (Ok state)) h moved new is stage e = go (is_even count) refl moved
+      where
+        go : (t : Bool) → is_even count ≡ t → StaysOrMoves c n n'
+            → CallTo code.size c words new 1 (remove (removes.TheVariants.Releases count stage))
+            (as_call calls.TheVariants.Remove removed
+            (went_on as_it_is given tt (remove_released (record { capacity = c; stage = removes.TheVariants.Releases count stage }) count (Done (Ok state)))))
+        go true t (inl h) = rw t (inl (is ∙ h, omega arith), omega arith)
+        go true t (inr h) = rw t (inr (rw is h), omega arith)
+        go false t (inl h) = rw t (inl (is ∙ h, omega arith), omega arith)
+        go false t (inr h) = rw t (inr (rw is h), omega arith)
+    released n' was count (Done (Err failure)) h moved new is stage e = tt
+
+    release_leaves_none : (stage : releases.ReleaseStage) → get_or (words_after words (ask_of (release_asks stage given))) 0 0 ≡ n
+        → LeavesAll (measure {T = T} code.size c) words (words_after words (ask_of (release_asks stage given)))
+    release_leaves_none releases.TheVariants.EmptiesCell same = cell_leaves code.size c words index _ within
+    release_leaves_none (releases.TheVariants.Raises raise) same = raise_none code.size c words raise same
+    release_leaves_none (releases.TheVariants.Locks lock) same = lock_none code.size c words lock same
+
+    pub remove_owes : (some : 0 < length words) (stage : removes.RemoveStage) → RemoveAt stage → Owes None 1 (remove stage)
+    remove_owes some removes.TheVariants.Refuses at = (tt, λ same other. omega arith)
+    remove_owes some removes.TheVariants.LoadsCount at =
+        let is = container_leaves code words some (remove removes.TheVariants.LoadsCount) in
+        ((inl (is, omega arith), omega arith), λ same. load_none code.size c words (count_word c index))
+    remove_owes some (removes.TheVariants.Releases count stage) at =
+        let flight = remove (removes.TheVariants.Releases count stage) in
+        let is = container_leaves code words some flight in
+        let n' = get_or (then_words flight) 0 0 in
+        let old = old_of words (ask_of (release_asks stage given)) in (
+          subst (λ o. CallTo code.size c words (then_words flight) 1 flight
+              (as_call calls.TheVariants.Remove removed
+              (went_on as_it_is given tt
+              (remove_released (record { capacity = c; stage = removes.TheVariants.Releases count stage }) count
+              (release_takes (inner_release c stage) stage given o))))) (sym (release_finds words stage given))
+              (released n' (release_left c n stage) count (release_takes (inner_release c stage) stage given (release_old stage n old))
+              (release_to c n n' (inner_release c stage) stage given old refl at is) (release_moves c n n' stage at is)
+              (then_words flight) refl stage refl),
+          release_leaves_none stage,
+        )
+    remove_owes some (removes.TheVariants.Hides count state) at =
+        let is = container_leaves code words some (remove (removes.TheVariants.Hides count state)) in
+        ((inl (is, omega arith), omega arith), λ same. hide_leaves code.size c words index count at)
+    remove_owes some (removes.TheVariants.AddsChange state) at = (tt, λ same. change_none)
+      where
+        change_none : LeavesAll (measure {T = T} code.size c) words (then_words (remove (removes.TheVariants.AddsChange state)))
+        change_none = apart_leaves code.size c words _ _ (omega arith) (λ i few e. absurd (omega arith))
+
+  -- ---- a recovery
+
+  module _ (mode : ReleaseMode) (owner : ℕ) (room : buffers.Buffer 128) where
+    abbrev recover : recovers.RecoverStage → ContainerFlight T
+    recover stage = recover_at c owner mode room stage
+
+    abbrev at_stage : recovers.RecoverStage → recovering.Recover T (buffers.Buffer 128)
+    at_stage stage = record { capacity = c; stage = stage; of = record {} }
+
+    -- what the call becomes
+    abbrev becomes : buffers.Buffer 128 → After (recovering.Recover T (buffers.Buffer 128)) ReleaseState → After (ContainerFlight T) (Answer T)
+    becomes kept a = as_call calls.TheVariants.Recover answers.TheVariants.State (went_on as_it_is (record { owner = owner; mode = mode }) kept a)
+
+    abbrev To : List ℕ → ℕ → recovers.RecoverStage → After (ContainerFlight T) (Answer T) → Type 0
+    To new steps stage a = CallTo code.size c words new steps (recover stage) a
+
+    -- it comes to the next index, or to its last steps
+    pub comes : (new : List ℕ) (steps index : ℕ) (kept : buffers.Buffer 128) (stage : recovers.RecoverStage) → StaysOrMoves c n (get_or new 0 0)
+        → behind code.size c (each code.size c) index + 1 + steps ≤ recover_own code.size c words stage
+        → To new steps stage (becomes kept (recover_comes_to (at_stage stage) (index + 1)))
+    comes new steps index kept stage moved enough = go (nat_lt (index + 1) c) refl moved
+      where
+        go : (u : Bool) → nat_lt (index + 1) c ≡ u → StaysOrMoves c n (get_or new 0 0)
+            → To new steps stage (becomes kept (recover_comes_to (at_stage stage) (index + 1)))
+        go true u (inl same) =
+            let less : index + 1 < c = grind (arith, nat_tests) in
+            let on = behind_next c (each code.size c) index less in
+            rw u (inl (same, omega arith), omega arith)
+        go true u (inr less) = rw u (inr less, omega arith)
+        go false u (inl same) = rw u (inl (same, omega arith), omega arith)
+        go false u (inr less) = rw u (inr less, omega arith)
+
+    -- it copies what stands there, or goes to the cell
+    sees : (new : List ℕ) (index : ℕ) (kept : buffers.Buffer 128) (stage : recovers.RecoverStage) → index < c → get_or new 0 0 ≡ n
+        → behind code.size c (each code.size c) index + (code.size - 1 + 7 + (c - 1 + 3)) + 1 ≤ recover_own code.size c words stage
+        → To new 1 stage (becomes kept (recover_sees (at_stage stage) index (stands_at index)))
+    sees new index kept stage inside same enough = go (is_even (stands_at index)) refl
+      where
+        within : nat_lt index c ≡ true
+        within = grind (arith, nat_tests)
+
+        go : (u : Bool) → is_even (stands_at index) ≡ u → To new 1 stage (becomes kept (recover_sees (at_stage stage) index (stands_at index)))
+        go true u = rw u (inl (same, omega arith), omega arith)
+        go false u = let self = same_is (stands_at index) in rw u (inl (same, rw (within, self) (omega arith)), omega arith)
+
+    raised : (n' index : ℕ) (raise : raises.Raise) (a : After raises.Raise ReleaseState) → RaiseTo c n n' raise a → (new : List ℕ) → get_or new 0 0 ≡ n'
+        → To new 1 (recovers.TheVariants.Raises index raise) (becomes room (recover_raised (at_stage (recovers.TheVariants.Raises index raise)) index mode a))
+    raised n' index raise (GoOn next) h new is = (inl (is ∙ h.0, (let le = h.1 in omega arith)), omega arith)
+    raised n' index raise (Done states.TheVariants.Locked) (inl h) new is = (inl (is ∙ h, omega arith), omega arith)
+    raised n' index raise (Done states.TheVariants.Locked) (inr h) new is = (inr (rw is h), omega arith)
+    raised n' index raise (Done states.TheVariants.Unlocked) h new is = by_mode mode h
+      where
+        by_mode : (m : ReleaseMode) → StaysOrMoves c n n'
+            → To new 1 (recovers.TheVariants.Raises index raise)
+            (becomes room (recover_raised (at_stage (recovers.TheVariants.Raises index raise)) index m (Done states.TheVariants.Unlocked)))
+        by_mode Default h =
+            comes new 1 index room (recovers.TheVariants.Raises index raise) (subst (StaysOrMoves c n) (sym is) h) (omega arith)
+        by_mode LockIfLastIndex (inl h) = (inl (is ∙ h, omega arith), omega arith)
+        by_mode LockIfLastIndex (inr h) = (inr (rw is h), omega arith)
+
+    lock_goes : (n' index : ℕ) (lock : locks.Lock) (a : After locks.Lock ReleaseState) → LockTo c n n' lock a → (new : List ℕ) → get_or new 0 0 ≡ n'
+        → To new 1 (recovers.TheVariants.Locks index lock) (becomes room (recover_locked (at_stage (recovers.TheVariants.Locks index lock)) index a))
+    lock_goes n' index lock (GoOn next) (inl h) new is = (inl (is ∙ h.0, (let le = h.1 in omega arith)), omega arith)
+    lock_goes n' index lock (GoOn next) (inr h) new is = (inr (rw is h), omega arith)
+    lock_goes n' index lock (Done state) h new is =
+        comes new 1 index room (recovers.TheVariants.Locks index lock) (subst (StaysOrMoves c n) (sym is) h) (omega arith)
+
+    -- what its step comes to, whatever words that leaves
+    abbrev Steps : List ℕ → recovers.RecoverStage → Type 0
+    Steps new stage = To new (recover_steps stage) stage (after code None (recover stage) (old_of words (ask_of (want code (recover stage)))))
+
+    module _ (new : List ℕ) (same : get_or new 0 0 ≡ n) where
+      counter_goes : Steps new recovers.TheVariants.LoadsCounter
+      counter_goes = go (n == locked) refl (nat_lt 0 c) refl
+        where
+          go : (t : Bool) → (n == locked) ≡ t → (u : Bool) → nat_lt 0 c ≡ u → Steps new recovers.TheVariants.LoadsCounter
+          go true t u e = rw t (inl (same, omega arith), omega arith)
+          go false t true u = rw (t, u) (inl (same, omega arith), omega arith)
+          go false t false u = rw (t, u) (inl (same, omega arith), omega arith)
+
+      cell_goes : (index : ℕ) → Steps new (recovers.TheVariants.LoadsCell index)
+      cell_goes index = go (get_or words (cell_word index) 0 == owner) refl
+        where
+          go : (t : Bool) → (get_or words (cell_word index) 0 == owner) ≡ t → Steps new (recovers.TheVariants.LoadsCell index)
+          go true t = rw t (inl (same, omega arith), omega arith)
+          go false t = rw t (comes new 1 index room (recovers.TheVariants.LoadsCell index) (inl same) (omega arith))
+
+      word_goes : (index count at : ℕ) → Steps new (recovers.TheVariants.LoadsWord index count at)
+      word_goes index count at = go (nat_lt (at + 1) code.size) refl
+        where
+          go : (t : Bool) → nat_lt (at + 1) code.size ≡ t → Steps new (recovers.TheVariants.LoadsWord index count at)
+          go true t =
+              let less : at + 1 < code.size = grind (arith, nat_tests) in
+              rw t (inl (same, omega arith), omega arith)
+          go false t = rw t (inl (same, omega arith), omega arith)
+
+      check_goes : (index count : ℕ) → index < c → Steps new (recovers.TheVariants.ChecksCount index count)
+      check_goes index count inside = go (stands_at index == count) refl (is_even (stands_at index)) refl
+        where
+          within : nat_lt index c ≡ true
+          within = grind (arith, nat_tests)
+
+          go : (t : Bool) → (stands_at index == count) ≡ t → (u : Bool) → is_even (stands_at index) ≡ u
+              → Steps new (recovers.TheVariants.ChecksCount index count)
+          go true t u e = rw t (inl (same, omega arith), omega arith)
+          go false t true u = rw (t, u) (inl (same, omega arith), omega arith)
+          go false t false u = let self = same_is (stands_at index) in rw (t, u) (inl (same, rw (within, t, u, self) (omega arith)), omega arith)
+
+      empties_goes : (index count : ℕ) → Steps new (recovers.TheVariants.EmptiesCell index count)
+      empties_goes index count = go (get_or words (cell_word index) 0 == owner) refl (is_even count) refl
+        where
+          go : (t : Bool) → (get_or words (cell_word index) 0 == owner) ≡ t → (u : Bool) → is_even count ≡ u
+              → Steps new (recovers.TheVariants.EmptiesCell index count)
+          go true t true u = rw (t, u) (inl (same, omega arith), omega arith)
+          go true t false u = rw (t, u) (inl (same, omega arith), omega arith)
+          go false t u e = rw t (comes new 1 index room (recovers.TheVariants.EmptiesCell index count) (inl same) (omega arith))
+
+    -- where its words leave the counter
+    stays : (some : 0 < length words) (stage : recovers.RecoverStage) → get_or (then_words (recover stage)) 0 0 ≡ recover_then stage n
+    stays some stage = container_leaves code words some (recover stage)
+
+    pub recover_owes : (some : 0 < length words) (stage : recovers.RecoverStage) → RecoverAt c stage → Owes None (recover_steps stage) (recover stage)
+    recover_owes some recovers.TheVariants.LoadsCounter at = (
+      counter_goes (then_words (recover recovers.TheVariants.LoadsCounter)) (stays some recovers.TheVariants.LoadsCounter),
+      λ same. load_none code.size c words 0,
+    )
+    recover_owes some (recovers.TheVariants.LoadsCell index) at = (
+      cell_goes (then_words (recover (recovers.TheVariants.LoadsCell index)))
+          (stays some (recovers.TheVariants.LoadsCell index)) index,
+      λ same. load_none code.size c words (cell_word index),
+    )
+    recover_owes some (recovers.TheVariants.LoadsCount index) at = (
+      sees (then_words (recover (recovers.TheVariants.LoadsCount index))) index room
+          (recovers.TheVariants.LoadsCount index) at (stays some (recovers.TheVariants.LoadsCount index))
+          (omega arith),
+      λ same. load_none code.size c words (count_word c index),
+    )
+    recover_owes some (recovers.TheVariants.LoadsWord index count at) inside = (
+      word_goes (then_words (recover (recovers.TheVariants.LoadsWord index count at)))
+          (stays some (recovers.TheVariants.LoadsWord index count at)) index count at,
+      λ same. load_none code.size c words _,
+    )
+    recover_owes some (recovers.TheVariants.ChecksCount index count) at = (
+      check_goes (then_words (recover (recovers.TheVariants.ChecksCount index count)))
+          (stays some (recovers.TheVariants.ChecksCount index count)) index count at,
+      λ same. check_none (count_word c index) count,
+    )
+      where
+        check_none : (word count : ℕ)
+            → LeavesAll (measure {T = T} code.size c) words
+            (set words word (cond (get_or words word 0 == count) count (get_or words word 0)))
+        check_none word count other =
+            subst (λ ws. (measure {T = T} code.size c).left ws other ≤ (measure {T = T} code.size c).left words other)
+            (sym (check_leaves words word count)) (omega arith)
+    recover_owes some (recovers.TheVariants.Asks index count) at =
+        (comes words 0 index room (recovers.TheVariants.Asks index count) (inl refl) (omega arith), λ same other. omega arith)
+    recover_owes some (recovers.TheVariants.EmptiesCell index count) at = (
+      empties_goes (then_words (recover (recovers.TheVariants.EmptiesCell index count)))
+          (stays some (recovers.TheVariants.EmptiesCell index count)) index count,
+      λ same. cell_leaves code.size c words index _ (omega arith),
+    )
+    recover_owes some (recovers.TheVariants.Hides index count) at =
+        ((inl (stays some (recovers.TheVariants.Hides index count), omega arith), omega arith), λ same. hide_leaves code.size c words index count at)
+    recover_owes some (recovers.TheVariants.Raises index raise) at =
+        let stage = recovers.TheVariants.Raises index raise in
+        let n' = get_or (then_words (recover stage)) 0 0 in (
+          subst (λ o. CallTo code.size c words (then_words (recover stage)) 1 (recover stage)
+              (becomes room (recover_raised (at_stage stage) index mode (raise_after raise o))))
+              (sym (raise_finds words raise))
+              (raised n' index raise (raise_after raise n) (raise_to c n n' raise at (stays some stage))
+              (then_words (recover stage)) refl),
+          raise_none code.size c words raise,
+        )
+    recover_owes some (recovers.TheVariants.Locks index lock) at =
+        let stage = recovers.TheVariants.Locks index lock in
+        let n' = get_or (then_words (recover stage)) 0 0 in
+        let old = old_of words (ask_of (lock_want lock)) in (
+          subst (λ o. CallTo code.size c words (then_words (recover stage)) 1 (recover stage)
+              (becomes room (recover_locked (at_stage stage) index (lock_after c lock o))))
+              (sym (lock_finds words lock))
+              (lock_goes n' index lock (lock_after c lock (lock_old lock n old))
+              (lock_to c n n' lock old at (stays some stage)) (then_words (recover stage)) refl),
+          lock_none code.size c words lock,
+        )
+    recover_owes some recovers.TheVariants.LoadsCounterAgain at =
+        ((inl (stays some recovers.TheVariants.LoadsCounterAgain, omega arith), omega arith), λ same. load_none code.size c words 0)
+    recover_owes some (recovers.TheVariants.AddsChange state) at =
+        (tt, λ same. apart_leaves code.size c words _ _ (omega arith) (λ i few e. absurd (omega arith)))

@@ -1,0 +1,452 @@
+-- A measure of every call of a robust index set, by the room that its counter has left: each step that leaves the counter falls,
+-- and each that moves it leaves less room.
+use Rattle.std.proofs.Common.{◌≡◌, ◌≢◌, ℕ, ◌+◌, ◌-◌, ◌*◌, ◌^◌, ◌≤◌, ◌<◌, ◌==◌, ◌⊎◌, inl, inr, nat_lt, Bool, true, false, cond, if◌then◌else◌}
+use Rattle.std.proofs.Common.{refl, sym, subst, arith, ◌∙◌}
+use Rattle.std.proofs.lemmas.Bool.Decides.{nat_tests}
+use Rattle.steps.specs.Indices.Robust.Acquire.{Acquired, acquire_sees, acquire_takes, acquire_raised}
+use Rattle.steps.specs.Indices.Robust.Find.{find_takes, find_comes_to}
+use Rattle.steps.specs.Indices.Robust.Looks.{borrowed_counted}
+use Rattle.steps.specs.Indices.Robust.Parts.{empty, locked, greatest, one_more, raise_sees, raise_after, count_after, lock_counted, lock_after}
+use Rattle.steps.specs.Indices.Robust.Recover.{recover_comes_to, recover_raised, recover_locked, recover_takes}
+use Rattle.steps.specs.Indices.Robust.Release.{Released, release_raised, release_locked, release_takes}
+use Rattle.steps.specs.declared.ask.After.{After}
+use Rattle.steps.specs.declared.ask.After.TheVariants.{GoOn, Done}
+use Rattle.steps.specs.declared.indices.enums.ReleaseMode.{ReleaseMode}
+use Rattle.steps.specs.declared.indices.enums.ReleaseMode.TheVariants.{Default, LockIfLastIndex}
+use Rattle.steps.specs.declared.indices.enums.ReleaseState.{ReleaseState}
+use Rattle.steps.specs.declared.indices.enums.ReleaseState as states
+use Rattle.steps.specs.declared.indices.robust.acquire.Acquire as acquiring
+use Rattle.steps.specs.declared.indices.robust.acquire.AcquireStage as acquires
+use Rattle.steps.specs.declared.indices.robust.find.Find as finding
+use Rattle.steps.specs.declared.indices.robust.find.FindStage as finds
+use Rattle.steps.specs.declared.indices.robust.looks.BorrowedIndices as counting
+use Rattle.steps.specs.declared.indices.robust.parts.Count as counts
+use Rattle.steps.specs.declared.indices.robust.parts.Counted as ends
+use Rattle.steps.specs.declared.indices.robust.parts.Lock as locks
+use Rattle.steps.specs.declared.indices.robust.parts.Raise as raises
+use Rattle.steps.specs.declared.indices.robust.recover.Recover as recovering
+use Rattle.steps.specs.declared.indices.robust.recover.RecoverStage as recovers
+use Rattle.steps.specs.declared.indices.robust.release.GiveBack.{GiveBack}
+use Rattle.steps.specs.declared.indices.robust.release.Release as releasing
+use Rattle.steps.specs.declared.indices.robust.release.ReleaseStage as releases
+use Rattle.model.proofs.LockFree.Falls.{same_is}
+use Rattle.model.proofs.LockFree.Measure.{worth}
+use Rattle.laws_robust.proofs.Measured.{raise_left, acquire_left, find_left, count_left}
+use Rattle.laws_robust.proofs.Counter.{tested, raise_then, count_then, count_old, lock_then, lock_old, acquire_then, acquire_old, release_then, release_old}
+use Rattle.laws_robust.proofs.Counter.{recover_then, recover_old}
+
+-- ---- the room of a counter
+
+-- how often it can still move; no counter is above that of the lock
+abbrev pub room : ℕ → ℕ
+room n = if nat_lt locked n then 2 ^ 64 else locked - n
+
+pub room_most : (n : ℕ) → room n ≤ 2 ^ 64
+room_most n = go (nat_lt locked n) refl
+  where
+    go : (t : Bool) → nat_lt locked n ≡ t → room n ≤ 2 ^ 64
+    go true t = rw t (omega arith)
+    go false t = rw t (omega arith)
+
+apart : (k : ℕ) → (k == locked) ≡ false → k ≢ locked
+apart k e = grind (arith, nat_tests)
+
+above : (k : ℕ) → nat_lt locked k ≡ true → locked < k
+above k e = grind (arith, nat_tests)
+
+below : (k : ℕ) → nat_lt locked k ≡ false → k ≤ locked
+below k e = grind (arith, nat_tests)
+
+low_is : (k : ℕ) → k ≤ locked → nat_lt locked k ≡ false
+low_is k e = grind (arith, nat_tests)
+
+-- a raise leaves less
+pub rises : (k : ℕ) → (k == locked) ≡ false → room (one_more k) + 1 ≤ room k
+rises k other = go (nat_lt locked k) refl
+  where
+    next_low : one_more k ≤ locked
+    next_low = omega arith
+
+    go : (t : Bool) → nat_lt locked k ≡ t → room (one_more k) + 1 ≤ room k
+    go true t = let low = low_is (one_more k) next_low in rw (low, t) (omega arith)
+    go false t =
+        let low = low_is (one_more k) next_low in
+        let here = below k t in
+        let ne = apart k other in
+        let less : k < locked = omega (arith, ne) in
+        rw (low, t) (omega arith)
+
+-- and a lock leaves none
+pub shuts : (k : ℕ) → (k == locked) ≡ false → room locked + 1 ≤ room k
+shuts k other = go (nat_lt locked k) refl
+  where
+    go : (t : Bool) → nat_lt locked k ≡ t → room locked + 1 ≤ room k
+    go true t = rw t (omega arith)
+    go false t =
+        let here = below k t in
+        let ne = apart k other in
+        let less : k < locked = omega (arith, ne) in
+        rw t (omega arith)
+
+pub up : (a b k : ℕ) → a + 1 ≤ b → a * k + k ≤ b * k
+up a b k le = let paid = worth (a + 1) b k le in omega arith
+
+module _ (c : ℕ) where
+  -- ---- how many steps a call takes at most before its last one, while the counter stays
+
+  abbrev pub lock_left : ℕ → locks.Lock → ℕ
+  lock_left now (locks.TheVariants.Counts count) = count_left c now count
+  lock_left now (locks.TheVariants.ExchangesCounter k) = cond (now == k) 0 (c - 1 + 3)
+
+  abbrev pub release_left : ℕ → releases.ReleaseStage → ℕ
+  release_left now releases.TheVariants.EmptiesCell = c - 1 + 5
+  release_left now (releases.TheVariants.Raises raise) = raise_left now raise + (c - 1 + 3)
+  release_left now (releases.TheVariants.Locks lock) = lock_left now lock
+
+  -- for the indices after this one
+  abbrev pub rest : ℕ → ℕ
+  rest index = (c - (index + 1)) * (c - 1 + 7)
+
+  abbrev pub recover_left : ℕ → recovers.RecoverStage → ℕ
+  recover_left now recovers.TheVariants.LoadsCounter = (c - 1) * (c - 1 + 7) + (c - 1 + 8)
+  recover_left now (recovers.TheVariants.LoadsCell index) = rest index + (c - 1 + 7)
+  recover_left now (recovers.TheVariants.Asks index owner) = rest index + (c - 1 + 6)
+  recover_left now (recovers.TheVariants.EmptiesCell index owner) = rest index + (c - 1 + 6)
+  recover_left now (recovers.TheVariants.Raises index raise) = rest index + (c - 1 + 4) + raise_left now raise
+  recover_left now (recovers.TheVariants.Locks index lock) = rest index + 1 + lock_left now lock
+  recover_left now recovers.TheVariants.LoadsCounterAgain = 0
+
+-- ---- where a counter is kept, it is not that of the lock
+
+abbrev pub RaiseAt : raises.Raise → Type 0
+RaiseAt raises.TheVariants.LoadsCounter = Unit {0}
+RaiseAt (raises.TheVariants.ExchangesCounter k) = (k == locked) ≡ false
+
+abbrev pub CountAt : counts.Count → Type 0
+CountAt counts.TheVariants.LoadsCounter = Unit {0}
+CountAt (counts.TheVariants.LoadsCell k index filled) = (k == locked) ≡ false
+CountAt (counts.TheVariants.ExchangesCounter k filled) = (k == locked) ≡ false
+
+abbrev pub LockAt : locks.Lock → Type 0
+LockAt (locks.TheVariants.Counts count) = CountAt count
+LockAt (locks.TheVariants.ExchangesCounter k) = Unit {0}
+
+abbrev pub AcquireAt : acquires.AcquireStage → Type 0
+AcquireAt (acquires.TheVariants.Raises index raise) = RaiseAt raise
+AcquireAt stage = Unit {0}
+
+abbrev pub ReleaseAt : releases.ReleaseStage → Type 0
+ReleaseAt (releases.TheVariants.Raises raise) = RaiseAt raise
+ReleaseAt (releases.TheVariants.Locks lock) = LockAt lock
+ReleaseAt stage = Unit {0}
+
+abbrev pub RecoverAt : recovers.RecoverStage → Type 0
+RecoverAt (recovers.TheVariants.Raises index raise) = RaiseAt raise
+RecoverAt (recovers.TheVariants.Locks index lock) = LockAt lock
+RecoverAt stage = Unit {0}
+
+-- the steps of a turn of a recovery, and of a find: a question takes none
+abbrev pub recover_steps : recovers.RecoverStage → ℕ
+recover_steps (recovers.TheVariants.Asks index owner) = 0
+recover_steps stage = 1
+
+abbrev pub find_steps : finds.FindStage → ℕ
+find_steps (finds.TheVariants.LoadsCell index found) = 1
+find_steps (finds.TheVariants.Asks index found) = 0
+
+-- ---- each step, where the counter was n and is new
+
+module _ (c n new : ℕ) where
+  -- the counter stays and so many steps are paid, or it has moved
+  abbrev pub Less : ℕ → ℕ → ℕ → Type 0
+  Less steps was next = ((new ≡ n) × (next + steps ≤ was)) ⊎ (room new + 1 ≤ room n)
+
+  abbrev pub StaysOrMoves : Type 0
+  StaysOrMoves = (new ≡ n) ⊎ (room new + 1 ≤ room n)
+
+  pub less_by : (steps was next : ℕ) → next + steps ≤ was → StaysOrMoves → Less steps was next
+  less_by steps was next le (inl same) = inl (same, le)
+  less_by steps was next le (inr moved) = inr moved
+
+  self : (n == n) ≡ true
+  self = same_is n
+
+  -- ---- the parts
+
+  abbrev pub RaiseTo : raises.Raise → After raises.Raise ReleaseState → Type 0
+  RaiseTo raise (GoOn next) = (new ≡ n) × (raise_left n next + 1 ≤ raise_left n raise)
+  RaiseTo raise (Done state) = StaysOrMoves
+
+  pub raise_to : (raise : raises.Raise) → RaiseAt raise → new ≡ raise_then raise n → RaiseTo raise (raise_after raise n)
+  raise_to raises.TheVariants.LoadsCounter at is = go (n == locked) refl (n == greatest) refl
+    where
+      go : (t : Bool) → (n == locked) ≡ t → (u : Bool) → (n == greatest) ≡ u → RaiseTo raises.TheVariants.LoadsCounter (raise_sees n)
+      go true t u e = rw t (inl is)
+      go false t true u = rw (t, u) (inl is)
+      go false t false u = let me = self in rw (t, u) (is, rw me (omega arith))
+  raise_to (raises.TheVariants.ExchangesCounter k) at is = go (n == k) refl (n == locked) refl (n == greatest) refl
+    where
+      go : (s : Bool) → (n == k) ≡ s → (t : Bool) → (n == locked) ≡ t → (u : Bool) → (n == greatest) ≡ u
+          → RaiseTo (raises.TheVariants.ExchangesCounter k) (raise_after (raises.TheVariants.ExchangesCounter k) n)
+      go true s t e u f =
+          let same = tested n k s in
+          let next : new ≡ one_more k = rw s at is in
+          let moved : room new + 1 ≤ room n = rw (next, same) (rises k at) in
+          rw s (inr moved)
+      go false s true t u e = let same : new ≡ n = rw s at is in rw (s, t) (inl same)
+      go false s false t true u = let same : new ≡ n = rw s at is in rw (s, t, u) (inl same)
+      go false s false t false u = let same : new ≡ n = rw s at is in let me = self in rw (s, t, u) (same, rw (me, s) (omega arith))
+
+  abbrev CountTo : counts.Count → After counts.Count ends.Counted → Type 0
+  CountTo count (GoOn next) = (new ≡ n) × (count_left c n next + 1 ≤ count_left c n count)
+  CountTo count (Done ends.TheVariants.Locked) = StaysOrMoves
+  CountTo count (Done (ends.TheVariants.Filled filled counter)) = ((new ≡ n) × ((counter == greatest) ≡ true)) ⊎ (room new + 1 ≤ room n)
+
+  count_to : (count : counts.Count) (cell : ℕ) → CountAt count → new ≡ count_then count n → CountTo count (count_after c count (count_old count n cell))
+  count_to counts.TheVariants.LoadsCounter cell at is = go (n == locked) refl (nat_lt 0 c) refl (n == greatest) refl
+    where
+      go : (t : Bool) → (n == locked) ≡ t → (u : Bool) → nat_lt 0 c ≡ u → (v : Bool) → (n == greatest) ≡ v
+          → CountTo counts.TheVariants.LoadsCounter (count_after c counts.TheVariants.LoadsCounter n)
+      go true t u e v f = rw t (inl is)
+      go false t true u v e = let me = self in rw (t, u) (is, rw me (omega arith))
+      go false t false u true v = rw (t, u, v) (inl (is, v))
+      go false t false u false v = let me = self in rw (t, u, v) (is, rw me (omega arith))
+  count_to (counts.TheVariants.LoadsCell k index filled) cell at is = go (nat_lt (index + 1) c) refl (k == greatest) refl (n == k) refl
+    where
+      go : (u : Bool) → nat_lt (index + 1) c ≡ u → (v : Bool) → (k == greatest) ≡ v → (t : Bool) → (n == k) ≡ t
+          → CountTo (counts.TheVariants.LoadsCell k index filled) (count_after c (counts.TheVariants.LoadsCell k index filled) cell)
+      go true u v e true t = let less : index + 2 ≤ c = grind (arith, nat_tests) in rw u (is, rw t (omega arith))
+      go true u v e false t = let less : index + 2 ≤ c = grind (arith, nat_tests) in rw u (is, rw t (omega arith))
+      go false u true v t e = rw (u, v) (inl (is, v))
+      go false u false v true t = rw (u, v) (is, rw t (omega arith))
+      go false u false v false t = rw (u, v) (is, rw t (omega arith))
+  count_to (counts.TheVariants.ExchangesCounter k filled) cell at is = go (n == k) refl
+    where
+      go : (s : Bool) → (n == k) ≡ s → CountTo (counts.TheVariants.ExchangesCounter k filled) (count_after c (counts.TheVariants.ExchangesCounter k filled) n)
+      go true s =
+          let same = tested n k s in
+          let next : new ≡ one_more k = rw s at is in
+          let moved : room new + 1 ≤ room n = rw (next, same) (rises k at) in
+          rw s (inr moved)
+      go false s = let same : new ≡ n = rw s at is in rw s (same, rw s (omega arith))
+
+  abbrev pub LockTo : locks.Lock → After locks.Lock ReleaseState → Type 0
+  LockTo lock (GoOn next) = Less 1 (lock_left c n lock) (lock_left c n next)
+  LockTo lock (Done state) = StaysOrMoves
+
+  counted_to : (count : counts.Count) (a : After counts.Count ends.Counted) → CountTo count a → LockTo (locks.TheVariants.Counts count) (lock_counted a)
+  counted_to count (GoOn next) h = inl h
+  counted_to count (Done ends.TheVariants.Locked) h = h
+  counted_to count (Done (ends.TheVariants.Filled filled counter)) h = go (filled == 0) refl (counter == greatest) refl h
+    where
+      go : (z : Bool) → (filled == 0) ≡ z → (g : Bool) → (counter == greatest) ≡ g
+          → (((new ≡ n) × ((counter == greatest) ≡ true)) ⊎ (room new + 1 ≤ room n))
+          → LockTo (locks.TheVariants.Counts count) (lock_counted (Done (ends.TheVariants.Filled filled counter)))
+      go false z g e (inl h) = rw z (inl h.0)
+      go false z g e (inr h) = rw z (inr h)
+      go true z true g (inl h) = rw (z, g) (inl h.0)
+      go true z true g (inr h) = rw (z, g) (inr h)
+      go true z false g (inl h) = let both : false ≡ true = sym g ∙ h.1 in absurd (cc)
+      go true z false g (inr h) = rw (z, g) (inr h)
+
+  pub lock_to : (lock : locks.Lock) (cell : ℕ) → LockAt lock → new ≡ lock_then lock n → LockTo lock (lock_after c lock (lock_old lock n cell))
+  lock_to (locks.TheVariants.Counts count) cell at is = counted_to count (count_after c count (count_old count n cell)) (count_to count cell at is)
+  lock_to (locks.TheVariants.ExchangesCounter k) cell at is = go (n == k) refl (n == locked) refl
+    where
+      go : (s : Bool) → (n == k) ≡ s → (t : Bool) → (n == locked) ≡ t
+          → LockTo (locks.TheVariants.ExchangesCounter k) (lock_after c (locks.TheVariants.ExchangesCounter k) n)
+      go true s true t =
+          let shut : new ≡ locked = rw s at is in
+          let was = tested n locked t in
+          rw s (inl (shut ∙ sym was))
+      go true s false t =
+          let shut : new ≡ locked = rw s at is in
+          rw s (inr (rw shut (shuts n t)))
+      go false s t e = let same : new ≡ n = rw s at is in rw s (inl (same, rw s (omega arith)))
+
+  -- ---- an acquire
+
+  abbrev pub AcquireTo : ℕ → After acquiring.Acquire Acquired → Type 0
+  AcquireTo was (GoOn next) = Less 1 was (acquire_left c n next.stage)
+  AcquireTo was (Done result) = Unit {0}
+
+  acquire_sees_to : (call : acquiring.Acquire) → call.capacity ≡ c → new ≡ n → (was : ℕ) → c - 1 + 3 ≤ was → AcquireTo was (acquire_sees call n)
+  acquire_sees_to call cap same was enough = go (n == locked) refl (n == greatest) refl (nat_lt 0 call.capacity) refl
+    where
+      go : (t : Bool) → (n == locked) ≡ t → (u : Bool) → (n == greatest) ≡ u → (v : Bool) → nat_lt 0 call.capacity ≡ v
+          → AcquireTo was (acquire_sees call n)
+      go true t u e v f = rw t tt
+      go false t true u v f = rw (t, u) tt
+      go false t false u true v = let me = self in rw (t, u, v) (inl (same, rw me (omega arith)))
+      go false t false u false v = let me = self in rw (t, u, v) (inl (same, rw me (omega arith)))
+
+  acquire_raises : (call : acquiring.Acquire) (index : ℕ) (raise : raises.Raise) (a : After raises.Raise ReleaseState) → RaiseTo raise a
+      → AcquireTo (raise_left n raise) (acquire_raised call index a)
+  acquire_raises call index raise (GoOn next) h = inl h
+  acquire_raises call index raise (Done states.TheVariants.Locked) h = tt
+  acquire_raises call index raise (Done states.TheVariants.Unlocked) h = tt
+
+  pub acquire_to : (call : acquiring.Acquire) (stage : acquires.AcquireStage) (cell : ℕ) → call.capacity ≡ c → AcquireAt stage → new ≡ acquire_then stage n
+      → AcquireTo (acquire_left c n stage) (acquire_takes call stage (acquire_old stage n cell))
+  acquire_to call acquires.TheVariants.LoadsCounter cell cap at is =
+      acquire_sees_to call cap is (acquire_left c n acquires.TheVariants.LoadsCounter) (omega arith)
+  acquire_to call (acquires.TheVariants.FillsCell k index) cell cap at is = go (cell == empty) refl (nat_lt (index + 1) call.capacity) refl (n == k) refl
+    where
+      go : (t : Bool) → (cell == empty) ≡ t → (u : Bool) → nat_lt (index + 1) call.capacity ≡ u → (v : Bool) → (n == k) ≡ v
+          → AcquireTo (acquire_left c n (acquires.TheVariants.FillsCell k index)) (acquire_takes call (acquires.TheVariants.FillsCell k index) cell)
+      go true t u e true v = rw t (inl (is, rw v (omega arith)))
+      go true t u e false v = rw t (inl (is, rw v (omega arith)))
+      go false t true u true v = let less : index + 2 ≤ c = grind (arith, nat_tests) in rw (t, u) (inl (is, rw v (omega arith)))
+      go false t true u false v = let less : index + 2 ≤ c = grind (arith, nat_tests) in rw (t, u) (inl (is, rw v (omega arith)))
+      go false t false u true v = rw (t, u) (inl (is, rw v (omega arith)))
+      go false t false u false v = rw (t, u) (inl (is, rw v (omega arith)))
+  acquire_to call (acquires.TheVariants.ChecksCounter k) cell cap at is = go (n == k) refl
+    where
+      go : (s : Bool) → (n == k) ≡ s
+          → AcquireTo (acquire_left c n (acquires.TheVariants.ChecksCounter k)) (acquire_takes call (acquires.TheVariants.ChecksCounter k) n)
+      go true s = rw s tt
+      go false s = let same : new ≡ n = rw s at is in rw s (acquire_sees_to call cap same (c - 1 + 3) (omega arith))
+  acquire_to call (acquires.TheVariants.Raises index raise) cell cap at is = acquire_raises call index raise (raise_after raise n) (raise_to raise at is)
+
+  -- ---- a release
+
+  abbrev pub ReleaseTo : ℕ → After releasing.Release Released → Type 0
+  ReleaseTo was (GoOn next) = Less 1 was (release_left c n next.stage)
+  ReleaseTo was (Done result) = Unit {0}
+
+  release_raises : (call : releasing.Release) (mode : ReleaseMode) (raise : raises.Raise) (a : After raises.Raise ReleaseState) → RaiseTo raise a
+      → ReleaseTo (raise_left n raise + (c - 1 + 3)) (release_raised call mode a)
+  release_raises call mode raise (GoOn next) h = inl (h.0, (let le = h.1 in omega arith))
+  release_raises call Default raise (Done state) h = tt
+  release_raises call LockIfLastIndex raise (Done state) h = less_by 1 (raise_left n raise + (c - 1 + 3)) (c - 1 + 2) (omega arith) h
+
+  release_locks : (call : releasing.Release) (lock : locks.Lock) (a : After locks.Lock ReleaseState) → LockTo lock a
+      → ReleaseTo (lock_left c n lock) (release_locked call a)
+  release_locks call lock (GoOn next) h = h
+  release_locks call lock (Done state) h = tt
+
+  pub release_to : (call : releasing.Release) (stage : releases.ReleaseStage) (given : GiveBack) (cell : ℕ) → call.capacity ≡ c → ReleaseAt stage
+      → new ≡ release_then stage n → ReleaseTo (release_left c n stage) (release_takes call stage given (release_old stage n cell))
+  release_to call releases.TheVariants.EmptiesCell given cell cap at is = go (cell == given.owner) refl
+    where
+      go : (t : Bool) → (cell == given.owner) ≡ t
+          → ReleaseTo (release_left c n releases.TheVariants.EmptiesCell) (release_takes call releases.TheVariants.EmptiesCell given cell)
+      go true t = rw t (inl (is, omega arith))
+      go false t = rw t tt
+  release_to call (releases.TheVariants.Raises raise) given cell cap at is =
+      release_raises call given.mode raise (raise_after raise n) (raise_to raise at is)
+  release_to call (releases.TheVariants.Locks lock) given cell cap at is =
+      subst (λ m. ReleaseTo (lock_left c n lock) (release_locked call (lock_after m lock (lock_old lock n cell)))) (sym cap)
+      (release_locks call lock (lock_after c lock (lock_old lock n cell)) (lock_to lock cell at is))
+
+  -- ---- a recovery
+
+  abbrev pub RecoverTo : ℕ → ℕ → After recovering.Recover ReleaseState → Type 0
+  RecoverTo steps was (GoOn next) = Less steps was (recover_left c n next.stage)
+  RecoverTo steps was (Done state) = Unit {0}
+
+  recover_comes : (call : recovering.Recover) (index steps was : ℕ) → call.capacity ≡ c → rest c index + steps ≤ was → StaysOrMoves
+      → RecoverTo steps was (recover_comes_to call (index + 1))
+  recover_comes call index steps was cap enough h = go (nat_lt (index + 1) call.capacity) refl
+    where
+      go : (t : Bool) → nat_lt (index + 1) call.capacity ≡ t → RecoverTo steps was (recover_comes_to call (index + 1))
+      go true t =
+          let less : index + 2 ≤ c = grind (arith, nat_tests) in
+          let paid = up (c - (index + 1 + 1)) (c - (index + 1)) (c - 1 + 7) (omega (arith, less)) in
+          rw t (less_by steps was (rest c (index + 1) + (c - 1 + 7)) (omega (arith, paid, enough)) h)
+      go false t = rw t (less_by steps was 0 (omega (arith, enough)) h)
+
+  recover_raises : (call : recovering.Recover) (index : ℕ) (mode : ReleaseMode) (raise : raises.Raise) (a : After raises.Raise ReleaseState) → call.capacity ≡ c
+      → RaiseTo raise a → RecoverTo 1 (rest c index + (c - 1 + 4) + raise_left n raise) (recover_raised call index mode a)
+  recover_raises call index mode raise (GoOn next) cap h = inl (h.0, (let le = h.1 in omega arith))
+  recover_raises call index mode raise (Done states.TheVariants.Locked) cap h = tt
+  recover_raises call index Default raise (Done states.TheVariants.Unlocked) cap h =
+      recover_comes call index 1 (rest c index + (c - 1 + 4) + raise_left n raise) cap (omega arith) h
+  recover_raises call index LockIfLastIndex raise (Done states.TheVariants.Unlocked) cap h =
+      less_by 1 (rest c index + (c - 1 + 4) + raise_left n raise) (rest c index + 1 + (c - 1 + 2)) (omega arith) h
+
+  recover_locks : (call : recovering.Recover) (index : ℕ) (lock : locks.Lock) (a : After locks.Lock ReleaseState) → call.capacity ≡ c → LockTo lock a
+      → RecoverTo 1 (rest c index + 1 + lock_left c n lock) (recover_locked call index a)
+  recover_locks call index lock (GoOn next) cap (inl h) = inl (h.0, (let le = h.1 in omega arith))
+  recover_locks call index lock (GoOn next) cap (inr h) = inr h
+  recover_locks call index lock (Done state) cap h = recover_comes call index 1 (rest c index + 1 + lock_left c n lock) cap (omega arith) h
+
+  pub recover_to : (call : recovering.Recover) (stage : recovers.RecoverStage) (mode : ReleaseMode) (cell : ℕ) → call.capacity ≡ c → RecoverAt stage
+      → new ≡ recover_then stage n → RecoverTo (recover_steps stage) (recover_left c n stage) (recover_takes call stage mode (recover_old stage n cell))
+  recover_to call recovers.TheVariants.LoadsCounter mode cell cap at is = go (n == locked) refl (nat_lt 0 call.capacity) refl
+    where
+      go : (t : Bool) → (n == locked) ≡ t → (u : Bool) → nat_lt 0 call.capacity ≡ u
+          → RecoverTo 1 (recover_left c n recovers.TheVariants.LoadsCounter) (recover_takes call recovers.TheVariants.LoadsCounter mode n)
+      go true t u e = rw t tt
+      go false t true u = rw (t, u) (inl (is, omega arith))
+      go false t false u = rw (t, u) (inl (is, omega arith))
+  recover_to call (recovers.TheVariants.LoadsCell index) mode cell cap at is = go (cell == empty) refl
+    where
+      go : (t : Bool) → (cell == empty) ≡ t
+          → RecoverTo 1 (recover_left c n (recovers.TheVariants.LoadsCell index)) (recover_takes call (recovers.TheVariants.LoadsCell index) mode cell)
+      go true t = rw t (recover_comes call index 1 (rest c index + (c - 1 + 7)) cap (omega arith) (inl is))
+      go false t = rw t (inl (is, omega arith))
+  recover_to call (recovers.TheVariants.Asks index owner) mode cell cap at is = go (cell == 0) refl
+    where
+      go : (t : Bool) → (cell == 0) ≡ t
+          → RecoverTo 0 (recover_left c n (recovers.TheVariants.Asks index owner)) (recover_takes call (recovers.TheVariants.Asks index owner) mode cell)
+      go true t = rw t (recover_comes call index 0 (rest c index + (c - 1 + 6)) cap (omega arith) (inl is))
+      go false t = rw t (inl (is, omega arith))
+  recover_to call (recovers.TheVariants.EmptiesCell index owner) mode cell cap at is = go (cell == owner) refl
+    where
+      go : (t : Bool) → (cell == owner) ≡ t
+          → RecoverTo 1 (recover_left c n (recovers.TheVariants.EmptiesCell index owner))
+          (recover_takes call (recovers.TheVariants.EmptiesCell index owner) mode cell)
+      go true t = rw t (inl (is, omega arith))
+      go false t = rw t (recover_comes call index 1 (rest c index + (c - 1 + 6)) cap (omega arith) (inl is))
+  recover_to call (recovers.TheVariants.Raises index raise) mode cell cap at is =
+      recover_raises call index mode raise (raise_after raise n) cap (raise_to raise at is)
+  recover_to call (recovers.TheVariants.Locks index lock) mode cell cap at is =
+      subst (λ m. RecoverTo 1 (rest c index + 1 + lock_left c n lock) (recover_locked call index (lock_after m lock (lock_old lock n cell)))) (sym cap)
+      (recover_locks call index lock (lock_after c lock (lock_old lock n cell)) cap (lock_to lock cell at is))
+  recover_to call recovers.TheVariants.LoadsCounterAgain mode cell cap at is = tt
+
+  -- ---- a find, and a number of borrowed indices
+
+  abbrev pub FindTo : ℕ → ℕ → After finding.Find ℕ → Type 0
+  FindTo steps was (GoOn next) = Less steps was (find_left c next.stage)
+  FindTo steps was (Done found) = Unit {0}
+
+  find_comes : (call : finding.Find) (index found steps was : ℕ) → call.capacity ≡ c → new ≡ n → steps ≤ 1 → c - (index + 1) + steps ≤ was
+      → FindTo steps was (find_comes_to call (index + 1) found)
+  find_comes call index found steps was cap same one enough = go (nat_lt (index + 1) call.capacity) refl
+    where
+      go : (t : Bool) → nat_lt (index + 1) call.capacity ≡ t → FindTo steps was (find_comes_to call (index + 1) found)
+      go true t = let less : index + 2 ≤ c = grind (arith, nat_tests) in rw t (inl (same, omega (arith, less, enough)))
+      go false t = rw t tt
+
+  pub find_to : (call : finding.Find) (stage : finds.FindStage) (owner cell : ℕ) → call.capacity ≡ c → new ≡ n
+      → FindTo (find_steps stage) (find_left c stage) (find_takes call stage owner cell)
+  find_to call (finds.TheVariants.LoadsCell index found) owner cell cap same = go (cell == owner) refl
+    where
+      go : (t : Bool) → (cell == owner) ≡ t
+          → FindTo 1 (find_left c (finds.TheVariants.LoadsCell index found)) (find_takes call (finds.TheVariants.LoadsCell index found) owner cell)
+      go true t = rw t (inl (same, omega arith))
+      go false t = rw t (find_comes call index found 1 (c - (index + 1) + 1) cap same (omega arith) (omega arith))
+  find_to call (finds.TheVariants.Asks index found) owner cell cap same = go (cell == 0) refl
+    where
+      go : (t : Bool) → (cell == 0) ≡ t
+          → FindTo 0 (find_left c (finds.TheVariants.Asks index found)) (find_takes call (finds.TheVariants.Asks index found) owner cell)
+      go true t = rw t tt
+      go false t = rw t (find_comes call index found 0 (c - (index + 1)) cap same (omega arith) (omega arith))
+
+  abbrev pub BorrowedTo : ℕ → After counting.BorrowedIndices ℕ → Type 0
+  BorrowedTo was (GoOn next) = Less 1 was (count_left c n next.count)
+  BorrowedTo was (Done found) = Unit {0}
+
+  borrows : (call : counting.BorrowedIndices) (count : counts.Count) (a : After counts.Count ends.Counted) → CountTo count a
+      → BorrowedTo (count_left c n count) (borrowed_counted call a)
+  borrows call count (GoOn next) h = inl h
+  borrows call count (Done ends.TheVariants.Locked) h = tt
+  borrows call count (Done (ends.TheVariants.Filled filled counter)) h = tt
+
+  pub borrowed_to : (call : counting.BorrowedIndices) (cell : ℕ) → call.capacity ≡ c → CountAt call.count → new ≡ count_then call.count n
+      → BorrowedTo (count_left c n call.count) (borrowed_counted call (count_after call.capacity call.count (count_old call.count n cell)))
+  borrowed_to call cell cap at is =
+      subst (λ m. BorrowedTo (count_left c n call.count) (borrowed_counted call (count_after m call.count (count_old call.count n cell)))) (sym cap)
+      (borrows call call.count (count_after c call.count (count_old call.count n cell)) (count_to call.count cell at is))
