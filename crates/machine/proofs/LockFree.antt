@@ -28,7 +28,7 @@ keep_ending T Robust = tt
 keep_ending T Container = tt
 keep_ending T Loan = tt
 
-if_some : {A : Type 0} (P Q : A → Type 0) (o : Option A) → ((x : A) → P x → Q x) → IfSome o P → IfSome o Q
+pub if_some : {A : Type 0} (P Q : A → Type 0) (o : Option A) → ((x : A) → P x → Q x) → IfSome o P → IfSome o Q
 if_some P Q None more h = tt
 if_some P Q (Some x) more h = more x h
 

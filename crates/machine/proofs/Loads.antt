@@ -1,0 +1,93 @@
+-- Where finite loads end, and calls whose parties go on, one line a kind.
+use Rattle.std.specs.Prelude.{IfSome}
+use Rattle.model.specs.declared.turn.Kind.{Kind}
+use Rattle.model.specs.declared.turn.Kind.TheVariants.{IndexQueue, Overflow, Queue, Atomic, Bits, Counts, Indices, Robust, Container, Loan}
+use Rattle.model.specs.Fair.{EndsInRounds, EndsInRoundsOf, EndsInRoundsRuns, EndsIfFair, EndsIfFairOf}
+use Rattle.model.specs.Loads.{EndsLoad, EndsLoadOf, EndsLoadRuns}
+use Rattle.std.proofs.Common.{refl}
+use Rattle.model.specs.Refusals.{refusal_of}
+use Rattle.model.specs.LockFree.{IsBelow, IsLockFree, KeepsEnding, IsDefault, lock_free_bound, default_bound, room_bound, default_container_bound}
+use Rattle.model.proofs.LockFree.Fairly.{rounds_end, rounds_end_of, rounds_end_runs, fair_end, fair_end_of}
+use Rattle.model.proofs.LockFree.Loads.{loads_end, loads_end_of, load_within}
+use Rattle.model.proofs.LockFree.Machines.{all_allowed, one_call_ends, loads_in_runs}
+use Rattle.model.proofs.Rows.{possible}
+use Rattle.laws_container.specs.LockFree.{room_container_bound}
+use Rattle.laws_container.proofs.RoomLockFree.{container_keeps_ending as room_container_keeps_ending}
+use Rattle.laws_loan.specs.LockFree.{channel_bound}
+use Rattle.laws_robust.proofs.RoomCalls.{robust_keeps_ending as room_keeps_ending}
+use Rattle.machine.proofs.LockFree.{if_some, keep_ending, robust_keeps_ending, container_keeps_ending, channel_keeps_ending}
+
+pub load_ends : (T : Type 0) (kind : Kind) → IfSome (lock_free_bound kind) (EndsLoad T kind)
+load_ends T kind = if_some (KeepsEnding T kind) (EndsLoad T kind) (lock_free_bound kind) (loads_end kind) (keep_ending T kind)
+
+pub ends_in_rounds : (T : Type 0) (kind : Kind) → IfSome (lock_free_bound kind) (EndsInRounds T kind)
+ends_in_rounds T kind = if_some (EndsLoad T kind) (EndsInRounds T kind) (lock_free_bound kind) (rounds_end kind) (load_ends T kind)
+
+pub ends_if_fair : (T : Type 0) (kind : Kind) → IfSome (lock_free_bound kind) (EndsIfFair T kind)
+ends_if_fair T kind = if_some (EndsLoad T kind) (EndsIfFair T kind) (lock_free_bound kind) (fair_end kind) (load_ends T kind)
+
+-- the machines as they run
+pub loads_as_run : (T : Type 0) (kind : Kind) → IfSome (lock_free_bound kind) (EndsLoadRuns T kind)
+loads_as_run T IndexQueue = loads_in_runs IndexQueue refl _ (load_ends T IndexQueue)
+loads_as_run T Overflow = loads_in_runs Overflow refl _ (load_ends T Overflow)
+loads_as_run T Queue = loads_in_runs Queue refl _ (load_ends T Queue)
+loads_as_run T Atomic = loads_in_runs Atomic refl _ (load_ends T Atomic)
+loads_as_run T Bits = loads_in_runs Bits refl _ (load_ends T Bits)
+loads_as_run T Counts = loads_in_runs Counts refl _ (load_ends T Counts)
+loads_as_run T Indices = loads_in_runs Indices refl _ (load_ends T Indices)
+loads_as_run T Robust = tt
+loads_as_run T Container = tt
+loads_as_run T Loan = tt
+
+-- robust index sets in which no call may lock
+pub robust_load_ends : (T : Type 0) → EndsLoadOf T Robust IsDefault default_bound
+robust_load_ends T = loads_end_of Robust IsDefault default_bound (robust_keeps_ending T)
+
+pub robust_in_rounds : (T : Type 0) → EndsInRoundsOf T Robust IsDefault default_bound
+robust_in_rounds T = rounds_end_of Robust IsDefault default_bound (robust_load_ends T)
+
+pub robust_if_fair : (T : Type 0) → EndsIfFairOf T Robust IsDefault default_bound
+robust_if_fair T = fair_end_of Robust IsDefault default_bound (robust_load_ends T)
+
+-- and in all runs
+pub room_one_ends : (T : Type 0) → IsLockFree T Robust room_bound
+room_one_ends T = one_call_ends Robust room_bound room_keeps_ending
+
+pub room_load_ends : (T : Type 0) → EndsLoad T Robust room_bound
+room_load_ends T = loads_end Robust room_bound room_keeps_ending
+
+pub room_in_rounds : (T : Type 0) → EndsInRounds T Robust room_bound
+room_in_rounds T = rounds_end Robust room_bound (room_load_ends T)
+
+pub room_if_fair : (T : Type 0) → EndsIfFair T Robust room_bound
+room_if_fair T = fair_end Robust room_bound (room_load_ends T)
+
+-- containers in which no call may lock
+pub container_load_ends : (T : Type 0) → EndsLoadOf T Container IsDefault default_container_bound
+container_load_ends T = loads_end_of Container IsDefault default_container_bound (container_keeps_ending T)
+
+pub container_in_rounds : (T : Type 0) → EndsInRoundsOf T Container IsDefault default_container_bound
+container_in_rounds T = rounds_end_of Container IsDefault default_container_bound (container_load_ends T)
+
+pub container_if_fair : (T : Type 0) → EndsIfFairOf T Container IsDefault default_container_bound
+container_if_fair T = fair_end_of Container IsDefault default_container_bound (container_load_ends T)
+
+-- and in all runs
+pub room_container_one_ends : (T : Type 0) → IsLockFree T Container room_container_bound
+room_container_one_ends T = one_call_ends Container room_container_bound room_container_keeps_ending
+
+pub room_container_load_ends : (T : Type 0) → EndsLoad T Container room_container_bound
+room_container_load_ends T = loads_end Container room_container_bound room_container_keeps_ending
+
+pub room_container_if_fair : (T : Type 0) → EndsIfFair T Container room_container_bound
+room_container_if_fair T = fair_end Container room_container_bound (room_container_load_ends T)
+
+-- loan channels, as they run
+pub channel_load_ends : (T : Type 0) → EndsLoadRuns T Loan channel_bound
+channel_load_ends T t is r turns all =
+    let n = t.world.parties in
+    load_within refusal_of possible n (IsBelow n) (λ turn below. below) (channel_bound n t.world.capacity t.world.coding.size) t turns all
+    (all_allowed t turns n refl all).1 (λ turns all below. channel_keeps_ending T t is r turns all)
+
+pub channel_in_rounds : (T : Type 0) → EndsInRoundsRuns T Loan channel_bound
+channel_in_rounds T = rounds_end_runs Loan channel_bound (channel_load_ends T)
