@@ -5,6 +5,7 @@ pub mod Ends
 pub mod Families
 pub mod Holding
 pub mod Loans
+pub mod Nexts
 pub mod Once
 pub mod Picking
 pub mod Progressing
@@ -14,4 +15,5 @@ pub mod Roomy
 pub mod Visiting
 pub mod WantsNothing
 pub mod Worked
+pub mod WorkedLoads
 pub mod WorkedLockFree

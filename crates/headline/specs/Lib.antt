@@ -2,3 +2,4 @@ pub mod Ends
 pub mod Headline
 pub mod Holders
 pub mod Moments
+pub mod Nexts

@@ -17,6 +17,8 @@ ghost use Rattle.model.specs.World.{Trace, opened, capacity_error, queue_error, 
 ghost use Rattle.laws_loan.specs.LockFree.{channel_bound};
 ghost use Rattle.headline.specs.Headline.{Holds, Takes};
 
+pub mod loads;
+
 use machine::Machine;
 use model::coding::Coded;
 use steps::words::Words;

@@ -1,0 +1,39 @@
+-- Who takes more turns than the load of all has ended a call: of machines as they run.
+use Rattle.std.specs.Prelude.{◌≡◌, ◌<◌, ℕ, ◌+◌, ◌==◌, List, [], ◌∷◌, if◌then◌else◌}
+use Rattle.std.specs.List.{sum_by}
+use Rattle.model.specs.declared.event.Event.{Event}
+use Rattle.model.specs.declared.event.Event.TheVariants.{Finished}
+use Rattle.model.specs.declared.turn.Kind.{Kind}
+use Rattle.model.specs.declared.turn.Turn.{Turn}
+use Rattle.model.specs.declared.turn.Turn.TheVariants.{Next}
+use Rattle.model.specs.LockFree.{Bound}
+use Rattle.model.specs.Turns.{after_turns, AreAllowed, IsReached}
+use Rattle.model.specs.World.{Trace}
+use Rattle.model.specs.Loads.{begins_in, pending, load}
+
+module _ {T : Type 0} where
+  -- 1 for a turn in which the party's call goes on
+  abbrev pub next_of : ℕ → Turn T → ℕ
+  next_of p (Next q) = if q == p then 1 else 0
+  next_of p turn = 0
+
+  -- in how many of the turns the party's call goes on
+  abbrev pub nexts_in : ℕ → List (Turn T) → ℕ
+  nexts_in p [] = 0
+  nexts_in p (turn ∷ turns) = next_of p turn + nexts_in p turns
+
+  abbrev pub own_end : ℕ → Event T → ℕ
+  own_end p (Finished q start answer) = if q == p then 1 else 0
+  own_end p e = 0
+
+  -- how many calls of the party have ended
+  abbrev pub own_ends : ℕ → List (Event T) → ℕ
+  own_ends p events = sum_by (own_end p) events
+
+-- A party whose calls go on in more turns than the load of the calls that were under way and of those that begin ends one.
+abbrev pub EndsByTurns : Type 0 → Kind → Bound → Type 0
+EndsByTurns T kind bound =
+    (t : Trace T) → t.world.kind ≡ kind → IsReached t → (p : ℕ) (turns : List (Turn T)) → AreAllowed t turns
+    → load (bound t.world.parties t.world.capacity t.world.coding.size)
+    (pending t.world.parties t.world + begins_in turns) < nexts_in p turns
+    → own_ends p t.events < own_ends p (after_turns t turns).events
