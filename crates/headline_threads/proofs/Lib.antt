@@ -1,2 +1,4 @@
+pub mod Ending
+pub mod Knowing
 pub mod OneRunWorked
 pub mod Passing

@@ -1,18 +1,32 @@
--- Where calls end between threads.
-use Rattle.std.specs.Prelude.{◌<◌, ℕ, IfSome, List}
+-- Where calls end between threads, and loads.
+use Rattle.std.specs.Prelude.{◌≡◌, ◌<◌, ◌≤◌, ℕ, ◌-◌, Option, Some, None, IfSome, List, length}
 use Rattle.std.specs.List.{AllByRecursion}
 use Rattle.model.specs.declared.event.Event.{Event}
+use Rattle.model.specs.declared.event.Event.TheVariants.{Begun}
+use Rattle.model.specs.declared.event.Start.{Start}
 use Rattle.model.specs.declared.turn.Kind.{Kind}
+use Rattle.model.specs.declared.turn.Turn.{Turn}
 use Rattle.model.specs.Coding.{Coding}
+use Rattle.model.specs.Fair.{turns_of, StepsInEach, RestsInOne}
+use Rattle.model.specs.Loads.{begun, load}
 use Rattle.model.specs.LockFree.{AreWithinEnds, Bound, ends, steps_in}
 use Rattle.model.specs.Reading.{whose}
 use Rattle.model.specs.World.{opening}
 use Rattle.history.specs.declared.view.View.{View}
 use Rattle.history.specs.History.{Knows, Continues, run_of}
 
+-- the call that the event begins, if any
+abbrev pub begun_as : {T : Type 0} → Event T → Option (Start T)
+begun_as (Begun p start) = Some start
+begun_as e = None
+
 -- each of these events is of a party below n
 abbrev pub AreBelow : {T : Type 0} → ℕ → List (Event T) → Type 0
 AreBelow n events = AllByRecursion (λ e. IfSome (whose e) (λ p. p < n)) events
+
+-- no call begins but such ones
+abbrev pub BeginSuch : {T : Type 0} → (Start T → Type 0) → List (Event T) → Type 0
+BeginSuch Such events = AllByRecursion (λ e. IfSome (begun_as e) Such) events
 
 -- how many steps the table has taken between what a pass knew and what it knows
 abbrev pub steps_between : {T : Type 0} (code : Coding T) (kind : Kind) (capacity : ℕ) (old new : View T)
@@ -44,3 +58,55 @@ KnownKeepsEnding T kind bound =
     → (n : ℕ) → AreBelow n v.seen
     → AreWithinEnds (bound n capacity code.size) (steps_in (opening code kind capacity 0) v.turns)
     0 (ends v.seen)
+
+-- ---- of passes that have seen no call begin but such ones
+
+abbrev pub PassesEndOf : (T : Type 0) → Kind → (Start T → Type 0) → Bound → Type 0
+PassesEndOf T kind Such bound =
+    (code : Coding T) (capacity : ℕ) (old new : View T) → Knows code kind capacity old
+    → (later : Continues code kind capacity old new) → (n : ℕ) → AreBelow n new.seen → BeginSuch Such new.seen
+    → bound n capacity code.size < steps_between code kind capacity old new later
+    → ends old.seen < ends new.seen
+
+abbrev pub KnownKeepsEndingOf : (T : Type 0) → Kind → (Start T → Type 0) → Bound → Type 0
+KnownKeepsEndingOf T kind Such bound =
+    (code : Coding T) (capacity : ℕ) (v : View T) → Knows code kind capacity v
+    → (n : ℕ) → AreBelow n v.seen → BeginSuch Such v.seen
+    → AreWithinEnds (bound n capacity code.size) (steps_in (opening code kind capacity 0) v.turns)
+    0 (ends v.seen)
+
+-- ---- loads
+
+-- All steps that the table has taken between what a pass knew and what it knows are at most the load of the calls that had
+-- begun and not ended, and of those that have begun since.
+abbrev pub PassesEndLoad : Type 0 → Kind → Bound → Type 0
+PassesEndLoad T kind bound =
+    (code : Coding T) (capacity : ℕ) (old new : View T) → Knows code kind capacity old
+    → (later : Continues code kind capacity old new) → (n : ℕ) → AreBelow n new.seen
+    → steps_between code kind capacity old new later
+    ≤ load (bound n capacity code.size) (begun new.seen - ends old.seen)
+
+-- And all that a pass knows of, from the opening of the table on, are at most the load of the calls that have begun.
+abbrev pub KnownEndsLoad : Type 0 → Kind → Bound → Type 0
+KnownEndsLoad T kind bound =
+    (code : Coding T) (capacity : ℕ) (v : View T) → Knows code kind capacity v
+    → (n : ℕ) → AreBelow n v.seen
+    → steps_in (opening code kind capacity 0) v.turns ≤ load (bound n capacity code.size) (begun v.seen)
+
+-- The same of passes that have seen no call begin but such ones.
+abbrev pub KnownEndsLoadOf : (T : Type 0) → Kind → (Start T → Type 0) → Bound → Type 0
+KnownEndsLoadOf T kind Such bound =
+    (code : Coding T) (capacity : ℕ) (v : View T) → Knows code kind capacity v
+    → (n : ℕ) → AreBelow n v.seen → BeginSuch Such v.seen
+    → steps_in (opening code kind capacity 0) v.turns ≤ load (bound n capacity code.size) (begun v.seen)
+
+-- Cut what the table has done in between into more rounds than that load: a party that takes a step in each, unless it has no
+-- call under way as the round begins, has none as one of them begins.
+abbrev pub PassesRest : Type 0 → Kind → Bound → Type 0
+PassesRest T kind bound =
+    (code : Coding T) (capacity : ℕ) (old new : View T) → Knows code kind capacity old
+    → (later : Continues code kind capacity old new) → (n : ℕ) → AreBelow n new.seen
+    → (rounds : List (List (Turn T))) → later.first.rest ≡ turns_of rounds
+    → (p : ℕ) → StepsInEach p (run_of code kind capacity old.turns) rounds
+    → load (bound n capacity code.size) (begun new.seen - ends old.seen) < length rounds
+    → RestsInOne p (run_of code kind capacity old.turns) rounds

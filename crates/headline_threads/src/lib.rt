@@ -1,11 +1,14 @@
-//! That calls end between threads: lock-freedom of the run that a pass knows. The function does nothing: its contract is a
-//! law, and what its words mean stands in `specs`.
+//! That calls end between threads: lock-freedom of the run that a pass knows, and that finite loads end. The functions do
+//! nothing: the contract of each is a law, and what its words mean stands in `specs`.
 #![tactic(auto)]
 
 ghost use Rattle.std.specs.Prelude.{IfSome};
 ghost use Rattle.model.specs.declared.turn.Kind.{Kind};
-ghost use Rattle.model.specs.LockFree.{lock_free_bound};
-ghost use Rattle.headline_threads.specs.Ends.{PassesEnd, PassesKeepEnding, KnownKeepsEnding};
+ghost use Rattle.model.specs.declared.turn.Kind.TheVariants.{Robust, Container};
+ghost use Rattle.model.specs.LockFree.{IsDefault, lock_free_bound, default_bound, room_bound, default_container_bound};
+ghost use Rattle.laws_container.specs.LockFree.{room_container_bound};
+ghost use Rattle.headline_threads.specs.Ends.{PassesEnd, PassesKeepEnding, KnownKeepsEnding, PassesEndOf, KnownKeepsEndingOf};
+ghost use Rattle.headline_threads.specs.Ends.{PassesEndLoad, KnownEndsLoad, KnownEndsLoadOf, PassesRest};
 
 /// Of the kinds that have a bound in `lock_free_bound`, where the calls that a pass has seen are of parties with numbers below
 /// n. What a pass knew and what it knows later are one run of the table (`Continues`, which each call, split and join gives).
@@ -14,10 +17,38 @@ ghost use Rattle.headline_threads.specs.Ends.{PassesEnd, PassesKeepEnding, Known
 /// of the table on (`known`).
 ///
 /// A pass knows the beginning of its table's run up to its own last step or look. Nothing says that a thread runs, or that it
-/// takes a step. A robust index set and a container of threads are left out: their runs are open, and no bound is proved of
-/// open runs.
+/// takes a step.
 pub fn passes_keep_ending<T>()
     ensures ends { (kind : Kind) → IfSome (lock_free_bound kind) (PassesEnd T kind) }
     ensures keep { (kind : Kind) → IfSome (lock_free_bound kind) (PassesKeepEnding T kind) }
     ensures known { (kind : Kind) → IfSome (lock_free_bound kind) (KnownKeepsEnding T kind) }
+{}
+
+/// A finite load ends between threads. All steps that the table took, as far as a pass knows, are at most the bound and one for
+/// each call that it has seen begin (`known`), so a pass with the whole share knows a bound of all steps that threads have
+/// taken there. Since an earlier time they are at most so many for each call that had begun then and not ended, and for each
+/// that has begun since (`between`).
+///
+/// So a thread's call ends if the thread goes on: cut what the table did since then into more rounds than that, and a party
+/// that took a step in each of them, unless it had no call under way, has had none (`rest`).
+pub fn passes_end_loads<T>()
+    ensures between { (kind : Kind) → IfSome (lock_free_bound kind) (PassesEndLoad T kind) }
+    ensures known { (kind : Kind) → IfSome (lock_free_bound kind) (KnownEndsLoad T kind) }
+    ensures rest { (kind : Kind) → IfSome (lock_free_bound kind) (PassesRest T kind) }
+{}
+
+/// The same of robust index sets and containers, whose runs between threads are open: nobody sees an owner die. Both are
+/// lock-free in each of them, with bounds that say nothing of practice. Where a pass has seen no call begin that may lock,
+/// their bounds are small.
+pub fn owners_keep_ending<T>()
+    ensures robust { PassesEnd T Robust room_bound }
+    ensures robust_load { KnownEndsLoad T Robust room_bound }
+    ensures container { PassesEnd T Container room_container_bound }
+    ensures container_load { KnownEndsLoad T Container room_container_bound }
+    ensures robust_by_default { PassesEndOf T Robust IsDefault default_bound }
+    ensures robust_known_by_default { KnownKeepsEndingOf T Robust IsDefault default_bound }
+    ensures robust_load_by_default { KnownEndsLoadOf T Robust IsDefault default_bound }
+    ensures container_by_default { PassesEndOf T Container IsDefault default_container_bound }
+    ensures container_known_by_default { KnownKeepsEndingOf T Container IsDefault default_container_bound }
+    ensures container_load_by_default { KnownEndsLoadOf T Container IsDefault default_container_bound }
 {}

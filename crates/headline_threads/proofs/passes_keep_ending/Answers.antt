@@ -1,4 +1,4 @@
-use Rattle.headline_threads.proofs.Passing.{passes_end, passes_keep_ending as kept, known_keeps_ending}
+use Rattle.headline_threads.proofs.Ending.{passes_end, passes_keep_ending as kept, known_keeps_ending}
 use Rattle.headline_threads.proofs.passes_keep_ending.Goals as goal
 
 pub returns-clause-ends : goal.returns-clause-ends

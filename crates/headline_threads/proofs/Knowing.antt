@@ -1,0 +1,215 @@
+-- Calls end between what a pass knew and what it knows, and finite loads do, since its turns are those of one run.
+use Rattle.std.proofs.Common.{◌≡◌, ◌<◌, ◌≤◌, ◌+◌, ◌-◌, ℕ, zero, suc, None, List, [], ◌∷◌, ◌++◌, refl, sym, ap, subst, length}
+use Rattle.std.proofs.Common.{◌∙◌, arith, inr, ⊎_elim}
+use Rattle.std.proofs.lemmas.Bool.{cases_lt}
+use Rattle.std.specs.List.{AllByRecursion}
+use Rattle.model.specs.declared.event.Event.{Event}
+use Rattle.model.specs.declared.event.Start.{Start}
+use Rattle.model.specs.declared.turn.Kind.{Kind}
+use Rattle.model.specs.declared.turn.Turn.{Turn}
+use Rattle.model.specs.Coding.{Coding, IsCoding}
+use Rattle.model.specs.Fair.{turns_of, StepsInEach, RestsInOne}
+use Rattle.model.specs.Loads.{begins_in, begun, pending, load}
+use Rattle.model.specs.LockFree.{Bound, BeginsSuch, IsBelow, AreWithinEnds, ends, steps_in}
+use Rattle.model.specs.Turns.{AreAllowedBy, IsReachedBy, run_by, after_turn, after_turns}
+use Rattle.model.specs.World.{World, Trace, capacity_error, opening}
+use Rattle.model.proofs.LockFree.Counted.{counted, begins_are}
+use Rattle.model.proofs.LockFree.Fairly.{rests_by}
+use Rattle.model.proofs.LockFree.Loads.{load_within, both, first_all, second_all}
+use Rattle.model.proofs.LockFree.Measure.{worth}
+use Rattle.model.proofs.LockFree.Weighed.{KeepsEndingBy}
+use Rattle.model.proofs.Reached.{turn_making, SameMaking}
+use Rattle.model.proofs.Rows.{IsPossible}
+use Rattle.history.specs.declared.view.View.{View}
+use Rattle.history.specs.History.{IsReachedAs, Knows, Continues, refusal_as, run_of}
+use Rattle.headline_threads.specs.Ends.{AreBelow, BeginSuch, steps_between}
+use Rattle.headline_threads.proofs.Passing.{all_after, all_before, turns_after, all_such, allowed_after, allowed_before, all_below, runs_so}
+
+more_ends : (bound steps before after : ℕ) → bound < steps → AreWithinEnds bound steps before after → before < after
+more_ends bound steps before after far within = ⊎_elim (λ less. less) none (cases_lt before after)
+  where
+    none : after ≤ before → before < after
+    none le = let paid = worth after before (bound + 1) le in absurd (omega arith)
+
+-- what is known of the runs of a kind in which no call begins but such ones
+pub record Runs {T : Type 0} (kind : Kind) (Such : Start T → Type 0) (bound : Bound) : Type 0 where
+  pub possible : (w : World T) (turn : Turn T) → refusal_as kind w turn ≡ None → IsPossible w turn
+  pub made : (t : Trace T) → IsReachedAs kind t → IsCoding t.world.coding × (capacity_error t.world.kind t.world.capacity ≡ None)
+  pub keeps : KeepsEndingBy (refusal_as kind) kind Such bound
+
+module _ {T : Type 0} where
+  making_of : (t : Trace T) (turns : List (Turn T)) → SameMaking t.world (after_turns t turns).world
+  making_of t [] = record { coding = refl; kind = refl; capacity = refl; parties = refl }
+  making_of t (turn ∷ turns) =
+      let here = turn_making t.world turn in
+      let rest = making_of (after_turn t turn) turns in
+      record {
+        coding = rest.coding ∙ here.coding;
+        kind = rest.kind ∙ here.kind;
+        capacity = rest.capacity ∙ here.capacity;
+        parties = rest.parties ∙ here.parties;
+      }
+
+  none_pending : (n : ℕ) (code : Coding T) (kind : Kind) (capacity : ℕ) → pending n (opening code kind capacity 0).world ≡ 0
+  none_pending zero code kind capacity = refl
+  none_pending (suc n) code kind capacity = let rest = none_pending n code kind capacity in omega arith
+
+  module _ (kind : Kind) (Such : Start T → Type 0) (bound : Bound) (R : Runs kind Such bound) (code : Coding T) (capacity : ℕ) where
+    abbrev start : Trace T
+    start = opening code kind capacity 0
+
+    abbrev so_far : List (Turn T) → Trace T
+    so_far turns = run_of code kind capacity turns
+
+    abbrev most : ℕ → ℕ
+    most n = bound n capacity code.size
+
+    -- of the first turns of a list, and of the others
+    record Later (first rest : List (Turn T)) (n : ℕ) : Type 0 where
+      pub of_kind : (so_far first).world.kind ≡ kind
+      pub sized : (so_far first).world.capacity ≡ capacity
+      pub coded : (so_far first).world.coding ≡ code
+      pub reached : IsReachedBy (refusal_as kind) (so_far first)
+      pub such_before : AllByRecursion (BeginsSuch Such) reached.turns
+      pub allowed_before : AreAllowedBy (refusal_as kind) start first
+      pub allowed : AreAllowedBy (refusal_as kind) (so_far first) rest
+      pub below_before : AllByRecursion (IsBelow n) first
+      pub below : AllByRecursion (IsBelow n) rest
+      pub such : AllByRecursion (BeginsSuch Such) rest
+
+    later_on : (first rest : List (Turn T)) (n : ℕ) → IsCoding code → capacity_error kind capacity ≡ None
+        → AreAllowedBy (refusal_as kind) start (first ++ rest) → AreBelow n (so_far (first ++ rest)).events → BeginSuch Such (so_far (first ++ rest)).events
+        → Later first rest n
+    later_on first rest n coded admitted allowed below such =
+        let making = making_of start first in
+        let all = all_such Such start (first ++ rest) such in
+        let low = all_below (refusal_as kind) R.possible n start (first ++ rest) (λ p. inr refl) allowed below in
+        let before = allowed_before (refusal_as kind) R.possible start first rest allowed in
+        record {
+          of_kind = making.kind;
+          sized = making.capacity;
+          coded = making.coding;
+          reached =
+              record {
+                coded = subst (λ (c : Coding T). IsCoding c) (sym making.coding) coded;
+                admitted =
+                    subst (λ k. capacity_error k (so_far first).world.capacity ≡ None) (sym making.kind)
+                    (subst (λ c. capacity_error kind c ≡ None) (sym making.capacity) admitted);
+                turns = first;
+                is = runs_so (refusal_as kind) R.possible start first before ∙ sym (opens making);
+              };
+          such_before = all_before (BeginsSuch Such) first rest all;
+          allowed_before = before;
+          allowed = allowed_after (refusal_as kind) R.possible start first rest allowed;
+          below_before = all_before (IsBelow n) first rest low;
+          below = all_after (IsBelow n) first rest low;
+          such = all_after (BeginsSuch Such) first rest all;
+        }
+      where
+        opens : SameMaking start.world (so_far first).world
+            → run_by (refusal_as kind) first
+            (opening (so_far first).world.coding (so_far first).world.kind (so_far first).world.capacity (so_far first).world.parties)
+            ≡ run_by (refusal_as kind) first start
+        opens making = rw (making.coding, making.kind, making.capacity, making.parties) refl
+
+    -- ---- of one list of turns
+
+    module _ (first rest : List (Turn T)) (n : ℕ) (h : Later first rest n) where
+      all_end : (turns : List (Turn T)) → AreAllowedBy (refusal_as kind) (so_far first) turns → AllByRecursion (IsBelow n) turns
+          → AllByRecursion (BeginsSuch Such) turns
+          → AreWithinEnds (most n) (steps_in (so_far first) turns) (ends (so_far first).events) (ends (after_turns (so_far first) turns).events)
+      all_end turns allowed below such =
+          let t = so_far first in
+          subst (λ (c : ℕ). AreWithinEnds (bound n c code.size) (steps_in t turns) (ends t.events) (ends (after_turns t turns).events)) h.sized
+          (subst (λ (c : Coding T). AreWithinEnds (bound n t.world.capacity c.size) (steps_in t turns) (ends t.events)
+          (ends (after_turns t turns).events))
+          h.coded
+          (R.keeps t h.of_kind h.reached h.such_before n turns allowed below such))
+
+      ends_within : AreWithinEnds (most n) (steps_in (so_far first) rest) (ends (so_far first).events) (ends (so_far (first ++ rest)).events)
+      ends_within =
+          subst (λ (u : Trace T). AreWithinEnds (most n) (steps_in (so_far first) rest) (ends (so_far first).events) (ends u.events))
+          (sym (turns_after start first rest)) (all_end rest h.allowed h.below h.such)
+
+      load_of : steps_in (so_far first) rest ≤ load (most n) (begun (so_far (first ++ rest)).events - ends (so_far first).events)
+      load_of =
+          let t = so_far first in
+          let steps =
+          load_within (refusal_as kind) R.possible n (λ turn. IsBelow n turn × BeginsSuch Such turn) (λ turn may. may.0) (most n) t rest h.allowed
+          (both (IsBelow n) (BeginsSuch Such) rest h.below h.such)
+          (λ turns allowed may.
+          all_end turns allowed (first_all (IsBelow n) (BeginsSuch Such) turns may) (second_all (IsBelow n) (BeginsSuch Such) turns may)) in
+          let under = counted (refusal_as kind) R.possible n start first h.allowed_before h.below_before in
+          let none = none_pending n code kind capacity in
+          let began = begins_are start first in
+          let begins = begins_are t rest in
+          let runs : begun (so_far (first ++ rest)).events ≡ begun (after_turns t rest).events
+          = ap (λ (u : Trace T). begun u.events) (turns_after start first rest) in
+          let same : pending n t.world + begins_in rest ≡ begun (so_far (first ++ rest)).events - ends t.events = omega arith in
+          subst (λ k. steps_in t rest ≤ load (most n) k) same steps
+
+    -- ---- of what a pass knows
+
+    module _ (old new : View T) (knows : Knows code kind capacity old) (later : Continues code kind capacity old new) (n : ℕ)
+        (below : AreBelow n new.seen) (such : BeginSuch Such new.seen) where
+      seen : new.seen ≡ (so_far (old.turns ++ later.first.rest)).events
+      seen = later.knows.is ∙ ap (λ ts. (so_far ts).events) later.first.is
+
+      is_coding : IsCoding code
+      is_coding = subst (λ (c : Coding T). IsCoding c) knows.run.coded (R.made (so_far old.turns) knows.run.reached).0
+
+      admitted : capacity_error kind capacity ≡ None
+      admitted =
+          subst (λ c. capacity_error kind c ≡ None) knows.run.sized
+          (subst (λ k. capacity_error k (so_far old.turns).world.capacity ≡ None) knows.run.of_kind (R.made (so_far old.turns) knows.run.reached).1)
+
+      there : Later old.turns later.first.rest n
+      there =
+          later_on old.turns later.first.rest n is_coding admitted
+          (subst (AreAllowedBy (refusal_as kind) start) later.first.is later.knows.allowed)
+          (subst (AreBelow n) seen below) (subst (BeginSuch Such) seen such)
+
+      abbrev steps : ℕ
+      steps = steps_between code kind capacity old new later
+
+      pub between : AreWithinEnds (most n) steps (ends old.seen) (ends new.seen)
+      between =
+          subst (λ (es : List (Event T)). AreWithinEnds (most n) steps (ends old.seen) (ends es)) (sym seen)
+          (subst (λ (es : List (Event T)). AreWithinEnds (most n) steps (ends es) (ends (so_far (old.turns ++ later.first.rest)).events)) (sym knows.is)
+          (ends_within old.turns later.first.rest n there))
+
+      pub one_more : most n < steps → ends old.seen < ends new.seen
+      one_more far = more_ends (most n) steps (ends old.seen) (ends new.seen) far between
+
+      pub load_between : steps ≤ load (most n) (begun new.seen - ends old.seen)
+      load_between =
+          subst (λ (es : List (Event T)). steps ≤ load (most n) (begun es - ends old.seen)) (sym seen)
+          (subst (λ (es : List (Event T)). steps ≤ load (most n) (begun (so_far (old.turns ++ later.first.rest)).events - ends es)) (sym knows.is)
+          (load_of old.turns later.first.rest n there))
+
+      pub rests_between : (rounds : List (List (Turn T))) → later.first.rest ≡ turns_of rounds → (p : ℕ) → StepsInEach p (so_far old.turns) rounds
+          → load (most n) (begun new.seen - ends old.seen) < length rounds → RestsInOne p (so_far old.turns) rounds
+      rests_between rounds is p each many =
+          rests_by p (so_far old.turns) rounds each (load (most n) (begun new.seen - ends old.seen))
+          (subst (λ turns. steps_in (so_far old.turns) turns ≤ load (most n) (begun new.seen - ends old.seen)) is load_between) many
+
+    -- from the opening on
+    module _ (v : View T) (knows : Knows code kind capacity v) (n : ℕ) (below : AreBelow n v.seen) (such : BeginSuch Such v.seen) where
+      all_there : Later [] v.turns n
+      all_there =
+          later_on [] v.turns n
+          (subst (λ (c : Coding T). IsCoding c) knows.run.coded (R.made (so_far v.turns) knows.run.reached).0)
+          (subst (λ c. capacity_error kind c ≡ None) knows.run.sized
+          (subst (λ k. capacity_error k (so_far v.turns).world.capacity ≡ None) knows.run.of_kind (R.made (so_far v.turns) knows.run.reached).1))
+          knows.allowed (subst (AreBelow n) knows.is below) (subst (BeginSuch Such) knows.is such)
+
+      pub known : AreWithinEnds (most n) (steps_in start v.turns) 0 (ends v.seen)
+      known =
+          subst (λ (es : List (Event T)). AreWithinEnds (most n) (steps_in start v.turns) 0 (ends es)) (sym knows.is)
+          (ends_within [] v.turns n all_there)
+
+      pub load_known : steps_in start v.turns ≤ load (most n) (begun v.seen)
+      load_known =
+          subst (λ (es : List (Event T)). steps_in start v.turns ≤ load (most n) (begun es)) (sym knows.is)
+          (let none : begun (so_far v.turns).events - 0 ≡ begun (so_far v.turns).events = omega arith in
+          subst (λ k. steps_in start v.turns ≤ load (most n) k) none (load_of [] v.turns n all_there))
