@@ -15,4 +15,5 @@ pub mod Roomy
 pub mod Visiting
 pub mod WantsNothing
 pub mod Worked
+pub mod WorkedLoads
 pub mod WorkedLockFree

@@ -8,6 +8,7 @@ ghost use Rattle.model.specs.Fair.{EndsInRounds, EndsIfFair};
 ghost use Rattle.model.specs.Loads.{EndsLoad, EndsLoadOf, EndsLoadRuns};
 ghost use Rattle.model.specs.LockFree.{IsLockFree, IsDefault};
 ghost use Rattle.model.specs.LockFree.{lock_free_bound, default_bound, room_bound, default_container_bound};
+ghost use Rattle.laws_container.specs.LockFree.{room_container_bound};
 ghost use Rattle.laws_loan.specs.LockFree.{channel_bound};
 ghost use Rattle.headline.specs.Nexts.{EndsByTurns};
 
@@ -28,11 +29,14 @@ pub fn finite_loads<T>()
     ensures ends_by_turns { (kind : Kind) → IfSome (lock_free_bound kind) (EndsByTurns T kind) }
 {}
 
-/// A robust index set is lock-free in every run, whichever calls begin. Two calls that lock can make each other begin again,
-/// but each time one of them has raised the counter, which never falls. As a number of steps the bound says nothing of
-/// practice.
-pub fn lock_free_robust<T>()
-    ensures one_ends { IsLockFree T Robust room_bound }
-    ensures load_ends { EndsLoad T Robust room_bound }
-    ensures ends_if_fair { EndsIfFair T Robust room_bound }
+/// A robust index set and a container are lock-free in every run, whichever calls begin. Two calls that lock can make each
+/// other begin again, but each time one of them has raised the counter of the set, which never falls. As numbers of steps
+/// their bounds say nothing of practice.
+pub fn owners_are_lock_free<T>()
+    ensures robust { IsLockFree T Robust room_bound }
+    ensures robust_load { EndsLoad T Robust room_bound }
+    ensures robust_if_fair { EndsIfFair T Robust room_bound }
+    ensures container { IsLockFree T Container room_container_bound }
+    ensures container_load { EndsLoad T Container room_container_bound }
+    ensures container_if_fair { EndsIfFair T Container room_container_bound }
 {}

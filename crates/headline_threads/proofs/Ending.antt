@@ -7,6 +7,8 @@ use Rattle.model.specs.Refusals.{call_refusal}
 use Rattle.model.proofs.LockFree.Weighed.{KeepsEndingBy}
 use Rattle.model.proofs.Rows.{possible_on}
 use Rattle.laws_container.proofs.LockFree.{container_keeps_ending_by}
+use Rattle.laws_container.proofs.RoomLockFree.{room_keeps_ending as room_container}
+use Rattle.laws_container.specs.LockFree.{room_container_bound}
 use Rattle.laws_robust.specs.Open.{open_refusal}
 use Rattle.laws_robust.proofs.LockFree.{default_keeps_ending_by}
 use Rattle.laws_robust.proofs.OpenRuns.{possible_open}
@@ -47,6 +49,9 @@ robust_room T = record { possible = possible_open; keeps = room_keeps_ending {T 
 
 container_default : (T : Type 0) → Runs {T = T} Container IsDefault default_container_bound
 container_default T = record { possible = possible_open; keeps = container_keeps_ending_by {T = T} open_refusal possible_open }
+
+container_room : (T : Type 0) → Any T Container room_container_bound
+container_room T = record { possible = possible_open; keeps = room_container {T = T} open_refusal possible_open }
 
 -- ---- what follows
 
@@ -89,12 +94,18 @@ known_ends_load T kind = if_some (Any T kind) (KnownEndsLoad T kind) (lock_free_
 pub passes_rest : (T : Type 0) (kind : Kind) → IfSome (lock_free_bound kind) (PassesRest T kind)
 passes_rest T kind = if_some (Any T kind) (PassesRest T kind) (lock_free_bound kind) (rests kind) (runs_of T kind)
 
--- robust sets, in which any call may begin
+-- robust sets and containers, in which any call may begin
 pub robust_end : (T : Type 0) → PassesEnd T Robust room_bound
 robust_end T = passes Robust room_bound (robust_room T)
 
 pub robust_load : (T : Type 0) → KnownEndsLoad T Robust room_bound
 robust_load T = all_load Robust room_bound (robust_room T)
+
+pub container_end : (T : Type 0) → PassesEnd T Container room_container_bound
+container_end T = passes Container room_container_bound (container_room T)
+
+pub container_load : (T : Type 0) → KnownEndsLoad T Container room_container_bound
+container_load T = all_load Container room_container_bound (container_room T)
 
 -- robust sets and containers in which no call may lock
 pub robust_end_of : (T : Type 0) → PassesEndOf T Robust IsDefault default_bound

@@ -1,6 +1,6 @@
 -- The definitions of one run at worked runs, and what passes they refuse.
 use Rattle.std.proofs.Common.{◌≡◌, ℕ, List, [], ◌∷◌, ◌++◌, length, refl, sym, ap, ◌∙◌, arith, Option, Some, None}
-use Rattle.std.proofs.Common.{length-append, subst}
+use Rattle.std.proofs.Common.{◌+◌, ◌-◌, length-append, subst}
 use Rattle.std.specs.Prelude.{IfSome}
 use Rattle.model.specs.declared.event.Event.{Event}
 use Rattle.model.specs.declared.event.Start.{Start}
@@ -12,7 +12,8 @@ use Rattle.model.specs.declared.turn.Turn.{Turn}
 use Rattle.model.specs.declared.turn.Turn.TheVariants.{Begin, Next}
 use Rattle.model.specs.Coding.{IsCoding, one_word}
 use Rattle.model.specs.Families.{ask_of, want_of}
-use Rattle.model.specs.LockFree.{steps_in}
+use Rattle.model.specs.Loads.{begun, load}
+use Rattle.model.specs.LockFree.{ends, lock_free_bound, steps_in, stretch}
 use Rattle.model.specs.Turns.{events_of, old_of}
 use Rattle.model.specs.World.{Trace, opening, flight_in}
 use Rattle.model.proofs.Reached.{after_turns_more}
@@ -107,6 +108,20 @@ takes_a_step = refl
 
 took_four : steps_in (opening one_word kinds.TheVariants.Indices 1 0) knew.turns ≡ 4
 took_four = refl
+
+-- Two calls have begun, and for two parties the bound is 20: so all five steps are at most 42, and the one since the first call
+-- has ended at most 21, the load of the other.
+two_begun : (begun knows.seen ≡ 2) × (begun knows.seen - ends knew.seen ≡ 1)
+two_begun = (refl, refl)
+
+bounded : lock_free_bound kinds.TheVariants.Indices ≡ Some (λ n capacity size. stretch n 1 (capacity + 4))
+bounded = refl
+
+loads : (load (stretch 2 1 5) 2 ≡ 42) × (load (stretch 2 1 5) 1 ≡ 21)
+loads = (refl, refl)
+
+took_five : steps_in (opening one_word kinds.TheVariants.Indices 1 0) knows.turns ≡ 5
+took_five = refl
 
 -- its events are of two parties
 below_two : AreBelow 2 knows.seen

@@ -6,6 +6,7 @@ ghost use Rattle.std.specs.Prelude.{IfSome};
 ghost use Rattle.model.specs.declared.turn.Kind.{Kind};
 ghost use Rattle.model.specs.declared.turn.Kind.TheVariants.{Robust, Container};
 ghost use Rattle.model.specs.LockFree.{IsDefault, lock_free_bound, default_bound, room_bound, default_container_bound};
+ghost use Rattle.laws_container.specs.LockFree.{room_container_bound};
 ghost use Rattle.headline_threads.specs.Ends.{PassesEnd, PassesKeepEnding, KnownKeepsEnding, PassesEndOf, KnownKeepsEndingOf};
 ghost use Rattle.headline_threads.specs.Ends.{PassesEndLoad, KnownEndsLoad, KnownEndsLoadOf, PassesRest};
 
@@ -37,12 +38,14 @@ pub fn passes_end_loads<T>()
     ensures rest { (kind : Kind) → IfSome (lock_free_bound kind) (PassesRest T kind) }
 {}
 
-/// The same of robust index sets and containers, whose runs between threads are open: nobody sees an owner die. A robust set
-/// is lock-free in each of them, with a bound that says nothing of practice. Where a pass has seen no call begin that may
-/// lock, a robust set and a container have small bounds.
+/// The same of robust index sets and containers, whose runs between threads are open: nobody sees an owner die. Both are
+/// lock-free in each of them, with bounds that say nothing of practice. Where a pass has seen no call begin that may lock,
+/// their bounds are small.
 pub fn owners_keep_ending<T>()
     ensures robust { PassesEnd T Robust room_bound }
     ensures robust_load { KnownEndsLoad T Robust room_bound }
+    ensures container { PassesEnd T Container room_container_bound }
+    ensures container_load { KnownEndsLoad T Container room_container_bound }
     ensures robust_by_default { PassesEndOf T Robust IsDefault default_bound }
     ensures robust_known_by_default { KnownKeepsEndingOf T Robust IsDefault default_bound }
     ensures robust_load_by_default { KnownEndsLoadOf T Robust IsDefault default_bound }

@@ -51,9 +51,9 @@ use Rattle.history_laws.proofs.ContainerLiving.{living, steps_right}
 use Rattle.history_laws.proofs.ContainerRaised.{Raised, word_raised, turn_raised}
 use Rattle.history_laws.proofs.ContainerWorn.{Sound, terms, sound_on, facts, opens_so, opens_bounded}
 use Rattle.history_laws.proofs.OwnersBounded.{Bounded, counter, changes_more}
-use Rattle.history_laws.proofs.OwnersParts.{tested}
+use Rattle.laws_robust.proofs.Counter.{tested}
 use Rattle.history_laws.proofs.OwnersTurns.{turn_holds}
-use Rattle.history_laws.proofs.OwnersWords.{counter_of}
+use Rattle.laws_robust.proofs.Counter.{counter_of}
 
 module _ {T : Type 0} where
   -- ---- the same machine after another number of turns

@@ -35,7 +35,7 @@ use Rattle.laws_container.proofs.Invariant.{family_by, FlightAt}
 use Rattle.laws_container.proofs.Standing.{At}
 use Rattle.history_laws.specs.Containers.{is_for, is_acting, BeginsRight, IsFaithful}
 use Rattle.history_laws.proofs.ContainerWorn.{Sound, terms}
-use Rattle.history_laws.proofs.OwnersParts.{tested}
+use Rattle.laws_robust.proofs.Counter.{tested}
 
 differs : (o owner : ℕ) → (o ≡ owner → ⊥) → ((o == owner) || false) ≡ false
 differs o owner ne = go (o == owner) refl

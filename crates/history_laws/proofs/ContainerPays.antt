@@ -50,11 +50,15 @@ use Rattle.model.specs.Families.Container.Calls.{added, removed, replaced, count
 use Rattle.model.specs.Families.Container.Steps.{add_effects, remove_effects, recover_effects}
 use Rattle.model.specs.Families.Queues.Calls.{as_it_is}
 use Rattle.model.specs.Step.{as_call}
+use Rattle.laws_container.proofs.Counter.{add_then, add_old, remove_then, remove_old, recover_then, recover_old}
 use Rattle.history_laws.specs.Owners.{changes}
-use Rattle.history_laws.proofs.OwnersParts.{moved_none, moved_most, RaiseMoves, raise_then, raise_moves, count_then, count_old, CountMoves, count_ends}
-use Rattle.history_laws.proofs.OwnersParts.{lock_credit, lock_late, lock_then, lock_old, LockPays, lock_pays}
-use Rattle.history_laws.proofs.OwnersParts.{acquire_credit, acquire_then, acquire_old, acquire_left, acquire_pays}
-use Rattle.history_laws.proofs.OwnersParts.{for_mode, for_mode_most, locks_in, release_credit, release_late, release_then, release_old}
+use Rattle.history_laws.proofs.OwnersParts.{moved_none, moved_most, RaiseMoves, raise_moves, CountMoves, count_ends}
+use Rattle.laws_robust.proofs.Counter.{lock_old}
+use Rattle.history_laws.proofs.OwnersParts.{lock_credit, lock_late, LockPays, lock_pays}
+use Rattle.laws_robust.proofs.Counter.{acquire_old}
+use Rattle.history_laws.proofs.OwnersParts.{acquire_credit, acquire_left, acquire_pays}
+use Rattle.laws_robust.proofs.Counter.{release_old}
+use Rattle.history_laws.proofs.OwnersParts.{for_mode, for_mode_most, locks_in, release_credit, release_late}
 use Rattle.history_laws.proofs.OwnersParts.{release_left, counts_move, counts_none, StandsIn, release_pays}
 use Rattle.history_laws.proofs.RobustPays.{late_in, late_in_most}
 
@@ -64,14 +68,6 @@ abbrev pub add_credit : adds.AddStage → ℕ
 add_credit (adds.TheVariants.Acquires stage) = acquire_credit stage
 add_credit stage = 0
 
-abbrev pub add_then : adds.AddStage → ℕ → ℕ
-add_then (adds.TheVariants.Acquires stage) n = acquire_then stage n
-add_then stage n = n
-
-abbrev pub add_old : adds.AddStage → ℕ → ℕ → ℕ
-add_old (adds.TheVariants.Acquires stage) n cell = acquire_old stage n cell
-add_old stage n cell = cell
-
 abbrev pub remove_credit : ReleaseMode → removes.RemoveStage → ℕ
 remove_credit mode (removes.TheVariants.Releases count stage) = release_credit mode stage
 remove_credit mode stage = 0
@@ -79,14 +75,6 @@ remove_credit mode stage = 0
 abbrev pub remove_late : ℕ → removes.RemoveStage → ℕ
 remove_late n (removes.TheVariants.Releases count stage) = release_late n stage
 remove_late n stage = 0
-
-abbrev pub remove_then : removes.RemoveStage → ℕ → ℕ
-remove_then (removes.TheVariants.Releases count stage) n = release_then stage n
-remove_then stage n = n
-
-abbrev pub remove_old : removes.RemoveStage → ℕ → ℕ → ℕ
-remove_old (removes.TheVariants.Releases count stage) n cell = release_old stage n cell
-remove_old stage n cell = cell
 
 abbrev pub RemoveStands : ReleaseMode → removes.RemoveStage → Type 0
 RemoveStands mode (removes.TheVariants.Releases count stage) = StandsIn mode stage
@@ -101,16 +89,6 @@ recover_credit mode stage = 0
 abbrev pub recover_late : ℕ → recovers.RecoverStage → ℕ
 recover_late n (recovers.TheVariants.Locks index lock) = lock_late n lock
 recover_late n stage = 0
-
-abbrev pub recover_then : recovers.RecoverStage → ℕ → ℕ
-recover_then (recovers.TheVariants.Raises index raise) n = raise_then raise n
-recover_then (recovers.TheVariants.Locks index lock) n = lock_then lock n
-recover_then stage n = n
-
-abbrev pub recover_old : recovers.RecoverStage → ℕ → ℕ → ℕ
-recover_old (recovers.TheVariants.Raises index raise) n cell = n
-recover_old (recovers.TheVariants.Locks index lock) n cell = lock_old lock n cell
-recover_old stage n cell = cell
 
 abbrev pub RecoverStands : ReleaseMode → recovers.RecoverStage → Type 0
 RecoverStands mode (recovers.TheVariants.Locks index lock) = mode ≡ LockIfLastIndex
@@ -300,20 +278,6 @@ module _ {T : Type 0} where
   container_locks (Remove run) = locks_in run.given.mode
   container_locks (Recover run) = locks_in run.given.mode
   container_locks flight = false
-
-  abbrev pub container_then : ContainerFlight T → ℕ → ℕ
-  container_then (Add run) n = add_then run.call.stage n
-  container_then (Remove run) n = remove_then run.call.stage n
-  container_then (Recover run) n = recover_then run.call.stage n
-  container_then (Count which run) n = count_then run.call.count n
-  container_then flight n = n
-
-  abbrev pub container_old : ContainerFlight T → ℕ → ℕ → ℕ
-  container_old (Add run) n cell = add_old run.call.stage n cell
-  container_old (Remove run) n cell = remove_old run.call.stage n cell
-  container_old (Recover run) n cell = recover_old run.call.stage n cell
-  container_old (Count which run) n cell = count_old run.call.count n cell
-  container_old flight n cell = cell
 
   abbrev pub ContainerStands : ContainerFlight T → Type 0
   ContainerStands (Remove run) = RemoveStands run.given.mode run.call.stage

@@ -27,7 +27,7 @@ use Rattle.laws_robust.proofs.Rights.{Right, Nobody, Settled, By, taken_by, righ
 use Rattle.history_laws.specs.Grants.{is_at, MayFree, FreesRightAt, IsFreedRight, GrantsRightAt, IsHeldByOne}
 use Rattle.history_laws.proofs.GrantsClaims.{Claim, Apart, Filling, Held, Giving, fill_claim, give_claim, claim_by, claim}
 use Rattle.history_laws.proofs.GrantsClaims.{Good, quiet, fills, grants, finishes, begins, frees, recovers}
-use Rattle.history_laws.proofs.OwnersParts.{tested}
+use Rattle.laws_robust.proofs.Counter.{tested}
 
 -- a claim of the index j is one of i
 abbrev here : ℕ → ℕ → Claim → Claim

@@ -5,7 +5,6 @@ pub mod IndicesHeld
 pub mod IndicesSpans
 pub mod IndicesLaws
 pub mod OwnersParts
-pub mod OwnersWords
 pub mod RobustPays
 pub mod RobustCalls
 pub mod ContainerPays

@@ -22,8 +22,9 @@ use Rattle.model.specs.Turns.{ending_of}
 use Rattle.model.specs.World.{Trace, flight_in}
 use Rattle.laws_indices.proofs.Sums.{sum_below, sum_moved, sum_longer}
 use Rattle.history_laws.specs.Owners.{change, changes}
-use Rattle.history_laws.proofs.OwnersParts.{tested, locks_in, lock_late_most, release_late, counts_move}
-use Rattle.history_laws.proofs.OwnersWords.{counter_of}
+use Rattle.laws_robust.proofs.Counter.{tested}
+use Rattle.history_laws.proofs.OwnersParts.{locks_in, lock_late_most, release_late, counts_move}
+use Rattle.laws_robust.proofs.Counter.{counter_of}
 use Rattle.history_laws.proofs.RobustPays.{late_in, late_in_most, recover_late, robust_credit, robust_late, robust_locks}
 use Rattle.history_laws.proofs.ContainerPays.{remove_late, container_credit, container_late, container_locks}
 use Rattle.history_laws.proofs.ContainerPays as container

@@ -5,13 +5,10 @@
 -- Of each part and each call, here and in `RobustPays`, at a stage:
 -- credit: raises that changes so far have paid for, and that it, or a lock because of it, may still make;
 -- late: 1 where a lock has to count again, since the counter has moved;
--- then: the counter after the step;
--- old: what the step is handed;
 -- left: credit and late of the call that goes on from the step, 0 where it is done;
 -- pays: counter and left after the step are no more than counter, credit and late before it, and three for each change.
 use Rattle.std.proofs.Common.{◌≡◌, ◌≢◌, ◌⊎◌, inl, inr, ℕ, ◌+◌, ◌*◌, ◌≤◌, ◌==◌, nat_lt, if◌then◌else◌}
 use Rattle.std.proofs.Common.{Bool, true, false, refl, arith, eq-eqb}
-use Rattle.std.proofs.lemmas.Bool.Decides.{nat_tests}
 use Rattle.steps.specs.Indices.Robust.Acquire.{Acquired, acquire_sees, acquire_tries, acquire_raised, acquire_takes}
 use Rattle.steps.specs.Indices.Robust.Parts.{empty, locked, greatest, one_more, raise_sees, raise_after, count_comes_to}
 use Rattle.steps.specs.Indices.Robust.Parts.{count_after, lock_counted, lock_after}
@@ -32,14 +29,13 @@ use Rattle.steps.specs.declared.indices.robust.release.GiveBack.{GiveBack}
 use Rattle.steps.specs.declared.indices.robust.release.Release.{Release}
 use Rattle.steps.specs.declared.indices.robust.release.ReleaseStage as releases
 use Rattle.model.specs.Families.Indices.Robust.Steps.{acquire_effects, release_effects}
+use Rattle.laws_robust.proofs.Counter.{tested, raise_then, count_then, count_old, lock_then, lock_old}
+use Rattle.laws_robust.proofs.Counter.{acquire_then, acquire_old, release_then, release_old}
 use Rattle.history_laws.specs.Owners.{changes}
 
 -- 1 where the counter has moved
 abbrev pub moved : ℕ → ℕ → ℕ
 moved n new = if new == n then 0 else 1
-
-pub tested : (a b : ℕ) → (a == b) ≡ true → a ≡ b
-tested a b t = grind (arith, nat_tests)
 
 pub moved_none : (n new : ℕ) → new ≡ n → moved n new ≡ 0
 moved_none n new same = let t = eq-eqb new n same in rw t (omega arith)
@@ -52,11 +48,6 @@ moved_most n new = go (new == n)
     go false = omega arith
 
 -- ---- a raise
-
--- the counter after it
-abbrev pub raise_then : raises.Raise → ℕ → ℕ
-raise_then raises.TheVariants.LoadsCounter n = n
-raise_then (raises.TheVariants.ExchangesCounter k) n = if n == k then one_more k else n
 
 -- it goes on where the counter has stayed, and ends with at most one more
 abbrev pub RaiseMoves : ℕ → ℕ → After raises.Raise ReleaseState → Type 0
@@ -83,17 +74,6 @@ raise_moves (raises.TheVariants.ExchangesCounter k) n new is = go (n == k) refl
     go false t = let same : new ≡ n = rw t at is in rw t (raise_sees_moves n new same)
 
 -- ---- a count
-
-abbrev pub count_then : counts.Count → ℕ → ℕ
-count_then counts.TheVariants.LoadsCounter n = n
-count_then (counts.TheVariants.LoadsCell counter index filled) n = n
-count_then (counts.TheVariants.ExchangesCounter k filled) n = if n == k then one_more k else n
-
--- the value of its word, where a cell has this one
-abbrev pub count_old : counts.Count → ℕ → ℕ → ℕ
-count_old counts.TheVariants.LoadsCounter n cell = n
-count_old (counts.TheVariants.LoadsCell counter index filled) n cell = cell
-count_old (counts.TheVariants.ExchangesCounter k filled) n cell = n
 
 -- it ends with the counter that it has left, or at the greatest
 abbrev pub CountMoves : ℕ → ℕ → After counts.Count ends.Counted → Type 0
@@ -149,14 +129,6 @@ pub lock_late_most : (n : ℕ) (lock : locks.Lock) → lock_late n lock ≤ 1
 lock_late_most n (locks.TheVariants.Counts count) = omega arith
 lock_late_most n (locks.TheVariants.ExchangesCounter counter) = moved_most counter n
 
-abbrev pub lock_then : locks.Lock → ℕ → ℕ
-lock_then (locks.TheVariants.Counts count) n = count_then count n
-lock_then (locks.TheVariants.ExchangesCounter k) n = if n == k then locked else n
-
-abbrev pub lock_old : locks.Lock → ℕ → ℕ → ℕ
-lock_old (locks.TheVariants.Counts count) n cell = count_old count n cell
-lock_old (locks.TheVariants.ExchangesCounter k) n cell = n
-
 abbrev pub LockPays : ℕ → ℕ → locks.Lock → After locks.Lock ReleaseState → Type 0
 LockPays n new lock (GoOn next) = new + (lock_credit next + lock_late new next) ≤ n + (lock_credit lock + lock_late n lock)
 LockPays n new lock (Done state) = new ≤ n + (lock_credit lock + lock_late n lock)
@@ -203,18 +175,6 @@ acquire_credit acquires.TheVariants.LoadsCounter = 0
 acquire_credit (acquires.TheVariants.FillsCell counter index) = 0
 acquire_credit (acquires.TheVariants.ChecksCounter counter) = 0
 acquire_credit (acquires.TheVariants.Raises index raise) = 2
-
-abbrev pub acquire_then : acquires.AcquireStage → ℕ → ℕ
-acquire_then acquires.TheVariants.LoadsCounter n = n
-acquire_then (acquires.TheVariants.FillsCell counter index) n = n
-acquire_then (acquires.TheVariants.ChecksCounter k) n = if n == k then k else n
-acquire_then (acquires.TheVariants.Raises index raise) n = raise_then raise n
-
-abbrev pub acquire_old : acquires.AcquireStage → ℕ → ℕ → ℕ
-acquire_old acquires.TheVariants.LoadsCounter n cell = n
-acquire_old (acquires.TheVariants.FillsCell counter index) n cell = cell
-acquire_old (acquires.TheVariants.ChecksCounter k) n cell = n
-acquire_old (acquires.TheVariants.Raises index raise) n cell = n
 
 abbrev pub acquire_left : After Acquire Acquired → ℕ
 acquire_left (GoOn run) = acquire_credit run.stage
@@ -296,16 +256,6 @@ abbrev pub release_late : ℕ → releases.ReleaseStage → ℕ
 release_late n releases.TheVariants.EmptiesCell = 0
 release_late n (releases.TheVariants.Raises raise) = 0
 release_late n (releases.TheVariants.Locks lock) = lock_late n lock
-
-abbrev pub release_then : releases.ReleaseStage → ℕ → ℕ
-release_then releases.TheVariants.EmptiesCell n = n
-release_then (releases.TheVariants.Raises raise) n = raise_then raise n
-release_then (releases.TheVariants.Locks lock) n = lock_then lock n
-
-abbrev pub release_old : releases.ReleaseStage → ℕ → ℕ → ℕ
-release_old releases.TheVariants.EmptiesCell n cell = cell
-release_old (releases.TheVariants.Raises raise) n cell = n
-release_old (releases.TheVariants.Locks lock) n cell = lock_old lock n cell
 
 -- what is left of it, which a lock that is late has too
 abbrev pub release_left : ReleaseMode → ℕ → After Release Released → ℕ

@@ -1,5 +1,5 @@
 -- What each turn of a robust index set, or of a container, owes so that its counter stays bounded, and so every open run.
-use Rattle.std.proofs.Common.{◌≡◌, ◌≢◌, inl, inr, ℕ, ◌+◌, ◌*◌, ◌<◌, ◌≤◌, ◌==◌, not, Bool, true, false, true≢false}
+use Rattle.std.proofs.Common.{◌≡◌, ◌≢◌, inl, inr, ℕ, ◌+◌, ◌*◌, ◌<◌, ◌≤◌, ◌==◌, Bool, true, false, true≢false}
 use Rattle.std.proofs.Common.{Option, Some, None, is_none, List, [], ◌∷◌, ◌++◌}
 use Rattle.std.proofs.Common.{length, refl, sym, ap, subst, ◌∙◌, arith, eq-eqb}
 use Rattle.steps.specs.Indices.Robust.Parts.{locked}
@@ -15,7 +15,6 @@ use Rattle.model.specs.declared.families.Registry.{Registry}
 use Rattle.model.specs.declared.party.Doing.{Doing}
 use Rattle.model.specs.declared.party.Doing.TheVariants.{Going, Over}
 use Rattle.model.specs.declared.party.Party.{Party}
-use Rattle.model.specs.declared.turn.Refusal.TheVariants.{Idle, Undecided}
 use Rattle.model.specs.declared.turn.Turn.{Turn}
 use Rattle.model.specs.declared.turn.Turn.TheVariants.{Begin, Next, Decide, Die}
 use Rattle.model.specs.Families.{first_of, want_of, ask_of, is_question}
@@ -24,22 +23,22 @@ use Rattle.model.specs.Parties.{party_of, doing_of, flight_of}
 use Rattle.model.specs.Reading.{span_of}
 use Rattle.model.specs.Refusals.{is_due}
 use Rattle.model.specs.Step.{Step, answer_in}
-use Rattle.laws_turns.proofs.Taken.{MayStart, taken_open}
+use Rattle.laws_robust.proofs.OpenRuns.{possible_open}
 use Rattle.model.specs.Turns.{old_of, words_after, number_of, ask_of_doing, party_at_begin, after_begin, doing_after, after_step, step_in}
 use Rattle.model.specs.Turns.{after_answer, events_of_step, events_of_answer, after_next, events_of_next}
 use Rattle.model.specs.Turns.{after_decision, events_of_decision, events_of, ending_of, after_turn}
 use Rattle.model.specs.World.{World, Trace, opening, flight_in}
 use Rattle.model.proofs.Counts.{as_long}
-use Rattle.model.proofs.Frame.{is_true}
 use Rattle.model.proofs.Locks.{locked_later}
 use Rattle.model.proofs.Parties.{party_put_same, party_put_other}
 use Rattle.model.proofs.Readings.{Each-less}
-use Rattle.model.proofs.Rows.{row_passed}
+use Rattle.model.proofs.Rows.{MayStart, MayGoOn}
 use Rattle.laws_robust.specs.Open.{open_refusal, IsReachedOpen}
 use Rattle.model.proofs.Reached.{kept_by}
 use Rattle.history_laws.specs.Owners.{change, changes, may_lock, is_locking, BeginsAlone, LocksApart}
-use Rattle.history_laws.proofs.OwnersParts.{tested, moved_none, counts_move}
-use Rattle.history_laws.proofs.OwnersWords.{counter_of}
+use Rattle.laws_robust.proofs.Counter.{tested}
+use Rattle.history_laws.proofs.OwnersParts.{moved_none, counts_move}
+use Rattle.laws_robust.proofs.Counter.{counter_of}
 use Rattle.history_laws.proofs.OwnersBounded.{credit, late, locks, credit_of, late_of, locks_of, locks_at, counter}
 use Rattle.history_laws.proofs.OwnersBounded.{Bounded, Owes, changes_more, ends_none, bounded_on, bounded_same}
 
@@ -232,14 +231,12 @@ module _ {T : Type 0} where
 
   must_be_asked : (w : World T) (p : ℕ) (said : Bool) → open_refusal w (Decide p said) ≡ None → is_due w.coding (flight_in w p) ≡ true
   must_be_asked w p said e =
-      let some = row_passed (is_none (flight_in w p)) Idle _ e in
-      let due = row_passed (not (is_due w.coding (flight_in w p))) Undecided None some.1 in
-      is_true (is_due w.coding (flight_in w p)) due.0
+      let may : MayGoOn w p × (is_due w.coding (flight_in w p) ≡ true) = possible_open w (Decide p said) e in may.1
 
   pub turn_bounded : (t : Trace T) → Facts t → Bounded t → (turn : Turn T) → open_refusal t.world turn ≡ None
       → LocksApart (after_turn t turn).events → (counter (after_turn t turn) ≢ locked → counter t ≢ locked) → Bounded (after_turn t turn)
   turn_bounded t facts b (Begin p start) e apart opens =
-      let may : MayStart t.world p start = taken_open t.world (Begin p start) e in
+      let may : MayStart t.world p start = possible_open t.world (Begin p start) e in
       begins t facts b p start (first_of t.world.kind t.world.capacity start t.world.kept) refl may.call may.free apart
   turn_bounded t facts b (Next p) e apart opens = nexts t facts b p (party_of p t.world.latest) refl opens
   turn_bounded t facts b (Decide p said) e apart opens =

@@ -33,12 +33,17 @@ use Rattle.model.specs.Families.Indices.Robust.Calls.{after, acquire_answer, rel
 use Rattle.model.specs.Families.Indices.Robust.Steps.{recover_effects, effects}
 use Rattle.model.specs.Families.Queues.Calls.{as_it_is}
 use Rattle.model.specs.Step.{as_call}
+use Rattle.laws_robust.proofs.Counter.{recover_then, recover_old, robust_then, robust_old}
 use Rattle.history_laws.specs.Owners.{changes}
-use Rattle.history_laws.proofs.OwnersParts.{moved_none, moved_most, RaiseMoves, raise_then, raise_moves, count_then}
-use Rattle.history_laws.proofs.OwnersParts.{count_old, CountMoves, count_moves, count_ends}
-use Rattle.history_laws.proofs.OwnersParts.{lock_credit, lock_late, lock_then, lock_old, LockPays, lock_pays}
-use Rattle.history_laws.proofs.OwnersParts.{acquire_credit, acquire_then, acquire_old, acquire_left, acquire_pays}
-use Rattle.history_laws.proofs.OwnersParts.{for_mode, for_mode_most, locks_in, release_credit, release_late, release_then, release_old}
+use Rattle.history_laws.proofs.OwnersParts.{moved_none, moved_most, RaiseMoves, raise_moves}
+use Rattle.laws_robust.proofs.Counter.{count_old}
+use Rattle.history_laws.proofs.OwnersParts.{CountMoves, count_moves, count_ends}
+use Rattle.laws_robust.proofs.Counter.{lock_old}
+use Rattle.history_laws.proofs.OwnersParts.{lock_credit, lock_late, LockPays, lock_pays}
+use Rattle.laws_robust.proofs.Counter.{acquire_old}
+use Rattle.history_laws.proofs.OwnersParts.{acquire_credit, acquire_left, acquire_pays}
+use Rattle.laws_robust.proofs.Counter.{release_old}
+use Rattle.history_laws.proofs.OwnersParts.{for_mode, for_mode_most, locks_in, release_credit, release_late}
 use Rattle.history_laws.proofs.OwnersParts.{release_left, counts_move, counts_none, StandsIn, release_pays}
 
 -- only a call in the mode that locks is late
@@ -60,20 +65,6 @@ recover_credit mode stage = 0
 abbrev pub recover_late : ℕ → recovers.RecoverStage → ℕ
 recover_late n (recovers.TheVariants.Locks index lock) = lock_late n lock
 recover_late n stage = 0
-
-abbrev pub recover_then : recovers.RecoverStage → ℕ → ℕ
-recover_then (recovers.TheVariants.Raises index raise) n = raise_then raise n
-recover_then (recovers.TheVariants.Locks index lock) n = lock_then lock n
-recover_then stage n = n
-
-abbrev pub recover_old : recovers.RecoverStage → ℕ → ℕ → ℕ
-recover_old recovers.TheVariants.LoadsCounter n cell = n
-recover_old (recovers.TheVariants.LoadsCell index) n cell = cell
-recover_old (recovers.TheVariants.Asks index owner) n cell = cell
-recover_old (recovers.TheVariants.EmptiesCell index owner) n cell = cell
-recover_old (recovers.TheVariants.Raises index raise) n cell = n
-recover_old (recovers.TheVariants.Locks index lock) n cell = lock_old lock n cell
-recover_old recovers.TheVariants.LoadsCounterAgain n cell = n
 
 abbrev pub recover_left : ReleaseMode → ℕ → After recovering.Recover ReleaseState → ℕ
 recover_left mode new (GoOn run) = recover_credit mode run.stage + recover_late new run.stage
@@ -167,22 +158,6 @@ abbrev pub robust_locks : RobustFlight → Bool
 robust_locks (Release run) = locks_in run.given.mode
 robust_locks (Recover run) = locks_in run.given
 robust_locks flight = false
-
-abbrev pub robust_then : RobustFlight → ℕ → ℕ
-robust_then (Acquire run) n = acquire_then run.call.stage n
-robust_then (Release run) n = release_then run.call.stage n
-robust_then (Find run) n = n
-robust_then (Recover run) n = recover_then run.call.stage n
-robust_then (BorrowedIndices run) n = count_then run.call.count n
-robust_then (IsLocked run) n = n
-
-abbrev pub robust_old : RobustFlight → ℕ → ℕ → ℕ
-robust_old (Acquire run) n cell = acquire_old run.call.stage n cell
-robust_old (Release run) n cell = release_old run.call.stage n cell
-robust_old (Find run) n cell = cell
-robust_old (Recover run) n cell = recover_old run.call.stage n cell
-robust_old (BorrowedIndices run) n cell = count_old run.call.count n cell
-robust_old (IsLocked run) n cell = n
 
 abbrev pub RobustStands : RobustFlight → Type 0
 RobustStands (Release run) = StandsIn run.given.mode run.call.stage

@@ -11,6 +11,8 @@ use Rattle.model.proofs.LockFree.Fairly.{rounds_end, rounds_end_of, rounds_end_r
 use Rattle.model.proofs.LockFree.Loads.{loads_end, loads_end_of, load_within}
 use Rattle.model.proofs.LockFree.Machines.{all_allowed, one_call_ends, loads_in_runs}
 use Rattle.model.proofs.Rows.{possible}
+use Rattle.laws_container.specs.LockFree.{room_container_bound}
+use Rattle.laws_container.proofs.RoomLockFree.{container_keeps_ending as room_container_keeps_ending}
 use Rattle.laws_loan.specs.LockFree.{channel_bound}
 use Rattle.laws_robust.proofs.RoomCalls.{robust_keeps_ending as room_keeps_ending}
 use Rattle.machine.proofs.LockFree.{if_some, keep_ending, robust_keeps_ending, container_keeps_ending, channel_keeps_ending}
@@ -69,6 +71,16 @@ container_in_rounds T = rounds_end_of Container IsDefault default_container_boun
 
 pub container_if_fair : (T : Type 0) → EndsIfFairOf T Container IsDefault default_container_bound
 container_if_fair T = fair_end_of Container IsDefault default_container_bound (container_load_ends T)
+
+-- and in all runs
+pub room_container_one_ends : (T : Type 0) → IsLockFree T Container room_container_bound
+room_container_one_ends T = one_call_ends Container room_container_bound room_container_keeps_ending
+
+pub room_container_load_ends : (T : Type 0) → EndsLoad T Container room_container_bound
+room_container_load_ends T = loads_end Container room_container_bound room_container_keeps_ending
+
+pub room_container_if_fair : (T : Type 0) → EndsIfFair T Container room_container_bound
+room_container_if_fair T = fair_end Container room_container_bound (room_container_load_ends T)
 
 -- loan channels, as they run
 pub channel_load_ends : (T : Type 0) → EndsLoadRuns T Loan channel_bound

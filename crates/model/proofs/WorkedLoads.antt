@@ -67,6 +67,9 @@ own_four = (refl, refl)
 push_met : (steps_in (from Overflow 1 1 full) (nexts 0 6) ≡ 6) × (at (lock_free_bound Overflow) 1 1 1 1 ≡ Some 6)
 push_met = (refl, refl)
 
+push_ends : pending 1 (after_turns (from Overflow 1 1 full) (nexts 0 6)).world ≡ 0
+push_ends = refl
+
 -- so no bound below 5 will do there
 no_less : (bound : Bound) → bound 1 1 1 < 5 → EndsLoad ℕ Overflow bound → ⊥
 no_less bound few loads =
@@ -74,9 +77,6 @@ no_less bound few loads =
     loads (from Overflow 1 1 full) refl (record { coded = one_word_codes; admitted = refl; turns = full; is = refl }) 1 (nexts 0 6)
     (all_allowed (from Overflow 1 1 full) (nexts 0 6) refl) (all_below 1 (nexts 0 6) refl) in
     absurd (omega arith)
-
-push_ends : pending 1 (after_turns (from Overflow 1 1 full) (nexts 0 6)).world ≡ 0
-push_ends = refl
 
 -- Of a robust set in all its runs, with one party and one index, and with two of each. For two of each no bound below
 -- 92233720368547758030 holds.

@@ -24,3 +24,9 @@ returns-clause-container_known_by_default g c = laws.container_known_of _
 
 pub returns-clause-container_load_by_default : goal.returns-clause-container_load_by_default
 returns-clause-container_load_by_default g c = laws.container_load_of _
+
+pub returns-clause-container : goal.returns-clause-container
+returns-clause-container g c = laws.container_end _
+
+pub returns-clause-container_load : goal.returns-clause-container_load
+returns-clause-container_load g c = laws.container_load _

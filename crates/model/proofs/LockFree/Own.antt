@@ -11,7 +11,7 @@ use Rattle.model.proofs.Names.{party_at_begin, party_of, refl, step_count, step_
 use Rattle.model.proofs.Names.{subst, sym, true, unless_refused, want_of, words_after, world_after, ℕ, ⊎_elim, ◌+◌, ◌∙◌}
 use Rattle.model.proofs.Names.{◌∷◌, ◌≡◌, ◌≢◌, ◌≤◌}
 use Rattle.steps.specs.declared.ask.After.TheVariants.{Done}
-use Rattle.model.specs.LockFree.{KeepsEndingOf, BeginsSuch}
+use Rattle.model.specs.LockFree.{BeginsSuch}
 use Rattle.model.specs.Parties.{put}
 use Rattle.model.specs.Turns.{attempt_by, run_by, IsReachedBy}
 use Rattle.model.proofs.Counts.{as_long}
@@ -367,10 +367,6 @@ module _ {T : Type 0} (K : Outline T) where
           (calls_end refuses possible (measured_in w.coding w.capacity) (IsAt w.coding w.capacity) (May n) (owed w.coding w.capacity n) n
           (λ turn may. may.0) t (reached_own t is r such_before, refl, refl) turns allowed (both_may n turns below such))
 
-    pub keeps_ending_of : (bound : Bound) → ((code : Coding T) (c n : ℕ) → bound n c code.size ≡ measured code c n)
-        → KeepsEndingOf T K.kind K.Such bound
-    keeps_ending_of bound same = keeps_ending_by call_refusal possible_on bound same
-
     -- where any call may begin
     all_such : ((start : Start T) → K.Such start) → (turns : List (Turn T)) → AllByRecursion (BeginsSuch K.Such) turns
     all_such any [] = tt
@@ -385,4 +381,4 @@ module _ {T : Type 0} (K : Outline T) where
     pub keeps_ending : ((start : Start T) → K.Such start) → (bound : Bound) → ((code : Coding T) (c n : ℕ) → bound n c code.size ≡ measured code c n)
         → KeepsEnding T K.kind bound
     keeps_ending any bound same t is r n turns allowed below =
-        keeps_ending_of bound same t is r (all_such any r.turns) n turns allowed below (all_such any turns)
+        keeps_ending_by call_refusal possible_on bound same t is r (all_such any r.turns) n turns allowed below (all_such any turns)
