@@ -1,12 +1,17 @@
 -- What calls that run whole answer, by the kind of the machine.
-use Rattle.std.proofs.Common.{◌≡◌, None, refl, subst}
+use Rattle.std.proofs.Common.{◌≡◌, ⊎_elim, ℕ, Option, Some, None, refl, sym, ap, subst, ◌∙◌}
+use Rattle.model.specs.declared.party.Doing.{Doing}
+use Rattle.model.specs.declared.party.Party.{Party}
 use Rattle.model.specs.declared.turn.Kind.{Kind}
 use Rattle.model.specs.declared.turn.Kind.TheVariants as kinds
+use Rattle.model.specs.Objects.{standing}
+use Rattle.model.specs.Parties.{doing_of, flight_of}
 use Rattle.model.specs.Turns.{IsReached}
-use Rattle.model.specs.World.{Trace, capacity_error}
-use Rattle.headline_whole.specs.Dialogues.{calls_of}
+use Rattle.model.specs.World.{Trace, capacity_error, flight_in}
+use Rattle.headline_whole.specs.Dialogues.{calls_of, story_of}
 use Rattle.headline_whole.specs.Kinds.{AnswersWhole}
-use Rattle.headline_whole.specs.Whole.{RunsWhole, AnswersAs}
+use Rattle.headline_whole.specs.States.{HoldsPlaces}
+use Rattle.headline_whole.specs.Whole.{RunsWhole, AnswersAs, answered}
 use Rattle.headline_whole.proofs.BitSets as bit_sets
 use Rattle.headline_whole.proofs.ContainerRules as container_rules
 use Rattle.headline_whole.proofs.Containers as containers
@@ -17,8 +22,9 @@ use Rattle.headline_whole.proofs.Overflows.{over_law}
 use Rattle.headline_whole.proofs.Owners as owners
 use Rattle.headline_whole.proofs.Plainly as plainly
 use Rattle.headline_whole.proofs.Queues.{index_law, value_law}
+use Rattle.headline_whole.proofs.Runs.{Rests, Goes, no_flight}
 use Rattle.headline_whole.proofs.Talks.{talking}
-use Rattle.headline_whole.proofs.Turns.{answers_whole}
+use Rattle.headline_whole.proofs.Turns.{answers_whole, stands_whole}
 use Rattle.headline_whole.proofs.Values as values
 
 module _ {T : Type 0} (t : Trace T) (r : IsReached t) (runs : RunsWhole t.events) where
@@ -35,6 +41,27 @@ module _ {T : Type 0} (t : Trace T) (r : IsReached t) (runs : RunsWhole t.events
   by_law R kind is law =
       (by_rules (plainly.course R) (talking (plainly.course R) (plainly.speech R) t.world.coding) kind is
       (λ may. plainly.rules R t.world.coding kind t.world.capacity (law may))).1.legal
+
+  -- where no call is under way, the words hold the object
+  module _ (rests : (q : ℕ) → flight_in t.world q ≡ None) where
+    held_by : (R : Reading T) (kind : Kind) → t.world.kind ≡ kind
+        → (capacity_error kind t.world.capacity ≡ None → Law R t.world.coding kind t.world.capacity)
+        → R.read t.world.words ≡ standing R.spec.object (answered R.spec.is_call t.events)
+    held_by R kind is law =
+        let C = plainly.course R in
+        let H = talking C (plainly.speech R) t.world.coding in
+        ⊎_elim (λ (h : Rests C H t (calls_of t r)). sym h.answers.stands)
+        (λ (h : Goes C H t (story_of t r)).
+        absurd (no_flight (flight_in t.world h.party) h.flight (rests h.party)
+        (ap (λ (o : Option (Party T)). flight_of (doing_of o)) h.found ∙ ap (λ (d : Doing T). flight_of (Some d)) h.doing)))
+        (stands_whole C H t.world.coding kind t.world.capacity
+        (plainly.rules R t.world.coding kind t.world.capacity (law (subst (λ k. capacity_error k t.world.capacity ≡ None) is r.admitted))) t r
+        (record { coding = refl; kind = is; capacity = refl }) runs)
+
+    pub holds_places : (kind : Kind) → t.world.kind ≡ kind → HoldsPlaces kind t
+    holds_places kinds.Bits is = held_by (bit_sets.places_reading t.world.capacity) kinds.Bits is (bit_sets.places_law t.world.coding t.world.capacity)
+    holds_places kinds.Counts is = held_by (bit_sets.counts_reading t.world.capacity) kinds.Counts is (bit_sets.counts_law t.world.coding t.world.capacity)
+    holds_places kind is = tt
 
   pub by_kind : (kind : Kind) → t.world.kind ≡ kind → AnswersWhole kind t r
   by_kind kinds.IndexQueue is = by_law _ kinds.IndexQueue is (index_law t.world.coding t.world.capacity)

@@ -27,12 +27,12 @@ ghost use Rattle.model.specs.Families.Indices.Robust.Reading.{filled_of, set_act
 ghost use Rattle.model.specs.Linearized.{as_list, as_value};
 ghost use Rattle.model.specs.Moments.{SinceBegin};
 ghost use Rattle.model.specs.Turns.{IsReached, one_if, run};
-ghost use Rattle.model.specs.World.{Trace, opened, capacity_error, queue_error};
+ghost use Rattle.model.specs.World.{Trace, opened, capacity_error, queue_error, flight_in};
 ghost use Rattle.headline.specs.Holders.{MayFree, NoTwoHold, NoneOnceLocked, claims};
 ghost use Rattle.headline.specs.Moments.{ActAs, Follows};
 ghost use Rattle.headline_whole.specs.Dialogues.{AreFinished, calls_of};
 ghost use Rattle.headline_whole.specs.Kinds.{kind_of, hand_of, IsWellFormedFor, IsRecovery, AnswersWhole};
-ghost use Rattle.headline_whole.specs.States.{ShowsViews};
+ghost use Rattle.headline_whole.specs.States.{HoldsPlaces, ShowsViews};
 ghost use Rattle.headline_whole.specs.Whole.{RunsWhole};
 
 use machine::Machine;
@@ -60,7 +60,9 @@ use steps::words::Words;
 /// caller has decided so: there a call comes with its decisions, as the turns of the run made them. By `calls` the calls that
 /// `calls_of` lists are all that ended in a run, in order, each with its party and its answer. A container's object also has
 /// what the state of each party shows: by `states` what the machine keeps as that state shows the same, while the party has no
-/// look under way. A `reset_all` answers `Done`: that its closure hears all that stood, ascending, the crate `plain` says.
+/// look under way. By `places` the flags and counts of a machine are those of its object, while no call is under way. So by
+/// `bits` and `counts` a `reset_all` that runs whole has taken out all that stood, and no more; that its closure hears this,
+/// ascending, the crate `plain` says.
 pub fn main_theorem<T>()
     ensures runs { (code : Coding T) (kind : Kind) (capacity queue parties : ℕ) (turns : List (Turn T))
         → IsCoding code → capacity_error kind capacity ≡ None → queue_error kind queue ≡ None
@@ -94,6 +96,8 @@ pub fn main_theorem<T>()
         → MayFree index owner (Some start) (set_acts_of p before) (acts_of p before)
         → filled_of index before ≢ Some owner }
     ensures answers { (t : Trace T) → (r : IsReached t) → RunsWhole t.events → AnswersWhole t.world.kind t r }
+    ensures places { (t : Trace T) → IsReached t → RunsWhole t.events → ((q : ℕ) → flight_in t.world q ≡ None)
+        → HoldsPlaces t.world.kind t }
     ensures calls { (t : Trace T) → (r : IsReached t) → AreFinished (calls_of t r) t.events }
     ensures states { (t : Trace T) → (r : IsReached t) → RunsWhole t.events → t.world.kind ≡ Container
         → ShowsViews t r }

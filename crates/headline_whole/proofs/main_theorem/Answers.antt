@@ -10,7 +10,7 @@ use Rattle.machine.proofs.Laws.{laws_of}
 use Rattle.headline.specs.Headline.{Runs}
 use Rattle.headline.proofs.Reached.{holds}
 use Rattle.headline.proofs.Reaching.{reaches}
-use Rattle.headline_whole.proofs.ByKind.{by_kind}
+use Rattle.headline_whole.proofs.ByKind.{by_kind, holds_places}
 use Rattle.headline_whole.proofs.Clauses.{acts, one_holder, none_locked, leaves_none}
 use Rattle.headline_whole.proofs.Finished.{all_finished}
 use Rattle.headline_whole.proofs.Views.{shows_views}
@@ -62,6 +62,9 @@ returns-clause-answers g c t r runs = by_kind t r runs t.world.kind refl
 
 pub returns-clause-states : goal.returns-clause-states
 returns-clause-states g c t r runs is = shows_views t r runs is
+
+pub returns-clause-places : goal.returns-clause-places
+returns-clause-places g c t r runs rests = holds_places t r runs rests t.world.kind refl
 
 pub returns-clause-calls : goal.returns-clause-calls
 returns-clause-calls g c t r = all_finished t r
