@@ -4,7 +4,7 @@ use Rattle.std.specs.Prelude.{slice_index}
 use Rattle.pages.specs.Machine.{Begin, Next, Invoked, Responded, Turn, opening, turned}
 use Rattle.pages.specs.Queue.{Call, Pop, Popped, Push, Pushed, Written, queue}
 
-abbrev pairs : Written (ℕ × ℕ)
+abbrev pub pairs : Written (ℕ × ℕ)
 pairs =
     record {
       size = 2;
